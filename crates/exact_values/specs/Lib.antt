@@ -1,0 +1,4 @@
+pub mod Rational
+pub mod Sums
+pub mod Laws
+pub mod Tests
