@@ -1,0 +1,3 @@
+mod Old
+mod Faults
+mod Examples
