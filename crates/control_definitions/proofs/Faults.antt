@@ -1,5 +1,5 @@
 -- Each control fault, computed.
-use Rattle.std.specs.Prelude.{◌≡◌, refl, ℕ, List, [], ◌∷◌, ◌++◌, codes, Option, Some, None, replicate}
+use Rattle.std.specs.Prelude.{◌≡◌, refl, ℕ, ◌++◌, codes, Option, Some, None, replicate}
 use Prim.Native.String.{String}
 use Rattle.divisors.specs.Gcd.{gcd}
 use Rattle.exact_values.specs.Rational.{fraction}

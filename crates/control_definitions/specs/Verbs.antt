@@ -10,7 +10,7 @@ use Rattle.control_definitions.specs.declared.NumberCell.TheVariants.{Xparam, Xp
 use Rattle.control_definitions.specs.declared.Demand.{Demand}
 use Rattle.control_definitions.specs.declared.Demand.TheVariants.{Xdonfs, Xdounb}
 use Rattle.control_definitions.specs.Program.{Verb, Initialz, Title, MoveName, MoveNumber, MoveLimit, Mvadr, Goto, Convert, Setup, Primal, Revise, Ranging, Paraobj, Pararhs, Solution, Bcdout, Exit}
-use Rattle.control_definitions.specs.Statements.{statement_of, verb_word, Arguments, Without, Malformed, With, arguments_of}
+use Rattle.control_definitions.specs.Statements.{statement_of, verb_word, Arguments, Without, With, arguments_of}
 use Rattle.control_definitions.specs.Arguments.{title_argument, quoted_name, number_argument, limit_argument, label_text, options_of, setup_arguments}
 
 -- what a cell holds: a name, a number, or the limit on steps
