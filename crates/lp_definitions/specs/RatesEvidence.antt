@@ -1,4 +1,4 @@
--- The formulas by which an inverse may stop, and when evidence of them holds.
+-- The formulas of an inverse that a fraction of 128 bits may refuse, and when evidence of them holds.
 --     Names e f p q i j term       the evidence names formula f and these numbers; a number that is not used is 0
 --     Refuses e op left right      its operation is this one, with these operands, and is refused
 --     ExchangeFormula              an exchange of p for q at the basics w, by formulas 1 to 5
@@ -25,7 +25,7 @@ pub record Names (e : Evidence) (formula p q i j term : ℕ) : Type 0 where
   pub is_j : e.j ≡ j
   pub is_term : e.term ≡ term
 
--- the operation of the evidence is this one, and has no exact result in 128 bits
+-- the operation of the evidence is this one, on these operands, and it refuses them
 pub record Refuses (e : Evidence) (op : Op) (left right : ℚ) : Type 0 where
   pub is_op : e.refused.op ≡ op
   pub is_left : e.refused.left ≡ left
@@ -57,7 +57,7 @@ module _ (a : Matrix) (w : Basics) (rate : ℕ → ℕ → ℚ) (e : Evidence) w
     f5 : (p q i : ℕ) → Names e 5 p q i 0 0 → IsExchange a w rate p q → IsBasic a w i → i ≢ p →
         Refuses e Mul (one_ℚ /ℚ rate p q) (rate i q) → ExchangeFormula
 
--- the multiplier of variable k in the row of the basic r: r is the sum of these multiples
+-- the multiplier of variable k in the row of the basic r: 1 at r, 0 at the other basics, and the opposite of the rate at a nonbasic
 abbrev pub multiplier : Basics → (ℕ → ℕ → ℚ) → ℕ → Vector
 multiplier b rate r k = if is_in b k then (if nat_eq k r then one_ℚ else zero_ℚ) else neg_ℚ (rate r k)
 
@@ -66,6 +66,7 @@ abbrev pub other_basics : Matrix → Basics → ℕ → List ℕ
 other_basics a w p = filter (λ k. is_in w k && not (nat_eq k p)) (variables a)
 
 module _ (a : Matrix) (b : Basics) (rate : ℕ → ℕ → ℚ) where
+  -- a number in a column, times the multiplier of its row
   abbrev pub entry_product : ℕ → Entry → ℚ
   entry_product r x = multiplier b rate r x.row *ℚ x.value
 
@@ -73,7 +74,7 @@ module _ (a : Matrix) (b : Basics) (rate : ℕ → ℕ → ℚ) where
   abbrev pub entry_sum : ℕ → ℕ → ℕ → ℚ
   entry_sum r j term = sum_from zero_ℚ (map (entry_product r) (take term (column a (j - a.rows))))
 
-  -- the row of the basic i at the column j, entry by entry
+  -- the row of the basic i at the variable j of a column, number by number: each product, and each sum, after so many products
   pub data EntryFormula (e : Evidence) : Type 0 where
     f11_product : (i j term : ℕ) (x : Entry) → Names e 11 0 0 i j term → IsBasic a b i → IsColumn a (j - a.rows) →
         slice_get (column a (j - a.rows)) term ≡ Some x →
@@ -83,6 +84,7 @@ module _ (a : Matrix) (b : Basics) (rate : ℕ → ℕ → ℚ) where
         Refuses e Add (entry_sum i j term) (entry_product i x) → EntryFormula e
 
   module _ (w : Basics) (way_rate : ℕ → ℕ → ℚ) where
+    -- the rate of i at q, times the multiplier of i
     abbrev pub rate_product : ℕ → ℕ → ℕ → ℚ
     rate_product r q i = multiplier b rate r i *ℚ way_rate i q
 
@@ -90,7 +92,8 @@ module _ (a : Matrix) (b : Basics) (rate : ℕ → ℕ → ℚ) where
     abbrev pub rate_sum : ℕ → ℕ → ℕ → ℕ → ℚ
     rate_sum r p q term = sum_from (multiplier b rate r q) (map (rate_product r q) (take term (other_basics a w p)))
 
-    -- the row of the basic j, carried back over an exchange of p for q at the basics w
+    -- the row of the basic j, carried back over an exchange of p for q at the basics w: each product, each sum after so many products,
+    -- and the quotient at the end
     pub data CarriedFormula (e : Evidence) : Type 0 where
       f12_product : (p q i j term : ℕ) → Names e 12 p q i j term → IsBasic a b j → IsExchange a w way_rate p q →
           slice_get (other_basics a w p) term ≡ Some i →
@@ -101,7 +104,8 @@ module _ (a : Matrix) (b : Basics) (rate : ℕ → ℕ → ℚ) where
       f12_quotient : (p q j : ℕ) → Names e 12 p q 0 j 0 → IsBasic a b j → IsExchange a w way_rate p q →
           Refuses e Div (rate_sum j p q (length (other_basics a w p))) (way_rate p q) → CarriedFormula e
 
--- the basics that the evidence means are w, from which it tells of an exchange that leads to a waypoint too
+-- w is the set that the evidence numbers, and `rate` its rates; the exchange that the evidence speaks of leads to a waypoint too;
+-- an inverse knows of no parameter
 pub record IsAtWay (a : Matrix) (around : List Basics) (b : Basics) (ways : List Basics) (e : Evidence) (w : Basics) (rate : ℕ → ℕ → ℚ) : Type 0 where
   pub is_way : e.way ≤ length ways
   pub is_waypoint : w ≡ waypoint b ways e.way
