@@ -25,7 +25,7 @@ cons_option-nil : {A : Type 0} (o : Option A) → cons_option o [] ≡ option_to
 cons_option-nil None = refl
 cons_option-nil (Some x) = refl
 
-last_or-push : {A : Type 0} (o : Option A) (xs : List A) (p : Option A) → last_or o (xs ++ option_to_list p) ≡ option_or p (last_or o xs)
+pub last_or-push : {A : Type 0} (o : Option A) (xs : List A) (p : Option A) → last_or o (xs ++ option_to_list p) ≡ option_or p (last_or o xs)
 last_or-push o [] None = refl
 last_or-push o [] (Some x) = refl
 last_or-push o (x ∷ xs) p = last_or-push (Some x) xs p
@@ -36,13 +36,18 @@ section_after-push cards card =
     ap (last_or None) (filter_map-append (λ c. section_begun c.bytes) cards (card ∷ []) ∙ ap (λ list. filter_map (λ c. section_begun c.bytes) cards ++ list) (cons_option-nil (section_begun card.bytes)))
     ∙ last_or-push None (filter_map (λ c. section_begun c.bytes) cards) (section_begun card.bytes)
 
+-- what the elements of a list and those before them gave, with one more element
+pub gathered-push : {X Y : Type 0} (f : List X → X → Option Y) (xs : List X) (x : X)
+    → filter_map (λ gift. gift) (each_behind f [] (xs ++ x ∷ [])) ≡ filter_map (λ gift. gift) (each_behind f [] xs) ++ option_to_list (f xs x)
+gathered-push f xs x =
+    ap (filter_map (λ gift. gift)) (each_behind-append f [] xs (x ∷ []))
+    ∙ filter_map-append (λ gift. gift) (each_behind f [] xs) (f xs x ∷ [])
+    ∙ ap (λ list. filter_map (λ gift. gift) (each_behind f [] xs) ++ list) (cons_option-nil (f xs x))
+
 -- what a section gives with one more card
 pub given-push : {X : Type 0} (section : Section) (give : Reading → Option X) (cards : List Card) (card : Card)
     → given section give (cards ++ card ∷ []) ≡ given section give cards ++ option_to_list (given_by section give cards card)
-given-push section give cards card =
-    ap (filter_map (λ gift. gift)) (each_behind-append (given_by section give) [] cards (card ∷ []))
-    ∙ filter_map-append (λ gift. gift) (each_behind (given_by section give) [] cards) (given_by section give cards card ∷ [])
-    ∙ ap (λ list. given section give cards ++ list) (cons_option-nil (given_by section give cards card))
+given-push section give cards card = gathered-push (given_by section give) cards card
 
 -- the columns or sets with what one more card adds to the one of its name
 abbrev pub with_group : {X : Type 0} → Option (Group X) → List (Group X) → List (Group X)
