@@ -7,7 +7,7 @@
 --
 -- The clause of the top call is this. Let the source tell its bytes, or the words make a job. Then there are bytes that the print
 -- gains and bytes that the punch gains, each where it tells its bytes, which are with the status an answer to the job.
-use Rattle.std.specs.Prelude.{ℕ, ◌≡◌, ◌-◌, List, [], ◌++◌, Option, None, Some, Result, Ok, Err, drop}
+use Rattle.std.specs.Prelude.{ℕ, ◌≡◌, ◌-◌, List, [], ◌++◌, Option, None, Some, Ok, Err, drop}
 use Rattle.card_definitions.specs.declared.CardFault.{CardFault}
 use Rattle.card_definitions.specs.Cards.{Card, cards_of, numbered_cards, job_fault}
 use Rattle.deck_definitions.specs.Decks.{decks_of}
@@ -16,11 +16,11 @@ use Rattle.control_definitions.specs.declared.ControlFault.{ControlFault}
 use Rattle.control_definitions.specs.Program.{Program}
 use Rattle.control_definitions.specs.Compiled.{compiled}
 use Rattle.listing_definitions.specs.Report.{Report}
-use Rattle.listing_definitions.specs.Ending.{Ending, Ended, WordsRefused, ControlStop, VerbStop, DeckStop, CardStop, LimitStop, StatementLimit, OverflowStop, ReadFault, PrintFault, PunchFault, Memory, NotBuilt, status_of}
+use Rattle.listing_definitions.specs.Ending.{Ending, WordsRefused, ControlStop, CardStop, ReadFault, PrintFault, PunchFault, Memory, status_of}
 use Rattle.listing_definitions.specs.Listing.{listing, IsFront}
 use Rattle.solver_definitions.specs.Solving.{Solving}
 use Rattle.run_definitions.specs.State.{State}
-use Rattle.run_definitions.specs.Moves.{Punches, Outcome, Goes}
+use Rattle.run_definitions.specs.Moves.{Punches, Goes}
 use Rattle.run_definitions.specs.Run.{Step, Reaches, IsRun}
 
 -- The words are refused; or the job is read from its source; or the words have made it.

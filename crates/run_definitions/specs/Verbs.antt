@@ -21,7 +21,6 @@ use Rattle.control_definitions.specs.declared.NameCell.{NameCell}
 use Rattle.control_definitions.specs.declared.NameCell.TheVariants.{Xobj, Xrhs}
 use Rattle.control_definitions.specs.Program.{SetupOptions, Verb, Initialz, Title, MoveName, MoveNumber, MoveLimit, Mvadr, Goto, Convert, Setup, Primal, Revise, Ranging, Paraobj, Pararhs, Solution as SolutionVerb, Bcdout, Exit}
 use Rattle.selection_definitions.specs.declared.SelectionFault.{SelectionFault}
-use Rattle.selection_definitions.specs.declared.SelectionFault.TheVariants as SelectionFault
 use Rattle.selection_definitions.specs.Choice.{Choice}
 use Rattle.selection_definitions.specs.Selection.{selected}
 use Rattle.selection_definitions.specs.RangeSums.{IsRangeRefusal}
@@ -31,12 +30,12 @@ use Rattle.listing_definitions.specs.declared.Solver.TheVariants.{Primal as ByPr
 use Rattle.listing_definitions.specs.declared.VerbFault.{VerbFault}
 use Rattle.listing_definitions.specs.declared.VerbFault.TheVariants.{DeckNotFound, NoProblem, NoSetup, NotSolved, NotOptimal, NoChangeRow, NoChangeSet, NoParmax, ParmaxBelow, NoObjective, ObjectiveNotFree, NoRhsSet, NoRangeSet, NoBoundSet}
 use Rattle.listing_definitions.specs.Report.{SolutionLines, RangeLines, Verdict, OptimalAt, CrossedAt, InfeasibleBy, UnboundedBy, Report, Titled, Filed, Converted, Revised, SetUp, Punched, Solved, Solution, Ranges, Parametric, ChainEnd, EndsAt, UnboundedPast, InfeasiblePast}
-use Rattle.listing_definitions.specs.Ending.{Place, Ending, Ended, VerbStop, DeckCardFault, DeckStop, LimitStop, NotBuilt}
+use Rattle.listing_definitions.specs.Ending.{Place, Ending, Ended, VerbStop, DeckStop, LimitStop, NotBuilt}
 use Rattle.solver_definitions.specs.Answers.{Basis, Sheet, Changing, Row, Set, changing_name, sweeper, Sweep, Question, OfPath, OfSolution, OfRanges, OfSweep, PathEnd, Reached, PathLimit, PathNotBuilt, SweepEnd, Opening, Chained, SweepLimit}
 use Rattle.solver_definitions.specs.Solving.{Solving}
-use Rattle.run_definitions.specs.Cells.{Cells, default_cells, move_name, move_number, move_limit, set_demand}
+use Rattle.run_definitions.specs.Cells.{default_cells, move_name, move_number, move_limit, set_demand}
 use Rattle.run_definitions.specs.State.{Present, present_basis, path_of, gone_through, State, problem_of, choice_of}
-use Rattle.run_definitions.specs.Moves.{Gain, Nothing, Prints, Punches, Outcome, Goes, Ends, next, jump, stops, Move, Does, MayStop, Asks, or_fault}
+use Rattle.run_definitions.specs.Moves.{Nothing, Prints, Punches, Outcome, Ends, next, jump, stops, Move, Does, MayStop, Asks, or_fault}
 
 -- ---- decks
 
