@@ -1,0 +1,68 @@
+-- Answers to jobs, shown to be lawful.
+use Rattle.std.specs.Prelude.{◌≡◌, refl, ℕ, List, [], ◌∷◌, codes, None, Ok}
+use Rattle.std.proofs.Common.{lit<}
+use Rattle.std.specs.Fmt.{digits}
+use Rattle.card_definitions.specs.Cards.{cards_of, job_fault}
+use Rattle.control_definitions.specs.Program.{Program, Title}
+use Rattle.control_definitions.specs.Statements.{label_of, statement_of}
+use Rattle.control_definitions.specs.Verbs.{verb_of}
+use Rattle.control_definitions.specs.Compiled.{control_fault, control_card_fault, compiled}
+use Rattle.listing_definitions.specs.Report.{Titled}
+use Rattle.listing_definitions.specs.Ending.{Ended, WordsRefused, ControlStop, ReadFault, Memory}
+use Rattle.run_definitions.specs.Moves.{Prints}
+use Rattle.run_definitions.specs.Verbs.{verb_move}
+use Rattle.run_definitions.specs.Run.{begun, stepped, is_over, at_end, IsRun}
+use Rattle.run_definitions.specs.Answer.{WithoutBytes, Read, Made, job_decks, control_fault as by_control_fault, run, IsJobRun, words_refused, read_fails, by_itself, memory_at_start, whole, print_fails, IsAnswer}
+use Rattle.run_definitions.proofs.Runs.{silent}
+
+words : IsAnswer silent WithoutBytes ⊥ (record { status = 4; printed = codes "STOP 4 WORDS\n"; punched = [] })
+words = whole WordsRefused (words_refused refl) refl refl refl
+
+unread : IsAnswer silent (Read (codes "EXIT\n")) ⊥ (record { status = 24; printed = codes "STOP 24 READ FAULT\n"; punched = [] })
+unread = whole ReadFault (read_fails _ refl) refl refl refl
+
+empty_job : IsAnswer silent (Read []) ⊥ (record { status = 8; printed = codes "STOP 8 CONTROL FAULT 1 CARD 0\n"; punched = [] })
+unfolding job_fault cards_of compiled control_fault control_card_fault verb_of label_of statement_of digits
+empty_job = whole (ControlStop (record { number = 1; card = 0 })) (by_itself [] refl (by_control_fault _ refl refl)) refl refl refl
+
+-- ---- a job that prints a title
+
+title_bytes : List ℕ
+title_bytes = codes "         PROGRAM\n         TITLE('A B')\n         PEND\n"
+
+title_program : Program
+title_program = record { statements = record { card = 2; verb = Title (codes "A B") } ∷ []; decks_from = 4 }
+
+title_read : job_fault title_bytes ≡ None
+unfolding title_bytes job_fault cards_of
+title_read = refl
+
+title_compiled : compiled (cards_of title_bytes) ≡ Ok title_program
+unfolding title_bytes title_program compiled control_fault control_card_fault verb_of label_of statement_of cards_of
+title_compiled = refl
+
+title_run : IsRun silent title_program (job_decks title_program title_bytes) (Titled (codes "A B") ∷ []) [] (Ended 0)
+unfolding title_program verb_move
+title_run = is_over (stepped (Prints (Titled (codes "A B"))) _ begun (record { statement = _; is_at_position = refl; is_within_limit = lit< tt; gives = refl })) (at_end (lit< tt))
+
+title_job : IsJobRun silent title_bytes (Titled (codes "A B") ∷ []) [] (Ended 0)
+title_job = run title_program (record { is_read = title_read; is_compiled = title_compiled }) title_run
+
+title_answer : IsAnswer silent (Read title_bytes) ⊥ (record { status = 0; printed = codes "TITLE A B\nEND 0\n"; punched = [] })
+unfolding digits
+title_answer = whole (Ended 0) (by_itself title_bytes refl title_job) refl refl refl
+
+-- the print fails in the middle of the title, and the job was made
+title_cut : IsAnswer silent (Made title_bytes) ⊥ (record { status = 25; printed = codes "TITLE"; punched = [] })
+unfolding digits
+title_cut = print_fails refl (record {
+  text = codes "TITLE A B\nEND 0\n";
+  deck_text = [];
+  is_possible = record { reports = _; cards = _; ending = Ended 0; may_end = by_itself title_bytes refl title_job; is_listing = refl; is_deck_text = refl };
+  print_front = (codes " A B\nEND 0\n", refl);
+  punch_front = ([], refl);
+})
+
+-- memory is wanted before there is a report
+title_memory : IsAnswer silent (Read title_bytes) ⊥ (record { status = 28; printed = codes "STOP 28 MEMORY\n"; punched = [] })
+title_memory = whole Memory memory_at_start refl refl ([], refl)
