@@ -53,16 +53,18 @@ pub kept_at_end : (old new : Option (List ℕ)) (bytes : List ℕ) → Consumes 
 kept_at_end None new bytes read end short = (tt, tt)
 kept_at_end (Some job) None bytes read end short = absurd read
 kept_at_end (Some job) (Some rest) bytes read end short =
-    let all : job ≡ bytes = read ∙ ap (λ w. bytes ++ w) end ∙ append-nil bytes in
-    (sym (take_all read_limit bytes short) ∙ ap (take read_limit) (sym all),
-    let small : length job ≤ read_limit = omega (arith, ap length all) in end ∙ sym (drop_of_length-le job small))
+    let all : job ≡ bytes = read ∙ ap (λ w. bytes ++ w) end ∙ append-nil bytes in (
+      sym (take_all read_limit bytes short) ∙ ap (take read_limit) (sym all),
+      let small : length job ≤ read_limit = omega (arith, ap length all) in end ∙ sym (drop_of_length-le job small),
+    )
 
 pub kept_at_limit : (old new : Option (List ℕ)) (bytes : List ℕ) → Consumes old new bytes → length bytes ≡ read_limit → IsKept old bytes × ReadsJob old new
 kept_at_limit None new bytes read full = (tt, tt)
 kept_at_limit (Some job) None bytes read full = absurd read
-kept_at_limit (Some job) (Some rest) bytes read full =
-    (sym (ap (λ w. take read_limit w) read ∙ ap (λ n. take n (bytes ++ rest)) (sym full) ∙ take-append_seam bytes rest),
-    sym (ap (λ w. drop read_limit w) read ∙ ap (λ n. drop n (bytes ++ rest)) (sym full) ∙ drop-append_seam bytes rest))
+kept_at_limit (Some job) (Some rest) bytes read full = (
+  sym (ap (λ w. take read_limit w) read ∙ ap (λ n. take n (bytes ++ rest)) (sym full) ∙ take-append_seam bytes rest),
+  sym (ap (λ w. drop read_limit w) read ∙ ap (λ n. drop n (bytes ++ rest)) (sym full) ∙ drop-append_seam bytes rest),
+)
 
 -- what holds of the kept bytes holds of a job that isn't too long
 pub holds_of_job : (P : List ℕ → Type 0) (old : Option (List ℕ)) (bytes : List ℕ) → IsKept old bytes → length bytes ≤ 16400000 → P bytes → IfSome old P

@@ -14,7 +14,8 @@ use std::alloc::Global;
 
 const PIECE: usize = 65_536;
 
-// The bytes of the source, and one at most behind those that a job may have.
+// The bytes of the source, and one at most behind those that a job may have. A fault of the source and want of memory
+// stop it, and nothing else.
 fn read_bytes<S: Source>(alloc: Global, source: &mut S) -> Result<Vec<u8>, ReadStop>
     ensures bytes { IfOk result (λ bytes. IfSome (S.left source.old) (λ job. bytes.items ≡ take read_limit job)) }
     ensures reads { Reads result (S.left source.old) (S.left source.new) }
