@@ -22,7 +22,7 @@ least() {
 printf '%-10s' table
 for work in add sub mul div compare gcd; do printf '%9s' "$work"; done
 printf '\n'
-for table in short word related wide; do
+for table in whole short word related wide close; do
     printf '%-10s' "$table"
     for work in add sub mul div compare gcd; do
         idle=$(least "$table" "$work" 1)

@@ -19,6 +19,8 @@ const SHARED: i128 = 604462909807314587353111;
 /// Which fractions a table has.
 #[derive(Clone, Copy)]
 enum Table {
+    /// Whole numbers of 40 bits.
+    Whole,
     /// Parts of 20 bits.
     Short,
     /// Parts of 62 bits.
@@ -27,6 +29,8 @@ enum Table {
     Related,
     /// Parts of 126 bits.
     Wide,
+    /// The ratios of neighbouring Fibonacci numbers, which only the last of many quotients tells apart.
+    Close,
 }
 
 #[derive(Clone, Copy)]
@@ -50,6 +54,7 @@ fn next(seed: u64) -> u64 {
 
 fn fraction(table: Table, a: u64, b: u64, c: u64, d: u64) -> Frac {
     match table {
+        Table::Whole => Frac::whole((a >> 24) as i128),
         Table::Short => Frac::new((a >> 44) as i128, (c >> 44) as i128 + 1),
         Table::Word => Frac::new((a >> 2) as i128, (c >> 2) as i128 + 1),
         Table::Related => Frac::new((a >> 4) as i128, ((c >> 44) as i128 + 1) * SHARED),
@@ -58,10 +63,30 @@ fn fraction(table: Table, a: u64, b: u64, c: u64, d: u64) -> Frac {
             let low = (c >> 2) as i128 * 18446744073709551616;
             Frac::new(high + b as i128, low + d as i128 + 1)
         }
+        Table::Close => Frac::ONE,
     }
 }
 
+/// From F(120)/F(121) on.
+fn neighbours() -> [Frac; ROWS] {
+    let mut rows = [Frac::ONE; ROWS];
+    let (mut low, mut high) = (5358359254990966640871840i128, 8670007398507948658051921i128);
+    for row in rows.iter_mut() {
+        if 0 < low && 0 < high {
+            *row = Frac::new(low, high);
+        }
+        if let Some(next) = low.checked_add(high) {
+            low = high;
+            high = next;
+        }
+    }
+    rows
+}
+
 fn fractions(table: Table) -> [Frac; ROWS] {
+    if let Table::Close = table {
+        return neighbours();
+    }
     let mut seed = 1;
     let mut rows = [Frac::ONE; ROWS];
     for row in rows.iter_mut() {
@@ -120,10 +145,12 @@ fn run(table: Table, work: Work, turns: u32) -> Outcome {
 
 fn table_named(word: &str) -> Option<Table> {
     match word {
+        "whole" => Some(Table::Whole),
         "short" => Some(Table::Short),
         "word" => Some(Table::Word),
         "related" => Some(Table::Related),
         "wide" => Some(Table::Wide),
+        "close" => Some(Table::Close),
         _ => None,
     }
 }
@@ -140,7 +167,7 @@ fn work_named(word: &str) -> Option<Work> {
     }
 }
 
-const TABLES: [&str; 4] = ["short", "word", "related", "wide"];
+const TABLES: [&str; 6] = ["whole", "short", "word", "related", "wide", "close"];
 
 const WORKS: [&str; 6] = ["add", "sub", "mul", "div", "compare", "gcd"];
 
