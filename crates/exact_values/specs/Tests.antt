@@ -1,18 +1,14 @@
 -- Tests on rational numbers, which compute.
-use Rattle.std.specs.Prelude.{Bool, true, false, not}
+use Rattle.std.specs.Prelude.{Bool, not}
+use Rattle.std.specs.Ordering.{is_lt, is_eq}
 use Rattle.std.specs.declared.cmp.Ordering.{Ordering}
-use Rattle.std.specs.declared.cmp.Ordering.TheVariants.{Less, Equal, Greater}
 use Rattle.exact_values.specs.Rational.{ℚ, compare_ℚ}
 
 abbrev pub is_less : Ordering → Bool
-is_less Less = true
-is_less Equal = false
-is_less Greater = false
+is_less = is_lt
 
 abbrev pub is_equal : Ordering → Bool
-is_equal Less = false
-is_equal Equal = true
-is_equal Greater = false
+is_equal = is_eq
 
 -- whether x is below y
 abbrev pub lt_ℚ : ℚ → ℚ → Bool
