@@ -1,3 +1,3 @@
 pub mod Equations
 pub mod Functionals
-
+pub mod Duality
