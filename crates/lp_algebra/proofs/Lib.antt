@@ -9,3 +9,4 @@ pub mod Opening
 pub mod Statuses
 pub mod Points
 pub mod WaypointLaws
+pub mod Optimal
