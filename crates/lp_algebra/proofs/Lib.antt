@@ -10,3 +10,5 @@ pub mod Statuses
 pub mod Points
 pub mod WaypointLaws
 pub mod Optimal
+pub mod Rays
+pub mod Entries

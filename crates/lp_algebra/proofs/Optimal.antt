@@ -83,9 +83,6 @@ module _ (p : LinearProgram) (lawful : IsLinearProgram p) (s : List Status) (bas
       → ((k : ℕ) → IsVariable p.matrix k → IsFixed p k ⊎ IsRightAt (status_of s k) (for_min p.sense (objective_rate p rate k))) → AreProvingPrices p z y
   prices_prove z y point prices right = record { reduced = reduced; at_lower = at_lower; at_upper = at_upper }
     where
-      rows_total : (Vector) → ℕ → ℚ
-      rows_total y j = sum_to p.rows (λ i. y (suc i) *ℚ entry p.matrix (suc i) j)
-
       counts : (j : ℕ) → IsColumn p.matrix j → y (p.rows + j) +ℚ sum_to p.rows (λ i. y (suc i) *ℚ entry p.matrix (suc i) j) ≡ cost p j
       counts j is =
           ap₂ ◌+ℚ◌ (prices (p.rows + j) (omega (arith, is.0), omega (arith, is.1)))
