@@ -15,13 +15,15 @@ use Rattle.lp_definitions.specs.declared.Sense.{Sense}
 use Rattle.lp_definitions.specs.declared.Sense.TheVariants.{Min, Max}
 use Rattle.lp_definitions.specs.declared.Status.{Status}
 use Rattle.lp_definitions.specs.declared.Status.TheVariants.{Bs, Ll, Ul, Fr}
+use Rattle.lp_algebra.proofs.Equations.{KeepsEquations-same}
+use Rattle.lp_algebra.proofs.Uniqueness.{is_in-basics_of}
 use Rattle.path_definitions.specs.Moves.{on_limits, is_crossed, is_fixed, rises_from, falls_from, lowers, signed, goes_up, limit_ahead, room, entering}
 use Rattle.path_definitions.specs.Path.{EndsCrossed, EndsUnbounded, Ends, EndsAt, listed, speeds, crossed, worth_rate, mover}
 use Rattle.path_laws.proofs.Tests.{lt_false, lt_true}
 use Rattle.path_laws.proofs.Numbered.{find_some}
 use Rattle.path_laws.proofs.Stoppers.{stopper_none}
 use Rattle.path_laws.proofs.Turns.{bettering, IsEndlessTurn, rule_of, crossed_turn, endless_turn}
-use Rattle.path_laws.proofs.Ends.{feasible, is_in-basics_of, value_at-listed, KeepsEquations-same}
+use Rattle.path_laws.proofs.Ends.{feasible, value_at-listed}
 
 -- ---- crossed limits
 

@@ -11,6 +11,8 @@ use Rattle.lp_definitions.specs.Solutions.{IsWithinLimits, IsFeasible, IsCrossed
 use Rattle.lp_definitions.specs.Basis.{is_in, basics_of, status_of, is_basic, IsBasis, IsAllowed, StandsAt, IsPointOf, IsNonsingular, Tableau, IsTableau, IsFixed, IsRightAt, IsOptimalBasis, ArePricesOf, price_at, objective_rate}
 use Rattle.lp_definitions.specs.declared.Status.{Status}
 use Rattle.lp_definitions.specs.declared.Status.TheVariants.{Bs, Ll, Ul, Fr}
+use Rattle.lp_algebra.proofs.Equations.{KeepsEquations-same}
+use Rattle.lp_algebra.proofs.Uniqueness.{is_in-basics_of}
 use Rattle.path_definitions.specs.Moves.{on_limit, on_limits, is_crossed, is_outside, is_fixed, rises_from, falls_from, lowers}
 use Rattle.path_definitions.specs.Path.{Ending, EndsOptimal, Ends, EndsAt, listed, crossed, outside, worth_rate, mover}
 use Rattle.path_laws.proofs.Tests.{lt_false, lt_true, eq_true}
@@ -29,19 +31,9 @@ and_true : (a b : Bool) → (a && b) ≡ false → a ≡ true → b ≡ false
 and_true true b e h = e
 and_true false b e h = cc
 
--- whether a variable is basic, by its status
-pub is_in-basics_of : (s : List Status) (k : ℕ) → 1 ≤ k → k ≤ length s → is_in (basics_of s) k ≡ is_basic (status_of s k)
-is_in-basics_of s k low high = get_or-map is_basic s (k - 1) Bs false (omega arith)
-
 -- the list of a vector's values has them in their places
 pub value_at-listed : (a : Matrix) (v : Vector) (k : ℕ) → IsVariable a k → value_at (listed a v) k ≡ v k
 value_at-listed a v k is = get_or-listed v (size a) 1 (k - 1) zero_ℚ (omega (arith, is.0, is.1)) ∙ ap v (omega (arith, is.0))
-
--- a vector with the same values keeps the equations too
-pub KeepsEquations-same : (a : Matrix) (d e : Vector) → ((k : ℕ) → IsVariable a k → d k ≡ e k) → KeepsEquations a d → KeepsEquations a e
-KeepsEquations-same a d e same keeps i row =
-    sym (same i (row.0, omega (arith, row.1))) ∙ keeps i row
-    ∙ sum_to-same a.cols _ _ (λ j below. ap (λ x. entry a i (suc j) *ℚ x) (same (a.rows + suc j) (omega arith, omega (arith, below))))
 
 -- a basic inside its limits, or a nonbasic at one of two limits that are not crossed, lies within them
 below_none : (z : ℚ) (low : Option ℚ) → on_limit (λ l. lt_ℚ z l) low ≡ false → IfSome low (λ l. l ≤ℚ z)

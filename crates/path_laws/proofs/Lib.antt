@@ -6,3 +6,4 @@ pub mod Ends
 pub mod Endless
 pub mod OneTurn
 pub mod Rays
+pub mod Steps

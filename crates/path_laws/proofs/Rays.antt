@@ -1,22 +1,29 @@
 -- What an infeasible end tells: its ray is a proof.
-use Rattle.std.proofs.Common.{◌≡◌, ◌≢◌, ℕ, zero, suc, ◌+◌, ◌-◌, ◌≤◌, ◌<◌, ◌⊎◌, inl, inr, Bool, true, false, List, refl, sym, ap, subst, ◌∙◌, arith, pos, cond}
+use Rattle.std.proofs.Common.{◌≡◌, ◌≢◌, ℕ, zero, suc, ◌+◌, ◌-◌, ◌≤◌, ◌<◌, ◌⊎◌, inl, inr, Bool, true, false, List, refl, sym, ap, ap₂, subst, ◌∙◌, arith, pos, cond}
 use Rattle.std.specs.Prelude.{Option, Some, None, IsSome, not, ◌&&◌, ◌||◌, unwrap_or, if◌then◌else◌, nat_eq, eqb}
 use Rattle.std.proofs.lemmas.Bool.Decides.{eqb_tells}
-use Rattle.exact_values.specs.Rational.{ℚ, zero_ℚ, one_ℚ, neg_ℚ, ◌+ℚ◌, ◌-ℚ◌, ◌*ℚ◌, ◌≤ℚ◌, ◌<ℚ◌}
+use Rattle.exact_values.specs.Rational.{ℚ, whole, fraction, compare_ℚ, zero_ℚ, one_ℚ, neg_ℚ, ◌+ℚ◌, ◌-ℚ◌, ◌*ℚ◌, ◌≤ℚ◌, ◌<ℚ◌}
+use Rattle.divisors.specs.Gcd.{gcd}
+use Rattle.exact_values.specs.Sums.{sum_up_to, with_at}
 use Rattle.exact_values.specs.Tests.{lt_ℚ}
+use Rattle.exact_values.proofs.Sums.{sum_to-same, sum_to-with_at, sum_to-mul_left}
 use Rattle.exact_values.proofs.Ring.{by_ring1, by_ring2, by_ring3, ◌⊕◌, ◌⊖◌, ◌⊗◌, ◌≐◌, number, opposite}
-use Rattle.exact_values.proofs.Ring_laws.{zero-mul}
+use Rattle.exact_values.proofs.Ring_laws.{zero-mul, zero-add}
 use Rattle.exact_values.proofs.Order.{lt_irrefl, le_refl, le_of_lt, lt_not_le, le_antisymm, lt_by_one, le_by_one}
-use Rattle.lp_definitions.specs.LinearProgram.{LinearProgram, Vector, size, IsVariable, KeepsEquations, lower_of, upper_of}
+use Rattle.lp_definitions.specs.LinearProgram.{LinearProgram, Vector, size, IsVariable, KeepsEquations, entry, lower_of, upper_of}
+use Rattle.lp_definitions.specs.Solutions.{IsRay, limit_against}
 use Rattle.lp_definitions.specs.Basis.{is_in, basics_of, status_of, is_basic, IsBasis, StandsAt, IsAllowed, IsFixed, IsRightAt, Tableau, IsTableau}
 use Rattle.lp_definitions.specs.declared.Status.{Status}
 use Rattle.lp_definitions.specs.declared.Status.TheVariants.{Bs, Ll, Ul, Fr}
+use Rattle.lp_algebra.specs.Vectors.{functional, unit}
+use Rattle.lp_algebra.proofs.Functionals.{functional_at_unit, KeepsEquations-unit}
+use Rattle.lp_algebra.proofs.Uniqueness.{is_in-basics_of}
 use Rattle.path_definitions.specs.Moves.{is_below, is_above, is_outside, is_fixed, lowers, signed, on_limit}
 use Rattle.path_definitions.specs.Path.{ray_of, excess_rate, mover, outside}
 use Rattle.path_laws.proofs.Tests.{lt_false, lt_true}
 use Rattle.path_laws.proofs.Numbered.{find_some, find_none, IsFound}
 use Rattle.path_laws.proofs.Turns.{IsFirstPhase}
-use Rattle.path_laws.proofs.Ends.{right, is_in-basics_of}
+use Rattle.path_laws.proofs.Ends.{right}
 
 -- a multiplier meets the limit at which the point stands: the upper one where it is positive, the lower one where it is negative
 pub record Meets (low high : Option ℚ) (z e : ℚ) : Type 0 where
@@ -89,6 +96,28 @@ above_of : (test : ℚ → Bool) (o : Option ℚ) → on_limit test o ≡ true �
 above_of test None e = cc
 above_of test (Some l) e = (l, refl, e)
 
+-- the multiplier -1 meets a lower limit, and 1 an upper one
+minus_one : neg_ℚ one_ℚ <ℚ zero_ℚ
+unfolding neg_ℚ ◌+ℚ◌ fraction whole gcd
+minus_one = record { below = refl }
+
+plus_one : zero_ℚ <ℚ neg_ℚ (neg_ℚ one_ℚ)
+unfolding neg_ℚ ◌+ℚ◌ fraction whole gcd
+plus_one = record { below = refl }
+
+limit_own : (b : Bool) (low high : Option ℚ) → (if lt_ℚ zero_ℚ (signed b (neg_ℚ one_ℚ)) then high else low) ≡ (if b then low else high)
+unfolding neg_ℚ fraction whole gcd compare_ℚ
+limit_own true low high = refl
+limit_own false low high = refl
+
+own_upper : (b : Bool) (low high : Option ℚ) (l : ℚ) → (if b then low else high) ≡ Some l → zero_ℚ <ℚ signed b (neg_ℚ one_ℚ) → IsSome high
+own_upper true low high l e h = absurd (lt_not_le h (le_of_lt minus_one))
+own_upper false low high l e h = rw e refl
+
+own_lower : (b : Bool) (low high : Option ℚ) (l : ℚ) → (if b then low else high) ≡ Some l → signed b (neg_ℚ one_ℚ) <ℚ zero_ℚ → IsSome low
+own_lower true low high l e h = rw e refl
+own_lower false low high l e h = absurd (lt_not_le h (le_of_lt plus_one))
+
 -- ---- the ray of a stuck first phase
 
 and_parts : (a b : Bool) → (a && b) ≡ true → (a ≡ true) × (b ≡ true)
@@ -159,3 +188,114 @@ module _ (p : LinearProgram) (s : List Status) (t : Tableau) (basis : IsBasis p 
         broken_by false is =
             let above : is_above p t.point r ≡ true = or_right (is_below p t.point r) (is_above p t.point r) r_outside is in
             let h = above_of (λ u. lt_ℚ u (t.point r)) (upper_of p r) above in (h.0, h.1, lt_by_one (lt_true h.0 (t.point r) h.2) (by_ring2 h.0 (t.point r) (λ u z. opposite (opposite (number (pos 1))) ⊗ z ≐ opposite (opposite (number (pos 1))) ⊗ u ⊕ (z ⊖ u)) refl))
+
+    module _ (tells : (x : Vector) → KeepsEquations p.matrix x → x r ≡ sum_up_to (size p.matrix) (λ j. cond (is_in (basics_of s) j) zero_ℚ (x j) *ℚ t.rate r j)) where
+      place : ℕ
+      place = r - 1
+
+      place_is : suc place ≡ r
+      unfolding place
+      place_is = omega (arith, r_is.0)
+
+      -- the multiples of a vector's values, place by place: that of r apart from those of the nonbasics
+      multiple : (x : Vector) (k : ℕ) → suc k ≤ size p.matrix → ray (suc k) *ℚ x (suc k) ≡ with_at place (own *ℚ x r) (λ j. neg_ℚ own *ℚ (cond (is_in (basics_of s) (suc j)) zero_ℚ (x (suc j)) *ℚ t.rate r (suc j))) k
+      multiple x k is = at (eqb_tells k place)
+        where
+          nonbasic_part : (mark : Bool) → is_in (basics_of s) (suc k) ≡ mark → suc k ≢ r → ray (suc k) *ℚ x (suc k) ≡ neg_ℚ own *ℚ (cond mark zero_ℚ (x (suc k)) *ℚ t.rate r (suc k))
+          nonbasic_part true mark other =
+              ap (λ v. v *ℚ x (suc k)) (ray_basic (suc k) other mark)
+              ∙ by_ring3 (x (suc k)) own (t.rate r (suc k)) (λ x o v. number (pos 0) ⊗ x ≐ opposite o ⊗ (number (pos 0) ⊗ v)) refl
+          nonbasic_part false mark other = ap (λ v. v *ℚ x (suc k)) (ray_nonbasic (suc k) mark) ∙ by_sign below (t.rate r (suc k)) (x (suc k))
+            where
+              by_sign : (b : Bool) (v y : ℚ) → signed b v *ℚ y ≡ neg_ℚ (signed b (neg_ℚ one_ℚ)) *ℚ (y *ℚ v)
+              by_sign true v y = by_ring2 v y (λ v y. v ⊗ y ≐ opposite (opposite (number (pos 1))) ⊗ (y ⊗ v)) refl
+              by_sign false v y = by_ring2 v y (λ v y. opposite v ⊗ y ≐ opposite (opposite (opposite (number (pos 1)))) ⊗ (y ⊗ v)) refl
+
+          at : (((eqb k place ≡ true) × (k ≡ place)) ⊎ ((eqb k place ≡ false) × (k ≢ place))) → ray (suc k) *ℚ x (suc k) ≡ cond (eqb k place) (own *ℚ x r) (neg_ℚ own *ℚ (cond (is_in (basics_of s) (suc k)) zero_ℚ (x (suc k)) *ℚ t.rate r (suc k)))
+          at (inl same) =
+              let here : suc k ≡ r = ap suc same.1 ∙ place_is in
+              rw same.0 (ap (λ j. ray j *ℚ x j) here ∙ ap (λ v. v *ℚ x r) ray_own)
+          at (inr other) =
+              let apart : suc k ≢ r = λ e. other.1 (omega (arith, e, place_is)) in
+              rw other.0 (nonbasic_part (is_in (basics_of s) (suc k)) refl apart)
+
+      -- on the vectors that keep the equations the multipliers come to nothing
+      pub ray_vanishes : (x : Vector) → KeepsEquations p.matrix x → functional p.matrix ray x ≡ zero_ℚ
+      ray_vanishes x keeps =
+          sum_to-same (size p.matrix) _ _ (λ k low. multiple x k (omega (arith, low)))
+          ∙ sum_to-with_at (size p.matrix) place (own *ℚ x r) parts (omega (arith, r_is.1, place_is))
+          ∙ ap (λ v. v +ℚ (own *ℚ x r -ℚ parts place)) (sum_to-mul_left (size p.matrix) (neg_ℚ own) (λ j. cond (is_in (basics_of s) (suc j)) zero_ℚ (x (suc j)) *ℚ t.rate r (suc j)) ∙ ap (λ v. neg_ℚ own *ℚ v) (sym (tells x keeps)))
+          ∙ ap (λ v. neg_ℚ own *ℚ x r +ℚ (own *ℚ x r -ℚ v)) none
+          ∙ by_ring2 own (x r) (λ o x. opposite o ⊗ x ⊕ (o ⊗ x ⊖ number (pos 0)) ≐ number (pos 0)) refl
+        where
+          parts : ℕ → ℚ
+          parts j = neg_ℚ own *ℚ (cond (is_in (basics_of s) (suc j)) zero_ℚ (x (suc j)) *ℚ t.rate r (suc j))
+
+          none : parts place ≡ zero_ℚ
+          none =
+              let marked : is_in (basics_of s) (suc place) ≡ true = ap (is_in (basics_of s)) place_is ∙ r_basic in
+              ap (λ b. neg_ℚ own *ℚ (cond b zero_ℚ (x (suc place)) *ℚ t.rate r (suc place))) marked
+              ∙ by_ring2 own (t.rate r (suc place)) (λ o v. opposite o ⊗ (number (pos 0) ⊗ v) ≐ number (pos 0)) refl
+
+      -- r meets the limit that it broke, and any other multiplier one at which the point stands
+      at_r : (k : ℕ) → ((k ≡ r) ⊎ (k ≢ r))
+      at_r k = apart_or_not (eqb_tells k r)
+        where
+          apart_or_not : (((eqb k r ≡ true) × (k ≡ r)) ⊎ ((eqb k r ≡ false) × (k ≢ r))) → (k ≡ r) ⊎ (k ≢ r)
+          apart_or_not (inl same) = inl same.1
+          apart_or_not (inr other) = inr other.1
+
+      meets_upper : (k : ℕ) → IsVariable p.matrix k → zero_ℚ <ℚ ray k → IsSome (upper_of p k)
+      meets_upper k is h = by_place (at_r k)
+        where
+          by_place : ((k ≡ r) ⊎ (k ≢ r)) → IsSome (upper_of p k)
+          by_place (inl same) = subst (λ j. IsSome (upper_of p j)) (sym same) (own_upper below (lower_of p r) (upper_of p r) own_limit.0 own_limit.1 (subst (λ v. zero_ℚ <ℚ v) (ap ray same ∙ ray_own) h))
+          by_place (inr other) = let met : upper_of p k ≡ Some (t.point k) = (ray_meets k is other).positive h in rw met refl
+
+      meets_lower : (k : ℕ) → IsVariable p.matrix k → ray k <ℚ zero_ℚ → IsSome (lower_of p k)
+      meets_lower k is h = by_place (at_r k)
+        where
+          by_place : ((k ≡ r) ⊎ (k ≢ r)) → IsSome (lower_of p k)
+          by_place (inl same) = subst (λ j. IsSome (lower_of p j)) (sym same) (own_lower below (lower_of p r) (upper_of p r) own_limit.0 own_limit.1 (subst (λ v. v <ℚ zero_ℚ) (ap ray same ∙ ray_own) h))
+          by_place (inr other) = let met : lower_of p k ≡ Some (t.point k) = (ray_meets k is other).negative h in rw met refl
+
+      met : (k : ℕ) → suc k ≤ size p.matrix → ray (suc k) *ℚ unwrap_or (limit_against p ray (suc k)) zero_ℚ ≡ with_at place (own *ℚ own_limit.0) (λ j. ray (suc j) *ℚ t.point (suc j)) k
+      met k is = at (eqb_tells k place)
+        where
+          at : (((eqb k place ≡ true) × (k ≡ place)) ⊎ ((eqb k place ≡ false) × (k ≢ place))) → ray (suc k) *ℚ unwrap_or (limit_against p ray (suc k)) zero_ℚ ≡ cond (eqb k place) (own *ℚ own_limit.0) (ray (suc k) *ℚ t.point (suc k))
+          at (inl same) =
+              let here : suc k ≡ r = ap suc same.1 ∙ place_is in
+              rw same.0 (ap (λ j. ray j *ℚ unwrap_or (limit_against p ray j) zero_ℚ) here
+              ∙ ap (λ v. v *ℚ unwrap_or (if lt_ℚ zero_ℚ v then upper_of p r else lower_of p r) zero_ℚ) ray_own
+              ∙ ap (λ o. own *ℚ unwrap_or o zero_ℚ) (limit_own below (lower_of p r) (upper_of p r) ∙ own_limit.1))
+          at (inr other) =
+              let apart : suc k ≢ r = λ e. other.1 (omega (arith, e, place_is)) in
+              rw other.0 (met_product (lower_of p (suc k)) (upper_of p (suc k)) (t.point (suc k)) (ray (suc k)) (ray_meets (suc k) (omega arith, is) apart))
+
+      limits_come_to : sum_up_to (size p.matrix) (λ k. ray k *ℚ unwrap_or (limit_against p ray k) zero_ℚ) ≡ own *ℚ own_limit.0 -ℚ own *ℚ t.point r
+      limits_come_to =
+          sum_to-same (size p.matrix) _ _ (λ k low. met k (omega (arith, low)))
+          ∙ sum_to-with_at (size p.matrix) place (own *ℚ own_limit.0) (λ j. ray (suc j) *ℚ t.point (suc j)) (omega (arith, r_is.1, place_is))
+          ∙ ap (λ v. v +ℚ (own *ℚ own_limit.0 -ℚ ray (suc place) *ℚ t.point (suc place))) (ray_vanishes t.point tab.is_point.keeps)
+          ∙ ap (λ v. zero_ℚ +ℚ (own *ℚ own_limit.0 -ℚ v)) (ap (λ j. ray j *ℚ t.point j) place_is ∙ ap (λ v. v *ℚ t.point r) ray_own)
+          ∙ zero-add (own *ℚ own_limit.0 -ℚ own *ℚ t.point r)
+
+      pub ray_is : IsRay p ray
+      ray_is = record {
+        vanishes = λ j is. sym (functional_at_unit p.matrix ray j is) ∙ ray_vanishes (unit p.matrix j) (KeepsEquations-unit p.matrix j is);
+        meets_upper = meets_upper;
+        meets_lower = meets_lower;
+        negative = subst (λ v. v <ℚ zero_ℚ) (sym limits_come_to) (lt_by_one own_limit.2 (by_ring2 (own *ℚ own_limit.0) (own *ℚ t.point r) (λ x y. number (pos 0) ≐ (x ⊖ y) ⊕ (y ⊖ x)) refl));
+      }
+
+-- a vector with the same multipliers is a ray too
+pub IsRay-same : (p : LinearProgram) (w v : Vector) → ((k : ℕ) → IsVariable p.matrix k → w k ≡ v k) → IsRay p w → IsRay p v
+IsRay-same p w v same h = record {
+  vanishes = λ j is.
+      sym (ap₂ ◌+ℚ◌ (same (p.rows + j) (omega (arith, is.0), omega (arith, is.1)))
+      (sum_to-same p.rows _ _ (λ i low. ap (λ x. x *ℚ entry p.matrix (suc i) j) (same (suc i) (omega arith, omega (arith, low))))))
+      ∙ h.vanishes j is;
+  meets_upper = λ k is positive. h.meets_upper k is (subst (λ x. zero_ℚ <ℚ x) (sym (same k is)) positive);
+  meets_lower = λ k is negative. h.meets_lower k is (subst (λ x. x <ℚ zero_ℚ) (sym (same k is)) negative);
+  negative = subst (λ x. x <ℚ zero_ℚ) (sum_to-same (size p.matrix) _ _ (λ k low. ap (λ x. x *ℚ unwrap_or (if lt_ℚ zero_ℚ x then upper_of p (suc k) else lower_of p (suc k)) zero_ℚ) (same (suc k) (omega arith, omega (arith, low))))) h.negative;
+}
