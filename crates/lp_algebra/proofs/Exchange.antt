@@ -15,11 +15,11 @@ use Rattle.lp_algebra.proofs.Equations.{KeepsEquations-sub, KeepsEquations-scale
 
 -- ---- the marks
 
-abbrev marked : Basics → ℕ
+abbrev pub marked : Basics → ℕ
 marked [] = 0
 marked (m ∷ ms) = cond m (1 + marked ms) (marked ms)
 
-marked_is : (b : Basics) → marked b ≡ count_by (λ m. m) b
+pub marked_is : (b : Basics) → marked b ≡ count_by (λ m. m) b
 marked_is b = is_count_by marked (λ m. m) refl (λ m ms. refl) b
 
 marked-set_true : (b : Basics) (i : ℕ) → i < length b → get_or b i false ≡ false → marked (set b i true) ≡ suc (marked b)

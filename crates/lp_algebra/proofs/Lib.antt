@@ -4,3 +4,6 @@ pub mod Functionals
 pub mod Duality
 pub mod Uniqueness
 pub mod Exchange
+pub mod Combination
+pub mod Opening
+pub mod Statuses
