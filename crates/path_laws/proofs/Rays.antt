@@ -8,15 +8,18 @@ use Rattle.exact_values.specs.Sums.{sum_up_to, with_at}
 use Rattle.exact_values.specs.Tests.{lt_ℚ}
 use Rattle.exact_values.proofs.Sums.{sum_to-same, sum_to-with_at, sum_to-mul_left}
 use Rattle.exact_values.proofs.Ring.{by_ring1, by_ring2, by_ring3, ◌⊕◌, ◌⊖◌, ◌⊗◌, ◌≐◌, number, opposite}
-use Rattle.exact_values.proofs.Ring_laws.{zero-mul, zero-add}
+use Rattle.exact_values.proofs.Ring_laws.{zero-mul, zero-add, mul-one, mul-zero, mul_assoc}
 use Rattle.exact_values.proofs.Order.{lt_irrefl, le_refl, le_of_lt, lt_not_le, le_antisymm, lt_by_one, le_by_one}
 use Rattle.lp_definitions.specs.LinearProgram.{LinearProgram, Vector, size, IsVariable, KeepsEquations, entry, lower_of, upper_of}
 use Rattle.lp_definitions.specs.Solutions.{IsRay, limit_against}
-use Rattle.lp_definitions.specs.Basis.{is_in, basics_of, status_of, is_basic, IsBasis, StandsAt, IsAllowed, IsFixed, IsRightAt, Tableau, IsTableau}
+use Rattle.lp_definitions.specs.Basis.{IsNonsingular, is_in, basics_of, status_of, is_basic, IsBasis, StandsAt, IsAllowed, IsFixed, IsRightAt, Tableau, IsTableau}
+use Rattle.lp_definitions.specs.RatesEvidence.{multiplier}
 use Rattle.lp_definitions.specs.declared.Status.{Status}
 use Rattle.lp_definitions.specs.declared.Status.TheVariants.{Bs, Ll, Ul, Fr}
+use Rattle.lp_algebra.proofs.Values.{clash}
 use Rattle.lp_algebra.specs.Vectors.{functional, unit}
 use Rattle.lp_algebra.proofs.Functionals.{functional_at_unit, KeepsEquations-unit}
+use Rattle.lp_algebra.proofs.Combination.{multiplier_vanishes}
 use Rattle.lp_algebra.proofs.Uniqueness.{is_in-basics_of}
 use Rattle.path_definitions.specs.Moves.{is_below, is_above, is_outside, is_fixed, lowers, signed, on_limit}
 use Rattle.path_definitions.specs.Path.{ray_of, excess_rate, mover, outside}
@@ -85,9 +88,6 @@ turned_signs : (b : Bool) (v : ℚ) → signed (not b) v ≡ neg_ℚ (signed b v
 turned_signs true v = refl
 turned_signs false v = by_ring1 v (λ v. v ≐ opposite (opposite v)) refl
 
-clash : true ≡ false → ⊥
-clash e = cc
-
 or_right : (a b : Bool) → (a || b) ≡ true → a ≡ false → b ≡ true
 or_right true b e h = cc
 or_right false b e h = e
@@ -125,14 +125,14 @@ and_parts true b e = (refl, e)
 and_parts false b e = cc
 
 module _ (p : LinearProgram) (s : List Status) (t : Tableau) (basis : IsBasis p s) (tab : IsTableau p s t) (r : ℕ) (phase : IsFirstPhase p s t r) where
-  abbrev below : Bool
+  abbrev pub below : Bool
   below = is_below p t.point r
 
   abbrev pub ray : Vector
   ray = ray_of (basics_of s) t.rate r below
 
   -- the multiplier of r: -1 below its lower limit, and 1 above its upper one
-  abbrev own : ℚ
+  abbrev pub own : ℚ
   own = signed below (neg_ℚ one_ℚ)
 
   found : IsFound (λ k. is_in (basics_of s) k && is_outside p t.point k) (size p.matrix) 1 r
@@ -141,7 +141,7 @@ module _ (p : LinearProgram) (s : List Status) (t : Tableau) (basis : IsBasis p 
   pub r_is : IsVariable p.matrix r
   r_is = (found.low, omega (arith, found.high))
 
-  r_basic : is_in (basics_of s) r ≡ true
+  pub r_basic : is_in (basics_of s) r ≡ true
   r_basic = (and_parts (is_in (basics_of s) r) (is_outside p t.point r) found.passes).0
 
   r_outside : is_outside p t.point r ≡ true
@@ -161,6 +161,19 @@ module _ (p : LinearProgram) (s : List Status) (t : Tableau) (basis : IsBasis p 
       at (inl same) = absurd (clash (sym r_basic ∙ ap (is_in (basics_of s)) (sym same.1) ∙ is))
       at (inr other) = rw (other.0, is) refl
 
+  -- r itself meets the limit that it broke
+  abbrev pub broken_limit : Option ℚ
+  broken_limit = if below then lower_of p r else upper_of p r
+
+  pub own_limit : (l : ℚ) × (broken_limit ≡ Some l) × (own *ℚ l <ℚ own *ℚ t.point r)
+  own_limit = broken_by below refl
+    where
+      broken_by : (b : Bool) → is_below p t.point r ≡ b → (l : ℚ) × ((if b then lower_of p r else upper_of p r) ≡ Some l) × (signed b (neg_ℚ one_ℚ) *ℚ l <ℚ signed b (neg_ℚ one_ℚ) *ℚ t.point r)
+      broken_by true is = let h = above_of (λ l. lt_ℚ (t.point r) l) (lower_of p r) is in (h.0, h.1, lt_by_one (lt_true (t.point r) h.0 h.2) (by_ring2 h.0 (t.point r) (λ l z. opposite (number (pos 1)) ⊗ z ≐ opposite (number (pos 1)) ⊗ l ⊕ (l ⊖ z)) refl))
+      broken_by false is =
+          let above : is_above p t.point r ≡ true = or_right (is_below p t.point r) (is_above p t.point r) r_outside is in
+          let h = above_of (λ u. lt_ℚ u (t.point r)) (upper_of p r) above in (h.0, h.1, lt_by_one (lt_true h.0 (t.point r) h.2) (by_ring2 h.0 (t.point r) (λ u z. opposite (opposite (number (pos 1))) ⊗ z ≐ opposite (opposite (number (pos 1))) ⊗ u ⊕ (z ⊖ u)) refl))
+
   -- each multiplier but that of r meets a limit at which the point stands
   module _ (stuck : mover p s t (Some r) ≡ None) where
     idle : (k : ℕ) → IsVariable p.matrix k → IsFixed p k ⊎ IsRightAt (status_of s k) (excess_rate t.rate r below k)
@@ -176,20 +189,7 @@ module _ (p : LinearProgram) (s : List Status) (t : Tableau) (basis : IsBasis p 
         at false mark = nonbasic_meets (status_of s k) (lower_of p k) (upper_of p k) (t.point k) (excess_rate t.rate r below k) (ray k)
             (sym (is_in-basics_of s k is.0 (omega (arith, is.1, basis.counted))) ∙ mark) (tab.is_point.placed k is) (turned_signs below (t.rate r k) ∙ ap neg_ℚ (sym (ray_nonbasic k mark))) (idle k is) (basis.allowed k is)
 
-    -- r itself meets the limit that it broke
-    abbrev broken_limit : Option ℚ
-    broken_limit = if below then lower_of p r else upper_of p r
-
-    own_limit : (l : ℚ) × (broken_limit ≡ Some l) × (own *ℚ l <ℚ own *ℚ t.point r)
-    own_limit = broken_by below refl
-      where
-        broken_by : (b : Bool) → is_below p t.point r ≡ b → (l : ℚ) × ((if b then lower_of p r else upper_of p r) ≡ Some l) × (signed b (neg_ℚ one_ℚ) *ℚ l <ℚ signed b (neg_ℚ one_ℚ) *ℚ t.point r)
-        broken_by true is = let h = above_of (λ l. lt_ℚ (t.point r) l) (lower_of p r) is in (h.0, h.1, lt_by_one (lt_true (t.point r) h.0 h.2) (by_ring2 h.0 (t.point r) (λ l z. opposite (number (pos 1)) ⊗ z ≐ opposite (number (pos 1)) ⊗ l ⊕ (l ⊖ z)) refl))
-        broken_by false is =
-            let above : is_above p t.point r ≡ true = or_right (is_below p t.point r) (is_above p t.point r) r_outside is in
-            let h = above_of (λ u. lt_ℚ u (t.point r)) (upper_of p r) above in (h.0, h.1, lt_by_one (lt_true h.0 (t.point r) h.2) (by_ring2 h.0 (t.point r) (λ u z. opposite (opposite (number (pos 1))) ⊗ z ≐ opposite (opposite (number (pos 1))) ⊗ u ⊕ (z ⊖ u)) refl))
-
-    module _ (tells : (x : Vector) → KeepsEquations p.matrix x → x r ≡ sum_up_to (size p.matrix) (λ j. cond (is_in (basics_of s) j) zero_ℚ (x j) *ℚ t.rate r j)) where
+    module _ (one : IsNonsingular p.matrix (basics_of s)) where
       place : ℕ
       place = r - 1
 
@@ -197,45 +197,26 @@ module _ (p : LinearProgram) (s : List Status) (t : Tableau) (basis : IsBasis p 
       unfolding place
       place_is = omega (arith, r_is.0)
 
-      -- the multiples of a vector's values, place by place: that of r apart from those of the nonbasics
-      multiple : (x : Vector) (k : ℕ) → suc k ≤ size p.matrix → ray (suc k) *ℚ x (suc k) ≡ with_at place (own *ℚ x r) (λ j. neg_ℚ own *ℚ (cond (is_in (basics_of s) (suc j)) zero_ℚ (x (suc j)) *ℚ t.rate r (suc j))) k
-      multiple x k is = at (eqb_tells k place)
+      -- the ray is a multiple of what makes the row of r vanish
+      ray_multiple : (k : ℕ) → ray k ≡ own *ℚ multiplier (basics_of s) t.rate r k
+      ray_multiple k = at (is_in (basics_of s) k) refl (eqb_tells k r)
         where
-          nonbasic_part : (mark : Bool) → is_in (basics_of s) (suc k) ≡ mark → suc k ≢ r → ray (suc k) *ℚ x (suc k) ≡ neg_ℚ own *ℚ (cond mark zero_ℚ (x (suc k)) *ℚ t.rate r (suc k))
-          nonbasic_part true mark other =
-              ap (λ v. v *ℚ x (suc k)) (ray_basic (suc k) other mark)
-              ∙ by_ring3 (x (suc k)) own (t.rate r (suc k)) (λ x o v. number (pos 0) ⊗ x ≐ opposite o ⊗ (number (pos 0) ⊗ v)) refl
-          nonbasic_part false mark other = ap (λ v. v *ℚ x (suc k)) (ray_nonbasic (suc k) mark) ∙ by_sign below (t.rate r (suc k)) (x (suc k))
-            where
-              by_sign : (b : Bool) (v y : ℚ) → signed b v *ℚ y ≡ neg_ℚ (signed b (neg_ℚ one_ℚ)) *ℚ (y *ℚ v)
-              by_sign true v y = by_ring2 v y (λ v y. v ⊗ y ≐ opposite (opposite (number (pos 1))) ⊗ (y ⊗ v)) refl
-              by_sign false v y = by_ring2 v y (λ v y. opposite v ⊗ y ≐ opposite (opposite (opposite (number (pos 1)))) ⊗ (y ⊗ v)) refl
+          by_sign : (b : Bool) (v : ℚ) → signed b v ≡ signed b (neg_ℚ one_ℚ) *ℚ neg_ℚ v
+          by_sign true v = by_ring1 v (λ v. v ≐ opposite (number (pos 1)) ⊗ opposite v) refl
+          by_sign false v = by_ring1 v (λ v. opposite v ≐ opposite (opposite (number (pos 1))) ⊗ opposite v) refl
 
-          at : (((eqb k place ≡ true) × (k ≡ place)) ⊎ ((eqb k place ≡ false) × (k ≢ place))) → ray (suc k) *ℚ x (suc k) ≡ cond (eqb k place) (own *ℚ x r) (neg_ℚ own *ℚ (cond (is_in (basics_of s) (suc k)) zero_ℚ (x (suc k)) *ℚ t.rate r (suc k)))
-          at (inl same) =
-              let here : suc k ≡ r = ap suc same.1 ∙ place_is in
-              rw same.0 (ap (λ j. ray j *ℚ x j) here ∙ ap (λ v. v *ℚ x r) ray_own)
-          at (inr other) =
-              let apart : suc k ≢ r = λ e. other.1 (omega (arith, e, place_is)) in
-              rw other.0 (nonbasic_part (is_in (basics_of s) (suc k)) refl apart)
+          at : (mark : Bool) → is_in (basics_of s) k ≡ mark → (((eqb k r ≡ true) × (k ≡ r)) ⊎ ((eqb k r ≡ false) × (k ≢ r))) → ray k ≡ own *ℚ cond mark (cond (eqb k r) one_ℚ zero_ℚ) (neg_ℚ (t.rate r k))
+          at true mark (inl same) = ap ray same.1 ∙ ray_own ∙ sym (mul-one own) ∙ ap (λ b. own *ℚ cond b one_ℚ zero_ℚ) (sym same.0)
+          at true mark (inr other) = ray_basic k other.1 mark ∙ sym (mul-zero own) ∙ ap (λ b. own *ℚ cond b one_ℚ zero_ℚ) (sym other.0)
+          at false mark same = ray_nonbasic k mark ∙ by_sign below (t.rate r k)
 
-      -- on the vectors that keep the equations the multipliers come to nothing
+      -- so on the vectors that keep the equations the multipliers come to nothing
       pub ray_vanishes : (x : Vector) → KeepsEquations p.matrix x → functional p.matrix ray x ≡ zero_ℚ
       ray_vanishes x keeps =
-          sum_to-same (size p.matrix) _ _ (λ k low. multiple x k (omega (arith, low)))
-          ∙ sum_to-with_at (size p.matrix) place (own *ℚ x r) parts (omega (arith, r_is.1, place_is))
-          ∙ ap (λ v. v +ℚ (own *ℚ x r -ℚ parts place)) (sum_to-mul_left (size p.matrix) (neg_ℚ own) (λ j. cond (is_in (basics_of s) (suc j)) zero_ℚ (x (suc j)) *ℚ t.rate r (suc j)) ∙ ap (λ v. neg_ℚ own *ℚ v) (sym (tells x keeps)))
-          ∙ ap (λ v. neg_ℚ own *ℚ x r +ℚ (own *ℚ x r -ℚ v)) none
-          ∙ by_ring2 own (x r) (λ o x. opposite o ⊗ x ⊕ (o ⊗ x ⊖ number (pos 0)) ≐ number (pos 0)) refl
-        where
-          parts : ℕ → ℚ
-          parts j = neg_ℚ own *ℚ (cond (is_in (basics_of s) (suc j)) zero_ℚ (x (suc j)) *ℚ t.rate r (suc j))
-
-          none : parts place ≡ zero_ℚ
-          none =
-              let marked : is_in (basics_of s) (suc place) ≡ true = ap (is_in (basics_of s)) place_is ∙ r_basic in
-              ap (λ b. neg_ℚ own *ℚ (cond b zero_ℚ (x (suc place)) *ℚ t.rate r (suc place))) marked
-              ∙ by_ring2 own (t.rate r (suc place)) (λ o v. opposite o ⊗ (number (pos 0) ⊗ v) ≐ number (pos 0)) refl
+          sum_to-same (size p.matrix) _ _ (λ k low. ap (λ v. v *ℚ x (suc k)) (ray_multiple (suc k)) ∙ mul_assoc own (multiplier (basics_of s) t.rate r (suc k)) (x (suc k)))
+          ∙ sum_to-mul_left (size p.matrix) own (λ k. multiplier (basics_of s) t.rate r (suc k) *ℚ x (suc k))
+          ∙ ap (λ v. own *ℚ v) (multiplier_vanishes p.matrix (basics_of s) t.rate tab.are_rates one r (r_is, r_basic) x keeps)
+          ∙ mul-zero own
 
       -- r meets the limit that it broke, and any other multiplier one at which the point stands
       at_r : (k : ℕ) → ((k ≡ r) ⊎ (k ≢ r))

@@ -119,3 +119,16 @@ module _ (p : LinearProgram) (s : List Status) (t : Tableau) where
   optimal_turn z y (by_stopped q j h) = let e = h.gives in cc
   optimal_turn z y (by_endless q h) = let e = h.gives in cc
   optimal_turn z y (by_optimal h) = h
+
+  -- a move, by the phase that makes it
+  pub data MovingRule (m : Move) : Type 0 where
+    brings : (r q : ℕ) → IsBroughtTurn (Moves m) r q → MovingRule m
+    stops : (q k : ℕ) → IsStoppedTurn (Moves m) q k → MovingRule m
+
+  pub moving_turn : (m : Move) → Rule (Moves m) → MovingRule m
+  moving_turn m (by_crossed j h) = let e = h.gives in cc
+  moving_turn m (by_brought r q h) = brings r q h
+  moving_turn m (by_stuck r h) = let e = h.gives in cc
+  moving_turn m (by_stopped q j h) = stops q j h
+  moving_turn m (by_endless q h) = let e = h.gives in cc
+  moving_turn m (by_optimal h) = let e = h.gives in cc
