@@ -83,7 +83,7 @@ module _ (a : Matrix) where
       ∙ sym (sum_to-add a.cols (λ j. entry a o (suc j) *ℚ x (a.rows + suc j)) (λ j. d.theta *ℚ (entry a d.row (suc j) *ℚ x (a.rows + suc j))))
       ∙ sum_to-same a.cols _ _ (λ j _. by_ring4 (entry a o (suc j)) d.theta (entry a d.row (suc j)) (x (a.rows + suc j)) (λ a t h x. a ⊗ x ⊕ t ⊗ (h ⊗ x) ≐ (a ⊕ t ⊗ h) ⊗ x) refl)
 
-change_row : (p : LinearProgram) (c : Option Change) → ChangeIsFree p c → (d : Change) → c ≡ Some d → IsRow p.matrix d.row
+pub change_row : (p : LinearProgram) (c : Option Change) → ChangeIsFree p c → (d : Change) → c ≡ Some d → IsRow p.matrix d.row
 change_row p None free d e = absurd (let P : None ≡ Some d → ⊥ = λ e. cc in P e)
 change_row p (Some c) free d e = let same : c ≡ d = cc in rw (← same) free.0
 

@@ -7,3 +7,8 @@ pub mod Exchange
 pub mod Combination
 pub mod Opening
 pub mod Statuses
+pub mod Points
+pub mod WaypointLaws
+pub mod Optimal
+pub mod Rays
+pub mod Entries
