@@ -1,13 +1,12 @@
 -- A sum over the numbers of a column, in their order, is the sum over the rows.
-use Rattle.std.proofs.Common.{◌≡◌, ◌≢◌, ℕ, zero, suc, ◌+◌, ◌-◌, ◌<◌, ◌≤◌, List, [], ◌∷◌, length, map, get_or, pos, refl, sym, ◌∙◌, ap, ap₂, Bool, true, false, cond, ◌⊎◌, inl, inr, arith, All}
+use Rattle.std.proofs.Common.{◌≡◌, ℕ, zero, suc, ◌-◌, ◌≤◌, List, [], ◌∷◌, map, refl, sym, ◌∙◌, ap, ap₂, true, false, cond, arith, All}
 use Rattle.std.specs.Prelude.{nat_eq}
 use Rattle.std.specs.List.{IsDistinct, AllByRecursion}
 use Rattle.std.proofs.lemmas.Map.Keys.{IsDistinct-head, IsDistinct-tail}
 use native.Mathlib.Decide.{ℕ_discrete}
 use Rattle.exact_values.specs.Rational.{ℚ, zero_ℚ, ◌+ℚ◌, ◌*ℚ◌}
 use Rattle.exact_values.specs.Sums.{sum_to}
-use Rattle.exact_values.proofs.Ring.{by_ring3, ◌⊕◌, ◌⊗◌, ◌≐◌}
-use Rattle.exact_values.proofs.Ring_laws.{add_assoc, add_comm, add-zero, zero-add, mul-zero}
+use Rattle.exact_values.proofs.Ring_laws.{add_assoc, add-zero, zero-add, mul-zero}
 use Rattle.exact_values.proofs.Sums.{sum_to-same, sum_to-zero, sum_to-add, sum_to-only}
 use Rattle.lp_definitions.specs.LinearProgram.{Matrix, on_row, column, entry, IsRow, IsColumn, IsMatrix}
 use Rattle.lp_definitions.specs.RatesEvidence.{sum_from}

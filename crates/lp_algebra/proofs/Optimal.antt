@@ -1,14 +1,14 @@
 -- The prices of a basis prove its point best where their signs are right.
-use Rattle.std.proofs.Common.{◌≡◌, ◌≢◌, ℕ, suc, ◌+◌, ◌≤◌, List, length, pos, refl, sym, ◌∙◌, ap, ap₂, subst, Option, Some, None, Bool, true, false, cond, ◌⊎◌, inl, inr, arith}
-use Rattle.exact_values.specs.Rational.{ℚ, zero_ℚ, ◌+ℚ◌, ◌-ℚ◌, ◌*ℚ◌, neg_ℚ, ◌<ℚ◌, ◌≤ℚ◌}
+use Rattle.std.proofs.Common.{◌≡◌, ℕ, suc, ◌+◌, List, pos, refl, sym, ◌∙◌, ap, ap₂, subst, Option, Some, None, Bool, true, false, cond, ◌⊎◌, inl, inr, arith}
+use Rattle.exact_values.specs.Rational.{ℚ, zero_ℚ, ◌+ℚ◌, ◌-ℚ◌, ◌*ℚ◌, ◌<ℚ◌}
 use Rattle.exact_values.specs.Sums.{sum_to}
 use Rattle.exact_values.proofs.Ring.{by_ring1, by_ring2, by_ring4, opposite, number, ◌⊕◌, ◌⊖◌, ◌⊗◌, ◌≐◌}
 use Rattle.exact_values.proofs.Ring_laws.{mul_comm, zero-mul}
 use Rattle.exact_values.proofs.Order.{lt_not_le, le_of_eq, lt_irrefl}
 use Rattle.exact_values.proofs.Sums.{sum_to-same, sum_to-add, sum_to-mul_left}
-use Rattle.lp_definitions.specs.LinearProgram.{Matrix, LinearProgram, Vector, size, entry, cost, objective_value, with_change_row, for_min, lower_of, upper_of, IsRow, IsColumn, IsVariable, KeepsEquations, IsLinearProgram}
-use Rattle.lp_definitions.specs.Solutions.{IsFeasible, IsBest, AreProvingPrices}
-use Rattle.lp_definitions.specs.Basis.{Basics, is_in, is_basic, basics_of, status_of, IsAllowed, StandsAt, IsBasis, IsBasic, IsNonbasic, IsNonsingular, AreRates, IsPointOf, IsFixed, IsRightAt, IsOptimalBasis, objective_rate, price_at}
+use Rattle.lp_definitions.specs.LinearProgram.{LinearProgram, Vector, size, entry, cost, objective_value, with_change_row, for_min, lower_of, upper_of, IsRow, IsColumn, IsVariable, KeepsEquations, IsLinearProgram}
+use Rattle.lp_definitions.specs.Solutions.{IsBest, AreProvingPrices}
+use Rattle.lp_definitions.specs.Basis.{Basics, is_in, is_basic, basics_of, status_of, IsAllowed, StandsAt, IsBasis, IsNonsingular, AreRates, IsPointOf, IsFixed, IsRightAt, IsOptimalBasis, objective_rate, price_at}
 use Rattle.lp_definitions.specs.declared.Change.{Change}
 use Rattle.lp_definitions.specs.declared.Sense.{Sense}
 use Rattle.lp_definitions.specs.declared.Sense.TheVariants.{Min, Max}

@@ -1,19 +1,18 @@
 -- The multipliers of a basic's row are a ray where its variable is outside its limits and no nonbasic can bring it back.
-use Rattle.std.proofs.Common.{◌≡◌, ◌≢◌, ℕ, zero, suc, ◌+◌, ◌<◌, ◌≤◌, pos, refl, sym, ◌∙◌, ap, subst, Option, Some, None, Bool, true, false, cond, Ordering, Less, Equal, Greater, ◌⊎◌, inl, inr, arith}
+use Rattle.std.proofs.Common.{◌≡◌, ◌≢◌, ℕ, zero, suc, ◌<◌, pos, refl, sym, ◌∙◌, ap, subst, Some, Bool, true, false, cond, ◌⊎◌, inl, inr, arith}
 use Rattle.std.specs.Prelude.{IsSome, unwrap_or}
 use native.Mathlib.Decide.{ℕ_discrete}
-use Rattle.exact_values.specs.Rational.{ℚ, zero_ℚ, ◌+ℚ◌, ◌-ℚ◌, ◌*ℚ◌, neg_ℚ, ◌<ℚ◌, ◌≤ℚ◌, compare_ℚ}
-use Rattle.exact_values.specs.Tests.{lt_ℚ, is_less}
+use Rattle.exact_values.specs.Rational.{ℚ, zero_ℚ, ◌+ℚ◌, ◌*ℚ◌, ◌<ℚ◌, ◌≤ℚ◌}
+use Rattle.exact_values.specs.Tests.{lt_ℚ}
 use Rattle.exact_values.specs.Sums.{sum_to, without}
-use Rattle.exact_values.proofs.Ring.{by_ring2, by_ring3, by_ring4, number, ◌⊕◌, ◌⊖◌, ◌⊗◌, ◌≐◌}
+use Rattle.exact_values.proofs.Ring.{by_ring3, number, ◌⊕◌, ◌⊖◌, ◌⊗◌, ◌≐◌}
 use Rattle.exact_values.proofs.Ring_laws.{zero-mul}
 use Rattle.exact_values.proofs.Order.{lt_or_le, le_antisymm, lt_irrefl, lt_by_one, lt_by_product, le_of_lt, lt_of_lt_of_le, mul-lt-mul_left}
 use Rattle.exact_values.proofs.Sums.{sum_to-same, sum_to-without, without_same, without_other}
-use Rattle.lp_definitions.specs.LinearProgram.{Matrix, LinearProgram, Vector, size, lower_of, upper_of, IsColumn, IsVariable, KeepsEquations}
+use Rattle.lp_definitions.specs.LinearProgram.{LinearProgram, Vector, size, lower_of, upper_of, IsColumn, IsVariable, KeepsEquations}
 use Rattle.lp_definitions.specs.Solutions.{IsRay, limit_against}
-use Rattle.lp_algebra.specs.Vectors.{functional, column_value}
+use Rattle.lp_algebra.specs.Vectors.{column_value}
 use Rattle.lp_algebra.proofs.Duality.{vanishes_by_columns, test_of_below, below_of_test}
-use Rattle.lp_algebra.proofs.Values.{clash}
 
 lt_trans : {x y z : ℚ} → x <ℚ y → y <ℚ z → x <ℚ z
 lt_trans first second = lt_of_lt_of_le first (le_of_lt second)
