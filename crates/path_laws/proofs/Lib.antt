@@ -8,3 +8,4 @@ pub mod OneTurn
 pub mod Rays
 pub mod Steps
 pub mod OnePath
+pub mod Second

@@ -2,10 +2,11 @@
 --     IsNonsingularBasis p s       s is a basis of p, and its basics are nonsingular
 --     EndLaws                      what the path shows where it ends is a proof
 --     StepLaws                     the path goes over bases alone, and there is one path
+--     FeasibleLaws                 once the point is feasible it stays so, and the objective is never made worse
 use Rattle.std.specs.Prelude.{◌≡◌, ℕ, ◌≤◌, List, length}
-use Rattle.exact_values.specs.Rational.{ℚ}
-use Rattle.lp_definitions.specs.LinearProgram.{LinearProgram, value_at, IsLinearProgram}
-use Rattle.lp_definitions.specs.Solutions.{IsBest, AreProvingPrices, IsCrossed, IsRay, ProvesUnbounded}
+use Rattle.exact_values.specs.Rational.{ℚ, ◌≤ℚ◌}
+use Rattle.lp_definitions.specs.LinearProgram.{LinearProgram, Vector, value_at, for_min, objective_value, IsLinearProgram}
+use Rattle.lp_definitions.specs.Solutions.{IsFeasible, IsBest, AreProvingPrices, IsCrossed, IsRay, ProvesUnbounded}
 use Rattle.lp_definitions.specs.Basis.{basics_of, IsBasis, IsNonsingular, IsOptimalBasis, IsPointOf, ArePricesOf, opening_statuses}
 use Rattle.lp_definitions.specs.declared.Status.{Status}
 use Rattle.path_definitions.specs.Path.{Ending, EndsOptimal, EndsCrossed, EndsInfeasible, EndsUnbounded, IsStep, EndsAt, IsPath, last_of, PathEnds, GoesOnFor}
@@ -44,3 +45,14 @@ pub record StepLaws : Type 0 where
       PathEnds p s bases ending → PathEnds p s others other → SameEnds bases others ending other
   pub ended_or_goes_on : (p : LinearProgram) (s : List Status) (bases : List (List Status)) (ending : Ending) (steps : ℕ) → IsLinearProgram p → IsNonsingularBasis p s →
       PathEnds p s bases ending → length bases ≤ steps → GoesOnFor p s steps → ⊥
+
+-- w is the feasible point of the basis next, and its objective is no worse than that of z
+pub record IsNoWorse (p : LinearProgram) (next : List Status) (z w : Vector) : Type 0 where
+  pub point : IsPointOf p next w
+  pub feasible : IsFeasible p w
+  pub no_worse : for_min p.sense (objective_value p w) ≤ℚ for_min p.sense (objective_value p z)
+
+pub record FeasibleLaws : Type 0 where
+  pub step : (p : LinearProgram) (s next : List Status) (z : Vector) → IsLinearProgram p → IsNonsingularBasis p s → IsStep p s next → IsPointOf p s z → IsFeasible p z → (w : Vector) × IsNoWorse p next z w
+  pub path : (p : LinearProgram) (s : List Status) (bases : List (List Status)) (z : Vector) → IsLinearProgram p → IsNonsingularBasis p s → IsPath p s bases → IsPointOf p s z → IsFeasible p z →
+      (w : Vector) × IsNoWorse p (last_of s bases) z w

@@ -2,7 +2,7 @@
 //! The functions here do nothing. Each promises laws, so that the check proves them.
 #![tactic(auto)]
 
-ghost use Rattle.path_laws.specs.Laws.{EndLaws, StepLaws};
+ghost use Rattle.path_laws.specs.Laws.{EndLaws, StepLaws, FeasibleLaws};
 
 pub fn end_laws()
     ensures { EndLaws }
@@ -10,4 +10,8 @@ pub fn end_laws()
 
 pub fn step_laws()
     ensures { StepLaws }
+{}
+
+pub fn feasible_laws()
+    ensures { FeasibleLaws }
 {}
