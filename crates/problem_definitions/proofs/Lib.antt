@@ -5,3 +5,4 @@ pub mod Renamed
 pub mod Each
 pub mod Places
 pub mod Lawful
+pub mod Added
