@@ -3,6 +3,7 @@ use Rattle.std.proofs.Common.{◌≡◌, ℕ, suc, ◌+◌, Bool, true, false, c
 use Rattle.std.specs.List.{AllByRecursion, IsDistinct, sum_by}
 use Rattle.std.proofs.lemmas.List.{append-nil, map-append, length-append}
 use Rattle.std.proofs.lemmas.List.Sums.{sum_by-append}
+use Rattle.std.proofs.lemmas.List.Folds.{list_any-append}
 use Rattle.problem_definitions.specs.Names.{Name, same, has_name}
 use Rattle.problem_definitions.specs.Problem.{Group, group_names, has_group}
 use Rattle.problem_definitions.specs.Groups.{items_of, in_group, in_set}
@@ -54,6 +55,15 @@ module _ {X : Type 0} (name : Name) where
           let whole : group.items ++ items_of name groups ≡ group.items = ap (λ list. group.items ++ list) (no_items groups alone) ∙ append-nil group.items in
           (subst I (ap (λ list. list ++ more) whole) changed, subst (AllByRecursion (λ group. I group.items)) (sym (in_group-absent (λ items. items ++ more) groups alone)) each.1)
       by false e changed h rest = (each.0, rest changed h)
+
+  -- what holds of no items and of each group's items, holds of the items of a name
+  pub items_of-each : (J : List X → Type 0) → J [] → (groups : List (Group X)) → IsDistinct same (group_names groups) → AllByRecursion (λ group. J group.items) groups → J (items_of name groups)
+  items_of-each J none [] distinct each = none
+  items_of-each J none (group ∷ groups) distinct each = by (same name group.name) refl (items_of-each J none groups (distinct-rest group groups distinct) each.1)
+    where
+      by : (b : Bool) → same name group.name ≡ b → J (items_of name groups) → J (cond b group.items [] ++ items_of name groups)
+      by true e rest = subst J (sym (ap (λ list. group.items ++ list) (no_items groups (only_one group groups distinct e)) ∙ append-nil group.items)) each.0
+      by false e rest = rest
 
   -- items added to the group of this name, or to a new one
   pub groups-added : (N : Name → Type 0) (I : List X → Type 0) (more : List X) (groups : List (Group X)) → AreGroups N I groups → N name → I (items_of name groups ++ more)
@@ -113,3 +123,11 @@ module _ {X : Type 0} (name : Name) where
           → sum_by (λ group. length group.items) (cond b (in_group name (λ items. items ++ more) groups) (groups ++ record { name = name; items = more } ∷ [])) ≡ sum_by (λ group. length group.items) groups + length more
       by true there = inner groups distinct there
       by false absent = omega (arith, sum_by-append (λ group. length group.items) groups (record { name = name; items = more } ∷ []), first (record { name = name; items = more }) [])
+
+  -- a group that was there is there
+  pub has_group-added : (f : List X → List X) (groups : List (Group X)) (other : Name) → has_group groups other ≡ true → has_group (in_set name f groups) other ≡ true
+  has_group-added f groups other there = by (has_group groups name)
+    where
+      by : (b : Bool) → has_group (cond b (in_group name f groups) (groups ++ record { name = name; items = f [] } ∷ [])) other ≡ true
+      by true = has_group-names (in_group name f groups) other ∙ ap (λ names. has_name names other) (names-in_group f groups) ∙ sym (has_group-names groups other) ∙ there
+      by false = list_any-append (λ group. same other group.name) groups (record { name = name; items = f [] } ∷ []) ∙ rw there refl

@@ -9,6 +9,10 @@ module _ {X : Type 0} where
   each-push P [] x each last = (last, tt)
   each-push P (y ∷ xs) x each last = (each.0, each-push P xs x each.1 last)
 
+  pub each-append : (P : X → Type 0) (xs ys : List X) → AllByRecursion P xs → AllByRecursion P ys → AllByRecursion P (xs ++ ys)
+  each-append P [] ys each also = also
+  each-append P (x ∷ xs) ys each also = (each.0, each-append P xs ys each.1 also)
+
   pub each-change : (P Q : X → Type 0) → ((x : X) → P x → Q x) → (xs : List X) → AllByRecursion P xs → AllByRecursion Q xs
   each-change P Q change [] each = tt
   each-change P Q change (x ∷ xs) each = (change x each.0, each-change P Q change xs each.1)
