@@ -1,0 +1,3 @@
+pub mod Passing
+pub mod No_refusal
+pub mod Products
