@@ -86,7 +86,7 @@ module _ (rows : ℕ) (y : ℕ → ℚ) where
       → sum_of start (map by_entry es) ≡ start +ℚ sum_up_to rows (λ i. y i *ℚ on_row es i)
   sum_of-entries start [] within distinct = sym (ap (λ s. start +ℚ s) (sum_to-zero rows _ (λ k _. mul-zero (y (suc k)))) ∙ add-zero start)
   sum_of-entries start (e ∷ es) within distinct =
-      sum_of-entries (start +ℚ y e.row *ℚ e.value) es (All-tail _ e es within) (IsDistinct-tail nat_eq e.row (map (λ e. e.row) es) distinct)
+      sum_of-entries (start +ℚ y e.row *ℚ e.value) es (All-tail (λ e. (1 ≤ e.row) × (e.row ≤ rows)) e es within) (IsDistinct-tail nat_eq e.row (map (λ e. e.row) es) distinct)
       ∙ add_assoc start (y e.row *ℚ e.value) (sum_to rows (at_row es))
       ∙ ap (λ s. start +ℚ s) (sym (added (e.row - 1) (omega (arith, here.0)) (omega (arith, here.0, here.1))))
     where
