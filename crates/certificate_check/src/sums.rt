@@ -1,10 +1,10 @@
 //! Sums of products, each made from the left.
 
-ghost use Rattle.std.specs.Prelude.{◌≡◌, [], ◌∷◌, length, map, unwrap_or, IfOk};
+ghost use Rattle.std.specs.Prelude.{◌≡◌, ◌≤◌, [], ◌∷◌, All, length, unwrap_or, IfOk};
 ghost use Rattle.exact_values.specs.Rational.{zero_ℚ};
 ghost use Rattle.frac128.specs.Operations.{TermsFit};
-ghost use Rattle.lp_definitions.specs.LinearProgram.{IsRow, IsColumn, on_row, size, value_at};
-ghost use Rattle.check_definitions.specs.Checks.{row_products, column_products};
+ghost use Rattle.lp_definitions.specs.LinearProgram.{IsRow, on_row, size, value_at};
+ghost use Rattle.check_definitions.specs.Checks.{row_products, entry_products};
 ghost use Rattle.certificate_check.specs.Results.{SumsTo};
 
 use frac128::{Frac, Refused};
@@ -61,14 +61,13 @@ pub fn row_sum(lp: &Lp, values: &[Frac], row: u32) -> Result<Frac, Refused>
     Ok(sum)
 }
 
-/// The start, and the numbers of the column in order, each with the value of its row before it.
-pub fn column_sum(start: Frac, lp: &Lp, values: &[Frac], column: u32) -> Result<Frac, Refused>
-    requires column { IsColumn lp.now.matrix column }
-    requires places { length values.now ≡ size lp.now.matrix }
-    ensures { SumsTo result start (column_products lp.now (value_at values.now) column) }
+/// The start, and the numbers of a column in order, each with the value of its row before it.
+pub fn column_sum(start: Frac, column: &[Entry], values: &[Frac]) -> Result<Frac, Refused>
+    requires { All (λ e. (1 ≤ e.row) × (e.row ≤ length values.now)) column.now }
+    ensures { SumsTo result start (entry_products (value_at values.now) column.now) }
 {
     let mut sum = start;
-    for entry in lp.column(column) {
+    for entry in column {
         sum = add_product(sum, values[entry.row as usize - 1], entry.value)?;
     }
     Ok(sum)

@@ -17,6 +17,7 @@ use Rattle.frac128.specs.declared.Op.TheVariants.{Sub}
 use Rattle.lp_definitions.specs.LinearProgram.{LinearProgram, Vector, variables, numbers_from, column, entry, lower_of, upper_of, cost, objective_value, for_min}
 use Rattle.lp_definitions.specs.Solutions.{limit_against}
 use Rattle.lp_definitions.specs.declared.Change.{Change}
+use Rattle.lp_definitions.specs.declared.Entry.{Entry}
 use Rattle.check_definitions.specs.declared.Verdict.{Verdict}
 use Rattle.check_definitions.specs.Steps.{Step, operation, comparison, verdict_of, Product, product_of, sum_steps, sum_of}
 
@@ -51,6 +52,10 @@ by_sign Greater negative positive = positive
 
 -- ---- parts
 
+-- the numbers of a column in the order in which it has them, each with the value of its row before it
+abbrev pub entry_products : Vector → List Entry → List Product
+entry_products y es = map (λ e. record { left = y e.row; right = e.value }) es
+
 -- theta times f at the change row, if there is one, added to f at the objective row
 abbrev pub change_steps : Option Change → Vector → ℚ → List Step
 change_steps None f v = []
@@ -81,9 +86,9 @@ module _ (p : LinearProgram) where
   abbrev pub feasible_point : Vector → List Step
   feasible_point z = equations 1 z ++ within_limits z
 
-  -- the numbers of column j in the order in which it has them, each with the multiplier of its row before it
+  -- the numbers of column j, each with the multiplier of its row
   abbrev pub column_products : Vector → ℕ → List Product
-  column_products y j = map (λ e. record { left = y e.row; right = e.value }) (column p.matrix j)
+  column_products y j = entry_products y (column p.matrix j)
 
   -- the cost of column j is made; the sum over its numbers is subtracted from it; and this is the price of the column
   abbrev pub reduced_cost : Vector → ℕ → List Step
