@@ -40,8 +40,9 @@ pub record IsShown (sheet : Sheet) (s : Basis) (lines : SolutionLines) : Type 0 
 -- the two ends of the interval of variable k, or a dash for each where it has none
 abbrev pub ends_of : List Interval → ℕ → List Value
 ends_of intervals k = elim (find (λ interval. nat_eq interval.variable k) intervals) [
-    None ↦ Dash ∷ Dash ∷ []
-  | Some interval ↦ limit_value interval.low ∷ limit_value interval.high ∷ [] ]
+  | None ↦ Dash ∷ Dash ∷ []
+  | Some interval ↦ limit_value interval.low ∷ limit_value interval.high ∷ []
+]
 
 module _ (sheet : Sheet) (s : Basis) (t : Tableau) (r : RangeReport) where
   -- the nonbasics among these variables, and the basics other than the objective
