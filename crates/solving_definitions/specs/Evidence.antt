@@ -4,18 +4,18 @@
 use Rattle.std.specs.Prelude.{◌≡◌, ℕ, ◌+◌, Bool, List, [], ◌∷◌, ◌++◌, length, Option, Some, None}
 use Rattle.exact_values.specs.Rational.{ℚ}
 use Rattle.lp_definitions.specs.declared.Evidence.{Evidence}
-use Rattle.path_definitions.specs.Path.{IsPath}
+use Rattle.path_definitions.specs.Path.{IsPath, last_of}
 use Rattle.parametric_definitions.specs.Chain.{Place as Standing, break_of, Reaches}
 use Rattle.overflow_definitions.specs.Statements.{Statement, Primal, Solution, Range, Paraobj, Pararhs}
 use Rattle.overflow_definitions.specs.Evidence.{EvidenceHolds, ShiftHolds}
 use Rattle.listing_definitions.specs.Ending.{Place}
-use Rattle.solver_definitions.specs.Answers.{Basis, Sheet, Changing, Row, Set, Sweep, Question, OfPath, OfSolution, OfRanges, OfSweep, basis_after}
+use Rattle.solver_definitions.specs.Answers.{Basis, Sheet, Changing, Row, Set, Sweep, Question, OfPath, OfSolution, OfRanges, OfSweep}
 use Rattle.solving_definitions.specs.Sweeps.{row_of, shifts_of, family_of, IsFace}
 
 -- the basis that a path has reached
 abbrev pub last_basis : List Basis → Basis
 last_basis [] = []
-last_basis (first ∷ bases) = basis_after first bases
+last_basis (first ∷ bases) = last_of first bases
 
 -- evidence at a basis, which is printed with its basics and those of its waypoint
 pub record IsEvidence (statement : Statement) (break : Option ℚ) (left : ℕ) (bases : List Basis) (ends : List ℚ) (e : Evidence) (place : Option Place) : Type 0 where
