@@ -10,10 +10,10 @@ use Rattle.certificate_check.proofs.sums.row_sum.Goals as goal
 use Rattle.certificate_check.proofs.sums.row_sum.Goals.{After-add_entry}
 
 -- the value of column j + 1
-value_is : (c : After-add_entry) → c.index-values-lp.result ≡ value_at c.args.values.now (c.args.lp.now.rows + (c.loop-j.j + 1))
+value_is : (c : After-add_entry) → c.value_of-value.result ≡ value_at c.args.values.now (c.args.lp.now.rows + (c.loop-j.j + 1))
 value_is c =
     let rows : c.lp.inside.rows ≡ c.args.lp.now.rows = ap (λ (p : LinearProgram). p.rows) c.lp.view_is in
-    grind (arith, common_steps)
+    c.value_of-value.ensures ∙ ap (value_at c.args.values.now) (omega arith)
 
 pub returns-in_err-sum : goal.returns-in_err-sum
 returns-in_err-sum c =
