@@ -1,0 +1,135 @@
+-- What an end of the path tells of the point, the prices and the direction at which it ends.
+use Rattle.std.proofs.Common.{◌≡◌, ◌≢◌, ℕ, suc, ◌+◌, ◌-◌, ◌≤◌, ◌<◌, ◌⊎◌, inl, inr, Bool, true, false, List, length, refl, sym, ap, subst, ◌∙◌, arith, get_or}
+use Rattle.std.specs.Prelude.{Option, Some, None, IsSome, IfSome, not, ◌&&◌, ◌||◌, find}
+use Rattle.std.proofs.lemmas.List.{get_or-map}
+use Rattle.exact_values.specs.Rational.{ℚ, zero_ℚ, one_ℚ, neg_ℚ, ◌+ℚ◌, ◌*ℚ◌, ◌≤ℚ◌, ◌<ℚ◌}
+use Rattle.exact_values.specs.Tests.{lt_ℚ, eq_ℚ}
+use Rattle.exact_values.proofs.Sums.{sum_to-same}
+use Rattle.exact_values.proofs.Order.{le_refl, le_antisymm, le_of_lt}
+use Rattle.lp_definitions.specs.LinearProgram.{Matrix, LinearProgram, Vector, value_at, size, IsVariable, IsRow, KeepsEquations, lower_of, upper_of, for_min, numbers_from, variables, entry}
+use Rattle.lp_definitions.specs.Solutions.{IsWithinLimits, IsFeasible, IsCrossed}
+use Rattle.lp_definitions.specs.Basis.{is_in, basics_of, status_of, is_basic, IsBasis, IsAllowed, StandsAt, IsPointOf, IsNonsingular, Tableau, IsTableau, IsFixed, IsRightAt, IsOptimalBasis, ArePricesOf, price_at, objective_rate}
+use Rattle.lp_definitions.specs.declared.Status.{Status}
+use Rattle.lp_definitions.specs.declared.Status.TheVariants.{Bs, Ll, Ul, Fr}
+use Rattle.lp_algebra.proofs.Equations.{KeepsEquations-same}
+use Rattle.lp_algebra.proofs.Uniqueness.{is_in-basics_of}
+use Rattle.path_definitions.specs.Moves.{on_limit, on_limits, is_crossed, is_outside, is_fixed, rises_from, falls_from, lowers}
+use Rattle.path_definitions.specs.Path.{Ending, EndsOptimal, Ends, EndsAt, listed, crossed, outside, worth_rate, mover}
+use Rattle.path_laws.proofs.Tests.{lt_false, lt_true, eq_true}
+use Rattle.path_laws.proofs.Numbered.{find_none, find_some, get_or-listed}
+use Rattle.path_laws.proofs.Turns.{IsSecondPhase, IsOptimalTurn, rule_of, optimal_turn}
+
+or_false : (a b : Bool) → (a || b) ≡ false → (a ≡ false) × (b ≡ false)
+or_false true b e = cc
+or_false false b e = (refl, e)
+
+and_false : (a b : Bool) → (a && b) ≡ false → b ≡ true → a ≡ false
+and_false true b e h = cc
+and_false false b e h = refl
+
+and_true : (a b : Bool) → (a && b) ≡ false → a ≡ true → b ≡ false
+and_true true b e h = e
+and_true false b e h = cc
+
+-- the list of a vector's values has them in their places
+pub value_at-listed : (a : Matrix) (v : Vector) (k : ℕ) → IsVariable a k → value_at (listed a v) k ≡ v k
+value_at-listed a v k is = get_or-listed v (size a) 1 (k - 1) zero_ℚ (omega (arith, is.0, is.1)) ∙ ap v (omega (arith, is.0))
+
+-- a basic inside its limits, or a nonbasic at one of two limits that are not crossed, lies within them
+below_none : (z : ℚ) (low : Option ℚ) → on_limit (λ l. lt_ℚ z l) low ≡ false → IfSome low (λ l. l ≤ℚ z)
+below_none z None e = tt
+below_none z (Some l) e = lt_false z l e
+
+above_none : (z : ℚ) (high : Option ℚ) → on_limit (λ u. lt_ℚ u z) high ≡ false → IfSome high (λ u. z ≤ℚ u)
+above_none z None e = tt
+above_none z (Some u) e = lt_false u z e
+
+from_lower : (z : ℚ) (high : Option ℚ) → on_limits (λ l u. lt_ℚ u l) (Some z) high ≡ false → IfSome high (λ u. z ≤ℚ u)
+from_lower z None e = tt
+from_lower z (Some u) e = lt_false u z e
+
+from_upper : (z : ℚ) (low : Option ℚ) → on_limits (λ l u. lt_ℚ u l) low (Some z) ≡ false → IfSome low (λ l. l ≤ℚ z)
+from_upper z None e = tt
+from_upper z (Some l) e = lt_false z l e
+
+inside : (st : Status) (low high : Option ℚ) (z : ℚ) → IsAllowed st low high → StandsAt st low high z → on_limits (λ l u. lt_ℚ u l) low high ≡ false →
+    (is_basic st ≡ true → (on_limit (λ l. lt_ℚ z l) low || on_limit (λ u. lt_ℚ u z) high) ≡ false) → IfSome low (λ l. l ≤ℚ z) × IfSome high (λ u. z ≤ℚ u)
+inside Bs low high z allowed stands uncrossed basic = let h = or_false _ _ (basic refl) in (below_none z low h.0, above_none z high h.1)
+inside Ll low high z allowed stands uncrossed basic =
+    (rw stands (le_refl z), from_lower z high (rw stands at uncrossed))
+inside Ul low high z allowed stands uncrossed basic =
+    (from_upper z low (rw stands at uncrossed), rw stands (le_refl z))
+inside Fr low high z allowed stands uncrossed basic = (rw allowed.0 tt, rw allowed.1 tt)
+
+-- a rate at which a nonbasic may not move so as to lower the quantity is right, unless the nonbasic is fixed
+fixed_from : (low high : Option ℚ) → on_limits eq_ℚ low high ≡ true → (v : ℚ) × (low ≡ Some v) × (high ≡ Some v)
+fixed_from None high e = cc
+fixed_from (Some l) None e = cc
+fixed_from (Some l) (Some u) e = (l, refl, ap (λ v. Some v) (sym (eq_true l u e)))
+
+pub right : (st : Status) (low high : Option ℚ) (r : ℚ) (fixed : Bool) → on_limits eq_ℚ low high ≡ fixed →
+    ((lt_ℚ r zero_ℚ && (rises_from st && not fixed)) || (lt_ℚ zero_ℚ r && (falls_from st && not fixed))) ≡ false →
+    ((v : ℚ) × (low ≡ Some v) × (high ≡ Some v)) ⊎ IsRightAt st r
+right st low high r true is e = inl (fixed_from low high is)
+right Bs low high r false is e = inr tt
+right Ll low high r false is e = inr (lt_false r zero_ℚ (and_false _ _ (or_false _ _ e).0 refl))
+right Ul low high r false is e = inr (lt_false zero_ℚ r (and_false _ _ (or_false _ _ e).1 refl))
+right Fr low high r false is e =
+    let h = or_false _ _ e in inr (le_antisymm (lt_false zero_ℚ r (and_false _ _ h.1 refl)) (lt_false r zero_ℚ (and_false _ _ h.0 refl)))
+
+module _ (p : LinearProgram) (s : List Status) (t : Tableau) (basis : IsBasis p s) (tab : IsTableau p s t) where
+  -- at the basis of a path that is not crossed and has no basic outside its limits the point is feasible
+  pub feasible : IsSecondPhase p s t → IsFeasible p t.point
+  feasible phase = record { keeps = tab.is_point.keeps; within = within }
+    where
+      uncrossed : (k : ℕ) → IsVariable p.matrix k → is_crossed p k ≡ false
+      uncrossed k is = find_none (is_crossed p) (size p.matrix) 1 phase.uncrossed k is.0 (omega (arith, is.1))
+
+      unbroken : (k : ℕ) → IsVariable p.matrix k → is_basic (status_of s k) ≡ true → is_outside p t.point k ≡ false
+      unbroken k is basic =
+          let test = find_none (λ k. is_in (basics_of s) k && is_outside p t.point k) (size p.matrix) 1 phase.unbroken k is.0 (omega (arith, is.1)) in
+          let among : is_in (basics_of s) k ≡ true = is_in-basics_of s k is.0 (omega (arith, is.1, basis.counted)) ∙ basic in
+          and_true _ _ test among
+
+      within : IsWithinLimits p t.point
+      within k is = inside (status_of s k) (lower_of p k) (upper_of p k) (t.point k) (basis.allowed k is) (tab.is_point.placed k is) (uncrossed k is) (unbroken k is)
+
+  -- where no variable betters the objective, its rates are right
+  pub rates_right : mover p s t None ≡ None → (k : ℕ) → IsVariable p.matrix k → IsFixed p k ⊎ IsRightAt (status_of s k) (for_min p.sense (objective_rate p t.rate k))
+  rates_right none k is =
+      right (status_of s k) (lower_of p k) (upper_of p k) (worth_rate p s t k) (is_fixed p k) refl
+      (find_none (lowers p s (worth_rate p s t)) (size p.matrix) 1 none k is.0 (omega (arith, is.1)))
+
+  -- a vector that has the point's values at the variables is the point too
+  pub is_point_same : (z : Vector) → ((k : ℕ) → IsVariable p.matrix k → z k ≡ t.point k) → IsPointOf p s z
+  is_point_same z same = record {
+    keeps = KeepsEquations-same p.matrix t.point z (λ k is. sym (same k is)) tab.is_point.keeps;
+    placed = λ k is. subst (StandsAt (status_of s k) (lower_of p k) (upper_of p k)) (sym (same k is)) (tab.is_point.placed k is);
+  }
+
+-- an optimal end: the basis is optimal, and these are its point and its prices
+pub optimal_end : (p : LinearProgram) (s : List Status) (z y : List ℚ) → IsBasis p s → IsNonsingular p.matrix (basics_of s) → EndsAt p s (EndsOptimal z y) → IsOptimalBasis p s × IsPointOf p s (value_at z) × ArePricesOf p s (value_at y)
+optimal_end p s z y basis nonsingular ends =
+    (record {
+      is_basis = basis;
+      nonsingular = nonsingular;
+      tableau = ends.tableau;
+      is_tableau = ends.is_tableau;
+      feasible = feasible p s ends.tableau basis ends.is_tableau optimal.phase;
+      right = rates_right p s ends.tableau basis ends.is_tableau optimal.moves;
+    }, is_point_same p s ends.tableau basis ends.is_tableau (value_at z) at_point, record { rate = ends.tableau.rate; are_rates = ends.is_tableau.are_rates; prices = at_prices })
+  where
+    optimal : IsOptimalTurn p s ends.tableau (Ends (EndsOptimal z y))
+    optimal = optimal_turn p s ends.tableau z y (rule_of p s ends.tableau (Ends (EndsOptimal z y)) ends.turns)
+
+    at_point : (k : ℕ) → IsVariable p.matrix k → value_at z k ≡ ends.tableau.point k
+    at_point k is =
+        let e = optimal.gives in
+        let same : z ≡ listed p.matrix ends.tableau.point = cc in
+        ap (λ xs. value_at xs k) same ∙ value_at-listed p.matrix ends.tableau.point k is
+
+    at_prices : (k : ℕ) → IsVariable p.matrix k → value_at y k ≡ price_at p (basics_of s) ends.tableau.rate k
+    at_prices k is =
+        let e = optimal.gives in
+        let same : y ≡ listed p.matrix (price_at p (basics_of s) ends.tableau.rate) = cc in
+        ap (λ xs. value_at xs k) same ∙ value_at-listed p.matrix (price_at p (basics_of s) ends.tableau.rate) k is

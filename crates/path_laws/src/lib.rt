@@ -1,0 +1,2 @@
+//! Laws of the path: what its ends prove.
+#![tactic(auto)]
