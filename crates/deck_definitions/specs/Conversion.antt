@@ -57,7 +57,8 @@ card_fault before card =
 
 -- the first fault that a test finds in a list of cards, behind the cards before it
 abbrev pub first_faulty : (List Card → List ℕ → Option DeckFaultKind) → List Card → List Card → Option DeckFault
-first_faulty test before cards = first_fault (each_behind (λ before card. option_map (λ kind. record { card = card.number; kind = kind }) (test before card.bytes)) before cards)
+first_faulty test before cards =
+    first_fault (each_behind (λ before card. option_map (λ kind. record { card = card.number; kind = kind }) (test before card.bytes)) before cards)
 
 -- whether the last section that began is ENDATA
 abbrev pub is_ended : List Card → Bool
@@ -81,4 +82,6 @@ deck_name (card ∷ cards) = header_name card.bytes
 
 -- What a data deck converts to: its first fault, or the problem that it describes, under this name or else its own.
 unfoldable pub conversion : List Card → Option Name → Result (Problem ℕ) DeckFault
-conversion deck name = unless (deck_fault deck) (numbered (described (unwrap_or name (deck_name (live deck))) (live deck)))
+conversion deck name =
+    let cards = live deck in
+    unless (deck_fault deck) (numbered (described (unwrap_or name (deck_name cards)) cards))

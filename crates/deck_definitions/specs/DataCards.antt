@@ -1,6 +1,6 @@
 -- The data cards of a deck, and what each holds.
-use Rattle.std.specs.Prelude.{ℕ, Bool, false, not, ◌&&◌, List, [], ◌∷◌, Option, Some, None, codes, if◌then◌else◌, unwrap_or, option_map, map, filter_map}
-use Rattle.card_definitions.specs.Words.{named, is_empty, each_behind}
+use Rattle.std.specs.Prelude.{ℕ, Bool, false, not, ◌&&◌, List, [], ◌∷◌, Option, Some, None, codes, if◌then◌else◌, unwrap_or, option_map, map}
+use Rattle.card_definitions.specs.Words.{named, is_empty, gathered}
 use Rattle.card_definitions.specs.Cards.{Card}
 use Rattle.card_definitions.specs.Fields.{Form, Fixed, Reading, reading_of}
 use Rattle.card_definitions.specs.Numbers.{decimal_of}
@@ -32,7 +32,7 @@ given_by section give before card = if is_data_card_of section before card then 
 
 -- what the data cards of one section give, in order
 abbrev pub given : {X : Type 0} → Section → (Reading → Option X) → List Card → List X
-given section give cards = filter_map (λ gift. gift) (each_behind (given_by section give) [] cards)
+given section give cards = gathered (given_by section give) cards
 
 -- the row types and the bound types, by the words in field 1
 abbrev pub row_kinds : List (List ℕ × RowKind)

@@ -10,7 +10,14 @@ use Rattle.deck_definitions.specs.declared.Section.TheVariants.{Header, Rows, Co
 
 -- the words of the section cards
 abbrev pub section_words : List (List ℕ × Section)
-section_words = (codes "NAME", Header) ∷ (codes "ROWS", Rows) ∷ (codes "COLUMNS", Columns) ∷ (codes "RHS", Rhs) ∷ (codes "RANGES", Ranges) ∷ (codes "BOUNDS", Bounds) ∷ (codes "ENDATA", Endata) ∷ []
+section_words =
+    (codes "NAME", Header) ∷
+    (codes "ROWS", Rows) ∷
+    (codes "COLUMNS", Columns) ∷
+    (codes "RHS", Rhs) ∷
+    (codes "RANGES", Ranges) ∷
+    (codes "BOUNDS", Bounds) ∷
+    (codes "ENDATA", Endata) ∷ []
 
 -- the order of the sections
 abbrev pub rank : Section → ℕ

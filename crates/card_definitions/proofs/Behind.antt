@@ -1,0 +1,46 @@
+-- Elements of a list with those before them, and the first fault that tests of them find.
+use Rattle.std.proofs.Common.{◌≡◌, List, [], ◌∷◌, ◌++◌, Option, Some, None, refl, ap, ap₂, sym, ◌∙◌}
+use Rattle.std.specs.List.{cons_option, filter_map}
+use Rattle.std.specs.Option.{option_or, option_to_list}
+use Rattle.std.proofs.lemmas.List.{append_assoc, append-nil}
+use Rattle.std.proofs.lemmas.List.Elements.{filter_map-append}
+use Rattle.card_definitions.specs.Words.{each_behind, gathered, first_fault}
+
+-- the first fault of two lists is that of the first, or else that of the second
+pub first_fault-append : {F : Type 0} (xs ys : List (Option F)) → first_fault (xs ++ ys) ≡ option_or (first_fault xs) (first_fault ys)
+first_fault-append [] ys = refl
+first_fault-append (None ∷ xs) ys = first_fault-append xs ys
+first_fault-append (Some fault ∷ xs) ys = refl
+
+-- the elements of the second part stand behind those of the first
+pub each_behind-append : {X Y : Type 0} (f : List X → X → Y) (before xs ys : List X) → each_behind f before (xs ++ ys) ≡ each_behind f before xs ++ each_behind f (before ++ xs) ys
+each_behind-append f before [] ys = ap (λ list. each_behind f list ys) (sym (append-nil before))
+each_behind-append f before (x ∷ xs) ys =
+    ap (λ list. f before x ∷ list) (each_behind-append f (before ++ x ∷ []) xs ys ∙ ap (λ list. each_behind f (before ++ x ∷ []) xs ++ each_behind f list ys) (append_assoc before (x ∷ []) xs))
+
+-- the first fault of a list of tests of which each sees the elements before it
+pub first_fault_behind : {X F : Type 0} (test : List X → X → Option F) (before xs ys : List X)
+    → first_fault (each_behind test before (xs ++ ys)) ≡ option_or (first_fault (each_behind test before xs)) (first_fault (each_behind test (before ++ xs) ys))
+first_fault_behind test before xs ys = ap first_fault (each_behind-append test before xs ys) ∙ first_fault-append (each_behind test before xs) (each_behind test (before ++ xs) ys)
+
+-- what f makes of elements behind others, where f sees those too
+pub each_behind-shift : {X Y : Type 0} (f : List X → X → Y) (first before xs : List X) → each_behind f (first ++ before) xs ≡ each_behind (λ earlier. f (first ++ earlier)) before xs
+each_behind-shift f first before [] = refl
+each_behind-shift f first before (x ∷ xs) =
+    ap (λ list. f (first ++ before) x ∷ list) (ap (λ earlier. each_behind f earlier xs) (append_assoc first before (x ∷ [])) ∙ each_behind-shift f first (before ++ x ∷ []) xs)
+
+-- functions that agree make the same
+pub each_behind-same : {X Y : Type 0} (f g : List X → X → Y) → ((before : List X) (x : X) → f before x ≡ g before x) → (before xs : List X) → each_behind f before xs ≡ each_behind g before xs
+each_behind-same f g same before [] = refl
+each_behind-same f g same before (x ∷ xs) = ap₂ (λ y ys. y ∷ ys) (same before x) (each_behind-same f g same (before ++ x ∷ []) xs)
+
+pub cons_option-nil : {A : Type 0} (o : Option A) → cons_option o [] ≡ option_to_list o
+cons_option-nil None = refl
+cons_option-nil (Some x) = refl
+
+-- what the elements of a list gave, with one more element
+pub gathered-push : {X Y : Type 0} (f : List X → X → Option Y) (xs : List X) (x : X) → gathered f (xs ++ x ∷ []) ≡ gathered f xs ++ option_to_list (f xs x)
+gathered-push f xs x =
+    ap (filter_map (λ given. given)) (each_behind-append f [] xs (x ∷ []))
+    ∙ filter_map-append (λ given. given) (each_behind f [] xs) (f xs x ∷ [])
+    ∙ ap (λ list. gathered f xs ++ list) (cons_option-nil (f xs x))
