@@ -7,3 +7,5 @@ pub mod Exchange
 pub mod Combination
 pub mod Opening
 pub mod Statuses
+pub mod Points
+pub mod WaypointLaws

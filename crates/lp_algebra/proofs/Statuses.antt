@@ -113,10 +113,10 @@ module _ (p : LinearProgram) (s : List Status) (basis : IsBasis p s) where
   status_of_nonbasic k out = sym (is_in-basics_of s k out.0.0 (omega (arith, out.0.1, basis.counted))) ∙ out.1
 
   -- a status is changed at k alone
-  changed_own : (k : ℕ) (st : Status) (ss : List Status) → length ss ≡ size p.matrix → IsVariable p.matrix k → status_of (with_status ss k st) k ≡ st
+  pub changed_own : (k : ℕ) (st : Status) (ss : List Status) → length ss ≡ size p.matrix → IsVariable p.matrix k → status_of (with_status ss k st) k ≡ st
   changed_own k st ss counted is = get_or-set_same ss (k - 1) st Bs (rw counted (omega (arith, is.0, is.1)))
 
-  changed_other : (k i : ℕ) (st : Status) (ss : List Status) → IsVariable p.matrix k → IsVariable p.matrix i → i ≢ k → status_of (with_status ss k st) i ≡ status_of ss i
+  pub changed_other : (k i : ℕ) (st : Status) (ss : List Status) → IsVariable p.matrix k → IsVariable p.matrix i → i ≢ k → status_of (with_status ss k st) i ≡ status_of ss i
   changed_other k i st ss is other apart = get_or-set_other ss (k - 1) (i - 1) st Bs (λ e. apart (omega (arith, e, is.0, other.0)))
 
   -- the variable r goes to a limit that it has, and q takes its place
