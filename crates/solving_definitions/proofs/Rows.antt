@@ -19,6 +19,8 @@ use Rattle.problem_definitions.specs.Numbering.{numbered}
 use Rattle.deck_definitions.specs.declared.DeckFault.{DeckFault}
 use Rattle.deck_definitions.specs.Described.{described}
 use Rattle.deck_definitions.specs.Conversion.{card_fault, deck_fault, conversion}
+use Rattle.deck_definitions.specs.Written.{data_card}
+use Rattle.generated_definitions.specs.Transport.{deck_cards}
 use Rattle.selection_definitions.specs.Choice.{Choice}
 use Rattle.selection_definitions.specs.Selection.{program_of_choice}
 use Rattle.listing_definitions.specs.declared.Mark.{Mark}
@@ -35,8 +37,11 @@ abbrev sheet_with : Choice → Result (Problem ℕ) DeckFault → Option Sheet
 sheet_with choice (Ok problem) = Some (record { problem = problem; lp = program_of_choice problem choice })
 sheet_with choice (Err fault) = None
 
+abbrev sheet_of_cards : List (List ℕ) → Choice → Option Sheet
+sheet_of_cards cards choice = sheet_with choice (conversion (numbered_cards cards) None)
+
 unfoldable pub sheet_of : String → Choice → Option Sheet
-sheet_of deck choice = sheet_with choice (conversion (numbered_cards (cards_of (codes deck))) None)
+sheet_of deck choice = sheet_of_cards (cards_of (codes deck)) choice
 
 -- a check that doesn't fail
 abbrev check_printed : CheckVerdict → Option Check
@@ -121,3 +126,9 @@ crossed_demand_solution : printed true (sheet_of "NAME          T\nROWS\n N  COS
     ≡ Some (codes "PRIMAL INFEASIBLE STEPS 0 CROSSED 2 CHECKED\nSOLUTION INFEASIBLE\nSECTION 1 - ROWS\nNUMBER ROW AT ACTIVITY SLACK LOWER UPPER DUAL\n    1 COST     BS 0 0 NONE NONE 0\nSECTION 2 - COLUMNS\nNUMBER COLUMN AT ACTIVITY COST LOWER UPPER REDUCED\n    2 X        LL 0 1 0 -1 1\n")
 unfolding printed sheet_of card_fault deck_fault conversion described numbered number_of number_fault value_of reading_of cards_of solved tableau_for table_for turn refuses shared_factor raised_numerator raised_sum sum_denominator fraction whole ◌+ℚ◌ ◌*ℚ◌ neg_ℚ inverse_ℚ reciprocal compare_ℚ sum_to gcd digits
 crossed_demand_solution = refl
+
+-- the generated job of two sources
+generated_two : printed false (sheet_of_cards (deck_cards 2) (record { objective = None; rhs = None; options = record { bound = None; range = None; sense = Min } }))
+    ≡ Some (codes "PRIMAL OPTIMAL STEPS 4 OBJECTIVE 180 CHECKED\n")
+unfolding printed data_card card_fault deck_fault conversion described numbered number_of number_fault value_of reading_of cards_of solved tableau_for table_for turn refuses shared_factor raised_numerator raised_sum sum_denominator fraction whole ◌+ℚ◌ ◌*ℚ◌ neg_ℚ inverse_ℚ reciprocal compare_ℚ sum_to gcd digits
+generated_two = refl
