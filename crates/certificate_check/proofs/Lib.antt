@@ -1,2 +1,4 @@
 pub mod Left
 pub mod Each
+pub mod Columns
+pub mod Limits

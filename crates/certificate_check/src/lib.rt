@@ -2,7 +2,11 @@
 //! without end. Each check is exact arithmetic on the claim's own numbers; it trusts nothing of how they were found, and takes no memory.
 #![tactic(auto)]
 
-mod parts;
+mod comparisons;
+mod direction;
+mod point;
+mod prices;
+mod ray;
 mod stops;
 mod sums;
 
