@@ -1,3 +1,6 @@
+pub mod No_refusal
+pub mod Products
+pub mod Meaning
 pub mod Left
 pub mod Each
 pub mod Columns
