@@ -15,7 +15,7 @@ use Rattle.check_definitions.specs.declared.Verdict.TheVariants.{Checked, Failed
 use Rattle.check_definitions.specs.Steps.{Step, operation, Product, product_of, verdict_of, sum_steps, sum_of}
 use Rattle.check_definitions.specs.Checks.{entry_products}
 use Rattle.check_definitions.proofs.Passing.{followed_by, verdict-append, numbers-next, numbers-end}
-use Rattle.check_definitions.proofs.No_refusal.{mul_taken_left, mul_taken_right, add_zero_taken}
+use Rattle.certificate_check.proofs.No_refusal.{mul_taken_left, mul_taken_right, add_zero_taken}
 use Rattle.certificate_check.specs.Results.{SumsTo}
 
 -- after some products the sum so far, and the products that are left, stand for the whole

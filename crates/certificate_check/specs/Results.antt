@@ -2,6 +2,7 @@
 --     Gives result steps value     the value of these operations, or the first of them that is refused
 --     SumsTo result start ts       so for a sum of products
 --     verdict_from result          the verdict of a part that may stop
+--     Leads result steps value     the value of a part that may stop
 use Rattle.std.specs.Prelude.{◌≡◌, ℕ, List, Result, Ok, Err}
 use Rattle.exact_values.specs.Rational.{ℚ}
 use Rattle.frac128.specs.declared.Refused.{Refused}
@@ -24,3 +25,8 @@ abbrev pub verdict_from : Result (Unit {0}) Stopped → Verdict
 verdict_from (Ok done) = Checked
 verdict_from (Err (Comparison part number)) = Failed part number
 verdict_from (Err (Operation refused)) = Unchecked refused
+
+-- the part is checked, and this is its value; or its verdict is that of the steps
+abbrev pub Leads : Result ℚ Stopped → List Step → ℚ → Type 0
+Leads (Ok x) steps value = (verdict_of steps ≡ Checked) × (x ≡ value)
+Leads (Err stopped) steps value = verdict_from (Err stopped) ≡ verdict_of steps

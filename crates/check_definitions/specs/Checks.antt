@@ -56,6 +56,10 @@ by_sign Greater negative positive = positive
 abbrev pub entry_products : Vector → List Entry → List Product
 entry_products y es = map (λ e. record { left = y e.row; right = e.value }) es
 
+-- those of the numbers that have a multiplier other than 0
+abbrev pub multiplied_among : Vector → List ℕ → List ℕ
+multiplied_among w ks = filter (λ k. not (eq_ℚ (w k) zero_ℚ)) ks
+
 -- theta times f at the change row, if there is one, added to f at the objective row
 abbrev pub change_steps : Option Change → Vector → ℚ → List Step
 change_steps None f v = []
@@ -117,7 +121,7 @@ module _ (p : LinearProgram) where
 
   -- the variables with a multiplier other than 0, in order
   abbrev pub multiplied : Vector → List ℕ
-  multiplied w = filter (λ k. not (eq_ℚ (w k) zero_ℚ)) (variables p.matrix)
+  multiplied w = multiplied_among w (variables p.matrix)
 
   -- the multiplier of variable k and the limit that it meets
   abbrev pub limit_product : Vector → ℕ → Product

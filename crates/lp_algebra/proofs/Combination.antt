@@ -1,14 +1,13 @@
 -- A vector that keeps the equations is the sum of the directions, each times the value of its nonbasic.
-use Rattle.std.proofs.Common.{◌≡◌, ◌≢◌, ℕ, zero, suc, ◌+◌, ◌<◌, ◌≤◌, pos, inl, inr, ◌⊎◌, refl, sym, ◌∙◌, ap, ap₂, Bool, true, false, cond, arith}
+use Rattle.std.proofs.Common.{◌≡◌, ◌≢◌, ℕ, zero, suc, ◌+◌, ◌<◌, pos, refl, sym, ◌∙◌, ap, Bool, true, false, cond, arith}
 use Rattle.std.specs.Prelude.{nat_eq, if◌then◌else◌}
-use Rattle.std.proofs.lemmas.Bool.Decides.{eqb_tells}
-use Rattle.exact_values.specs.Rational.{ℚ, zero_ℚ, one_ℚ, ◌+ℚ◌, ◌-ℚ◌, ◌*ℚ◌, neg_ℚ}
+use Rattle.exact_values.specs.Rational.{ℚ, zero_ℚ, one_ℚ, ◌-ℚ◌, ◌*ℚ◌, neg_ℚ}
 use Rattle.exact_values.specs.Sums.{sum_to}
-use Rattle.exact_values.proofs.Ring.{by_ring1, by_ring2, by_ring3, opposite, number, ◌⊕◌, ◌⊖◌, ◌⊗◌, ◌≐◌}
-use Rattle.exact_values.proofs.Ring_laws.{add_comm, zero-add, mul-one, one-mul, mul-zero, zero-mul, mul_comm, mul_left_comm}
-use Rattle.exact_values.proofs.Sums.{sum_to-same, sum_to-zero, sum_to-add, sum_to-neg, sum_to-sub, sum_to-mul_left, sum_to-exchange, sum_to-only}
+use Rattle.exact_values.proofs.Ring.{by_ring2, opposite, number, ◌⊖◌, ◌⊗◌, ◌≐◌}
+use Rattle.exact_values.proofs.Ring_laws.{mul-one, mul-zero, zero-mul, mul_left_comm}
+use Rattle.exact_values.proofs.Sums.{sum_to-same, sum_to-zero, sum_to-sub, sum_to-mul_left, sum_to-exchange, sum_to-only}
 use Rattle.lp_definitions.specs.LinearProgram.{Matrix, Vector, size, entry, IsRow, IsColumn, IsVariable, KeepsEquations}
-use Rattle.lp_definitions.specs.Basis.{Basics, is_in, IsBasic, IsNonbasic, IsNonsingular, IsDirectionOf, AreRates}
+use Rattle.lp_definitions.specs.Basis.{Basics, is_in, IsBasic, IsNonbasic, IsNonsingular, AreRates}
 use Rattle.lp_definitions.specs.RatesEvidence.{multiplier}
 use Rattle.lp_algebra.specs.Vectors.{functional, column_value, unit}
 use Rattle.lp_algebra.specs.Rates.{weight, combination}

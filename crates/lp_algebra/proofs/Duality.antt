@@ -1,21 +1,21 @@
 -- What the certificates of the three answers prove: proving prices, rays and directions.
-use Rattle.std.proofs.Common.{◌≡◌, ℕ, suc, ◌+◌, ◌<◌, ◌≤◌, pos, refl, sym, ap, ap₂, ◌∙◌, subst, subst₂, ◌⊎◌, inl, inr, Option, Some, None, Bool, true, false, Ordering, Less, Equal, Greater, arith, [], ◌∷◌}
-use Rattle.std.specs.Prelude.{IfSome, IsSome, is_some, unwrap_or, cond}
-use Rattle.exact_values.specs.Rational.{ℚ, zero_ℚ, one_ℚ, ◌+ℚ◌, ◌-ℚ◌, ◌*ℚ◌, ◌/ℚ◌, neg_ℚ, ◌≤ℚ◌, ◌<ℚ◌, compare_ℚ}
+use Rattle.std.proofs.Common.{◌≡◌, ℕ, suc, ◌+◌, pos, refl, sym, ap, ◌∙◌, subst, subst₂, ◌⊎◌, inl, inr, Option, Some, None, Bool, true, false, Ordering, Less, Equal, Greater, arith, [], ◌∷◌}
+use Rattle.std.specs.Prelude.{IfSome, IsSome, unwrap_or, cond}
+use Rattle.exact_values.specs.Rational.{ℚ, zero_ℚ, one_ℚ, ◌+ℚ◌, ◌*ℚ◌, neg_ℚ, ◌≤ℚ◌, ◌<ℚ◌, compare_ℚ}
 use Rattle.exact_values.specs.Tests.{lt_ℚ, is_less}
 use Rattle.exact_values.specs.Sums.{sum_to}
-use Rattle.exact_values.proofs.Ring.{by_ring1, by_ring2, by_ring3, by_ring4, by_ring5, by_normal, same_by_one, atom, opposite, number, ◌⊕◌, ◌⊖◌, ◌⊗◌, ◌≐◌}
+use Rattle.exact_values.proofs.Ring.{by_ring2, by_ring3, by_normal, atom, opposite, number, ◌⊕◌, ◌⊖◌, ◌⊗◌, ◌≐◌}
 use Rattle.exact_values.proofs.Ring_laws.{zero-mul}
-use Rattle.exact_values.proofs.Inverse.{div-mul_cancel}
 use Rattle.exact_values.proofs.Compare.{lt_from_compare, compare_from_lt}
-use Rattle.exact_values.proofs.Order.{le_trans, le_of_eq, le_of_lt, le_antisymm, lt_or_le, lt_irrefl, lt_not_le, lt_of_le_of_lt, lt_of_lt_of_le, lt_by_one, le_by_two, le_by_product, mul-le-mul_left, mul-le-mul_negative, neg-lt-neg, apart_from_above, zero_below_one, le-div}
+use Rattle.exact_values.proofs.Order.{le_trans, le_of_eq, le_of_lt, le_antisymm, lt_or_le, lt_irrefl, lt_not_le, lt_of_le_of_lt, lt_by_one, le_by_product, mul-le-mul_left, mul-le-mul_negative, zero_below_one}
 use Rattle.exact_values.proofs.Sums.{sum_to-same, sum_to-zero, sum_to-neg, sum_to-le}
-use Rattle.lp_definitions.specs.LinearProgram.{Matrix, LinearProgram, Vector, size, entry, cost, combined, objective_value, with_change_row, for_min, lower_of, upper_of, IsColumn, IsVariable, KeepsEquations, IsLinearProgram}
+use Rattle.lp_definitions.specs.LinearProgram.{Matrix, LinearProgram, Vector, size, entry, cost, objective_value, with_change_row, for_min, lower_of, upper_of, IsColumn, IsVariable, KeepsEquations, IsLinearProgram}
 use Rattle.lp_definitions.specs.Solutions.{IsFeasible, IsWithinLimits, IsBest, AreProvingPrices, IsCrossed, IsRay, limit_against, ProvesInfeasible, ProvesUnbounded, IsInfeasible, IsBettered, IsUnbounded, by_crossed, by_ray}
 use Rattle.lp_definitions.specs.declared.Change.{Change}
 use Rattle.lp_definitions.specs.declared.Sense.{Sense}
 use Rattle.lp_definitions.specs.declared.Sense.TheVariants.{Min, Max}
 use Rattle.lp_algebra.specs.Vectors.{functional, column_value, along}
+use Rattle.lp_algebra.proofs.Values.{clash}
 use Rattle.lp_algebra.proofs.Equations.{KeepsEquations-along}
 use Rattle.lp_algebra.proofs.Functionals.{functional_by_columns, objective_by_columns}
 
@@ -80,6 +80,18 @@ infeasible_by_crossed p k crossed z feasible =
     (le_trans (subst (λ o. IfSome o (λ l. l ≤ℚ z k)) crossed.lower (feasible.within k crossed.is_variable).0)
     (subst (λ o. IfSome o (λ u. z k ≤ℚ u)) crossed.upper (feasible.within k crossed.is_variable).1))
 
+-- the test of order and the order
+pub test_of_below : {x y : ℚ} → x <ℚ y → lt_ℚ x y ≡ true
+test_of_below below = ap is_less (compare_from_lt below)
+
+pub below_of_test : {x y : ℚ} → lt_ℚ x y ≡ true → x <ℚ y
+below_of_test {x} {y} e = lt_from_compare (less_of (compare_ℚ x y) e)
+  where
+    less_of : (o : Ordering) → is_less o ≡ true → o ≡ Less
+    less_of Less e = refl
+    less_of Equal e = absurd (clash (sym e))
+    less_of Greater e = absurd (clash (sym e))
+
 -- the multiple of a value within the limits is at most that of the limit which the multiplier meets
 most_at_limit : (w x : ℚ) (low high : Option ℚ) (test : Bool) → lt_ℚ zero_ℚ w ≡ test → (zero_ℚ <ℚ w → IsSome high) → (w <ℚ zero_ℚ → IsSome low)
     → IfSome low (λ l. l ≤ℚ x) → IfSome high (λ h. x ≤ℚ h) → w *ℚ x ≤ℚ w *ℚ unwrap_or (cond test high low) zero_ℚ
@@ -99,20 +111,9 @@ most_at_limit w x low high test is meets_upper meets_lower above below = by_sign
     at_zero : (u : ℚ) → w ≡ zero_ℚ → w *ℚ x ≤ℚ w *ℚ u
     at_zero u none = le_of_eq (ap (λ s. s *ℚ x) none ∙ zero-mul x ∙ sym (zero-mul u) ∙ ap (λ s. s *ℚ u) (sym none))
 
-    test_of_positive : zero_ℚ <ℚ w → lt_ℚ zero_ℚ w ≡ true
-    test_of_positive positive = ap is_less (compare_from_lt positive)
-
-    positive_of_test : lt_ℚ zero_ℚ w ≡ true → zero_ℚ <ℚ w
-    positive_of_test e = lt_from_compare (less_of (compare_ℚ zero_ℚ w) e)
-      where
-        less_of : (o : Ordering) → is_less o ≡ true → o ≡ Less
-        less_of Less e = refl
-        less_of Equal e = absurd (let P : false ≡ true → ⊥ = λ e. cc in P e)
-        less_of Greater e = absurd (let P : false ≡ true → ⊥ = λ e. cc in P e)
-
     by_sign : (test : Bool) → lt_ℚ zero_ℚ w ≡ test → (zero_ℚ <ℚ w) ⊎ (w ≤ℚ zero_ℚ) → (w <ℚ zero_ℚ) ⊎ (zero_ℚ ≤ℚ w) → w *ℚ x ≤ℚ w *ℚ unwrap_or (cond test high low) zero_ℚ
-    by_sign true is _ _ = let positive : zero_ℚ <ℚ w = positive_of_test is in at_high high positive (meets_upper positive) below
-    by_sign false is (inl positive) _ = absurd (let P : true ≡ false → ⊥ = λ e. cc in P (sym (test_of_positive positive) ∙ is))
+    by_sign true is _ _ = let positive : zero_ℚ <ℚ w = below_of_test is in at_high high positive (meets_upper positive) below
+    by_sign false is (inl positive) _ = absurd (clash (sym (test_of_below positive) ∙ is))
     by_sign false is (inr none) (inl negative) = at_low low negative (meets_lower negative) above
     by_sign false is (inr none) (inr some) = at_zero (unwrap_or low zero_ℚ) (le_antisymm none some)
 

@@ -1,6 +1,6 @@
 -- An exchange over a rate that is not 0 leaves a nonsingular set, and its rates follow from those before.
 use Rattle.std.proofs.Common.{◌≡◌, ◌≢◌, ℕ, zero, suc, ◌+◌, ◌-◌, ◌<◌, ◌⊎◌, inl, inr, refl, sym, ◌∙◌, ap, [], ◌∷◌, true, false, cond, length, get_or, set, arith}
-use Rattle.std.specs.Prelude.{eqb, nat_eq, count_by}
+use Rattle.std.specs.Prelude.{eqb, count_by}
 use Rattle.std.proofs.lemmas.Bool.Decides.{eqb_tells}
 use Rattle.std.proofs.lemmas.List.{get_or-set_same, get_or-set_other, length-set}
 use Rattle.std.proofs.lemmas.List.Recursion.{is_count_by}

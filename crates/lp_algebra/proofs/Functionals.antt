@@ -1,12 +1,12 @@
 -- The value of a functional at a vector that keeps the equations, column by column.
-use Rattle.std.proofs.Common.{◌≡◌, ◌≢◌, ℕ, zero, suc, ◌+◌, ◌<◌, ◌≤◌, refl, sym, ap, ap₂, ◌∙◌, arith, true, false, Some, None, Option}
+use Rattle.std.proofs.Common.{◌≡◌, ◌≢◌, ℕ, zero, suc, ◌+◌, ◌≤◌, refl, sym, ap, ap₂, ◌∙◌, arith, true, false, Some, None, Option}
 use Rattle.std.specs.Prelude.{nat_eq, nat_le, cond}
-use Rattle.exact_values.specs.Rational.{ℚ, zero_ℚ, one_ℚ, ◌+ℚ◌, ◌-ℚ◌, ◌*ℚ◌}
+use Rattle.exact_values.specs.Rational.{ℚ, zero_ℚ, one_ℚ, ◌+ℚ◌, ◌*ℚ◌}
 use Rattle.exact_values.specs.Sums.{sum_to}
-use Rattle.exact_values.proofs.Ring.{by_ring2, by_ring3, by_ring4, ◌⊕◌, ◌⊖◌, ◌⊗◌, ◌≐◌}
-use Rattle.exact_values.proofs.Ring_laws.{add_comm, mul-one, mul-zero, zero-mul, mul_assoc}
-use Rattle.exact_values.proofs.Sums.{sum_to-same, sum_to-zero, sum_to-add, sum_to-mul_left, sum_to-mul_right, sum_to-exchange, sum_to-append, sum_to-only}
-use Rattle.lp_definitions.specs.LinearProgram.{Matrix, LinearProgram, Vector, size, entry, cost, objective_value, with_change_row, IsRow, IsColumn, IsVariable, KeepsEquations, ChangeIsFree, IsLinearProgram}
+use Rattle.exact_values.proofs.Ring.{by_ring3, by_ring4, ◌⊕◌, ◌⊗◌, ◌≐◌}
+use Rattle.exact_values.proofs.Ring_laws.{add_comm, mul-one, mul-zero, mul_assoc}
+use Rattle.exact_values.proofs.Sums.{sum_to-same, sum_to-add, sum_to-mul_left, sum_to-mul_right, sum_to-exchange, sum_to-append, sum_to-only}
+use Rattle.lp_definitions.specs.LinearProgram.{Matrix, LinearProgram, Vector, entry, cost, objective_value, with_change_row, IsRow, IsColumn, KeepsEquations, ChangeIsFree, IsLinearProgram}
 use Rattle.lp_definitions.specs.declared.Change.{Change}
 use Rattle.lp_algebra.specs.Vectors.{functional, column_value, unit}
 
@@ -52,7 +52,7 @@ module _ (a : Matrix) where
   sum_of_unit f zero is = absurd (omega (arith, is.0))
   sum_of_unit f (suc j) is =
       sum_to-only a.cols j (λ c. f (suc c) *ℚ unit a (suc j) (a.rows + suc c)) (omega (arith, is.1))
-        (λ c below other. ap (λ s. f (suc c) *ℚ s) (unit_other (suc j) (suc c) (omega arith) (λ e. other (omega (arith, e)))) ∙ mul-zero (f (suc c)))
+      (λ c below other. ap (λ s. f (suc c) *ℚ s) (unit_other (suc j) (suc c) (omega arith) (λ e. other (omega (arith, e)))) ∙ mul-zero (f (suc c)))
       ∙ ap (λ s. f (suc j) *ℚ s) (unit_own (suc j) (omega arith)) ∙ mul-one (f (suc j))
 
   pub KeepsEquations-unit : (j : ℕ) → IsColumn a j → KeepsEquations a (unit a j)
@@ -83,7 +83,7 @@ module _ (a : Matrix) where
       ∙ sym (sum_to-add a.cols (λ j. entry a o (suc j) *ℚ x (a.rows + suc j)) (λ j. d.theta *ℚ (entry a d.row (suc j) *ℚ x (a.rows + suc j))))
       ∙ sum_to-same a.cols _ _ (λ j _. by_ring4 (entry a o (suc j)) d.theta (entry a d.row (suc j)) (x (a.rows + suc j)) (λ a t h x. a ⊗ x ⊕ t ⊗ (h ⊗ x) ≐ (a ⊕ t ⊗ h) ⊗ x) refl)
 
-change_row : (p : LinearProgram) (c : Option Change) → ChangeIsFree p c → (d : Change) → c ≡ Some d → IsRow p.matrix d.row
+pub change_row : (p : LinearProgram) (c : Option Change) → ChangeIsFree p c → (d : Change) → c ≡ Some d → IsRow p.matrix d.row
 change_row p None free d e = absurd (let P : None ≡ Some d → ⊥ = λ e. cc in P e)
 change_row p (Some c) free d e = let same : c ≡ d = cc in rw (← same) free.0
 

@@ -9,3 +9,6 @@ pub mod Opening
 pub mod Statuses
 pub mod Points
 pub mod WaypointLaws
+pub mod Optimal
+pub mod Rays
+pub mod Entries

@@ -1,16 +1,14 @@
 -- The rows are a nonsingular set, and the directions of the columns have their numbers.
-use Rattle.std.proofs.Common.{◌≡◌, ◌≢◌, ℕ, zero, suc, ◌+◌, ◌-◌, ◌<◌, ◌≤◌, List, [], ◌∷◌, ◌++◌, length, map, get_or, refl, sym, ◌∙◌, ap, ap₂, Bool, true, false, ◌⊎◌, inl, inr, arith}
-use Rattle.std.specs.Prelude.{nat_le, count_by, cond}
+use Rattle.std.proofs.Common.{◌≡◌, ℕ, zero, suc, ◌+◌, ◌-◌, ◌<◌, ◌≤◌, List, [], ◌∷◌, ◌++◌, length, map, get_or, refl, sym, ◌∙◌, ap, ap₂, Bool, true, false, arith}
+use Rattle.std.specs.Prelude.{nat_le, count_by}
 use Rattle.std.proofs.lemmas.List.{get_or-map, length-map, map-append}
-use Rattle.exact_values.specs.Rational.{ℚ, zero_ℚ, one_ℚ, ◌*ℚ◌}
-use Rattle.exact_values.specs.Sums.{sum_to}
+use Rattle.exact_values.specs.Rational.{zero_ℚ, ◌*ℚ◌}
 use Rattle.exact_values.proofs.Ring_laws.{mul-zero}
 use Rattle.exact_values.proofs.Sums.{sum_to-zero}
-use Rattle.lp_definitions.specs.LinearProgram.{Matrix, Vector, size, entry, numbers_from, variables, IsRow, IsColumn, IsVariable, KeepsEquations}
-use Rattle.lp_definitions.specs.Basis.{Basics, is_in, IsNonbasic, IsNonsingular, IsDirectionOf, AreRates, row_basics}
+use Rattle.lp_definitions.specs.LinearProgram.{Matrix, Vector, size, entry, numbers_from, variables, IsColumn, IsVariable, KeepsEquations}
+use Rattle.lp_definitions.specs.Basis.{is_in, IsNonbasic, IsNonsingular, AreRates, row_basics}
 use Rattle.lp_algebra.specs.Vectors.{unit}
 use Rattle.lp_algebra.specs.Rates.{opening_rate}
-use Rattle.lp_algebra.proofs.Values.{clash}
 use Rattle.lp_algebra.proofs.Exchange.{marked, marked_is}
 use Rattle.lp_algebra.proofs.Functionals.{KeepsEquations-unit, unit_own, unit_other}
 

@@ -1,12 +1,12 @@
 -- The point of a basis: it is a sum of directions, and a step along a direction leads to the next one.
-use Rattle.std.proofs.Common.{◌≡◌, ◌≢◌, ℕ, ◌+◌, ◌≤◌, List, length, pos, refl, sym, ◌∙◌, ap, subst, Option, Some, None, Bool, true, false, ◌⊎◌, inl, inr, arith}
+use Rattle.std.proofs.Common.{◌≡◌, ◌≢◌, ℕ, List, length, pos, refl, sym, ◌∙◌, ap, subst, Option, Some, None, true, false, ◌⊎◌, inl, inr}
 use Rattle.std.specs.Prelude.{eqb, IsSome, unwrap_or}
 use Rattle.std.proofs.lemmas.Bool.Decides.{eqb_tells}
 use Rattle.std.proofs.lemmas.List.{length-set}
 use Rattle.exact_values.specs.Rational.{ℚ, zero_ℚ, ◌+ℚ◌, ◌*ℚ◌}
 use Rattle.exact_values.proofs.Ring.{by_ring2, number, ◌⊕◌, ◌⊗◌, ◌≐◌}
-use Rattle.lp_definitions.specs.LinearProgram.{Matrix, LinearProgram, Vector, size, lower_of, upper_of, IsVariable, KeepsEquations}
-use Rattle.lp_definitions.specs.Basis.{Basics, is_in, is_basic, basics_of, status_of, with_status, IsAllowed, StandsAt, IsBasis, IsBasic, IsNonbasic, IsNonsingular, IsDirectionOf, AreRates, IsPointOf}
+use Rattle.lp_definitions.specs.LinearProgram.{LinearProgram, Vector, size, lower_of, upper_of, IsVariable}
+use Rattle.lp_definitions.specs.Basis.{is_basic, basics_of, status_of, with_status, IsAllowed, StandsAt, IsBasis, IsNonbasic, IsNonsingular, IsDirectionOf, AreRates, IsPointOf}
 use Rattle.lp_definitions.specs.declared.Status.{Status}
 use Rattle.lp_definitions.specs.declared.Status.TheVariants.{Bs, Ll, Ul, Fr}
 use Rattle.lp_algebra.specs.Vectors.{along}

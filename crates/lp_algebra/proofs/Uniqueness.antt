@@ -1,5 +1,5 @@
 -- A nonsingular set has one direction for each nonbasic, and a basis one point.
-use Rattle.std.proofs.Common.{◌≡◌, ◌≢◌, ℕ, ◌+◌, ◌⊎◌, inl, inr, sym, ◌∙◌, ap, List, Option, true, false, ◌-◌, ◌≤◌, length, arith}
+use Rattle.std.proofs.Common.{◌≡◌, ◌≢◌, ℕ, ◌⊎◌, inl, inr, sym, ◌∙◌, ap, List, Option, true, false, ◌-◌, ◌≤◌, length, arith}
 use Rattle.std.specs.Prelude.{unwrap_or, eqb}
 use Rattle.std.proofs.lemmas.Bool.Decides.{eqb_tells}
 use Rattle.std.proofs.lemmas.List.{get_or-map}

@@ -1,6 +1,6 @@
 -- Laws of the values that the lemmas on vectors use.
-use Rattle.std.proofs.Common.{◌≡◌, ◌≢◌, pos, refl, ap, ◌∙◌, ◌⊎◌, inl, inr, Bool, true, false}
-use Rattle.exact_values.specs.Rational.{ℚ, zero_ℚ, one_ℚ, ◌+ℚ◌, ◌-ℚ◌, ◌*ℚ◌}
+use Rattle.std.proofs.Common.{◌≡◌, ◌≢◌, pos, refl, ap, ◌∙◌, ◌⊎◌, inl, inr, true, false}
+use Rattle.exact_values.specs.Rational.{ℚ, zero_ℚ, ◌+ℚ◌, ◌-ℚ◌, ◌*ℚ◌}
 use Rattle.exact_values.proofs.Ring.{by_ring1, by_ring2, ◌⊕◌, ◌⊖◌, ◌≐◌, number}
 use Rattle.exact_values.proofs.Ring_laws.{zero-add}
 use Rattle.exact_values.proofs.Inverse.{zero_product}

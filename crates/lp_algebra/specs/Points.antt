@@ -1,7 +1,7 @@
 -- Where a basis puts its nonbasics.
 --     place_of st low high         the value of a variable with this status and these limits, if it is not basic
 --     standing p s                 the same for each variable of a status list
-use Rattle.std.specs.Prelude.{ℕ, List, Option, unwrap_or}
+use Rattle.std.specs.Prelude.{List, Option, unwrap_or}
 use Rattle.exact_values.specs.Rational.{ℚ, zero_ℚ}
 use Rattle.lp_definitions.specs.LinearProgram.{LinearProgram, Vector, lower_of, upper_of}
 use Rattle.lp_definitions.specs.Basis.{status_of}

@@ -2,7 +2,7 @@
 --     exchanged_rate rate p q      the rates after an exchange of p for q
 --     opening_rate a               the rates where the rows are basic
 --     combination a b rate v       the sum of the directions, each times the value of its nonbasic
-use Rattle.std.specs.Prelude.{ℕ, ◌-◌, nat_le, nat_eq, if◌then◌else◌}
+use Rattle.std.specs.Prelude.{ℕ, ◌-◌, nat_eq, if◌then◌else◌}
 use Rattle.exact_values.specs.Rational.{ℚ, zero_ℚ, one_ℚ, ◌-ℚ◌, ◌*ℚ◌, ◌/ℚ◌}
 use Rattle.exact_values.specs.Sums.{sum_up_to}
 use Rattle.lp_definitions.specs.LinearProgram.{Matrix, Vector, size}

@@ -21,7 +21,10 @@ use Rattle.check_definitions.specs.declared.Verdict.TheVariants.{Checked, Unchec
 use Rattle.check_definitions.specs.Steps.{Step, operation, comparison, verdict_of, product_of, sum_steps, sum_of}
 use Rattle.check_definitions.specs.Checks.{is_not_below, is_not_above, is_at, is_crossed, by_sign, row_products, equation, equations, within_limit, within_limits, feasible_point, column_products, combined_steps, reduced_cost, reduced_costs, standing_price, standing_prices, ray_column, ray_columns, multiplied, limit_product, ray_limits, ray_sum, free_to_move, free_direction, bettering, optimal_check, crossed_check, infeasible_check, unbounded_check}
 use Rattle.check_definitions.proofs.Passing.{checked-append, holds_if_checked, each_checked}
-use Rattle.check_definitions.proofs.Products.{sum_of-all, sum_of-filtered, sum_of-entries}
+use Rattle.lp_algebra.proofs.Entries.{sum_of_entries}
+use Rattle.lp_algebra.proofs.Duality.{below_of_test}
+use Rattle.lp_algebra.proofs.Rays.{limit_of_positive, limit_of_negative}
+use Rattle.certificate_check.proofs.Products.{sum_of-all, sum_of-filtered, sum_of-entries}
 
 -- ---- tests
 
@@ -33,14 +36,6 @@ same_from_test x y h = same_from_compare (at (compare_ℚ x y) h)
     at Equal e = refl
     at Greater e = cc
 
-pub lt_from_test : (x y : ℚ) → lt_ℚ x y ≡ true → x <ℚ y
-lt_from_test x y h = lt_from_compare (at (compare_ℚ x y) h)
-  where
-    at : (o : Ordering) → is_less o ≡ true → o ≡ Less
-    at Less e = refl
-    at Equal e = cc
-    at Greater e = cc
-
 pub le_from_test : (x y : ℚ) → le_ℚ x y ≡ true → x ≤ℚ y
 le_from_test x y h = le_from_compare (λ less. at (compare_ℚ y x) less h)
   where
@@ -48,17 +43,6 @@ le_from_test x y h = le_from_compare (λ less. at (compare_ℚ y x) less h)
     at Less less e = cc
     at Equal less e = cc
     at Greater less e = cc
-
-test_from_lt : {x y : ℚ} → x <ℚ y → lt_ℚ x y ≡ true
-test_from_lt h = ap is_less (compare_from_lt h)
-
-test_from_gt : {x y : ℚ} → y <ℚ x → lt_ℚ x y ≡ false
-test_from_gt {x} {y} h = at (compare_ℚ x y) (λ less. lt_not_le h (le_of_lt (lt_from_compare less)))
-  where
-    at : (o : Ordering) → (o ≡ Less → ⊥) → is_less o ≡ false
-    at Less less = absurd (less refl)
-    at Equal less = refl
-    at Greater less = refl
 
 both_true : (a b : Bool) → (a && b) ≡ true → (a ≡ true) × (b ≡ true)
 both_true true b h = (refl, h)
@@ -133,11 +117,7 @@ module _ (p : LinearProgram) where
 
   module _ (matrix : IsMatrix p.matrix) where
     products_of_column : (y : Vector) (start : ℚ) (j : ℕ) → IsColumn p.matrix j → sum_of start (column_products p y j) ≡ start +ℚ sum_up_to p.rows (λ i. y i *ℚ entry p.matrix i j)
-    products_of_column y start j is =
-        let place : j - 1 < length p.matrix.columns = omega (arith, is.0, is.1, matrix.columns_counted) in
-        sum_of-entries p.rows y start (column p.matrix j)
-        (All-get_or (λ c. All (λ e. IsRow p.matrix e.row) c) p.matrix.columns (j - 1) [] place matrix.on_rows)
-        (All-get_or (λ c. IsDistinct nat_eq (map (λ e. e.row) c)) p.matrix.columns (j - 1) [] place matrix.distinct)
+    products_of_column y start j is = sum_of-entries start y (column p.matrix j) ∙ sum_of_entries p.matrix matrix y start j is
 
     pub reduced_if_checked : (y : Vector) → verdict_of (reduced_costs p y) ≡ Checked
         → (j : ℕ) → IsColumn p.matrix j → y (p.rows + j) ≡ cost p j -ℚ sum_up_to p.rows (λ i. y i *ℚ entry p.matrix i j)
@@ -203,7 +183,7 @@ module _ (p : LinearProgram) where
       subst (λ (s : ℚ). s <ℚ zero_ℚ)
       (sum_of-filtered (λ k. not (eq_ℚ (w k) zero_ℚ)) (limit_product p w) (λ k none. ap (λ s. s *ℚ unwrap_or (limit_against p w k) zero_ℚ) (same_from_test (w k) zero_ℚ (not_false (eq_ℚ (w k) zero_ℚ) none)) ∙ zero-mul (unwrap_or (limit_against p w k) zero_ℚ)) zero_ℚ (variables p.matrix)
       ∙ sum_of-all (limit_product p w) (size p.matrix))
-      (lt_from_test _ _ (holds_if_checked 3 0 _ e))
+      (below_of_test (holds_if_checked 3 0 _ e))
 
   -- ---- the checks
 
@@ -214,10 +194,8 @@ module _ (p : LinearProgram) where
       let met = λ (k : ℕ) (is : IsVariable p.matrix k). met_if_checked w 1 (size p.matrix) k zero_ℚ limits.0 is.0 (omega (arith, is.1)) in
       record {
         vanishes = vanishes_if_checked matrix w columns.0;
-        meets_upper = λ k is above.
-        ap (λ b. is_some (if b then upper_of p k else lower_of p k)) (sym (test_from_lt above)) ∙ met k is (apart_from_above above);
-        meets_lower = λ k is below.
-        ap (λ b. is_some (if b then upper_of p k else lower_of p k)) (sym (test_from_gt below)) ∙ met k is (apart_from_below below);
+        meets_upper = λ k is above. ap is_some (sym (limit_of_positive p w k above)) ∙ met k is (apart_from_above above);
+        meets_lower = λ k is below. ap is_some (sym (limit_of_negative p w k below)) ∙ met k is (apart_from_below below);
         negative = negative_if_checked w limits.1;
       }
 
@@ -242,13 +220,13 @@ module _ (p : LinearProgram) where
         keeps = keeps_if_checked 3 d kept.0;
         falls = λ k is below. no_limit (lower_of p k) (asked_negative _ _ _ (moves d free.0 k is) below);
         rises = λ k is above. no_limit (upper_of p k) (asked_positive _ _ _ (moves d free.0 k is) above);
-        betters = lt_from_test _ _ (holds_if_checked 5 0 _ better.1);
+        betters = below_of_test (holds_if_checked 5 0 _ better.1);
       }
 
   pub crossed_if_checked : (k : ℕ) → IsVariable p.matrix k → crossed_check p k ≡ Checked → IsCrossed p k
   crossed_if_checked k is e = at (lower_of p k) (upper_of p k) refl refl (holds_if_checked 1 k _ e)
     where
       at : (low high : Option ℚ) → lower_of p k ≡ low → upper_of p k ≡ high → is_crossed low high ≡ true → IsCrossed p k
-      at (Some low) (Some high) lower upper h = record { is_variable = is; low = low; high = high; lower = lower; upper = upper; crossed = lt_from_test high low h }
+      at (Some low) (Some high) lower upper h = record { is_variable = is; low = low; high = high; lower = lower; upper = upper; crossed = below_of_test h }
       at (Some low) None lower upper h = cc
       at None high lower upper h = cc

@@ -4,7 +4,7 @@ use Rattle.std.specs.Ordering.{is_eq}
 use Rattle.exact_values.specs.Rational.{compare_ℚ}
 use Rattle.exact_values.specs.Tests.{is_equal}
 use Rattle.exact_values.proofs.Compare.{compare_ties}
-use Rattle.certificate_check.proofs.parts.is_equal.Goals as goal
+use Rattle.certificate_check.proofs.comparisons.is_equal.Goals as goal
 
 same_test : (o : Ordering) → is_eq o ≡ is_equal o
 same_test Less = refl

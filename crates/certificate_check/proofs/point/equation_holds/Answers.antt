@@ -5,7 +5,7 @@ use Rattle.lp_definitions.specs.LinearProgram.{value_at}
 use Rattle.check_definitions.specs.Steps.{comparison, verdict_of, sum_steps, sum_of}
 use Rattle.check_definitions.specs.Checks.{row_products}
 use Rattle.certificate_check.proofs.Each.{goes_on, value_exit}
-use Rattle.certificate_check.proofs.parts.equation_holds.Goals as goal
+use Rattle.certificate_check.proofs.point.equation_holds.Goals as goal
 
 pub returns-in_err-sum : goal.returns-in_err-sum
 returns-in_err-sum c =

@@ -2,7 +2,7 @@ use Rattle.std.proofs.Common.{rules}
 use Rattle.lp_definitions.specs.LinearProgram.{value_at}
 use Rattle.check_definitions.specs.Checks.{equation}
 use Rattle.certificate_check.proofs.Each.{each_passed, each_exit}
-use Rattle.certificate_check.proofs.parts.equations_hold.Goals as goal
+use Rattle.certificate_check.proofs.point.equations_hold.Goals as goal
 
 pub returns-in_err-equation_holds : goal.returns-in_err-equation_holds
 returns-in_err-equation_holds c =
