@@ -1,15 +1,14 @@
 -- What crossed, unbounded ends tell: limits that exclude each other, and a direction without end.
-use Rattle.std.proofs.Common.{◌≡◌, ◌≢◌, ℕ, suc, ◌+◌, ◌-◌, ◌≤◌, ◌<◌, ◌⊎◌, inl, inr, Bool, true, false, List, length, refl, sym, ap, subst, ◌∙◌, arith, pos}
-use Rattle.std.specs.Prelude.{Option, Some, None, IfSome, not, ◌&&◌, ◌||◌, option_map, if◌then◌else◌}
-use Rattle.exact_values.specs.Rational.{ℚ, zero_ℚ, one_ℚ, neg_ℚ, ◌+ℚ◌, ◌-ℚ◌, ◌*ℚ◌, ◌/ℚ◌, ◌≤ℚ◌, ◌<ℚ◌}
-use Rattle.exact_values.specs.Sums.{sum_to}
+use Rattle.std.proofs.Common.{◌≡◌, ℕ, suc, ◌+◌, ◌⊎◌, inl, inr, Bool, true, false, List, refl, sym, ap, subst, ◌∙◌, arith, pos}
+use Rattle.std.specs.Prelude.{Option, Some, None, not, ◌&&◌, ◌||◌, option_map, if◌then◌else◌}
+use Rattle.exact_values.specs.Rational.{ℚ, zero_ℚ, neg_ℚ, ◌-ℚ◌, ◌*ℚ◌, ◌/ℚ◌, ◌<ℚ◌}
 use Rattle.exact_values.specs.Tests.{lt_ℚ}
 use Rattle.exact_values.proofs.Ring.{by_ring1, by_ring2, by_ring3, ◌⊕◌, ◌⊖◌, ◌⊗◌, ◌≐◌, number, opposite}
 use Rattle.exact_values.proofs.Sums.{sum_to-same, sum_to-neg}
-use Rattle.exact_values.proofs.Order.{le_refl, le_of_lt, lt_not_le, lt_by_one}
-use Rattle.lp_definitions.specs.LinearProgram.{Matrix, LinearProgram, Vector, value_at, size, IsVariable, IsRow, KeepsEquations, lower_of, upper_of, for_min, entry, combined, with_change_row, objective_value, IsLinearProgram, ChangeIsFree}
-use Rattle.lp_definitions.specs.Solutions.{IsFeasible, IsCrossed, ProvesUnbounded}
-use Rattle.lp_definitions.specs.Basis.{is_in, basics_of, status_of, is_basic, IsBasis, IsNonbasic, Tableau, IsTableau}
+use Rattle.exact_values.proofs.Order.{le_of_lt, lt_not_le, lt_by_one}
+use Rattle.lp_definitions.specs.LinearProgram.{Matrix, LinearProgram, Vector, value_at, size, IsVariable, KeepsEquations, lower_of, upper_of, for_min, entry, combined, with_change_row, objective_value, IsLinearProgram, ChangeIsFree}
+use Rattle.lp_definitions.specs.Solutions.{IsCrossed, ProvesUnbounded}
+use Rattle.lp_definitions.specs.Basis.{basics_of, status_of, is_basic, IsBasis, IsNonbasic, Tableau, IsTableau}
 use Rattle.lp_definitions.specs.declared.Change.{Change}
 use Rattle.lp_definitions.specs.declared.Sense.{Sense}
 use Rattle.lp_definitions.specs.declared.Sense.TheVariants.{Min, Max}
@@ -17,13 +16,13 @@ use Rattle.lp_definitions.specs.declared.Status.{Status}
 use Rattle.lp_definitions.specs.declared.Status.TheVariants.{Bs, Ll, Ul, Fr}
 use Rattle.lp_algebra.proofs.Equations.{KeepsEquations-same}
 use Rattle.lp_algebra.proofs.Uniqueness.{is_in-basics_of}
-use Rattle.path_definitions.specs.Moves.{on_limits, is_crossed, is_fixed, rises_from, falls_from, lowers, signed, goes_up, limit_ahead, room, entering}
-use Rattle.path_definitions.specs.Path.{EndsCrossed, EndsUnbounded, Ends, EndsAt, listed, speeds, crossed, worth_rate, mover}
+use Rattle.path_definitions.specs.Moves.{on_limits, is_crossed, is_fixed, rises_from, falls_from, lowers, signed, goes_up, limit_ahead, entering}
+use Rattle.path_definitions.specs.Path.{EndsCrossed, EndsUnbounded, Ends, EndsAt, listed, speeds, worth_rate}
 use Rattle.path_laws.proofs.Tests.{lt_false, lt_true}
 use Rattle.path_laws.proofs.Numbered.{find_some}
 use Rattle.path_laws.proofs.Stoppers.{stopper_none}
 use Rattle.path_laws.proofs.Turns.{bettering, IsEndlessTurn, rule_of, crossed_turn, endless_turn}
-use Rattle.path_laws.proofs.Ends.{feasible, value_at-listed}
+use Rattle.path_laws.proofs.Ends.{feasible, value_at-listed, IsFeasible-same}
 
 -- ---- crossed limits
 
@@ -96,7 +95,7 @@ keeps-signed a true d keeps i row = keeps i row
 keeps-signed a false d keeps i row =
     ap neg_ℚ (keeps i row) ∙ sym (sum_to-neg a.cols (λ j. entry a i (suc j) *ℚ d (a.rows + suc j)))
     ∙ sum_to-same a.cols (λ j. neg_ℚ (entry a i (suc j) *ℚ d (a.rows + suc j))) (λ j. entry a i (suc j) *ℚ neg_ℚ (d (a.rows + suc j)))
-      (λ j below. by_ring2 (entry a i (suc j)) (d (a.rows + suc j)) (λ x y. opposite (x ⊗ y) ≐ x ⊗ opposite y) refl)
+    (λ j below. by_ring2 (entry a i (suc j)) (d (a.rows + suc j)) (λ x y. opposite (x ⊗ y) ≐ x ⊗ opposite y) refl)
 
 room_none : (o : Option ℚ) (z v : ℚ) → option_map (λ l. (l -ℚ z) /ℚ v) o ≡ None → o ≡ None
 room_none None z v e = refl
@@ -133,16 +132,6 @@ module _ (p : LinearProgram) (s : List Status) (t : Tableau) (basis : IsBasis p 
           positive : ((goes_up (worth_rate p s t) q ≡ true) ⊎ (zero_ℚ <ℚ worth_rate p s t q)) → zero_ℚ <ℚ worth_rate p s t q
           positive (inl h) = cc
           positive (inr h) = h
-
--- the limits of a vector that has the values of a feasible one
-within_same : (low high : Option ℚ) (x y : ℚ) → x ≡ y → IfSome low (λ l. l ≤ℚ x) × IfSome high (λ u. x ≤ℚ u) → IfSome low (λ l. l ≤ℚ y) × IfSome high (λ u. y ≤ℚ u)
-within_same low high x y e h = subst (λ v. IfSome low (λ l. l ≤ℚ v) × IfSome high (λ u. v ≤ℚ u)) e h
-
-pub IsFeasible-same : (p : LinearProgram) (d e : Vector) → ((k : ℕ) → IsVariable p.matrix k → d k ≡ e k) → IsFeasible p d → IsFeasible p e
-IsFeasible-same p d e same h = record {
-  keeps = KeepsEquations-same p.matrix d e same h.keeps;
-  within = λ k is. within_same (lower_of p k) (upper_of p k) (d k) (e k) (same k is) (h.within k is);
-}
 
 -- the objective of a vector, from its values at rows
 objective-same : (o : ℕ) (change : Option Change) (d e : Vector) → d o ≡ e o → ((c : Change) → change ≡ Some c → d c.row ≡ e c.row) → with_change_row change d (d o) ≡ with_change_row change e (e o)

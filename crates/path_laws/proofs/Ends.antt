@@ -1,22 +1,23 @@
 -- What an end of the path tells of the point, the prices and the direction at which it ends.
-use Rattle.std.proofs.Common.{◌≡◌, ◌≢◌, ℕ, suc, ◌+◌, ◌-◌, ◌≤◌, ◌<◌, ◌⊎◌, inl, inr, Bool, true, false, List, length, refl, sym, ap, subst, ◌∙◌, arith, get_or}
-use Rattle.std.specs.Prelude.{Option, Some, None, IsSome, IfSome, not, ◌&&◌, ◌||◌, find}
-use Rattle.std.proofs.lemmas.List.{get_or-map}
-use Rattle.exact_values.specs.Rational.{ℚ, zero_ℚ, one_ℚ, neg_ℚ, ◌+ℚ◌, ◌*ℚ◌, ◌≤ℚ◌, ◌<ℚ◌}
+use Rattle.std.proofs.Common.{◌≡◌, ℕ, ◌-◌, ◌⊎◌, inl, inr, Bool, true, false, List, refl, sym, ap, subst, ◌∙◌, arith}
+use Rattle.std.specs.Prelude.{Option, Some, None, IfSome, not, ◌&&◌, ◌||◌}
+use Rattle.exact_values.specs.Rational.{ℚ, zero_ℚ, ◌≤ℚ◌}
 use Rattle.exact_values.specs.Tests.{lt_ℚ, eq_ℚ}
-use Rattle.exact_values.proofs.Sums.{sum_to-same}
-use Rattle.exact_values.proofs.Order.{le_refl, le_antisymm, le_of_lt}
-use Rattle.lp_definitions.specs.LinearProgram.{Matrix, LinearProgram, Vector, value_at, size, IsVariable, IsRow, KeepsEquations, lower_of, upper_of, for_min, numbers_from, variables, entry}
-use Rattle.lp_definitions.specs.Solutions.{IsWithinLimits, IsFeasible, IsCrossed}
-use Rattle.lp_definitions.specs.Basis.{is_in, basics_of, status_of, is_basic, IsBasis, IsAllowed, StandsAt, IsPointOf, IsNonsingular, Tableau, IsTableau, IsFixed, IsRightAt, IsOptimalBasis, ArePricesOf, price_at, objective_rate}
+use Rattle.exact_values.proofs.Order.{le_refl, le_antisymm}
+use Rattle.lp_definitions.specs.LinearProgram.{Matrix, LinearProgram, Vector, value_at, size, IsVariable, IsLinearProgram, lower_of, upper_of, for_min}
+use Rattle.lp_definitions.specs.Solutions.{IsWithinLimits, IsFeasible, AreProvingPrices}
+use Rattle.lp_definitions.specs.Basis.{is_in, basics_of, status_of, is_basic, IsBasis, IsAllowed, StandsAt, IsPointOf, Tableau, IsTableau, IsFixed, IsRightAt, price_at, objective_rate}
 use Rattle.lp_definitions.specs.declared.Status.{Status}
 use Rattle.lp_definitions.specs.declared.Status.TheVariants.{Bs, Ll, Ul, Fr}
 use Rattle.lp_algebra.proofs.Equations.{KeepsEquations-same}
 use Rattle.lp_algebra.proofs.Uniqueness.{is_in-basics_of}
+use Rattle.lp_algebra.proofs.Optimal.{prices_prove}
+use Rattle.lp_algebra.proofs.Duality.{best_by_prices}
 use Rattle.path_definitions.specs.Moves.{on_limit, on_limits, is_crossed, is_outside, is_fixed, rises_from, falls_from, lowers}
-use Rattle.path_definitions.specs.Path.{Ending, EndsOptimal, Ends, EndsAt, listed, crossed, outside, worth_rate, mover}
-use Rattle.path_laws.proofs.Tests.{lt_false, lt_true, eq_true}
-use Rattle.path_laws.proofs.Numbered.{find_none, find_some, get_or-listed}
+use Rattle.path_definitions.specs.Path.{EndsOptimal, Ends, EndsAt, listed, worth_rate, mover}
+use Rattle.path_laws.specs.Laws.{IsNonsingularBasis, ProvedOptimal}
+use Rattle.path_laws.proofs.Tests.{lt_false, eq_true}
+use Rattle.path_laws.proofs.Numbered.{find_none, get_or-listed}
 use Rattle.path_laws.proofs.Turns.{IsSecondPhase, IsOptimalTurn, rule_of, optimal_turn}
 
 or_false : (a b : Bool) → (a || b) ≡ false → (a ≡ false) × (b ≡ false)
@@ -107,17 +108,32 @@ module _ (p : LinearProgram) (s : List Status) (t : Tableau) (basis : IsBasis p 
     placed = λ k is. subst (StandsAt (status_of s k) (lower_of p k) (upper_of p k)) (sym (same k is)) (tab.is_point.placed k is);
   }
 
--- an optimal end: the basis is optimal, and these are its point and its prices
-pub optimal_end : (p : LinearProgram) (s : List Status) (z y : List ℚ) → IsBasis p s → IsNonsingular p.matrix (basics_of s) → EndsAt p s (EndsOptimal z y) → IsOptimalBasis p s × IsPointOf p s (value_at z) × ArePricesOf p s (value_at y)
-optimal_end p s z y basis nonsingular ends =
-    (record {
-      is_basis = basis;
-      nonsingular = nonsingular;
-      tableau = ends.tableau;
-      is_tableau = ends.is_tableau;
-      feasible = feasible p s ends.tableau basis ends.is_tableau optimal.phase;
-      right = rates_right p s ends.tableau basis ends.is_tableau optimal.moves;
-    }, is_point_same p s ends.tableau basis ends.is_tableau (value_at z) at_point, record { rate = ends.tableau.rate; are_rates = ends.is_tableau.are_rates; prices = at_prices })
+-- the limits of a vector that has the values of a feasible one
+within_same : (low high : Option ℚ) (x y : ℚ) → x ≡ y → IfSome low (λ l. l ≤ℚ x) × IfSome high (λ u. x ≤ℚ u) → IfSome low (λ l. l ≤ℚ y) × IfSome high (λ u. y ≤ℚ u)
+within_same low high x y e h = subst (λ v. IfSome low (λ l. l ≤ℚ v) × IfSome high (λ u. v ≤ℚ u)) e h
+
+pub IsFeasible-same : (p : LinearProgram) (d e : Vector) → ((k : ℕ) → IsVariable p.matrix k → d k ≡ e k) → IsFeasible p d → IsFeasible p e
+IsFeasible-same p d e same h = record {
+  keeps = KeepsEquations-same p.matrix d e same h.keeps;
+  within = λ k is. within_same (lower_of p k) (upper_of p k) (d k) (e k) (same k is) (h.within k is);
+}
+
+-- an optimal end: the basis is optimal, these are its point and its prices, and they prove that the point is best
+pub optimal_end : (p : LinearProgram) (s : List Status) (z y : List ℚ) → IsLinearProgram p → IsNonsingularBasis p s → EndsAt p s (EndsOptimal z y) → ProvedOptimal p s z y
+optimal_end p s z y lawful at ends = record {
+  optimal = record {
+    is_basis = at.is_basis;
+    nonsingular = at.nonsingular;
+    tableau = ends.tableau;
+    is_tableau = ends.is_tableau;
+    feasible = at_feasible;
+    right = at_right;
+  };
+  point = at_z;
+  prices = record { rate = ends.tableau.rate; are_rates = ends.is_tableau.are_rates; prices = at_prices };
+  proving = proving;
+  best = best_by_prices p lawful (value_at z) (value_at y) (IsFeasible-same p ends.tableau.point (value_at z) (λ k is. sym (at_point k is)) at_feasible) proving;
+}
   where
     optimal : IsOptimalTurn p s ends.tableau (Ends (EndsOptimal z y))
     optimal = optimal_turn p s ends.tableau z y (rule_of p s ends.tableau (Ends (EndsOptimal z y)) ends.turns)
@@ -133,3 +149,15 @@ optimal_end p s z y basis nonsingular ends =
         let e = optimal.gives in
         let same : y ≡ listed p.matrix (price_at p (basics_of s) ends.tableau.rate) = cc in
         ap (λ xs. value_at xs k) same ∙ value_at-listed p.matrix (price_at p (basics_of s) ends.tableau.rate) k is
+
+    at_feasible : IsFeasible p ends.tableau.point
+    at_feasible = feasible p s ends.tableau at.is_basis ends.is_tableau optimal.phase
+
+    at_right : (k : ℕ) → IsVariable p.matrix k → IsFixed p k ⊎ IsRightAt (status_of s k) (for_min p.sense (objective_rate p ends.tableau.rate k))
+    at_right = rates_right p s ends.tableau at.is_basis ends.is_tableau optimal.moves
+
+    at_z : IsPointOf p s (value_at z)
+    at_z = is_point_same p s ends.tableau at.is_basis ends.is_tableau (value_at z) at_point
+
+    proving : AreProvingPrices p (value_at z) (value_at y)
+    proving = prices_prove p lawful s at.is_basis at.nonsingular ends.tableau.rate ends.is_tableau.are_rates (value_at z) (value_at y) at_z at_prices at_right

@@ -7,3 +7,4 @@ pub mod Endless
 pub mod OneTurn
 pub mod Rays
 pub mod Steps
+pub mod OnePath

@@ -1,6 +1,6 @@
 -- Searches, tests and lists over the variables, which are the numbers from 1 on.
-use Rattle.std.proofs.Common.{◌≡◌, ◌≢◌, ℕ, zero, suc, ◌+◌, ◌-◌, ◌<◌, ◌≤◌, ◌⊎◌, inl, inr, List, [], ◌∷◌, map, Bool, true, false, cond, refl, ap, subst, ◌∙◌, arith, get_or, length}
-use Rattle.std.specs.Prelude.{eqb, Option, Some, None, find, ◌&&◌}
+use Rattle.std.proofs.Common.{◌≡◌, ◌≢◌, ℕ, zero, suc, ◌+◌, ◌<◌, ◌≤◌, ◌⊎◌, inl, inr, ◌∷◌, map, Bool, true, false, cond, refl, ap, subst, ◌∙◌, arith, get_or}
+use Rattle.std.specs.Prelude.{eqb, Some, None, find, ◌&&◌}
 use Rattle.std.specs.List.{list_all}
 use Rattle.std.proofs.lemmas.Bool.Decides.{eqb_tells}
 use Rattle.lp_definitions.specs.LinearProgram.{numbers_from}

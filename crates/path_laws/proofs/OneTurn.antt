@@ -1,17 +1,17 @@
 -- What is done at a basis depends on the point and the rates of the basis alone, at the variables.
-use Rattle.std.proofs.Common.{◌≡◌, ℕ, ◌≤◌, Bool, true, false, List, refl, sym, ap, ap₂, ◌∙◌, arith, cond}
+use Rattle.std.proofs.Common.{◌≡◌, ℕ, Bool, true, false, List, refl, sym, ap, ap₂, ◌∙◌, arith}
 use Rattle.std.specs.Prelude.{Option, Some, None, not, ◌&&◌, ◌||◌, option_map, if◌then◌else◌, nat_eq}
-use Rattle.exact_values.specs.Rational.{ℚ, zero_ℚ, one_ℚ, neg_ℚ, ◌+ℚ◌, ◌*ℚ◌, ◌-ℚ◌, ◌/ℚ◌}
+use Rattle.exact_values.specs.Rational.{ℚ, zero_ℚ, one_ℚ, neg_ℚ, ◌-ℚ◌, ◌/ℚ◌}
 use Rattle.exact_values.specs.Tests.{lt_ℚ}
-use Rattle.lp_definitions.specs.LinearProgram.{LinearProgram, Vector, size, IsVariable, IsLinearProgram, lower_of, upper_of, for_min, with_change_row}
+use Rattle.lp_definitions.specs.LinearProgram.{LinearProgram, Vector, size, IsVariable, IsLinearProgram, lower_of, upper_of, for_min}
 use Rattle.lp_definitions.specs.Basis.{is_in, basics_of, status_of, is_basic, IsBasis, IsNonbasic, Tableau, price_at, objective_rate}
 use Rattle.lp_definitions.specs.declared.Status.{Status}
 use Rattle.lp_definitions.specs.declared.Status.TheVariants.{Bs, Ll, Ul, Fr}
 use Rattle.lp_algebra.proofs.Uniqueness.{is_in-basics_of}
-use Rattle.path_definitions.specs.Moves.{is_below, is_outside, is_fixed, rises_from, falls_from, lowers, entering, signed, goes_up, limit_ahead, room, is_no_later, reaches_first, stopper, reached, on_limit}
-use Rattle.path_definitions.specs.Path.{Turn, Moves, Ends, Ending, EndsOptimal, EndsInfeasible, EndsUnbounded, listed, ray_of, excess_rate, speeds, stopped_by, crossed, outside, worth_rate, mover, bring_back, run_until, run_at, better, turn_for, turn}
+use Rattle.path_definitions.specs.Moves.{is_below, is_outside, is_fixed, rises_from, falls_from, lowers, entering, signed, goes_up, room, is_no_later, reaches_first, stopper, on_limit}
+use Rattle.path_definitions.specs.Path.{Moves, Ends, EndsOptimal, EndsInfeasible, EndsUnbounded, listed, ray_of, excess_rate, speeds, crossed, outside, worth_rate, mover, bring_back, run_until, better, turn_for, turn}
 use Rattle.path_laws.proofs.Numbered.{find_same, find_some, list_all_same, map_same}
-use Rattle.path_laws.proofs.Endless.{IsEntering, enters, objective_value-same}
+use Rattle.path_laws.proofs.Endless.{enters, objective_value-same}
 
 -- two tableaus have the same values at the variables, and the same rates at the nonbasics
 pub record SameTableau (p : LinearProgram) (s : List Status) (t u : Tableau) : Type 0 where

@@ -1,10 +1,9 @@
 -- What stops a motion, and what it means that nothing does.
-use Rattle.std.proofs.Common.{◌≡◌, ℕ, zero, suc, ◌+◌, ◌<◌, ◌≤◌, ◌⊎◌, inl, inr, Bool, true, false, refl, sym, ◌∙◌, arith, List}
-use Rattle.std.specs.Prelude.{Option, Some, None, find}
-use Rattle.std.specs.List.{list_all}
+use Rattle.std.proofs.Common.{◌≡◌, ℕ, zero, suc, ◌+◌, ◌<◌, ◌≤◌, ◌⊎◌, inl, inr, true, false, refl, sym, ◌∙◌, arith}
+use Rattle.std.specs.Prelude.{Option, Some, None}
 use Rattle.exact_values.specs.Rational.{ℚ, ◌≤ℚ◌}
 use Rattle.exact_values.proofs.Order.{le_refl, le_trans, le_total}
-use Rattle.lp_definitions.specs.LinearProgram.{LinearProgram, Vector, IsVariable, numbers_from, size}
+use Rattle.lp_definitions.specs.LinearProgram.{LinearProgram, Vector, IsVariable, size}
 use Rattle.path_definitions.specs.Moves.{is_no_later, reaches_first, room, stopper}
 use Rattle.path_laws.proofs.Tests.{le_true, le_from}
 use Rattle.path_laws.proofs.Numbered.{find_none, find_some, list_all_from, list_all_true, from_first}
@@ -93,6 +92,7 @@ stopper_none p z v none k is = by_least (least_of (room p z v) (size p.matrix) 1
 -- what stops a motion reaches its limit, and no variable reaches one sooner
 pub stopper_some : (p : LinearProgram) (z v : Vector) (k : ℕ) → stopper p z v ≡ Some k → IsVariable p.matrix k × ((i : ℕ) → IsVariable p.matrix i → is_no_later (room p z v k) (room p z v i) ≡ true)
 stopper_some p z v k e =
-    let found = find_some (reaches_first p z v) (size p.matrix) 1 k e in
-    ((found.low, omega (arith, found.high)),
-    λ i is. list_all_true (λ i. is_no_later (room p z v k) (room p z v i)) (size p.matrix) 1 found.passes i is.0 (omega (arith, is.1)))
+    let found = find_some (reaches_first p z v) (size p.matrix) 1 k e in (
+      (found.low, omega (arith, found.high)),
+      λ i is. list_all_true (λ i. is_no_later (room p z v k) (room p z v i)) (size p.matrix) 1 found.passes i is.0 (omega (arith, is.1)),
+    )

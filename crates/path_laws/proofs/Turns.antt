@@ -1,5 +1,5 @@
 -- What is done at a basis, by the rule that does it.
-use Rattle.std.proofs.Common.{◌≡◌, ◌≢◌, ℕ, refl, sym, ap, subst, ◌∙◌, List}
+use Rattle.std.proofs.Common.{◌≡◌, ℕ, refl, sym, ap, subst, ◌∙◌, List}
 use Rattle.std.specs.Prelude.{Option, Some, None, if◌then◌else◌}
 use Rattle.exact_values.specs.Rational.{ℚ}
 use Rattle.lp_definitions.specs.LinearProgram.{LinearProgram, Vector}
@@ -7,7 +7,7 @@ use Rattle.lp_definitions.specs.Basis.{Tableau, basics_of, price_at}
 use Rattle.lp_definitions.specs.declared.Status.{Status}
 use Rattle.lp_definitions.specs.declared.Status.TheVariants.{Ll, Ul}
 use Rattle.path_definitions.specs.Moves.{is_below, goes_up, stopper}
-use Rattle.path_definitions.specs.Path.{Move, Turn, Moves, Ends, Ending, EndsOptimal, EndsCrossed, EndsInfeasible, EndsUnbounded, listed, ray_of, speeds, stopped_by, crossed, outside, worth_rate, mover, bring_back, run_until, better, turn_for, turn}
+use Rattle.path_definitions.specs.Path.{Move, Turn, Moves, Ends, EndsOptimal, EndsCrossed, EndsInfeasible, EndsUnbounded, listed, ray_of, speeds, stopped_by, crossed, outside, worth_rate, mover, bring_back, run_until, better, turn_for, turn}
 
 module _ (p : LinearProgram) (s : List Status) (t : Tableau) where
   -- the speeds at which q betters the objective
@@ -119,3 +119,16 @@ module _ (p : LinearProgram) (s : List Status) (t : Tableau) where
   optimal_turn z y (by_stopped q j h) = let e = h.gives in cc
   optimal_turn z y (by_endless q h) = let e = h.gives in cc
   optimal_turn z y (by_optimal h) = h
+
+  -- a move, by the phase that makes it
+  pub data MovingRule (m : Move) : Type 0 where
+    brings : (r q : ℕ) → IsBroughtTurn (Moves m) r q → MovingRule m
+    stops : (q k : ℕ) → IsStoppedTurn (Moves m) q k → MovingRule m
+
+  pub moving_turn : (m : Move) → Rule (Moves m) → MovingRule m
+  moving_turn m (by_crossed j h) = let e = h.gives in cc
+  moving_turn m (by_brought r q h) = brings r q h
+  moving_turn m (by_stuck r h) = let e = h.gives in cc
+  moving_turn m (by_stopped q j h) = stops q j h
+  moving_turn m (by_endless q h) = let e = h.gives in cc
+  moving_turn m (by_optimal h) = let e = h.gives in cc

@@ -1,2 +1,13 @@
-//! Laws of the path: what its ends prove.
+//! The laws of the path of the bounded simplex method.
+//! The functions here do nothing. Each promises laws, so that the check proves them.
 #![tactic(auto)]
+
+ghost use Rattle.path_laws.specs.Laws.{EndLaws, StepLaws};
+
+pub fn end_laws()
+    ensures { EndLaws }
+{}
+
+pub fn step_laws()
+    ensures { StepLaws }
+{}

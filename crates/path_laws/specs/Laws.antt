@@ -1,0 +1,46 @@
+-- The laws of the path, as the functions of src/lib.rt promise them.
+--     IsNonsingularBasis p s       s is a basis of p, and its basics are nonsingular
+--     EndLaws                      what the path shows where it ends is a proof
+--     StepLaws                     the path goes over bases alone, and there is one path
+use Rattle.std.specs.Prelude.{◌≡◌, ℕ, ◌≤◌, List, length}
+use Rattle.exact_values.specs.Rational.{ℚ}
+use Rattle.lp_definitions.specs.LinearProgram.{LinearProgram, value_at, IsLinearProgram}
+use Rattle.lp_definitions.specs.Solutions.{IsBest, AreProvingPrices, IsCrossed, IsRay, ProvesUnbounded}
+use Rattle.lp_definitions.specs.Basis.{basics_of, IsBasis, IsNonsingular, IsOptimalBasis, IsPointOf, ArePricesOf, opening_statuses}
+use Rattle.lp_definitions.specs.declared.Status.{Status}
+use Rattle.path_definitions.specs.Path.{Ending, EndsOptimal, EndsCrossed, EndsInfeasible, EndsUnbounded, IsStep, EndsAt, IsPath, last_of, PathEnds, GoesOnFor}
+
+pub record IsNonsingularBasis (p : LinearProgram) (s : List Status) : Type 0 where
+  pub is_basis : IsBasis p s
+  pub nonsingular : IsNonsingular p.matrix (basics_of s)
+
+-- an optimal end: the basis is optimal, with its point and prices, and the prices prove that the point is best
+pub record ProvedOptimal (p : LinearProgram) (s : List Status) (z y : List ℚ) : Type 0 where
+  pub optimal : IsOptimalBasis p s
+  pub point : IsPointOf p s (value_at z)
+  pub prices : ArePricesOf p s (value_at y)
+  pub proving : AreProvingPrices p (value_at z) (value_at y)
+  pub best : IsBest p (value_at z)
+
+pub record EndLaws : Type 0 where
+  pub optimal : (p : LinearProgram) (s : List Status) (z y : List ℚ) → IsLinearProgram p → IsNonsingularBasis p s → EndsAt p s (EndsOptimal z y) → ProvedOptimal p s z y
+  pub crossed : (p : LinearProgram) (s : List Status) (k : ℕ) → EndsAt p s (EndsCrossed k) → IsCrossed p k
+  pub infeasible : (p : LinearProgram) (s : List Status) (w : List ℚ) → IsNonsingularBasis p s → EndsAt p s (EndsInfeasible w) → IsRay p (value_at w)
+  pub unbounded : (p : LinearProgram) (s : List Status) (z d : List ℚ) → IsLinearProgram p → IsBasis p s → EndsAt p s (EndsUnbounded z d) → ProvesUnbounded p (value_at z) (value_at d)
+
+-- the two paths go over the same bases and end alike
+pub record SameEnds (bases others : List (List Status)) (ending other : Ending) : Type 0 where
+  pub same_bases : bases ≡ others
+  pub same_ending : ending ≡ other
+
+pub record StepLaws : Type 0 where
+  pub opening : (p : LinearProgram) → IsNonsingularBasis p (opening_statuses p)
+  pub step : (p : LinearProgram) (s next : List Status) → IsNonsingularBasis p s → IsStep p s next → IsNonsingularBasis p next
+  pub path : (p : LinearProgram) (s : List Status) (bases : List (List Status)) → IsNonsingularBasis p s → IsPath p s bases → IsNonsingularBasis p (last_of s bases)
+  pub one_step : (p : LinearProgram) (s next other : List Status) → IsLinearProgram p → IsNonsingularBasis p s → IsStep p s next → IsStep p s other → next ≡ other
+  pub one_end : (p : LinearProgram) (s : List Status) (ending other : Ending) → IsLinearProgram p → IsNonsingularBasis p s → EndsAt p s ending → EndsAt p s other → ending ≡ other
+  pub step_or_end : (p : LinearProgram) (s next : List Status) (ending : Ending) → IsLinearProgram p → IsNonsingularBasis p s → IsStep p s next → EndsAt p s ending → ⊥
+  pub one_path : (p : LinearProgram) (s : List Status) (bases others : List (List Status)) (ending other : Ending) → IsLinearProgram p → IsNonsingularBasis p s →
+      PathEnds p s bases ending → PathEnds p s others other → SameEnds bases others ending other
+  pub ended_or_goes_on : (p : LinearProgram) (s : List Status) (bases : List (List Status)) (ending : Ending) (steps : ℕ) → IsLinearProgram p → IsNonsingularBasis p s →
+      PathEnds p s bases ending → length bases ≤ steps → GoesOnFor p s steps → ⊥
