@@ -64,6 +64,10 @@ begins section card = unwrap_or (option_map (is_section section) (section_begun 
 abbrev pub section_after : List Card → Option Section
 section_after cards = last_or None (filter_map (λ card. section_begun card.bytes) cards)
 
+-- whether it is this one
+abbrev pub is_section_after : Section → List Card → Bool
+is_section_after section cards = unwrap_or (option_map (is_section section) (section_after cards)) false
+
 -- the name on a NAME card
 abbrev pub header_name : List ℕ → Name
 header_name card = columns 15 22 card
