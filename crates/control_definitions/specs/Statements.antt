@@ -23,9 +23,13 @@ is_close_parenthesis byte = byte == 41
 
 -- ---- quotes
 
--- each byte of a text, beside whether it stands within quotes: a quote begins them, and the next one ends them
+-- each byte of a text, beside whether it stands within quotes: a quote begins them, and the next one ends them; inside says
+-- whether the text begins within quotes
+abbrev pub marked_from : Bool → List ℕ → List (Bool × ℕ)
+marked_from inside text = scan (λ within byte. if is_quote byte then not within else within) (λ within byte. (within, byte)) inside text
+
 abbrev pub marked : List ℕ → List (Bool × ℕ)
-marked text = scan (λ within byte. if is_quote byte then not within else within) (λ within byte. (within, byte)) false text
+marked text = marked_from false text
 
 -- whether a byte stands outside quotes, and passes
 abbrev pub outside : (ℕ → Bool) → Bool × ℕ → Bool

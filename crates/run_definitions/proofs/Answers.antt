@@ -13,7 +13,7 @@ use Rattle.run_definitions.specs.Moves.{Prints}
 use Rattle.run_definitions.specs.Verbs.{verb_move}
 use Rattle.run_definitions.specs.Run.{begun, stepped, is_over, at_end, IsRun}
 use Rattle.run_definitions.specs.Answer.{WithoutBytes, Read, Made, job_decks, control_fault as by_control_fault, run, IsJobRun, words_refused, read_fails, by_itself, memory_at_start, whole, print_fails, IsAnswer}
-use Rattle.run_definitions.proofs.Runs.{silent}
+use Rattle.run_definitions.proofs.Courses.{silent}
 
 words : IsAnswer silent WithoutBytes ⊥ (record { status = 4; printed = codes "STOP 4 WORDS\n"; punched = [] })
 words = whole WordsRefused (words_refused refl) refl refl refl

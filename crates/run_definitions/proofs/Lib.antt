@@ -1,2 +1,3 @@
+mod Courses
 mod Runs
 mod Answers

@@ -1,10 +1,10 @@
--- Worked jobs that ask nothing of linear programming, computed from their bytes to their listings.
-use Rattle.std.specs.Prelude.{◌≡◌, refl, ℕ, zero, suc, ◌-◌, true, List, [], ◌++◌, codes, Option, Some, None, Result, Ok, Err, option_map, slice_get}
+-- Worked jobs that ask nothing of linear programming, computed from their bytes to their listings. That these are the jobs' runs is
+-- shown in `Courses`.
+use Rattle.std.specs.Prelude.{◌≡◌, refl, ℕ, List, [], codes, Option, Some, option_map}
 use Prim.Native.String.{String}
 use Rattle.std.specs.Fmt.{digits}
 use Rattle.divisors.specs.Gcd.{gcd}
 use Rattle.exact_values.specs.Rational.{fraction, whole, compare_ℚ}
-use Rattle.card_definitions.specs.declared.CardFault.{CardFault}
 use Rattle.card_definitions.specs.Cards.{cards_of, job_fault}
 use Rattle.card_definitions.specs.Fields.{reading_of}
 use Rattle.card_definitions.specs.Numbers.{number_of, number_fault, value_of}
@@ -14,83 +14,21 @@ use Rattle.deck_definitions.specs.Described.{described}
 use Rattle.deck_definitions.specs.Conversion.{card_fault, deck_fault, conversion}
 use Rattle.deck_definitions.specs.Written.{data_card, written, card_text}
 use Rattle.revise_definitions.specs.Revision.{revised, revise_card_fault, revise_fault, revision}
-use Rattle.control_definitions.specs.declared.ControlFault.{ControlFault}
-use Rattle.control_definitions.specs.Program.{Program, Statement}
 use Rattle.control_definitions.specs.Statements.{label_of, statement_of}
 use Rattle.control_definitions.specs.Verbs.{verb_of}
 use Rattle.control_definitions.specs.Compiled.{control_fault, control_card_fault, compiled}
 use Rattle.selection_definitions.specs.Choice.{selection_fault}
 use Rattle.selection_definitions.specs.Selection.{selected}
-use Rattle.listing_definitions.specs.Report.{Report}
-use Rattle.listing_definitions.specs.Ending.{Ending, Ended, ControlStop, CardStop}
 use Rattle.listing_definitions.specs.Listing.{listing}
-use Rattle.solver_definitions.specs.Solving.{Solving}
-use Rattle.run_definitions.specs.State.{State, start}
-use Rattle.run_definitions.specs.Moves.{Gain, Nothing, printed_by, punched_by, Outcome, Goes, Ends, Move, Does, MayStop, Asks}
-use Rattle.run_definitions.specs.Verbs.{verb_move, statement_move}
-use Rattle.run_definitions.specs.Run.{counted}
-use Rattle.run_definitions.specs.Answer.{job_decks}
-
--- everything is built, and nothing is ever answered
-abbrev pub silent : Solving
-silent = record {
-  builds = λ verb. true;
-  Solves = λ sheet basis limit end. ⊥;
-  Sweeps = λ sheet basis sweep end. ⊥;
-  Shows = λ sheet basis lines. ⊥;
-  Ranges = λ sheet basis lines. ⊥;
-  Overflows = λ question sheet bases evidence place. ⊥;
-}
-
--- where a run comes to: its reports and the cards punched, and its end unless it asks something first
-record Course : Type 0 where
-  reports : List Report
-  cards : List (List ℕ)
-  ending : Option Ending
-
--- the outcome of a move that doesn't ask, and doesn't stop freely
-abbrev settled : Move → Option Outcome
-settled (Does outcome) = Some outcome
-settled (MayStop Holds move) = settled move
-settled (Asks Answer IsRight go) = None
-
-abbrev behind : Gain → Course → Course
-behind gain course = record { reports = printed_by gain ++ course.reports; cards = punched_by gain ++ course.cards; ending = course.ending }
-
-abbrev unanswered : Course
-unanswered = record { reports = []; cards = []; ending = None }
-
-abbrev end : Gain → Ending → Course
-end gain ending = record { reports = printed_by gain; cards = punched_by gain; ending = Some ending }
-
-abbrev goes_on : (State → Course) → Option Outcome → Course
-goes_on course None = unanswered
-goes_on course (Some (Goes gain state)) = behind gain (course state)
-goes_on course (Some (Ends gain ending)) = end gain ending
-
-abbrev by_statement : (State → Course) → State → Option (Statement ℕ) → Course
-by_statement course state None = end Nothing (Ended 0)
-by_statement course state (Some statement) = goes_on course (settled (statement_move silent statement.verb statement.card (counted state)))
-
--- the course of a run in at most so many statements
-abbrev course_of : ℕ → Program → State → Course
-course_of zero program state = unanswered
-course_of (suc n) program state = by_statement (course_of n program) state (slice_get program.statements (state.position - 1))
-
-abbrev compiled_course : List ℕ → Result Program ControlFault → Course
-compiled_course bytes (Err fault) = end Nothing (ControlStop fault)
-compiled_course bytes (Ok program) = course_of 9 program (start (job_decks program bytes))
-
-abbrev job_course : List ℕ → Option CardFault → Course
-job_course bytes (Some fault) = end Nothing (CardStop fault)
-job_course bytes None = compiled_course bytes (compiled (cards_of bytes))
+use Rattle.run_definitions.specs.Verbs.{verb_move}
+use Rattle.run_definitions.proofs.Courses.{Course, job_course}
 
 abbrev texts : Course → Option (List ℕ × List ℕ)
 texts course = option_map {U = List ℕ × List ℕ} (λ ending. (listing course.reports ending, card_text course.cards)) course.ending
 
 -- the listing and the punch of a job that asks nothing
 answer : String → Option (List ℕ × List ℕ)
-answer job = texts (job_course (codes job) (job_fault (codes job)))
+answer job = texts (job_course (codes job))
 
 empty_job : answer "" ≡ Some (codes "STOP 8 CONTROL FAULT 1 CARD 0\n", [])
 unfolding answer job_fault cards_of compiled control_fault control_card_fault verb_of label_of statement_of decks_of deck_taken conversion deck_fault card_fault described reading_of number_of number_fault value_of numbered by_names written data_card revision revised revise_fault revise_card_fault selected selection_fault verb_move fraction gcd whole compare_ℚ digits

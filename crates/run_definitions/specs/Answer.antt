@@ -4,9 +4,7 @@
 --     IsSoFar bytes ..             how far a job has come
 --     MayEnd job ..                how a job may end, where devices and memory may fail
 --     IsAnswer job wanted answer   the status, and the bytes that the print and the punch gain
---
--- The clause of the top call is this. Let the source tell its bytes, or the words make a job. Then there are bytes that the print
--- gains and bytes that the punch gains, each where it tells its bytes, which are with the status an answer to the job.
+--     IsAnswered job wanted ..     the clause of the top call
 use Rattle.std.specs.Prelude.{ℕ, ◌≡◌, ◌-◌, List, [], ◌++◌, Option, None, Some, Ok, Err, drop}
 use Rattle.card_definitions.specs.declared.CardFault.{CardFault}
 use Rattle.card_definitions.specs.Cards.{Card, cards_of, numbered_cards, job_fault}
@@ -112,3 +110,9 @@ module _ (S : Solving) where
         answer.status ≡ status_of ending → answer.printed ≡ listing reports ending → Gains ending answer.punched (card_text cards) → IsAnswer job wanted answer
     print_fails : answer.status ≡ status_of PrintFault → IsCutShort job answer → IsAnswer job wanted answer
     print_wants_memory : wanted → answer.status ≡ status_of Memory → IsCutShort job answer → IsAnswer job wanted answer
+
+  -- The clause of the top call, where the words are refused, or make a job, or the source tells its bytes: the print gains some bytes and
+  -- the punch gains some, each so far as it tells them, and with the status they are an answer to the job.
+  abbrev pub IsAnswered : Job → Type 0 → ℕ → (List ℕ → Type 0) → (List ℕ → Type 0) → Type 0
+  IsAnswered job wanted status PrintGains PunchGains =
+      (printed : List ℕ) × (punched : List ℕ) × PrintGains printed × PunchGains punched × IsAnswer job wanted (record { status = status; printed = printed; punched = punched })

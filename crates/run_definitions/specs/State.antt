@@ -9,7 +9,8 @@ use Rattle.problem_definitions.specs.Problem.{Problem}
 use Rattle.control_definitions.specs.Program.{SetupOptions}
 use Rattle.selection_definitions.specs.Choice.{Choice}
 use Rattle.listing_definitions.specs.declared.Mark.{Mark}
-use Rattle.solver_definitions.specs.Answers.{Basis, basis_after}
+use Rattle.path_definitions.specs.Path.{last_of}
+use Rattle.solver_definitions.specs.Answers.{Basis}
 use Rattle.run_definitions.specs.Cells.{Cells, default_cells}
 
 -- the problem and options that SETUP kept, the basis with which it opened, and the bases since then, one a step
@@ -21,7 +22,7 @@ pub record Present : Type 0 where
 
 -- the basis that was reached last
 abbrev pub present_basis : Present → Basis
-present_basis present = basis_after present.opening present.steps
+present_basis present = last_of present.opening present.steps
 
 -- all bases since the last SETUP, in order
 abbrev pub path_of : Present → List Basis

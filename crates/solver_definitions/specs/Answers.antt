@@ -2,7 +2,7 @@
 --     Sheet                 a problem, which has the names, and the linear program that is selected from it
 --     Question              what a statement asks
 --     PathEnd, SweepEnd     where a path or a parametric run ends
-use Rattle.std.specs.Prelude.{ℕ, List, [], ◌∷◌}
+use Rattle.std.specs.Prelude.{ℕ, List}
 use Rattle.exact_values.specs.Rational.{ℚ}
 use Rattle.lp_definitions.specs.declared.Status.{Status}
 use Rattle.lp_definitions.specs.LinearProgram.{LinearProgram}
@@ -58,8 +58,3 @@ pub data SweepEnd : Type 0 where
   Opening : List Basis → Verdict → Check → SweepEnd
   Chained : List Basis → List Interval → ChainEnd → SweepEnd
   SweepLimit : SweepEnd
-
--- the basis that a path from the first one has reached
-abbrev pub basis_after : Basis → List Basis → Basis
-basis_after first [] = first
-basis_after first (next ∷ bases) = basis_after next bases

@@ -1,0 +1,6 @@
+pub mod Lines
+pub mod Verdicts
+pub mod Sections
+pub mod Sweeps
+pub mod Evidence
+pub mod Real
