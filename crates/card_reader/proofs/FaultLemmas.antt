@@ -6,7 +6,7 @@ use Rattle.std.proofs.lemmas.Bool.Decides.{nat_tests}
 use Rattle.std.proofs.lemmas.List.{map-append}
 use Rattle.card_definitions.proofs.Faults.{first_fault-append}
 use Rattle.card_definitions.specs.Words.{first_fault, ◌⟹◌}
-use Rattle.card_definitions.specs.Cards.{Card, card_fault, cards_of, is_too_long, job_fault, numbered_cards, numbered_from}
+use Rattle.card_definitions.specs.Cards.{Card, card_fault, cards_of, job_fault, numbered_cards, numbered_from}
 use Rattle.card_definitions.specs.declared.CardFault.{CardFault}
 use Rattle.card_definitions.specs.declared.CardFault.TheVariants.{TooLong, NotPrintable, CardTooLong}
 use Rattle.card_reader.specs.Reading.{Tells}

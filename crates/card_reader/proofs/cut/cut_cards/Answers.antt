@@ -1,9 +1,8 @@
-use Rattle.std.proofs.Common.{◌≡◌, ◌<◌, ◌+◌, ◌++◌, ◌∷◌, [], Option, Some, length, map, sym, ◌∙◌, ap, arith}
+use Rattle.std.proofs.Common.{◌≡◌, ◌<◌, ◌+◌, ◌++◌, ◌∷◌, [], length, sym, ◌∙◌, ap, arith}
 use Rattle.std.proofs.lemmas.List.{length-append, map-append}
 use Rattle.std.proofs.lemmas.List.Elements.{All-push}
 use Rattle.std.specs.Option.{option_or}
 use Rattle.card_definitions.specs.Cards.{cards_of}
-use Rattle.card_definitions.specs.declared.CardFault.{CardFault}
 use Rattle.card_reader.specs.Spans.{IsWithin, cards_at, span_bytes}
 use Rattle.card_reader.proofs.CardLemmas.{cards_done, cards_left, cards_more, length-cards_at}
 use Rattle.card_reader.proofs.FaultLemmas.{fault_of_cards, fault_of_cards-append, job_fault-cards, job_fault-within, tells_fault}

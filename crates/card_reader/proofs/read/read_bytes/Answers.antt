@@ -28,3 +28,9 @@ returns-clause-bytes g c = (kept_at_limit _ _ _ c.loop-piece.invariant.bytes (om
 
 pub returns-clause-reads : goal.returns-clause-reads
 returns-clause-reads g c = (kept_at_limit _ _ _ c.loop-piece.invariant.bytes (omega arith)).1
+
+pub returns-in_err-extend_from_slice-clause-no_further : goal.returns-in_err-extend_from_slice-clause-no_further
+returns-in_err-extend_from_slice-clause-no_further g c =
+    let so_far = c.loop-piece.bytes.items in
+    let piece = take c.in_ok-count.count c.read.new.buf in
+    (so_far ++ piece, grind (arith, common_steps, length-append, length-take), Consumes-then _ _ _ so_far piece c.loop-piece.invariant.bytes c.in_ok-count.ensures.bytes.0)

@@ -1,4 +1,4 @@
-use Rattle.std.proofs.Common.{◌≡◌, ◌∙◌, ap, arith, None}
+use Rattle.std.proofs.Common.{◌≡◌, ◌∙◌, arith, None}
 use Rattle.std.proofs.lemmas.Result.{err_from_is_err_and}
 use Rattle.card_definitions.specs.Cards.{cards_of, job_fault}
 use Rattle.card_reader.specs.Reading.{Tells}
