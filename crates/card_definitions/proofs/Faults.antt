@@ -1,0 +1,22 @@
+-- The first fault of two lists of tests, and the tests of a list in two parts.
+use Rattle.std.proofs.Common.{◌≡◌, List, [], ◌∷◌, ◌++◌, Option, Some, None, refl, ap, sym, ◌∙◌}
+use Rattle.std.specs.Option.{option_or}
+use Rattle.std.proofs.lemmas.List.{append_assoc, append-nil}
+use Rattle.card_definitions.specs.Words.{each_behind, first_fault}
+
+-- the first fault of two lists is that of the first, or else that of the second
+pub first_fault-append : {F : Type 0} (xs ys : List (Option F)) → first_fault (xs ++ ys) ≡ option_or (first_fault xs) (first_fault ys)
+first_fault-append [] ys = refl
+first_fault-append (None ∷ xs) ys = first_fault-append xs ys
+first_fault-append (Some fault ∷ xs) ys = refl
+
+-- the elements of the second part stand behind those of the first
+pub each_behind-append : {X Y : Type 0} (f : List X → X → Y) (before xs ys : List X) → each_behind f before (xs ++ ys) ≡ each_behind f before xs ++ each_behind f (before ++ xs) ys
+each_behind-append f before [] ys = ap (λ list. each_behind f list ys) (sym (append-nil before))
+each_behind-append f before (x ∷ xs) ys =
+    ap (λ list. f before x ∷ list) (each_behind-append f (before ++ x ∷ []) xs ys ∙ ap (λ list. each_behind f (before ++ x ∷ []) xs ++ each_behind f list ys) (append_assoc before (x ∷ []) xs))
+
+-- the first fault of a list of tests of which each sees the elements before it
+pub first_fault_behind : {X F : Type 0} (test : List X → X → Option F) (before xs ys : List X)
+    → first_fault (each_behind test before (xs ++ ys)) ≡ option_or (first_fault (each_behind test before xs)) (first_fault (each_behind test (before ++ xs) ys))
+first_fault_behind test before xs ys = ap first_fault (each_behind-append test before xs ys) ∙ first_fault-append (each_behind test before xs) (each_behind test (before ++ xs) ys)

@@ -1,0 +1,3 @@
+mod Examples
+pub mod Faults
+pub mod Trailing

@@ -1,0 +1,4 @@
+mod Examples
+pub mod Names
+pub mod Groups
+pub mod Renamed
