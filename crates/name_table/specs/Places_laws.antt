@@ -6,14 +6,15 @@ use Rattle.std.specs.List.{list_all, suffix_len}
 use Rattle.std.proofs.lemmas.Bool.{eqb-true}
 use Rattle.std.proofs.lemmas.Bool.Decides.{same_from_decides, Decides-like}
 use Rattle.std.proofs.lemmas.Slice.Eq.{bytes_eq-Decides}
-use Rattle.std.proofs.lemmas.List.{take-append-le, take-replicate, drop-replicate, length-replicate, length-take-le}
+use Rattle.std.proofs.lemmas.List.{take-replicate, drop-replicate, length-replicate, length-take-le}
 use Rattle.std.proofs.lemmas.List.Folds.{list_all-append}
 use Rattle.std.proofs.lemmas.List.Sums.{suffix_len-le-length}
 use Rattle.std.proofs.Math.Seq.{take-append-add, take-length}
 use Rattle.card_definitions.specs.Words.{without_trailing}
 use Rattle.card_definitions.specs.Cards.{is_blank, is_printable}
 use Rattle.card_definitions.proofs.Trailing.{trailing_split, without_trailing-append}
-use Rattle.name_table.specs.Names.{IsName, ArePlaces, padded, name_in}
+use Rattle.problem_definitions.specs.Valid.{IsName}
+use Rattle.name_table.specs.Places.{ArePlaces, padded, name_in}
 
 all_blank : (ys : List ℕ) → list_all is_blank ys ≡ true → ys ≡ replicate (length ys) 32
 all_blank [] h = refl
@@ -59,14 +60,31 @@ placed name h = record {
   printable = ap (list_all is_printable) (padded_is name h.short) ∙ list_all-append is_printable name (replicate (8 - length name) 32) ∙ rw h.printable (blanks_pass is_printable (8 - length name) refl);
 }
 
+-- What stands in 8 printable places is a name.
+pub name_stands : (places : List ℕ) → ArePlaces places → IsName (name_in places)
+name_stands places h =
+    let split = trailing_split is_blank places in
+    let lengths : length (name_in places) + length split.0 ≡ 8 = sym (length-append (name_in places) split.0) ∙ ap length (sym split.2) ∙ h.eight in
+    record {
+      short = omega arith;
+      printable = first_pass (list_all is_printable (name_in places)) (list_all is_printable split.0)
+          (sym (list_all-append is_printable (name_in places) split.0) ∙ ap (list_all is_printable) (sym split.2) ∙ h.printable);
+      trimmed = sym (without_trailing-append is_blank (name_in places) split.0 split.1) ∙ ap name_in (sym split.2);
+    }
+  where
+    first_pass : (a b : Bool) → (a && b) ≡ true → a ≡ true
+    first_pass true b e = refl
+    first_pass false b e = cc e
+
 -- A list that none of whose last elements passes is trimmed, and the other way round.
 pub untrimmed : (p : ℕ → Bool) (xs : List ℕ) → (suffix_len p xs ≡ 0 → without_trailing p xs ≡ xs) × (without_trailing p xs ≡ xs → suffix_len p xs ≡ 0)
-untrimmed p xs =
-    (λ e. let all : length xs - suffix_len p xs ≡ length xs = omega arith in rw all (take-length xs),
-    λ e. let bound : suffix_len p xs ≤ length xs = suffix_len-le-length p xs in
+untrimmed p xs = (
+  λ e. let all : length xs - suffix_len p xs ≡ length xs = omega arith in rw all (take-length xs),
+  λ e. let bound : suffix_len p xs ≤ length xs = suffix_len-le-length p xs in
       let kept : length (without_trailing p xs) ≡ length xs - suffix_len p xs = length-take-le (length xs - suffix_len p xs) xs (omega arith) in
       let same : length (without_trailing p xs) ≡ length xs = ap length e in
-      omega arith)
+      omega arith,
+)
 
 -- Equal names stand alike in their places.
 pub places_alike : (x y : List ℕ) → IsTrue (bytes_eq x y) → fed.slice fed.u8 (padded x) ≡ fed.slice fed.u8 (padded y)
@@ -76,4 +94,4 @@ places_alike x y h = let same : x ≡ y = (bytes_eq-Decides x y).0 h in ap (λ n
 pub same_in_places : (a b : List ℕ) → length a ≡ 8 → length b ≡ 8 → bytes_eq a b ≡ bytes_eq (name_in a) (name_in b)
 same_in_places a b a_eight b_eight =
     same_from_decides (bytes_eq a b) (bytes_eq (name_in a) (name_in b)) (bytes_eq-Decides a b)
-      (Decides-like (bytes_eq (name_in a) (name_in b)) (λ e. sym (padded-name_in a a_eight) ∙ ap padded e ∙ padded-name_in b b_eight) (ap name_in) (bytes_eq-Decides (name_in a) (name_in b)))
+    (Decides-like (bytes_eq (name_in a) (name_in b)) (λ e. sym (padded-name_in a a_eight) ∙ ap padded e ∙ padded-name_in b b_eight) (ap name_in) (bytes_eq-Decides (name_in a) (name_in b)))

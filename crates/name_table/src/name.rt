@@ -3,7 +3,8 @@ ghost use Rattle.std.specs.Prelude.{◌≡◌, ◌↔◌, ◌≤◌, length, IsT
 ghost use Rattle.std.specs.List.{list_all, suffix_len};
 ghost use Rattle.card_definitions.specs.Words.{without_trailing};
 ghost use Rattle.card_definitions.specs.Cards.{is_blank, is_printable};
-ghost use Rattle.name_table.specs.Names.{IsName, padded};
+ghost use Rattle.problem_definitions.specs.Valid.{IsName};
+ghost use Rattle.name_table.specs.Places.{padded};
 
 use std::hash::{Hash, Hasher};
 use std::marker::Model;
@@ -19,11 +20,11 @@ pub struct Name {
 }
 
 impl Model for Name {
-    ghost use Rattle.std.specs.Prelude.{List, ℕ};
-    ghost use Rattle.name_table.specs.Names.{name_in, padded, ArePlaces};
+    ghost use Rattle.problem_definitions.specs.Names.{Name as Text};
+    ghost use Rattle.name_table.specs.Places.{name_in, padded, ArePlaces};
     ghost use Rattle.name_table.specs.Places_laws.{padded-name_in};
 
-    ghost Value = { List ℕ };
+    ghost Value = { Text };
 
     ghost view = { λ n. name_in n.places };
 
@@ -50,8 +51,10 @@ impl Name {
     }
 
     /// The bytes of the name.
+    #[tactic(auto, using(crate::specs::Places_laws::name_stands))]
     pub fn bytes(&self) -> &[u8]
-        ensures { result.now ≡ self.now }
+        ensures bytes { result.now ≡ self.now }
+        ensures is_name { IsName self.now }
     {
         without_trailing_blanks(&self.places)
     }

@@ -1,7 +1,8 @@
 // Names in first-seen order, each with its number.
 ghost use Rattle.std.specs.Prelude.{◌≡◌, ◌↔◌, ◌≤◌, ◌<◌, ◌+◌, ◌-◌, ◌++◌, ◌∷◌, [], length, slice_get, IsTrue, IfOk, OnErr};
 ghost use Rattle.std.specs.List.{IsDistinct};
-ghost use Rattle.name_table.specs.Numbers.{number_of, IsTaken, same};
+ghost use Rattle.problem_definitions.specs.Names.{same};
+ghost use Rattle.name_table.specs.Numbers.{number_of, IsTaken};
 
 use crate::name::Name;
 use indexmap::IndexSet;
@@ -36,9 +37,10 @@ pub struct NameTable {
 }
 
 impl Model for NameTable {
-    ghost use Rattle.std.specs.Prelude.{List, ℕ, length, ◌≤◌};
+    ghost use Rattle.std.specs.Prelude.{List, length, ◌≤◌};
+    ghost use Rattle.problem_definitions.specs.Names.{Name as Text};
 
-    ghost Value = { List (List ℕ) };
+    ghost Value = { List Text };
 
     ghost view = { λ table. table.names.keys };
 
