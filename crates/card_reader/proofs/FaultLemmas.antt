@@ -1,0 +1,82 @@
+-- The fault of a job's cards, card by card.
+use Rattle.std.proofs.Common.{◌≡◌, ℕ, ◌+◌, ◌<◌, ◌≤◌, Bool, true, false, ◌||◌, List, [], ◌∷◌, ◌++◌, Option, Some, None, length, map, refl, sym, ◌∙◌, ap, arith, subst}
+use Rattle.std.specs.Prelude.{nat_lt}
+use Rattle.std.specs.Option.{option_or}
+use Rattle.std.proofs.lemmas.Bool.Decides.{nat_tests}
+use Rattle.std.proofs.lemmas.List.{map-append}
+use Rattle.card_definitions.proofs.Faults.{first_fault-append}
+use Rattle.card_definitions.specs.Words.{first_fault, ◌⟹◌}
+use Rattle.card_definitions.specs.Cards.{Card, card_fault, cards_of, job_fault, numbered_cards, numbered_from}
+use Rattle.card_definitions.specs.declared.CardFault.{CardFault}
+use Rattle.card_definitions.specs.declared.CardFault.TheVariants.{TooLong, NotPrintable, CardTooLong}
+use Rattle.card_reader.specs.Reading.{Tells}
+use Rattle.card_reader.specs.Stop.{stop_of}
+use Rattle.card_reader.specs.declared.stop.ReadStop.{ReadStop}
+
+-- the fault of the first card that has one
+abbrev pub fault_of_cards : List (List ℕ) → Option CardFault
+fault_of_cards cards = first_fault (map card_fault (numbered_cards cards))
+
+numbered_from-append : (number : ℕ) (xs ys : List (List ℕ)) → numbered_from number (xs ++ ys) ≡ numbered_from number xs ++ numbered_from (number + length xs) ys
+numbered_from-append number [] ys = let same : number + 0 ≡ number = omega arith in ap (λ n. numbered_from n ys) (sym same)
+numbered_from-append number (x ∷ xs) ys =
+    let next : number + 1 + length xs ≡ number + length (x ∷ xs) = omega arith in
+    ap (λ cards. record { number = number; bytes = x } ∷ cards) (numbered_from-append (number + 1) xs ys ∙ ap (λ n. numbered_from (number + 1) xs ++ numbered_from n ys) next)
+
+first_fault-one : {F : Type 0} (test : Option F) → first_fault (test ∷ []) ≡ test
+first_fault-one None = refl
+first_fault-one (Some fault) = refl
+
+-- one more card
+pub fault_of_cards-append : (cards : List (List ℕ)) (card : List ℕ) (number : ℕ) → number ≡ length cards + 1 → fault_of_cards (cards ++ card ∷ []) ≡ option_or (fault_of_cards cards) (card_fault (record { number = number; bytes = card }))
+fault_of_cards-append cards card number at =
+    let place : 1 + length cards ≡ number = omega arith in
+    let last : Card = record { number = number; bytes = card } in
+    ap (λ list. first_fault (map card_fault list)) (numbered_from-append 1 cards (card ∷ []) ∙ ap (λ n. numbered_cards cards ++ numbered_from n (card ∷ [])) place)
+    ∙ ap first_fault (map-append card_fault (numbered_cards cards) (last ∷ []))
+    ∙ first_fault-append (map card_fault (numbered_cards cards)) (card_fault last ∷ [])
+    ∙ ap (option_or (fault_of_cards cards)) (first_fault-one (card_fault last))
+
+either_true : (a b : Bool) → a ≡ true → (a || b) ≡ true
+either_true true b e = refl
+either_true false b e = cc
+
+or_true : (a b : Bool) → b ≡ true → (a || b) ≡ true
+or_true true b e = refl
+or_true false b e = e
+
+or_false : (a b : Bool) → a ≡ false → b ≡ false → (a || b) ≡ false
+or_false a b e h = cc
+
+-- more bytes than a job may have
+pub job_fault-bytes : (job : List ℕ) → 16400000 < length job → job_fault job ≡ Some TooLong
+unfolding job_fault
+job_fault-bytes job long =
+    let size : nat_lt 16400000 (length job) ≡ true = grind (arith, nat_tests) in
+    ap (λ t. first_fault ((t ⟹ TooLong) ∷ map card_fault (numbered_cards (cards_of job)))) (either_true (nat_lt 16400000 (length job)) (nat_lt 200000 (length (cards_of job))) size)
+
+-- more cards than a job may have
+pub job_fault-cards : (job : List ℕ) → 200000 < length (cards_of job) → job_fault job ≡ Some TooLong
+unfolding job_fault
+job_fault-cards job many =
+    let count : nat_lt 200000 (length (cards_of job)) ≡ true = grind (arith, nat_tests) in
+    ap (λ t. first_fault ((t ⟹ TooLong) ∷ map card_fault (numbered_cards (cards_of job)))) (or_true (nat_lt 16400000 (length job)) (nat_lt 200000 (length (cards_of job))) count)
+
+-- neither, so the fault is that of the first card that has one
+pub job_fault-within : (job : List ℕ) (cards : List (List ℕ)) → length job ≤ 16400000 → length cards ≤ 200000 → cards ≡ cards_of job → job_fault job ≡ fault_of_cards cards
+unfolding job_fault
+job_fault-within job cards short few all =
+    let size : nat_lt 16400000 (length job) ≡ false = grind (arith, nat_tests) in
+    let fewer : length (cards_of job) ≤ 200000 = omega (arith, ap length all) in
+    let count : nat_lt 200000 (length (cards_of job)) ≡ false = grind (arith, nat_tests) in
+    ap (λ t. first_fault ((t ⟹ TooLong) ∷ map card_fault (numbered_cards (cards_of job)))) (or_false (nat_lt 16400000 (length job)) (nat_lt 200000 (length (cards_of job))) size count)
+    ∙ ap fault_of_cards (sym all)
+
+-- the answer that tells a fault
+pub tells_fault : (fault : CardFault) (stop : ReadStop) (found : Option CardFault) → stop ≡ stop_of fault → found ≡ Some fault → Tells stop found
+tells_fault fault stop found same e = let Goal : ReadStop → Type 0 = λ s. Tells s found in subst Goal (sym same) (each fault e)
+  where
+    each : (fault : CardFault) → found ≡ Some fault → Tells (stop_of fault) found
+    each TooLong e = e
+    each (NotPrintable number) e = e
+    each (CardTooLong number) e = e

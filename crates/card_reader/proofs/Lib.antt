@@ -1,0 +1,4 @@
+pub mod CardLemmas
+pub mod FaultLemmas
+pub mod FieldLemmas
+pub mod ReadLemmas

@@ -1,0 +1,4 @@
+pub mod Card
+pub mod Reading
+pub mod Spans
+pub mod Stop

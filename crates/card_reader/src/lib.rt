@@ -1,0 +1,14 @@
+//! Reads a job to its end and cuts it into cards.
+#![tactic(auto)]
+
+mod cards;
+mod cut;
+mod read;
+mod span;
+mod stop;
+#[cfg(test)]
+mod tests;
+
+pub use cards::{Card, Cards};
+pub use read::read_job;
+pub use stop::ReadStop;

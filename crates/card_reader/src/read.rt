@@ -1,0 +1,60 @@
+// Reads a source to its end.
+ghost use Rattle.std.specs.Prelude.{◌≡◌, ◌≤◌, ◌<◌, Option, length, take, IfOk, IfSome, IfErr};
+ghost use Rattle.std.specs.Io.KnownBytes.{Consumes, IsAtEnd};
+ghost use Rattle.card_definitions.specs.Cards.{cards_of};
+ghost use Rattle.card_definitions.specs.declared.CardFault.{CardFault};
+ghost use Rattle.card_reader.specs.Reading.{HasCause, Judges, Reads, ReadsFront, Ends, EndsAtStop, Tells, read_limit};
+
+use crate::ReadStop;
+use crate::cards::Cards;
+use crate::cut::cut_cards;
+use card_definitions::MAX_JOB_BYTES;
+use job_devices::Source;
+use std::alloc::Global;
+
+const PIECE: usize = 65_536;
+
+// The bytes of the source, and one at most behind those that a job may have. A fault of the source and want of memory
+// stop it, and nothing else.
+fn read_bytes<S: Source>(alloc: Global, source: &mut S) -> Result<Vec<u8>, ReadStop>
+    ensures bytes { IfOk result (λ bytes. IfSome (S.left source.old) (λ job. bytes.items ≡ take read_limit job)) }
+    ensures reads { Reads result (S.left source.old) (S.left source.new) }
+    ensures no_further { ReadsFront (S.left source.old) (S.left source.new) }
+    ensures end { IfOk result (λ bytes. length bytes.items ≤ MAX_JOB_BYTES → IsAtEnd (S.left source.new)) }
+    ensures cause { HasCause (S.faults source.old) (S.faults source.new) result }
+    ensures no_card { IfErr result (λ stop. (found : Option CardFault) → Tells stop found) }
+    ensures no_end { IfErr result (λ stop. EndsAtStop stop (S.left source.new)) }
+{
+    let mut bytes = Vec::new(alloc);
+    let mut piece = [0; PIECE];
+    while bytes.len() <= MAX_JOB_BYTES {
+        let room = PIECE.min(MAX_JOB_BYTES + 1 - bytes.len());
+        let count = source.read(&mut piece[..room])?;
+        if count == 0 {
+            return Ok(bytes);
+        }
+        bytes.extend_from_slice(&piece[..count])?;
+    }
+    Ok(bytes)
+}
+
+/// Reads the job to its end and cuts it into cards. Of a job that is too long, no byte behind 16,400,001 is read.
+///
+/// A fault of the source is told first, then a job that is too long, then the first card with a fault. Want of memory
+/// may come before any of these.
+pub fn read_job<S: Source>(alloc: Global, source: &mut S) -> Result<Cards, ReadStop>
+    ensures cards { IfOk result (λ cards. IfSome (S.left source.old) (λ job. cards ≡ cards_of job)) }
+    ensures fault { Judges result (S.left source.old) }
+
+    ensures reads { Reads result (S.left source.old) (S.left source.new) }
+    ensures no_further { ReadsFront (S.left source.old) (S.left source.new) }
+    ensures end { Ends result (S.left source.new) }
+    ensures cause { HasCause (S.faults source.old) (S.faults source.new) result }
+{
+    let bytes = read_bytes(alloc, source)?;
+    if bytes.len() > MAX_JOB_BYTES {
+        return Err(ReadStop::TooLong);
+    }
+    let spans = cut_cards(alloc, &bytes)?;
+    Ok(Cards::new(bytes, spans))
+}

@@ -1,0 +1,5 @@
+pub mod Program
+pub mod Statements
+pub mod Arguments
+pub mod Verbs
+pub mod Compiled

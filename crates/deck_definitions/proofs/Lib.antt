@@ -1,0 +1,5 @@
+mod Examples
+mod Faults
+pub mod Steps
+pub mod Numbered
+pub mod WrittenCards

@@ -1,0 +1,116 @@
+-- What one more card does to the section, to the problem described and to the faults of the cards before it: the steps
+-- of a reader that goes card by card.
+use Rattle.std.proofs.Common.{◌≡◌, ℕ, true, false, cond, List, [], ◌∷◌, ◌++◌, Option, Some, None, refl, ap, ◌∙◌}
+use Rattle.std.specs.List.{cons_option, filter_map, last_or}
+use Rattle.std.specs.Option.{option_or, option_map, option_to_list}
+use Rattle.std.proofs.lemmas.List.Elements.{filter_map-append}
+use Rattle.std.proofs.lemmas.List.{append-nil}
+use Rattle.card_definitions.specs.Words.{each_behind}
+use Rattle.card_definitions.specs.Cards.{Card}
+use Rattle.card_definitions.specs.Fields.{Reading}
+use Rattle.card_definitions.proofs.Faults.{each_behind-append, first_fault_behind}
+use Rattle.problem_definitions.specs.Names.{Name}
+use Rattle.problem_definitions.specs.Problem.{Row, Problem, Group, Entry, Bound}
+use Rattle.problem_definitions.specs.Groups.{grouped, in_set}
+use Rattle.problem_definitions.proofs.Groups.{grouped-push}
+use Rattle.deck_definitions.specs.declared.DeckFaultKind.{DeckFaultKind}
+use Rattle.deck_definitions.specs.declared.Section.{Section}
+use Rattle.deck_definitions.specs.declared.Section.TheVariants.{Header, Rows, Columns, Rhs, Ranges, Bounds, Endata}
+use Rattle.deck_definitions.specs.Sections.{is_section, section_begun, is_section_card, section_after}
+use Rattle.deck_definitions.specs.DataCards.{read_behind, given_by, given, row_of, entry_group, entries_of, bound_group}
+use Rattle.deck_definitions.specs.Described.{described}
+use Rattle.deck_definitions.specs.Conversion.{first_faulty}
+
+cons_option-nil : {A : Type 0} (o : Option A) → cons_option o [] ≡ option_to_list o
+cons_option-nil None = refl
+cons_option-nil (Some x) = refl
+
+pub last_or-push : {A : Type 0} (o : Option A) (xs : List A) (p : Option A) → last_or o (xs ++ option_to_list p) ≡ option_or p (last_or o xs)
+last_or-push o [] None = refl
+last_or-push o [] (Some x) = refl
+last_or-push o (x ∷ xs) p = last_or-push (Some x) xs p
+
+-- the section behind one more card is the one that it begins, or else the one before
+pub section_after-push : (cards : List Card) (card : Card) → section_after (cards ++ card ∷ []) ≡ option_or (section_begun card.bytes) (section_after cards)
+section_after-push cards card =
+    ap (last_or None) (filter_map-append (λ c. section_begun c.bytes) cards (card ∷ []) ∙ ap (λ list. filter_map (λ c. section_begun c.bytes) cards ++ list) (cons_option-nil (section_begun card.bytes)))
+    ∙ last_or-push None (filter_map (λ c. section_begun c.bytes) cards) (section_begun card.bytes)
+
+-- what the elements of a list and those before them gave, with one more element
+pub gathered-push : {X Y : Type 0} (f : List X → X → Option Y) (xs : List X) (x : X)
+    → filter_map (λ gift. gift) (each_behind f [] (xs ++ x ∷ [])) ≡ filter_map (λ gift. gift) (each_behind f [] xs) ++ option_to_list (f xs x)
+gathered-push f xs x =
+    ap (filter_map (λ gift. gift)) (each_behind-append f [] xs (x ∷ []))
+    ∙ filter_map-append (λ gift. gift) (each_behind f [] xs) (f xs x ∷ [])
+    ∙ ap (λ list. filter_map (λ gift. gift) (each_behind f [] xs) ++ list) (cons_option-nil (f xs x))
+
+-- what a section gives with one more card
+pub given-push : {X : Type 0} (section : Section) (give : Reading → Option X) (cards : List Card) (card : Card)
+    → given section give (cards ++ card ∷ []) ≡ given section give cards ++ option_to_list (given_by section give cards card)
+given-push section give cards card = gathered-push (given_by section give) cards card
+
+-- the columns or sets with what one more card adds to the one of its name
+abbrev pub with_group : {X : Type 0} → Option (Group X) → List (Group X) → List (Group X)
+with_group None groups = groups
+with_group (Some group) groups = in_set group.name (λ items. items ++ group.items) groups
+
+-- the problem with one more data card in a section
+abbrev pub with_card : Section → Reading → Problem Name → Problem Name
+with_card Rows card problem = record problem { rows = problem.rows ++ option_to_list (row_of card) }
+with_card Columns card problem = record problem { columns = with_group (entry_group card) problem.columns }
+with_card Rhs card problem = record problem { rhs = with_group (entry_group card) problem.rhs }
+with_card Ranges card problem = record problem { ranges = with_group (entry_group card) problem.ranges }
+with_card Bounds card problem = record problem { bounds = with_group (bound_group card) problem.bounds }
+with_card Header card problem = problem
+with_card Endata card problem = problem
+
+-- what a data card gives to a section, where it stands in this place
+abbrev pub given_in : {X : Type 0} → Section → (Reading → Option X) → Section → Reading → Option X
+given_in section give place card = cond (is_section section place) (give card) None
+
+module _ {X : Type 0} (section : Section) (give : Reading → Option X) (cards : List Card) (card : Card) where
+  -- a data card gives what it holds to its section
+  pub given-data : (place : Section) → is_section_card card.bytes ≡ false → section_after cards ≡ Some place
+      → given section give (cards ++ card ∷ []) ≡ given section give cards ++ option_to_list (given_in section give place (read_behind cards card))
+  given-data place e s = given-push section give cards card ∙ rw (e, s) refl
+
+  -- a section card gives nothing
+  pub given-section : is_section_card card.bytes ≡ true → given section give (cards ++ card ∷ []) ≡ given section give cards
+  given-section e = given-push section give cards card ∙ rw e (append-nil (given section give cards))
+
+module _ (name : Name) (card : Reading) (rows : List Row) (columns rhs ranges : List (Group (Entry Name))) (bounds : List (Group (Bound Name))) where
+  -- the problem of what the sections gave
+  abbrev built : List Row → List (Group (Entry Name)) → List (Group (Entry Name)) → List (Group (Entry Name)) → List (Group (Bound Name)) → Problem Name
+  built rows columns rhs ranges bounds = record { name = name; rows = rows; columns = grouped columns; rhs = grouped rhs; ranges = grouped ranges; bounds = grouped bounds }
+
+  bounds-step : (o : Option (Group (Bound Name))) → grouped (bounds ++ option_to_list o) ≡ with_group o (grouped bounds)
+  bounds-step None = ap grouped (append-nil bounds)
+  bounds-step (Some set) = grouped-push bounds set
+
+  built-step : (place : Section) → built (rows ++ option_to_list (given_in Rows row_of place card)) (columns ++ option_to_list (given_in Columns entry_group place card)) (rhs ++ option_to_list (given_in Rhs entry_group place card))
+      (ranges ++ option_to_list (given_in Ranges entry_group place card)) (bounds ++ option_to_list (given_in Bounds bound_group place card)) ≡ with_card place card (built rows columns rhs ranges bounds)
+  built-step Header = rw (append-nil rows, append-nil columns, append-nil rhs, append-nil ranges, append-nil bounds) refl
+  built-step Rows = rw (append-nil columns, append-nil rhs, append-nil ranges, append-nil bounds) refl
+  built-step Columns = rw (append-nil rows, append-nil rhs, append-nil ranges, append-nil bounds, grouped-push columns (record { name = card.name1; items = entries_of card })) refl
+  built-step Rhs = rw (append-nil rows, append-nil columns, append-nil ranges, append-nil bounds, grouped-push rhs (record { name = card.name1; items = entries_of card })) refl
+  built-step Ranges = rw (append-nil rows, append-nil columns, append-nil rhs, append-nil bounds, grouped-push ranges (record { name = card.name1; items = entries_of card })) refl
+  built-step Bounds = rw (append-nil rows, append-nil columns, append-nil rhs, append-nil ranges, bounds-step (bound_group card)) refl
+  built-step Endata = rw (append-nil rows, append-nil columns, append-nil rhs, append-nil ranges, append-nil bounds) refl
+
+-- One more data card changes the problem by one list edit; a section card changes nothing.
+pub described-data : (name : Name) (cards : List Card) (card : Card) (place : Section) → is_section_card card.bytes ≡ false → section_after cards ≡ Some place
+    → described name (cards ++ card ∷ []) ≡ with_card place (read_behind cards card) (described name cards)
+unfolding described
+described-data name cards card place e s =
+    rw (given-data Rows row_of cards card place e s, given-data Columns entry_group cards card place e s, given-data Rhs entry_group cards card place e s, given-data Ranges entry_group cards card place e s, given-data Bounds bound_group cards card place e s)
+    (built-step name (read_behind cards card) (given Rows row_of cards) (given Columns entry_group cards) (given Rhs entry_group cards) (given Ranges entry_group cards) (given Bounds bound_group cards) place)
+
+pub described-section : (name : Name) (cards : List Card) (card : Card) → is_section_card card.bytes ≡ true → described name (cards ++ card ∷ []) ≡ described name cards
+unfolding described
+described-section name cards card e =
+    rw (given-section Rows row_of cards card e, given-section Columns entry_group cards card e, given-section Rhs entry_group cards card e, given-section Ranges entry_group cards card e, given-section Bounds bound_group cards card e) refl
+
+-- the first faulty card of two parts is that of the first, or else that of the second behind it
+pub first_faulty-append : (test : List Card → List ℕ → Option DeckFaultKind) (before cards after : List Card)
+    → first_faulty test before (cards ++ after) ≡ option_or (first_faulty test before cards) (first_faulty test (before ++ cards) after)
+first_faulty-append test before cards after = first_fault_behind (λ before card. option_map (λ kind. record { card = card.number; kind = kind }) (test before card.bytes)) before cards after

@@ -1,0 +1,84 @@
+-- The first fault of a data deck, and the problem of a deck without one.
+use Rattle.std.specs.Prelude.{ℕ, Bool, false, not, List, [], ◌∷◌, Option, Some, None, Result, if◌then◌else◌, unwrap_or, option_map}
+use Rattle.card_definitions.specs.Words.{named, each_behind, ◌⟹◌, first_fault, unless}
+use Rattle.card_definitions.specs.Cards.{Card, live, last_number}
+use Rattle.card_definitions.specs.Fields.{Form, Fixed, Reading, reading_of, gaps_are_blank}
+use Rattle.problem_definitions.specs.Names.{Name}
+use Rattle.problem_definitions.specs.Problem.{Problem}
+use Rattle.problem_definitions.specs.Numbering.{numbered}
+use Rattle.deck_definitions.specs.declared.DeckFault.{DeckFault}
+use Rattle.deck_definitions.specs.declared.DeckFaultKind.{DeckFaultKind}
+use Rattle.deck_definitions.specs.declared.DeckFaultKind.TheVariants.{SectionOrder, UnknownSection, NoEndata, ExtraField}
+use Rattle.deck_definitions.specs.declared.Section.{Section}
+use Rattle.deck_definitions.specs.declared.Section.TheVariants.{Header, Rows, Columns, Rhs, Ranges, Bounds, Endata}
+use Rattle.deck_definitions.specs.Sections.{is_section, may_follow, section_words, section_word, is_section_card, section_after, header_name}
+use Rattle.deck_definitions.specs.DataCards.{form_of}
+use Rattle.deck_definitions.specs.Described.{described}
+use Rattle.deck_definitions.specs.Tests.{rows_fault, columns_fault, set_fault, bounds_fault}
+
+-- The tests of a section card, by a rule that says what may follow: the first card of a deck is a NAME card, and every
+-- other begins a known section that may follow the one before.
+abbrev pub section_card_fault : (Section → Section → Bool) → Option Section → List ℕ → Option DeckFaultKind
+section_card_fault follows before card = by before (named section_words (section_word card))
+  where
+    by : Option Section → Option Section → Option DeckFaultKind
+    by None (Some Header) = None
+    by None _ = Some SectionOrder
+    by (Some before) None = Some UnknownSection
+    by (Some before) (Some section) = not (follows before section) ⟹ SectionOrder
+
+-- whether the card has the form of the deck's data cards: at fixed columns, the gaps between the fields are blank
+abbrev pub form_fault : Form → List ℕ → Option DeckFaultKind
+form_fault Fixed card = not (gaps_are_blank card) ⟹ ExtraField
+
+-- the tests of a data card in its section
+abbrev pub section_fault : Problem Name → Section → Reading → Option DeckFaultKind
+section_fault seen Rows card = rows_fault seen card
+section_fault seen Columns card = columns_fault seen card
+section_fault seen Rhs card = set_fault seen Rhs seen.rhs card
+section_fault seen Ranges card = set_fault seen Ranges seen.ranges card
+section_fault seen Bounds card = bounds_fault seen card
+section_fault seen Header card = Some SectionOrder
+section_fault seen Endata card = Some SectionOrder
+
+-- a data card stands in a section after NAME; it has its form, and passes the tests of its section
+abbrev pub data_card_fault : Problem Name → Form → Option Section → List ℕ → Option DeckFaultKind
+data_card_fault seen form None card = Some SectionOrder
+data_card_fault seen form (Some Header) card = Some SectionOrder
+data_card_fault seen form (Some section) card = first_fault (
+    form_fault form card ∷
+    section_fault seen section (reading_of form card) ∷ [])
+
+-- The fault of a card, as a condition on it and on the cards before it in the deck.
+unfoldable pub card_fault : List Card → List ℕ → Option DeckFaultKind
+card_fault before card =
+    if is_section_card card then section_card_fault may_follow (section_after before) card
+    else data_card_fault (described [] before) (form_of before) (section_after before) card
+
+-- the first fault that a test finds in a list of cards, behind the cards before it
+abbrev pub first_faulty : (List Card → List ℕ → Option DeckFaultKind) → List Card → List Card → Option DeckFault
+first_faulty test before cards = first_fault (each_behind (λ before card. option_map (λ kind. record { card = card.number; kind = kind }) (test before card.bytes)) before cards)
+
+-- whether the last section that began is ENDATA
+abbrev pub is_ended : List Card → Bool
+is_ended cards = unwrap_or (option_map (is_section Endata) (section_after cards)) false
+
+-- The fault of a deck, by a test of a card behind others: that of the first faulty card, or else that the deck isn't
+-- ended, on its last card. Skipped cards are left out.
+abbrev pub fault_by : (List Card → List ℕ → Option DeckFaultKind) → List Card → Option DeckFault
+fault_by test deck = first_fault (
+    first_faulty test [] (live deck) ∷
+    (not (is_ended (live deck)) ⟹ record { card = last_number deck; kind = NoEndata }) ∷ [])
+
+-- The first fault of a data deck.
+unfoldable pub deck_fault : List Card → Option DeckFault
+deck_fault deck = fault_by card_fault deck
+
+-- the name on the first card
+abbrev pub deck_name : List Card → Name
+deck_name [] = []
+deck_name (card ∷ cards) = header_name card.bytes
+
+-- What a data deck converts to: its first fault, or the problem that it describes, under this name or else its own.
+unfoldable pub conversion : List Card → Option Name → Result (Problem ℕ) DeckFault
+conversion deck name = unless (deck_fault deck) (numbered (described (unwrap_or name (deck_name (live deck))) (live deck)))

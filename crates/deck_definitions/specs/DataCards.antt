@@ -1,0 +1,77 @@
+-- The data cards of a deck, and what each holds.
+use Rattle.std.specs.Prelude.{ℕ, Bool, false, not, ◌&&◌, List, [], ◌∷◌, Option, Some, None, codes, if◌then◌else◌, unwrap_or, option_map, map, filter_map}
+use Rattle.card_definitions.specs.Words.{named, is_empty, each_behind}
+use Rattle.card_definitions.specs.Cards.{Card}
+use Rattle.card_definitions.specs.Fields.{Form, Fixed, Reading, reading_of}
+use Rattle.card_definitions.specs.Numbers.{decimal_of}
+use Rattle.problem_definitions.specs.declared.RowKind.{RowKind}
+use Rattle.problem_definitions.specs.declared.RowKind.TheVariants.{N, G, L, E}
+use Rattle.problem_definitions.specs.declared.BoundKind.{BoundKind}
+use Rattle.problem_definitions.specs.declared.BoundKind.TheVariants.{Up, Lo, Fx, Fr, Mi, Pl}
+use Rattle.problem_definitions.specs.Names.{Name}
+use Rattle.problem_definitions.specs.Kinds.{takes_value}
+use Rattle.problem_definitions.specs.Problem.{Row, Entry, Bound, Group}
+use Rattle.deck_definitions.specs.declared.Section.{Section}
+use Rattle.deck_definitions.specs.Sections.{is_section, is_section_card, section_after}
+
+-- the form of a deck's data cards, by the deck's cards
+abbrev pub form_of : List Card → Form
+form_of cards = Fixed
+
+-- what is read of a data card behind others of its deck
+abbrev pub read_behind : List Card → Card → Reading
+read_behind before card = reading_of (form_of before) card.bytes
+
+-- whether a card, behind others, is a data card of this section
+abbrev pub is_data_card_of : Section → List Card → Card → Bool
+is_data_card_of section before card = not (is_section_card card.bytes) && unwrap_or (option_map (is_section section) (section_after before)) false
+
+-- what a card, behind others, gives as a data card of this section
+abbrev pub given_by : {X : Type 0} → Section → (Reading → Option X) → List Card → Card → Option X
+given_by section give before card = if is_data_card_of section before card then give (read_behind before card) else None
+
+-- what the data cards of one section give, in order
+abbrev pub given : {X : Type 0} → Section → (Reading → Option X) → List Card → List X
+given section give cards = filter_map (λ gift. gift) (each_behind (given_by section give) [] cards)
+
+-- the row types and the bound types, by the words in field 1
+abbrev pub row_kinds : List (List ℕ × RowKind)
+row_kinds = (codes "N", N) ∷ (codes "G", G) ∷ (codes "L", L) ∷ (codes "E", E) ∷ []
+
+abbrev pub bound_kinds : List (List ℕ × BoundKind)
+bound_kinds = (codes "UP", Up) ∷ (codes "LO", Lo) ∷ (codes "FX", Fx) ∷ (codes "FR", Fr) ∷ (codes "MI", Mi) ∷ (codes "PL", Pl) ∷ []
+
+-- the row on a card of ROWS: its type in field 1, its name in field 2
+abbrev pub row_of : Reading → Option Row
+row_of card = option_map (λ kind. record { kind = kind; name = card.name1 }) (named row_kinds card.kind)
+
+-- A pair of a card of COLUMNS, RHS or RANGES: the name of a row, the field of its number, and the column where that
+-- field begins.
+pub record Pair : Type 0 where
+  pub row : Name
+  pub value : List ℕ
+  pub column : ℕ
+
+-- fields 3 and 4, and fields 5 and 6 where one of these isn't blank
+abbrev pub pairs_of : Reading → List Pair
+pairs_of card =
+    record { row = card.name2; value = card.value1; column = card.value1_column } ∷
+    (if is_empty card.name3 && is_empty card.value2 then [] else record { row = card.name3; value = card.value2; column = card.value2_column } ∷ [])
+
+abbrev pub entry_of : Pair → Entry Name
+entry_of pair = record { row = pair.row; value = decimal_of pair.value }
+
+abbrev pub entries_of : Reading → List (Entry Name)
+entries_of card = map entry_of (pairs_of card)
+
+-- the entries that a card adds to the column or set in field 2
+abbrev pub entry_group : Reading → Option (Group (Entry Name))
+entry_group card = Some (record { name = card.name1; items = entries_of card })
+
+-- the bound of a type on a card of BOUNDS: its column in field 3, its value in field 4 if it takes one
+abbrev pub bound_of : Reading → BoundKind → Bound Name
+bound_of card kind = record { kind = kind; column = card.name2; value = if takes_value kind then Some (decimal_of card.value1) else None }
+
+-- the bound that a card adds to the set in field 2
+abbrev pub bound_group : Reading → Option (Group (Bound Name))
+bound_group card = option_map (λ kind. record { name = card.name1; items = bound_of card kind ∷ [] }) (named bound_kinds card.kind)

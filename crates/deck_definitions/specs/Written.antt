@@ -1,0 +1,66 @@
+-- The deck that is written for a problem.
+use Rattle.std.specs.Prelude.{ℕ, ◌-◌, List, [], ◌∷◌, ◌++◌, codes, if◌then◌else◌, unwrap_or, option_map, map, flat_map, length, replicate, take}
+use Rattle.card_definitions.specs.Words.{without_trailing, is_empty}
+use Rattle.card_definitions.specs.Cards.{is_blank}
+use Rattle.problem_definitions.specs.declared.RowKind.{RowKind}
+use Rattle.problem_definitions.specs.declared.RowKind.TheVariants.{N, G, L, E}
+use Rattle.problem_definitions.specs.declared.BoundKind.{BoundKind}
+use Rattle.problem_definitions.specs.declared.BoundKind.TheVariants.{Up, Lo, Fx, Fr, Mi, Pl}
+use Rattle.problem_definitions.specs.Names.{Name}
+use Rattle.problem_definitions.specs.Problem.{Row, Entry, Bound, Group, Problem}
+
+-- a text filled up with blanks to a width
+abbrev pub padded : ℕ → List ℕ → List ℕ
+padded width text = text ++ replicate (width - length text) 32
+
+abbrev pub row_kind_text : RowKind → List ℕ
+row_kind_text N = codes "N"
+row_kind_text G = codes "G"
+row_kind_text L = codes "L"
+row_kind_text E = codes "E"
+
+abbrev pub bound_kind_text : BoundKind → List ℕ
+bound_kind_text Up = codes "UP"
+bound_kind_text Lo = codes "LO"
+bound_kind_text Fx = codes "FX"
+bound_kind_text Fr = codes "FR"
+bound_kind_text Mi = codes "MI"
+bound_kind_text Pl = codes "PL"
+
+-- a data card with these fields 1 to 4, each at the left of its columns, up to its last byte that isn't blank
+unfoldable pub data_card : List ℕ → Name → Name → List ℕ → List ℕ
+data_card kind name1 name2 value = without_trailing is_blank (codes " " ++ padded 2 kind ++ codes " " ++ padded 8 name1 ++ codes "  " ++ padded 8 name2 ++ codes "  " ++ value)
+
+abbrev pub row_card : Row → List ℕ
+row_card row = data_card (row_kind_text row.kind) row.name [] []
+
+-- one card per entry of a column, or per item of a set of right-hand sides or ranges
+abbrev pub entry_cards : Group (Entry Name) → List (List ℕ)
+entry_cards group = map (λ entry. data_card [] group.name entry.row entry.value.text) group.items
+
+-- a column without entries has a card with the number 0 on the first row, if there is a row
+abbrev pub column_cards : List Row → Group (Entry Name) → List (List ℕ)
+column_cards rows column = if is_empty column.items then map (λ row. data_card [] column.name row.name (codes "0")) (take 1 rows) else entry_cards column
+
+-- one card per item of a set of bounds
+abbrev pub bound_cards : Group (Bound Name) → List (List ℕ)
+bound_cards set = map (λ bound. data_card (bound_kind_text bound.kind) set.name bound.column (unwrap_or (option_map (λ value. value.text) bound.value) [])) set.items
+
+-- a section of sets, which is there only where there is a set
+abbrev pub set_section : {X : Type 0} → List ℕ → (Group X → List (List ℕ)) → List (Group X) → List (List ℕ)
+set_section word cards sets = if is_empty sets then [] else word ∷ flat_map cards sets
+
+-- The cards written for a problem: one per row, one per entry and one per item of a set, each under its section's card.
+unfoldable pub written : Problem Name → List (List ℕ)
+written problem =
+    without_trailing is_blank (codes "NAME          " ++ problem.name) ∷
+    codes "ROWS" ∷ (map row_card problem.rows ++
+    codes "COLUMNS" ∷ (flat_map (column_cards problem.rows) problem.columns ++
+    set_section (codes "RHS") entry_cards problem.rhs ++
+    set_section (codes "RANGES") entry_cards problem.ranges ++
+    set_section (codes "BOUNDS") bound_cards problem.bounds ++
+    codes "ENDATA" ∷ []))
+
+-- the text of cards: each ends with a line feed
+abbrev pub card_text : List (List ℕ) → List ℕ
+card_text cards = flat_map (λ card. card ++ 10 ∷ []) cards

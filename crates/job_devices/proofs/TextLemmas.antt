@@ -1,0 +1,99 @@
+-- One text after another, and where a stop comes between.
+use Rattle.std.proofs.Common.{◌≡◌, ℕ, List, [], ◌++◌, take, drop, Option, Some, None, Result, Ok, Err, sym, ◌∙◌, ap, append_assoc, length, get_or, suc, ◌-◌, ◌<◌, arith, subst}
+use Rattle.std.proofs.Math.Seq.{drop-cons}
+use Rattle.std.proofs.lemmas.List.Concat.{flat_map-append, flat_map-cons}
+use Rattle.std.proofs.lemmas.List.{append-nil, take-append-drop, take_all, length-drop}
+use Rattle.std.specs.Io.KnownBytes.{Appends, Keeps}
+use Rattle.job_devices.specs.Causes.{Rose}
+use Rattle.std.specs.List.{flat_map}
+use Rattle.job_devices.specs.Text.{AppendsFront, Puts, Writes}
+use Rattle.job_devices.specs.declared.device.WriteStop.{WriteStop}
+
+pub Appends-then : (a b c : Option (List ℕ)) (x y : List ℕ) → Appends a b x → Appends b c y → Appends a c (x ++ y)
+Appends-then None b c x y p q = tt
+Appends-then (Some xs) None c x y p q = absurd p
+Appends-then (Some xs) (Some ys) None x y p q = absurd q
+Appends-then (Some xs) (Some ys) (Some zs) x y p q = q ∙ ap (λ w. w ++ y) p ∙ append_assoc xs x y
+
+-- what keeps appends nothing
+pub Appends-keeps : (a b c : Option (List ℕ)) (x : List ℕ) → Appends a b x → Keeps b c → Appends a c x
+Appends-keeps None b c x p q = tt
+Appends-keeps (Some xs) None c x p q = absurd p
+Appends-keeps (Some xs) (Some ys) None x p q = absurd q
+Appends-keeps (Some xs) (Some ys) (Some zs) x p q = q ∙ p
+
+pub Appends-nothing : (a b : Option (List ℕ)) → Keeps a b → Appends a b []
+Appends-nothing None b p = tt
+Appends-nothing (Some xs) None p = absurd p
+Appends-nothing (Some xs) (Some ys) p = p ∙ sym (append-nil xs)
+
+-- a front of a text that was appended, where nothing came behind it
+pub front_kept : (a b c : Option (List ℕ)) (n : ℕ) (text : List ℕ) → Appends a b (take n text) → Keeps b c → AppendsFront a c text
+front_kept a b c n text p q = (take n text, (drop n text, take-append-drop n text), Appends-keeps a b c (take n text) p q)
+
+-- a front of a text is one of that text with more behind it
+pub AppendsFront-more : (a b : Option (List ℕ)) (x y : List ℕ) → AppendsFront a b x → AppendsFront a b (x ++ y)
+AppendsFront-more a b x y p = (p.0, (p.1.0 ++ y, sym (append_assoc p.0 p.1.0 y) ∙ ap (λ w. w ++ y) p.1.1), p.2)
+
+-- a text, and then a front of the next
+pub AppendsFront-then : (a b c : Option (List ℕ)) (x y : List ℕ) → Appends a b x → AppendsFront b c y → AppendsFront a c (x ++ y)
+AppendsFront-then a b c x y p q =
+    (x ++ q.0, (q.1.0, append_assoc x q.0 q.1.0 ∙ ap (λ w. x ++ w) q.1.1), Appends-then a b c x q.0 p q.2)
+
+-- a text, and then what a call writes
+pub Puts-then : {T E : Type 0} (a b c : Option (List ℕ)) (r : Result T E) (x y : List ℕ) → Appends a b x → Puts b c r y → Puts a c r (x ++ y)
+Puts-then a b c (Ok v) x y p q = Appends-then a b c x y p q
+Puts-then a b c (Err e) x y p q = AppendsFront-then a b c x y p q
+
+-- one more piece of the rest, as `&rest[n..]` is written
+pub moves_on : (front rest piece : List ℕ) (n : ℕ) → front ++ rest ≡ piece → (front ++ take n rest) ++ take (length rest - n) (drop n rest) ≡ piece
+moves_on front rest piece n e =
+    rw (take_all (length rest - n) (drop n rest) (omega (arith, length-drop n rest)))
+    (append_assoc front (take n rest) (drop n rest) ∙ ap (λ w. front ++ w) (take-append-drop n rest) ∙ e)
+
+-- a call that writes a text, and then one that writes the next
+pub writes_then : {P T U : Type 0} {written : P → Option (List ℕ)} {faults refusals : P → ℕ} {a b c : P} {r : Result T WriteStop} {done : U} {x y : List ℕ} → Writes written faults refusals a b (Ok done) x → Writes written faults refusals b c r y → Writes written faults refusals a c r (x ++ y)
+writes_then {written = written} {faults = faults} {refusals = refusals} {a = a} {b = b} {c = c} {r = r} {x = x} {y = y} p q = record {
+  bytes = Puts-then (written a) (written b) (written c) r x y p.bytes q.bytes;
+  cause = record {
+    later = omega arith;
+    later_refusals = omega arith;
+    failed = λ h. let rose : Rose (faults b) (faults c) = q.cause.failed h in omega arith;
+    no_memory = λ h. let rose : Rose (refusals b) (refusals c) = q.cause.no_memory h in omega arith;
+  };
+}
+
+-- a stop in a text is one in that text with more behind it
+pub writes_more : {P T : Type 0} {written : P → Option (List ℕ)} {faults refusals : P → ℕ} {a b : P} {stop : WriteStop} {x : List ℕ} (y : List ℕ) → Writes {T = T} written faults refusals a b (Err stop) x → Writes {T = T} written faults refusals a b (Err stop) (x ++ y)
+writes_more {written = written} {a = a} {b = b} {x = x} y p = record {
+  bytes = AppendsFront-more (written a) (written b) x y p.bytes;
+  cause = p.cause;
+}
+
+-- the same text, written down in another way
+pub writes_same : {P T : Type 0} {written : P → Option (List ℕ)} {faults refusals : P → ℕ} {a b : P} {r : Result T WriteStop} {x y : List ℕ} → x ≡ y → Writes written faults refusals a b r x → Writes written faults refusals a b r y
+writes_same {written = written} {faults = faults} {refusals = refusals} {a = a} {b = b} {r = r} e p = let Goal : List ℕ → Type 0 = λ w. Writes written faults refusals a b r w in subst Goal e p
+
+-- nothing is written
+pub writes_nothing : {P T : Type 0} (written : P → Option (List ℕ)) (faults refusals : P → ℕ) (a : P) (done : T) → Writes written faults refusals a a (Ok done) []
+writes_nothing written faults refusals a done = record {
+  bytes = nothing (written a);
+  cause = record { later = omega arith; later_refusals = omega arith; failed = λ h. (cc); no_memory = λ h. (cc) };
+}
+  where
+    nothing : (known : Option (List ℕ)) → Appends known known []
+    nothing None = tt
+    nothing (Some xs) = sym (append-nil xs)
+
+-- the texts of the items before one, its text, and the texts of those behind it
+pub flat_map_around : {X : Type 0} (f : X → List ℕ) (xs : List X) (i : ℕ) (d : X) → i < length xs → (flat_map f (take i xs) ++ f (get_or xs i d)) ++ flat_map f (drop (suc i) xs) ≡ flat_map f xs
+flat_map_around f xs i d inside =
+    append_assoc (flat_map f (take i xs)) (f (get_or xs i d)) (flat_map f (drop (suc i) xs))
+    ∙ ap (λ w. flat_map f (take i xs) ++ w) (sym (flat_map-cons f (get_or xs i d) (drop (suc i) xs)))
+    ∙ ap (λ w. flat_map f (take i xs) ++ flat_map f w) (sym (drop-cons xs i d inside))
+    ∙ sym (flat_map-append f (take i xs) (drop i xs))
+    ∙ ap (flat_map f) (take-append-drop i xs)
+
+-- a stop in the text of one item, behind the texts of those before it
+pub writes_item : {P T U X : Type 0} {written : P → Option (List ℕ)} {faults refusals : P → ℕ} {a b c : P} {stop : WriteStop} {done : U} (f : X → List ℕ) (xs : List X) (i : ℕ) (d : X) → i < length xs → Writes written faults refusals a b (Ok done) (flat_map f (take i xs)) → Writes {T = T} written faults refusals b c (Err stop) (f (get_or xs i d)) → Writes {T = T} written faults refusals a c (Err stop) (flat_map f xs)
+writes_item f xs i d inside so_far stopped = writes_same (flat_map_around f xs i d inside) (writes_more (flat_map f (drop (suc i) xs)) (writes_then so_far stopped))

@@ -1,0 +1,12 @@
+//! Where a job comes from and where its listing goes: sources and sinks of bytes that count their own faults.
+#![tactic(auto)]
+
+mod device;
+mod memory;
+mod stream;
+#[cfg(test)]
+mod tests;
+
+pub use device::{Failed, NoMemory, Sink, Source, WriteStop, put_all, put_each};
+pub use memory::{MemorySink, MemorySource, SureSink, SureSource};
+pub use stream::{StreamSink, StreamSource};

@@ -1,0 +1,235 @@
+// Sources and sinks in memory, for tests and for whoever has the whole job at hand.
+ghost use Rattle.std.specs.Prelude.{◌≡◌, ◌↔◌, ◌≤◌, [], ◌++◌, List, Option, Some, length, take, min, if◌then◌else◌, is_err, Contains, IfOk, IsOk, OnOk, OnErr, IsErr, IsErrOf};
+ghost use Rattle.std.specs.Io.{ReadsAtMost, WritesAtMost};
+ghost use Rattle.std.specs.Io.KnownBytes.{ReadConsumes, WriteAppends};
+
+use crate::{Failed, NoMemory, Sink, Source, WriteStop};
+use std::alloc::Global;
+
+/// Gives the bytes that it holds. The reads whose numbers are listed fail.
+#[derive(Drop)]
+pub struct MemorySource {
+    bytes: Vec<u8>,
+    at: usize,
+    fails: Vec<u64>,
+    reads: u64,
+    faults: u64,
+    ghost in_range: { at ≤ length bytes.items },
+}
+
+/// Gives the bytes that it holds, and never fails.
+#[derive(Drop)]
+pub struct SureSource {
+    bytes: Vec<u8>,
+    at: usize,
+    ghost in_range: { at ≤ length bytes.items },
+}
+
+/// Keeps what is written. The writes whose numbers are listed fail.
+#[derive(Drop)]
+pub struct MemorySink {
+    bytes: Vec<u8>,
+    fails: Vec<u64>,
+    writes: u64,
+    faults: u64,
+    refusals: u64,
+}
+
+/// Keeps what is written, and fails only for want of memory.
+#[derive(Drop)]
+pub struct SureSink {
+    bytes: Vec<u8>,
+    refusals: u64,
+}
+
+// Copies as much of the front as there is room for, and says how much.
+fn copy_front(from: &[u8], buf: &mut [u8]) -> usize
+    ensures count { result ≡ min (length from.now) (length buf.old) }
+    ensures length { length buf.new ≡ length buf.old }
+    ensures copied { take result buf.new ≡ take result from.now }
+{
+    let count = from.len().min(buf.len());
+    buf[..count].copy_from_slice(&from[..count]);
+    count
+}
+
+impl MemorySource {
+    ghost use Rattle.job_devices.specs.Memory.{source_left, failing_reads, reads_made, reads_failed};
+
+    /// A source of a copy of these bytes, whose reads with these numbers fail.
+    pub fn new(alloc: Global, bytes: &[u8], fails: &[u64]) -> Result<MemorySource, NoMemory>
+        ensures bytes { IfOk result (λ source. source_left source ≡ bytes.now) }
+        ensures fails { IfOk result (λ source. failing_reads source ≡ fails.now) }
+        ensures reads { IfOk result (λ source. reads_made source ≡ 0) }
+        ensures faults { IfOk result (λ source. reads_failed source ≡ 0) }
+    {
+        Ok(MemorySource {
+            bytes: Vec::from_slice(alloc, bytes)?,
+            at: 0,
+            fails: Vec::from_slice(alloc, fails)?,
+            reads: 0,
+            faults: 0,
+        })
+    }
+}
+
+impl Source for MemorySource {
+    ghost use Rattle.job_devices.specs.Causes.{HasReadCause, next_count};
+    ghost use Rattle.job_devices.specs.Memory.{source_left, failing_reads, reads_made, reads_failed};
+
+    ghost left = { λ s. Some (source_left s) };
+
+    ghost faults = { λ s. reads_failed s };
+
+    fn read(&mut self, buf: &mut [u8]) -> Result<usize, Failed>
+        ensures bound { ReadsAtMost result buf.new }
+        ensures bytes { ReadConsumes (Some (source_left self.old)) (Some (source_left self.new)) result buf.new }
+        ensures cause { HasReadCause (reads_failed self.old) (reads_failed self.new) result }
+
+        // The listed reads fail, and no others.
+        ensures listed { IsErr result ↔ Contains (failing_reads self.old) (reads_made self.new) }
+        ensures fails { failing_reads self.new ≡ failing_reads self.old }
+        ensures reads { reads_made self.new ≡ next_count (reads_made self.old) }
+        ensures count { reads_failed self.new ≡ (if is_err result then next_count (reads_failed self.old) else reads_failed self.old) }
+    {
+        self.reads = self.reads.saturating_add(1);
+        if self.fails.contains(&self.reads) {
+            self.faults = self.faults.saturating_add(1);
+            return Err(Failed);
+        }
+        let count = copy_front(&self.bytes[self.at..], buf);
+        self.at += count;
+        Ok(count)
+    }
+}
+
+impl SureSource {
+    ghost use Rattle.job_devices.specs.Memory.{sure_left};
+
+    /// A source of a copy of these bytes.
+    pub fn new(alloc: Global, bytes: &[u8]) -> Result<SureSource, NoMemory>
+        ensures { IfOk result (λ source. sure_left source ≡ bytes.now) }
+    {
+        Ok(SureSource {
+            bytes: Vec::from_slice(alloc, bytes)?,
+            at: 0,
+        })
+    }
+}
+
+impl Source for SureSource {
+    ghost use Rattle.job_devices.specs.Memory.{sure_left};
+
+    ghost left = { λ s. Some (sure_left s) };
+
+    ghost faults = { λ _. 0 };
+
+    fn read(&mut self, buf: &mut [u8]) -> Result<usize, Failed> {
+        let count = copy_front(&self.bytes[self.at..], buf);
+        self.at += count;
+        Ok(count)
+    }
+}
+
+impl MemorySink {
+    ghost use Rattle.job_devices.specs.Memory.{sink_bytes, failing_writes, writes_made, writes_failed};
+
+    /// A sink that holds nothing yet, whose writes with these numbers fail.
+    pub fn new(alloc: Global, fails: &[u64]) -> Result<MemorySink, NoMemory>
+        ensures bytes { IfOk result (λ sink. sink_bytes sink ≡ []) }
+        ensures fails { IfOk result (λ sink. failing_writes sink ≡ fails.now) }
+        ensures writes { IfOk result (λ sink. writes_made sink ≡ 0) }
+        ensures faults { IfOk result (λ sink. writes_failed sink ≡ 0) }
+    {
+        Ok(MemorySink {
+            bytes: Vec::new(alloc),
+            fails: Vec::from_slice(alloc, fails)?,
+            writes: 0,
+            faults: 0,
+            refusals: 0,
+        })
+    }
+
+    /// What was written.
+    pub fn bytes(&self) -> &[u8]
+        ensures { result.now ≡ sink_bytes self.now }
+    {
+        &self.bytes
+    }
+}
+
+impl Sink for MemorySink {
+    ghost use Rattle.job_devices.specs.Causes.{HasWriteCause, next_count};
+    ghost use Rattle.job_devices.specs.Memory.{sink_bytes, failing_writes, writes_made, writes_failed, writes_refused};
+
+    ghost written = { λ s. Some (sink_bytes s) };
+
+    ghost faults = { λ s. writes_failed s };
+
+    ghost refusals = { λ s. writes_refused s };
+
+    fn write(&mut self, piece: &[u8]) -> Result<usize, WriteStop>
+        ensures bound { WritesAtMost result piece.now }
+        ensures some { IfOk result (λ taken. taken ≡ 0 → length piece.now ≡ 0) }
+        ensures bytes { WriteAppends (Some (sink_bytes self.old)) (Some (sink_bytes self.new)) result piece.now }
+        ensures cause { HasWriteCause (writes_failed self.old) (writes_failed self.new) (writes_refused self.old) (writes_refused self.new) result }
+
+        // The listed writes fail, and no others.
+        ensures listed { IsErrOf result WriteStop.Failed ↔ Contains (failing_writes self.old) (writes_made self.new) }
+        ensures fails { failing_writes self.new ≡ failing_writes self.old }
+        ensures writes { writes_made self.new ≡ next_count (writes_made self.old) }
+        ensures failed { IsErrOf result WriteStop.Failed → writes_failed self.new ≡ next_count (writes_failed self.old) }
+        ensures others { (IsErrOf result WriteStop.Failed → ⊥) → writes_failed self.new ≡ writes_failed self.old }
+    {
+        self.writes = self.writes.saturating_add(1);
+        if self.fails.contains(&self.writes) {
+            self.faults = self.faults.saturating_add(1);
+            return Err(WriteStop::Failed);
+        }
+        if self.bytes.extend_from_slice(piece).is_err() {
+            self.refusals = self.refusals.saturating_add(1);
+            return Err(WriteStop::NoMemory);
+        }
+        Ok(piece.len())
+    }
+}
+
+impl SureSink {
+    ghost use Rattle.job_devices.specs.Memory.{sure_bytes};
+
+    /// A sink that holds nothing yet.
+    pub fn new(alloc: Global) -> Result<SureSink, NoMemory>
+        ensures ok { IsOk result }
+        ensures bytes { IfOk result (λ sink. sure_bytes sink ≡ []) }
+    {
+        Ok(SureSink {
+            bytes: Vec::new(alloc),
+            refusals: 0,
+        })
+    }
+
+    /// What was written.
+    pub fn bytes(&self) -> &[u8]
+        ensures { result.now ≡ sure_bytes self.now }
+    {
+        &self.bytes
+    }
+}
+
+impl Sink for SureSink {
+    ghost use Rattle.job_devices.specs.Memory.{sure_bytes};
+
+    ghost written = { λ s. Some (sure_bytes s) };
+
+    ghost faults = { λ _. 0 };
+
+    ghost refusals = { λ s. s.refusals };
+
+    fn write(&mut self, piece: &[u8]) -> Result<usize, WriteStop> {
+        if self.bytes.extend_from_slice(piece).is_err() {
+            self.refusals = self.refusals.saturating_add(1);
+            return Err(WriteStop::NoMemory);
+        }
+        Ok(piece.len())
+    }
+}

@@ -1,0 +1,126 @@
+// Sources and sinks over std's readers and writers. They tell nothing of the bytes.
+ghost use Rattle.std.specs.Prelude.{◌≡◌, ◌≤◌, None, take, length, MatchOption, MatchResult, IfSome, IfOk, is_ok, if◌then◌else◌};
+ghost use Rattle.std.specs.Io.{ReadsAtMost, WritesAtMost};
+ghost use Rattle.std.specs.Io.KnownBytes.{Appends, ReadConsumes, WriteAppends};
+ghost use Rattle.job_devices.specs.Text.{AppendsFront};
+
+use crate::{Failed, Sink, Source, WriteStop};
+use std::io::{Read, Write};
+
+/// Reads from a reader, and counts each `Err` as a fault, an interrupted call too.
+#[derive(Drop)]
+pub struct StreamSource<R> {
+    inner: R,
+    faults: u64,
+}
+
+impl<R: Read> StreamSource<R> {
+    ghost use Rattle.job_devices.specs.Stream.{stream_reader, stream_read_faults};
+
+    /// A source over this reader, with no fault yet.
+    pub fn new(inner: R) -> StreamSource<R>
+        ensures reader { stream_reader result ≡ inner }
+        ensures faults { stream_read_faults result ≡ 0 }
+    {
+        StreamSource { inner, faults: 0 }
+    }
+}
+
+impl<R: Read> Source for StreamSource<R> {
+    ghost use Rattle.job_devices.specs.Causes.{HasReadCause, next_count};
+    ghost use Rattle.job_devices.specs.Stream.{stream_reader, stream_read_faults};
+
+    ghost left = { λ _. None };
+
+    ghost faults = { λ s. stream_read_faults s };
+
+    fn read(&mut self, buf: &mut [u8]) -> Result<usize, Failed>
+        ensures bound { ReadsAtMost result buf.new }
+        ensures bytes { ReadConsumes None None result buf.new }
+        ensures cause { HasReadCause (stream_read_faults self.old) (stream_read_faults self.new) result }
+
+        // The reader has given these bytes, 0 only at its end, and none where the read failed.
+        ensures reader { ReadConsumes (R.remaining (stream_reader self.old)) (R.remaining (stream_reader self.new)) result buf.new }
+        ensures count { stream_read_faults self.new ≡ (if is_ok result then stream_read_faults self.old else next_count (stream_read_faults self.old)) }
+    {
+        match self.inner.read(buf) {
+            Ok(count) => Ok(count),
+            Err(_) => {
+                self.faults = self.faults.saturating_add(1);
+                Err(Failed)
+            }
+        }
+    }
+}
+
+/// Writes to a writer, with a flush after each write. It counts as a fault each `Err` of these two, an interrupted
+/// call too, and a write that takes nothing of a piece that has bytes.
+#[derive(Drop)]
+pub struct StreamSink<W> {
+    inner: W,
+    faults: u64,
+}
+
+impl<W: Write> StreamSink<W> {
+    ghost use Rattle.job_devices.specs.Stream.{stream_writer, stream_write_faults};
+
+    /// A sink over this writer, with no fault yet.
+    pub fn new(inner: W) -> StreamSink<W>
+        ensures writer { stream_writer result ≡ inner }
+        ensures faults { stream_write_faults result ≡ 0 }
+    {
+        StreamSink { inner, faults: 0 }
+    }
+}
+
+impl<W: Write> Sink for StreamSink<W> {
+    ghost use Rattle.job_devices.specs.Causes.{HasWriteCause, next_count};
+    ghost use Rattle.job_devices.specs.Stream.{stream_writer, stream_write_faults};
+
+    ghost written = { λ _. None };
+
+    ghost faults = { λ s. stream_write_faults s };
+
+    ghost refusals = { λ _. 0 };
+
+    fn write(&mut self, piece: &[u8]) -> Result<usize, WriteStop>
+        ensures bound { WritesAtMost result piece.now }
+        ensures some { IfOk result (λ taken. taken ≡ 0 → length piece.now ≡ 0) }
+        ensures bytes { WriteAppends None None result piece.now }
+        ensures cause { HasWriteCause (stream_write_faults self.old) (stream_write_faults self.new) 0 0 result }
+
+        // The writer holds the bytes that were taken. Behind a fault it may hold some too, where its flush failed.
+        ensures writer { MatchResult result
+            (λ taken. Appends (W.contents (stream_writer self.old)) (W.contents (stream_writer self.new)) (take taken piece.now))
+            (λ _. AppendsFront (W.contents (stream_writer self.old)) (W.contents (stream_writer self.new)) piece.now) }
+        ensures count { stream_write_faults self.new ≡ (if is_ok result then stream_write_faults self.old else next_count (stream_write_faults self.old)) }
+    {
+        match write_once(&mut self.inner, piece) {
+            Some(taken) => Ok(taken),
+            None => {
+                self.faults = self.faults.saturating_add(1);
+                Err(WriteStop::Failed)
+            }
+        }
+    }
+}
+
+// One write and one flush. None where either failed, or the write took no byte of a piece that has some.
+fn write_once<W: Write>(writer: &mut W, piece: &[u8]) -> Option<usize>
+    ensures bound { IfSome result (λ taken. taken ≤ length piece.now) }
+    ensures some { IfSome result (λ taken. taken ≡ 0 → length piece.now ≡ 0) }
+    ensures bytes { MatchOption result
+        (AppendsFront (W.contents writer.old) (W.contents writer.new) piece.now)
+        (λ taken. Appends (W.contents writer.old) (W.contents writer.new) (take taken piece.now)) }
+{
+    let Ok(taken) = writer.write(piece) else {
+        return None;
+    };
+    if taken == 0 && !piece.is_empty() {
+        return None;
+    }
+    match writer.flush() {
+        Ok(()) => Some(taken),
+        Err(_) => None,
+    }
+}

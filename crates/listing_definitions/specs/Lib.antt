@@ -1,0 +1,4 @@
+pub mod Report
+pub mod Ending
+pub mod Text
+pub mod Listing

@@ -1,0 +1,4 @@
+mod Old
+mod Faults
+mod Examples
+pub mod Steps

@@ -1,0 +1,114 @@
+-- What a job may be answered: the promise that the whole program keeps.
+--     Job                          words that are refused, or the bytes of a job
+--     IsJobRun bytes ..            what a job reports and punches and how it ends, where nothing fails
+--     IsSoFar bytes ..             how far a job has come
+--     MayEnd job ..                how a job may end, where devices and memory may fail
+--     IsAnswer job wanted answer   the status, and the bytes that the print and the punch gain
+--
+-- The clause of the top call is this. Let the source tell its bytes, or the words make a job. Then there are bytes that the print
+-- gains and bytes that the punch gains, each where it tells its bytes, which are with the status an answer to the job.
+use Rattle.std.specs.Prelude.{ℕ, ◌≡◌, ◌-◌, List, [], ◌++◌, Option, None, Some, Result, Ok, Err, drop}
+use Rattle.card_definitions.specs.declared.CardFault.{CardFault}
+use Rattle.card_definitions.specs.Cards.{Card, cards_of, numbered_cards, job_fault}
+use Rattle.deck_definitions.specs.Decks.{decks_of}
+use Rattle.deck_definitions.specs.Written.{card_text}
+use Rattle.control_definitions.specs.declared.ControlFault.{ControlFault}
+use Rattle.control_definitions.specs.Program.{Program}
+use Rattle.control_definitions.specs.Compiled.{compiled}
+use Rattle.listing_definitions.specs.Report.{Report}
+use Rattle.listing_definitions.specs.Ending.{Ending, Ended, WordsRefused, ControlStop, VerbStop, DeckStop, CardStop, LimitStop, StatementLimit, OverflowStop, ReadFault, PrintFault, PunchFault, Memory, NotBuilt, status_of}
+use Rattle.listing_definitions.specs.Listing.{listing, IsFront}
+use Rattle.solver_definitions.specs.Solving.{Solving}
+use Rattle.run_definitions.specs.State.{State}
+use Rattle.run_definitions.specs.Moves.{Punches, Outcome, Goes}
+use Rattle.run_definitions.specs.Run.{Step, Reaches, IsRun}
+
+-- The words are refused; or the job is read from its source; or the words have made it.
+pub data Job : Type 0 where
+  WithoutBytes : Job
+  Read Made : List ℕ → Job
+
+abbrev pub bytes_of : Job → Option (List ℕ)
+bytes_of WithoutBytes = None
+bytes_of (Read bytes) = Some bytes
+bytes_of (Made bytes) = Some bytes
+
+-- the status, and the bytes that the print and the punch have gained
+pub record Answer : Type 0 where
+  pub status : ℕ
+  pub printed : List ℕ
+  pub punched : List ℕ
+
+-- what the punch has gained by an end: all of a text, or a front of it where its deck may be broken off
+abbrev pub Gains : Ending → List ℕ → List ℕ → Type 0
+Gains PunchFault gained text = IsFront gained text
+Gains Memory gained text = IsFront gained text
+Gains _ gained text = gained ≡ text
+
+-- the decks of a job are those of the cards behind its program
+abbrev pub job_decks : Program → List ℕ → List (List Card)
+job_decks program bytes = decks_of (drop (program.decks_from - 1) (numbered_cards (cards_of bytes)))
+
+-- a job without a fault of its cards, whose cards compile to a program
+pub record IsProgramOf (bytes : List ℕ) (program : Program) : Type 0 where
+  pub is_read : job_fault bytes ≡ None
+  pub is_compiled : compiled (cards_of bytes) ≡ Ok program
+
+module _ (S : Solving) where
+  -- What a job comes to where no device and no memory fails: a fault of its cards, a control fault, or a run of its program.
+  pub data IsJobRun (bytes : List ℕ) : List Report → List (List ℕ) → Ending → Type 0 where
+    card_fault : (fault : CardFault) → job_fault bytes ≡ Some fault → IsJobRun bytes [] [] (CardStop fault)
+    control_fault : (fault : ControlFault) → job_fault bytes ≡ None → compiled (cards_of bytes) ≡ Err fault → IsJobRun bytes [] [] (ControlStop fault)
+    run : (program : Program) {reports : List Report} {cards : List (List ℕ)} {ending : Ending} →
+        IsProgramOf bytes program → IsRun S program (job_decks program bytes) reports cards ending → IsJobRun bytes reports cards ending
+
+  -- the run of a job's program has come to a state, with these reports so far, and these cards punched
+  pub record IsSoFar (bytes : List ℕ) (reports : List Report) (cards : List (List ℕ)) (program : Program) (state : State) : Type 0 where
+    pub is_program : IsProgramOf bytes program
+    pub reaches : Reaches S program (job_decks program bytes) reports cards state
+
+  -- these cards are being punched: a statement that has not reported yet would punch them as its deck
+  pub record IsPunching (program : Program) (state : State) (deck : List (List ℕ)) : Type 0 where
+    pub report : Report
+    pub after : State
+    pub step : Step S program state (Goes (Punches report deck) after)
+
+  -- How a job may end: as it does by itself; or since the words are refused, a device fails or memory is wanted, and then the reports
+  -- are those so far. The cards are all that is punched by then, with the deck of the statement in hand.
+  pub data MayEnd (job : Job) : List Report → List (List ℕ) → Ending → Type 0 where
+    words_refused : job ≡ WithoutBytes → MayEnd job [] [] WordsRefused
+    read_fails : (bytes : List ℕ) → job ≡ Read bytes → MayEnd job [] [] ReadFault
+    by_itself : (bytes : List ℕ) {reports : List Report} {cards : List (List ℕ)} {ending : Ending} →
+        bytes_of job ≡ Some bytes → IsJobRun bytes reports cards ending → MayEnd job reports cards ending
+    memory_at_start : MayEnd job [] [] Memory
+    memory_in_run : (bytes : List ℕ) (program : Program) (state : State) {reports : List Report} {cards : List (List ℕ)} →
+        bytes_of job ≡ Some bytes → IsSoFar bytes reports cards program state → MayEnd job reports cards Memory
+    memory_at_punch : (bytes : List ℕ) (program : Program) (state : State) {reports : List Report} {cards : List (List ℕ)} (deck : List (List ℕ)) →
+        bytes_of job ≡ Some bytes → IsSoFar bytes reports cards program state → IsPunching program state deck → MayEnd job reports (cards ++ deck) Memory
+    punch_fails : (bytes : List ℕ) (program : Program) (state : State) {reports : List Report} {cards : List (List ℕ)} (deck : List (List ℕ)) →
+        bytes_of job ≡ Some bytes → IsSoFar bytes reports cards program state → IsPunching program state deck → MayEnd job reports (cards ++ deck) PunchFault
+
+  -- a listing that a job may have, and all that is punched by its end
+  pub record IsPossibleListing (job : Job) (text deck_text : List ℕ) : Type 0 where
+    pub reports : List Report
+    pub cards : List (List ℕ)
+    pub ending : Ending
+    pub may_end : MayEnd job reports cards ending
+    pub is_listing : text ≡ listing reports ending
+    pub is_deck_text : deck_text ≡ card_text cards
+
+  -- the print and the punch have gained fronts of these
+  pub record IsCutShort (job : Job) (answer : Answer) : Type 0 where
+    pub text : List ℕ
+    pub deck_text : List ℕ
+    pub is_possible : IsPossibleListing job text deck_text
+    pub print_front : IsFront answer.printed text
+    pub punch_front : IsFront answer.punched deck_text
+
+  -- What a job may be answered: the status of an end, with the whole listing, and with all that is punched by then, or a front of it
+  -- where the deck in hand isn't whole; or the print has failed, or wanted memory itself, and all is cut short.
+  pub data IsAnswer (job : Job) (wanted : Type 0) (answer : Answer) : Type 0 where
+    whole : {reports : List Report} {cards : List (List ℕ)} (ending : Ending) → MayEnd job reports cards ending →
+        answer.status ≡ status_of ending → answer.printed ≡ listing reports ending → Gains ending answer.punched (card_text cards) → IsAnswer job wanted answer
+    print_fails : answer.status ≡ status_of PrintFault → IsCutShort job answer → IsAnswer job wanted answer
+    print_wants_memory : wanted → answer.status ≡ status_of Memory → IsCutShort job answer → IsAnswer job wanted answer

@@ -1,0 +1,6 @@
+pub mod Cells
+pub mod State
+pub mod Moves
+pub mod Verbs
+pub mod Run
+pub mod Answer

@@ -1,0 +1,301 @@
+-- What each verb does. A verb makes its tests in the order in which they stand here.
+use Rattle.std.specs.Prelude.{ℕ, ◌≡◌, Bool, true, false, min, List, [], ◌∷◌, Option, Some, None, Result, Ok, Err, if◌then◌else◌, option_and_then, length}
+use Rattle.exact_values.specs.Rational.{ℚ}
+use Rattle.exact_values.specs.Tests.{lt_ℚ}
+use Rattle.card_definitions.specs.declared.NumberFault.TheVariants.{Empty, BadCharacter, NoDigit, ExponentRange}
+use Rattle.card_definitions.specs.Cards.{Card}
+use Rattle.problem_definitions.specs.Names.{Name}
+use Rattle.problem_definitions.specs.Problem.{Problem, has_free_row, has_group, entry_count}
+use Rattle.problem_definitions.specs.Numbering.{by_names}
+use Rattle.deck_definitions.specs.declared.DeckFault.{DeckFault}
+use Rattle.deck_definitions.specs.declared.DeckFaultKind.{DeckFaultKind}
+use Rattle.deck_definitions.specs.declared.DeckFaultKind.TheVariants.{SectionOrder, UnknownSection, BadRowType, DuplicateRow, ColumnSplit, UnknownRow, DuplicateEntry, Number, RangeOnFree, BadBoundType, UnknownColumn, BoundTwice, NoEndata, Marker, EmptyName, TooManyRows, TooManyColumns, TooManyEntries, CombinationRow, ExtraField, UnknownAction, NoAnchor, DeleteMissing, ModifyMissing}
+use Rattle.deck_definitions.specs.Conversion.{conversion}
+use Rattle.deck_definitions.specs.Written.{written}
+use Rattle.deck_definitions.specs.Decks.{deck_taken}
+use Rattle.revise_definitions.specs.Revision.{revision}
+use Rattle.lp_definitions.specs.declared.Evidence.{Evidence}
+use Rattle.lp_definitions.specs.LinearProgram.{LinearProgram}
+use Rattle.lp_definitions.specs.Basis.{opening_statuses}
+use Rattle.control_definitions.specs.declared.NameCell.{NameCell}
+use Rattle.control_definitions.specs.declared.NameCell.TheVariants.{Xobj, Xrhs}
+use Rattle.control_definitions.specs.Program.{SetupOptions, Verb, Initialz, Title, MoveName, MoveNumber, MoveLimit, Mvadr, Goto, Convert, Setup, Primal, Revise, Ranging, Paraobj, Pararhs, Solution as SolutionVerb, Bcdout, Exit}
+use Rattle.selection_definitions.specs.declared.SelectionFault.{SelectionFault}
+use Rattle.selection_definitions.specs.declared.SelectionFault.TheVariants as SelectionFault
+use Rattle.selection_definitions.specs.Choice.{Choice}
+use Rattle.selection_definitions.specs.Selection.{selected}
+use Rattle.selection_definitions.specs.RangeSums.{IsRangeRefusal}
+use Rattle.listing_definitions.specs.declared.Mark.{Mark}
+use Rattle.listing_definitions.specs.declared.Mark.TheVariants.{Optimal, Infeasible, Unbounded}
+use Rattle.listing_definitions.specs.declared.Solver.TheVariants.{Primal as ByPrimal}
+use Rattle.listing_definitions.specs.declared.VerbFault.{VerbFault}
+use Rattle.listing_definitions.specs.declared.VerbFault.TheVariants.{DeckNotFound, NoProblem, NoSetup, NotSolved, NotOptimal, NoChangeRow, NoChangeSet, NoParmax, ParmaxBelow, NoObjective, ObjectiveNotFree, NoRhsSet, NoRangeSet, NoBoundSet}
+use Rattle.listing_definitions.specs.Report.{SolutionLines, RangeLines, Verdict, OptimalAt, CrossedAt, InfeasibleBy, UnboundedBy, Report, Titled, Filed, Converted, Revised, SetUp, Punched, Solved, Solution, Ranges, Parametric, ChainEnd, EndsAt, UnboundedPast, InfeasiblePast}
+use Rattle.listing_definitions.specs.Ending.{Place, Ending, Ended, VerbStop, DeckCardFault, DeckStop, LimitStop, NotBuilt}
+use Rattle.solver_definitions.specs.Answers.{Basis, Sheet, Changing, Row, Set, changing_name, sweeper, Sweep, Question, OfPath, OfSolution, OfRanges, OfSweep, PathEnd, Reached, PathLimit, PathNotBuilt, SweepEnd, Opening, Chained, SweepLimit}
+use Rattle.solver_definitions.specs.Solving.{Solving}
+use Rattle.run_definitions.specs.Cells.{Cells, default_cells, move_name, move_number, move_limit, set_demand}
+use Rattle.run_definitions.specs.State.{Present, present_basis, path_of, gone_through, State, problem_of, choice_of}
+use Rattle.run_definitions.specs.Moves.{Gain, Nothing, Prints, Punches, Outcome, Goes, Ends, next, jump, stops, Move, Does, MayStop, Asks, or_fault}
+
+-- ---- decks
+
+-- the number of a deck fault
+abbrev pub deck_fault_number : DeckFaultKind → ℕ
+deck_fault_number SectionOrder = 1
+deck_fault_number UnknownSection = 2
+deck_fault_number BadRowType = 3
+deck_fault_number DuplicateRow = 4
+deck_fault_number ColumnSplit = 5
+deck_fault_number UnknownRow = 6
+deck_fault_number DuplicateEntry = 7
+deck_fault_number (Number fault column) = 8
+deck_fault_number RangeOnFree = 9
+deck_fault_number BadBoundType = 10
+deck_fault_number UnknownColumn = 11
+deck_fault_number BoundTwice = 12
+deck_fault_number NoEndata = 13
+deck_fault_number Marker = 14
+deck_fault_number EmptyName = 15
+deck_fault_number TooManyRows = 16
+deck_fault_number TooManyColumns = 17
+deck_fault_number TooManyEntries = 18
+deck_fault_number CombinationRow = 19
+deck_fault_number ExtraField = 20
+deck_fault_number UnknownAction = 21
+deck_fault_number NoAnchor = 22
+deck_fault_number DeleteMissing = 23
+deck_fault_number ModifyMissing = 24
+
+-- the number of a number's fault, and the column of a bad character
+abbrev pub number_fault_of : DeckFaultKind → Option ℕ
+number_fault_of (Number Empty column) = Some 1
+number_fault_of (Number (BadCharacter place) column) = Some 2
+number_fault_of (Number NoDigit column) = Some 3
+number_fault_of (Number ExponentRange column) = Some 4
+number_fault_of _ = None
+
+abbrev pub column_of : DeckFaultKind → Option ℕ
+column_of (Number (BadCharacter place) column) = Some column
+column_of _ = None
+
+abbrev pub deck_stop : DeckFault → Ending
+deck_stop fault = DeckStop (record { fault = deck_fault_number fault.kind; card = fault.card; number = number_fault_of fault.kind; column = column_of fault.kind })
+
+abbrev pub or_deck_fault : Result (Problem ℕ) DeckFault → (Problem ℕ → Move) → Move
+or_deck_fault (Err fault) go = Does (stops (deck_stop fault))
+or_deck_fault (Ok problem) go = go problem
+
+abbrev pub size_of : Problem ℕ → Filed
+size_of problem = record { name = problem.name; rows = length problem.rows; columns = length problem.columns; entries = entry_count problem }
+
+-- the problem is filed, these decks are left, and setup, basis and mark are cleared
+abbrev pub files : (Filed → Report) → List (List Card) → State → Problem ℕ → Move
+files report decks state problem =
+    Does (next (Prints (report (size_of problem))) (record state { file = problem ∷ state.file; decks = decks; setup = None; mark = None }))
+
+-- CONVERT takes a deck, and files what it describes under XPBNAME if moved, else under the deck's name.
+abbrev pub converts : ℕ → State → Move
+converts card state =
+    or_fault card DeckNotFound (deck_taken state.cells.xdata state.decks) (λ taken.
+    or_deck_fault (conversion taken.0 state.cells.xpbname) (files Converted taken.1 state))
+
+-- REVISE gets the old problem, named by XOLDNAME if moved, else filed last; it takes a deck, and files the revised problem as CONVERT
+-- does.
+abbrev pub revises : ℕ → State → Move
+revises card state =
+    or_fault card NoProblem (problem_of state.cells.xoldname state.file) (λ old.
+    or_fault card DeckNotFound (deck_taken state.cells.xdata state.decks) (λ taken.
+    or_deck_fault (revision old taken.0 state.cells.xpbname) (files Revised taken.1 state)))
+
+-- a printed count of cards goes no further than this
+abbrev pub max_counted : ℕ
+max_counted = 4294967295
+
+-- BCDOUT gets the problem named by XPBNAME if moved, else filed last; it punches it, and prints the number of cards.
+abbrev pub punches : ℕ → State → Move
+punches card state =
+    or_fault card NoProblem (problem_of state.cells.xpbname state.file) (λ problem.
+    let cards = written (by_names problem) in
+    Does (next (Punches (Punched problem.name (min (length cards) max_counted)) cards) state))
+
+-- ---- selections
+
+-- the refusals of a selection are verb faults
+abbrev pub selection_verb_fault : SelectionFault → VerbFault
+selection_verb_fault SelectionFault.NoObjective = NoObjective
+selection_verb_fault SelectionFault.ObjectiveNotFree = ObjectiveNotFree
+selection_verb_fault SelectionFault.NoRhsSet = NoRhsSet
+selection_verb_fault SelectionFault.NoRangeSet = NoRangeSet
+selection_verb_fault SelectionFault.NoBoundSet = NoBoundSet
+
+abbrev pub or_selection_fault : ℕ → Result LinearProgram SelectionFault → (LinearProgram → Move) → Move
+or_selection_fault card (Err fault) go = Does (stops (VerbStop (record { fault = selection_verb_fault fault; card = card })))
+or_selection_fault card (Ok lp) go = go lp
+
+-- a range sum of the selection that doesn't fit; it is made before there is a basis
+abbrev pub RangeOverflows : Problem ℕ → Choice → Evidence → Option Place → Type 0
+RangeOverflows problem choice evidence place = IsRangeRefusal problem choice evidence × (place ≡ None)
+
+-- a selection: its faults come first, and then a range sum may not fit
+abbrev pub selects : ℕ → Problem ℕ → Choice → (LinearProgram → Move) → Move
+selects card problem choice go = or_selection_fault card (selected problem choice) (λ lp. MayStop (RangeOverflows problem choice) (go lp))
+
+-- SETUP gets the problem named by XPBNAME if moved, else filed last; it selects, keeps problem and options, makes the opening basis,
+-- and clears the mark.
+abbrev pub sets_up : ℕ → SetupOptions → State → Move
+sets_up card options state =
+    or_fault card NoProblem (problem_of state.cells.xpbname state.file) (λ problem.
+    selects card problem (choice_of state.cells options) (λ lp.
+    Does (next (Prints (SetUp problem.name options.sense))
+    (record state { setup = Some (record { problem = problem; options = options; opening = opening_statuses lp; steps = [] }); mark = None }))))
+
+-- the present problem is what the present cells select of the setup's problem with its options
+abbrev pub selects_present : ℕ → State → Present → (LinearProgram → Move) → Move
+selects_present card state present go = selects card present.problem (choice_of state.cells present.options) go
+
+-- ---- verdicts
+
+abbrev pub mark_of : Verdict → Mark
+mark_of (OptimalAt steps objective) = Optimal
+mark_of (CrossedAt number) = Infeasible
+mark_of (InfeasibleBy steps lines) = Infeasible
+mark_of (UnboundedBy steps objective lines) = Unbounded
+
+-- a verdict that isn't optimal goes to the position of its demand, or ends the run with its code where that isn't set
+abbrev pub demanded : Option ℕ → ℕ → Report → State → Outcome
+demanded (Some position) code report state = jump (Prints report) position state
+demanded None code report state = Ends (Prints report) (Ended code)
+
+abbrev pub by_verdict : Mark → Report → State → Outcome
+by_verdict Optimal report state = next (Prints report) state
+by_verdict Infeasible report state = demanded state.cells.xdonfs 1 report state
+by_verdict Unbounded report state = demanded state.cells.xdounb 2 report state
+
+abbrev pub limit_stop : ℕ → State → Outcome
+limit_stop card state = stops (LimitStop (record { limit = state.cells.xiterlim; card = card }))
+
+-- ---- parametric runs
+
+-- XCHROW is to name an N row, and XCHCOL a right-hand side set
+abbrev pub change_row : Problem ℕ → Name → Option Changing
+change_row problem name = if has_free_row problem.rows name then Some (Row name) else None
+
+abbrev pub change_set : Problem ℕ → Name → Option Changing
+change_set problem name = if has_group problem.rhs name then Some (Set name) else None
+
+-- the last value, where it isn't less than the first
+abbrev pub not_less : ℚ → ℚ → Option ℚ
+not_less from to = if lt_ℚ to from then None else Some to
+
+-- the value at which the last interval ends
+abbrev pub last_value : ChainEnd → ℚ
+last_value (EndsAt value) = value
+last_value (UnboundedPast value lines) = value
+last_value (InfeasiblePast value lines) = value
+
+-- moving the objective or the right-hand side clears the mark
+abbrev pub mark_after : NameCell → Option Mark → Option Mark
+mark_after Xobj mark = None
+mark_after Xrhs mark = None
+mark_after _ mark = mark
+
+module _ (S : Solving) where
+  open S use {builds, Solves, Sweeps, Shows, Ranges as RangesShown, Overflows}
+
+  -- a question: the statement may stop with an overflow of its own formulas, or goes on by the answer
+  abbrev pub asks : Question → Sheet → Present → (Answer : Type 0) → (Answer → Type 0) → (Answer → Outcome) → Move
+  asks question sheet present Answer IsRight go = MayStop (Overflows question sheet (path_of present)) (Asks Answer IsRight go)
+
+  -- the basis where the path ends becomes the present one, and the verdict is printed and leaves a mark
+  abbrev pub after_path : ℕ → Present → State → PathEnd → Outcome
+  after_path card present state (Reached bases verdict check) =
+      by_verdict (mark_of verdict) (Solved ByPrimal verdict check) (record state { setup = Some (gone_through bases present); mark = Some (mark_of verdict) })
+  after_path card present state PathLimit = limit_stop card state
+  after_path card present state PathNotBuilt = stops NotBuilt
+
+  -- PRIMAL needs a setup; it selects, and follows the path from the present basis.
+  abbrev pub solves : ℕ → State → Move
+  solves card state =
+      or_fault card NoSetup state.setup (λ present.
+      selects_present card state present (λ lp.
+      let sheet : Sheet = record { problem = present.problem; lp = lp } in
+      asks (OfPath state.cells.xiterlim) sheet present PathEnd (Solves sheet (present_basis present) state.cells.xiterlim) (after_path card present state)))
+
+  -- SOLUTION and RANGE speak of the linear program that PRIMAL solved: since then the mark stands, so that the present cells select
+  -- it again, without a fault.
+  abbrev pub shows_present : ℕ → State → Present → Question → (Answer : Type 0) → (Sheet → Basis → Answer → Type 0) → (Answer → Report) → Move
+  shows_present card state present question Answer IsShown report =
+      or_selection_fault card (selected present.problem (choice_of state.cells present.options)) (λ lp.
+      let sheet : Sheet = record { problem = present.problem; lp = lp } in
+      asks question sheet present Answer (IsShown sheet (present_basis present)) (λ lines. next (Prints (report lines)) state))
+
+  -- SOLUTION needs a setup and a mark; it prints the basis's point and prices.
+  abbrev pub shows : ℕ → State → Move
+  shows card state =
+      or_fault card NoSetup state.setup (λ present.
+      or_fault card NotSolved state.mark (λ mark.
+      shows_present card state present OfSolution SolutionLines Shows (Solution mark)))
+
+  abbrev pub if_optimal : Mark → Option Mark
+  if_optimal Optimal = Some Optimal
+  if_optimal Infeasible = None
+  if_optimal Unbounded = None
+
+  -- RANGE needs a setup, a mark, and the mark OPTIMAL; it prints the intervals.
+  abbrev pub ranges : ℕ → State → Move
+  ranges card state =
+      or_fault card NoSetup state.setup (λ present.
+      or_fault card NotSolved state.mark (λ mark.
+      or_fault card NotOptimal (if_optimal mark) (λ optimal.
+      shows_present card state present OfRanges RangeLines RangesShown Ranges)))
+
+  -- A run along the parameter leaves XPARAM at its last end, and one whose opening isn't optimal leaves it where it was and goes on as
+  -- PRIMAL does. The basis reached last becomes the present one, and neither leaves a mark.
+  abbrev pub after_sweep : ℕ → Sweep → Present → State → SweepEnd → Outcome
+  after_sweep card sweep present state (Opening bases verdict check) =
+      by_verdict (mark_of verdict) (Solved (sweeper sweep.changing) verdict check) (record state { setup = Some (gone_through bases present); mark = None })
+  after_sweep card sweep present state (Chained bases intervals end) =
+      next (Prints (Parametric (sweeper sweep.changing) (record { from = sweep.from; change = changing_name sweep.changing; intervals = intervals; end = end })))
+      (record state { setup = Some (gone_through bases present); mark = None; cells = record (state.cells) { xparam = last_value end } })
+  after_sweep card sweep present state SweepLimit = limit_stop card state
+
+  -- PARAOBJ and PARARHS need a setup; they select; and they need what changes, a last value, and one that isn't less than the first.
+  abbrev pub sweeps : ℕ → VerbFault → (Problem ℕ → Name → Option Changing) → Option Name → State → Move
+  sweeps card fault change moved state =
+      or_fault card NoSetup state.setup (λ present.
+      selects_present card state present (λ lp.
+      or_fault card fault (option_and_then (change present.problem) moved) (λ changing.
+      or_fault card NoParmax state.cells.xparmax (λ last.
+      or_fault card ParmaxBelow (not_less state.cells.xparam last) (λ to.
+      let sheet : Sheet = record { problem = present.problem; lp = lp } in
+      let sweep : Sweep = record { changing = changing; from = state.cells.xparam; to = to; limit = state.cells.xiterlim } in
+      asks (OfSweep sweep) sheet present SweepEnd (Sweeps sheet (present_basis present) sweep) (after_sweep card sweep present state))))))
+
+  -- What the statement of a verb on a card does.
+  unfoldable pub verb_move : Verb ℕ → ℕ → State → Move
+  verb_move Initialz card state = Does (next Nothing (record state { cells = default_cells; mark = None }))
+  verb_move (Title text) card state = Does (next (Prints (Titled text)) state)
+  verb_move (MoveName cell name) card state = Does (next Nothing (record state { cells = move_name cell name state.cells; mark = mark_after cell state.mark }))
+  verb_move (MoveNumber cell value) card state = Does (next Nothing (record state { cells = move_number cell value state.cells }))
+  verb_move (MoveLimit limit) card state = Does (next Nothing (record state { cells = move_limit limit state.cells }))
+  verb_move (Mvadr demand position) card state = Does (next Nothing (record state { cells = set_demand demand position state.cells }))
+  verb_move (Goto position) card state = Does (jump Nothing position state)
+  verb_move Convert card state = converts card state
+  verb_move Revise card state = revises card state
+  verb_move (Setup options) card state = sets_up card options state
+  verb_move Primal card state = solves card state
+  verb_move SolutionVerb card state = shows card state
+  verb_move Ranging card state = ranges card state
+  verb_move Paraobj card state = sweeps card NoChangeRow change_row state.cells.xchrow state
+  verb_move Pararhs card state = sweeps card NoChangeSet change_set state.cells.xchcol state
+  verb_move Bcdout card state = punches card state
+  verb_move Exit card state = Does (stops (Ended 0))
+
+  abbrev pub if_built : Bool → Move → Move
+  if_built true move = move
+  if_built false move = Does (stops NotBuilt)
+
+  -- a verb that isn't built ends the run, before its own tests
+  abbrev pub statement_move : Verb ℕ → ℕ → State → Move
+  statement_move verb card state = if_built (builds verb) (verb_move verb card state)

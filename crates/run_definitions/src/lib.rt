@@ -1,0 +1,2 @@
+//! Runs of control programs, and what a job may be answered. Definitions alone.
+#![tactic(auto)]

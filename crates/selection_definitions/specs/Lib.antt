@@ -1,0 +1,4 @@
+pub mod Choice
+pub mod Limits
+pub mod Selection
+pub mod RangeSums

@@ -1,0 +1,65 @@
+-- What a statement asks of linear programming, and the answers to it.
+--     Sheet                 a problem, which has the names, and the linear program that is selected from it
+--     Question              what a statement asks
+--     PathEnd, SweepEnd     where a path or a parametric run ends
+use Rattle.std.specs.Prelude.{ℕ, List, [], ◌∷◌}
+use Rattle.exact_values.specs.Rational.{ℚ}
+use Rattle.lp_definitions.specs.declared.Status.{Status}
+use Rattle.lp_definitions.specs.LinearProgram.{LinearProgram}
+use Rattle.problem_definitions.specs.Names.{Name}
+use Rattle.problem_definitions.specs.Problem.{Problem}
+use Rattle.listing_definitions.specs.declared.Solver.{Solver}
+use Rattle.listing_definitions.specs.declared.Solver.TheVariants.{Paraobj, Pararhs}
+use Rattle.listing_definitions.specs.Report.{Verdict, Check, Interval, ChainEnd}
+
+-- a basis says where each variable stands
+abbrev pub Basis : Type 0
+Basis = List Status
+
+pub record Sheet : Type 0 where
+  pub problem : Problem ℕ
+  pub lp : LinearProgram
+
+-- what changes along a parametric run: theta times a row is added to the objective, or theta times a right-hand side set to the
+-- limits of the rows
+pub data Changing : Type 0 where
+  Row Set : Name → Changing
+
+abbrev pub changing_name : Changing → Name
+changing_name (Row name) = name
+changing_name (Set name) = name
+
+abbrev pub sweeper : Changing → Solver
+sweeper (Row name) = Paraobj
+sweeper (Set name) = Pararhs
+
+-- a parametric run, from the first value of the parameter to the last, in at most so many steps
+pub record Sweep : Type 0 where
+  pub changing : Changing
+  pub from : ℚ
+  pub to : ℚ
+  pub limit : ℕ
+
+-- a path in at most so many steps, the lines of SOLUTION or of RANGE, or a parametric run
+pub data Question : Type 0 where
+  OfPath : ℕ → Question
+  OfSolution OfRanges : Question
+  OfSweep : Sweep → Question
+
+-- Where a path ends: it went through these bases, one a step, and its verdict and the check of it are these; or it hasn't ended
+-- within its limit; or it meets what isn't built yet.
+pub data PathEnd : Type 0 where
+  Reached : List Basis → Verdict → Check → PathEnd
+  PathLimit PathNotBuilt : PathEnd
+
+-- Where a parametric run ends: its opening path isn't optimal; or it went on, through all these bases, with these intervals; or it
+-- hasn't ended within its limit.
+pub data SweepEnd : Type 0 where
+  Opening : List Basis → Verdict → Check → SweepEnd
+  Chained : List Basis → List Interval → ChainEnd → SweepEnd
+  SweepLimit : SweepEnd
+
+-- the basis that a path from the first one has reached
+abbrev pub basis_after : Basis → List Basis → Basis
+basis_after first [] = first
+basis_after first (next ∷ bases) = basis_after next bases
