@@ -1,5 +1,5 @@
 -- The first fault of two lists of tests, and the tests of a list in two parts.
-use Rattle.std.proofs.Common.{◌≡◌, List, [], ◌∷◌, ◌++◌, Option, Some, None, refl, ap, sym, ◌∙◌}
+use Rattle.std.proofs.Common.{◌≡◌, List, [], ◌∷◌, ◌++◌, Option, Some, None, refl, ap, ap₂, sym, ◌∙◌}
 use Rattle.std.specs.Option.{option_or}
 use Rattle.std.proofs.lemmas.List.{append_assoc, append-nil}
 use Rattle.card_definitions.specs.Words.{each_behind, first_fault}
@@ -20,3 +20,14 @@ each_behind-append f before (x ∷ xs) ys =
 pub first_fault_behind : {X F : Type 0} (test : List X → X → Option F) (before xs ys : List X)
     → first_fault (each_behind test before (xs ++ ys)) ≡ option_or (first_fault (each_behind test before xs)) (first_fault (each_behind test (before ++ xs) ys))
 first_fault_behind test before xs ys = ap first_fault (each_behind-append test before xs ys) ∙ first_fault-append (each_behind test before xs) (each_behind test (before ++ xs) ys)
+
+-- what f makes of elements behind others, where f sees those too
+pub each_behind-shift : {X Y : Type 0} (f : List X → X → Y) (first before xs : List X) → each_behind f (first ++ before) xs ≡ each_behind (λ earlier. f (first ++ earlier)) before xs
+each_behind-shift f first before [] = refl
+each_behind-shift f first before (x ∷ xs) =
+    ap (λ list. f (first ++ before) x ∷ list) (ap (λ earlier. each_behind f earlier xs) (append_assoc first before (x ∷ [])) ∙ each_behind-shift f first (before ++ x ∷ []) xs)
+
+-- functions that agree make the same
+pub each_behind-same : {X Y : Type 0} (f g : List X → X → Y) → ((before : List X) (x : X) → f before x ≡ g before x) → (before xs : List X) → each_behind f before xs ≡ each_behind g before xs
+each_behind-same f g same before [] = refl
+each_behind-same f g same before (x ∷ xs) = ap₂ (λ y ys. y ∷ ys) (same before x) (each_behind-same f g same (before ++ x ∷ []) xs)

@@ -2,3 +2,4 @@ mod Old
 mod Faults
 mod Examples
 pub mod Steps
+pub mod Pairs
