@@ -2,9 +2,11 @@
 #![tactic(auto)]
 
 mod name;
+mod places;
 mod table;
 
 pub use name::Name;
+pub use places::{padded, trailing_blanks, without_trailing_blanks};
 pub use table::{AddStop, NameTable};
 
 #[cfg(test)]

@@ -6,6 +6,7 @@ ghost use Rattle.card_definitions.specs.Cards.{is_blank, is_printable};
 ghost use Rattle.problem_definitions.specs.Valid.{IsName};
 ghost use Rattle.name_table.specs.Places.{padded};
 
+use crate::places::{padded, trailing_blanks, without_trailing_blanks};
 use std::hash::{Hash, Hasher};
 use std::marker::Model;
 
@@ -21,18 +22,18 @@ pub struct Name {
 
 impl Model for Name {
     ghost use Rattle.problem_definitions.specs.Names.{Name as Text};
-    ghost use Rattle.name_table.specs.Places.{name_in, padded, ArePlaces};
-    ghost use Rattle.name_table.specs.Places_laws.{padded-name_in};
+    ghost use Rattle.name_table.specs.Places.{text_in, padded, ArePrintable};
+    ghost use Rattle.name_table.specs.Places_laws.{padded-text_in};
 
     ghost Value = { Text };
 
-    ghost view = { λ n. name_in n.places };
+    ghost view = { λ n. text_in n.places };
 
-    ghost invariant = { λ n. ArePlaces n.places };
+    ghost invariant = { λ n. ArePrintable n.places };
 
-    ghost inverse = { λ name. record { places = padded name } };
+    ghost inverse = { λ name. record { places = padded 8 name } };
 
-    ghost inverse_ok = { λ n h. λ i. record { places = padded-name_in n.places h.eight i } };
+    ghost inverse_ok = { λ n h. λ i. record { places = padded-text_in 8 n.places h.eight i } };
 }
 
 impl Name {
@@ -46,7 +47,7 @@ impl Name {
             return None;
         }
         Some(Name {
-            places: places_of(bytes),
+            places: padded(bytes),
         })
     }
 
@@ -84,7 +85,7 @@ impl Eq for Name {
 impl Hash for Name {
     ghost use Rattle.std.specs.Hash as fed;
 
-    ghost hash_input = { λ name. fed.slice fed.u8 (padded name) };
+    ghost hash_input = { λ name. fed.slice fed.u8 (padded 8 name) };
 
     ghost use Rattle.name_table.specs.Places_laws.{places_alike};
 
@@ -93,32 +94,6 @@ impl Hash for Name {
     fn hash<H: Hasher>(&self, state: &mut H) {
         self.places.hash(state);
     }
-}
-
-// The bytes with blanks behind them.
-#[tactic(auto, using(crate::specs::Places_laws::padded_behind))]
-fn places_of(bytes: &[u8]) -> [u8; WIDTH]
-    requires { length bytes.now ≤ 8 }
-    ensures { result ≡ padded bytes.now }
-{
-    let mut places = [b' '; WIDTH];
-    places[..bytes.len()].copy_from_slice(bytes);
-    places
-}
-
-// How many blanks a text ends with.
-fn trailing_blanks(text: &[u8]) -> usize
-    ensures count { result ≡ suffix_len is_blank text.now }
-    ensures bound { result ≤ length text.now }
-{
-    text.iter().rev().take_while(|byte| **byte == b' ').count()
-}
-
-// A text without the blanks at its end.
-fn without_trailing_blanks(text: &[u8]) -> &[u8]
-    ensures { result.now ≡ without_trailing is_blank text.now }
-{
-    &text[..text.len() - trailing_blanks(text)]
 }
 
 // Whether a text has printable bytes alone.

@@ -3,4 +3,4 @@ use Rattle.name_table.specs.Places_laws.{same_in_places}
 use Rattle.name_table.proofs.name.NamePartialEq.eq.Goals as goal
 
 pub returns : goal.returns
-returns c = rw (← c.self.view_is, ← c.other.view_is) (c.eq.ensures ∙ same_in_places _ _ c.self.told c.other.told)
+returns c = rw (← c.self.view_is, ← c.other.view_is) (c.eq.ensures ∙ same_in_places 8 _ _ c.self.told c.other.told)
