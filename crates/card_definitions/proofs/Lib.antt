@@ -1,3 +1,3 @@
 mod Examples
-pub mod Faults
+pub mod Behind
 pub mod Trailing

@@ -1,6 +1,6 @@
 -- Words on lists and on faults that all definitions of cards share.
 use Rattle.std.specs.Prelude.{Bool, true, false, ◌-◌, ℕ, List, [], ◌∷◌, ◌++◌, Option, Some, None, Result, Ok, Err, take, drop, length, option_map, find, bytes_eq}
-use Rattle.std.specs.List.{suffix_len, prefix_len}
+use Rattle.std.specs.List.{suffix_len, prefix_len, filter_map}
 use Rattle.std.specs.Option.{option_or}
 
 -- the list without the elements at its end that pass
@@ -16,10 +16,14 @@ abbrev pub is_empty : {X : Type 0} → List X → Bool
 is_empty [] = true
 is_empty (x ∷ xs) = false
 
--- what f makes of each element of a list and of those that stand before it; before stands before them all
+-- what f makes of each element of a list with those that stand before it; `before` stands before them all
 abbrev pub each_behind : {X Y : Type 0} → (List X → X → Y) → List X → List X → List Y
 each_behind f before [] = []
 each_behind f before (x ∷ xs) = f before x ∷ each_behind f (before ++ x ∷ []) xs
+
+-- what f gives of the elements of a list, each with those that stand before it, where it gives something
+abbrev pub gathered : {X Y : Type 0} → (List X → X → Option Y) → List X → List Y
+gathered f xs = filter_map (λ given. given) (each_behind f [] xs)
 
 -- `test ⟹ fault` is the fault where the test holds, and none else
 infixl 12 ◌⟹◌

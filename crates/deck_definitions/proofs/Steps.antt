@@ -1,14 +1,13 @@
 -- What one more card does to the section, to the problem described and to the faults of the cards before it: the steps
 -- of a reader that goes card by card.
 use Rattle.std.proofs.Common.{◌≡◌, ℕ, true, false, cond, List, [], ◌∷◌, ◌++◌, Option, Some, None, refl, ap, ◌∙◌}
-use Rattle.std.specs.List.{cons_option, filter_map, last_or}
+use Rattle.std.specs.List.{filter_map, last_or}
 use Rattle.std.specs.Option.{option_or, option_map, option_to_list}
 use Rattle.std.proofs.lemmas.List.Elements.{filter_map-append}
 use Rattle.std.proofs.lemmas.List.{append-nil}
-use Rattle.card_definitions.specs.Words.{each_behind}
 use Rattle.card_definitions.specs.Cards.{Card}
 use Rattle.card_definitions.specs.Fields.{Reading}
-use Rattle.card_definitions.proofs.Faults.{each_behind-append, first_fault_behind}
+use Rattle.card_definitions.proofs.Behind.{first_fault_behind, gathered-push, cons_option-nil}
 use Rattle.problem_definitions.specs.Names.{Name}
 use Rattle.problem_definitions.specs.Problem.{Row, Problem, Group, Entry, Bound}
 use Rattle.problem_definitions.specs.Groups.{grouped, in_set}
@@ -21,10 +20,6 @@ use Rattle.deck_definitions.specs.DataCards.{read_behind, given_by, given, row_o
 use Rattle.deck_definitions.specs.Described.{described}
 use Rattle.deck_definitions.specs.Conversion.{first_faulty}
 
-cons_option-nil : {A : Type 0} (o : Option A) → cons_option o [] ≡ option_to_list o
-cons_option-nil None = refl
-cons_option-nil (Some x) = refl
-
 pub last_or-push : {A : Type 0} (o : Option A) (xs : List A) (p : Option A) → last_or o (xs ++ option_to_list p) ≡ option_or p (last_or o xs)
 last_or-push o [] None = refl
 last_or-push o [] (Some x) = refl
@@ -35,14 +30,6 @@ pub section_after-push : (cards : List Card) (card : Card) → section_after (ca
 section_after-push cards card =
     ap (last_or None) (filter_map-append (λ c. section_begun c.bytes) cards (card ∷ []) ∙ ap (λ list. filter_map (λ c. section_begun c.bytes) cards ++ list) (cons_option-nil (section_begun card.bytes)))
     ∙ last_or-push None (filter_map (λ c. section_begun c.bytes) cards) (section_begun card.bytes)
-
--- what the elements of a list and those before them gave, with one more element
-pub gathered-push : {X Y : Type 0} (f : List X → X → Option Y) (xs : List X) (x : X)
-    → filter_map (λ gift. gift) (each_behind f [] (xs ++ x ∷ [])) ≡ filter_map (λ gift. gift) (each_behind f [] xs) ++ option_to_list (f xs x)
-gathered-push f xs x =
-    ap (filter_map (λ gift. gift)) (each_behind-append f [] xs (x ∷ []))
-    ∙ filter_map-append (λ gift. gift) (each_behind f [] xs) (f xs x ∷ [])
-    ∙ ap (λ list. filter_map (λ gift. gift) (each_behind f [] xs) ++ list) (cons_option-nil (f xs x))
 
 -- what a section gives with one more card
 pub given-push : {X : Type 0} (section : Section) (give : Reading → Option X) (cards : List Card) (card : Card)

@@ -1,5 +1,5 @@
 -- The first fault of a data deck, and the problem of a deck without one.
-use Rattle.std.specs.Prelude.{ℕ, Bool, false, not, List, [], ◌∷◌, Option, Some, None, Result, if◌then◌else◌, unwrap_or, option_map}
+use Rattle.std.specs.Prelude.{ℕ, Bool, not, List, [], ◌∷◌, Option, Some, None, Result, if◌then◌else◌, unwrap_or, option_map}
 use Rattle.card_definitions.specs.Words.{named, each_behind, ◌⟹◌, first_fault, unless}
 use Rattle.card_definitions.specs.Cards.{Card, live, last_number}
 use Rattle.card_definitions.specs.Fields.{Form, Fixed, Reading, reading_of, gaps_are_blank}
@@ -11,7 +11,7 @@ use Rattle.deck_definitions.specs.declared.DeckFaultKind.{DeckFaultKind}
 use Rattle.deck_definitions.specs.declared.DeckFaultKind.TheVariants.{SectionOrder, UnknownSection, NoEndata, ExtraField}
 use Rattle.deck_definitions.specs.declared.Section.{Section}
 use Rattle.deck_definitions.specs.declared.Section.TheVariants.{Header, Rows, Columns, Rhs, Ranges, Bounds, Endata}
-use Rattle.deck_definitions.specs.Sections.{is_section, may_follow, section_words, section_word, is_section_card, section_after, header_name}
+use Rattle.deck_definitions.specs.Sections.{may_follow, section_words, section_word, is_section_card, section_after, is_section_after, header_name}
 use Rattle.deck_definitions.specs.DataCards.{form_of}
 use Rattle.deck_definitions.specs.Described.{described}
 use Rattle.deck_definitions.specs.Tests.{rows_fault, columns_fault, set_fault, bounds_fault}
@@ -57,18 +57,15 @@ card_fault before card =
 
 -- the first fault that a test finds in a list of cards, behind the cards before it
 abbrev pub first_faulty : (List Card → List ℕ → Option DeckFaultKind) → List Card → List Card → Option DeckFault
-first_faulty test before cards = first_fault (each_behind (λ before card. option_map (λ kind. record { card = card.number; kind = kind }) (test before card.bytes)) before cards)
+first_faulty test before cards =
+    first_fault (each_behind (λ before card. option_map (λ kind. record { card = card.number; kind = kind }) (test before card.bytes)) before cards)
 
--- whether the last section that began is ENDATA
-abbrev pub is_ended : List Card → Bool
-is_ended cards = unwrap_or (option_map (is_section Endata) (section_after cards)) false
-
--- The fault of a deck, by a test of a card behind others: that of the first faulty card, or else that the deck isn't
--- ended, on its last card. Skipped cards are left out.
+-- The fault of a deck, by a test of a card behind others: that of the first faulty card, or else that ENDATA is
+-- missing, on the deck's last card. Skipped cards are left out.
 abbrev pub fault_by : (List Card → List ℕ → Option DeckFaultKind) → List Card → Option DeckFault
 fault_by test deck = first_fault (
     first_faulty test [] (live deck) ∷
-    (not (is_ended (live deck)) ⟹ record { card = last_number deck; kind = NoEndata }) ∷ [])
+    (not (is_section_after Endata (live deck)) ⟹ record { card = last_number deck; kind = NoEndata }) ∷ [])
 
 -- The first fault of a data deck.
 unfoldable pub deck_fault : List Card → Option DeckFault
@@ -81,4 +78,6 @@ deck_name (card ∷ cards) = header_name card.bytes
 
 -- What a data deck converts to: its first fault, or the problem that it describes, under this name or else its own.
 unfoldable pub conversion : List Card → Option Name → Result (Problem ℕ) DeckFault
-conversion deck name = unless (deck_fault deck) (numbered (described (unwrap_or name (deck_name (live deck))) (live deck)))
+conversion deck name =
+    let cards = live deck in
+    unless (deck_fault deck) (numbered (described (unwrap_or name (deck_name cards)) cards))

@@ -1,6 +1,6 @@
 -- The data cards of a deck, and what each holds.
-use Rattle.std.specs.Prelude.{ℕ, Bool, false, not, ◌&&◌, List, [], ◌∷◌, Option, Some, None, codes, if◌then◌else◌, unwrap_or, option_map, map, filter_map}
-use Rattle.card_definitions.specs.Words.{named, is_empty, each_behind}
+use Rattle.std.specs.Prelude.{ℕ, Bool, not, ◌&&◌, List, [], ◌∷◌, Option, Some, None, codes, if◌then◌else◌, option_map, map}
+use Rattle.card_definitions.specs.Words.{named, is_empty, gathered}
 use Rattle.card_definitions.specs.Cards.{Card}
 use Rattle.card_definitions.specs.Fields.{Form, Fixed, Reading, reading_of}
 use Rattle.card_definitions.specs.Numbers.{decimal_of}
@@ -12,7 +12,7 @@ use Rattle.problem_definitions.specs.Names.{Name}
 use Rattle.problem_definitions.specs.Kinds.{takes_value}
 use Rattle.problem_definitions.specs.Problem.{Row, Entry, Bound, Group}
 use Rattle.deck_definitions.specs.declared.Section.{Section}
-use Rattle.deck_definitions.specs.Sections.{is_section, is_section_card, section_after}
+use Rattle.deck_definitions.specs.Sections.{is_section_card, is_section_after}
 
 -- the form of a deck's data cards, by the deck's cards
 abbrev pub form_of : List Card → Form
@@ -24,7 +24,7 @@ read_behind before card = reading_of (form_of before) card.bytes
 
 -- whether a card, behind others, is a data card of this section
 abbrev pub is_data_card_of : Section → List Card → Card → Bool
-is_data_card_of section before card = not (is_section_card card.bytes) && unwrap_or (option_map (is_section section) (section_after before)) false
+is_data_card_of section before card = not (is_section_card card.bytes) && is_section_after section before
 
 -- what a card, behind others, gives as a data card of this section
 abbrev pub given_by : {X : Type 0} → Section → (Reading → Option X) → List Card → Card → Option X
@@ -32,7 +32,7 @@ given_by section give before card = if is_data_card_of section before card then 
 
 -- what the data cards of one section give, in order
 abbrev pub given : {X : Type 0} → Section → (Reading → Option X) → List Card → List X
-given section give cards = filter_map (λ gift. gift) (each_behind (given_by section give) [] cards)
+given section give cards = gathered (given_by section give) cards
 
 -- the row types and the bound types, by the words in field 1
 abbrev pub row_kinds : List (List ℕ × RowKind)

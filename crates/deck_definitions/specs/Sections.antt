@@ -10,7 +10,14 @@ use Rattle.deck_definitions.specs.declared.Section.TheVariants.{Header, Rows, Co
 
 -- the words of the section cards
 abbrev pub section_words : List (List ℕ × Section)
-section_words = (codes "NAME", Header) ∷ (codes "ROWS", Rows) ∷ (codes "COLUMNS", Columns) ∷ (codes "RHS", Rhs) ∷ (codes "RANGES", Ranges) ∷ (codes "BOUNDS", Bounds) ∷ (codes "ENDATA", Endata) ∷ []
+section_words =
+    (codes "NAME", Header) ∷
+    (codes "ROWS", Rows) ∷
+    (codes "COLUMNS", Columns) ∷
+    (codes "RHS", Rhs) ∷
+    (codes "RANGES", Ranges) ∷
+    (codes "BOUNDS", Bounds) ∷
+    (codes "ENDATA", Endata) ∷ []
 
 -- the order of the sections
 abbrev pub rank : Section → ℕ
@@ -56,6 +63,10 @@ begins section card = unwrap_or (option_map (is_section section) (section_begun 
 -- the section that goes on behind these cards: the last that one of them began
 abbrev pub section_after : List Card → Option Section
 section_after cards = last_or None (filter_map (λ card. section_begun card.bytes) cards)
+
+-- whether it is this one
+abbrev pub is_section_after : Section → List Card → Bool
+is_section_after section cards = unwrap_or (option_map (is_section section) (section_after cards)) false
 
 -- the name on a NAME card
 abbrev pub header_name : List ℕ → Name

@@ -74,7 +74,8 @@ pair_fault seen section taken count pair = first_fault (
 
 -- the tests of a card's pairs, each behind those before it
 abbrev pub pairs_fault : Problem Name → Section → List (Entry Name) → ℕ → List Pair → Option DeckFaultKind
-pairs_fault seen section taken count pairs = first_fault (each_behind (λ before pair. pair_fault seen section (taken ++ map entry_of before) (count + length before) pair) [] pairs)
+pairs_fault seen section taken count pairs =
+    first_fault (each_behind (λ before pair. pair_fault seen section (taken ++ map entry_of before) (count + length before) pair) [] pairs)
 
 -- a card that marks integer columns has the word in field 3 or 5
 abbrev pub marks : Reading → Option DeckFaultKind

@@ -29,7 +29,8 @@ bound_kind_text Pl = codes "PL"
 
 -- a data card with these fields 1 to 4, each at the left of its columns, up to its last byte that isn't blank
 unfoldable pub data_card : List ℕ → Name → Name → List ℕ → List ℕ
-data_card kind name1 name2 value = without_trailing is_blank (codes " " ++ padded 2 kind ++ codes " " ++ padded 8 name1 ++ codes "  " ++ padded 8 name2 ++ codes "  " ++ value)
+data_card kind name1 name2 value =
+    without_trailing is_blank (codes " " ++ padded 2 kind ++ codes " " ++ padded 8 name1 ++ codes "  " ++ padded 8 name2 ++ codes "  " ++ value)
 
 abbrev pub row_card : Row → List ℕ
 row_card row = data_card (row_kind_text row.kind) row.name [] []
@@ -40,11 +41,17 @@ entry_cards group = map (λ entry. data_card [] group.name entry.row entry.value
 
 -- a column without entries has a card with the number 0 on the first row, if there is a row
 abbrev pub column_cards : List Row → Group (Entry Name) → List (List ℕ)
-column_cards rows column = if is_empty column.items then map (λ row. data_card [] column.name row.name (codes "0")) (take 1 rows) else entry_cards column
+column_cards rows column =
+    if is_empty column.items then map (λ row. data_card [] column.name row.name (codes "0")) (take 1 rows)
+    else entry_cards column
+
+-- the kept text of a bound's number, and none where it has no number
+abbrev pub bound_text : Bound Name → List ℕ
+bound_text bound = unwrap_or (option_map (λ value. value.text) bound.value) []
 
 -- one card per item of a set of bounds
 abbrev pub bound_cards : Group (Bound Name) → List (List ℕ)
-bound_cards set = map (λ bound. data_card (bound_kind_text bound.kind) set.name bound.column (unwrap_or (option_map (λ value. value.text) bound.value) [])) set.items
+bound_cards set = map (λ bound. data_card (bound_kind_text bound.kind) set.name bound.column (bound_text bound)) set.items
 
 -- a section of sets, which is there only where there is a set
 abbrev pub set_section : {X : Type 0} → List ℕ → (Group X → List (List ℕ)) → List (Group X) → List (List ℕ)

@@ -3,7 +3,7 @@ use Rattle.std.proofs.Common.{◌≡◌, ℕ, ◌+◌, ◌-◌, ◌≤◌, Bool,
 use Rattle.std.specs.Option.{option_or}
 use Rattle.std.proofs.lemmas.List.{length-append, length-map}
 use Rattle.card_definitions.specs.Words.{first_fault}
-use Rattle.card_definitions.proofs.Faults.{each_behind-same, each_behind-shift}
+use Rattle.card_definitions.proofs.Behind.{each_behind-same, each_behind-shift}
 use Rattle.problem_definitions.specs.Names.{Name, same}
 use Rattle.problem_definitions.specs.Problem.{Problem, Entry, has_entry}
 use Rattle.deck_definitions.specs.declared.DeckFaultKind.{DeckFaultKind}

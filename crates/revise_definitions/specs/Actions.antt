@@ -34,7 +34,9 @@ is_heading form card = is_section_card card || is_action_card form card
 
 -- The action card that holds behind these cards is the last section card or action card, if that is an action card.
 abbrev pub action_card_after : List Card → Option Card
-action_card_after cards = option_and_then (λ card. if is_section_card card.bytes then None else Some card) (last_or None (filter (λ card. is_heading (form_of cards) card.bytes) cards))
+action_card_after cards =
+    option_and_then (λ card. if is_section_card card.bytes then None else Some card)
+    (last_or None (filter (λ card. is_heading (form_of cards) card.bytes) cards))
 
 -- the action that holds behind these cards, and the name on its card
 abbrev pub action_after : List Card → Option Action
@@ -61,6 +63,12 @@ abbrev pub edit_of : List Card → Card → Option Edit
 edit_of before card = if is_heading (form_of before) card.bytes then None else by (section_after before) (action_after before)
   where
     by : Option Section → Option Action → Option Edit
-    by (Some section) (Some action) = Some (record { section = section; action = action; anchor = anchor_after before; under = under_after before; card = read_behind before card })
+    by (Some section) (Some action) = Some (record {
+      section = section;
+      action = action;
+      anchor = anchor_after before;
+      under = under_after before;
+      card = read_behind before card;
+    })
     by (Some section) None = None
     by None _ = None

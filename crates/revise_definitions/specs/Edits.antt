@@ -50,11 +50,17 @@ place_of edit there names = by edit.action
 
 -- the rows with the card's row put next to the anchor
 abbrev pub insert_row : Edit → List Row → List Row
-insert_row edit rows = unwrap_or (option_map (λ row. insert rows (place_of edit (length edit.under) (map (λ other. other.name) rows)) row) (row_of edit.card)) rows
+insert_row edit rows =
+    let place = place_of edit (length edit.under) (map (λ row. row.name) rows) in
+    unwrap_or (option_map (insert rows place) (row_of edit.card)) rows
 
--- the row that the card names gets the type in field 1
+-- a row with the type in field 1
+abbrev pub retyped : Reading → Row → Row
+retyped card row = record { kind = unwrap_or (named row_kinds card.kind) row.kind; name = row.name }
+
+-- the row that the card names gets its type
 abbrev pub modify_row : Reading → List Row → List Row
-modify_row card rows = map (λ row. if same card.name1 row.name then record { kind = unwrap_or (named row_kinds card.kind) row.kind; name = row.name } else row) rows
+modify_row card rows = map (λ row. if same card.name1 row.name then retyped card row else row) rows
 
 -- the row goes, with its entries and its items in all sets; a set that has lost its last item goes
 abbrev pub delete_row : Name → Problem Name → Problem Name
@@ -74,7 +80,8 @@ goes_on under card = unwrap_or (option_map (λ before. same card.name1 before.na
 abbrev pub insert_column : Edit → List (Group (Entry Name)) → List (Group (Entry Name))
 insert_column edit columns =
     if goes_on edit.under edit.card then in_group edit.card.name1 (λ entries. entries ++ entries_of edit.card) columns
-    else insert columns (place_of edit (length (different (map (λ card. card.name1) edit.under))) (group_names columns)) (record { name = edit.card.name1; items = entries_of edit.card })
+    else insert columns (place_of edit (length (different (map (λ card. card.name1) edit.under))) (group_names columns))
+    (record { name = edit.card.name1; items = entries_of edit.card })
 
 -- the column goes, with its bounds
 abbrev pub delete_column : Name → Problem Name → Problem Name

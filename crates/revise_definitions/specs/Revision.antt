@@ -1,6 +1,6 @@
 -- The first fault of a REVISE deck, and the problem of a deck without one.
-use Rattle.std.specs.Prelude.{ℕ, Bool, List, [], nat_lt, Option, Some, None, Result, if◌then◌else◌, unwrap_or, fold, filter_map}
-use Rattle.card_definitions.specs.Words.{each_behind, unless}
+use Rattle.std.specs.Prelude.{ℕ, Bool, List, nat_lt, Option, Some, None, Result, if◌then◌else◌, unwrap_or, fold}
+use Rattle.card_definitions.specs.Words.{gathered, unless}
 use Rattle.card_definitions.specs.Cards.{Card, live}
 use Rattle.problem_definitions.specs.Names.{Name}
 use Rattle.problem_definitions.specs.Problem.{Problem}
@@ -19,7 +19,7 @@ use Rattle.revise_definitions.specs.Tests.{action_fault, action_data_fault}
 
 -- the edits that the cards of a deck stand for, in order
 abbrev pub edits : List Card → List Edit
-edits cards = filter_map (λ edit. edit) (each_behind edit_of [] cards)
+edits cards = gathered edit_of cards
 
 -- The problem after the edits of these cards, each in turn.
 unfoldable pub revised : Problem Name → List Card → Problem Name
@@ -50,4 +50,6 @@ revise_fault old deck = fault_by (revise_card_fault old) deck
 
 -- What a REVISE deck makes of an old problem: its first fault, or the revised problem, under this name or else the deck's.
 unfoldable pub revision : Problem ℕ → List Card → Option Name → Result (Problem ℕ) DeckFault
-revision old deck name = unless (revise_fault (by_names old) deck) (numbered (record (revised (by_names old) (live deck)) { name = unwrap_or name (deck_name (live deck)) }))
+revision old deck name =
+    let new = revised (by_names old) (live deck) in
+    unless (revise_fault (by_names old) deck) (numbered (record new { name = unwrap_or name (deck_name (live deck)) }))

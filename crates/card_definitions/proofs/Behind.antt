@@ -1,8 +1,10 @@
--- The first fault of two lists of tests, and the tests of a list in two parts.
+-- Elements of a list with those before them, and the first fault that tests of them find.
 use Rattle.std.proofs.Common.{◌≡◌, List, [], ◌∷◌, ◌++◌, Option, Some, None, refl, ap, ap₂, sym, ◌∙◌}
-use Rattle.std.specs.Option.{option_or}
+use Rattle.std.specs.List.{cons_option, filter_map}
+use Rattle.std.specs.Option.{option_or, option_to_list}
 use Rattle.std.proofs.lemmas.List.{append_assoc, append-nil}
-use Rattle.card_definitions.specs.Words.{each_behind, first_fault}
+use Rattle.std.proofs.lemmas.List.Elements.{filter_map-append}
+use Rattle.card_definitions.specs.Words.{each_behind, gathered, first_fault}
 
 -- the first fault of two lists is that of the first, or else that of the second
 pub first_fault-append : {F : Type 0} (xs ys : List (Option F)) → first_fault (xs ++ ys) ≡ option_or (first_fault xs) (first_fault ys)
@@ -31,3 +33,14 @@ each_behind-shift f first before (x ∷ xs) =
 pub each_behind-same : {X Y : Type 0} (f g : List X → X → Y) → ((before : List X) (x : X) → f before x ≡ g before x) → (before xs : List X) → each_behind f before xs ≡ each_behind g before xs
 each_behind-same f g same before [] = refl
 each_behind-same f g same before (x ∷ xs) = ap₂ (λ y ys. y ∷ ys) (same before x) (each_behind-same f g same (before ++ x ∷ []) xs)
+
+pub cons_option-nil : {A : Type 0} (o : Option A) → cons_option o [] ≡ option_to_list o
+cons_option-nil None = refl
+cons_option-nil (Some x) = refl
+
+-- what the elements of a list gave, with one more element
+pub gathered-push : {X Y : Type 0} (f : List X → X → Option Y) (xs : List X) (x : X) → gathered f (xs ++ x ∷ []) ≡ gathered f xs ++ option_to_list (f xs x)
+gathered-push f xs x =
+    ap (filter_map (λ given. given)) (each_behind-append f [] xs (x ∷ []))
+    ∙ filter_map-append (λ given. given) (each_behind f [] xs) (f xs x ∷ [])
+    ∙ ap (λ list. gathered f xs ++ list) (cons_option-nil (f xs x))
