@@ -1,7 +1,9 @@
--- What callers see of the fields of a card.
-use Rattle.std.specs.Prelude.{◌≡◌}
+-- What the readers of this crate give, in the words of the definitions.
+use Rattle.std.specs.Prelude.{◌≡◌, if◌then◌else◌, pos, neg_ℤ}
+use Rattle.exact_values.specs.Rational.{ℚ, fraction}
 use Rattle.card_definitions.specs.Fields.{Reading}
 use Rattle.deck_fields.specs.declared.texts.Fields.{Fields}
+use Rattle.deck_fields.specs.declared.reading.Quotient.{Quotient}
 
 -- six borrowed fields hold the texts of a reading
 pub record ShowsFields (fields : Fields) (reading : Reading) : Type 0 where
@@ -11,3 +13,7 @@ pub record ShowsFields (fields : Fields) (reading : Reading) : Type 0 where
   pub value1 : fields.value1.now ≡ reading.value1
   pub name3 : fields.name3.now ≡ reading.name3
   pub value2 : fields.value2.now ≡ reading.value2
+
+-- the value of a quotient
+abbrev pub quotient_value : Quotient → ℚ
+quotient_value q = fraction (if q.is_negative then neg_ℤ (pos q.size) else pos q.size) q.denominator

@@ -4,6 +4,7 @@ ghost use Rattle.std.specs.List.{take_while, prefix_len, list_all, position_or_l
 ghost use Rattle.card_definitions.specs.Words.{is_empty, without_leading};
 ghost use Rattle.card_definitions.specs.Cards.{is_blank};
 ghost use Rattle.card_definitions.specs.Numbers.{mantissa, exponent, whole_digits, after_whole_digits, fraction_digits, exponent_digits, formed_length, has_exponent, lacks_digit, exponent_size, number_fault, number_of, value_of, digits_value, is_negative, is_digit, is_sign, is_point, is_exponent_letter, after_one, trimmed, next_value};
+ghost use Rattle.deck_fields.specs.Readings.{quotient_value};
 
 use crate::blanks::{leading_blanks, without_leading_blanks};
 use crate::decimal::Decimal;
@@ -235,36 +236,70 @@ fn digits_of(text: &[u8]) -> u64
 }
 
 // Ten to a power.
-#[tactic(auto, using(crate::proofs::Digits::small_power))]
-fn power_of_ten(exponent: u32) -> i128
+#[tactic(auto, using(crate::proofs::Digits::small_power, crate::proofs::Digits::ten_pos))]
+fn power_of_ten(exponent: u32) -> u128
     requires { exponent ≤ 18 }
     ensures value { result ≡ 10 ^ exponent }
     ensures bound { result ≤ 10 ^ 18 }
+    ensures positive { 1 ≤ result }
 {
-    10i128.pow(exponent)
+    10u128.pow(exponent)
+}
+
+// A number as a sign, a magnitude and a denominator, which needn't be in lowest terms.
+#[derive(Clone, Copy)]
+struct Quotient {
+    is_negative: bool,
+    size: u128,
+    denominator: u128,
+}
+
+// The exact value of a text in which no fault was found, as a quotient.
+#[tactic(auto, unfolding(card_definitions::specs::Numbers::value_of))]
+fn quotient_of(text: &[u8]) -> Quotient
+    requires short { length text.now ≤ 12 }
+    requires exponent { exponent_size text.now ≤ 18 }
+    ensures value { quotient_value result ≡ value_of text.now }
+    ensures size { result.size < 10 ^ 30 }
+    ensures positive { 1 ≤ result.denominator }
+    ensures denominator { result.denominator ≤ 10 ^ 36 }
+{
+    let digits = digits_of(text) as u128;
+    let power = power_of_ten(exponent_size_of(text) as u32);
+    let scale = power_of_ten(fraction_digits_of(text).len() as u32);
+    let is_negative = begins_with_minus(text);
+    if begins_with_minus(exponent_of(text)) {
+        Quotient {
+            is_negative,
+            size: digits,
+            denominator: scale * power,
+        }
+    } else {
+        Quotient {
+            is_negative,
+            size: digits * power,
+            denominator: scale,
+        }
+    }
 }
 
 // The exact value of a text in which no fault was found.
-#[tactic(auto, unfolding(card_definitions::specs::Numbers::value_of))]
 fn value_in(text: &[u8]) -> Frac
     requires short { length text.now ≤ 12 }
     requires exponent { exponent_size text.now ≤ 18 }
     ensures { result ≡ value_of text.now }
 {
-    let digits = digits_of(text) as i128;
-    let power = power_of_ten(exponent_size_of(text) as u32);
-    let scale = power_of_ten(fraction_digits_of(text).len() as u32);
-    let (size, denominator) = if begins_with_minus(exponent_of(text)) {
-        (digits, scale * power)
+    let quotient = quotient_of(text);
+    let denominator = quotient.denominator as i128;
+    if quotient.is_negative {
+        Frac::new(-(quotient.size as i128), denominator)
     } else {
-        (digits * power, scale)
-    };
-    let numerator = if begins_with_minus(text) { -size } else { size };
-    Frac::new(numerator, denominator)
+        Frac::new(quotient.size as i128, denominator)
+    }
 }
 
 /// The number that a field holds, or the field's first fault. The place of a bad character counts from 1 in the field.
-#[tactic(auto, unfolding(card_definitions::specs::Numbers::number_of))]
+#[tactic(auto, unfolding(card_definitions::specs::Numbers::number_of), using(crate::proofs::Trimmed::exponent_is_small, crate::proofs::Trimmed::text_is_decimal))]
 pub fn number(text: &[u8]) -> Result<Decimal, NumberFault>
     requires { length text.now ≤ 12 }
     ensures { result ≡ number_of text.now }

@@ -1,4 +1,6 @@
 // Why a deck isn't read.
+ghost use Rattle.std.specs.Prelude.{◌≡◌};
+
 use deck_definitions::DeckFault;
 use std::alloc::{AllocError, AllocFailed};
 use thiserror::Error;
