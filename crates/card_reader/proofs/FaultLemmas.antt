@@ -4,7 +4,7 @@ use Rattle.std.specs.Prelude.{nat_lt}
 use Rattle.std.specs.Option.{option_or}
 use Rattle.std.proofs.lemmas.Bool.Decides.{nat_tests}
 use Rattle.std.proofs.lemmas.List.{map-append}
-use Rattle.card_definitions.proofs.Faults.{first_fault-append}
+use Rattle.card_definitions.proofs.Behind.{first_fault-append}
 use Rattle.card_definitions.specs.Words.{first_fault, ◌⟹◌}
 use Rattle.card_definitions.specs.Cards.{Card, card_fault, cards_of, job_fault, numbered_cards, numbered_from}
 use Rattle.card_definitions.specs.declared.CardFault.{CardFault}

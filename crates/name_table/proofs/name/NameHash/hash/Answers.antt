@@ -1,0 +1,5 @@
+use Rattle.name_table.specs.Places_laws.{padded-text_in}
+use Rattle.name_table.proofs.name.NameHash.hash.Goals as goal
+
+pub returns : goal.returns
+returns g c = rw (← c.self.view_is, padded-text_in 8 c.self.inside.places c.self.told) c.hash.ensures

@@ -1,0 +1,3 @@
+pub mod Places
+pub mod Places_laws
+pub mod Numbers

@@ -1,0 +1,18 @@
+-- Texts that stand in places, with blanks behind them.
+use Rattle.std.specs.Prelude.{◌≡◌, ℕ, List, ◌++◌, length, replicate, take, IsTrue}
+use Rattle.std.specs.List.{list_all}
+use Rattle.card_definitions.specs.Words.{without_trailing}
+use Rattle.card_definitions.specs.Cards.{is_blank, is_printable}
+
+-- a text with blanks behind it up to so many places
+abbrev pub padded : ℕ → List ℕ → List ℕ
+padded width text = take width (text ++ replicate width 32)
+
+-- the text that stands in these places
+abbrev pub text_in : List ℕ → List ℕ
+text_in places = without_trailing is_blank places
+
+-- the 8 places of a name
+pub record ArePrintable (places : List ℕ) : Type 0 where
+  pub eight : length places ≡ 8
+  pub printable : IsTrue (list_all is_printable places)

@@ -1,0 +1,107 @@
+-- Texts in places, and the names that stand in 8 of them.
+use Rattle.std.proofs.Common.{◌≡◌, ℕ, zero, suc, ◌+◌, ◌-◌, ◌≤◌, Bool, true, false, ◌&&◌, List, [], ◌∷◌, ◌++◌, length, take, drop, replicate, refl, ap, sym, ◌∙◌, arith, IsTrue, length-append, eqb}
+use Rattle.std.specs.Prelude.{bytes_eq}
+use Rattle.std.specs.Hash as fed
+use Rattle.std.specs.List.{list_all, suffix_len}
+use Rattle.std.proofs.lemmas.Bool.{eqb-true}
+use Rattle.std.proofs.lemmas.Bool.Decides.{same_from_decides, Decides-like}
+use Rattle.std.proofs.lemmas.Slice.Eq.{bytes_eq-Decides}
+use Rattle.std.proofs.lemmas.List.{take-replicate, drop-replicate, length-replicate, length-take-le}
+use Rattle.std.proofs.lemmas.List.Folds.{list_all-append}
+use Rattle.std.proofs.lemmas.List.Sums.{suffix_len-le-length}
+use Rattle.std.proofs.Math.Seq.{take-append-add, take-length}
+use Rattle.card_definitions.specs.Words.{without_trailing}
+use Rattle.card_definitions.specs.Cards.{is_blank, is_printable}
+use Rattle.card_definitions.proofs.Trailing.{trailing_split, without_trailing-append}
+use Rattle.problem_definitions.specs.Valid.{IsName}
+use Rattle.name_table.specs.Places.{padded, text_in, ArePrintable}
+
+all_blank : (ys : List ℕ) → list_all is_blank ys ≡ true → ys ≡ replicate (length ys) 32
+all_blank [] h = refl
+all_blank (y ∷ ys) h = by (eqb y 32) refl h (all_blank ys)
+  where
+    by : (b : Bool) → eqb y 32 ≡ b → (b && list_all is_blank ys) ≡ true → (list_all is_blank ys ≡ true → ys ≡ replicate (length ys) 32) → (y ∷ ys) ≡ (32 ∷ replicate (length ys) 32)
+    by true e rest more = ap (λ z. z ∷ ys) (eqb-true y 32 e) ∙ ap (λ zs. 32 ∷ zs) (more rest)
+    by false e rest more = cc rest
+
+-- blanks, and what passes of them
+blanks_pass : (p : ℕ → Bool) (n : ℕ) → p 32 ≡ true → list_all p (replicate n 32) ≡ true
+blanks_pass p zero h = refl
+blanks_pass p (suc n) h = rw h (blanks_pass p n h)
+
+module _ (width : ℕ) where
+  -- a text in its places has blanks behind it
+  padded_is : (text : List ℕ) → length text ≤ width → padded width text ≡ text ++ replicate (width - length text) 32
+  padded_is text short =
+      let sum : length text + (width - length text) ≡ width = omega arith in
+      ap (λ n. take n (text ++ replicate width 32)) (sym sum) ∙ take-append-add text (replicate width 32) (width - length text)
+      ∙ ap (λ zs. text ++ zs) (take-replicate (width - length text) width 32 (omega arith))
+
+  pub padded_behind : (text : List ℕ) → length text ≤ width → text ++ drop (length text) (replicate width 32) ≡ padded width text
+  padded_behind text short = ap (λ zs. text ++ zs) (drop-replicate (length text) width 32) ∙ sym (padded_is text short)
+
+  pub length-padded : (text : List ℕ) → length text ≤ width → length (padded width text) ≡ width
+  length-padded text short =
+      ap length (padded_is text short) ∙ length-append text (replicate (width - length text) 32)
+      ∙ ap (λ n. length text + n) (length-replicate (width - length text) 32) ∙ omega arith
+
+  padded-split : (kept ys : List ℕ) → list_all is_blank ys ≡ true → length (kept ++ ys) ≡ width → padded width kept ≡ kept ++ ys
+  padded-split kept ys all full =
+      let sum : length kept + length ys ≡ width = sym (length-append kept ys) ∙ full in
+      let rest : width - length kept ≡ length ys = omega arith in
+      padded_is kept (omega arith) ∙ ap (λ zs. kept ++ zs) (ap (λ n. replicate n 32) rest ∙ sym (all_blank ys all))
+
+  -- Places hold their text with blanks behind it.
+  pub padded-text_in : (places : List ℕ) → length places ≡ width → padded width (text_in places) ≡ places
+  padded-text_in places full = let split = trailing_split is_blank places in padded-split (text_in places) split.0 split.1 (ap length (sym split.2) ∙ full) ∙ sym split.2
+
+  -- A text without blanks at its end is what its places hold.
+  pub text_in-padded : (text : List ℕ) → length text ≤ width → without_trailing is_blank text ≡ text → text_in (padded width text) ≡ text
+  text_in-padded text short trimmed =
+      ap text_in (padded_is text short) ∙ without_trailing-append is_blank text (replicate (width - length text) 32) (blanks_pass is_blank (width - length text) refl) ∙ trimmed
+
+  -- Places are equal where their texts are.
+  pub same_in_places : (a b : List ℕ) → length a ≡ width → length b ≡ width → bytes_eq a b ≡ bytes_eq (text_in a) (text_in b)
+  same_in_places a b a_full b_full =
+      same_from_decides (bytes_eq a b) (bytes_eq (text_in a) (text_in b)) (bytes_eq-Decides a b)
+      (Decides-like (bytes_eq (text_in a) (text_in b)) (λ e. sym (padded-text_in a a_full) ∙ ap (padded width) e ∙ padded-text_in b b_full) (ap text_in) (bytes_eq-Decides (text_in a) (text_in b)))
+
+-- A name's places hold it.
+pub name_in_places : (name : List ℕ) → IsName name → text_in (padded 8 name) ≡ name
+name_in_places name h = text_in-padded 8 name h.short h.trimmed
+
+pub placed : (name : List ℕ) → IsName name → ArePrintable (padded 8 name)
+placed name h = record {
+  eight = length-padded 8 name h.short;
+  printable = ap (list_all is_printable) (padded_is 8 name h.short) ∙ list_all-append is_printable name (replicate (8 - length name) 32) ∙ rw h.printable (blanks_pass is_printable (8 - length name) refl);
+}
+
+-- What stands in 8 printable places is a name.
+pub name_stands : (places : List ℕ) → ArePrintable places → IsName (text_in places)
+name_stands places h =
+    let split = trailing_split is_blank places in
+    let lengths : length (text_in places) + length split.0 ≡ 8 = sym (length-append (text_in places) split.0) ∙ ap length (sym split.2) ∙ h.eight in
+    record {
+      short = omega arith;
+      printable = first_pass (list_all is_printable (text_in places)) (list_all is_printable split.0)
+          (sym (list_all-append is_printable (text_in places) split.0) ∙ ap (list_all is_printable) (sym split.2) ∙ h.printable);
+      trimmed = sym (without_trailing-append is_blank (text_in places) split.0 split.1) ∙ ap text_in (sym split.2);
+    }
+  where
+    first_pass : (a b : Bool) → (a && b) ≡ true → a ≡ true
+    first_pass true b e = refl
+    first_pass false b e = cc e
+
+-- A text none of whose last bytes passes is trimmed, and the other way round.
+pub untrimmed : (p : ℕ → Bool) (xs : List ℕ) → (suffix_len p xs ≡ 0 → without_trailing p xs ≡ xs) × (without_trailing p xs ≡ xs → suffix_len p xs ≡ 0)
+untrimmed p xs = (
+  λ e. let all : length xs - suffix_len p xs ≡ length xs = omega arith in rw all (take-length xs),
+  λ e. let bound : suffix_len p xs ≤ length xs = suffix_len-le-length p xs in
+      let kept : length (without_trailing p xs) ≡ length xs - suffix_len p xs = length-take-le (length xs - suffix_len p xs) xs (omega arith) in
+      let same : length (without_trailing p xs) ≡ length xs = ap length e in
+      omega arith,
+)
+
+-- Equal names stand alike in their places.
+pub places_alike : (x y : List ℕ) → IsTrue (bytes_eq x y) → fed.slice fed.u8 (padded 8 x) ≡ fed.slice fed.u8 (padded 8 y)
+places_alike x y h = let same : x ≡ y = (bytes_eq-Decides x y).0 h in ap (λ name. fed.slice fed.u8 (padded 8 name)) same
