@@ -1,13 +1,14 @@
 -- What the tests tell, and the sign.
-use Rattle.std.proofs.Common.{◌≡◌, ◌≢◌, Bool, true, false, not, refl, sym, ap, pos, negsuc, Less, Equal, Greater, arith}
+use Rattle.std.proofs.Common.{◌≡◌, ◌≢◌, Bool, true, false, not, refl, sym, ap, ◌⊎◌, inl, inr, pos, negsuc, Less, Equal, Greater, arith}
 use Rattle.std.proofs.lemmas.Int.{ints}
+use Rattle.std.specs.Prelude.{◌<ℤ◌, ◌≤ℤ◌}
 use Rattle.std.specs.Ordering.{is_lt}
 use Rattle.std.specs.Cmp.{Equal-is}
 use Rattle.std.specs.declared.cmp.Ordering.{Ordering}
 use Rattle.exact_values.specs.Rational.{ℚ, zero_ℚ, ◌≤ℚ◌, ◌<ℚ◌, compare_ℚ, sign_of, sign_ℚ}
 use Rattle.exact_values.specs.Tests.{lt_ℚ, le_ℚ, eq_ℚ}
 use Rattle.exact_values.proofs.Compare.{lt_from_compare, compare_from_lt, same_from_compare, compare_from_same, gt_from_compare, compare_from_gt, le_from_compare}
-use Rattle.exact_values.proofs.Order.{lt_not_le}
+use Rattle.exact_values.proofs.Order.{lt_not_le, lt_or_le}
 
 -- ---- whether x is below y
 
@@ -115,3 +116,35 @@ module _ (x : ℚ) where
 
   pub sign_from_above : zero_ℚ <ℚ x → sign_ℚ x ≡ pos 1
   sign_from_above h = ap sign_of (compare_from_gt h)
+
+  -- a sign that is tested by its order with 0
+  pub below_from_negative : sign_ℚ x <ℤ pos 0 → x <ℚ zero_ℚ
+  below_from_negative h = lt_from_compare (by_order (compare_ℚ x zero_ℚ) h)
+    where
+      by_order : (o : Ordering) → sign_of o <ℤ pos 0 → o ≡ Less
+      by_order Less k = refl
+      by_order Equal k = absurd (omega (arith, ints))
+      by_order Greater k = absurd (omega (arith, ints))
+
+  pub above_from_positive : pos 0 <ℤ sign_ℚ x → zero_ℚ <ℚ x
+  above_from_positive h = gt_from_compare (by_order (compare_ℚ x zero_ℚ) h)
+    where
+      by_order : (o : Ordering) → pos 0 <ℤ sign_of o → o ≡ Greater
+      by_order Less k = absurd (omega (arith, ints))
+      by_order Equal k = absurd (omega (arith, ints))
+      by_order Greater k = refl
+
+  pub at_least_from_not_negative : pos 0 ≤ℤ sign_ℚ x → zero_ℚ ≤ℚ x
+  at_least_from_not_negative h = le_from_compare (by_order (compare_ℚ x zero_ℚ) h)
+    where
+      by_order : (o : Ordering) → pos 0 ≤ℤ sign_of o → o ≡ Less → ⊥
+      by_order Less k e = absurd (omega (arith, ints))
+      by_order Equal k e = cc
+      by_order Greater k e = cc
+
+  pub at_most_from_not_positive : sign_ℚ x ≤ℤ pos 0 → x ≤ℚ zero_ℚ
+  at_most_from_not_positive h = by_case (lt_or_le zero_ℚ x)
+    where
+      by_case : (zero_ℚ <ℚ x) ⊎ (x ≤ℚ zero_ℚ) → x ≤ℚ zero_ℚ
+      by_case (inl above) = absurd (let e = sign_from_above above in omega (arith, ints))
+      by_case (inr le) = le

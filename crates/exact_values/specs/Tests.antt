@@ -4,9 +4,11 @@ use Rattle.std.specs.Ordering.{is_lt, is_eq}
 use Rattle.std.specs.declared.cmp.Ordering.{Ordering}
 use Rattle.exact_values.specs.Rational.{ℚ, compare_ℚ}
 
+-- whether the first of two compared values is below the second
 abbrev pub is_less : Ordering → Bool
 is_less = is_lt
 
+-- whether two compared values are equal
 abbrev pub is_equal : Ordering → Bool
 is_equal = is_eq
 
