@@ -9,3 +9,4 @@ pub mod Rays
 pub mod Steps
 pub mod OnePath
 pub mod Second
+pub mod Goes
