@@ -10,3 +10,4 @@ pub mod Steps
 pub mod OnePath
 pub mod Second
 pub mod Goes
+pub mod Searches
