@@ -13,14 +13,14 @@ use Rattle.lp_definitions.specs.declared.Evidence.{Evidence}
 use Rattle.lp_definitions.specs.declared.Status.{Status}
 use Rattle.path_definitions.specs.Path.{Move, after}
 use Rattle.overflow_definitions.specs.Formulas.{PointFormula, SlackFormula, MoveFormula, RatioFormula, RangeFormula, ObjectiveFormula, ShiftFormula, SlopeFormula}
-use Rattle.overflow_definitions.specs.Statements.{Statement, Primal, Range, is_between, belongs, program_at, change_row, shift_at, thetas_of, MovesAt, EntersAt, BringsAt}
+use Rattle.overflow_definitions.specs.Statements.{SolvingStatement, Primal, Range, is_between, belongs, program_at, change_row, shift_at, thetas_of, MovesAt, EntersAt, BringsAt}
 
 -- the formula tells of an exchange at a waypoint
 abbrev pub names_waypoint : ℕ → Bool
 names_waypoint f = is_between 1 5 f || nat_eq f 12
 
 -- a statement, the basis s with its tableau, the waypoint w with its rates, and the limits to which a step may go
-module _ (statement : Statement) (Goes : Status → Type 0) (s : List Status) (t : Tableau) (w : Basics) (way_rate : ℕ → ℕ → ℚ) (e : Evidence) where
+module _ (statement : SolvingStatement) (Goes : Status → Type 0) (s : List Status) (t : Tableau) (w : Basics) (way_rate : ℕ → ℕ → ℚ) (e : Evidence) where
   -- the program at the value that the evidence names
   abbrev pub present : LinearProgram
   present = program_at statement e.theta
@@ -39,7 +39,7 @@ module _ (statement : Statement) (Goes : Status → Type 0) (s : List Status) (t
 
 -- the operands are those of the formula at the basis s and the waypoint w, and the operation refuses them; a formula that tells
 -- of an exchange at w leads to a waypoint too, and any other means the basis itself. Around are the bases that waypoints lie in.
-pub record ShowsRefusal (statement : Statement) (Goes : Status → Type 0) (around : List Basics) (s : List Status) (w : Basics) (e : Evidence) : Type 0 where
+pub record ShowsRefusal (statement : SolvingStatement) (Goes : Status → Type 0) (around : List Basics) (s : List Status) (w : Basics) (e : Evidence) : Type 0 where
   pub tableau : Tableau
   pub is_tableau : IsTableau (program_at statement e.theta) s tableau
   pub way_rate : ℕ → ℕ → ℚ
@@ -50,7 +50,7 @@ pub record ShowsRefusal (statement : Statement) (Goes : Status → Type 0) (arou
   pub no_way : IsTrue (not (names_waypoint e.formula)) → (e.way ≡ 0) × (w ≡ basics_of s)
 
 -- the move that is made has the numbers p and q of the evidence, and p goes to the limit of this status
-pub record IsLeaver (statement : Statement) (break : Option ℚ) (s : List Status) (e : Evidence) (to : Status) : Type 0 where
+pub record IsLeaver (statement : SolvingStatement) (break : Option ℚ) (s : List Status) (e : Evidence) (to : Status) : Type 0 where
   pub move : Move
   pub moves : MovesAt statement break s move
   pub enters : move.enters ≡ e.q
@@ -58,24 +58,24 @@ pub record IsLeaver (statement : Statement) (break : Option ℚ) (s : List Statu
   pub goes_to : move.to ≡ to
 
 -- a report of intervals may ask of any limit
-abbrev pub GoesTo : Statement → Option ℚ → List Status → Evidence → Status → Type 0
+abbrev pub GoesTo : SolvingStatement → Option ℚ → List Status → Evidence → Status → Type 0
 GoesTo (Range p) break s e to = Unit {0}
 GoesTo statement break s e to = IsLeaver statement break s e to
 
 -- PRIMAL takes a step at s
-abbrev pub TakesStep : Statement → Option ℚ → List Status → Type 0
+abbrev pub TakesStep : SolvingStatement → Option ℚ → List Status → Type 0
 TakesStep (Primal p) break s = (m : Move) × MovesAt (Primal p) break s m
 TakesStep _ break s = Unit {0}
 
 -- in formulas 7 to 9, q is what is moved at s; in 14, i is what is brought back, and j may bring it; and 6 belongs to a basis at
 -- which PRIMAL takes a step
-pub record IsOfMove (statement : Statement) (break : Option ℚ) (s : List Status) (e : Evidence) : Type 0 where
+pub record IsOfMove (statement : SolvingStatement) (break : Option ℚ) (s : List Status) (e : Evidence) : Type 0 where
   pub enters : IsTrue (is_between 7 9 e.formula) → EntersAt statement break s e.q
   pub brings : IsTrue (nat_eq e.formula 14) → BringsAt statement break s e.i e.j
   pub steps : IsTrue (nat_eq e.formula 6) → TakesStep statement break s
 
 -- the basis that a step in hand is to reach, where one is made and so many steps are left
-abbrev pub IsAhead : Statement → Option ℚ → ℕ → List Status → Option (List Status) → Type 0
+abbrev pub IsAhead : SolvingStatement → Option ℚ → ℕ → List Status → Option (List Status) → Type 0
 IsAhead statement break left s None = Unit {0}
 IsAhead statement break left s (Some next) = (1 ≤ left) × ((m : Move) × MovesAt statement break s m × (next ≡ after s m))
 
@@ -86,7 +86,7 @@ with_ahead bases (Some next) = bases ++ next ∷ []
 -- s is the last of the bases of the path in hand, which has so many steps left; waypoints lie in these bases and the one that
 -- the step in hand is to reach; break is the value at which a parametric run takes face steps, if it is at one, and ends are the
 -- ends of its intervals so far
-pub record EvidenceHolds (statement : Statement) (break : Option ℚ) (left : ℕ) (bases : List (List Status)) (ends : List ℚ) (s : List Status) (w : Basics) (e : Evidence) : Type 0 where
+pub record EvidenceHolds (statement : SolvingStatement) (break : Option ℚ) (left : ℕ) (bases : List (List Status)) (ends : List ℚ) (s : List Status) (w : Basics) (e : Evidence) : Type 0 where
   pub before : List (List Status)
   pub reached : bases ≡ before ++ s ∷ []
   pub ahead : Option (List Status)
@@ -96,7 +96,7 @@ pub record EvidenceHolds (statement : Statement) (break : Option ℚ) (left : �
   pub of_move : IsOfMove statement break s e
   pub of_statement : IsTrue (belongs statement e)
 
-pub record ShiftHolds (statement : Statement) (ends : List ℚ) (e : Evidence) : Type 0 where
+pub record ShiftHolds (statement : SolvingStatement) (ends : List ℚ) (e : Evidence) : Type 0 where
   pub formula : ShiftFormula (program_at statement zero_ℚ) (shift_at statement) e
   pub no_way : e.way ≡ 0
   pub is_theta : Contains (thetas_of statement ends) e.theta

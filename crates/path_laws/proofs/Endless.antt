@@ -1,11 +1,11 @@
 -- What crossed, unbounded ends tell: limits that exclude each other, and a direction without end.
-use Rattle.std.proofs.Common.{◌≡◌, ℕ, suc, ◌+◌, ◌⊎◌, inl, inr, Bool, true, false, List, refl, sym, ap, subst, ◌∙◌, arith, pos}
+use Rattle.std.proofs.Common.{◌≡◌, ℕ, suc, ◌+◌, ◌⊎◌, inl, inr, Bool, true, false, List, refl, sym, ap, subst, ◌∙◌, arith}
 use Rattle.std.specs.Prelude.{Option, Some, None, not, ◌&&◌, ◌||◌, option_map, if◌then◌else◌}
 use Rattle.exact_values.specs.Rational.{ℚ, zero_ℚ, neg_ℚ, ◌-ℚ◌, ◌*ℚ◌, ◌/ℚ◌, ◌<ℚ◌}
 use Rattle.exact_values.specs.Tests.{lt_ℚ}
-use Rattle.exact_values.proofs.Ring.{by_ring1, by_ring2, by_ring3, ◌⊕◌, ◌⊖◌, ◌⊗◌, ◌≐◌, number, opposite}
+use Rattle.exact_values.proofs.Ring.{by_ring2, by_ring3, ◌⊕◌, ◌⊗◌, ◌≐◌, opposite}
 use Rattle.exact_values.proofs.Sums.{sum_to-same, sum_to-neg}
-use Rattle.exact_values.proofs.Order.{le_of_lt, lt_not_le, lt_by_one}
+use Rattle.exact_values.proofs.Order.{le_of_lt, lt_not_le}
 use Rattle.lp_definitions.specs.LinearProgram.{Matrix, LinearProgram, Vector, value_at, size, IsVariable, KeepsEquations, lower_of, upper_of, for_min, entry, combined, with_change_row, objective_value, IsLinearProgram, ChangeIsFree}
 use Rattle.lp_definitions.specs.Solutions.{IsCrossed, ProvesUnbounded}
 use Rattle.lp_definitions.specs.Basis.{basics_of, status_of, is_basic, IsBasis, IsNonbasic, Tableau, IsTableau}
@@ -18,7 +18,7 @@ use Rattle.lp_algebra.proofs.Equations.{KeepsEquations-same}
 use Rattle.lp_algebra.proofs.Uniqueness.{is_in-basics_of}
 use Rattle.path_definitions.specs.Moves.{on_limits, is_crossed, is_fixed, rises_from, falls_from, lowers, signed, goes_up, limit_ahead, entering}
 use Rattle.path_definitions.specs.Path.{EndsCrossed, EndsUnbounded, Ends, EndsAt, listed, speeds, worth_rate}
-use Rattle.path_laws.proofs.Tests.{lt_false, lt_true}
+use Rattle.path_laws.proofs.Tests.{lt_false, lt_true, neg_below}
 use Rattle.path_laws.proofs.Numbered.{find_some}
 use Rattle.path_laws.proofs.Stoppers.{stopper_none}
 use Rattle.path_laws.proofs.Turns.{bettering, IsEndlessTurn, rule_of, crossed_turn, endless_turn}
@@ -79,9 +79,6 @@ enters p s f q basis e =
 
 -- ---- a direction without end
 
-neg_zero : (v : ℚ) → zero_ℚ <ℚ v → neg_ℚ v <ℚ zero_ℚ
-neg_zero v h = lt_by_one h (by_ring1 v (λ v. number (pos 0) ≐ opposite v ⊕ (v ⊖ number (pos 0))) refl)
-
 for_min-neg : (sense : Sense) (v : ℚ) → for_min sense (neg_ℚ v) ≡ neg_ℚ (for_min sense v)
 for_min-neg Min v = refl
 for_min-neg Max v = refl
@@ -127,7 +124,7 @@ module _ (p : LinearProgram) (s : List Status) (t : Tableau) (basis : IsBasis p 
     where
       by_way : (up : Bool) → goes_up (worth_rate p s t) q ≡ up → for_min p.sense (combined p (speeds t.rate up q)) <ℚ zero_ℚ
       by_way true is = lt_true (worth_rate p s t q) zero_ℚ is
-      by_way false is = subst (λ v. v <ℚ zero_ℚ) (sym (ap (for_min p.sense) (with_change_row-neg p.change (λ i. t.rate i q) (t.rate p.objective q)) ∙ for_min-neg p.sense (combined p (λ i. t.rate i q)))) (neg_zero (worth_rate p s t q) (positive e.turns))
+      by_way false is = subst (λ v. v <ℚ zero_ℚ) (sym (ap (for_min p.sense) (with_change_row-neg p.change (λ i. t.rate i q) (t.rate p.objective q)) ∙ for_min-neg p.sense (combined p (λ i. t.rate i q)))) (neg_below (worth_rate p s t q) (positive e.turns))
         where
           positive : ((goes_up (worth_rate p s t) q ≡ true) ⊎ (zero_ℚ <ℚ worth_rate p s t q)) → zero_ℚ <ℚ worth_rate p s t q
           positive (inl h) = cc

@@ -9,3 +9,5 @@ pub mod Rays
 pub mod Steps
 pub mod OnePath
 pub mod Second
+pub mod Goes
+pub mod Searches

@@ -1,5 +1,5 @@
 -- Searches, tests and lists over the variables, which are the numbers from 1 on.
-use Rattle.std.proofs.Common.{◌≡◌, ◌≢◌, ℕ, zero, suc, ◌+◌, ◌<◌, ◌≤◌, ◌⊎◌, inl, inr, ◌∷◌, map, Bool, true, false, cond, refl, ap, subst, ◌∙◌, arith, get_or}
+use Rattle.std.proofs.Common.{◌≡◌, ◌≢◌, ℕ, zero, suc, ◌+◌, ◌<◌, ◌≤◌, ◌⊎◌, inl, inr, ◌∷◌, map, Bool, true, false, cond, refl, sym, ap, subst, ◌∙◌, arith, get_or}
 use Rattle.std.specs.Prelude.{eqb, Some, None, find, ◌&&◌}
 use Rattle.std.specs.List.{list_all}
 use Rattle.std.proofs.lemmas.Bool.Decides.{eqb_tells}
@@ -84,3 +84,23 @@ module _ {X : Type 0} where
   get_or-listed f zero first i d below = absurd (omega arith)
   get_or-listed f (suc n) first zero d below = ap f (omega arith)
   get_or-listed f (suc n) first (suc i) d below = get_or-listed f n (suc first) i d (omega arith) ∙ ap f (omega arith)
+
+module _ (test : ℕ → Bool) where
+  -- the first number that passes is found
+  pub find_first : (n first k : ℕ) → first ≤ k → k < first + n → test k ≡ true → ((j : ℕ) → first ≤ j → j < k → test j ≡ false) → find test (numbers_from first n) ≡ Some k
+  find_first zero first k low high passes before = absurd (omega arith)
+  find_first (suc n) first k low high passes before = at (eqb_tells k first) (find_first n (suc first) k)
+    where
+      Rest : Type 0
+      Rest = suc first ≤ k → k < suc first + n → test k ≡ true → ((j : ℕ) → suc first ≤ j → j < k → test j ≡ false) → find test (numbers_from (suc first) n) ≡ Some k
+
+      at : (((eqb k first ≡ true) × (k ≡ first)) ⊎ ((eqb k first ≡ false) × (k ≢ first))) → Rest → cond (test first) (Some first) (find test (numbers_from (suc first) n)) ≡ Some k
+      at (inl same) rest = let here : test first ≡ true = ap test (sym same.1) ∙ passes in rw here (ap (λ j. Some j) (sym same.1))
+      at (inr other) rest =
+          let here : test first ≡ false = before first (omega arith) (omega (arith, other.1)) in
+          rw here (rest (omega (arith, other.1)) (omega arith) passes (λ j from to. before j (omega arith) to))
+
+  -- and where none passes, none is
+  pub find_nothing : (n first : ℕ) → ((k : ℕ) → first ≤ k → k < first + n → test k ≡ false) → find test (numbers_from first n) ≡ None
+  find_nothing zero first h = refl
+  find_nothing (suc n) first h = rw (h first (omega arith) (omega arith)) (find_nothing n (suc first) (λ k low high. h k (omega arith) (omega arith)))

@@ -5,7 +5,7 @@ use Rattle.lp_definitions.specs.Basis.{basics_of, Tableau, IsTableau}
 use Rattle.lp_definitions.specs.declared.Status.{Status}
 use Rattle.lp_algebra.proofs.Uniqueness.{one_point, one_table}
 use Rattle.path_definitions.specs.Path.{Ending, turn, after, IsStep, EndsAt, IsPath, last_of, PathEnds, GoesOnFor}
-use Rattle.path_laws.specs.Laws.{IsNonsingularBasis, SameEnds}
+use Rattle.path_laws.specs.Laws.{IsNonsingularBasis, SameEnds, EndsWithin}
 use Rattle.path_laws.proofs.OneTurn.{SameTableau, turn_same}
 use Rattle.path_laws.proofs.Steps.{step_leads}
 
@@ -60,6 +60,6 @@ module _ (p : LinearProgram) (lawful : IsLinearProgram p) where
       let stepped : IsStep p (last_of x further) next = subst (λ z. IsStep p (last_of z further) next) (sym same) step in
       goes_on_from x bases further ending next (step_leads p s x at ended.is_path.0) (record { is_path = ended.is_path.1; ends = ended.ends }) (omega arith) moved stepped
 
-  pub ended_or_goes_on : (s : List Status) (bases : List (List Status)) (ending : Ending) (steps : ℕ) → IsNonsingularBasis p s → PathEnds p s bases ending → length bases ≤ steps → GoesOnFor p s steps → ⊥
-  ended_or_goes_on s bases ending steps at ended within goes_on =
-      goes_on_from s bases goes_on.bases ending goes_on.next at ended (omega (arith, goes_on.taken, within)) goes_on.is_path goes_on.is_step
+  pub not_both : (steps : ℕ) (s : List Status) → IsNonsingularBasis p s → EndsWithin p s steps → GoesOnFor p s steps → ⊥
+  not_both steps s at ended goes_on =
+      goes_on_from s ended.bases goes_on.bases ended.ending goes_on.next at ended.ends (omega (arith, goes_on.taken, ended.within)) goes_on.is_path goes_on.is_step

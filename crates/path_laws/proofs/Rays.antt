@@ -5,9 +5,9 @@ use Rattle.std.proofs.lemmas.Bool.Decides.{eqb_tells}
 use Rattle.divisors.specs.Gcd.{gcd}
 use Rattle.exact_values.specs.Rational.{ℚ, whole, fraction, zero_ℚ, one_ℚ, neg_ℚ, ◌+ℚ◌, ◌*ℚ◌, ◌≤ℚ◌, ◌<ℚ◌}
 use Rattle.exact_values.specs.Tests.{lt_ℚ}
-use Rattle.exact_values.proofs.Ring.{by_ring1, ◌⊕◌, ◌⊖◌, ◌⊗◌, ◌≐◌, number, opposite}
+use Rattle.exact_values.proofs.Ring.{by_ring1, ◌⊗◌, ◌≐◌, number, opposite}
 use Rattle.exact_values.proofs.Ring_laws.{mul-one, mul-zero, mul_assoc}
-use Rattle.exact_values.proofs.Order.{lt_irrefl, le_refl, lt_not_le, lt_by_one}
+use Rattle.exact_values.proofs.Order.{lt_irrefl, le_refl, lt_not_le}
 use Rattle.exact_values.proofs.Sums.{sum_to-same, sum_to-mul_left}
 use Rattle.lp_definitions.specs.LinearProgram.{LinearProgram, Vector, value_at, size, entry, IsVariable, IsColumn, KeepsEquations, lower_of, upper_of}
 use Rattle.lp_definitions.specs.Solutions.{IsRay}
@@ -23,7 +23,7 @@ use Rattle.lp_algebra.proofs.Combination.{multiplier_vanishes}
 use Rattle.lp_algebra.proofs.Rays.{ray_above, ray_below}
 use Rattle.path_definitions.specs.Moves.{is_below, is_outside, is_fixed, lowers, signed, on_limit}
 use Rattle.path_definitions.specs.Path.{EndsInfeasible, Ends, EndsAt, listed, ray_of, excess_rate, mover}
-use Rattle.path_laws.proofs.Tests.{lt_true}
+use Rattle.path_laws.proofs.Tests.{lt_true, neg_below, neg_above}
 use Rattle.path_laws.proofs.Numbered.{find_some, find_none, IsFound}
 use Rattle.path_laws.proofs.Turns.{IsFirstPhase, IsStuckTurn, rule_of, stuck_turn}
 use Rattle.path_laws.proofs.Ends.{right, value_at-listed}
@@ -39,10 +39,10 @@ zero_meets : (low high : Option ℚ) (z : ℚ) → Meets low high z zero_ℚ
 zero_meets low high z = record { positive = λ h. absurd (lt_irrefl h); negative = λ h. absurd (lt_irrefl h) }
 
 positive_opposite : (x e : ℚ) → x ≡ neg_ℚ e → zero_ℚ <ℚ e → x <ℚ zero_ℚ
-positive_opposite x e is h = rw is (lt_by_one h (by_ring1 e (λ e. number (pos 0) ≐ opposite e ⊕ (e ⊖ number (pos 0))) refl))
+positive_opposite x e is h = rw is (neg_below e h)
 
 negative_opposite : (x e : ℚ) → x ≡ neg_ℚ e → e <ℚ zero_ℚ → zero_ℚ <ℚ x
-negative_opposite x e is h = rw is (lt_by_one h (by_ring1 e (λ e. opposite e ≐ number (pos 0) ⊕ (number (pos 0) ⊖ e)) refl))
+negative_opposite x e is h = rw is (neg_above e h)
 
 -- a nonbasic that is fixed, or may not move so as to lower a quantity: the opposite of its rate meets a limit
 nonbasic_meets : (st : Status) (low high : Option ℚ) (z x e : ℚ) → is_basic st ≡ false → StandsAt st low high z → x ≡ neg_ℚ e →

@@ -5,7 +5,7 @@ use Rattle.exact_values.specs.Rational.{ℚ, zero_ℚ, neg_ℚ, ◌+ℚ◌, ◌-
 use Rattle.exact_values.specs.Tests.{lt_ℚ}
 use Rattle.exact_values.proofs.Ring.{by_ring1, by_ring2, by_ring3, by_ring4, ◌⊕◌, ◌⊖◌, ◌⊗◌, ◌≐◌, number, opposite}
 use Rattle.exact_values.proofs.Inverse.{div-mul_cancel, same_quotients}
-use Rattle.exact_values.proofs.Order.{lt_not_le, le_refl, le_trans, le_antisymm, le_of_lt, lt_by_one, le_by_one, le_by_product, le-div, mul-le_of_le-div, apart_from_above, apart_from_below}
+use Rattle.exact_values.proofs.Order.{lt_not_le, le_refl, le_trans, le_antisymm, le_of_lt, le_by_one, le_by_product, le-div, mul-le_of_le-div, apart_from_above, apart_from_below}
 use Rattle.lp_definitions.specs.LinearProgram.{LinearProgram, Vector, IsVariable, IsLinearProgram, lower_of, upper_of, for_min, objective_value}
 use Rattle.lp_definitions.specs.Solutions.{IsFeasible}
 use Rattle.lp_definitions.specs.Basis.{with_status, StandsAt, IsPointOf, Tableau, IsTableau}
@@ -19,7 +19,7 @@ use Rattle.lp_algebra.proofs.Uniqueness.{one_point}
 use Rattle.path_definitions.specs.Moves.{is_no_later, is_below, signed, goes_up, room, reached}
 use Rattle.path_definitions.specs.Path.{Move, Moves, after, IsStep, IsPath, last_of, worth_rate}
 use Rattle.path_laws.specs.Laws.{IsNonsingularBasis, IsNoWorse}
-use Rattle.path_laws.proofs.Tests.{lt_true, lt_false, le_true}
+use Rattle.path_laws.proofs.Tests.{lt_true, lt_false, le_true, neg_above}
 use Rattle.path_laws.proofs.Stoppers.{stopper_some, reaches_limit}
 use Rattle.path_laws.proofs.Turns.{IsStoppedTurn, MovingRule, brings, stops, bettering, moving_turn, rule_of}
 use Rattle.path_laws.proofs.Ends.{feasible, IsFeasible-same}
@@ -31,13 +31,7 @@ use Rattle.path_laws.proofs.Rays.{Breaks, breaks_lower, breaks_upper, broken_bas
 
 -- a quotient with both signs turned
 turned_quotient : (a v : ℚ) → v <ℚ zero_ℚ → a /ℚ v ≡ neg_ℚ a /ℚ neg_ℚ v
-turned_quotient a v h = same_quotients a v (neg_ℚ a) (neg_ℚ v) (apart_from_below h) (apart_from_above (opposite_above v h)) (by_ring2 a v (λ a v. a ⊗ opposite v ≐ opposite a ⊗ v) refl)
-  where
-    opposite_above : (v : ℚ) → v <ℚ zero_ℚ → zero_ℚ <ℚ neg_ℚ v
-    opposite_above v h = lt_by_one h (by_ring1 v (λ v. opposite v ≐ number (pos 0) ⊕ (number (pos 0) ⊖ v)) refl)
-
-above_zero : (v : ℚ) → v <ℚ zero_ℚ → zero_ℚ <ℚ neg_ℚ v
-above_zero v h = lt_by_one h (by_ring1 v (λ v. opposite v ≐ number (pos 0) ⊕ (number (pos 0) ⊖ v)) refl)
+turned_quotient a v h = same_quotients a v (neg_ℚ a) (neg_ℚ v) (apart_from_below h) (apart_from_above (neg_above v h)) (by_ring2 a v (λ a v. a ⊗ opposite v ≐ opposite a ⊗ v) refl)
 
 difference_above : (x y : ℚ) → x ≤ℚ y → zero_ℚ ≤ℚ y -ℚ x
 difference_above x y h = le_by_one h (by_ring2 x y (λ x y. y ⊖ x ≐ number (pos 0) ⊕ (y ⊖ x)) refl)
@@ -56,7 +50,7 @@ module _ (z v x : ℚ) (forward : zero_ℚ ≤ℚ x) where
   above_lower : (l : ℚ) → v <ℚ zero_ℚ → x ≤ℚ (l -ℚ z) /ℚ v → l ≤ℚ z +ℚ x *ℚ v
   above_lower l h least =
       let turned : x ≤ℚ neg_ℚ (l -ℚ z) /ℚ neg_ℚ v = subst (λ y. x ≤ℚ y) (turned_quotient (l -ℚ z) v h) least in
-      le_by_one (mul-le_of_le-div (above_zero v h) turned) (by_ring4 z x v l (λ z x v l. z ⊕ x ⊗ v ≐ l ⊕ (opposite (l ⊖ z) ⊖ x ⊗ opposite v)) refl)
+      le_by_one (mul-le_of_le-div (neg_above v h) turned) (by_ring4 z x v l (λ z x v l. z ⊕ x ⊗ v ≐ l ⊕ (opposite (l ⊖ z) ⊖ x ⊗ opposite v)) refl)
 
   -- what is within its limits, and does not move past the limit ahead, stays within them
   pub moved_within : (low high : Option ℚ) → IfSome low (λ l. l ≤ℚ z) × IfSome high (λ u. z ≤ℚ u) →
@@ -120,7 +114,7 @@ comes_to low high z v x within e = by_tests (lt_ℚ zero_ℚ v) refl (lt_ℚ v z
         let x_is : (l -ℚ z) /ℚ v ≡ x = some_value e in
         let turned : neg_ℚ (l -ℚ z) /ℚ neg_ℚ v ≡ x = sym (turned_quotient (l -ℚ z) v down) ∙ x_is in
         let ahead : zero_ℚ ≤ℚ neg_ℚ (l -ℚ z) = subst (λ y. zero_ℚ ≤ℚ y) (by_ring2 z l (λ z l. z ⊖ l ≐ opposite (l ⊖ z)) refl) (difference_above l z h) in (
-          subst (λ y. zero_ℚ ≤ℚ y) turned (le-div (above_zero v down) (subst (λ y. y ≤ℚ neg_ℚ (l -ℚ z)) (by_ring1 v (λ v. number (pos 0) ≐ number (pos 0) ⊗ opposite v) refl) ahead)),
+          subst (λ y. zero_ℚ ≤ℚ y) turned (le-div (neg_above v down) (subst (λ y. y ≤ℚ neg_ℚ (l -ℚ z)) (by_ring1 v (λ v. number (pos 0) ≐ number (pos 0) ⊗ opposite v) refl) ahead)),
           ap (λ y. Some y) (arrival z v l (apart_from_below down) ∙ ap (λ y. z +ℚ y *ℚ v) x_is),
         )
 

@@ -8,11 +8,12 @@ use Rattle.exact_values.specs.Tests.{lt_ℚ}
 use Rattle.exact_values.proofs.Ring.{by_ring1, ◌≐◌, number, opposite}
 use Rattle.exact_values.proofs.Order.{lt_irrefl}
 use Rattle.lp_definitions.specs.LinearProgram.{LinearProgram, Vector, IsVariable, lower_of, upper_of}
-use Rattle.lp_definitions.specs.Basis.{is_in, basics_of, status_of, with_status, is_basic, IsBasis, IsBasic, IsNonbasic, IsAllowed, IsNonsingular, opening_statuses, Tableau, IsTableau}
+use Rattle.lp_definitions.specs.Basis.{AreRates, is_in, basics_of, status_of, with_status, is_basic, IsBasis, IsBasic, IsNonbasic, IsAllowed, IsNonsingular, opening_statuses, Tableau, IsTableau}
 use Rattle.lp_definitions.specs.declared.Status.{Status}
 use Rattle.lp_definitions.specs.declared.Status.TheVariants.{Bs, Ll, Ul, Fr}
+use Rattle.lp_algebra.specs.Rates.{exchanged_rate}
 use Rattle.lp_algebra.proofs.Values.{clash}
-use Rattle.lp_algebra.proofs.Exchange.{IsNonsingular-exchanged}
+use Rattle.lp_algebra.proofs.Exchange.{IsNonsingular-exchanged, AreRates-exchanged}
 use Rattle.lp_algebra.proofs.Statuses.{basics_of-replaced, basics_of-flipped, status_of_basic, status_of_nonbasic, IsBasis-replaced, IsBasis-flipped, IsBasis-opening, basics_of-opening}
 use Rattle.lp_algebra.proofs.Opening.{IsNonsingular-row_basics}
 use Rattle.path_definitions.specs.Moves.{is_below, signed, goes_up, limit_ahead, room, reached, stopper}
@@ -36,22 +37,37 @@ lower_apart = ((λ e. cc), (λ e. cc))
 upper_apart : (Ul ≢ Bs) × (Ul ≢ Fr)
 upper_apart = ((λ e. cc), (λ e. cc))
 
+-- a basis with its rates
+pub record LeadsTo (p : LinearProgram) (next : List Status) : Type 0 where
+  pub at : IsNonsingularBasis p next
+  pub rate : ℕ → ℕ → ℚ
+  pub are_rates : AreRates p.matrix (basics_of next) rate
+
 module _ (p : LinearProgram) (s : List Status) (t : Tableau) (basis : IsBasis p s) (one : IsNonsingular p.matrix (basics_of s)) (tab : IsTableau p s t) where
   not_basic : (q : ℕ) → IsNonbasic p.matrix (basics_of s) q → status_of s q ≢ Bs
   not_basic q out e = clash (sym (ap is_basic e) ∙ status_of_nonbasic p s basis q out)
 
   -- q becomes basic, and the basic r comes to a limit
-  exchange_leads : (r q : ℕ) (to : Status) → IsBasic p.matrix (basics_of s) r → IsNonbasic p.matrix (basics_of s) q → MayStand p r to → t.rate r q ≢ zero_ℚ → IsNonsingularBasis p (with_status (with_status s q Bs) r to)
+  exchange_leads : (r q : ℕ) (to : Status) → IsBasic p.matrix (basics_of s) r → IsNonbasic p.matrix (basics_of s) q → MayStand p r to → t.rate r q ≢ zero_ℚ → LeadsTo p (with_status (with_status s q Bs) r to)
   exchange_leads r q to leaves enters stands pivot = record {
-    is_basis = IsBasis-replaced p s basis r q to leaves.0 enters.0 (status_of_basic p s basis r leaves) (not_basic q enters) stands.nonbasic stands.limited stands.allowed;
-    nonsingular = subst (IsNonsingular p.matrix) (sym (basics_of-replaced s r q to stands.nonbasic)) (IsNonsingular-exchanged p.matrix (basics_of s) r q (λ i. t.rate i q) one leaves enters (tab.are_rates q enters) pivot);
+    at = record {
+      is_basis = IsBasis-replaced p s basis r q to leaves.0 enters.0 (status_of_basic p s basis r leaves) (not_basic q enters) stands.nonbasic stands.limited stands.allowed;
+      nonsingular = subst (IsNonsingular p.matrix) (sym (basics_of-replaced s r q to stands.nonbasic)) (IsNonsingular-exchanged p.matrix (basics_of s) r q (λ i. t.rate i q) one leaves enters (tab.are_rates q enters) pivot);
+    };
+    rate = exchanged_rate t.rate r q;
+    are_rates = subst (λ b. AreRates p.matrix b (exchanged_rate t.rate r q)) (sym (basics_of-replaced s r q to stands.nonbasic))
+        (AreRates-exchanged p.matrix (basics_of s) one.counted t.rate tab.are_rates r q leaves enters pivot);
   }
 
   -- the nonbasic q comes to its other limit
-  flip_leads : (q : ℕ) (to : Status) → IsNonbasic p.matrix (basics_of s) q → MayStand p q to → IsNonsingularBasis p (with_status (with_status s q Bs) q to)
-  flip_leads q to enters stands = subst (IsNonsingularBasis p) (sym (set-set s (q - 1) Bs to)) (record {
-    is_basis = IsBasis-flipped p s basis q to enters.0 (not_basic q enters) stands.nonbasic stands.limited stands.allowed;
-    nonsingular = subst (IsNonsingular p.matrix) (sym (basics_of-flipped s q to (not_basic q enters) stands.nonbasic)) one;
+  flip_leads : (q : ℕ) (to : Status) → IsNonbasic p.matrix (basics_of s) q → MayStand p q to → LeadsTo p (with_status (with_status s q Bs) q to)
+  flip_leads q to enters stands = subst (LeadsTo p) (sym (set-set s (q - 1) Bs to)) (record {
+    at = record {
+      is_basis = IsBasis-flipped p s basis q to enters.0 (not_basic q enters) stands.nonbasic stands.limited stands.allowed;
+      nonsingular = subst (IsNonsingular p.matrix) (sym (basics_of-flipped s q to (not_basic q enters) stands.nonbasic)) one;
+    };
+    rate = t.rate;
+    are_rates = subst (λ b. AreRates p.matrix b t.rate) (sym (basics_of-flipped s q to (not_basic q enters) stands.nonbasic)) tab.are_rates;
   })
 
 -- ---- the two kinds of steps
@@ -105,11 +121,11 @@ stands_ahead p k v to h = record { nonbasic = h.apart.0; limited = h.apart.1; al
 
 module _ (p : LinearProgram) (s : List Status) (t : Tableau) (basis : IsBasis p s) (one : IsNonsingular p.matrix (basics_of s)) (tab : IsTableau p s t) where
   -- first phase
-  brought_leads : (m : Move) (r q : ℕ) → IsBroughtTurn p s t (Moves m) r q → IsNonsingularBasis p (after s m)
+  brought_leads : (m : Move) (r q : ℕ) → IsBroughtTurn p s t (Moves m) r q → LeadsTo p (after s m)
   brought_leads m r q h =
       let e = h.gives in
       let is : m ≡ record { enters = q; leaves = r; to = if is_below p t.point r then Ll else Ul } = cc in
-      subst (λ m. IsNonsingularBasis p (after s m)) (sym is) (exchange_leads p s t basis one tab r q (if is_below p t.point r then Ll else Ul) (broken_basic p s t r h.phase) entered.nonbasic stands pivot)
+      subst (λ m. LeadsTo p (after s m)) (sym is) (exchange_leads p s t basis one tab r q (if is_below p t.point r then Ll else Ul) (broken_basic p s t r h.phase) entered.nonbasic stands pivot)
     where
       entered : IsEntering p s (excess_rate t.rate r (is_below p t.point r)) q
       entered = enters p s (excess_rate t.rate r (is_below p t.point r)) q basis h.moves
@@ -125,11 +141,11 @@ module _ (p : LinearProgram) (s : List Status) (t : Tableau) (basis : IsBasis p 
           by_limit (breaks_upper u is limit broken) = rw is (record { nonbasic = upper_apart.0; limited = upper_apart.1; allowed = rw limit refl })
 
   -- second phase
-  stopped_leads : (m : Move) (q k : ℕ) → IsStoppedTurn p s t (Moves m) q k → IsNonsingularBasis p (after s m)
+  stopped_leads : (m : Move) (q k : ℕ) → IsStoppedTurn p s t (Moves m) q k → LeadsTo p (after s m)
   stopped_leads m q k h =
       let e = h.gives in
       let is : m ≡ record { enters = q; leaves = k; to = reached (bettering p s t q) k } = cc in
-      subst (λ m. IsNonsingularBasis p (after s m)) (sym is) (by_number (eqb_tells k q))
+      subst (λ m. LeadsTo p (after s m)) (sym is) (by_number (eqb_tells k q))
     where
       entered : IsEntering p s (worth_rate p s t) q
       entered = enters p s (worth_rate p s t) q basis h.moves
@@ -147,20 +163,23 @@ module _ (p : LinearProgram) (s : List Status) (t : Tableau) (basis : IsBasis p 
       marked other true is = is
       marked other false is = absurd (pivot ((tab.are_rates q entered.nonbasic).others k (k_is, is) other))
 
-      by_number : (((eqb k q ≡ true) × (k ≡ q)) ⊎ ((eqb k q ≡ false) × (k ≢ q))) → IsNonsingularBasis p (with_status (with_status s q Bs) k (reached (bettering p s t q) k))
+      by_number : (((eqb k q ≡ true) × (k ≡ q)) ⊎ ((eqb k q ≡ false) × (k ≢ q))) → LeadsTo p (with_status (with_status s q Bs) k (reached (bettering p s t q) k))
       by_number (inl same) =
-          subst (λ j. IsNonsingularBasis p (with_status (with_status s q Bs) j (reached (bettering p s t q) k))) (sym same.1)
+          subst (λ j. LeadsTo p (with_status (with_status s q Bs) j (reached (bettering p s t q) k))) (sym same.1)
           (flip_leads p s t basis one tab q (reached (bettering p s t q) k) entered.nonbasic (subst (λ j. MayStand p j (reached (bettering p s t q) k)) same.1 (stands_ahead p k (bettering p s t q k) (reached (bettering p s t q) k) ahead)))
       by_number (inr other) = exchange_leads p s t basis one tab k q (reached (bettering p s t q) k) (k_is, marked other.1 (is_in (basics_of s) k) refl) entered.nonbasic (stands_ahead p k (bettering p s t q k) (reached (bettering p s t q) k) ahead) pivot
 
-  leads : (m : Move) → MovingRule p s t m → IsNonsingularBasis p (after s m)
+  leads : (m : Move) → MovingRule p s t m → LeadsTo p (after s m)
   leads m (brings r q h) = brought_leads m r q h
   leads m (stops q k h) = stopped_leads m q k h
 
--- a step of the path leads from a basis to a basis
+-- a step of the path leads from a basis to a basis, which has rates too
+pub step_leads_to : (p : LinearProgram) (s next : List Status) → IsNonsingularBasis p s → IsStep p s next → LeadsTo p next
+step_leads_to p s next at step =
+    subst (LeadsTo p) (sym step.is_next) (leads p s step.tableau at.is_basis at.nonsingular step.is_tableau step.move (moving_turn p s step.tableau step.move (rule_of p s step.tableau (Moves step.move) step.turns)))
+
 pub step_leads : (p : LinearProgram) (s next : List Status) → IsNonsingularBasis p s → IsStep p s next → IsNonsingularBasis p next
-step_leads p s next at step =
-    subst (IsNonsingularBasis p) (sym step.is_next) (leads p s step.tableau at.is_basis at.nonsingular step.is_tableau step.move (moving_turn p s step.tableau step.move (rule_of p s step.tableau (Moves step.move) step.turns)))
+step_leads p s next at step = (step_leads_to p s next at step).at
 
 -- the opening basis, in which the rows are basic
 pub opening_is : (p : LinearProgram) → IsNonsingularBasis p (opening_statuses p)

@@ -1,12 +1,13 @@
--- What the tests on values tell.
-use Rattle.std.proofs.Common.{◌≡◌, Bool, true, false, refl}
+-- What the tests on values tell, and the signs of opposites.
+use Rattle.std.proofs.Common.{◌≡◌, Bool, true, false, refl, pos}
 use Rattle.std.specs.Prelude.{not}
 use Rattle.std.specs.declared.cmp.Ordering.{Ordering}
 use Rattle.std.specs.declared.cmp.Ordering.TheVariants.{Less, Equal, Greater}
-use Rattle.exact_values.specs.Rational.{ℚ, ◌≤ℚ◌, ◌<ℚ◌, compare_ℚ}
+use Rattle.exact_values.specs.Rational.{ℚ, ◌≤ℚ◌, ◌<ℚ◌, compare_ℚ, zero_ℚ, neg_ℚ}
 use Rattle.exact_values.specs.Tests.{is_less, is_equal, lt_ℚ, eq_ℚ, le_ℚ}
 use Rattle.exact_values.proofs.Compare.{lt_from_compare, same_from_compare, compare_from_lt, le_from_compare}
-use Rattle.exact_values.proofs.Order.{lt_not_le}
+use Rattle.exact_values.proofs.Order.{lt_not_le, lt_by_one}
+use Rattle.exact_values.proofs.Ring.{by_ring1, ◌⊕◌, ◌⊖◌, ◌≐◌, number, opposite}
 
 less_from : (o : Ordering) → is_less o ≡ true → o ≡ Less
 less_from Less e = refl
@@ -48,3 +49,11 @@ le_from x y h = by_test (lt_ℚ y x) refl
     by_test : (b : Bool) → lt_ℚ y x ≡ b → not b ≡ true
     by_test true is = absurd (lt_not_le (lt_true y x is) h)
     by_test false is = refl
+
+-- ---- the sign of an opposite
+
+pub neg_below : (v : ℚ) → zero_ℚ <ℚ v → neg_ℚ v <ℚ zero_ℚ
+neg_below v h = lt_by_one h (by_ring1 v (λ v. number (pos 0) ≐ opposite v ⊕ (v ⊖ number (pos 0))) refl)
+
+pub neg_above : (v : ℚ) → v <ℚ zero_ℚ → zero_ℚ <ℚ neg_ℚ v
+neg_above v h = lt_by_one h (by_ring1 v (λ v. opposite v ≐ number (pos 0) ⊕ (number (pos 0) ⊖ v)) refl)

@@ -2,7 +2,7 @@
 //! The functions here do nothing. Each promises laws, so that the check proves them.
 #![tactic(auto)]
 
-ghost use Rattle.path_laws.specs.Laws.{EndLaws, StepLaws, FeasibleLaws};
+ghost use Rattle.path_laws.specs.Laws.{EndLaws, StepLaws, FeasibleLaws, SearchLaws};
 
 pub fn end_laws()
     ensures { EndLaws }
@@ -14,4 +14,8 @@ pub fn step_laws()
 
 pub fn feasible_laws()
     ensures { FeasibleLaws }
+{}
+
+pub fn search_laws()
+    ensures { SearchLaws }
 {}
