@@ -1,10 +1,10 @@
 -- Elements of a list with those before them, and the first fault that tests of them find.
-use Rattle.std.proofs.Common.{◌≡◌, List, [], ◌∷◌, ◌++◌, Option, Some, None, refl, ap, ap₂, sym, ◌∙◌}
-use Rattle.std.specs.List.{cons_option, filter_map}
+use Rattle.std.proofs.Common.{◌≡◌, Bool, true, false, List, [], ◌∷◌, ◌++◌, Option, Some, None, refl, ap, ap₂, sym, ◌∙◌}
+use Rattle.std.specs.List.{AllByRecursion, cons_option, filter_map}
 use Rattle.std.specs.Option.{option_or, option_to_list}
 use Rattle.std.proofs.lemmas.List.{append_assoc, append-nil}
 use Rattle.std.proofs.lemmas.List.Elements.{filter_map-append}
-use Rattle.card_definitions.specs.Words.{each_behind, gathered, first_fault}
+use Rattle.card_definitions.specs.Words.{each_behind, gathered, first_fault, ◌⟹◌}
 
 -- the first fault of two lists is that of the first, or else that of the second
 pub first_fault-append : {F : Type 0} (xs ys : List (Option F)) → first_fault (xs ++ ys) ≡ option_or (first_fault xs) (first_fault ys)
@@ -44,3 +44,22 @@ gathered-push f xs x =
     ap (filter_map (λ given. given)) (each_behind-append f [] xs (x ∷ []))
     ∙ filter_map-append (λ given. given) (each_behind f [] xs) (f xs x ∷ [])
     ∙ ap (λ list. gathered f xs ++ list) (cons_option-nil (f xs x))
+
+-- ---- tests that find no fault
+
+pub no_first : {F : Type 0} (a b : Option F) → option_or a b ≡ None → a ≡ None
+no_first None b h = refl
+no_first (Some x) b h = h
+
+pub no_second : {F : Type 0} (a b : Option F) → option_or a b ≡ None → b ≡ None
+no_second None b h = h
+no_second (Some x) b h = absurd (cc h)
+
+-- none of them does
+pub passes : {F : Type 0} (tests : List (Option F)) → first_fault tests ≡ None → AllByRecursion (λ test. test ≡ None) tests
+passes [] h = tt
+passes (test ∷ tests) h = (no_first test (first_fault tests) h, passes tests (no_second test (first_fault tests) h))
+
+pub test_fails : {F : Type 0} (b : Bool) (fault : F) → (b ⟹ fault) ≡ None → b ≡ false
+test_fails true fault h = absurd (cc h)
+test_fails false fault h = refl

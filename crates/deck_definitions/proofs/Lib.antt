@@ -4,3 +4,7 @@ pub mod Steps
 pub mod Pairs
 pub mod Numbered
 pub mod WrittenCards
+pub mod CardTexts
+pub mod Accepted
+pub mod Validity
+pub mod Converted

@@ -1,6 +1,6 @@
 -- What holds of every problem, said by names: then it holds of the problem by numbers.
-use Rattle.std.proofs.Common.{◌≡◌, ℕ, ◌+◌, ◌≤◌, Bool, true, false, cond, not, ◌&&◌, ◌||◌, List, [], ◌∷◌, ◌++◌, Option, Some, None, length, map, refl, ap, sym, ◌∙◌, subst, arith, nat_eq, fold, is_some}
-use Rattle.std.specs.List.{All, AllByRecursion, IsDistinct, list_any, sum_by}
+use Rattle.std.proofs.Common.{◌≡◌, ℕ, ◌+◌, ◌≤◌, Bool, true, false, ◌&&◌, List, [], ◌∷◌, length, map, refl, ap, sym, ◌∙◌, subst, nat_eq, fold, is_some}
+use Rattle.std.specs.List.{All, AllByRecursion, IsDistinct}
 use Rattle.std.specs.Option.{IfSome}
 use Rattle.std.proofs.lemmas.List.{length-map}
 use Rattle.card_definitions.specs.Words.{is_empty}
@@ -54,6 +54,9 @@ pub record AreLawfulBounds (columns : List (Group (Entry Name))) (bounds : List 
   pub apart : IsDistinct clash_by_name bounds
   pub valued : AllByRecursion (λ bound. is_some bound.value ≡ takes_value bound.kind) bounds
   pub values : AllByRecursion (λ bound. IfSome bound.value IsDecimal) bounds
+
+pub record AreBoundSets (columns : List (Group (Entry Name))) (bounds : List (Bound Name)) : Type 0 where
+  pub bounds_lawful : AreLawfulBounds columns bounds
   pub filled : is_empty bounds ≡ false
 
 pub record IsLawful (problem : Problem Name) : Type 0 where
@@ -62,7 +65,7 @@ pub record IsLawful (problem : Problem Name) : Type 0 where
   pub columns : AreGroups IsLabel (AreColumnEntries problem.rows) problem.columns
   pub rhs : AreGroups IsName (AreRightHandSides problem.rows) problem.rhs
   pub ranges : AreGroups IsName (AreRanges problem.rows) problem.ranges
-  pub bounds : AreGroups IsName (AreLawfulBounds problem.columns) problem.bounds
+  pub bounds : AreGroups IsName (AreBoundSets problem.columns) problem.bounds
   pub few_rows : length problem.rows ≤ MAX_ROWS
   pub few_columns : length problem.columns ≤ MAX_COLUMNS
   pub few_entries : entry_count problem ≤ MAX_ENTRIES
@@ -193,9 +196,9 @@ lawful-numbered problem name lawful = record {
       (items-by by_row (AreRanges problem.rows) (AreEntries (length problem.rows)) (λ items p. entries-numbered problem.rows items p.entries_lawful) problem.ranges lawful.ranges.items);
   ranges_limited = each-all (λ set. All (λ entry. is_free_row problem.rows entry.row ≡ false) set.items) (map (group_by by_row) problem.ranges)
       (items-by by_row (AreRanges problem.rows) (λ items. All (λ entry. is_free_row problem.rows entry.row ≡ false) items) (ranges-numbered problem.rows) problem.ranges lawful.ranges.items);
-  bounds = sets by_column (AreLawfulBounds problem.columns) (λ items p. p.filled) problem.bounds lawful.bounds;
+  bounds = sets by_column (AreBoundSets problem.columns) (λ items p. p.filled) problem.bounds lawful.bounds;
   bound_items = each-all (λ set. AreBounds (length (map (group_by by_row) problem.columns)) set.items) (map (group_by by_column) problem.bounds)
-      (items-by by_column (AreLawfulBounds problem.columns) (AreBounds (length (map (group_by by_row) problem.columns))) (λ items p. subst (λ n. AreBounds n (map by_column items)) (sym columns_kept) (bounds-numbered problem.columns items p)) problem.bounds lawful.bounds.items);
+      (items-by by_column (AreBoundSets problem.columns) (AreBounds (length (map (group_by by_row) problem.columns))) (λ items p. subst (λ n. AreBounds n (map by_column items)) (sym columns_kept) (bounds-numbered problem.columns items p.bounds_lawful)) problem.bounds lawful.bounds.items);
   few_rows = lawful.few_rows;
   few_columns = subst (λ n. n ≤ MAX_COLUMNS) (sym columns_kept) lawful.few_columns;
   few_entries = subst (λ n. n ≤ MAX_ENTRIES) (sym (count-by by_row 0 problem.columns)) lawful.few_entries;
