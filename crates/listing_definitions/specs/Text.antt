@@ -1,4 +1,5 @@
--- The text of reports. A text is written as its pieces, one behind the other; each line ends with a line feed.
+-- The text of reports. A text is written as its pieces, one behind the other; each line ends with a line feed. Numbers are written in
+-- full up to 64 digits, and those of 128 bits have 39 at most.
 use Rattle.std.specs.Prelude.{ℕ, ◌-◌, List, [], ◌∷◌, ◌++◌, codes, length, replicate}
 use Rattle.std.specs.List.{concat, flat_map, enumerate_from}
 use Rattle.std.specs.Fmt.{decimal}
