@@ -1,7 +1,0 @@
-pub mod No_refusal
-pub mod Products
-pub mod Meaning
-pub mod Left
-pub mod Each
-pub mod Columns
-pub mod Limits
