@@ -11,8 +11,6 @@ use Rattle.frac128.specs.Terms.{Fits}
 use Rattle.frac128.specs.declared.Op.TheVariants.{Add, Mul}
 use Rattle.frac128.specs.Operations.{TermsFit, SumFits, fits, terms_fit, refuses, shared_factor, raised_numerator, raised_sum, sum_denominator}
 use Rattle.frac128.proofs.Refusal_lemmas.{add_taken}
-use Rattle.frac128.proofs.Parts.{Fits-int_div}
-use Rattle.frac128.proofs.Sum_steps.{sum_parts_of}
 
 pub mul_taken_left : (x y : ℚ) → x ≡ zero_ℚ → refuses Mul x y ≡ false
 unfolding refuses whole
@@ -21,20 +19,6 @@ mul_taken_left x y is = ap (λ s. not (terms_fit (s *ℚ y))) is ∙ ap (λ s. n
 pub mul_taken_right : (x y : ℚ) → y ≡ zero_ℚ → refuses Mul x y ≡ false
 unfolding refuses whole
 mul_taken_right x y is = ap (λ s. not (terms_fit (x *ℚ s))) is ∙ ap (λ s. not (terms_fit s)) (mul-zero x)
-
--- the terms of a sum that is not refused fit
-pub sum_terms_fit : (x y : ℚ) → SumFits x y → TermsFit (x +ℚ y)
-unfolding sum_denominator
-sum_terms_fit x y h =
-    let parts = sum_parts_of x y in
-    record {
-      numerator_fits = rw parts.numer (Fits-int_div (raised_sum x y) (gcd (unsigned_abs (raised_sum x y)) (shared_factor x y)) h.sum_fits);
-      denominator_fits = rw parts.denom h.denominator_fits;
-    }
-
-pub zero_fits : TermsFit zero_ℚ
-unfolding whole
-zero_fits = record { numerator_fits = grind arith; denominator_fits = grind arith }
 
 -- ---- the numbers on the way to the sum of x and 0
 

@@ -1,8 +1,7 @@
 //! Sums of products, each made from the left.
 
-ghost use Rattle.std.specs.Prelude.{◌≡◌, ◌≤◌, [], ◌∷◌, All, length, unwrap_or, IfOk};
+ghost use Rattle.std.specs.Prelude.{◌≡◌, ◌≤◌, [], ◌∷◌, All, length, unwrap_or};
 ghost use Rattle.exact_values.specs.Rational.{zero_ℚ, ◌-ℚ◌};
-ghost use Rattle.frac128.specs.Operations.{TermsFit};
 ghost use Rattle.lp_definitions.specs.LinearProgram.{IsRow, on_row, size, value_at, combined, objective_value};
 ghost use Rattle.check_definitions.specs.Steps.{operation};
 ghost use Rattle.check_definitions.specs.Checks.{row_products, entry_products, combined_steps};
@@ -22,8 +21,7 @@ pub fn value_of(values: &[Frac], k: u32) -> Frac
 
 /// `sum + x * y`
 pub fn add_product(sum: Frac, x: Frac, y: Frac) -> Result<Frac, Refused>
-    ensures sum { SumsTo result sum (record { left = x; right = y } ∷ []) }
-    ensures fits { IfOk result TermsFit }
+    ensures { SumsTo result sum (record { left = x; right = y } ∷ []) }
 {
     let product = x.mul(y)?;
     sum.add(product)
@@ -51,9 +49,7 @@ fn number_on(column: &[Entry], row: u32) -> Option<Frac>
 /// The sum, and the column's number on the row times the value of the column. A product with an operand 0 is never refused, nor is adding
 /// it, so neither is made.
 fn add_entry(sum: Frac, column: &[Entry], row: u32, value: Frac) -> Result<Frac, Refused>
-    requires { TermsFit sum }
-    ensures sum { SumsTo result sum (record { left = on_row column.now row; right = value } ∷ []) }
-    ensures fits { IfOk result TermsFit }
+    ensures { SumsTo result sum (record { left = on_row column.now row; right = value } ∷ []) }
 {
     if value.is_zero() {
         return Ok(sum);

@@ -21,12 +21,10 @@ returns-in_err-sum c =
     let p = err_from_is_err_and c.from_residual.result c.from_residual.ensures.1 in
     rw (p.1, p.2)
     (row_refused c.args.lp.now (value_at c.args.values.now) c.args.row c.loop-j.j (search rules) zero_ℚ (row_products c.args.lp.now (value_at c.args.values.now) c.args.row)
-    c.loop-j.sum _ _ c.column.ensures (value_is a) c.loop-j.invariant.0 _ c.in_err-sum.ensures.sum)
+    c.loop-j.sum _ _ c.column.ensures (value_is a) c.loop-j.invariant _ c.in_err-sum.ensures)
 
 pub loop-j-preserved : goal.loop-j-preserved
 loop-j-preserved c =
-    let a = (goal.at.loop-j-preserved c).After-add_entry in (
-      row_step c.args.lp.now (value_at c.args.values.now) c.args.row c.loop-j.j (search rules) zero_ℚ (row_products c.args.lp.now (value_at c.args.values.now) c.args.row)
-      c.loop-j.sum _ _ c.column.ensures (value_is a) c.loop-j.invariant.0 _ c.in_ok-sum.ensures.sum,
-      c.in_ok-sum.ensures.fits,
-    )
+    let a = (goal.at.loop-j-preserved c).After-add_entry in
+    row_step c.args.lp.now (value_at c.args.values.now) c.args.row c.loop-j.j (search rules) zero_ℚ (row_products c.args.lp.now (value_at c.args.values.now) c.args.row)
+    c.loop-j.sum _ _ c.column.ensures (value_is a) c.loop-j.invariant _ c.in_ok-sum.ensures
