@@ -7,8 +7,7 @@ use Rattle.frac128.specs.declared.Op.TheVariants.{Sub}
 use Rattle.frac128.specs.declared.Refused.{Refused}
 use Rattle.lp_definitions.specs.declared.Entry.{Entry}
 use Rattle.lp_definitions.specs.LinearProgram.{LinearProgram, Vector, column, on_row, entry, combined, cost}
-use Rattle.check_definitions.specs.declared.Verdict.{Verdict}
-use Rattle.check_definitions.specs.declared.Verdict.TheVariants.{Checked, Failed, Unchecked}
+use Rattle.check_definitions.specs.declared.Verdict.TheVariants.{Checked, Unchecked}
 use Rattle.check_definitions.specs.Steps.{Step, operation, comparison, verdict_of, sum_steps, sum_of}
 use Rattle.check_definitions.specs.Checks.{entry_products, column_products, combined_steps, reduced_cost, ray_column}
 use Rattle.certificate_check.specs.declared.stops.Stopped.{Stopped}
@@ -27,7 +26,7 @@ module _ (p : LinearProgram) (y : Vector) (j : ℕ) (es : List Entry) (is_column
   column_summed : (start s : ℚ) → s ≡ start → (t : ℚ) → SumsTo (Ok t) s (entry_products y es) → SumsTo (Ok t) start (column_products p y j)
   column_summed start s is t h = (
     ap (λ (c : List Entry). verdict_of (sum_steps start (entry_products y c))) (sym is_column)
-    ∙ ap (λ (s : ℚ). verdict_of (sum_steps s (entry_products y es))) (sym is) ∙ h.0,
+        ∙ ap (λ (s : ℚ). verdict_of (sum_steps s (entry_products y es))) (sym is) ∙ h.0,
     h.1 ∙ ap (λ (s : ℚ). sum_of s (entry_products y es)) is ∙ ap (λ (c : List Entry). sum_of start (entry_products y c)) is_column,
   )
 

@@ -1,12 +1,11 @@
 -- The same steps for each number up to n, in a loop.
-use Rattle.std.proofs.Common.{◌≡◌, ℕ, ◌+◌, ◌-◌, ◌<◌, ◌∷◌, [], ◌++◌, List, arith, refl, sym, ap, ◌∙◌, Ok, Err, Result}
+use Rattle.std.proofs.Common.{◌≡◌, ℕ, ◌+◌, ◌-◌, ◌<◌, ◌++◌, List, arith, sym, ap, ◌∙◌, Err, Result}
 use Rattle.std.specs.Prelude.{IsErrAnd}
 use Rattle.std.specs.List.{flat_map}
 use Rattle.std.proofs.lemmas.Result.{err_from_is_err_and}
 use Rattle.frac128.specs.declared.Refused.{Refused}
 use Rattle.lp_definitions.specs.LinearProgram.{numbers_from}
-use Rattle.check_definitions.specs.declared.Verdict.{Verdict}
-use Rattle.check_definitions.specs.declared.Verdict.TheVariants.{Checked, Failed, Unchecked}
+use Rattle.check_definitions.specs.declared.Verdict.TheVariants.{Checked, Unchecked}
 use Rattle.check_definitions.specs.Steps.{Step, verdict_of}
 use Rattle.check_definitions.proofs.Passing.{followed_by, verdict-append, each-next, each-end}
 use Rattle.certificate_check.specs.declared.stops.Stopped.{Stopped}

@@ -1,20 +1,18 @@
 -- A sum that is made product by product: what is left of it.
-use Rattle.std.proofs.Common.{◌≡◌, ℕ, zero, suc, ◌+◌, ◌-◌, ◌<◌, ◌≤◌, List, [], ◌∷◌, ◌++◌, length, map, get_or, drop, refl, sym, ap, ◌∙◌, arith, add-one, subst, true, false, Bool, Ok, Err}
-use Rattle.std.specs.Prelude.{if◌then◌else◌, unwrap_or, Option}
+use Rattle.std.proofs.Common.{◌≡◌, ℕ, ◌+◌, ◌-◌, ◌<◌, List, [], ◌∷◌, length, map, get_or, drop, refl, sym, ap, ◌∙◌, add-one, subst, false, Ok, Err}
+use Rattle.std.specs.Prelude.{if◌then◌else◌}
 use Rattle.exact_values.specs.Rational.{ℚ, zero_ℚ, ◌+ℚ◌, ◌*ℚ◌}
 use Rattle.exact_values.proofs.Ring_laws.{add-zero, zero-mul, mul-zero}
-use Rattle.frac128.specs.declared.Op.{Op}
 use Rattle.frac128.specs.declared.Op.TheVariants.{Add, Mul}
 use Rattle.frac128.specs.declared.Refused.{Refused}
 use Rattle.frac128.specs.Operations.{TermsFit, refuses}
 use Rattle.std.proofs.Math.Seq.{drop-cons}
 use Rattle.lp_definitions.specs.declared.Entry.{Entry}
 use Rattle.lp_definitions.specs.LinearProgram.{LinearProgram, Vector, numbers_from, column, on_row, entry}
-use Rattle.check_definitions.specs.declared.Verdict.{Verdict}
-use Rattle.check_definitions.specs.declared.Verdict.TheVariants.{Checked, Failed, Unchecked}
-use Rattle.check_definitions.specs.Steps.{Step, operation, Product, product_of, verdict_of, sum_steps, sum_of}
+use Rattle.check_definitions.specs.declared.Verdict.TheVariants.{Checked, Unchecked}
+use Rattle.check_definitions.specs.Steps.{operation, Product, product_of, verdict_of, sum_steps, sum_of}
 use Rattle.check_definitions.specs.Checks.{entry_products}
-use Rattle.check_definitions.proofs.Passing.{followed_by, verdict-append, numbers-next, numbers-end}
+use Rattle.check_definitions.proofs.Passing.{followed_by, verdict-append, numbers-next}
 use Rattle.certificate_check.proofs.No_refusal.{mul_taken_left, mul_taken_right, add_zero_taken}
 use Rattle.certificate_check.specs.Results.{SumsTo}
 
@@ -49,7 +47,7 @@ left_none start ts sum left = (left.steps, sym left.total)
 pub skipped : (sum : ℚ) (t : Product) → refuses Mul t.left t.right ≡ false → product_of t ≡ zero_ℚ → TermsFit sum → SumsTo (Ok sum) sum (t ∷ [])
 skipped sum t taken none fits = (
   ap (λ b. if b then Unchecked (record { op = Mul; left = t.left; right = t.right }) else verdict_of (operation Add sum (product_of t) ∷ [])) taken
-  ∙ ap (λ b. if b then Unchecked (record { op = Add; left = sum; right = product_of t }) else Checked) (add_zero_taken sum (product_of t) none fits),
+      ∙ ap (λ b. if b then Unchecked (record { op = Add; left = sum; right = product_of t }) else Checked) (add_zero_taken sum (product_of t) none fits),
   sym (ap (λ s. sum +ℚ s) none ∙ add-zero sum),
 )
 

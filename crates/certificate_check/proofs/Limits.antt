@@ -1,5 +1,5 @@
 -- The sum of a ray's multipliers times the limits that they meet, variable by variable.
-use Rattle.std.proofs.Common.{◌≡◌, ℕ, zero, suc, ◌+◌, ◌-◌, ◌<◌, ◌≢◌, List, [], ◌∷◌, ◌++◌, map, Bool, true, false, not, cond, refl, sym, ap, ap₂, ◌∙◌, arith, subst, Ok, Err, Less, Equal, Greater}
+use Rattle.std.proofs.Common.{◌≡◌, ℕ, ◌+◌, ◌-◌, ◌<◌, ◌≢◌, List, [], ◌∷◌, ◌++◌, map, Bool, true, false, not, cond, refl, sym, ap, ◌∙◌, arith, subst, Ok, Err, Less, Equal, Greater}
 use Rattle.std.specs.Prelude.{Result, Option, is_some, unwrap_or}
 use Rattle.std.specs.declared.cmp.Ordering.{Ordering}
 use Rattle.exact_values.specs.Rational.{ℚ, zero_ℚ, ◌+ℚ◌, ◌*ℚ◌, compare_ℚ}
@@ -7,9 +7,7 @@ use Rattle.exact_values.specs.Tests.{eq_ℚ, is_equal}
 use Rattle.exact_values.proofs.Compare.{compare_from_same, same_from_compare}
 use Rattle.lp_definitions.specs.LinearProgram.{LinearProgram, Vector, size, numbers_from}
 use Rattle.lp_definitions.specs.Solutions.{limit_against}
-use Rattle.check_definitions.specs.declared.Verdict.{Verdict}
-use Rattle.check_definitions.specs.declared.Verdict.TheVariants.{Checked, Failed, Unchecked}
-use Rattle.check_definitions.specs.Steps.{Step, comparison, verdict_of, product_of, sum_steps, sum_of}
+use Rattle.check_definitions.specs.Steps.{comparison, verdict_of, product_of, sum_steps, sum_of}
 use Rattle.check_definitions.specs.Checks.{ray_limits, multiplied, multiplied_among, limit_product}
 use Rattle.check_definitions.proofs.Passing.{followed_by, verdict-append, numbers-next, numbers-end}
 use Rattle.certificate_check.specs.declared.stops.Stopped.{Stopped}

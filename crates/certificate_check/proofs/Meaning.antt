@@ -1,8 +1,6 @@
 -- What the parts of a check say where they are checked.
-use Rattle.std.proofs.Common.{◌≡◌, ℕ, zero, suc, ◌+◌, ◌-◌, ◌<◌, ◌≤◌, ◌≢◌, List, [], ◌∷◌, ◌++◌, length, map, All, refl, sym, ap, ap₂, ◌∙◌, arith, Bool, true, false, not, ◌⊎◌, inl, inr, Option, Some, None, subst, cond}
-use Rattle.std.specs.Prelude.{if◌then◌else◌, ◌&&◌, is_some, is_none, IsSome, IfSome, filter, unwrap_or, nat_eq}
-use Rattle.std.specs.List.{flat_map, IsDistinct}
-use Rattle.std.proofs.lemmas.List.Elements.{All-get_or}
+use Rattle.std.proofs.Common.{◌≡◌, ℕ, zero, suc, ◌+◌, ◌<◌, ◌≤◌, ◌≢◌, List, [], ◌∷◌, ◌++◌, refl, sym, ap, ◌∙◌, arith, Bool, true, false, not, Option, Some, None, subst, cond}
+use Rattle.std.specs.Prelude.{if◌then◌else◌, ◌&&◌, is_some, is_none, IfSome, filter, unwrap_or}
 use Rattle.std.specs.declared.cmp.Ordering.{Ordering}
 use Rattle.std.specs.declared.cmp.Ordering.TheVariants.{Less, Equal, Greater}
 use native.Mathlib.Decide.{ℕ_discrete}
@@ -12,11 +10,11 @@ use Rattle.frac128.specs.Operations.{refuses}
 use Rattle.exact_values.proofs.Ring_laws.{zero-add, zero-mul}
 use Rattle.exact_values.specs.Rational.{ℚ, zero_ℚ, ◌+ℚ◌, ◌-ℚ◌, ◌*ℚ◌, ◌≤ℚ◌, ◌<ℚ◌, compare_ℚ}
 use Rattle.exact_values.specs.Sums.{sum_up_to}
-use Rattle.exact_values.specs.Tests.{lt_ℚ, le_ℚ, eq_ℚ, is_less, is_equal}
-use Rattle.exact_values.proofs.Compare.{lt_from_compare, same_from_compare, le_from_compare, compare_from_lt, compare_from_same, gt_from_compare}
+use Rattle.exact_values.specs.Tests.{le_ℚ, eq_ℚ, is_less, is_equal}
+use Rattle.exact_values.proofs.Compare.{lt_from_compare, same_from_compare, le_from_compare, compare_from_lt}
 use Rattle.exact_values.proofs.Order.{lt_not_le, le_of_lt, apart_from_above, apart_from_below}
-use Rattle.lp_definitions.specs.LinearProgram.{Matrix, LinearProgram, Vector, IsMatrix, IsLinearProgram, IsRow, IsColumn, IsVariable, KeepsEquations, numbers_from, variables, column, on_row, entry, lower_of, upper_of, cost, for_min, objective_value, size}
-use Rattle.lp_definitions.specs.Solutions.{IsWithinLimits, IsFeasible, AreProvingPrices, IsCrossed, IsRay, ProvesInfeasible, ProvesUnbounded, limit_against}
+use Rattle.lp_definitions.specs.LinearProgram.{LinearProgram, Vector, IsMatrix, IsColumn, IsVariable, KeepsEquations, numbers_from, variables, column, entry, lower_of, upper_of, cost, for_min, size}
+use Rattle.lp_definitions.specs.Solutions.{IsWithinLimits, IsFeasible, AreProvingPrices, IsCrossed, IsRay, ProvesUnbounded, limit_against}
 use Rattle.check_definitions.specs.declared.Verdict.TheVariants.{Checked, Unchecked}
 use Rattle.check_definitions.specs.Steps.{Step, operation, comparison, verdict_of, product_of, sum_steps, sum_of}
 use Rattle.check_definitions.specs.Checks.{is_not_below, is_not_above, is_at, is_crossed, by_sign, row_products, equation, equations, within_limit, within_limits, feasible_point, column_products, combined_steps, reduced_cost, reduced_costs, standing_price, standing_prices, ray_column, ray_columns, multiplied, limit_product, ray_limits, ray_sum, free_to_move, free_direction, bettering, optimal_check, crossed_check, infeasible_check, unbounded_check}
@@ -202,12 +200,14 @@ module _ (p : LinearProgram) where
   pub optimal_if_checked : IsMatrix p.matrix → (z y : Vector) → optimal_check p z y ≡ Checked → IsFeasible p z × AreProvingPrices p z y
   optimal_if_checked matrix z y e =
       let point = checked-append (feasible_point p z) _ e in
-      let priced = checked-append (reduced_costs p y) (standing_prices p z y) point.1 in
-      (feasible_if_checked z point.0, record {
-        reduced = reduced_if_checked matrix y priced.0;
-        at_lower = λ k is above. at_limit (lower_of p k) (z k) (asked_positive _ _ _ (stands z y priced.1 k is) above);
-        at_upper = λ k is below. at_limit (upper_of p k) (z k) (asked_negative _ _ _ (stands z y priced.1 k is) below);
-      })
+      let priced = checked-append (reduced_costs p y) (standing_prices p z y) point.1 in (
+        feasible_if_checked z point.0,
+        record {
+          reduced = reduced_if_checked matrix y priced.0;
+          at_lower = λ k is above. at_limit (lower_of p k) (z k) (asked_positive _ _ _ (stands z y priced.1 k is) above);
+          at_upper = λ k is below. at_limit (upper_of p k) (z k) (asked_negative _ _ _ (stands z y priced.1 k is) below);
+        },
+      )
 
   pub unbounded_if_checked : (z d : Vector) → unbounded_check p z d ≡ Checked → ProvesUnbounded p z d
   unbounded_if_checked z d e =

@@ -1,17 +1,12 @@
 -- Sums from the left come to the sums that the definitions of a linear program speak of.
-use Rattle.std.proofs.Common.{◌≡◌, ℕ, zero, suc, ◌+◌, ◌-◌, ◌*◌, ◌<◌, ◌≤◌, List, [], ◌∷◌, length, map, All, get_or, refl, sym, ap, ap₂, ◌∙◌, arith, pos, Bool, true, false, cond}
-use native.Mathlib.Decide.{ℕ_discrete}
-use Rattle.std.specs.Prelude.{nat_eq, filter, if◌then◌else◌}
-use Rattle.std.specs.List.{IsDistinct, AllByRecursion}
-use Rattle.std.proofs.lemmas.List.Elements.{All-head, All-tail}
-use Rattle.std.proofs.lemmas.Map.Keys.{IsDistinct-head, IsDistinct-tail}
-use Rattle.exact_values.specs.Rational.{ℚ, zero_ℚ, ◌+ℚ◌, ◌-ℚ◌, ◌*ℚ◌}
-use Rattle.exact_values.specs.Sums.{sum_to, sum_up_to, with_at}
-use Rattle.exact_values.proofs.Ring_laws.{add_assoc, add-zero, zero-add, mul-zero}
-use Rattle.exact_values.proofs.Ring.{by_ring2, ◌⊕◌, ◌⊖◌, number, ◌≐◌}
-use Rattle.exact_values.proofs.Sums.{sum_to-same, sum_to-zero, sum_to-with_at, sum_to-first}
+use Rattle.std.proofs.Common.{◌≡◌, ℕ, zero, suc, ◌+◌, List, [], ◌∷◌, map, refl, sym, ap, ap₂, ◌∙◌, arith, Bool, true, false, cond}
+use Rattle.std.specs.Prelude.{filter}
+use Rattle.exact_values.specs.Rational.{ℚ, zero_ℚ, ◌+ℚ◌, ◌*ℚ◌}
+use Rattle.exact_values.specs.Sums.{sum_to, sum_up_to}
+use Rattle.exact_values.proofs.Ring_laws.{add_assoc, add-zero, zero-add}
+use Rattle.exact_values.proofs.Sums.{sum_to-same, sum_to-first}
 use Rattle.lp_definitions.specs.declared.Entry.{Entry}
-use Rattle.lp_definitions.specs.LinearProgram.{numbers_from, on_row}
+use Rattle.lp_definitions.specs.LinearProgram.{numbers_from}
 use Rattle.lp_definitions.specs.RatesEvidence.{sum_from}
 use Rattle.check_definitions.specs.Steps.{Product, product_of, sum_of}
 use Rattle.check_definitions.specs.Checks.{entry_products}

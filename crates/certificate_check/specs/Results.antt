@@ -3,7 +3,7 @@
 --     SumsTo result start ts       so for a sum of products
 --     verdict_from result          the verdict of a part that may stop
 --     Leads result steps value     the value of a part that may stop
-use Rattle.std.specs.Prelude.{◌≡◌, ℕ, List, Result, Ok, Err}
+use Rattle.std.specs.Prelude.{◌≡◌, List, Result, Ok, Err}
 use Rattle.exact_values.specs.Rational.{ℚ}
 use Rattle.frac128.specs.declared.Refused.{Refused}
 use Rattle.check_definitions.specs.declared.Verdict.{Verdict}

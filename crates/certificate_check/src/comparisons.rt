@@ -26,7 +26,8 @@ pub fn is_less(x: Frac, y: Frac) -> bool
 pub fn is_within(lower: Option<Frac>, upper: Option<Frac>, value: Frac) -> bool
     ensures { result ≡ (is_not_below lower value && is_not_above upper value) }
 {
-    lower.is_none_or(|limit| !is_less(value, limit)) && upper.is_none_or(|limit| !is_less(limit, value))
+    lower.is_none_or(|limit| !is_less(value, limit))
+        && upper.is_none_or(|limit| !is_less(limit, value))
 }
 
 /// The limit is there, and it is the value.
@@ -66,4 +67,3 @@ pub fn counted_for(sense: Sense, x: Frac) -> Frac
         Sense::Max => x.neg(),
     }
 }
-

@@ -20,7 +20,11 @@ fn is_free_to_move(lp: &Lp, direction: &[Frac], k: u32) -> Result<(), Stopped>
 {
     let may_fall = lp.lower_limit(k).is_none();
     let may_rise = lp.upper_limit(k).is_none();
-    compare(holds_by_sign(value_of(direction, k), may_fall, may_rise), 4, k)
+    compare(
+        holds_by_sign(value_of(direction, k), may_fall, may_rise),
+        4,
+        k,
+    )
 }
 
 /// No limit is ahead of the direction.

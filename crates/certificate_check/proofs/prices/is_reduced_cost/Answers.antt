@@ -1,5 +1,4 @@
-use Rattle.std.proofs.Common.{◌≡◌, ◌+◌, ◌∙◌, ap, sym, [], ◌∷◌, rules}
-use Rattle.exact_values.specs.Rational.{zero_ℚ}
+use Rattle.std.proofs.Common.{◌≡◌, ◌+◌, ◌∙◌, ap, [], ◌∷◌}
 use Rattle.lp_definitions.specs.LinearProgram.{LinearProgram, value_at}
 use Rattle.check_definitions.specs.Steps.{comparison, verdict_of}
 use Rattle.certificate_check.proofs.Columns.{sum_exit, difference_exit, cost_done}

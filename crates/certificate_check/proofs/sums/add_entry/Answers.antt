@@ -1,4 +1,4 @@
-use Rattle.std.proofs.Common.{rules, ◌≡◌, sym, ◌∙◌, Bool, true, false}
+use Rattle.std.proofs.Common.{rules, ◌≡◌}
 use Rattle.exact_values.specs.Rational.{zero_ℚ}
 use Rattle.frac128.specs.Operations.{TermsFit}
 use Rattle.lp_definitions.specs.LinearProgram.{on_row}
