@@ -6,7 +6,6 @@ use Rattle.exact_values.specs.Rational.{ℚ, whole, fraction, zero_ℚ, ◌+ℚ�
 use Rattle.frac128.specs.declared.Op.TheVariants.{Mul}
 use Rattle.frac128.specs.Operations.{refuses, shared_factor, raised_numerator, raised_sum, sum_denominator}
 use Rattle.lp_definitions.specs.declared.Entry.{Entry}
-use Rattle.lp_definitions.specs.declared.Change.{Change}
 use Rattle.lp_definitions.specs.declared.Sense.{Sense}
 use Rattle.lp_definitions.specs.declared.Sense.TheVariants.{Min, Max}
 use Rattle.lp_definitions.specs.LinearProgram.{LinearProgram, value_at}
