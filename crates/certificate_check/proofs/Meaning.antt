@@ -1,5 +1,5 @@
 -- What the parts of a check say where they are checked.
-use Rattle.std.proofs.Common.{◌≡◌, ℕ, zero, suc, ◌+◌, ◌<◌, ◌≤◌, ◌≢◌, List, [], ◌∷◌, ◌++◌, refl, sym, ap, ◌∙◌, arith, Bool, true, false, not, Option, Some, None, subst, cond}
+use Rattle.std.proofs.Common.{◌≡◌, ℕ, zero, suc, ◌+◌, ◌<◌, ◌≤◌, ◌≢◌, List, [], ◌∷◌, ◌++◌, map, refl, sym, ap, ◌∙◌, arith, Bool, true, false, not, Option, Some, None, subst, cond}
 use Rattle.std.specs.Prelude.{if◌then◌else◌, ◌&&◌, is_some, is_none, IfSome, filter, unwrap_or}
 use Rattle.std.specs.declared.cmp.Ordering.{Ordering}
 use Rattle.std.specs.declared.cmp.Ordering.TheVariants.{Less, Equal, Greater}
@@ -114,7 +114,7 @@ module _ (p : LinearProgram) where
   -- ---- columns
 
   module _ (matrix : IsMatrix p.matrix) where
-    products_of_column : (y : Vector) (start : ℚ) (j : ℕ) → IsColumn p.matrix j → sum_of start (column_products p y j) ≡ start +ℚ sum_up_to p.rows (λ i. y i *ℚ entry p.matrix i j)
+    pub products_of_column : (y : Vector) (start : ℚ) (j : ℕ) → IsColumn p.matrix j → sum_of start (column_products p y j) ≡ start +ℚ sum_up_to p.rows (λ i. y i *ℚ entry p.matrix i j)
     products_of_column y start j is = sum_of-entries start y (column p.matrix j) ∙ sum_of_entries p.matrix matrix y start j is
 
     pub reduced_if_checked : (y : Vector) → verdict_of (reduced_costs p y) ≡ Checked
@@ -148,7 +148,7 @@ module _ (p : LinearProgram) where
   -- ---- limits of a ray
 
   -- the numbers from first on, so many, with a multiplier other than 0
-  abbrev multiplied_from : Vector → ℕ → ℕ → List ℕ
+  abbrev pub multiplied_from : Vector → ℕ → ℕ → List ℕ
   multiplied_from w first n = filter (λ k. not (eq_ℚ (w k) zero_ℚ)) (numbers_from first n)
 
   -- the steps for the numbers after first
@@ -176,12 +176,14 @@ module _ (p : LinearProgram) where
       by_test false is e (yes same) later = absurd (apart (ap w (sym same) ∙ same_from_test (w first) zero_ℚ (not_false (eq_ℚ (w first) zero_ℚ) is)))
       by_test false is e (no other) later = later sum e (omega arith) (omega arith) apart
 
+  -- the products of the multipliers that are not 0 add up to those of all
+  pub sum_of_met : (w : Vector) → sum_of zero_ℚ (map (limit_product p w) (multiplied p w)) ≡ sum_up_to (size p.matrix) (λ k. w k *ℚ unwrap_or (limit_against p w k) zero_ℚ)
+  sum_of_met w =
+      sum_of-filtered (λ k. not (eq_ℚ (w k) zero_ℚ)) (limit_product p w) (λ k none. ap (λ s. s *ℚ unwrap_or (limit_against p w k) zero_ℚ) (same_from_test (w k) zero_ℚ (not_false (eq_ℚ (w k) zero_ℚ) none)) ∙ zero-mul (unwrap_or (limit_against p w k) zero_ℚ)) zero_ℚ (variables p.matrix)
+      ∙ sum_of-all (limit_product p w) (size p.matrix)
+
   negative_if_checked : (w : Vector) → verdict_of (ray_sum p w) ≡ Checked → sum_up_to (size p.matrix) (λ k. w k *ℚ unwrap_or (limit_against p w k) zero_ℚ) <ℚ zero_ℚ
-  negative_if_checked w e =
-      subst (λ (s : ℚ). s <ℚ zero_ℚ)
-      (sum_of-filtered (λ k. not (eq_ℚ (w k) zero_ℚ)) (limit_product p w) (λ k none. ap (λ s. s *ℚ unwrap_or (limit_against p w k) zero_ℚ) (same_from_test (w k) zero_ℚ (not_false (eq_ℚ (w k) zero_ℚ) none)) ∙ zero-mul (unwrap_or (limit_against p w k) zero_ℚ)) zero_ℚ (variables p.matrix)
-      ∙ sum_of-all (limit_product p w) (size p.matrix))
-      (below_of_test (holds_if_checked 3 0 _ e))
+  negative_if_checked w e = subst (λ (s : ℚ). s <ℚ zero_ℚ) (sum_of_met w) (below_of_test (holds_if_checked 3 0 _ e))
 
   -- ---- the checks
 

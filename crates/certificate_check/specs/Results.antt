@@ -2,8 +2,9 @@
 --     Gives result steps value     the value of these operations, or the first of them that is refused
 --     SumsTo result start ts       so for a sum of products
 --     verdict_from result          the verdict of a part that may stop
+--     IsNotFailed v                the check found no comparison that fails
 --     Leads result steps value     the value of a part that may stop
-use Rattle.std.specs.Prelude.{◌≡◌, List, Result, Ok, Err}
+use Rattle.std.specs.Prelude.{◌≡◌, ◌≢◌, ℕ, List, Result, Ok, Err}
 use Rattle.exact_values.specs.Rational.{ℚ}
 use Rattle.frac128.specs.declared.Refused.{Refused}
 use Rattle.check_definitions.specs.declared.Verdict.{Verdict}
@@ -30,3 +31,7 @@ verdict_from (Err (Operation refused)) = Unchecked refused
 abbrev pub Leads : Result ℚ Stopped → List Step → ℚ → Type 0
 Leads (Ok x) steps value = (verdict_of steps ≡ Checked) × (x ≡ value)
 Leads (Err stopped) steps value = verdict_from (Err stopped) ≡ verdict_of steps
+
+-- no comparison fails before an operation is refused: the verdict is Checked or Unchecked
+abbrev pub IsNotFailed : Verdict → Type 0
+IsNotFailed v = (part number : ℕ) → v ≢ Failed part number

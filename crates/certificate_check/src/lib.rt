@@ -2,12 +2,12 @@
 //! without end. Each check is exact arithmetic on the claim's own numbers; it trusts nothing of how they were found, and takes no memory.
 #![tactic(auto)]
 
-ghost use Rattle.std.specs.Prelude.{◌≡◌, ◌≢◌, ◌≤◌, length};
+ghost use Rattle.std.specs.Prelude.{◌≡◌, ◌≢◌, ◌↔◌, length};
 ghost use Rattle.frac128.specs.declared.Refused.{Refused};
 ghost use Rattle.lp_definitions.specs.LinearProgram.{IsVariable, size, value_at};
 ghost use Rattle.lp_definitions.specs.Solutions.{IsFeasible, IsBest, AreProvingPrices, IsCrossed, IsRay, ProvesUnbounded, IsInfeasible, IsUnbounded};
 ghost use Rattle.check_definitions.specs.Checks.{optimal_check, crossed_check, infeasible_check, unbounded_check};
-ghost use Rattle.certificate_check.specs.Results.{verdict_from};
+ghost use Rattle.certificate_check.specs.Results.{verdict_from, IsNotFailed};
 
 mod comparisons;
 mod direction;
@@ -36,6 +36,7 @@ pub fn check_optimal(lp: &Lp, point: &[Frac], prices: &[Frac]) -> Verdict
     ensures feasible { result ≡ Verdict.Checked → IsFeasible lp.now (value_at point.now) }
     ensures best { result ≡ Verdict.Checked → IsBest lp.now (value_at point.now) }
     ensures prices { result ≡ Verdict.Checked → AreProvingPrices lp.now (value_at point.now) (value_at prices.now) }
+    ensures never_fails { IsFeasible lp.now (value_at point.now) → AreProvingPrices lp.now (value_at point.now) (value_at prices.now) → IsNotFailed result }
 {
     let size = lp.number_of_variables() as usize;
     prove_eq!(point.len(), size);
@@ -48,7 +49,7 @@ pub fn check_crossed(lp: &Lp, k: u32) -> Verdict
     requires { IsVariable lp.now.matrix k }
     ensures exact { result ≡ crossed_check lp.now k }
     ensures never_unchecked { (refused : Refused) → result ≢ Verdict.Unchecked refused }
-    ensures crossed { result ≡ Verdict.Checked → IsCrossed lp.now k }
+    ensures crossed { (result ≡ Verdict.Checked) ↔ IsCrossed lp.now k }
     ensures infeasible { result ≡ Verdict.Checked → IsInfeasible lp.now }
 {
     verdict(compare(is_crossed_by(lp.lower_limit(k), lp.upper_limit(k)), 1, k))
@@ -61,6 +62,7 @@ pub fn check_infeasible(lp: &Lp, ray: &[Frac]) -> Verdict
     ensures exact { result ≡ infeasible_check lp.now (value_at ray.now) }
     ensures ray { result ≡ Verdict.Checked → IsRay lp.now (value_at ray.now) }
     ensures infeasible { result ≡ Verdict.Checked → IsInfeasible lp.now }
+    ensures never_fails { IsRay lp.now (value_at ray.now) → IsNotFailed result }
 {
     let size = lp.number_of_variables() as usize;
     prove_eq!(ray.len(), size);
@@ -75,6 +77,7 @@ pub fn check_unbounded(lp: &Lp, point: &[Frac], direction: &[Frac]) -> Verdict
     ensures exact { result ≡ unbounded_check lp.now (value_at point.now) (value_at direction.now) }
     ensures proof { result ≡ Verdict.Checked → ProvesUnbounded lp.now (value_at point.now) (value_at direction.now) }
     ensures unbounded { result ≡ Verdict.Checked → IsUnbounded lp.now }
+    ensures never_fails { ProvesUnbounded lp.now (value_at point.now) (value_at direction.now) → IsNotFailed result }
 {
     verdict(unbounded(lp, point, direction))
 }

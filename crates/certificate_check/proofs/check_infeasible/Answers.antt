@@ -3,6 +3,7 @@ use Rattle.lp_definitions.specs.LinearProgram.{value_at}
 use Rattle.lp_definitions.specs.Solutions.{IsRay}
 use Rattle.lp_algebra.proofs.Duality.{infeasible_by_ray}
 use Rattle.check_definitions.specs.declared.Verdict.TheVariants.{Checked}
+use Rattle.certificate_check.proofs.True_claims.{never_infeasible}
 use Rattle.certificate_check.proofs.Meaning.{infeasible_ray_if_checked}
 use Rattle.certificate_check.proofs.check_infeasible.Goals as goal
 use Rattle.certificate_check.proofs.check_infeasible.Goals.{After-verdict}
@@ -16,3 +17,7 @@ returns-clause-ray c = proved c
 
 pub returns-clause-infeasible : goal.returns-clause-infeasible
 returns-clause-infeasible c = λ checked. infeasible_by_ray c.args.lp.now (value_at c.args.ray.now) (proved c checked)
+
+pub returns-clause-never_fails : goal.returns-clause-never_fails
+returns-clause-never_fails c = λ ray part number failed.
+    (never_infeasible c.args.lp.now c.number_of_variables-size.ensures.lawful.is_matrix (value_at c.args.ray.now) ray).never part number (sym (c.verdict.ensures ∙ c.infeasible.ensures) ∙ failed)

@@ -3,6 +3,7 @@ use Rattle.lp_definitions.specs.LinearProgram.{value_at}
 use Rattle.lp_definitions.specs.Solutions.{IsFeasible, AreProvingPrices}
 use Rattle.lp_algebra.proofs.Duality.{best_by_prices}
 use Rattle.check_definitions.specs.declared.Verdict.TheVariants.{Checked}
+use Rattle.certificate_check.proofs.True_claims.{never_optimal}
 use Rattle.certificate_check.proofs.Meaning.{optimal_if_checked}
 use Rattle.certificate_check.proofs.check_optimal.Goals as goal
 use Rattle.certificate_check.proofs.check_optimal.Goals.{After-verdict}
@@ -23,3 +24,8 @@ returns-clause-best c = λ checked.
 
 pub returns-clause-prices : goal.returns-clause-prices
 returns-clause-prices c = λ checked. (proved c checked).1
+
+pub returns-clause-never_fails : goal.returns-clause-never_fails
+returns-clause-never_fails c = λ feasible proving part number failed.
+    (never_optimal c.args.lp.now c.number_of_variables-size.ensures.lawful.is_matrix (value_at c.args.point.now) (value_at c.args.prices.now) feasible proving).never part number
+    (sym (c.verdict.ensures ∙ c.optimal.ensures) ∙ failed)
