@@ -1,0 +1,6 @@
+mod Uniqueness
+mod Exchange
+mod NewRates
+mod Laws
+mod Values
+mod Fills

@@ -1,0 +1,4 @@
+pub mod Inverse
+pub mod Lines
+pub mod Table
+pub mod Refusals
