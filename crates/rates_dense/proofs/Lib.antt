@@ -4,3 +4,9 @@ mod NewRates
 mod Laws
 mod Values
 mod Fills
+mod LineSteps
+mod NewLines
+mod Directions
+mod Tables
+mod Exchanges
+mod RefusedLaws

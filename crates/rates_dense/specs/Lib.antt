@@ -1,4 +1,5 @@
 pub mod Inverse
+pub mod Placed
 pub mod Lines
 pub mod Table
 pub mod Refusals

@@ -2,6 +2,8 @@
 --     IsRefusal formula p q i j op left right e    evidence of a formula at the present basics
 --     QuotientRefused p q rates e      a quotient of the leaver's rates is refused
 --     StayingRefused i p q quotients rates e       a rate of the basic i is refused
+--     SomeLineRefused p q quotients lines e        a rate of the basic of some line is refused
+--     LinesRefused p q lines slot e    a quotient of the leaver's line, or a rate of another
 --     IsOwn p q e                      the evidence is of one of the formulas of an exchange, at the present basics, for these p and q
 --     IsOwnOverflow p q stop           the stop is an overflow with such evidence
 use Rattle.std.specs.Prelude.{◌≡◌, ◌≢◌, ℕ, ◌+◌, ◌<◌, ◌≤◌, List, length, slice_index_or}
@@ -11,6 +13,8 @@ use Rattle.frac128.specs.declared.Op.TheVariants.{Sub, Mul, Div}
 use Rattle.lp_definitions.specs.LinearProgram.{value_at}
 use Rattle.lp_definitions.specs.RatesEvidence.{Names, Refuses}
 use Rattle.lp_definitions.specs.declared.Evidence.{Evidence}
+use Rattle.std.specs.List.{HoldsAt}
+use Rattle.rates_dense.specs.Lines.{AreQuotients}
 use Rattle.rates_dense.specs.declared.line.Line.{Line}
 use Rattle.lp_model.specs.declared.Stop.{Stop}
 use Rattle.lp_model.specs.declared.Stop.TheVariants.{Overflow, NoMemory}
@@ -55,3 +59,8 @@ pub record SomeLineRefused (p q : ℕ) (quotients : List ℚ) (lines : List Line
   pub within : slot < length lines
   pub stays : (d : Line) → (slice_index_or lines slot d).basic ≢ p
   pub refused : (d : Line) → let line = slice_index_or lines slot d in StayingRefused line.basic p q quotients line.rates.items e
+
+pub data LinesRefused (p q : ℕ) (lines : List Line) (slot : ℕ) (e : Evidence) : Type 0 where
+  at_leaver : HoldsAt (λ leaver. QuotientRefused p q leaver.rates.items e) lines slot → LinesRefused p q lines slot e
+  at_another : (quotients : List ℚ) → HoldsAt (λ leaver. AreQuotients p q leaver.rates.items quotients) lines slot →
+      SomeLineRefused p q quotients lines e → LinesRefused p q lines slot e

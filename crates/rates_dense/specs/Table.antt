@@ -1,13 +1,13 @@
 -- The table: the matrix and the basics that its fields stand for, and what holds of its lines.
 --     inverse_of a                 the matrix and the basics
 --     IsLine a b rate line         the line of a basic: its rates at the nonbasics, and 0 at the basics
---     IsPlaced slots lines k       the slot of variable k is that of a line of its own
 --     IsTableOf a b slots lines quotients      the rates of the basics b, a line for each
-use Rattle.std.specs.Prelude.{◌≡◌, ℕ, ◌-◌, ◌<◌, ◌^◌, List, length, slice_index, slice_index_or, All, if◌then◌else◌}
+use Rattle.std.specs.Prelude.{◌≡◌, ℕ, ◌<◌, ◌^◌, List, length, All, if◌then◌else◌}
 use Rattle.exact_values.specs.Rational.{ℚ, zero_ℚ}
 use Rattle.lp_definitions.specs.LinearProgram.{Matrix, size, IsVariable, value_at}
 use Rattle.lp_definitions.specs.Basis.{Basics, is_in, IsBasic, IsNonsingular, AreRates}
 use Rattle.lp_model.specs.Columns.{entries_of}
+use Rattle.rates_dense.specs.Placed.{IsPlaced}
 use Rattle.rates_dense.specs.Inverse.{Inverse}
 use Rattle.rates_dense.specs.declared.line.Line.{Line}
 use Rattle.rates_dense.specs.declared.Dense.TheInside.{Inside}
@@ -23,10 +23,6 @@ pub record IsLine (a : Matrix) (b : Basics) (rate : ℕ → ℕ → ℚ) (line :
   pub places : length line.rates.items ≡ size a
   pub room : length line.next.items ≡ size a
   pub entries : (k : ℕ) → IsVariable a k → value_at line.rates.items k ≡ (if is_in b k then zero_ℚ else rate line.basic k)
-
-pub record IsPlaced (slots : List ℕ) (lines : List Line) (k : ℕ) : Type 0 where
-  pub within : slice_index slots (k - 1) < length lines
-  pub own : (d : Line) → (slice_index_or lines (slice_index slots (k - 1)) d).basic ≡ k
 
 pub record IsTableOf (a : Matrix) (b : Basics) (slots : List ℕ) (lines : List Line) (quotients : List ℚ) : Type 0 where
   pub small : size a < 2 ^ 32

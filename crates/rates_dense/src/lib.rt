@@ -1,14 +1,17 @@
 //! The rates of a matrix as a table: a line for each basic variable, with a place for each variable.
 #![tactic(auto)]
 
-ghost use Rattle.std.specs.Prelude.{◌≡◌, ◌≢◌, ◌<◌, ◌≤◌, ◌+◌, ◌-◌, ◌^◌, ℕ, length, slice_index, slice_index_or, vec_len, All, IfOk, IfErr, IsOk, OnOk, OnErr, []};
+ghost use Rattle.std.specs.Prelude.{◌≡◌, ◌≢◌, ◌<◌, ◌≤◌, ◌^◌, length, All, Contains, IfOk, IfErr, IsOk, OnOk, OnErr, []};
+ghost use Rattle.std.specs.List.{HoldsAt};
 ghost use Rattle.exact_values.specs.Rational.{zero_ℚ};
-ghost use Rattle.lp_definitions.specs.LinearProgram.{size, value_at, on_row, IsRow, IsMatrix};
+ghost use Rattle.lp_definitions.specs.LinearProgram.{size, value_at, on_row, Vector, IsVariable};
 ghost use Rattle.lp_definitions.specs.Basis.{IsBasic, IsNonbasic, IsDirectionOf, exchanged, row_basics};
 ghost use Rattle.lp_definitions.specs.Waypoints.{KeepsWaypoints, waypoint};
 ghost use Rattle.lp_model.specs.RatesCalls.{IsRowOf, HasPivot, ExchangeOverflow};
-ghost use Rattle.rates_dense.specs.Lines.{HasPlaces, LineByLine, SameRates, IsReady, IsCommitted};
-ghost use Rattle.rates_dense.specs.Refusals.{QuotientRefused, SomeLineRefused, IsOwnOverflow};
+ghost use Rattle.rates_dense.specs.Lines.{AreQuotients, HasPlaces, LineByLine, SameRates, IsReady, IsCommitted, IsExchanged};
+ghost use Rattle.rates_dense.specs.Placed.{IsPlaced};
+ghost use Rattle.rates_dense.specs.Inverse.{HasRates};
+ghost use Rattle.rates_dense.specs.Refusals.{SomeLineRefused, LinesRefused, IsOwnOverflow};
 
 mod line;
 
@@ -82,7 +85,67 @@ fn commit_lines(lines: &mut [Line], p: u32, q: u32)
     }
 }
 
+/// The line of the basic `k`.
+fn line_of<'a>(slots: &[u32], lines: &'a [Line], k: u32) -> &'a Line
+    requires low { 1 ≤ k }
+    requires high { k ≤ length slots.now }
+    requires placed { IsPlaced slots.now lines.now k }
+    ensures own { result.now.basic ≡ k }
+    ensures one { Contains lines.now result.now }
+{
+    &lines[slots[k as usize - 1] as usize]
+}
+
+/// Makes the lines after an exchange of `p`, whose line has this slot, for `q`. `quotients` is room for the leaver's rates over the
+/// pivot.
+fn exchange_lines(
+    lines: &mut [Line],
+    slot: usize,
+    p: u32,
+    q: u32,
+    quotients: &mut [Frac],
+) -> Result<(), Evidence>
+    requires q_low { 1 ≤ q }
+    requires q_high { q ≤ length quotients.old }
+    requires small { length quotients.old < 2 ^ 32 }
+    requires places { All (HasPlaces (length quotients.old)) lines.old }
+    requires slot { slot < length lines.old }
+    requires pivot { HoldsAt (λ leaver. value_at leaver.rates.items q ≢ zero_ℚ) lines.old slot }
+    ensures quotients { OnOk result (HoldsAt (λ leaver. AreQuotients p q leaver.rates.items quotients.new) lines.old slot) }
+    ensures lines { OnOk result (LineByLine (IsExchanged p q quotients.new) lines.old lines.new) }
+    ensures err { OnErr result (LineByLine SameRates lines.old lines.new) }
+    ensures refused { IfErr result (LinesRefused p q lines.old slot) }
+{
+    fill_quotients(&lines[slot].rates, p, q, quotients)?;
+    prepare_lines(lines, p, q, quotients)?;
+    commit_lines(lines, p, q);
+    Ok(())
+}
+
 impl Dense {
+    /// The number of variables. The basics have rates.
+    fn size(&self) -> u32
+        ensures size { result ≡ size self.now.matrix }
+        ensures rates { HasRates self.now.matrix self.now.basics }
+    {
+        self.rows + self.cols
+    }
+
+    /// The entry at `k` of the direction of the nonbasic `j`.
+    fn entry(&self, j: u32, k: u32) -> Frac
+        requires nonbasic { IsNonbasic self.now.matrix self.now.basics j }
+        requires variable { IsVariable self.now.matrix k }
+        ensures { (d : Vector) → IsDirectionOf self.now.matrix self.now.basics j d → result ≡ d k }
+    {
+        if self.marks[k as usize - 1] {
+            line_of(&self.slots, &self.lines, k).rates[j as usize - 1]
+        } else if k == j {
+            Frac::whole(1)
+        } else {
+            Frac::whole(0)
+        }
+    }
+
     /// All rows are basic.
     pub fn new(alloc: Global, lp: &Lp) -> Result<Dense, NoMemory>
         ensures matrix { IfOk result (λ table. table.matrix ≡ lp.now.matrix) }
@@ -138,43 +201,59 @@ impl Rates for Dense {
 
     ghost waypoints = { λ _. [] };
 
-    fn column(&mut self, j: u32, out: &mut [Frac]) -> Result<(), Stop> {
-        for (k, place) in out.iter_mut().enumerate() {
-            *place = if self.marks[k] {
-                self.lines[self.slots[k] as usize].rates[j as usize - 1]
-            } else if k == j as usize - 1 {
-                Frac::ONE
-            } else {
-                Frac::ZERO
-            };
+    /// Always answers Ok, and takes no memory.
+    fn column(&mut self, j: u32, out: &mut [Frac]) -> Result<(), Stop>
+        requires nonbasic { IsNonbasic self.old.matrix self.old.basics j }
+        requires places { length out.old ≡ size self.old.matrix }
+        ensures direction { IsDirectionOf self.old.matrix self.old.basics j (value_at out.new) }
+        ensures always { IsOk result }
+        ensures same { self.new ≡ self.old }
+    {
+        for k in 0..self.size() {
+            out[k as usize] = self.entry(j, k + 1);
         }
         Ok(())
     }
 
-    fn row(&mut self, i: u32, out: &mut [Frac]) -> Result<(), Stop> {
-        let slot = self.slots[i as usize - 1];
-        out.copy_from_slice(&self.lines[slot as usize].rates);
+    /// Always answers Ok, and takes no memory.
+    fn row(&mut self, i: u32, out: &mut [Frac]) -> Result<(), Stop>
+        requires basic { IsBasic self.old.matrix self.old.basics i }
+        requires places { length out.old ≡ size self.old.matrix }
+        ensures rates { IsRowOf self.old.matrix self.old.basics i (value_at out.new) }
+        ensures always { IsOk result }
+        ensures same { self.new ≡ self.old }
+    {
+        out.copy_from_slice(&line_of(&self.slots, &self.lines, i).rates);
         Ok(())
     }
 
-    fn exchange(&mut self, p: u32, q: u32) -> Result<(), Stop> {
+    /// Takes no memory. After a Stop the table is as before.
+    fn exchange(&mut self, p: u32, q: u32) -> Result<(), Stop>
+        requires leaves { IsBasic self.old.matrix self.old.basics p }
+        requires enters { IsNonbasic self.old.matrix self.old.basics q }
+        requires pivot { HasPivot self.old.matrix self.old.basics p q }
+        ensures ok { OnOk result (self.new ≡ record self.old { basics = exchanged self.old.basics p q }) }
+        ensures err { OnErr result (self.new ≡ self.old) }
+        ensures overflow { ExchangeOverflow result self.old.matrix self.old.basics p q [] [] }
+
+        // an overflow by a formula of this exchange, at the present basics, and never want of memory
+        ensures own { IfErr result (IsOwnOverflow p q) }
+    {
         let slot = self.slots[p as usize - 1];
-        fill_quotients(
-            &self.lines[slot as usize].rates,
-            p,
-            q,
-            &mut self.quotients,
-        )
-        .map_err(Stop::Overflow)?;
-        prepare_lines(&mut self.lines, p, q, &self.quotients).map_err(Stop::Overflow)?;
-        commit_lines(&mut self.lines, p, q);
+        let lines = &mut self.lines;
+        if let Err(evidence) = exchange_lines(lines, slot as usize, p, q, &mut self.quotients) {
+            return Err(Stop::Overflow(evidence));
+        }
         self.slots[q as usize - 1] = slot;
         self.marks[q as usize - 1] = true;
         self.marks[p as usize - 1] = false;
         Ok(())
     }
 
-    fn way_basics(&self, _way: u32, out: &mut [bool]) {
+    fn way_basics(&self, _way: u32, out: &mut [bool])
+        requires { length out.old ≡ size self.now.matrix }
+        ensures { out.new ≡ self.now.basics }
+    {
         out.copy_from_slice(&self.marks);
     }
 }
