@@ -1,0 +1,17 @@
+use Rattle.lp_algebra.proofs.Uniqueness.{one_table}
+use Rattle.lp_algebra.proofs.Exchange.{IsNonsingular-exchanged, AreRates-exchanged}
+use Rattle.lp_algebra.proofs.Combination.{by_nonbasics, KeepsEquations-from_nonbasics, multiplier_on_column}
+use Rattle.lp_algebra.proofs.Opening.{IsNonsingular-row_basics, AreRates-opening}
+use Rattle.lp_algebra.proofs.rates_laws.Goals as goal
+
+pub returns : goal.returns
+returns c = record {
+  rows_nonsingular = IsNonsingular-row_basics;
+  rows_rates = AreRates-opening;
+  one_table = one_table;
+  exchanged_nonsingular = IsNonsingular-exchanged;
+  exchanged_rates = λ a b one rate are p q. AreRates-exchanged a b one.counted rate are p q;
+  by_nonbasics = by_nonbasics;
+  from_nonbasics = KeepsEquations-from_nonbasics;
+  row_vanishes = multiplier_on_column;
+}

@@ -1,0 +1,4 @@
+pub mod Vectors
+pub mod Rates
+pub mod Points
+pub mod Laws
