@@ -6,15 +6,13 @@ use Rattle.lp_definitions.specs.LinearProgram.{Matrix, Vector, size, IsVariable,
 use Rattle.lp_definitions.specs.Basis.{Basics, is_in, IsNonbasic, IsNonsingular, IsDirectionOf, AreRates}
 use Rattle.rates_dense.specs.declared.line.Line.{Line}
 use Rattle.rates_dense.specs.Table.{IsLine}
-use Rattle.rates_dense.proofs.Laws.{one_direction}
+use Rattle.lp_algebra.proofs.Uniqueness.{one_direction}
+use Rattle.lp_algebra.proofs.Equations.{KeepsEquations-same}
 
 -- a vector with the same values is a direction too
 pub direction_same : (a : Matrix) (b : Basics) (j : ℕ) (d e : Vector) → IsVariable a j → ((k : ℕ) → IsVariable a k → e k ≡ d k) → IsDirectionOf a b j d → IsDirectionOf a b j e
 direction_same a b j d e var same is = record {
-  keeps = λ i row.
-    let sums = sum_to-same a.cols (λ c. entry a i (suc c) *ℚ d (a.rows + suc c)) (λ c. entry a i (suc c) *ℚ e (a.rows + suc c))
-      (λ c below. ap (λ x. entry a i (suc c) *ℚ x) (sym (same (a.rows + suc c) (omega arith, omega arith)))) in
-    same i (row.0, omega (arith, row.1)) ∙ is.keeps i row ∙ sums;
+  keeps = KeepsEquations-same a d e (λ k is_var. sym (same k is_var)) is.keeps;
   own = same j var ∙ is.own;
   others = λ k out differs. same k out.0 ∙ is.others k out differs;
 }

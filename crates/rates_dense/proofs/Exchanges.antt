@@ -13,7 +13,9 @@ use Rattle.rates_dense.specs.Lines.{IsFilled, quotient_at, AreQuotients, enterin
 use Rattle.rates_dense.specs.Placed.{IsPlaced}
 use Rattle.rates_dense.specs.Table.{IsLine, IsTableOf}
 use Rattle.rates_dense.proofs.Fills.{filled_at}
-use Rattle.rates_dense.proofs.Laws.{one_direction, IsNonsingular-exchanged, new_rate, new_rates}
+use Rattle.lp_algebra.specs.Rates.{exchanged_rate}
+use Rattle.lp_algebra.proofs.Uniqueness.{one_direction}
+use Rattle.lp_algebra.proofs.Exchange.{IsNonsingular-exchanged, AreRates-exchanged}
 use Rattle.rates_dense.proofs.NewLines.{line_entry, staying_entry, entering_entry, untouched_entry, basic_stays, enterer_basic, basic_before, new_entry, staying_new, entering_new}
 
 -- a line whose rates are the same
@@ -101,7 +103,7 @@ module _ (a : Matrix) (b : Basics) (slots : List ℕ) (lines : List Line) (quoti
           let high : k ≤ length used = omega (arith, room, var.1) in
           filled_at used (quotient_at p q (get_or lines slot d).rates.items) (are d).filled k var.0 high
 
-      line_then : (old new : Line) → IsLine a b table.rate old → IsExchanged p q used old new → IsLine a (exchanged b p q) (new_rate table.rate p q) new
+      line_then : (old new : Line) → IsLine a b table.rate old → IsExchanged p q used old new → IsLine a (exchanged b p q) (exchanged_rate table.rate p q) new
       line_then old new is change = at change.committed
         where
           leaver : Vector
@@ -115,7 +117,7 @@ module _ (a : Matrix) (b : Basics) (slots : List ℕ) (lines : List Line) (quoti
               let high : k ≤ length change.ready.next.items = omega (arith, ready.room, var.1) in
               filled_at change.ready.next.items f all k var.0 high
 
-          at : IsCommitted p q change.ready new → IsLine a (exchanged b p q) (new_rate table.rate p q) new
+          at : IsCommitted p q change.ready new → IsLine a (exchanged b p q) (exchanged_rate table.rate p q) new
           at (enterer_line same now rates next) = record {
             is_basic = subst (λ k. IsBasic a (exchanged b p q) k) (sym now) (enterer_basic a b counted table.rate table.are_rates p q leaves enters);
             places = ap (λ v. length v.items) rates ∙ ready.room;
@@ -123,7 +125,7 @@ module _ (a : Matrix) (b : Basics) (slots : List ℕ) (lines : List Line) (quoti
             entries = λ k var.
               ap (λ v. value_at v.items k) rates ∙ filled_next (entering_rate p q used) (change.is_ready.entering same) k var
               ∙ entering_new a b counted table.rate table.are_rates p q leaves enters leaver (value_at used) (leaver_entry old) (are_quotients old) k var
-              ∙ ap (λ i. line_entry (exchanged b p q) (new_rate table.rate p q) i k) (sym now);
+              ∙ ap (λ i. line_entry (exchanged b p q) (exchanged_rate table.rate p q) i k) (sym now);
           }
           at (changed_line other apart now rates next) = record {
             is_basic = subst (λ k. IsBasic a (exchanged b p q) k) (sym now) (basic_stays a b counted table.rate table.are_rates p q leaves enters change.ready.basic ready.is_basic other);
@@ -132,9 +134,9 @@ module _ (a : Matrix) (b : Basics) (slots : List ℕ) (lines : List Line) (quoti
             entries = λ k var.
               ap (λ v. value_at v.items k) rates ∙ filled_next (staying_rate p q used change.ready.rates.items) (change.is_ready.staying other apart) k var
               ∙ staying_new a b counted table.rate table.are_rates p q leaves enters leaver (value_at used) (leaver_entry old) (are_quotients old) change.ready.basic (value_at change.ready.rates.items) ready.entries k var
-              ∙ ap (λ i. line_entry (exchanged b p q) (new_rate table.rate p q) i k) (sym now);
+              ∙ ap (λ i. line_entry (exchanged b p q) (exchanged_rate table.rate p q) i k) (sym now);
           }
-          at (same_line other none now) = subst (λ (line : Line). IsLine a (exchanged b p q) (new_rate table.rate p q) line) (sym now) (record {
+          at (same_line other none now) = subst (λ (line : Line). IsLine a (exchanged b p q) (exchanged_rate table.rate p q) line) (sym now) (record {
             is_basic = basic_stays a b counted table.rate table.are_rates p q leaves enters change.ready.basic ready.is_basic other;
             places = ready.places;
             room = ready.room;
@@ -148,8 +150,8 @@ module _ (a : Matrix) (b : Basics) (slots : List ℕ) (lines : List Line) (quoti
       table_then now same change = record {
         small = table.small;
         nonsingular = nonsingular_then;
-        rate = new_rate table.rate p q;
-        are_rates = new_rates a b counted table.rate table.are_rates p q leaves enters rate_apart;
+        rate = exchanged_rate table.rate p q;
+        are_rates = AreRates-exchanged a b counted table.rate table.are_rates p q leaves enters rate_apart;
         each_line = λ k d below.
           let before : k < length lines = omega (arith, same, below) in
           line_then (get_or lines k d) (get_or now k d) (table.each_line k d before) (change k d before);

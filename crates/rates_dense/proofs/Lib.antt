@@ -1,7 +1,3 @@
-mod Uniqueness
-mod Exchange
-mod NewRates
-mod Laws
 mod Values
 mod Fills
 mod LineSteps
@@ -10,3 +6,4 @@ mod Directions
 mod Tables
 mod Exchanges
 mod RefusedLaws
+mod OpeningTable

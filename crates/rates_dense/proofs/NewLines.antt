@@ -6,12 +6,10 @@ use Rattle.exact_values.specs.Rational.{ℚ, zero_ℚ, one_ℚ, neg_ℚ, inverse
 use Rattle.exact_values.proofs.Ring_laws.{mul-one, mul-zero, zero-mul, zero-add, add-zero}
 use Rattle.lp_definitions.specs.LinearProgram.{Matrix, Vector, size, IsVariable}
 use Rattle.lp_definitions.specs.Basis.{Basics, is_in, IsBasic, IsNonbasic, IsDirectionOf, AreRates, exchanged}
-use Rattle.rates_dense.proofs.Exchange.{others_stay, enterer_in, leaver_out}
-use Rattle.rates_dense.proofs.Laws.{new_rate}
+use Rattle.lp_algebra.specs.Rates.{exchanged_rate}
+use Rattle.lp_algebra.proofs.Exchange.{others_stay, enterer_in, leaver_out}
+use Rattle.lp_algebra.proofs.Values.{clash}
 use Rattle.rates_dense.proofs.Values.{neg_zero}
-
-clash : true ≡ false → ⊥
-clash e = cc
 
 -- the entry of the line of i at k
 abbrev pub line_entry : Basics → (ℕ → ℕ → ℚ) → ℕ → Vector
@@ -68,22 +66,22 @@ module _ (a : Matrix) (b : Basics) (counted : length b ≡ size a) (rate : ℕ �
       ((basic.0, sym (stays i basic.0 not_p other) ∙ basic.1), not_p)
 
   abbrev pub new_entry : ℕ → Vector
-  new_entry i k = line_entry (exchanged b p q) (new_rate rate p q) i k
+  new_entry i k = line_entry (exchanged b p q) (exchanged_rate rate p q) i k
 
   new_at_enterer : (i k : ℕ) → k ≡ q → new_entry i k ≡ zero_ℚ
-  new_at_enterer i k same = ap (λ m. cond m zero_ℚ (new_rate rate p q i k)) (ap (is_in (exchanged b p q)) same ∙ q_in)
+  new_at_enterer i k same = ap (λ m. cond m zero_ℚ (exchanged_rate rate p q i k)) (ap (is_in (exchanged b p q)) same ∙ q_in)
 
   new_at_leaver : (i k : ℕ) → eqb k p ≡ true → k ≡ p → new_entry i k ≡ (one_ℚ /ℚ rate p q) *ℚ rate i q
   new_at_leaver i k told same =
-      ap (λ m. cond m zero_ℚ (new_rate rate p q i k)) (ap (is_in (exchanged b p q)) same ∙ p_out)
+      ap (λ m. cond m zero_ℚ (exchanged_rate rate p q i k)) (ap (is_in (exchanged b p q)) same ∙ p_out)
       ∙ ap (λ m. cond m ((one_ℚ /ℚ rate p q) *ℚ rate i q) (rate i k -ℚ (rate p k /ℚ rate p q) *ℚ rate i q)) told
 
   new_at_basic : (i k : ℕ) → IsVariable a k → is_in b k ≡ true → k ≢ p → k ≢ q → new_entry i k ≡ zero_ℚ
-  new_at_basic i k var is_basic not_p not_q = ap (λ m. cond m zero_ℚ (new_rate rate p q i k)) (stays k var not_p not_q ∙ is_basic)
+  new_at_basic i k var is_basic not_p not_q = ap (λ m. cond m zero_ℚ (exchanged_rate rate p q i k)) (stays k var not_p not_q ∙ is_basic)
 
   new_at_nonbasic : (i k : ℕ) → IsVariable a k → is_in b k ≡ false → eqb k p ≡ false → k ≢ p → k ≢ q → new_entry i k ≡ rate i k -ℚ (rate p k /ℚ rate p q) *ℚ rate i q
   new_at_nonbasic i k var out told not_p not_q =
-      ap (λ m. cond m zero_ℚ (new_rate rate p q i k)) (stays k var not_p not_q ∙ out)
+      ap (λ m. cond m zero_ℚ (exchanged_rate rate p q i k)) (stays k var not_p not_q ∙ out)
       ∙ ap (λ m. cond m ((one_ℚ /ℚ rate p q) *ℚ rate i q) (rate i k -ℚ (rate p k /ℚ rate p q) *ℚ rate i q)) told
 
   module _ (leaver quotients : Vector)

@@ -4,7 +4,7 @@
 ghost use Rattle.std.specs.Prelude.{◌≡◌, ◌≢◌, ◌<◌, ◌≤◌, ◌^◌, length, All, Contains, IfOk, IfErr, IsOk, OnOk, OnErr, []};
 ghost use Rattle.std.specs.List.{HoldsAt};
 ghost use Rattle.exact_values.specs.Rational.{zero_ℚ};
-ghost use Rattle.lp_definitions.specs.LinearProgram.{size, value_at, on_row, Vector, IsVariable};
+ghost use Rattle.lp_definitions.specs.LinearProgram.{size, value_at, Vector, IsVariable};
 ghost use Rattle.lp_definitions.specs.Basis.{IsBasic, IsNonbasic, IsDirectionOf, exchanged, row_basics};
 ghost use Rattle.lp_definitions.specs.Waypoints.{KeepsWaypoints, waypoint};
 ghost use Rattle.lp_model.specs.RatesCalls.{IsRowOf, HasPivot, ExchangeOverflow};
@@ -14,10 +14,12 @@ ghost use Rattle.rates_dense.specs.Inverse.{HasRates};
 ghost use Rattle.rates_dense.specs.Refusals.{SomeLineRefused, LinesRefused, IsOwnOverflow};
 
 mod line;
+mod opening;
 
 use frac128::Frac;
 use line::{Line, fill_quotients};
 use lp_model::{Engine, Entry, Evidence, Lp, NoMemory, Rates, Stop};
+use opening::{opening_lines, opening_marks, opening_slots};
 use std::alloc::Global;
 use std::marker::Model;
 
@@ -44,18 +46,6 @@ impl Model for Dense {
     ghost view = { inverse_of };
 
     ghost invariant = { IsTable };
-}
-
-/// The number that a column has on row `i`.
-fn number_on(column: &[Entry], i: u32) -> Frac
-    ensures { result ≡ on_row column.now i }
-{
-    for entry in column {
-        if entry.row == i {
-            return entry.value;
-        }
-    }
-    Frac::whole(0)
 }
 
 /// Makes the lines ready for an exchange of `p` for `q`.
@@ -151,45 +141,17 @@ impl Dense {
         ensures matrix { IfOk result (λ table. table.matrix ≡ lp.now.matrix) }
         ensures basics { IfOk result (λ table. table.basics ≡ row_basics lp.now.matrix) }
     {
-        let size = lp.rows as usize + lp.cols as usize;
-        let columns = lp.copied_columns(alloc)?;
-        let mut marks = Vec::new(alloc);
-        let mut slots = Vec::new(alloc);
-        for k in 0..size {
-            marks.push(k < lp.rows as usize).map_err(|_| NoMemory)?;
-            slots.push(k as u32).map_err(|_| NoMemory)?;
-        }
-        let mut lines = Vec::new(alloc);
-        for k in 0..lp.rows {
-            lines
-                .push(opening_line(alloc, lp, k + 1)?)
-                .map_err(|_| NoMemory)?;
-        }
-        let quotients = vec![in alloc; Frac::ZERO; size]?;
+        let size = lp.number_of_variables();
         Ok(Dense {
             rows: lp.rows,
             cols: lp.cols,
-            columns,
-            marks,
-            slots,
-            lines,
-            quotients,
+            columns: lp.copied_columns(alloc)?,
+            marks: opening_marks(alloc, lp)?,
+            slots: opening_slots(alloc, size)?,
+            lines: opening_lines(alloc, lp)?,
+            quotients: vec![in alloc; Frac::whole(0); size as usize]?,
         })
     }
-}
-
-/// The line of the row `i` where all rows are basic: the numbers on that row.
-fn opening_line(alloc: Global, lp: &Lp, i: u32) -> Result<Line, NoMemory> {
-    let size = lp.rows as usize + lp.cols as usize;
-    let mut rates = vec![in alloc; Frac::ZERO; lp.rows as usize]?;
-    for column in &lp.columns {
-        rates.push(number_on(column, i)).map_err(|_| NoMemory)?;
-    }
-    Ok(Line {
-        basic: i,
-        rates,
-        next: vec![in alloc; Frac::ZERO; size]?,
-    })
 }
 
 impl Rates for Dense {

@@ -1,36 +1,16 @@
-use Rattle.std.proofs.Common.{rules, ◌≡◌, ◌≢◌, ◌<◌, ◌≤◌, ◌^◌, length, All, Contains, IfOk, IfErr, IsOk, OnOk, OnErr, [], ℕ, ◌+◌, ◌-◌, ◌*◌, ◌/◌, ◌%◌, Bool, true, false, nat_eq, nat_lt, List, ◌∷◌, ◌++◌, slice_index_or, slice_set, bit_and, bit_or, Fits, w8, w32, w64, Bor, MutBor}
-use Rattle.std.specs.List.{HoldsAt}
-use Rattle.exact_values.specs.Rational.{zero_ℚ}
-use Rattle.lp_definitions.specs.LinearProgram.{size, value_at, on_row, Vector, IsVariable}
-use Rattle.lp_definitions.specs.Basis.{IsBasic, IsNonbasic, IsDirectionOf, exchanged, row_basics}
-use Rattle.lp_definitions.specs.Waypoints.{KeepsWaypoints, waypoint}
-use Rattle.lp_model.specs.RatesCalls.{IsRowOf, HasPivot, ExchangeOverflow}
-use Rattle.rates_dense.specs.Lines.{AreQuotients, HasPlaces, LineByLine, SameRates, IsReady, IsCommitted, IsExchanged}
-use Rattle.rates_dense.specs.Placed.{IsPlaced}
-use Rattle.rates_dense.specs.Inverse.{HasRates}
-use Rattle.rates_dense.specs.Refusals.{SomeLineRefused, LinesRefused, IsOwnOverflow}
+use Rattle.std.proofs.Common.{◌≡◌, ◌∙◌, length, rules}
+use Rattle.lp_definitions.specs.LinearProgram.{Matrix, size}
+use Rattle.lp_model.specs.Columns.{entries_of}
+use Rattle.rates_dense.specs.Opening.{AreOpeningLines, AreInOrder}
+use Rattle.rates_dense.proofs.OpeningTable.{opening_table}
 use Rattle.rates_dense.proofs.Dense.new.Goals as goal
 
--- src/lib.rt:158:9
-pub loop-k-init : goal.loop-k-init
-loop-k-init c = ?
-
--- src/lib.rt:158:9
-pub loop-k-preserved : goal.loop-k-preserved
-loop-k-preserved c = ?
-
--- src/lib.rt:163:9
-pub loop-k-2-init : goal.loop-k-2-init
-loop-k-2-init c = ?
-
--- src/lib.rt:163:9
-pub loop-k-2-preserved : goal.loop-k-2-preserved
-loop-k-2-preserved c = ?
-
--- src/lib.rt:169:9
 pub invariant_of-result : goal.invariant_of-result
-invariant_of-result c = ?
-
--- src/lib.rt:150:5
-pub returns-clause-basics : goal.returns-clause-basics
-returns-clause-basics c = ?
+invariant_of-result c =
+    let a : Matrix = record { rows = c.lp.inside.rows; cols = c.lp.inside.cols; columns = entries_of c.lp.inside.columns.items } in
+    let is_size : c.number_of_variables-size.result ≡ size a = rw (← c.lp.view_is) at c.number_of_variables-size.ensures.size in
+    let in_order : AreInOrder (size a) c.in_ok-opening_slots.field-0.items = rw is_size at c.in_ok-opening_slots.ensures in
+    let are : AreOpeningLines a a.rows c.in_ok-opening_lines.field-0.items = rw (← c.lp.view_is) at c.in_ok-opening_lines.ensures in
+    let counted : length c.in_ok-vec.field-0.items ≡ c.number_of_variables-size.result = search rules in
+    rw (c.in_ok-copied_columns.ensures, c.in_ok-opening_marks.ensures, ← c.lp.view_is)
+    (opening_table a c.lp.invariant.is_matrix.small c.in_ok-opening_slots.field-0.items c.in_ok-opening_lines.field-0.items c.in_ok-vec.field-0.items in_order are (counted ∙ is_size))

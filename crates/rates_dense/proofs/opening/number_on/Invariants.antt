@@ -1,6 +1,6 @@
 use Rattle.std.proofs.Common.{◌≡◌, drop}
 use Rattle.lp_definitions.specs.LinearProgram.{on_row}
-use Rattle.rates_dense.proofs.number_on.Given as goal
+use Rattle.rates_dense.proofs.opening.number_on.Given as goal
 
 -- none of the entries so far stands on row i
 abbrev pub invariant-loop-entry : goal.invariant-loop-entry
