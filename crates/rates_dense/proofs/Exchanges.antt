@@ -25,7 +25,7 @@ line_kept a b rate old new same is = record {
   places = ap (λ v. length v.items) same.same_rates ∙ is.places;
   room = same.same_room ∙ is.room;
   entries = λ k var.
-    ap (λ v. value_at v.items k) same.same_rates ∙ is.entries k var ∙ ap (λ i. line_entry b rate i k) (sym same.same_basic);
+      ap (λ v. value_at v.items k) same.same_rates ∙ is.entries k var ∙ ap (λ i. line_entry b rate i k) (sym same.same_basic);
 }
 
 -- what becomes of the basic of a line
@@ -54,12 +54,12 @@ module _ (a : Matrix) (b : Basics) (slots : List ℕ) (lines : List Line) (quoti
     rate = table.rate;
     are_rates = table.are_rates;
     each_line = λ k d below.
-      let before : k < length lines = omega (arith, counted, below) in
-      line_kept a b table.rate (get_or lines k d) (get_or now k d) (same k d before) (table.each_line k d before);
+        let before : k < length lines = omega (arith, counted, below) in
+        line_kept a b table.rate (get_or lines k d) (get_or now k d) (same k d before) (table.each_line k d before);
     slots_counted = table.slots_counted;
     placed = λ k basic.
-      let was = table.placed k basic in
-      record { within = omega (arith, counted, was.within); own = λ d. (same (get_or slots (k - 1) 0) d was.within).same_basic ∙ was.own d };
+        let was = table.placed k basic in
+        record { within = omega (arith, counted, was.within); own = λ d. (same (get_or slots (k - 1) 0) d was.within).same_basic ∙ was.own d };
     room = room ∙ table.room;
   }
 
@@ -123,27 +123,27 @@ module _ (a : Matrix) (b : Basics) (slots : List ℕ) (lines : List Line) (quoti
             places = ap (λ v. length v.items) rates ∙ ready.room;
             room = ap (λ v. length v.items) next ∙ ready.places;
             entries = λ k var.
-              ap (λ v. value_at v.items k) rates ∙ filled_next (entering_rate p q used) (change.is_ready.entering same) k var
-              ∙ entering_new a b counted table.rate table.are_rates p q leaves enters leaver (value_at used) (leaver_entry old) (are_quotients old) k var
-              ∙ ap (λ i. line_entry (exchanged b p q) (exchanged_rate table.rate p q) i k) (sym now);
+                ap (λ v. value_at v.items k) rates ∙ filled_next (entering_rate p q used) (change.is_ready.entering same) k var
+                ∙ entering_new a b counted table.rate table.are_rates p q leaves enters leaver (value_at used) (leaver_entry old) (are_quotients old) k var
+                ∙ ap (λ i. line_entry (exchanged b p q) (exchanged_rate table.rate p q) i k) (sym now);
           }
           at (changed_line other apart now rates next) = record {
             is_basic = subst (λ k. IsBasic a (exchanged b p q) k) (sym now) (basic_stays a b counted table.rate table.are_rates p q leaves enters change.ready.basic ready.is_basic other);
             places = ap (λ v. length v.items) rates ∙ ready.room;
             room = ap (λ v. length v.items) next ∙ ready.places;
             entries = λ k var.
-              ap (λ v. value_at v.items k) rates ∙ filled_next (staying_rate p q used change.ready.rates.items) (change.is_ready.staying other apart) k var
-              ∙ staying_new a b counted table.rate table.are_rates p q leaves enters leaver (value_at used) (leaver_entry old) (are_quotients old) change.ready.basic (value_at change.ready.rates.items) ready.entries k var
-              ∙ ap (λ i. line_entry (exchanged b p q) (exchanged_rate table.rate p q) i k) (sym now);
+                ap (λ v. value_at v.items k) rates ∙ filled_next (staying_rate p q used change.ready.rates.items) (change.is_ready.staying other apart) k var
+                ∙ staying_new a b counted table.rate table.are_rates p q leaves enters leaver (value_at used) (leaver_entry old) (are_quotients old) change.ready.basic (value_at change.ready.rates.items) ready.entries k var
+                ∙ ap (λ i. line_entry (exchanged b p q) (exchanged_rate table.rate p q) i k) (sym now);
           }
           at (same_line other none now) = subst (λ (line : Line). IsLine a (exchanged b p q) (exchanged_rate table.rate p q) line) (sym now) (record {
             is_basic = basic_stays a b counted table.rate table.are_rates p q leaves enters change.ready.basic ready.is_basic other;
             places = ready.places;
             room = ready.room;
             entries = λ k var.
-              let at_leaver : value_at change.ready.rates.items p ≡ zero_ℚ = ready.entries p leaves.0 ∙ ap (λ m. cond m zero_ℚ (table.rate change.ready.basic p)) leaves.1 in
-              untouched_entry p q (value_at used) (value_at change.ready.rates.items) at_leaver none k
-              ∙ staying_new a b counted table.rate table.are_rates p q leaves enters leaver (value_at used) (leaver_entry old) (are_quotients old) change.ready.basic (value_at change.ready.rates.items) ready.entries k var;
+                let at_leaver : value_at change.ready.rates.items p ≡ zero_ℚ = ready.entries p leaves.0 ∙ ap (λ m. cond m zero_ℚ (table.rate change.ready.basic p)) leaves.1 in
+                untouched_entry p q (value_at used) (value_at change.ready.rates.items) at_leaver none k
+                ∙ staying_new a b counted table.rate table.are_rates p q leaves enters leaver (value_at used) (leaver_entry old) (are_quotients old) change.ready.basic (value_at change.ready.rates.items) ready.entries k var;
           })
 
       pub table_then : (now : List Line) → length now ≡ length lines → LineByLine (IsExchanged p q used) lines now → IsTableOf a (exchanged b p q) (set slots (q - 1) slot) now used
@@ -153,8 +153,8 @@ module _ (a : Matrix) (b : Basics) (slots : List ℕ) (lines : List Line) (quoti
         rate = exchanged_rate table.rate p q;
         are_rates = AreRates-exchanged a b counted table.rate table.are_rates p q leaves enters rate_apart;
         each_line = λ k d below.
-          let before : k < length lines = omega (arith, same, below) in
-          line_then (get_or lines k d) (get_or now k d) (table.each_line k d before) (change k d before);
+            let before : k < length lines = omega (arith, same, below) in
+            line_then (get_or lines k d) (get_or now k d) (table.each_line k d before) (change k d before);
         slots_counted = length-set slots (q - 1) slot ∙ table.slots_counted;
         placed = λ k basic. at k basic (eqb_tells k q);
         room = room;
@@ -169,7 +169,7 @@ module _ (a : Matrix) (b : Basics) (slots : List ℕ) (lines : List Line) (quoti
               record {
                 within = subst (λ n. n < length now) (sym is_slot) (omega (arith, same, slot_within));
                 own = λ d. ap (λ n. (get_or now n d).basic) is_slot
-                  ∙ basic_enters p q used (get_or lines slot d) (get_or now slot d) (change slot d slot_within) ((table.placed p leaves).own d);
+                    ∙ basic_enters p q used (get_or lines slot d) (get_or now slot d) (change slot d slot_within) ((table.placed p leaves).own d);
               }
 
           at : (k : ℕ) → IsBasic a (exchanged b p q) k → (((eqb k q ≡ true) × (k ≡ q)) ⊎ ((eqb k q ≡ false) × (k ≢ q))) → IsPlaced (set slots (q - 1) slot) now k
@@ -183,6 +183,6 @@ module _ (a : Matrix) (b : Basics) (slots : List ℕ) (lines : List Line) (quoti
               record {
                 within = subst (λ n. n < length now) (sym is_slot) (omega (arith, same, was.within));
                 own = λ d. ap (λ n. (get_or now n d).basic) is_slot
-                  ∙ basic_kept p q used (get_or lines (get_or slots (k - 1) 0) d) (get_or now (get_or slots (k - 1) 0) d) (change (get_or slots (k - 1) 0) d was.within) (differs d)
-                  ∙ was.own d;
+                    ∙ basic_kept p q used (get_or lines (get_or slots (k - 1) 0) d) (get_or now (get_or slots (k - 1) 0) d) (change (get_or slots (k - 1) 0) d was.within) (differs d)
+                    ∙ was.own d;
               }

@@ -33,16 +33,16 @@ read_of xs j v low high is = let within : j - 1 < length xs = omega arith in get
 pub rate_refused : (p q : ℕ) (rates : List ℚ) (k : ℕ) (v pivot : ℚ) (e : Evidence) → k < length rates → v ≡ value_at rates (k + 1) → pivot ≡ value_at rates q → v ≢ zero_ℚ → IsRefusal 1 p q 0 (k + 1) Div v pivot e → QuotientRefused p q rates e
 rate_refused p q rates k v pivot e within at_k at_q apart refusal =
     of_rate (k + 1) (omega arith) (omega arith) (λ zero. apart (at_k ∙ zero))
-      (subst (λ x. IsRefusal 1 p q 0 (k + 1) Div x (value_at rates q) e) at_k (subst (λ y. IsRefusal 1 p q 0 (k + 1) Div v y e) at_q refusal))
+    (subst (λ x. IsRefusal 1 p q 0 (k + 1) Div x (value_at rates q) e) at_k (subst (λ y. IsRefusal 1 p q 0 (k + 1) Div v y e) at_q refusal))
 
 pub rest_refused : (i p q : ℕ) (quotients rates : List ℚ) (k : ℕ) (v quotient factor : ℚ) (e : Evidence) → k < length rates → v ≡ value_at rates (k + 1) → quotient ≡ value_at quotients (k + 1) → factor ≡ value_at rates q → k + 1 ≢ p → IsDifferenceRefused p q i (k + 1) v quotient factor e → StayingRefused i p q quotients rates e
 rest_refused i p q quotients rates k v quotient factor e within at_v at_quotient at_factor other (by_product apart refusal) =
     of_product (k + 1) (omega arith) (omega arith) other (λ zero. apart (at_quotient ∙ zero))
-      (subst (λ x. IsRefusal 2 p q i (k + 1) Mul x (value_at rates q) e) at_quotient (subst (λ y. IsRefusal 2 p q i (k + 1) Mul quotient y e) at_factor refusal))
+    (subst (λ x. IsRefusal 2 p q i (k + 1) Mul x (value_at rates q) e) at_quotient (subst (λ y. IsRefusal 2 p q i (k + 1) Mul quotient y e) at_factor refusal))
 rest_refused i p q quotients rates k v quotient factor e within at_v at_quotient at_factor other (by_difference apart refusal) =
     of_difference (k + 1) (omega arith) (omega arith) other (λ zero. apart (at_quotient ∙ zero))
-      (subst (λ x. IsRefusal 3 p q i (k + 1) Sub x (value_at quotients (k + 1) *ℚ value_at rates q) e) at_v
-        (subst (λ x. IsRefusal 3 p q i (k + 1) Sub v (x *ℚ value_at rates q) e) at_quotient (subst (λ y. IsRefusal 3 p q i (k + 1) Sub v (quotient *ℚ y) e) at_factor refusal)))
+    (subst (λ x. IsRefusal 3 p q i (k + 1) Sub x (value_at quotients (k + 1) *ℚ value_at rates q) e) at_v
+    (subst (λ x. IsRefusal 3 p q i (k + 1) Sub v (x *ℚ value_at rates q) e) at_quotient (subst (λ y. IsRefusal 3 p q i (k + 1) Sub v (quotient *ℚ y) e) at_factor refusal)))
 
 pub multiple_refused : (i p q : ℕ) (quotients rates : List ℚ) (k : ℕ) (quotient factor : ℚ) (e : Evidence) → quotient ≡ value_at quotients (k + 1) → factor ≡ value_at rates q → k + 1 ≡ p → IsRefusal 5 p q i 0 Mul quotient factor e → StayingRefused i p q quotients rates e
 multiple_refused i p q quotients rates k quotient factor e at_quotient at_factor same refusal =

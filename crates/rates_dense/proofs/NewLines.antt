@@ -31,6 +31,7 @@ untouched_entry p q quotients old at_p at_q k = at (eqb_tells k q) (eqb_tells k 
   where
     none : quotients k *ℚ old q ≡ zero_ℚ
     none = ap (λ x. quotients k *ℚ x) at_q ∙ mul-zero (quotients k)
+
     at : Told k q → Told k p → old k ≡ staying_entry p q quotients old k
     at (inl same) other = ap old same.1 ∙ at_q ∙ sym (ap (λ m. cond m zero_ℚ (cond (eqb k p) (quotients k *ℚ old q) (old k -ℚ quotients k *ℚ old q))) same.0)
     at (inr not_q) (inl same) =
@@ -99,7 +100,7 @@ module _ (a : Matrix) (b : Basics) (counted : length b ≡ size a) (rate : ℕ �
     quotient_elsewhere : (k : ℕ) → IsVariable a k → eqb k p ≡ false → quotients k ≡ line_entry b rate p k /ℚ rate p q
     quotient_elsewhere k var told =
         over_pivot (quotients k) (line_entry b rate p k)
-          (are_quotients k var ∙ ap (λ m. cond m one_ℚ (leaver k) /ℚ leaver q) told ∙ ap (λ v. v /ℚ leaver q) (is_leaver k var))
+        (are_quotients k var ∙ ap (λ m. cond m one_ℚ (leaver k) /ℚ leaver q) told ∙ ap (λ v. v /ℚ leaver q) (is_leaver k var))
 
     pub quotient_at_basic : (k : ℕ) → IsVariable a k → eqb k p ≡ false → is_in b k ≡ true → quotients k ≡ zero_ℚ
     quotient_at_basic k var told is_basic =
@@ -118,8 +119,10 @@ module _ (a : Matrix) (b : Basics) (counted : length b ≡ size a) (rate : ℕ �
         where
           past_enterer : eqb k q ≡ false → staying_entry p q quotients old k ≡ cond (eqb k p) (quotients k *ℚ old q) (old k -ℚ quotients k *ℚ old q)
           past_enterer told = ap (λ m. cond m zero_ℚ (cond (eqb k p) (quotients k *ℚ old q) (old k -ℚ quotients k *ℚ old q))) told
+
           past_both : eqb k q ≡ false → eqb k p ≡ false → staying_entry p q quotients old k ≡ old k -ℚ quotients k *ℚ old q
           past_both first second = past_enterer first ∙ ap (λ m. cond m (quotients k *ℚ old q) (old k -ℚ quotients k *ℚ old q)) second
+
           at : Told k q → Told k p → (mark : Bool) → is_in b k ≡ mark → staying_entry p q quotients old k ≡ new_entry i k
           at (inl same) other mark is =
               ap (λ m. cond m zero_ℚ (cond (eqb k p) (quotients k *ℚ old q) (old k -ℚ quotients k *ℚ old q))) same.0 ∙ sym (new_at_enterer i k same.1)
@@ -140,10 +143,13 @@ module _ (a : Matrix) (b : Basics) (counted : length b ≡ size a) (rate : ℕ �
       where
         own : rate q q ≡ one_ℚ
         own = (are q enters).own
+
         past_enterer : eqb k q ≡ false → entering_entry p q quotients k ≡ cond (eqb k p) (quotients k) (neg_ℚ (quotients k))
         past_enterer told = ap (λ m. cond m zero_ℚ (cond (eqb k p) (quotients k) (neg_ℚ (quotients k)))) told
+
         past_both : eqb k q ≡ false → eqb k p ≡ false → entering_entry p q quotients k ≡ neg_ℚ (quotients k)
         past_both first second = past_enterer first ∙ ap (λ m. cond m (quotients k) (neg_ℚ (quotients k))) second
+
         at : Told k q → Told k p → (mark : Bool) → is_in b k ≡ mark → entering_entry p q quotients k ≡ new_entry q k
         at (inl same) other mark is = ap (λ m. cond m zero_ℚ (cond (eqb k p) (quotients k) (neg_ℚ (quotients k)))) same.0 ∙ sym (new_at_enterer q k same.1)
         at (inr not_q) (inl same) mark is =

@@ -39,18 +39,21 @@ module _ (a : Matrix) (small : size a < 2 ^ 32) (slots : List ℕ) (lines : List
     places = is.places.places;
     room = is.places.room;
     entries = λ j var.
-      let high : j ≤ length line.rates.items = omega (arith, is.places.places, var.1) in
-      filled_at line.rates.items (opening_entry a (k + 1)) is.filled j var.0 high
-      ∙ at_entry j var (leb j a.rows) refl
-      ∙ ap (λ i. cond (is_in (row_basics a) j) zero_ℚ (opening_rate a i j)) (sym is.own);
+        let high : j ≤ length line.rates.items = omega (arith, is.places.places, var.1) in
+        filled_at line.rates.items (opening_entry a (k + 1)) is.filled j var.0 high
+        ∙ at_entry j var (leb j a.rows) refl
+        ∙ ap (λ i. cond (is_in (row_basics a) j) zero_ℚ (opening_rate a i j)) (sym is.own);
   }
     where
       var_of : IsVariable a (k + 1)
       var_of = (omega arith, omega arith)
+
       basic : IsBasic a (row_basics a) (k + 1)
       basic = (var_of, is_in-row_basics a (k + 1) var_of ∙ grind arith)
+
       row : leb (k + 1) a.rows ≡ true
       row = grind arith
+
       at_entry : (j : ℕ) → IsVariable a j → (low : Bool) → leb j a.rows ≡ low → opening_entry a (k + 1) j ≡ cond (is_in (row_basics a) j) zero_ℚ (opening_rate a (k + 1) j)
       at_entry j var low is = rw (is_in-row_basics a j var, row) refl
 
@@ -63,13 +66,13 @@ module _ (a : Matrix) (small : size a < 2 ^ 32) (slots : List ℕ) (lines : List
     each_line = λ k d below. opening_is_line k (get_or lines k d) (omega (arith, are.counted, below)) (line_is k d below);
     slots_counted = in_order.counted;
     placed = λ k basic.
-      let low : k ≤ a.rows = row_of k basic in
-      let before : k - 1 < length lines = omega (arith, are.counted, low, basic.0.0) in
-      let is_slot : get_or slots (k - 1) 0 ≡ k - 1 = in_order.each (k - 1) (omega (arith, low, basic.0.0)) in
-      let number : k - 1 + 1 ≡ k = omega (arith, basic.0.0) in
-      record {
-        within = subst (λ n. n < length lines) (sym is_slot) before;
-        own = λ d. ap (λ n. (get_or lines n d).basic) is_slot ∙ (line_is (k - 1) d before).own ∙ number;
-      };
+        let low : k ≤ a.rows = row_of k basic in
+        let before : k - 1 < length lines = omega (arith, are.counted, low, basic.0.0) in
+        let is_slot : get_or slots (k - 1) 0 ≡ k - 1 = in_order.each (k - 1) (omega (arith, low, basic.0.0)) in
+        let number : k - 1 + 1 ≡ k = omega (arith, basic.0.0) in
+        record {
+          within = subst (λ n. n < length lines) (sym is_slot) before;
+          own = λ d. ap (λ n. (get_or lines n d).basic) is_slot ∙ (line_is (k - 1) d before).own ∙ number;
+        };
     room = counted;
   }

@@ -49,6 +49,7 @@ lines_own p q lines at e within (at_leaver h) = leaver (h d)
   where
     d : Line
     d = some_line lines at within
+
     leaver : QuotientRefused p q (get_or lines at d).rates.items e → IsOwn p q e
     leaver (of_rate j low high apart h) = own_of 1 p q 0 j Div (value_at (get_or lines at d).rates.items j) (value_at (get_or lines at d).rates.items q) e (omega arith) (omega arith) h
     leaver (of_one h) = own_of 4 p q 0 0 Div one_ℚ (value_at (get_or lines at d).rates.items q) e (omega arith) (omega arith) h
@@ -56,6 +57,7 @@ lines_own p q lines at e within (at_another quotients are h) = another (h.refuse
   where
     d : Line
     d = some_line lines at within
+
     another : StayingRefused (get_or lines h.slot d).basic p q quotients (get_or lines h.slot d).rates.items e → IsOwn p q e
     another (of_product j low high other apart h) = own_of 2 p q _ j Mul _ _ e (omega arith) (omega arith) h
     another (of_difference j low high other apart h) = own_of 3 p q _ j Sub _ _ e (omega arith) (omega arith) h
@@ -98,12 +100,12 @@ module _ (a : Matrix) (b : Basics) (slots : List ℕ) (lines : List Line) (room 
       let out : is_in b j ≡ false = entry_out b table.rate p j (λ none. apart (at_entry d j var ∙ none)) in
       let is_rate : value_at rates j ≡ table.rate p j = at_entry d j var ∙ ap (λ m. cond m zero_ℚ (table.rate p j)) out in
       refused_by 1 0 j Div (value_at rates j) (value_at rates q) h
-        (f1 p q j h.names exchange (var, out)
-          (refuses_at e Div (value_at rates j) (value_at rates q) (table.rate p j) (table.rate p q) is_rate (leaver_at_enterer a b slots lines room table p q leaves enters pivot d) h.refuses))
+      (f1 p q j h.names exchange (var, out)
+      (refuses_at e Div (value_at rates j) (value_at rates q) (table.rate p j) (table.rate p q) is_rate (leaver_at_enterer a b slots lines room table p q leaves enters pivot d) h.refuses))
   leaver_refused d (of_one h) =
       let rates = (get_or lines place d).rates.items in
       refused_by 4 0 0 Div one_ℚ (value_at rates q) h
-        (f4 p q h.names exchange (refuses_at e Div one_ℚ (value_at rates q) one_ℚ (table.rate p q) refl (leaver_at_enterer a b slots lines room table p q leaves enters pivot d) h.refuses))
+      (f4 p q h.names exchange (refuses_at e Div one_ℚ (value_at rates q) one_ℚ (table.rate p q) refl (leaver_at_enterer a b slots lines room table p q leaves enters pivot d) h.refuses))
 
   module _ (quotients : List ℚ) (counted_too : length quotients ≡ size a) (are : (d : Line) → AreQuotients p q (get_or lines place d).rates.items quotients) (line : Line) (is : IsLine a b table.rate line) (other : line.basic ≢ p) where
     abbrev leaver : Vector
@@ -136,23 +138,23 @@ module _ (a : Matrix) (b : Basics) (slots : List ℕ) (lines : List Line) (room 
         let var : IsVariable a j = (low, omega (arith, is.places, high)) in
         let out : is_in b j ≡ false = nonbasic j var not_p apart in
         refused_by 2 line.basic j Mul (value_at quotients j) (value_at line.rates.items q) h
-          (f2 p q line.basic j h.names exchange is.is_basic other (var, out)
-            (refuses_at e Mul (value_at quotients j) (value_at line.rates.items q) (table.rate p j /ℚ table.rate p q) (table.rate line.basic q) (is_quotient j var not_p out) factor h.refuses))
+        (f2 p q line.basic j h.names exchange is.is_basic other (var, out)
+        (refuses_at e Mul (value_at quotients j) (value_at line.rates.items q) (table.rate p j /ℚ table.rate p q) (table.rate line.basic q) (is_quotient j var not_p out) factor h.refuses))
     line_refused (of_difference j low high not_p apart h) =
         let var : IsVariable a j = (low, omega (arith, is.places, high)) in
         let out : is_in b j ≡ false = nonbasic j var not_p apart in
         let is_rate : value_at line.rates.items j ≡ table.rate line.basic j = is.entries j var ∙ ap (λ m. cond m zero_ℚ (table.rate line.basic j)) out in
         let is_product : value_at quotients j *ℚ value_at line.rates.items q ≡ table.rate p j /ℚ table.rate p q *ℚ table.rate line.basic q =
-          ap (λ x. x *ℚ value_at line.rates.items q) (is_quotient j var not_p out) ∙ ap (λ y. table.rate p j /ℚ table.rate p q *ℚ y) factor in
+        ap (λ x. x *ℚ value_at line.rates.items q) (is_quotient j var not_p out) ∙ ap (λ y. table.rate p j /ℚ table.rate p q *ℚ y) factor in
         refused_by 3 line.basic j Sub (value_at line.rates.items j) (value_at quotients j *ℚ value_at line.rates.items q) h
-          (f3 p q line.basic j h.names exchange is.is_basic other (var, out)
-            (refuses_at e Sub (value_at line.rates.items j) (value_at quotients j *ℚ value_at line.rates.items q) (table.rate line.basic j) (table.rate p j /ℚ table.rate p q *ℚ table.rate line.basic q) is_rate is_product h.refuses))
+        (f3 p q line.basic j h.names exchange is.is_basic other (var, out)
+        (refuses_at e Sub (value_at line.rates.items j) (value_at quotients j *ℚ value_at line.rates.items q) (table.rate line.basic j) (table.rate p j /ℚ table.rate p q *ℚ table.rate line.basic q) is_rate is_product h.refuses))
     line_refused (of_multiple h) =
         let at_p : value_at quotients p ≡ one_ℚ /ℚ table.rate p q =
-          quotient_at_leaver a b whole_length table.rate table.are_rates p q leaves enters leaver (value_at quotients) (at_entry line) quotients_are p leaves.0 (eq-eqb p p refl) in
+        quotient_at_leaver a b whole_length table.rate table.are_rates p q leaves enters leaver (value_at quotients) (at_entry line) quotients_are p leaves.0 (eq-eqb p p refl) in
         refused_by 5 line.basic 0 Mul (value_at quotients p) (value_at line.rates.items q) h
-          (f5 p q line.basic h.names exchange is.is_basic other
-            (refuses_at e Mul (value_at quotients p) (value_at line.rates.items q) (one_ℚ /ℚ table.rate p q) (table.rate line.basic q) at_p factor h.refuses))
+        (f5 p q line.basic h.names exchange is.is_basic other
+        (refuses_at e Mul (value_at quotients p) (value_at line.rates.items q) (one_ℚ /ℚ table.rate p q) (table.rate line.basic q) at_p factor h.refuses))
 
   pub lines_refused : LinesRefused p q lines place e → ExchangeRefused a around b [] e
   lines_refused (at_leaver h) = leaver_refused (some_line lines place (slot_within a b slots lines room table p q leaves enters pivot)) (h (some_line lines place (slot_within a b slots lines room table p q leaves enters pivot)))

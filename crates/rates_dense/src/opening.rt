@@ -42,9 +42,7 @@ fn opening_line(alloc: Global, lp: &Lp, i: u32) -> Result<Line, NoMemory>
     let size = lp.number_of_variables();
     let mut rates = Vec::with_capacity(alloc, size as usize)?;
     for k in 0..size {
-        rates
-            .push(entry_at(lp, i, k + 1))
-            .map_err(|_| NoMemory)?;
+        rates.push(entry_at(lp, i, k + 1)).map_err(|_| NoMemory)?;
     }
     Ok(Line {
         basic: i,

@@ -1,7 +1,324 @@
+ghost use Rattle.std.specs.Prelude.{◌≡◌, ◌≤◌, length, IfOk};
+ghost use Rattle.lp_definitions.specs.LinearProgram.{size};
+
 use super::*;
+use frac128::{Op, Refused};
+use lp_model::Sense;
+use std::alloc::AllocError;
 use std::test::Fail;
 
+fn on(row: u32, value: Frac) -> Entry {
+    Entry { row, value }
+}
+
+/// Four rows and three columns, of which the last two add up to the last row's number.
+fn testprob(alloc: Global) -> Result<Lp, AllocError>
+    ensures { IfOk result (λ lp. size lp.matrix ≡ 7) }
+{
+    let one = Frac::whole(1);
+    let x = vec![in alloc; on(1, one), on(2, one), on(3, one)]?;
+    let y = vec![in alloc; on(1, Frac::whole(4)), on(2, one), on(4, Frac::whole(-1))]?;
+    let z = vec![in alloc; on(1, Frac::whole(9)), on(3, one), on(4, one)]?;
+    Ok(Lp {
+        rows: 4,
+        cols: 3,
+        columns: vec![in alloc; x, y, z]?,
+        lower: vec![in alloc; None, None, None, None, None, None, None]?,
+        upper: vec![in alloc; None, None, None, None, None, None, None]?,
+        rhs: vec![in alloc; one, one, one, one]?,
+        objective: 1,
+        change: None,
+        sense: Sense::Min,
+    })
+}
+
+/// The rows (a, b) and (c, d).
+fn square(alloc: Global, a: Frac, b: Frac, c: Frac, d: Frac) -> Result<Lp, AllocError>
+    ensures { IfOk result (λ lp. size lp.matrix ≡ 4) }
+{
+    let x = vec![in alloc; on(1, a), on(2, c)]?;
+    let y = vec![in alloc; on(1, b), on(2, d)]?;
+    Ok(Lp {
+        rows: 2,
+        cols: 2,
+        columns: vec![in alloc; x, y]?,
+        lower: vec![in alloc; None, None, None, None]?,
+        upper: vec![in alloc; None, None, None, None]?,
+        rhs: vec![in alloc; a, a]?,
+        objective: 1,
+        change: None,
+        sense: Sense::Min,
+    })
+}
+
+/// Exchanges `p` for `q`, if that may be.
+fn enter(
+    table: &mut Dense,
+    p: u32,
+    q: u32,
+    marks: &mut [bool],
+    out: &mut [Frac],
+) -> Result<bool, Stop>
+    requires p_low { 1 ≤ p }
+    requires p_high { p ≤ size table.old.matrix }
+    requires q_low { 1 ≤ q }
+    requires q_high { q ≤ size table.old.matrix }
+    requires marks { length marks.old ≡ size table.old.matrix }
+    requires places { length out.old ≡ size table.old.matrix }
+    ensures { table.new.matrix ≡ table.old.matrix }
+{
+    table.way_basics(0, marks);
+    if !marks[p as usize - 1] || marks[q as usize - 1] {
+        return Ok(false);
+    }
+    table.column(q, out)?;
+    if out[p as usize - 1].is_zero() {
+        return Ok(false);
+    }
+    table.exchange(p, q)?;
+    Ok(true)
+}
+
+/// Whether `i` is basic, with these rates.
+fn row_is(
+    table: &mut Dense,
+    i: u32,
+    marks: &mut [bool],
+    out: &mut [Frac],
+    expected: &[Frac],
+) -> Result<bool, Stop>
+    requires low { 1 ≤ i }
+    requires high { i ≤ size table.old.matrix }
+    requires marks { length marks.old ≡ size table.old.matrix }
+    requires places { length out.old ≡ size table.old.matrix }
+    ensures { table.new.matrix ≡ table.old.matrix }
+{
+    table.way_basics(0, marks);
+    if !marks[i as usize - 1] {
+        return Ok(false);
+    }
+    table.row(i, out)?;
+    Ok(&*out == expected)
+}
+
 #[test]
-fn nothing(rt: HostRuntime) {
-    assert_eq!(rt; 1 + 1, 2);
+fn exchanges_columns_for_rows(rt: HostRuntime) -> Result<(), Fail> {
+    let lp = testprob(rt.alloc())?;
+    let mut table = Dense::start(rt.alloc(), &lp)?;
+    let mut marks = [false; 7];
+    let mut out = [Frac::ZERO; 7];
+    let [n0, n1, n3, n9, n12] = [0, 1, 3, 9, 12].map(|n| Frac::whole(n));
+    let m1 = n1.neg();
+    assert!(rt;
+        row_is(
+            &mut table,
+            1,
+            &mut marks,
+            &mut out,
+            &[n0, n0, n0, n0, n1, Frac::whole(4), n9]
+        )?
+    );
+    assert!(rt; enter(&mut table, 2, 5, &mut marks, &mut out)?);
+    assert!(rt;
+        row_is(
+            &mut table,
+            1,
+            &mut marks,
+            &mut out,
+            &[n0, n1, n0, n0, n0, n3, n9]
+        )?
+    );
+    assert!(rt;
+        row_is(
+            &mut table,
+            3,
+            &mut marks,
+            &mut out,
+            &[n0, n1, n0, n0, n0, m1, n1]
+        )?
+    );
+    assert!(rt;
+        row_is(
+            &mut table,
+            4,
+            &mut marks,
+            &mut out,
+            &[n0, n0, n0, n0, n0, m1, n1]
+        )?
+    );
+    assert!(rt;
+        row_is(
+            &mut table,
+            5,
+            &mut marks,
+            &mut out,
+            &[n0, n1, n0, n0, n0, m1, n0]
+        )?
+    );
+    assert!(rt; !row_is(&mut table, 2, &mut marks, &mut out, &[n0; 7])?);
+    assert!(rt; enter(&mut table, 4, 7, &mut marks, &mut out)?);
+    assert!(rt;
+        row_is(
+            &mut table,
+            1,
+            &mut marks,
+            &mut out,
+            &[n0, n1, n0, n9, n0, n12, n0]
+        )?
+    );
+    assert!(rt;
+        row_is(
+            &mut table,
+            3,
+            &mut marks,
+            &mut out,
+            &[n0, n1, n0, n1, n0, n0, n0]
+        )?
+    );
+    assert!(rt;
+        row_is(
+            &mut table,
+            5,
+            &mut marks,
+            &mut out,
+            &[n0, n1, n0, n0, n0, m1, n0]
+        )?
+    );
+    assert!(rt;
+        row_is(
+            &mut table,
+            7,
+            &mut marks,
+            &mut out,
+            &[n0, n0, n0, n1, n0, n1, n0]
+        )?
+    );
+    assert!(rt; !enter(&mut table, 3, 6, &mut marks, &mut out)?);
+    assert_eq!(rt; out, [n12, n0, n0, n0, m1, n1, n1]);
+    Ok(())
+}
+
+#[test]
+fn exchanges_there_and_back(rt: HostRuntime) -> Result<(), Fail> {
+    let [two, three, one] = [2, 3, 1].map(|n| Frac::whole(n));
+    let zero = Frac::whole(0);
+    let lp = square(rt.alloc(), two, three, one, Frac::new(-1, 2))?;
+    let mut table = Dense::new(rt.alloc(), &lp)?;
+    let mut marks = [false; 4];
+    let mut out = [Frac::ZERO; 4];
+    assert!(rt; enter(&mut table, 1, 3, &mut marks, &mut out)?);
+    let half = Frac::new(1, 2);
+    assert!(rt;
+        row_is(
+            &mut table,
+            2,
+            &mut marks,
+            &mut out,
+            &[half, zero, zero, two.neg()]
+        )?
+    );
+    assert!(rt;
+        row_is(
+            &mut table,
+            3,
+            &mut marks,
+            &mut out,
+            &[half, zero, zero, Frac::new(-3, 2)]
+        )?
+    );
+    assert!(rt; enter(&mut table, 2, 4, &mut marks, &mut out)?);
+    assert!(rt;
+        row_is(
+            &mut table,
+            3,
+            &mut marks,
+            &mut out,
+            &[Frac::new(1, 8), Frac::new(3, 4), zero, zero]
+        )?
+    );
+    assert!(rt;
+        row_is(
+            &mut table,
+            4,
+            &mut marks,
+            &mut out,
+            &[Frac::new(1, 4), Frac::new(-1, 2), zero, zero]
+        )?
+    );
+    assert!(rt; enter(&mut table, 3, 1, &mut marks, &mut out)?);
+    assert!(rt; enter(&mut table, 4, 2, &mut marks, &mut out)?);
+    assert!(rt;
+        row_is(
+            &mut table,
+            1,
+            &mut marks,
+            &mut out,
+            &[zero, zero, two, three]
+        )?
+    );
+    assert!(rt;
+        row_is(
+            &mut table,
+            2,
+            &mut marks,
+            &mut out,
+            &[zero, zero, one, Frac::new(-1, 2)]
+        )?
+    );
+    Ok(())
+}
+
+/// What the exchange of row 1 for column 1 of the rows (a, b) and (c, d) answers, where the rows are as before it.
+fn refused(alloc: Global, a: Frac, b: Frac, c: Frac, d: Frac) -> Result<Option<Stop>, Fail> {
+    let lp = square(alloc, a, b, c, d)?;
+    let mut table = Dense::new(alloc, &lp)?;
+    let mut marks = [false; 4];
+    let mut out = [Frac::ZERO; 4];
+    let zero = Frac::whole(0);
+    match enter(&mut table, 1, 3, &mut marks, &mut out) {
+        Err(stop) => {
+            let first = row_is(&mut table, 1, &mut marks, &mut out, &[zero, zero, a, b])?;
+            let second = row_is(&mut table, 2, &mut marks, &mut out, &[zero, zero, c, d])?;
+            Ok(if first && second { Some(stop) } else { None })
+        }
+        Ok(_) => Ok(None),
+    }
+}
+
+fn overflow(formula: u8, i: u32, j: u32, op: Op, left: Frac, right: Frac) -> Option<Stop> {
+    Some(Stop::Overflow(Evidence {
+        formula,
+        way: 0,
+        p: 1,
+        q: 3,
+        i,
+        j,
+        term: 0,
+        theta: Frac::ZERO,
+        refused: Refused { op, left, right },
+    }))
+}
+
+#[test]
+fn refuses_and_stays(rt: HostRuntime) -> Result<(), Fail> {
+    let alloc = rt.alloc();
+    let [zero, one, two, largest] = [0, 1, 2, i128::MAX].map(|n| Frac::whole(n));
+    let smallest = Frac::new(1, i128::MAX);
+    assert_eq!(rt;
+        refused(alloc, smallest, two, zero, one)?,
+        overflow(1, 0, 4, Op::Div, two, smallest)
+    );
+    assert_eq!(rt;
+        refused(alloc, one, largest, two, one)?,
+        overflow(2, 2, 4, Op::Mul, largest, two)
+    );
+    assert_eq!(rt;
+        refused(alloc, one, largest, one, one.neg())?,
+        overflow(3, 2, 4, Op::Sub, one.neg(), largest)
+    );
+    assert_eq!(rt;
+        refused(alloc, smallest, zero, two, one)?,
+        overflow(5, 2, 0, Op::Mul, largest, two)
+    );
+    Ok(())
 }

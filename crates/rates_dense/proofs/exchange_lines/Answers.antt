@@ -10,18 +10,18 @@ returns-in_err-fill_quotients-clause-refused c =
     let is_err : c.from_residual.result ≡ Err c.in_err-fill_quotients.field-0.0 = search rules in
     rw is_err
     (at_leaver
-      (held_at (λ (leaver : Line). QuotientRefused c.args.p c.args.q leaver.rates.items c.in_err-fill_quotients.field-0.0)
-        c.args.lines.now c.args.slot c.index-lines-slot.result c.requires.slot (rw c.deref.ensures.value at c.in_err-fill_quotients.ensures.refused)))
+    (held_at (λ (leaver : Line). QuotientRefused c.args.p c.args.q leaver.rates.items c.in_err-fill_quotients.field-0.0)
+    c.args.lines.now c.args.slot c.index-lines-slot.result c.requires.slot (rw c.deref.ensures.value at c.in_err-fill_quotients.ensures.refused)))
 
 pub returns-in_err-prepare_lines-clause-refused : goal.returns-in_err-prepare_lines-clause-refused
 returns-in_err-prepare_lines-clause-refused c =
     let is_err : c.from_residual-in_err-prepare_lines.result ≡ Err c.in_err-prepare_lines.field-0.0 = search rules in
     rw is_err
     (at_another c.fill_quotients.new.quotients
-      (held_at (λ (leaver : Line). AreQuotients c.args.p c.args.q leaver.rates.items c.fill_quotients.new.quotients)
-        c.args.lines.now c.args.slot c.index-lines-slot.result c.requires.slot
-        (rw (← c.deref.ensures.value) (record { counted = search rules; filled = c.in_ok-fill_quotients.ensures.filled })))
-      c.in_err-prepare_lines.ensures.refused)
+    (held_at (λ (leaver : Line). AreQuotients c.args.p c.args.q leaver.rates.items c.fill_quotients.new.quotients)
+    c.args.lines.now c.args.slot c.index-lines-slot.result c.requires.slot
+    (rw (← c.deref.ensures.value) (record { counted = search rules; filled = c.in_ok-fill_quotients.ensures.filled })))
+    c.in_err-prepare_lines.ensures.refused)
 
 pub returns-clause-quotients : goal.returns-clause-quotients
 returns-clause-quotients c =

@@ -7,9 +7,9 @@ pub returns-clause-direction : goal.returns-clause-direction
 returns-clause-direction c =
     direction_filled c.args.self.now.matrix c.args.self.now.basics c.args.j c.loop-k.out c.size-k-end.ensures.rates c.requires.nonbasic
     (λ k var d direction.
-      let below : k - 1 < c.loop-k.k = omega (arith, c.size-k-end.ensures.size, var.0, var.1) in
-      let same : k - 1 + 1 ≡ k = omega (arith, var.0) in
-      c.loop-k.invariant (k - 1) below d direction ∙ ap d same)
+    let below : k - 1 < c.loop-k.k = omega (arith, c.size-k-end.ensures.size, var.0, var.1) in
+    let same : k - 1 + 1 ≡ k = omega (arith, var.0) in
+    c.loop-k.invariant (k - 1) below d direction ∙ ap d same)
 
 pub loop-k-preserved : goal.loop-k-preserved
 loop-k-preserved c k below d direction =

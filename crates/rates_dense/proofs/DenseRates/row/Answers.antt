@@ -10,4 +10,4 @@ returns-clause-rates c =
     let copied : c.copy_from_slice.new.self ≡ c.line_of.result.now.rates.items = c.copy_from_slice.ensures.after ∙ c.deref-3.ensures.value in
     rw (← c.self.view_is, copied)
     (row_filled inverse.matrix inverse.basics c.self.inside.slots.items c.self.inside.lines.items c.self.inside.quotients.items c.self.invariant
-      c.line_of.result.now c.args.i one c.line_of.ensures.own)
+    c.line_of.result.now c.args.i one c.line_of.ensures.own)
