@@ -11,7 +11,7 @@ fn on(row: u32, value: Frac) -> Entry {
     Entry { row, value }
 }
 
-/// Four rows and three columns, of which the last two add up to the last row's number.
+/// Four rows and three columns.
 fn testprob(alloc: Global) -> Result<Lp, AllocError>
     ensures { IfOk result (λ lp. size lp.matrix ≡ 7) }
 {
@@ -19,13 +19,17 @@ fn testprob(alloc: Global) -> Result<Lp, AllocError>
     let x = vec![in alloc; on(1, one), on(2, one), on(3, one)]?;
     let y = vec![in alloc; on(1, Frac::whole(4)), on(2, one), on(4, Frac::whole(-1))]?;
     let z = vec![in alloc; on(1, Frac::whole(9)), on(3, one), on(4, one)]?;
+    let columns = vec![in alloc; x, y, z]?;
+    let lower = vec![in alloc; None, None, None, None, None, None, None]?;
+    let upper = vec![in alloc; None, None, None, None, None, None, None]?;
+    let rhs = vec![in alloc; one, one, one, one]?;
     Ok(Lp {
         rows: 4,
         cols: 3,
-        columns: vec![in alloc; x, y, z]?,
-        lower: vec![in alloc; None, None, None, None, None, None, None]?,
-        upper: vec![in alloc; None, None, None, None, None, None, None]?,
-        rhs: vec![in alloc; one, one, one, one]?,
+        columns,
+        lower,
+        upper,
+        rhs,
         objective: 1,
         change: None,
         sense: Sense::Min,
@@ -38,13 +42,17 @@ fn square(alloc: Global, a: Frac, b: Frac, c: Frac, d: Frac) -> Result<Lp, Alloc
 {
     let x = vec![in alloc; on(1, a), on(2, c)]?;
     let y = vec![in alloc; on(1, b), on(2, d)]?;
+    let columns = vec![in alloc; x, y]?;
+    let lower = vec![in alloc; None, None, None, None]?;
+    let upper = vec![in alloc; None, None, None, None]?;
+    let rhs = vec![in alloc; a, a]?;
     Ok(Lp {
         rows: 2,
         cols: 2,
-        columns: vec![in alloc; x, y]?,
-        lower: vec![in alloc; None, None, None, None]?,
-        upper: vec![in alloc; None, None, None, None]?,
-        rhs: vec![in alloc; a, a]?,
+        columns,
+        lower,
+        upper,
+        rhs,
         objective: 1,
         change: None,
         sense: Sense::Min,
@@ -107,144 +115,30 @@ fn exchanges_columns_for_rows(rt: HostRuntime) -> Result<(), Fail> {
     let mut table = Dense::start(rt.alloc(), &lp)?;
     let mut marks = [false; 7];
     let mut out = [Frac::ZERO; 7];
-    let [n0, n1, n3, n9, n12] = [0, 1, 3, 9, 12].map(|n| Frac::whole(n));
-    let m1 = n1.neg();
-    assert!(rt;
-        row_is(
-            &mut table,
-            1,
-            &mut marks,
-            &mut out,
-            &[n0, n0, n0, n0, n1, Frac::whole(4), n9]
-        )?
-    );
     assert!(rt; enter(&mut table, 2, 5, &mut marks, &mut out)?);
-    assert!(rt;
-        row_is(
-            &mut table,
-            1,
-            &mut marks,
-            &mut out,
-            &[n0, n1, n0, n0, n0, n3, n9]
-        )?
-    );
-    assert!(rt;
-        row_is(
-            &mut table,
-            3,
-            &mut marks,
-            &mut out,
-            &[n0, n1, n0, n0, n0, m1, n1]
-        )?
-    );
-    assert!(rt;
-        row_is(
-            &mut table,
-            4,
-            &mut marks,
-            &mut out,
-            &[n0, n0, n0, n0, n0, m1, n1]
-        )?
-    );
-    assert!(rt;
-        row_is(
-            &mut table,
-            5,
-            &mut marks,
-            &mut out,
-            &[n0, n1, n0, n0, n0, m1, n0]
-        )?
-    );
-    assert!(rt; !row_is(&mut table, 2, &mut marks, &mut out, &[n0; 7])?);
     assert!(rt; enter(&mut table, 4, 7, &mut marks, &mut out)?);
-    assert!(rt;
-        row_is(
-            &mut table,
-            1,
-            &mut marks,
-            &mut out,
-            &[n0, n1, n0, n9, n0, n12, n0]
-        )?
-    );
-    assert!(rt;
-        row_is(
-            &mut table,
-            3,
-            &mut marks,
-            &mut out,
-            &[n0, n1, n0, n1, n0, n0, n0]
-        )?
-    );
-    assert!(rt;
-        row_is(
-            &mut table,
-            5,
-            &mut marks,
-            &mut out,
-            &[n0, n1, n0, n0, n0, m1, n0]
-        )?
-    );
-    assert!(rt;
-        row_is(
-            &mut table,
-            7,
-            &mut marks,
-            &mut out,
-            &[n0, n0, n0, n1, n0, n1, n0]
-        )?
-    );
+    let (n0, n1) = (Frac::whole(0), Frac::whole(1));
+    let (n9, n12) = (Frac::whole(9), Frac::whole(12));
+    let first = [n0, n1, n0, n9, n0, n12, n0];
+    assert!(rt; row_is(&mut table, 1, &mut marks, &mut out, &first)?);
+    let last = [n0, n0, n0, n1, n0, n1, n0];
+    assert!(rt; row_is(&mut table, 7, &mut marks, &mut out, &last)?);
     assert!(rt; !enter(&mut table, 3, 6, &mut marks, &mut out)?);
-    assert_eq!(rt; out, [n12, n0, n0, n0, m1, n1, n1]);
+    assert_eq!(rt; out, [n12, n0, n0, n0, n1.neg(), n1, n1]);
     Ok(())
 }
 
 #[test]
 fn exchanges_there_and_back(rt: HostRuntime) -> Result<(), Fail> {
-    let [two, three, one] = [2, 3, 1].map(|n| Frac::whole(n));
-    let zero = Frac::whole(0);
-    let lp = square(rt.alloc(), two, three, one, Frac::new(-1, 2))?;
+    let (zero, two, three) = (Frac::whole(0), Frac::whole(2), Frac::whole(3));
+    let lp = square(rt.alloc(), two, three, Frac::whole(1), Frac::new(-1, 2))?;
     let mut table = Dense::new(rt.alloc(), &lp)?;
     let mut marks = [false; 4];
     let mut out = [Frac::ZERO; 4];
     assert!(rt; enter(&mut table, 1, 3, &mut marks, &mut out)?);
-    let half = Frac::new(1, 2);
-    assert!(rt;
-        row_is(
-            &mut table,
-            2,
-            &mut marks,
-            &mut out,
-            &[half, zero, zero, two.neg()]
-        )?
-    );
-    assert!(rt;
-        row_is(
-            &mut table,
-            3,
-            &mut marks,
-            &mut out,
-            &[half, zero, zero, Frac::new(-3, 2)]
-        )?
-    );
     assert!(rt; enter(&mut table, 2, 4, &mut marks, &mut out)?);
-    assert!(rt;
-        row_is(
-            &mut table,
-            3,
-            &mut marks,
-            &mut out,
-            &[Frac::new(1, 8), Frac::new(3, 4), zero, zero]
-        )?
-    );
-    assert!(rt;
-        row_is(
-            &mut table,
-            4,
-            &mut marks,
-            &mut out,
-            &[Frac::new(1, 4), Frac::new(-1, 2), zero, zero]
-        )?
-    );
+    let between = [Frac::new(1, 8), Frac::new(3, 4), zero, zero];
+    assert!(rt; row_is(&mut table, 3, &mut marks, &mut out, &between)?);
     assert!(rt; enter(&mut table, 3, 1, &mut marks, &mut out)?);
     assert!(rt; enter(&mut table, 4, 2, &mut marks, &mut out)?);
     assert!(rt;
@@ -254,15 +148,6 @@ fn exchanges_there_and_back(rt: HostRuntime) -> Result<(), Fail> {
             &mut marks,
             &mut out,
             &[zero, zero, two, three]
-        )?
-    );
-    assert!(rt;
-        row_is(
-            &mut table,
-            2,
-            &mut marks,
-            &mut out,
-            &[zero, zero, one, Frac::new(-1, 2)]
         )?
     );
     Ok(())
@@ -300,25 +185,25 @@ fn overflow(formula: u8, i: u32, j: u32, op: Op, left: Frac, right: Frac) -> Opt
 }
 
 #[test]
-fn refuses_and_stays(rt: HostRuntime) -> Result<(), Fail> {
-    let alloc = rt.alloc();
-    let [zero, one, two, largest] = [0, 1, 2, i128::MAX].map(|n| Frac::whole(n));
+fn refuses_quotients_and_products(rt: HostRuntime) -> Result<(), Fail> {
+    let (zero, one, two) = (Frac::whole(0), Frac::whole(1), Frac::whole(2));
+    let largest = Frac::whole(i128::MAX);
     let smallest = Frac::new(1, i128::MAX);
-    assert_eq!(rt;
-        refused(alloc, smallest, two, zero, one)?,
-        overflow(1, 0, 4, Op::Div, two, smallest)
-    );
-    assert_eq!(rt;
-        refused(alloc, one, largest, two, one)?,
-        overflow(2, 2, 4, Op::Mul, largest, two)
-    );
-    assert_eq!(rt;
-        refused(alloc, one, largest, one, one.neg())?,
-        overflow(3, 2, 4, Op::Sub, one.neg(), largest)
-    );
-    assert_eq!(rt;
-        refused(alloc, smallest, zero, two, one)?,
-        overflow(5, 2, 0, Op::Mul, largest, two)
-    );
+    let answer = refused(rt.alloc(), smallest, two, zero, one)?;
+    assert_eq!(rt; answer, overflow(1, 0, 4, Op::Div, two, smallest));
+    let answer = refused(rt.alloc(), one, largest, two, one)?;
+    assert_eq!(rt; answer, overflow(2, 2, 4, Op::Mul, largest, two));
+    Ok(())
+}
+
+#[test]
+fn refuses_differences_and_multiples(rt: HostRuntime) -> Result<(), Fail> {
+    let (zero, one, two) = (Frac::whole(0), Frac::whole(1), Frac::whole(2));
+    let largest = Frac::whole(i128::MAX);
+    let smallest = Frac::new(1, i128::MAX);
+    let answer = refused(rt.alloc(), one, largest, one, one.neg())?;
+    assert_eq!(rt; answer, overflow(3, 2, 4, Op::Sub, one.neg(), largest));
+    let answer = refused(rt.alloc(), smallest, zero, two, one)?;
+    assert_eq!(rt; answer, overflow(5, 2, 0, Op::Mul, largest, two));
     Ok(())
 }
