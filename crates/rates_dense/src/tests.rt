@@ -7,18 +7,36 @@ use lp_model::Sense;
 use std::alloc::AllocError;
 use std::test::Fail;
 
-fn on(row: u32, value: Frac) -> Entry {
-    Entry { row, value }
-}
-
 /// Four rows and three columns.
 fn testprob(alloc: Global) -> Result<Lp, AllocError>
     ensures { IfOk result (λ lp. size lp.matrix ≡ 7) }
 {
     let one = Frac::whole(1);
-    let x = vec![in alloc; on(1, one), on(2, one), on(3, one)]?;
-    let y = vec![in alloc; on(1, Frac::whole(4)), on(2, one), on(4, Frac::whole(-1))]?;
-    let z = vec![in alloc; on(1, Frac::whole(9)), on(3, one), on(4, one)]?;
+    let (four, nine, minus_one) = (Frac::whole(4), Frac::whole(9), Frac::whole(-1));
+    let x = vec![in alloc;
+        Entry { row: 1, value: one },
+        Entry { row: 2, value: one },
+        Entry { row: 3, value: one },
+    ]?;
+    let y = vec![in alloc;
+        Entry {
+            row: 1,
+            value: four
+        },
+        Entry { row: 2, value: one },
+        Entry {
+            row: 4,
+            value: minus_one
+        },
+    ]?;
+    let z = vec![in alloc;
+        Entry {
+            row: 1,
+            value: nine
+        },
+        Entry { row: 3, value: one },
+        Entry { row: 4, value: one },
+    ]?;
     let columns = vec![in alloc; x, y, z]?;
     let lower = vec![in alloc; None, None, None, None, None, None, None]?;
     let upper = vec![in alloc; None, None, None, None, None, None, None]?;
@@ -40,8 +58,8 @@ fn testprob(alloc: Global) -> Result<Lp, AllocError>
 fn square(alloc: Global, a: Frac, b: Frac, c: Frac, d: Frac) -> Result<Lp, AllocError>
     ensures { IfOk result (λ lp. size lp.matrix ≡ 4) }
 {
-    let x = vec![in alloc; on(1, a), on(2, c)]?;
-    let y = vec![in alloc; on(1, b), on(2, d)]?;
+    let x = vec![in alloc; Entry { row: 1, value: a }, Entry { row: 2, value: c }]?;
+    let y = vec![in alloc; Entry { row: 1, value: b }, Entry { row: 2, value: d }]?;
     let columns = vec![in alloc; x, y]?;
     let lower = vec![in alloc; None, None, None, None]?;
     let upper = vec![in alloc; None, None, None, None]?;
