@@ -1,9 +1,8 @@
 -- The directions of the nonbasics, from the lines.
-use Rattle.std.proofs.Common.{◌≡◌, ◌≢◌, ℕ, suc, ◌+◌, ◌≤◌, sym, ◌∙◌, ap, cond, arith}
-use Rattle.exact_values.specs.Rational.{ℚ, zero_ℚ, ◌*ℚ◌}
-use Rattle.exact_values.proofs.Sums.{sum_to-same}
-use Rattle.lp_definitions.specs.LinearProgram.{Matrix, Vector, size, IsVariable, entry, value_at}
-use Rattle.lp_definitions.specs.Basis.{Basics, is_in, IsNonbasic, IsNonsingular, IsDirectionOf, AreRates}
+use Rattle.std.proofs.Common.{◌≡◌, ℕ, sym, ◌∙◌, ap, cond}
+use Rattle.exact_values.specs.Rational.{ℚ, zero_ℚ}
+use Rattle.lp_definitions.specs.LinearProgram.{Matrix, Vector, IsVariable, value_at}
+use Rattle.lp_definitions.specs.Basis.{Basics, IsNonbasic, IsNonsingular, IsDirectionOf, AreRates}
 use Rattle.rates_dense.specs.declared.line.Line.{Line}
 use Rattle.rates_dense.specs.Table.{IsLine}
 use Rattle.lp_algebra.proofs.Uniqueness.{one_direction}

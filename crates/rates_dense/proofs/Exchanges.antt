@@ -1,22 +1,22 @@
 -- What an exchange of p for q makes of the table.
 use Rattle.std.specs.Prelude.{eqb}
-use Rattle.std.proofs.Common.{◌≡◌, ◌≢◌, ℕ, zero, suc, ◌+◌, ◌-◌, ◌<◌, ◌≤◌, ◌⊎◌, inl, inr, List, [], ◌∷◌, length, get_or, set, refl, sym, ◌∙◌, ap, Bool, true, false, cond, subst, All, arith}
+use Rattle.std.proofs.Common.{◌≡◌, ◌≢◌, ℕ, ◌-◌, ◌<◌, ◌≤◌, ◌⊎◌, inl, inr, List, length, get_or, set, sym, ◌∙◌, ap, true, false, cond, subst, arith}
 use Rattle.std.proofs.lemmas.Bool.Decides.{eqb_tells}
 use Rattle.std.proofs.lemmas.List.{get_or-set_same, get_or-set_other, length-set, get_or_read}
 use Rattle.std.specs.List.{HoldsAt}
-use Rattle.exact_values.specs.Rational.{ℚ, zero_ℚ, one_ℚ, ◌*ℚ◌, ◌/ℚ◌}
+use Rattle.exact_values.specs.Rational.{ℚ, zero_ℚ, one_ℚ, ◌/ℚ◌}
 use Rattle.lp_definitions.specs.LinearProgram.{Matrix, Vector, size, IsVariable, value_at}
-use Rattle.lp_definitions.specs.Basis.{Basics, is_in, IsBasic, IsNonbasic, IsNonsingular, IsDirectionOf, AreRates, exchanged}
+use Rattle.lp_definitions.specs.Basis.{Basics, IsBasic, IsNonbasic, IsNonsingular, exchanged}
 use Rattle.lp_model.specs.RatesCalls.{HasPivot}
 use Rattle.rates_dense.specs.declared.line.Line.{Line}
-use Rattle.rates_dense.specs.Lines.{IsFilled, quotient_at, AreQuotients, entering_rate, staying_rate, LineByLine, SameRates, IsReady, IsCommitted, enterer_line, changed_line, same_line, IsExchanged}
+use Rattle.rates_dense.specs.Lines.{IsFilled, quotient_at, AreQuotients, entering_rate, staying_rate, LineByLine, SameRates, IsCommitted, enterer_line, changed_line, same_line, IsExchanged}
 use Rattle.rates_dense.specs.Placed.{IsPlaced}
 use Rattle.rates_dense.specs.Table.{IsLine, IsTableOf}
 use Rattle.rates_dense.proofs.Fills.{filled_at}
 use Rattle.lp_algebra.specs.Rates.{exchanged_rate}
 use Rattle.lp_algebra.proofs.Uniqueness.{one_direction}
 use Rattle.lp_algebra.proofs.Exchange.{IsNonsingular-exchanged, AreRates-exchanged}
-use Rattle.rates_dense.proofs.NewLines.{line_entry, staying_entry, entering_entry, untouched_entry, basic_stays, enterer_basic, basic_before, new_entry, staying_new, entering_new}
+use Rattle.rates_dense.proofs.NewLines.{line_entry, untouched_entry, basic_stays, enterer_basic, basic_before, staying_new, entering_new}
 
 -- a line whose rates are the same
 pub line_kept : (a : Matrix) (b : Basics) (rate : ℕ → ℕ → ℚ) (old new : Line) → SameRates old new → IsLine a b rate old → IsLine a b rate new

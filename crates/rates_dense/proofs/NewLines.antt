@@ -5,7 +5,7 @@ use Rattle.std.proofs.lemmas.Bool.Decides.{eqb_tells}
 use Rattle.exact_values.specs.Rational.{ℚ, zero_ℚ, one_ℚ, neg_ℚ, inverse_ℚ, ◌+ℚ◌, ◌-ℚ◌, ◌*ℚ◌, ◌/ℚ◌}
 use Rattle.exact_values.proofs.Ring_laws.{mul-one, mul-zero, zero-mul, zero-add, add-zero}
 use Rattle.lp_definitions.specs.LinearProgram.{Matrix, Vector, size, IsVariable}
-use Rattle.lp_definitions.specs.Basis.{Basics, is_in, IsBasic, IsNonbasic, IsDirectionOf, AreRates, exchanged}
+use Rattle.lp_definitions.specs.Basis.{Basics, is_in, IsBasic, IsNonbasic, AreRates, exchanged}
 use Rattle.lp_algebra.specs.Rates.{exchanged_rate}
 use Rattle.lp_algebra.proofs.Exchange.{others_stay, enterer_in, leaver_out}
 use Rattle.lp_algebra.proofs.Values.{clash}

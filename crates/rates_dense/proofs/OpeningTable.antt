@@ -1,16 +1,14 @@
 -- The table where all rows are basic.
-use Rattle.std.proofs.Common.{◌≡◌, ℕ, zero, suc, ◌+◌, ◌-◌, ◌<◌, ◌≤◌, ◌^◌, List, [], ◌∷◌, ◌++◌, length, map, get_or, refl, sym, ◌∙◌, ap, ap₂, Bool, true, false, cond, leb, ltb, subst, arith}
+use Rattle.std.proofs.Common.{◌≡◌, ℕ, ◌+◌, ◌-◌, ◌<◌, ◌≤◌, ◌^◌, List, [], ◌∷◌, ◌++◌, length, map, get_or, refl, sym, ◌∙◌, ap, ap₂, Bool, true, false, cond, leb, ltb, subst, arith}
 use Rattle.std.proofs.lemmas.List.{map-append}
-use Rattle.std.specs.List.{HoldsAt}
 use Rattle.exact_values.specs.Rational.{ℚ, zero_ℚ}
-use Rattle.lp_definitions.specs.LinearProgram.{Matrix, size, entry, numbers_from, IsRow, IsVariable, value_at}
-use Rattle.lp_definitions.specs.Basis.{Basics, is_in, IsBasic, row_basics}
+use Rattle.lp_definitions.specs.LinearProgram.{Matrix, size, numbers_from, IsVariable}
+use Rattle.lp_definitions.specs.Basis.{is_in, IsBasic, row_basics}
 use Rattle.lp_algebra.specs.Rates.{opening_rate}
 use Rattle.lp_algebra.proofs.Opening.{numbers_from-append, IsNonsingular-row_basics, AreRates-opening, is_in-row_basics}
 use Rattle.lp_algebra.proofs.Values.{clash}
 use Rattle.rates_dense.specs.declared.line.Line.{Line}
 use Rattle.rates_dense.specs.Opening.{opening_entry, IsOpeningLine, AreOpeningLines, AreInOrder}
-use Rattle.rates_dense.specs.Placed.{IsPlaced}
 use Rattle.rates_dense.specs.Table.{IsLine, IsTableOf}
 use Rattle.rates_dense.proofs.Fills.{filled_at}
 

@@ -1,22 +1,22 @@
 -- What a refusal at the lines shows: evidence of a formula of the exchange, at the present basics.
 use Rattle.std.specs.Prelude.{eqb}
-use Rattle.std.proofs.Common.{◌≡◌, ◌≢◌, ℕ, ◌<◌, ◌≤◌, ◌⊎◌, inl, inr, List, [], ◌∷◌, length, get_or, refl, sym, ◌∙◌, ap, Bool, true, false, cond, subst, arith}
+use Rattle.std.proofs.Common.{◌≡◌, ◌≢◌, ℕ, ◌<◌, ◌≤◌, inl, inr, List, [], ◌∷◌, length, get_or, refl, sym, ◌∙◌, ap, Bool, true, false, cond, subst, arith}
 use Rattle.std.proofs.lemmas.Bool.{eq-eqb, ne_eqb}
 use Rattle.exact_values.specs.Rational.{ℚ, zero_ℚ, one_ℚ, ◌*ℚ◌, ◌/ℚ◌}
 use Rattle.frac128.specs.declared.Op.{Op}
 use Rattle.frac128.specs.declared.Op.TheVariants.{Sub, Mul, Div}
 use Rattle.lp_definitions.specs.LinearProgram.{Matrix, Vector, size, IsVariable, value_at}
-use Rattle.lp_definitions.specs.Basis.{Basics, is_in, IsBasic, IsNonbasic, IsNonsingular, IsDirectionOf, AreRates, exchanged}
+use Rattle.lp_definitions.specs.Basis.{Basics, is_in, IsBasic, IsNonbasic, exchanged}
 use Rattle.lp_definitions.specs.Waypoints.{waypoint, IsWaypoint}
-use Rattle.lp_definitions.specs.RatesEvidence.{Names, Refuses, IsExchange, ExchangeFormula, f1, f2, f3, f4, f5, IsAtWay, ExchangeRefused}
+use Rattle.lp_definitions.specs.RatesEvidence.{Refuses, IsExchange, ExchangeFormula, f1, f2, f3, f4, f5, IsAtWay, ExchangeRefused}
 use Rattle.lp_definitions.specs.declared.Evidence.{Evidence}
 use Rattle.lp_model.specs.RatesCalls.{HasPivot}
 use Rattle.rates_dense.specs.declared.line.Line.{Line}
 use Rattle.rates_dense.specs.Lines.{AreQuotients}
 use Rattle.rates_dense.specs.Table.{IsLine, IsTableOf}
-use Rattle.rates_dense.specs.Refusals.{IsRefusal, QuotientRefused, of_rate, of_one, StayingRefused, of_product, of_difference, of_multiple, SomeLineRefused, LinesRefused, at_leaver, at_another, IsOwn}
+use Rattle.rates_dense.specs.Refusals.{IsRefusal, QuotientRefused, of_rate, of_one, StayingRefused, of_product, of_difference, of_multiple, LinesRefused, at_leaver, at_another, IsOwn}
 use Rattle.rates_dense.proofs.NewLines.{line_entry, quotient_at_basic, quotient_at_nonbasic, quotient_at_leaver}
-use Rattle.rates_dense.proofs.Exchanges.{slot, slot_within, rate_apart, leaver_entry, leaver_at_enterer, nonsingular_then, counted, are_quotients}
+use Rattle.rates_dense.proofs.Exchanges.{slot, slot_within, rate_apart, leaver_entry, leaver_at_enterer, nonsingular_then, are_quotients}
 
 -- the operation, on other names of its operands
 refuses_at : (e : Evidence) (op : Op) (left right x y : ℚ) → left ≡ x → right ≡ y → Refuses e op left right → Refuses e op x y

@@ -1,9 +1,9 @@
 -- What the table shows of its rates, and what an exchange of p for q makes of it.
-use Rattle.std.proofs.Common.{◌≡◌, ◌≢◌, ℕ, ◌-◌, ◌+◌, ◌<◌, ◌≤◌, List, length, get_or, refl, sym, ◌∙◌, ap, cond, subst, All, Contains, arith}
+use Rattle.std.proofs.Common.{◌≡◌, ℕ, ◌-◌, ◌≤◌, List, length, get_or, ◌∙◌, ap, cond, Contains, arith}
 use Rattle.std.proofs.lemmas.List.Elements.{All-contains}
 use Rattle.exact_values.specs.Rational.{ℚ, zero_ℚ}
-use Rattle.lp_definitions.specs.LinearProgram.{Matrix, Vector, size, IsVariable, value_at}
-use Rattle.lp_definitions.specs.Basis.{Basics, is_in, IsBasic, IsNonbasic, IsDirectionOf}
+use Rattle.lp_definitions.specs.LinearProgram.{Matrix, Vector, IsVariable, value_at}
+use Rattle.lp_definitions.specs.Basis.{Basics, is_in, IsNonbasic, IsDirectionOf}
 use Rattle.lp_model.specs.RatesCalls.{IsRowOf}
 use Rattle.rates_dense.specs.declared.line.Line.{Line}
 use Rattle.rates_dense.specs.Inverse.{HasRates}

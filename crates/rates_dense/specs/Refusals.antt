@@ -6,7 +6,7 @@
 --     LinesRefused p q lines slot e    a quotient of the leaver's line, or a rate of another
 --     IsOwn p q e                      the evidence is of one of the formulas of an exchange, at the present basics, for these p and q
 --     IsOwnOverflow p q stop           the stop is an overflow with such evidence
-use Rattle.std.specs.Prelude.{◌≡◌, ◌≢◌, ℕ, ◌+◌, ◌<◌, ◌≤◌, List, length, slice_index_or}
+use Rattle.std.specs.Prelude.{◌≡◌, ◌≢◌, ℕ, ◌<◌, ◌≤◌, List, length, slice_index_or}
 use Rattle.exact_values.specs.Rational.{ℚ, zero_ℚ, one_ℚ, ◌*ℚ◌}
 use Rattle.frac128.specs.declared.Op.{Op}
 use Rattle.frac128.specs.declared.Op.TheVariants.{Sub, Mul, Div}

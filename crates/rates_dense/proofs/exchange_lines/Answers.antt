@@ -1,4 +1,4 @@
-use Rattle.std.proofs.Common.{rules, arith, ◌≡◌, ◌<◌, Err, sym, subst, length, get_or}
+use Rattle.std.proofs.Common.{rules, arith, ◌≡◌, ◌<◌, Err, length, get_or}
 use Rattle.rates_dense.specs.declared.line.Line.{Line}
 use Rattle.rates_dense.specs.Lines.{AreQuotients}
 use Rattle.rates_dense.specs.Refusals.{QuotientRefused, at_leaver, at_another}

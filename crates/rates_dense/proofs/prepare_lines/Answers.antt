@@ -1,4 +1,4 @@
-use Rattle.std.proofs.Common.{rules, arith, ◌≡◌, ◌<◌, ◌≤◌, ◌∙◌, Err, sym, length, get_or}
+use Rattle.std.proofs.Common.{rules, arith, ◌≡◌, ◌<◌, ◌∙◌, Err, sym, length, get_or}
 use Rattle.std.proofs.lemmas.List.{get_or_default}
 use Rattle.rates_dense.proofs.LineSteps.{some_refused}
 use Rattle.rates_dense.proofs.prepare_lines.Goals as goal

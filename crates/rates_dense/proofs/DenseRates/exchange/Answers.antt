@@ -2,7 +2,7 @@ use Rattle.std.proofs.Common.{rules, ◌≡◌, ◌∙◌, get_or, length, ◌-�
 use Rattle.lp_definitions.specs.Basis.{IsBasic, IsNonbasic}
 use Rattle.lp_model.specs.RatesCalls.{HasPivot}
 use Rattle.rates_dense.specs.Table.{inverse_of}
-use Rattle.rates_dense.proofs.Exchanges.{slot, slot_read, slot_within, leaver_apart, table_kept, table_then}
+use Rattle.rates_dense.proofs.Exchanges.{slot_read, slot_within, leaver_apart, table_kept, table_then}
 use Rattle.rates_dense.proofs.RefusedLaws.{lines_own, lines_refused}
 use Rattle.rates_dense.proofs.LineSteps.{came_back}
 use Rattle.rates_dense.proofs.DenseRates.exchange.Goals as goal
