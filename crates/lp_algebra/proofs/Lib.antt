@@ -12,3 +12,5 @@ pub mod WaypointLaws
 pub mod Optimal
 pub mod Rays
 pub mod Entries
+pub mod Ordered
+mod Examples

@@ -1,12 +1,12 @@
 -- What is proved of linear programs and their bases, as the functions of src/lib.rt promise it.
-use Rattle.std.specs.Prelude.{◌≡◌, ◌≢◌, ℕ, ◌+◌, List, map, Some, ◌↔◌}
-use Rattle.exact_values.specs.Rational.{ℚ, zero_ℚ, ◌+ℚ◌, ◌*ℚ◌, ◌<ℚ◌}
+use Rattle.std.specs.Prelude.{◌≡◌, ◌≢◌, ℕ, ◌+◌, List, map, filter, not, Some, ◌↔◌}
+use Rattle.exact_values.specs.Rational.{ℚ, zero_ℚ, neg_ℚ, ◌+ℚ◌, ◌*ℚ◌, ◌<ℚ◌}
 use Rattle.exact_values.specs.Sums.{sum_up_to}
-use Rattle.lp_definitions.specs.LinearProgram.{Matrix, LinearProgram, Vector, entry, column, lower_of, upper_of, for_min, objective_value, IsColumn, IsVariable, IsMatrix, IsLinearProgram, KeepsEquations}
+use Rattle.lp_definitions.specs.LinearProgram.{Matrix, LinearProgram, Vector, entry, column, variables, lower_of, upper_of, for_min, objective_value, IsColumn, IsVariable, IsMatrix, IsLinearProgram, KeepsEquations}
 use Rattle.lp_definitions.specs.Solutions.{IsFeasible, IsBest, AreProvingPrices, IsRay, ProvesInfeasible, ProvesUnbounded, IsInfeasible, IsUnbounded}
-use Rattle.lp_definitions.specs.Basis.{Basics, IsBasic, IsNonbasic, IsNonsingular, IsDirectionOf, AreRates, exchanged, row_basics, basics_of, status_of, with_status, opening_statuses, IsAllowed, StandsAt, IsBasis, IsPointOf, IsOptimalBasis, price_at}
+use Rattle.lp_definitions.specs.Basis.{Basics, is_in, IsBasic, IsNonbasic, IsNonsingular, IsDirectionOf, AreRates, exchanged, row_basics, basics_of, status_of, with_status, opening_statuses, IsAllowed, StandsAt, IsBasis, IsPointOf, IsOptimalBasis, price_at}
 use Rattle.lp_definitions.specs.Waypoints.{KeepsWaypoints}
-use Rattle.lp_definitions.specs.RatesEvidence.{multiplier, sum_from}
+use Rattle.lp_definitions.specs.RatesEvidence.{multiplier, other_basics, sum_from}
 use Rattle.lp_definitions.specs.declared.Entry.{Entry}
 use Rattle.lp_definitions.specs.declared.Status.{Status}
 use Rattle.lp_definitions.specs.declared.Status.TheVariants.{Bs, Fr}
@@ -37,6 +37,9 @@ pub record RatesLaws : Type 0 where
   pub by_nonbasics : (a : Matrix) (b : Basics) (rate : ℕ → ℕ → ℚ) → AreRates a b rate → IsNonsingular a b → (x : Vector) → KeepsEquations a x → (i : ℕ) → IsVariable a i → x i ≡ combination a b rate x i
   pub from_nonbasics : (a : Matrix) (b : Basics) (rate : ℕ → ℕ → ℚ) → AreRates a b rate → (x : Vector) → ((i : ℕ) → IsVariable a i → x i ≡ combination a b rate x i) → KeepsEquations a x
   pub row_vanishes : (a : Matrix) (b : Basics) (rate : ℕ → ℕ → ℚ) → AreRates a b rate → IsNonsingular a b → (r : ℕ) → IsBasic a b r → (j : ℕ) → IsColumn a j → column_value a (multiplier b rate r) j ≡ zero_ℚ
+  pub in_order : (a : Matrix) (b : Basics) (rate : ℕ → ℕ → ℚ) (v : Vector) (i : ℕ) → sum_from zero_ℚ (map (λ j. rate i j *ℚ v j) (filter (λ k. not (is_in b k)) (variables a))) ≡ combination a b rate v i
+  pub carried_back : (a : Matrix) (w : Basics) (rate : ℕ → ℕ → ℚ) (p q : ℕ) (y : Vector) → AreRates a w rate → IsBasic a w p → IsNonbasic a w q → ((x : Vector) → KeepsEquations a x → functional a y x ≡ zero_ℚ)
+      → sum_from (y q) (map (λ i. y i *ℚ rate i q) (other_basics a w p)) ≡ neg_ℚ (y p *ℚ rate p q)
 
 -- status lists and points
 pub record BasisLaws : Type 0 where

@@ -2,6 +2,7 @@ use Rattle.lp_algebra.proofs.Uniqueness.{one_table}
 use Rattle.lp_algebra.proofs.Exchange.{IsNonsingular-exchanged, AreRates-exchanged}
 use Rattle.lp_algebra.proofs.Combination.{by_nonbasics, KeepsEquations-from_nonbasics, multiplier_on_column}
 use Rattle.lp_algebra.proofs.Opening.{IsNonsingular-row_basics, AreRates-opening}
+use Rattle.lp_algebra.proofs.Ordered.{combination_in_order, carried_back}
 use Rattle.lp_algebra.proofs.rates_laws.Goals as goal
 
 pub returns : goal.returns
@@ -14,4 +15,6 @@ returns c = record {
   by_nonbasics = by_nonbasics;
   from_nonbasics = KeepsEquations-from_nonbasics;
   row_vanishes = multiplier_on_column;
+  in_order = combination_in_order;
+  carried_back = carried_back;
 }
