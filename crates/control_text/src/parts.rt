@@ -1,5 +1,5 @@
 // Arguments one by one, and texts in quotes.
-ghost use Rattle.std.specs.Prelude.{◌≡◌, ◌∷◌};
+ghost use Rattle.std.specs.Prelude.{◌≡◌, ◌<◌, ◌∷◌, length, IfSome};
 ghost use Rattle.std.specs.Option.{option_copied};
 ghost use Rattle.std.specs.List.{list_any};
 ghost use Rattle.control_definitions.specs.Statements.{split_outside, is_comma, is_quote};
@@ -11,7 +11,8 @@ use crate::quotes::place_outside;
 /// The first argument of a text, and the text of those behind it, if there are any.
 #[tactic(auto, using(crate::proofs::Outside::only_one_part))]
 pub fn split_argument(text: &[u8]) -> (&[u8], Option<&[u8]>)
-    ensures { split_outside is_comma text.now ≡ result.0.now ∷ parts_behind result.1 }
+    ensures parts { split_outside is_comma text.now ≡ result.0.now ∷ parts_behind result.1 }
+    ensures shorter { IfSome result.1 (λ rest. length rest.now < length text.now) }
 {
     let comma = place_outside(text, b',');
     if comma < text.len() {
