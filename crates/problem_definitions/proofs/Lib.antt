@@ -6,3 +6,4 @@ pub mod Each
 pub mod Places
 pub mod Lawful
 pub mod Added
+pub mod Again
