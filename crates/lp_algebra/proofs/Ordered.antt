@@ -39,6 +39,18 @@ sum_of_tested a test f start =
     numbers_sum test f start 1 (size a)
     ∙ ap (λ s. start +ℚ s) (sum_to-same (size a) _ _ (λ k _. ap (λ i. cond (test i) (f i) zero_ℚ) (omega arith)))
 
+-- and over the numbers from 1 on
+pub sum_of_numbers : (f : ℕ → ℚ) (start : ℚ) (n : ℕ) → sum_from start (map f (numbers_from 1 n)) ≡ start +ℚ sum_to n (λ k. f (suc k))
+unfolding sum_to
+sum_of_numbers f start n = from f start 1 n ∙ ap (λ s. start +ℚ s) (sum_to-same n _ _ (λ k _. ap f (omega arith)))
+  where
+    from : (f : ℕ → ℚ) (start : ℚ) (first n : ℕ) → sum_from start (map f (numbers_from first n)) ≡ start +ℚ sum_to n (λ k. f (first + k))
+    from f start first zero = sym (add-zero start)
+    from f start first (suc n) =
+        from f (start +ℚ f first) (suc first) n
+        ∙ add_assoc start (f first) (sum_to n (λ k. f (suc first + k)))
+        ∙ ap (λ s. start +ℚ s) (sym (sum_to-first n (λ k. f (first + k)) ∙ ap₂ ◌+ℚ◌ (ap f (omega arith)) (sum_to-same n _ _ (λ k _. ap f (omega arith)))))
+
 -- the rates of i, each times the value of its nonbasic, added in ascending order
 pub combination_in_order : (a : Matrix) (b : Basics) (rate : ℕ → ℕ → ℚ) (v : Vector) (i : ℕ) → sum_from zero_ℚ (map (λ j. rate i j *ℚ v j) (filter (λ k. not (is_in b k)) (variables a))) ≡ combination a b rate v i
 combination_in_order a b rate v i =
