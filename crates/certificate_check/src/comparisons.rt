@@ -51,7 +51,7 @@ pub fn is_crossed_by(lower: Option<Frac>, upper: Option<Frac>) -> bool
 pub fn holds_by_sign(x: Frac, negative: bool, positive: bool) -> bool
     ensures { result ≡ by_sign (compare_ℚ x zero_ℚ) negative positive }
 {
-    match x.sign() {
+    match x.compare(Frac::whole(0)) {
         Ordering::Less => negative,
         Ordering::Equal => true,
         Ordering::Greater => positive,
