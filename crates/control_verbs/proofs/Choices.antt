@@ -1,5 +1,5 @@
 -- The choices of SETUP one by one.
-use Rattle.std.proofs.Common.{◌≡◌, ℕ, zero, suc, ◌<◌, Bool, true, false, ◌&&◌, List, [], ◌∷◌, ◌++◌, Option, Some, None, length, map, if◌then◌else◌, refl, ap, sym, ◌∙◌, arith, leb}
+use Rattle.std.proofs.Common.{◌≡◌, ℕ, suc, ◌<◌, Bool, true, false, ◌&&◌, List, [], ◌∷◌, ◌++◌, Option, Some, None, length, if◌then◌else◌, refl, ap, sym, ◌∙◌, arith, leb}
 use Rattle.std.specs.Prelude.{option_map, option_and_then, option_to_list, is_some, is_none, filter_map, slice_get}
 use Rattle.std.specs.Option.{option_or}
 use Rattle.std.specs.List.{slice_split}

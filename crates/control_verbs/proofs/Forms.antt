@@ -1,10 +1,12 @@
 -- The forms of the verbs' arguments.
-use Rattle.std.proofs.Common.{◌≡◌, ℕ, List, [], ◌∷◌, Option, Some, None, refl}
-use Rattle.std.specs.Prelude.{option_map, option_and_then}
+use Rattle.std.proofs.Common.{◌≡◌, ℕ, List, [], ◌∷◌, None, false, refl}
+use Rattle.std.specs.Prelude.{option_map, option_and_then, is_some}
+use Rattle.std.specs.Option.{option_map_or}
 use Rattle.card_definitions.specs.Words.{named}
-use Rattle.control_definitions.specs.Program.{Verb, Title, Mvadr, Goto}
+use Rattle.control_definitions.specs.Program.{Title, Mvadr, Goto}
 use Rattle.control_definitions.specs.Statements.{With, Malformed}
-use Rattle.control_definitions.specs.Arguments.{title_argument, label_text}
+use Rattle.control_definitions.specs.Arguments.{title_argument, label_text, quotation}
+use Rattle.control_definitions.specs.Compiled.{is_program_argument}
 use Rattle.control_definitions.specs.Verbs.{VerbWord, Alone, TakesTitle, TakesCell, TakesDemand, TakesLabel, TakesOptions, EndsProgram, cell_words, demand_words, moved, verb_with}
 use Rattle.control_text.specs.Pieces.{only_part, two_parts}
 
@@ -40,3 +42,9 @@ of_no_form TakesDemand = refl
 of_no_form TakesLabel = refl
 of_no_form TakesOptions = refl
 of_no_form EndsProgram = refl
+
+-- PROGRAM has one text in quotes, or none
+pub of_program : (parts : List (List ℕ)) → is_program_argument (With parts) ≡ option_map_or (λ (text : List ℕ). is_some (quotation text)) (only_part parts) false
+of_program [] = refl
+of_program (text ∷ []) = refl
+of_program (text ∷ next ∷ parts) = refl

@@ -1,15 +1,14 @@
 -- Names, and labels that are names.
-use Rattle.std.proofs.Common.{◌≡◌, ℕ, zero, suc, ◌+◌, ◌-◌, ◌≤◌, ◌↔◌, Bool, true, false, cond, not, ◌||◌, ◌&&◌, List, [], ◌∷◌, Option, Some, None, IsTrue, length, if◌then◌else◌, refl, ap, sym, ◌∙◌, arith, eqb, leb}
+use Rattle.std.proofs.Common.{◌≡◌, ℕ, ◌≤◌, ◌↔◌, Bool, true, false, cond, not, ◌&&◌, List, [], ◌∷◌, Option, Some, None, length, if◌then◌else◌, refl, ap, ◌∙◌, arith, leb}
 use Rattle.std.specs.Prelude.{bytes_eq, IsSome, IfSome}
 use Rattle.std.specs.List.{list_all}
 use Rattle.std.proofs.lemmas.Bool.Decides.{nat_tests}
 use Rattle.std.proofs.lemmas.Slice.Eq.{bytes_eq-Decides}
 use Rattle.card_definitions.specs.Words.{without_trailing, is_empty}
 use Rattle.card_definitions.specs.Cards.{is_blank, is_printable}
-use Rattle.card_definitions.specs.Numbers.{is_digit}
 use Rattle.card_definitions.proofs.Trailing.{without_trailing-cons}
 use Rattle.problem_definitions.specs.Valid.{IsName}
-use Rattle.control_definitions.specs.Arguments.{if_passes, is_name, is_label, is_label_byte, label_text}
+use Rattle.control_definitions.specs.Arguments.{if_passes, is_name, is_label, is_label_byte}
 
 all_three : (a b c : Bool) → (a && b && c) ≡ true → (a ≡ true) × (b ≡ true) × (c ≡ true)
 all_three true true true e = (refl, refl, refl)

@@ -1,9 +1,9 @@
 -- Tables of words in two parts.
-use Rattle.std.proofs.Common.{◌≡◌, ℕ, zero, suc, Bool, true, false, cond, List, [], ◌∷◌, Option, Some, None, take, drop, refl}
+use Rattle.std.proofs.Common.{◌≡◌, ℕ, zero, suc, Bool, true, false, cond, List, [], ◌∷◌, Some, take, drop, refl}
 use Rattle.std.specs.Prelude.{bytes_eq, find, option_map}
 use Rattle.std.specs.Option.{option_or}
 use Rattle.card_definitions.specs.Words.{named}
-use Rattle.control_definitions.specs.Verbs.{VerbWord, verb_words}
+use Rattle.control_definitions.specs.Verbs.{verb_words}
 use Rattle.control_verbs.specs.Shown.{alone_words, argument_words}
 
 -- what a table has for a word is what its front has, or else what the rest has
