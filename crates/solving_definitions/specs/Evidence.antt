@@ -6,7 +6,7 @@ use Rattle.exact_values.specs.Rational.{ℚ}
 use Rattle.lp_definitions.specs.declared.Evidence.{Evidence}
 use Rattle.path_definitions.specs.Path.{IsPath, last_of}
 use Rattle.parametric_definitions.specs.Chain.{Place as Standing, break_of, Reaches}
-use Rattle.overflow_definitions.specs.Statements.{Statement, Primal, Solution, Range, Paraobj, Pararhs}
+use Rattle.overflow_definitions.specs.Statements.{SolvingStatement, Primal, Solution, Range, Paraobj, Pararhs}
 use Rattle.overflow_definitions.specs.Evidence.{EvidenceHolds, ShiftHolds}
 use Rattle.listing_definitions.specs.Ending.{Place}
 use Rattle.solver_definitions.specs.Answers.{Basis, Sheet, Changing, Row, Set, Sweep, Question, OfPath, OfSolution, OfRanges, OfSweep}
@@ -18,7 +18,7 @@ last_basis [] = []
 last_basis (first ∷ bases) = last_of first bases
 
 -- evidence at a basis, which is printed with its basics and those of its waypoint
-pub record IsEvidence (statement : Statement) (break : Option ℚ) (left : ℕ) (bases : List Basis) (ends : List ℚ) (e : Evidence) (place : Option Place) : Type 0 where
+pub record IsEvidence (statement : SolvingStatement) (break : Option ℚ) (left : ℕ) (bases : List Basis) (ends : List ℚ) (e : Evidence) (place : Option Place) : Type 0 where
   pub basis : Basis
   pub way : List Bool
   pub holds : EvidenceHolds statement break left bases ends basis way e
@@ -33,7 +33,7 @@ pub record OverflowsOnPath (sheet : Sheet) (bases : List Basis) (limit : ℕ) (e
   pub is_evidence : IsEvidence (Primal sheet.lp) None left (bases ++ steps) [] e place
 
 -- the statement of a parametric run
-abbrev pub sweep_statement : Sheet → Changing → ℚ → Statement
+abbrev pub sweep_statement : Sheet → Changing → ℚ → SolvingStatement
 sweep_statement sheet (Row name) from = Paraobj sheet.lp (row_of sheet.problem name) from
 sweep_statement sheet (Set name) from = Pararhs sheet.lp (shifts_of sheet.problem name) from
 
