@@ -73,3 +73,7 @@ pub label_is_name : (text : List ℕ) → is_label text ≡ true → IsName text
 label_is_name text e =
     let each = all_three (not (is_empty text)) (leb (length text) 8) (list_all is_label_byte text) e in
     record { short = at_most_eight (length text) each.1; printable = label_bytes_print text each.2; trimmed = label_bytes_are_trimmed text each.2 }
+
+pub label_is_filled : (text : List ℕ) → is_label text ≡ true → is_empty text ≡ false
+label_is_filled [] e = cc e
+label_is_filled (byte ∷ text) e = refl

@@ -1,5 +1,7 @@
 -- What the types of this crate stand for in the definitions.
-use Rattle.std.specs.Prelude.{ℕ, List, take, drop}
+use Rattle.std.specs.Prelude.{◌≡◌, ℕ, ◌≤◌, false, List, take, drop}
+use Rattle.card_definitions.specs.Words.{is_empty}
+use Rattle.control_definitions.specs.declared.TheConstants.{MAX_STEPS}
 use Rattle.control_definitions.specs.Program as program
 use Rattle.control_definitions.specs.Verbs as table
 use Rattle.control_verbs.specs.declared.verb.SetupOptions.{SetupOptions}
@@ -34,6 +36,13 @@ shown Pararhs = program.Pararhs
 shown Solution = program.Solution
 shown Bcdout = program.Bcdout
 shown Exit = program.Exit
+
+-- the limit that a verb moves is at most 1,000,000, and the label that it names isn't empty
+abbrev pub IsLawful : program.Verb (List ℕ) → Type 0
+IsLawful (program.MoveLimit limit) = limit ≤ MAX_STEPS
+IsLawful (program.Mvadr demand label) = is_empty label ≡ false
+IsLawful (program.Goto label) = is_empty label ≡ false
+IsLawful _ = Unit {0}
 
 abbrev pub statement_shown : {L : Type 0} → Statement L → program.Statement L
 statement_shown statement = record { card = statement.card; verb = shown statement.verb }

@@ -1,5 +1,5 @@
 // The fault of a control card.
-ghost use Rattle.std.specs.Prelude.{◌≡◌, ◌&&◌, List, length, codes, is_none, not};
+ghost use Rattle.std.specs.Prelude.{◌≡◌, ◌&&◌, false, List, length, codes, is_none, not};
 ghost use Rattle.card_definitions.specs.Words.{named};
 ghost use Rattle.card_definitions.specs.Cards.{Card};
 ghost use Rattle.control_definitions.specs.Statements.{statement_of, verb_word, arguments_of, With, split_outside, is_comma};
@@ -136,7 +136,7 @@ pub fn head_fault(card: &[u8]) -> Option<u8>
 /// it, is for the caller to say.
 #[tactic(auto, unfolding(control_definitions::specs::Compiled::control_card_fault))]
 pub fn card_fault(card: &[u8], is_label_twice: bool, before: usize) -> Option<u8>
-    ensures { (cards : List Card) → is_label_twice ≡ has_label_twice cards card.now → before ≡ length cards → result ≡ control_card_fault cards card.now }
+    ensures { (cards : List Card) → (has_bad_label card.now ≡ false → is_label_twice ≡ has_label_twice cards card.now) → before ≡ length cards → result ≡ control_card_fault cards card.now }
 {
     if has_bad_label(card) {
         Some(BAD_LABEL)

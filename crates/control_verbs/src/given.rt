@@ -1,6 +1,7 @@
 // Single arguments: titles, names, numbers and labels.
-ghost use Rattle.std.specs.Prelude.{◌≡◌, ◌≤◌, IfSome};
+ghost use Rattle.std.specs.Prelude.{◌≡◌, ◌≤◌, false, IfSome};
 ghost use Rattle.std.specs.List.{list_all};
+ghost use Rattle.card_definitions.specs.Words.{is_empty};
 ghost use Rattle.control_definitions.specs.Arguments.{title_argument, quoted_name, number_argument, limit_argument, steps_of, is_label, is_label_byte, label_text, if_passes, is_name};
 
 use crate::text::Text;
@@ -83,9 +84,10 @@ pub fn is_label(text: &[u8]) -> bool
 }
 
 /// The label of a text that has the form of one.
-#[tactic(auto, using(crate::proofs::Names::label_is_name))]
+#[tactic(auto, using(crate::proofs::Names::label_is_name, crate::proofs::Names::label_is_filled))]
 pub fn label_in(text: &[u8]) -> Option<Name>
-    ensures { result ≡ label_text text.now }
+    ensures label { result ≡ label_text text.now }
+    ensures filled { IfSome result (λ label. is_empty label ≡ false) }
 {
     if is_label(text) { Name::of(text) } else { None }
 }
