@@ -1,0 +1,6 @@
+pub mod Refusals
+pub mod Lists
+pub mod Values
+pub mod Sets
+pub mod Faults
+pub mod Lawful
