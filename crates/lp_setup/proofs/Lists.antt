@@ -96,3 +96,7 @@ length-limits (x ∷ rows) (y ∷ sides) (z ∷ ranges) b c =
     let left : length sides ≡ length rows = omega (arith, b) in
     let right : length ranges ≡ length rows = omega (arith, c) in
     ap suc (length-limits rows sides ranges left right)
+
+-- what is read at a place stands there
+pub standing : {X : Type 0} (xs : List X) (i : ℕ) (x : X) → i < length xs → x ≡ get_or xs i x → slice_get xs i ≡ Some x
+standing xs i x below is = slice_get-get_or xs i x below ∙ ap Some (sym is)

@@ -1,15 +1,17 @@
 -- The value of a set on a row, and the limits of a column, as one more item comes.
-use Rattle.std.proofs.Common.{◌≡◌, ◌≢◌, ℕ, ◌+◌, ◌<◌, Bool, true, false, cond, List, [], ◌∷◌, ◌++◌, Option, Some, None, map, take, drop, length, get_or, refl, ap, sym, ◌∙◌, subst, arith, nat_eq, filter, fold}
+use Rattle.std.proofs.Common.{◌≡◌, ◌≢◌, ℕ, ◌+◌, ◌-◌, ◌<◌, ◌⊎◌, inl, inr, set, Bool, true, false, cond, List, [], ◌∷◌, ◌++◌, Option, Some, None, map, take, drop, length, get_or, refl, ap, sym, ◌∙◌, subst, arith, nat_eq, filter, fold}
 use Rattle.std.specs.List.{AllByRecursion, IsDistinct, find}
 use Rattle.std.specs.Option.{option_map, option_or}
 use Rattle.std.proofs.lemmas.Bool.{eqb-true}
 use Rattle.std.proofs.lemmas.Bool.Decides.{eqb_tells}
-use Rattle.std.proofs.lemmas.List.{take_more, take-append-drop, drop_more, append-nil}
+use Rattle.std.proofs.lemmas.List.{take_more, take-append-drop, drop_more, append-nil, get_or_default}
 use Rattle.std.proofs.lemmas.List.Elements.{filter-append}
 use Rattle.std.proofs.lemmas.List.Folds.{find-append}
 use Rattle.std.proofs.lemmas.List.Sums.{fold-append}
 use Rattle.exact_values.specs.Rational.{ℚ}
 use Rattle.problem_definitions.specs.Problem.{Entry, Bound}
+use Rattle.problem_definitions.specs.Valid.{IsNumberOf, AreEntries, AreBounds}
+use Rattle.lp_setup.proofs.Lists.{Holds, holds-set}
 use Rattle.selection_definitions.specs.Limits.{Limits, value_on, column_limits, bounded, unbounded}
 
 -- ---- values on rows
@@ -90,3 +92,40 @@ module _ (bounds : List (Bound ℕ)) (i : ℕ) (b : Bound ℕ) (below : i < leng
       let kept : filter p (take (i + 1) bounds) ≡ filter p (take i bounds) ++ [] =
       ap (filter p) (next_taken bounds i b below is) ∙ filter-append p (take i bounds) (b ∷ []) ∙ ap (λ bs. filter p (take i bounds) ++ bs) alone in
       ap (fold applied unbounded) (kept ∙ append-nil (filter p (take i bounds)))
+
+-- ---- one more step of a loop
+
+unlike : (a b : ℕ) → a ≢ b → nat_eq a b ≡ false
+unlike a b apart = by (eqb_tells a b)
+  where
+    by : ((nat_eq a b ≡ true) × (a ≡ b)) ⊎ ((nat_eq a b ≡ false) × (a ≢ b)) → nat_eq a b ≡ false
+    by (inl same) = absurd (apart same.1)
+    by (inr differ) = differ.0
+
+-- the value of the next item is written at its row
+pub value_step : (items : List (Entry ℕ)) (rows i place : ℕ) (x : Entry ℕ) (v : ℚ) (values : List (Option ℚ)) → AreEntries rows items → i < length items → x ≡ get_or items i x → place ≡ x.row - 1 → v ≡ x.value.value
+    → Holds (value_on (take i items)) rows None values → Holds (value_on (take (i + 1) items)) rows None (set values place (Some v))
+value_step items rows i place x v values are below is is_place is_value h =
+    let at : IsNumberOf rows x.row = subst (λ (entry : Entry ℕ). IsNumberOf rows entry.row) (sym is) (are.on_rows i x below) in
+    let number : place + 1 ≡ x.row = omega (arith, at.positive) in
+    let within : place < rows = omega (arith, at.positive, at.at_most) in
+    let here : value_on (take (i + 1) items) (place + 1) ≡ Some v =
+    ap (value_on (take (i + 1) items)) number ∙ value_here items i x below is are.distinct ∙ ap Some (sym is_value) in
+    holds-set (value_on (take i items)) (value_on (take (i + 1) items)) rows place None (Some v) values h within here
+    (λ k apart. let differ : x.row ≢ k + 1 = omega (arith, apart) in value_elsewhere items i x below is (k + 1) (unlike x.row (k + 1) differ))
+
+-- the next bound is applied to the limits of its column
+pub bound_step : (bounds : List (Bound ℕ)) (columns i place : ℕ) (b : Bound ℕ) (before after : Limits) (limits : List Limits) → AreBounds columns bounds → i < length bounds → b ≡ get_or bounds i b → place ≡ b.column - 1
+    → before ≡ get_or limits place before → after ≡ bounded b.kind (option_map (λ value. value.value) b.value) before
+    → Holds (column_limits (take i bounds)) columns unbounded limits → Holds (column_limits (take (i + 1) bounds)) columns unbounded (set limits place after)
+bound_step bounds columns i place b before after limits are below is is_place is_before is_after h =
+    let at : IsNumberOf columns b.column = subst (λ (bound : Bound ℕ). IsNumberOf columns bound.column) (sym is) (are.on_columns i b below) in
+    let number : place + 1 ≡ b.column = omega (arith, at.positive) in
+    let within : place < columns = omega (arith, at.positive, at.at_most) in
+    let inside : place < length limits = omega (arith, h.counted) in
+    let stood : before ≡ column_limits (take i bounds) b.column =
+    is_before ∙ get_or_default limits place before unbounded inside ∙ h.each place within ∙ ap (column_limits (take i bounds)) number in
+    let here : column_limits (take (i + 1) bounds) (place + 1) ≡ after =
+    ap (column_limits (take (i + 1) bounds)) number ∙ limits_here bounds i b below is ∙ ap (bounded b.kind (option_map (λ value. value.value) b.value)) (sym stood) ∙ sym is_after in
+    holds-set (column_limits (take i bounds)) (column_limits (take (i + 1) bounds)) columns place unbounded after limits h within here
+    (λ k apart. let differ : b.column ≢ k + 1 = omega (arith, apart) in limits_elsewhere bounds i b below is (k + 1) (unlike b.column (k + 1) differ))

@@ -138,6 +138,16 @@ fn bound_set<'a>(sets: &'a [BoundSet], name: &Name) -> Option<&'a BoundSet>
     sets.iter().find(|set| *name == set.name)
 }
 
+/// The items of the set of bounds with this name.
+fn bounds_named<'a>(sets: &'a [BoundSet], name: &Name) -> Option<&'a [BoundItem]>
+    requires { IsDistinct same (group_names sets.now) }
+    ensures missing { IfNone result (has_group sets.now name.now ≡ false) }
+    ensures found { IfSome result (λ items. (has_group sets.now name.now ≡ true) × (items.now ≡ items_of name.now sets.now)) }
+{
+    let set = bound_set(sets, name)?;
+    Some(&set.items)
+}
+
 /// The items of the bound set that is chosen.
 pub fn bound_items<'a>(sets: &'a [BoundSet], chosen: Option<Name>) -> Option<&'a [BoundItem]>
     requires { IsDistinct same (group_names sets.now) }
@@ -147,6 +157,5 @@ pub fn bound_items<'a>(sets: &'a [BoundSet], chosen: Option<Name>) -> Option<&'a
     let Some(name) = chosen else {
         return Some(&[]);
     };
-    let set = bound_set(sets, &name)?;
-    Some(&set.items)
+    bounds_named(sets, &name)
 }

@@ -89,7 +89,8 @@ fn limits_at(
     ensures limits { IfOk result (λ limits. slice_get (limits_of_rows rows.now sides.now ranges.now) place ≡ Some limits) }
     ensures overflow { IfErr result (IsRowOverflow rows.now sides.now ranges.now) }
 {
-    match row_limits(rows[place].kind, sides[place], ranges[place]) {
+    let row = &rows[place];
+    match row_limits(row.kind, sides[place], ranges[place]) {
         Ok(limits) => Ok(limits),
         Err(refused) => Err(Stop::Overflow(range_evidence(place as u32 + 1, refused))),
     }
