@@ -4,3 +4,5 @@ pub mod Values
 pub mod Sets
 pub mod Faults
 pub mod Lawful
+pub mod Program
+pub mod Selecting

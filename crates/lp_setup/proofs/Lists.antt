@@ -1,15 +1,15 @@
 -- Lists that hold something for each number, and lists that a loop makes element by element.
-use Rattle.std.proofs.Common.{◌≡◌, ◌≢◌, ℕ, zero, suc, ◌+◌, ◌-◌, ◌<◌, ◌⊎◌, List, [], ◌∷◌, ◌++◌, Option, Some, None, map, take, length, get_or, set, refl, ap, sym, ◌∙◌, arith, inl, inr, add-one, zero-add, nat_eq, true, false}
+use Rattle.std.proofs.Common.{◌≡◌, ◌≢◌, ℕ, zero, suc, ◌+◌, ◌-◌, ◌<◌, ◌⊎◌, List, [], ◌∷◌, ◌++◌, Option, Some, None, map, take, length, get_or, set, refl, ap, sym, ◌∙◌, arith, inl, inr, add-one, zero-add, nat_eq, true, false, unwrap_or}
 use Rattle.std.specs.List.{enumerate_from, range_with_len, slice_get}
 use Rattle.std.proofs.lemmas.Bool.Decides.{eqb_tells}
 use Rattle.std.proofs.lemmas.List.{length-set, get_or-set_same, get_or-set_other, take_more, take_all, map_push}
 use Rattle.std.proofs.lemmas.List.FromFn.{fill_by_all, length-range_with_len, get_or-map-range_with_len, length-map-range_with_len}
 use Rattle.std.proofs.lemmas.Option.{get_or_from_slice_get, slice_get_within, slice_get-get_or, same_Some}
-use Rattle.exact_values.specs.Rational.{ℚ}
-use Rattle.problem_definitions.specs.Problem.{Row}
+use Rattle.exact_values.specs.Rational.{ℚ, zero_ℚ}
+use Rattle.problem_definitions.specs.Problem.{Row, Entry}
 use Rattle.problem_definitions.proofs.Groups.{map-map}
-use Rattle.selection_definitions.specs.Limits.{Limits, row_limits}
-use Rattle.lp_setup.specs.Parts.{by_number, limits_of_rows}
+use Rattle.selection_definitions.specs.Limits.{Limits, row_limits, value_on}
+use Rattle.lp_setup.specs.Parts.{by_number, side_on, limits_of_rows}
 
 -- ---- numbered lists
 
@@ -22,6 +22,10 @@ map-enumerate f xs = enumerated f 0 xs
 
 pub map-by_number : {X Y : Type 0} (g : X → Y) (f : ℕ → X) (count : ℕ) → map g (by_number f count) ≡ by_number (λ number. g (f number)) count
 map-by_number g f count = map-map g (λ place. f (place + 1)) (range_with_len 0 count)
+
+-- the right-hand sides, from the values of a set
+pub sides_by_number : (items : List (Entry ℕ)) (rows : ℕ) → map (λ (value : Option ℚ). unwrap_or value zero_ℚ) (by_number (value_on items) rows) ≡ by_number (side_on items) rows
+sides_by_number items rows = map-by_number (λ (value : Option ℚ). unwrap_or value zero_ℚ) (value_on items) rows
 
 pub length-by_number : {X : Type 0} (f : ℕ → X) (count : ℕ) → length (by_number f count) ≡ count
 length-by_number f count = length-map-range_with_len (λ place. f (place + 1)) 0 count

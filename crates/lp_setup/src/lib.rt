@@ -10,4 +10,5 @@ mod stop;
 
 pub use choice::{Choice, SetupChoice};
 pub use lp_model::{Entry, Evidence, Lp, Sense};
+pub use selection::select;
 pub use stop::SelectStop;

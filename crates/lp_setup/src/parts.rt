@@ -7,7 +7,7 @@ ghost use Rattle.problem_definitions.specs.Valid.{AreEntries, AreBounds};
 ghost use Rattle.selection_definitions.specs.Limits.{value_on, column_limits};
 ghost use Rattle.selection_definitions.specs.Selection.{coefficients as coefficients_of};
 ghost use Rattle.selection_definitions.specs.RangeSums.{range_formula};
-ghost use Rattle.lp_setup.specs.Parts.{by_number, limits_of_rows, IsRowOverflow};
+ghost use Rattle.lp_setup.specs.Parts.{by_number, side_on, limits_of_rows, IsRowOverflow};
 
 use crate::limits::{Limits, bounded, row_limits, unbounded};
 use frac128::{Frac, Refused};
@@ -46,13 +46,27 @@ pub fn values_by_row(
 }
 
 /// The right-hand side of each row: 0 where the set has none.
-pub fn sides_of(alloc: Global, values: &[Option<Frac>]) -> Result<Vec<Frac>, NoMemory>
+fn sides_of(alloc: Global, values: &[Option<Frac>]) -> Result<Vec<Frac>, NoMemory>
     ensures { IfOk result (λ sides. sides.items ≡ map (λ value. unwrap_or value zero_ℚ) values.now) }
 {
     Ok(values
         .iter()
         .map(|value| value.unwrap_or(Frac::whole(0)))
         .collect(alloc)?)
+}
+
+/// The right-hand side that a set makes of each row.
+#[tactic(auto, using(crate::proofs::Lists::sides_by_number))]
+pub fn right_hand_sides(
+    alloc: Global,
+    rows: usize,
+    items: &[DeckEntry],
+) -> Result<Vec<Frac>, NoMemory>
+    requires { AreEntries rows items.now }
+    ensures { IfOk result (λ sides. sides.items ≡ by_number (side_on items.now) rows) }
+{
+    let values = values_by_row(alloc, rows, items)?;
+    sides_of(alloc, &values)
 }
 
 /// The evidence that the range sum of a row is refused.
