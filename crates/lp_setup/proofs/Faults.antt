@@ -1,5 +1,5 @@
 -- The first fault of a choice, by the tests that come before it.
-use Rattle.std.proofs.Common.{◌≡◌, ℕ, Bool, true, false, List, [], ◌∷◌, Option, Some, None, refl, ap, sym, ◌∙◌}
+use Rattle.std.proofs.Common.{◌≡◌, ℕ, Bool, true, false, [], ◌∷◌, Option, Some, None, refl, ap, sym, ◌∙◌}
 use Rattle.std.specs.Option.{is_none}
 use Rattle.card_definitions.specs.Words.{◌⟹◌, first_fault}
 use Rattle.problem_definitions.specs.Problem.{Problem}

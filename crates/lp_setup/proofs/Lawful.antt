@@ -1,5 +1,5 @@
 -- The linear program of a choice without faults is a linear program.
-use Rattle.std.proofs.Common.{◌≡◌, ℕ, zero, suc, ◌+◌, ◌-◌, ◌<◌, ◌≤◌, Bool, true, false, not, ◌&&◌, ◌||◌, List, [], ◌∷◌, ◌++◌, Option, Some, None, map, length, get_or, refl, ap, sym, ◌∙◌, subst, arith, nat_eq}
+use Rattle.std.proofs.Common.{◌≡◌, ℕ, zero, suc, ◌+◌, ◌-◌, ◌<◌, Bool, true, false, not, ◌&&◌, ◌||◌, List, [], ◌∷◌, Option, Some, None, map, length, get_or, refl, ap, sym, ◌∙◌, subst, arith, nat_eq}
 use Rattle.std.specs.List.{All, AllByRecursion, IsDistinct, slice_get, position, enumerate_from}
 use Rattle.std.specs.Option.{option_map, is_none, unwrap_or}
 use Rattle.std.proofs.lemmas.List.{length-map, length-append, get_or-map, get_or_append_left}
@@ -9,16 +9,16 @@ use Rattle.std.proofs.lemmas.Option.{same_Some, slice_get-get_or, slice_get_with
 use Rattle.exact_values.specs.Rational.{ℚ}
 use Rattle.lp_definitions.specs.declared.Entry.{Entry as Coefficient}
 use Rattle.lp_definitions.specs.declared.Sense.{Sense}
-use Rattle.lp_definitions.specs.LinearProgram.{Matrix, IsRow, IsMatrix, LinearProgram, HasNoLimits, IsLinearProgram}
+use Rattle.lp_definitions.specs.LinearProgram.{IsRow, IsMatrix, HasNoLimits, IsLinearProgram}
 use Rattle.problem_definitions.specs.declared.RowKind.{RowKind}
 use Rattle.problem_definitions.specs.declared.RowKind.TheVariants.{N, G, L, E}
-use Rattle.problem_definitions.specs.Names.{Name, same, has_name}
+use Rattle.problem_definitions.specs.Names.{Name, same}
 use Rattle.problem_definitions.specs.Kinds.{is_free_kind}
-use Rattle.problem_definitions.specs.Problem.{Row, Entry, Bound, Group, Problem, row_names, has_free_row}
+use Rattle.problem_definitions.specs.Problem.{Row, Entry, Bound, Group, Problem, has_free_row}
 use Rattle.problem_definitions.specs.Valid.{IsNumberOf, AreEntries, IsProblem}
 use Rattle.problem_definitions.proofs.Names.{same_eq}
 use Rattle.problem_definitions.proofs.Groups.{map-map}
-use Rattle.problem_definitions.proofs.Each.{each-change, each-all, each-mapped, apart-absent}
+use Rattle.problem_definitions.proofs.Each.{each-change, each-all, each-mapped}
 use Rattle.selection_definitions.specs.Choice.{Choice, row_number, objective_of, rhs_items, set_items, is_not_free, selection_fault}
 use Rattle.selection_definitions.specs.Limits.{Limits, no_limits, value_on, row_limits, column_limits}
 use Rattle.selection_definitions.specs.Selection.{coefficients, matrix_of, program_of_choice}
@@ -98,7 +98,10 @@ pub free_objective : (rows : List Row) → IsDistinct same (map (λ (r : Row). r
 free_objective rows distinct (Some name) number e free =
     let at = row_found (λ row. same name row.name) rows number e in
     record {
-      place = at.0; row = at.1; is_number = at.2; is_row = at.3;
+      place = at.0;
+      row = at.1;
+      is_number = at.2;
+      is_row = at.3;
       is_free = free_kind at.1.kind (named_free name rows distinct (negated (has_free_row rows name) free) at.0 at.1 at.3 at.4);
     }
 free_objective rows distinct None number e free =
@@ -184,9 +187,10 @@ module _ (problem : Problem ℕ) (is : IsProblem problem) where
         let all : List Limits = limits_with problem objective rhs ranges bounds sense in
         let below : free.place < length all = omega (arith, limits_counted, slice_get_within problem.rows free.place free.row free.is_row) in
         let at : objective - 1 ≡ free.place = omega (arith, free.is_number) in
-        let none = limits_free free.place free.row free.is_row free.is_free in
-        ( ap (λ k. get_or (map (λ (pair : Limits). pair.lower) all) k None) at ∙ get_or-map (λ (pair : Limits). pair.lower) all free.place no_limits None below ∙ ap (λ (pair : Limits). pair.lower) none,
-          ap (λ k. get_or (map (λ (pair : Limits). pair.upper) all) k None) at ∙ get_or-map (λ (pair : Limits). pair.upper) all free.place no_limits None below ∙ ap (λ (pair : Limits). pair.upper) none )
+        let none = limits_free free.place free.row free.is_row free.is_free in (
+          ap (λ k. get_or (map (λ (pair : Limits). pair.lower) all) k None) at ∙ get_or-map (λ (pair : Limits). pair.lower) all free.place no_limits None below ∙ ap (λ (pair : Limits). pair.lower) none,
+          ap (λ k. get_or (map (λ (pair : Limits). pair.upper) all) k None) at ∙ get_or-map (λ (pair : Limits). pair.upper) all free.place no_limits None below ∙ ap (λ (pair : Limits). pair.upper) none,
+        )
 
     -- ---- the program
 

@@ -1,14 +1,14 @@
 -- Lists that hold something for each number, and lists that a loop makes element by element.
-use Rattle.std.proofs.Common.{◌≡◌, ◌≢◌, ℕ, zero, suc, ◌+◌, ◌-◌, ◌<◌, ◌⊎◌, List, [], ◌∷◌, ◌++◌, Option, Some, None, map, take, length, get_or, set, refl, ap, sym, ◌∙◌, arith, inl, inr, add-one, zero-add, nat_eq, true, false, unwrap_or}
+use Rattle.std.proofs.Common.{◌≡◌, ◌≢◌, ℕ, zero, suc, ◌+◌, ◌<◌, ◌⊎◌, List, [], ◌∷◌, ◌++◌, Option, Some, map, take, length, get_or, set, refl, ap, sym, ◌∙◌, arith, inl, inr, zero-add, nat_eq, true, false, unwrap_or}
 use Rattle.std.specs.List.{enumerate_from, range_with_len, slice_get}
 use Rattle.std.proofs.lemmas.Bool.Decides.{eqb_tells}
-use Rattle.std.proofs.lemmas.List.{length-set, get_or-set_same, get_or-set_other, take_more, take_all, map_push}
-use Rattle.std.proofs.lemmas.List.FromFn.{fill_by_all, length-range_with_len, get_or-map-range_with_len, length-map-range_with_len}
+use Rattle.std.proofs.lemmas.List.{length-set, get_or-set_same, get_or-set_other, take_more}
+use Rattle.std.proofs.lemmas.List.FromFn.{fill_by_all, get_or-map-range_with_len, length-map-range_with_len}
 use Rattle.std.proofs.lemmas.Option.{get_or_from_slice_get, slice_get_within, slice_get-get_or, same_Some}
 use Rattle.exact_values.specs.Rational.{ℚ, zero_ℚ}
 use Rattle.problem_definitions.specs.Problem.{Row, Entry}
 use Rattle.problem_definitions.proofs.Groups.{map-map}
-use Rattle.selection_definitions.specs.Limits.{Limits, row_limits, value_on}
+use Rattle.selection_definitions.specs.Limits.{row_limits, value_on}
 use Rattle.lp_setup.specs.Parts.{by_number, side_on, limits_of_rows}
 
 -- ---- numbered lists
@@ -73,7 +73,7 @@ grown all items i x so_far next =
 module _ (f : ℕ → ℚ) (g : ℕ → Option ℚ) where
   rows_from : (first : ℕ) (rows : List Row)
       → limits_of_rows rows (map (λ place. f (place + 1)) (range_with_len first (length rows))) (map (λ place. g (place + 1)) (range_with_len first (length rows)))
-        ≡ map (λ (entry : ℕ × Row). row_limits entry.1.kind (f entry.0) (g entry.0)) (enumerate_from (first + 1) rows)
+      ≡ map (λ (entry : ℕ × Row). row_limits entry.1.kind (f entry.0) (g entry.0)) (enumerate_from (first + 1) rows)
   rows_from first [] = refl
   rows_from first (row ∷ rows) = ap (λ ls. row_limits row.kind (f (first + 1)) (g (first + 1)) ∷ ls) (rows_from (first + 1) rows)
 
@@ -96,7 +96,7 @@ pub length-limits : (rows : List Row) (sides : List ℚ) (ranges : List (Option 
 length-limits [] sides ranges b c = refl
 length-limits (x ∷ rows) [] ranges b c = absurd (omega (arith, b))
 length-limits (x ∷ rows) (y ∷ sides) [] b c = absurd (omega (arith, c))
-length-limits (x ∷ rows) (y ∷ sides) (z ∷ ranges) b c = 
+length-limits (x ∷ rows) (y ∷ sides) (z ∷ ranges) b c =
     let left : length sides ≡ length rows = omega (arith, b) in
     let right : length ranges ≡ length rows = omega (arith, c) in
     ap suc (length-limits rows sides ranges left right)

@@ -1,8 +1,8 @@
 -- The linear program, from its lists.
-use Rattle.std.proofs.Common.{◌≡◌, ℕ, ◌+◌, List, ◌++◌, Option, Some, None, map, length, refl, ap, sym, ◌∙◌, subst, unwrap_or, IsTrue}
-use Rattle.std.specs.Prelude.{Result, Ok}
+use Rattle.std.proofs.Common.{◌≡◌, ℕ, ◌+◌, List, ◌++◌, Option, Some, None, map, length, ap, sym, ◌∙◌, subst, unwrap_or, IsTrue}
+use Rattle.std.specs.Prelude.{Ok}
 use Rattle.std.specs.List.{enumerate_from}
-use Rattle.exact_values.specs.Rational.{ℚ, zero_ℚ}
+use Rattle.exact_values.specs.Rational.{ℚ}
 use Rattle.exact_values.specs.Tests.{magnitude}
 use Rattle.frac128.specs.Operations.{refuses}
 use Rattle.lp_definitions.specs.declared.Entry.{Entry as Coefficient}

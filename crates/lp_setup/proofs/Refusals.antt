@@ -1,5 +1,5 @@
 -- Sums that are refused, as ranges of rows.
-use Rattle.std.proofs.Common.{◌≡◌, refl, Option, Some, None, Bool, true, false, sym, ap, ◌∙◌}
+use Rattle.std.proofs.Common.{◌≡◌, refl, Option, Some, true, false, ◌∙◌}
 use Rattle.std.specs.Prelude.{Result}
 use Rattle.std.specs.Result.{IfErr}
 use Rattle.std.proofs.lemmas.Result.{IfErr-weaker}

@@ -1,5 +1,5 @@
 -- What is found of a choice, where the problem and the choice are read part by part.
-use Rattle.std.proofs.Common.{◌≡◌, ℕ, Bool, List, Option, ap, sym, ◌∙◌}
+use Rattle.std.proofs.Common.{◌≡◌, ℕ, Bool, List, Option, sym, ◌∙◌}
 use Rattle.problem_definitions.specs.Names.{Name}
 use Rattle.problem_definitions.specs.Problem.{Row, Entry, Group, Problem}
 use Rattle.selection_definitions.specs.Choice.{Choice, objective_of, is_not_free, misses_set, rhs_items, set_items}

@@ -1,11 +1,11 @@
 -- The items of the sets that apply.
-use Rattle.std.proofs.Common.{◌≡◌, ℕ, zero, suc, ◌<◌, Bool, true, false, cond, ◌||◌, List, [], ◌∷◌, ◌++◌, Option, Some, None, map, length, refl, ap, sym, ◌∙◌, subst, arith, IsSome}
+use Rattle.std.proofs.Common.{◌≡◌, ℕ, suc, ◌<◌, Bool, true, false, cond, ◌||◌, List, [], ◌∷◌, ◌++◌, Option, Some, None, length, refl, ap, sym, ◌∙◌, subst, arith}
 use Rattle.std.specs.List.{All, AllByRecursion, IsDistinct, find, list_any}
 use Rattle.std.specs.Option.{is_some}
 use Rattle.std.proofs.lemmas.List.{append-nil}
 use Rattle.std.proofs.lemmas.Option.{same_Some}
 use Rattle.problem_definitions.specs.Names.{Name, same, has_name}
-use Rattle.problem_definitions.specs.Problem.{Entry, Bound, Group, Problem, group_names, has_group}
+use Rattle.problem_definitions.specs.Problem.{Entry, Group, Problem, group_names, has_group}
 use Rattle.problem_definitions.specs.Groups.{items_of}
 use Rattle.problem_definitions.specs.Valid.{AreEntries, AreBounds, IsProblem}
 use Rattle.problem_definitions.proofs.Names.{same_eq}

@@ -6,7 +6,7 @@
 --     limits_of_rows rows sides ranges         the limits of each row
 --     IsRowOverflow rows sides ranges stop     the range sum of one of the rows is refused
 --     program_with problem ..                  the linear program of an objective row and the items of the sets that apply
-use Rattle.std.specs.Prelude.{◌≡◌, ℕ, ◌+◌, Bool, true, List, [], ◌∷◌, ◌++◌, Option, Some, None, map, length, unwrap_or, slice_get, IsTrue}
+use Rattle.std.specs.Prelude.{◌≡◌, ℕ, ◌+◌, List, [], ◌∷◌, ◌++◌, Option, Some, None, map, unwrap_or, slice_get, IsTrue}
 use Rattle.std.specs.List.{enumerate_from, range_with_len}
 use Rattle.exact_values.specs.Rational.{ℚ, zero_ℚ}
 use Rattle.exact_values.specs.Tests.{magnitude}
@@ -16,7 +16,7 @@ use Rattle.frac128.specs.Operations.{refuses}
 use Rattle.lp_definitions.specs.declared.Sense.{Sense}
 use Rattle.lp_definitions.specs.declared.Evidence.{Evidence}
 use Rattle.lp_definitions.specs.LinearProgram.{LinearProgram}
-use Rattle.lp_definitions.specs.RatesEvidence.{Names, Refuses}
+use Rattle.lp_definitions.specs.RatesEvidence.{Names}
 use Rattle.lp_model.specs.declared.Stop.{Stop}
 use Rattle.lp_model.specs.declared.Stop.TheVariants.{Overflow, NoMemory}
 use Rattle.problem_definitions.specs.declared.RowKind.{RowKind}

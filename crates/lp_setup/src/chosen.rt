@@ -65,7 +65,8 @@ pub fn objective_row(rows: &[RowDecl], chosen: Option<Name>) -> Option<u32>
 fn has_free_row(rows: &[RowDecl], name: &Name) -> bool
     ensures { result ≡ has_free rows.now name.now }
 {
-    rows.iter().any(|row| *name == row.name && is_free(row.kind))
+    rows.iter()
+        .any(|row| *name == row.name && is_free(row.kind))
 }
 
 /// Whether a row is chosen that isn't an N row.

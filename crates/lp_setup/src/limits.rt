@@ -40,7 +40,11 @@ fn is_negative(value: Frac) -> bool
 fn magnitude(value: Frac) -> Frac
     ensures { result ≡ the_magnitude value }
 {
-    if is_negative(value) { value.neg() } else { value }
+    if is_negative(value) {
+        value.neg()
+    } else {
+        value
+    }
 }
 
 /// From the right-hand side up to so much above it.

@@ -49,10 +49,12 @@ pub fn values_by_row(
 fn sides_of(alloc: Global, values: &[Option<Frac>]) -> Result<Vec<Frac>, NoMemory>
     ensures { IfOk result (λ sides. sides.items ≡ map (λ value. unwrap_or value zero_ℚ) values.now) }
 {
-    Ok(values
-        .iter()
-        .map(|value| value.unwrap_or(Frac::whole(0)))
-        .collect(alloc)?)
+    Ok(
+        values
+            .iter()
+            .map(|value| value.unwrap_or(Frac::whole(0)))
+            .collect(alloc)?,
+    )
 }
 
 /// The right-hand side that a set makes of each row.
@@ -154,14 +156,16 @@ pub fn limits_by_column(
 fn coefficients(alloc: Global, column: &ColumnDecl) -> Result<Vec<Entry>, NoMemory>
     ensures { IfOk result (λ entries. entries.items ≡ coefficients_of column.now) }
 {
-    Ok(column
-        .entries
-        .iter()
-        .map(|entry| Entry {
-            row: entry.row,
-            value: entry.value.value(),
-        })
-        .collect(alloc)?)
+    Ok(
+        column
+            .entries
+            .iter()
+            .map(|entry| Entry {
+                row: entry.row,
+                value: entry.value.value(),
+            })
+            .collect(alloc)?,
+    )
 }
 
 /// The numbers of each column.

@@ -108,7 +108,15 @@ pub fn select(alloc: Global, problem: &Problem, choice: &Choice) -> Result<Lp, S
     let Some(bounds) = bound_items(problem.bounds(), options.bound) else {
         return Err(SelectStop::NoBoundSet);
     };
-    match program(alloc, problem, objective, rhs, ranges, bounds, options.sense) {
+    match program(
+        alloc,
+        problem,
+        objective,
+        rhs,
+        ranges,
+        bounds,
+        options.sense,
+    ) {
         Ok(lp) => Ok(lp),
         Err(Stop::Overflow(evidence)) => Err(SelectStop::Overflow(evidence)),
         Err(Stop::NoMemory) => Err(SelectStop::NoMemory),

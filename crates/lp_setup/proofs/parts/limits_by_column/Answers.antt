@@ -1,8 +1,7 @@
-use Rattle.std.proofs.Common.{◌≡◌, ◌≤◌, take, length, arith, subst}
+use Rattle.std.proofs.Common.{◌≤◌, length, subst}
 use Rattle.std.proofs.lemmas.List.{take_all}
 use Rattle.selection_definitions.specs.Limits.{unbounded, column_limits}
 use Rattle.lp_setup.proofs.Lists.{Holds, holds-all}
-use Rattle.lp_setup.proofs.Values.{bound_step}
 use Rattle.lp_setup.proofs.parts.limits_by_column.Goals as goal
 
 pub returns : goal.returns

@@ -1,4 +1,4 @@
-use Rattle.std.proofs.Common.{◌≡◌, ℕ, ◌≤◌, ◌<◌, ◌-◌, take, length, ap, ◌∙◌, arith, subst, None}
+use Rattle.std.proofs.Common.{◌≡◌, ℕ, ◌≤◌, ◌-◌, length, ap, ◌∙◌, subst, None}
 use Rattle.std.proofs.lemmas.List.{take_all}
 use Rattle.problem_definitions.specs.Problem.{Entry}
 use Rattle.selection_definitions.specs.Limits.{value_on}

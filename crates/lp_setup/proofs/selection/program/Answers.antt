@@ -1,4 +1,4 @@
-use Rattle.std.proofs.Common.{◌≡◌, length, map, ap, sym, ◌∙◌, subst}
+use Rattle.std.proofs.Common.{length, map, ap, sym, ◌∙◌, subst}
 use Rattle.lp_definitions.specs.LinearProgram.{IsLinearProgram}
 use Rattle.selection_definitions.specs.Limits.{Limits}
 use Rattle.lp_model.specs.Columns.{entries_of}
