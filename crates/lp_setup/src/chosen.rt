@@ -126,10 +126,10 @@ pub fn range_items<'a>(sets: &'a [ValueSet], chosen: Option<Name>) -> Option<&'a
     ensures missing { IfNone result (misses_set sets.now chosen ≡ true) }
     ensures found { IfSome result (λ items. (misses_set sets.now chosen ≡ false) × (items.now ≡ set_items sets.now chosen)) }
 {
-    let Some(name) = chosen else {
-        return Some(&[]);
-    };
-    values_named(sets, &name)
+    match chosen {
+        Some(name) => values_named(sets, &name),
+        None => Some(&[]),
+    }
 }
 
 /// The set of bounds with this name.
@@ -155,8 +155,8 @@ pub fn bound_items<'a>(sets: &'a [BoundSet], chosen: Option<Name>) -> Option<&'a
     ensures missing { IfNone result (misses_set sets.now chosen ≡ true) }
     ensures found { IfSome result (λ items. (misses_set sets.now chosen ≡ false) × (items.now ≡ set_items sets.now chosen)) }
 {
-    let Some(name) = chosen else {
-        return Some(&[]);
-    };
-    bounds_named(sets, &name)
+    match chosen {
+        Some(name) => bounds_named(sets, &name),
+        None => Some(&[]),
+    }
 }
