@@ -1,0 +1,26 @@
+-- What a stop of a selection tells.
+--     fault_of stop                            the fault of the choice, if that is what it tells of
+--     IsOverflowOf problem choice stop         its evidence, if it has some, is that of a range sum
+use Rattle.std.specs.Prelude.{ℕ, Option, Some, None}
+use Rattle.problem_definitions.specs.Problem.{Problem}
+use Rattle.selection_definitions.specs.declared.SelectionFault.{SelectionFault}
+use Rattle.selection_definitions.specs.declared.SelectionFault.TheVariants as fault
+use Rattle.selection_definitions.specs.Choice.{Choice}
+use Rattle.selection_definitions.specs.RangeSums.{IsRangeRefusal}
+use Rattle.lp_setup.specs.declared.stop.SelectStop.{SelectStop}
+use Rattle.lp_setup.specs.declared.stop.SelectStop.TheVariants.{NoObjective, ObjectiveNotFree, NoRhsSet, NoRangeSet, NoBoundSet, Overflow, NoMemory}
+
+-- each fault has a stop of its own; the other stops come where there is no fault
+abbrev pub fault_of : SelectStop → Option SelectionFault
+fault_of NoObjective = Some fault.NoObjective
+fault_of ObjectiveNotFree = Some fault.ObjectiveNotFree
+fault_of NoRhsSet = Some fault.NoRhsSet
+fault_of NoRangeSet = Some fault.NoRangeSet
+fault_of NoBoundSet = Some fault.NoBoundSet
+fault_of (Overflow e) = None
+fault_of NoMemory = None
+
+-- a range sum is all that overflows
+abbrev pub IsOverflowOf : Problem ℕ → Choice → SelectStop → Type 0
+IsOverflowOf problem choice (Overflow e) = IsRangeRefusal problem choice e
+IsOverflowOf problem choice _ = Unit {0}

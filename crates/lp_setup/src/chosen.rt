@@ -1,0 +1,162 @@
+// The objective row and the sets that apply.
+ghost use Rattle.std.specs.Prelude.{◌≡◌, ◌<◌, ◌≤◌, ◌+◌, length, position, true, false, option_map, find};
+ghost use Rattle.std.specs.List.{IsDistinct};
+ghost use Rattle.std.specs.Option.{IfSome, IfNone, ForSome, option_copied};
+ghost use Rattle.problem_definitions.specs.Names.{same};
+ghost use Rattle.problem_definitions.specs.Kinds.{is_free_kind};
+ghost use Rattle.problem_definitions.specs.Problem.{has_free_row as has_free, has_group, group_names};
+ghost use Rattle.problem_definitions.specs.Groups.{items_of};
+ghost use Rattle.selection_definitions.specs.Choice.{objective_of, is_not_free as has_limits, rhs_items as items_of_rhs, set_items, misses_set};
+
+use name_table::Name;
+use problem_file::{BoundItem, BoundSet, DeckEntry, RowDecl, RowKind, ValueSet};
+
+// ---- the objective row
+
+/// Whether rows of this type have no limits.
+fn is_free(kind: RowKind) -> bool
+    ensures { result ≡ is_free_kind kind }
+{
+    match kind {
+        RowKind::N => true,
+        RowKind::G | RowKind::L | RowKind::E => false,
+    }
+}
+
+/// Where the row of this name stands.
+fn named_row(rows: &[RowDecl], name: &Name) -> Option<usize>
+    ensures place { result ≡ position (λ row. same name.now row.name) rows.now }
+    ensures within { IfSome result (λ place. place < length rows.now) }
+{
+    rows.iter().position(|row| *name == row.name)
+}
+
+/// Where the first N row stands.
+fn first_free_row(rows: &[RowDecl]) -> Option<usize>
+    ensures place { result ≡ position (λ row. is_free_kind row.kind) rows.now }
+    ensures within { IfSome result (λ place. place < length rows.now) }
+{
+    rows.iter().position(|row| is_free(row.kind))
+}
+
+/// The number of the row at a place.
+fn number_at(place: Option<usize>) -> Option<u32>
+    requires { ForSome place (λ place. place < 1000) }
+    ensures { result ≡ option_map (λ place. place + 1) place }
+{
+    match place {
+        Some(place) => Some(place as u32 + 1),
+        None => None,
+    }
+}
+
+/// The number of the objective row: of the chosen one, or else of the first N row.
+pub fn objective_row(rows: &[RowDecl], chosen: Option<Name>) -> Option<u32>
+    requires few { length rows.now ≤ 1000 }
+    ensures number { result ≡ objective_of rows.now chosen }
+{
+    let Some(name) = chosen else {
+        return number_at(first_free_row(rows));
+    };
+    number_at(named_row(rows, &name))
+}
+
+/// Whether there is an N row of this name.
+fn has_free_row(rows: &[RowDecl], name: &Name) -> bool
+    ensures { result ≡ has_free rows.now name.now }
+{
+    rows.iter()
+        .any(|row| *name == row.name && is_free(row.kind))
+}
+
+/// Whether a row is chosen that isn't an N row.
+pub fn is_not_free(rows: &[RowDecl], chosen: Option<Name>) -> bool
+    ensures { result ≡ has_limits rows.now chosen }
+{
+    match chosen {
+        Some(name) => !has_free_row(rows, &name),
+        None => false,
+    }
+}
+
+// ---- the sets
+
+/// The set of right-hand sides or of ranges with this name.
+fn value_set<'a>(sets: &'a [ValueSet], name: &Name) -> Option<&'a ValueSet>
+    ensures { option_copied result ≡ find (λ set. same name.now set.name) sets.now }
+{
+    sets.iter().find(|set| *name == set.name)
+}
+
+/// The items of the set of right-hand sides or of ranges with this name.
+fn values_named<'a>(sets: &'a [ValueSet], name: &Name) -> Option<&'a [DeckEntry]>
+    requires { IsDistinct same (group_names sets.now) }
+    ensures missing { IfNone result (has_group sets.now name.now ≡ false) }
+    ensures found { IfSome result (λ items. (has_group sets.now name.now ≡ true) × (items.now ≡ items_of name.now sets.now)) }
+{
+    let set = value_set(sets, name)?;
+    Some(&set.items)
+}
+
+/// The items of the first set of right-hand sides, or none.
+fn first_rhs(sets: &[ValueSet]) -> &[DeckEntry]
+    ensures { result.now ≡ items_of_rhs sets.now None }
+{
+    match sets {
+        [set, ..] => &set.items,
+        [] => &[],
+    }
+}
+
+/// The items of the right-hand side set that applies: of the chosen one, or else of the first.
+pub fn rhs_items<'a>(sets: &'a [ValueSet], chosen: Option<Name>) -> Option<&'a [DeckEntry]>
+    requires { IsDistinct same (group_names sets.now) }
+    ensures missing { IfNone result (misses_set sets.now chosen ≡ true) }
+    ensures found { IfSome result (λ items. (misses_set sets.now chosen ≡ false) × (items.now ≡ items_of_rhs sets.now chosen)) }
+{
+    let Some(name) = chosen else {
+        return Some(first_rhs(sets));
+    };
+    values_named(sets, &name)
+}
+
+/// The items of the range set that is chosen.
+pub fn range_items<'a>(sets: &'a [ValueSet], chosen: Option<Name>) -> Option<&'a [DeckEntry]>
+    requires { IsDistinct same (group_names sets.now) }
+    ensures missing { IfNone result (misses_set sets.now chosen ≡ true) }
+    ensures found { IfSome result (λ items. (misses_set sets.now chosen ≡ false) × (items.now ≡ set_items sets.now chosen)) }
+{
+    match chosen {
+        Some(name) => values_named(sets, &name),
+        None => Some(&[]),
+    }
+}
+
+/// The set of bounds with this name.
+fn bound_set<'a>(sets: &'a [BoundSet], name: &Name) -> Option<&'a BoundSet>
+    ensures { option_copied result ≡ find (λ set. same name.now set.name) sets.now }
+{
+    sets.iter().find(|set| *name == set.name)
+}
+
+/// The items of the set of bounds with this name.
+fn bounds_named<'a>(sets: &'a [BoundSet], name: &Name) -> Option<&'a [BoundItem]>
+    requires { IsDistinct same (group_names sets.now) }
+    ensures missing { IfNone result (has_group sets.now name.now ≡ false) }
+    ensures found { IfSome result (λ items. (has_group sets.now name.now ≡ true) × (items.now ≡ items_of name.now sets.now)) }
+{
+    let set = bound_set(sets, name)?;
+    Some(&set.items)
+}
+
+/// The items of the bound set that is chosen.
+pub fn bound_items<'a>(sets: &'a [BoundSet], chosen: Option<Name>) -> Option<&'a [BoundItem]>
+    requires { IsDistinct same (group_names sets.now) }
+    ensures missing { IfNone result (misses_set sets.now chosen ≡ true) }
+    ensures found { IfSome result (λ items. (misses_set sets.now chosen ≡ false) × (items.now ≡ set_items sets.now chosen)) }
+{
+    match chosen {
+        Some(name) => bounds_named(sets, &name),
+        None => Some(&[]),
+    }
+}

@@ -1,0 +1,14 @@
+//! The linear program of a selection: of a problem, the rows, sets and options that are chosen.
+#![tactic(auto)]
+
+mod choice;
+mod chosen;
+mod limits;
+mod parts;
+mod selection;
+mod stop;
+
+pub use choice::{Choice, SetupChoice};
+pub use lp_model::{Entry, Evidence, Lp, Sense};
+pub use selection::select;
+pub use stop::SelectStop;

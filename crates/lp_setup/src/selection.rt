@@ -1,0 +1,124 @@
+// The linear program of a selection.
+ghost use Rattle.std.specs.Prelude.{◌≡◌, ◌++◌, IfOk, IfErr, Ok, length};
+ghost use Rattle.lp_definitions.specs.LinearProgram.{IsLinearProgram};
+ghost use Rattle.problem_definitions.specs.Valid.{AreEntries, AreBounds};
+ghost use Rattle.selection_definitions.specs.Choice.{selection_fault};
+ghost use Rattle.selection_definitions.specs.Limits.{value_on, column_limits};
+ghost use Rattle.selection_definitions.specs.Selection.{selected};
+ghost use Rattle.lp_setup.specs.Parts.{by_number, side_on, limits_of_rows, program_with, IsRowOverflow};
+ghost use Rattle.lp_setup.specs.Stops.{fault_of, IsOverflowOf};
+
+use crate::choice::Choice;
+use crate::chosen::{bound_items, is_not_free, objective_row, range_items, rhs_items};
+use crate::limits::Limits;
+use crate::parts::{
+    limits_by_column, limits_by_row, lower_limits, matrix_columns, right_hand_sides, upper_limits,
+    values_by_row,
+};
+use crate::stop::SelectStop;
+use frac128::Frac;
+use lp_definitions::Sense;
+use lp_model::{Lp, Stop};
+use problem_file::{BoundItem, DeckEntry, Problem};
+use std::alloc::Global;
+
+/// The limits of the rows, and then of the columns.
+fn all_limits(
+    alloc: Global,
+    problem: &Problem,
+    sides: &[Frac],
+    ranges: &[DeckEntry],
+    bounds: &[BoundItem],
+) -> Result<Vec<Limits>, Stop>
+    requires side { length sides.now ≡ length problem.now.rows }
+    requires range { AreEntries (length problem.now.rows) ranges.now }
+    requires bound { AreBounds (length problem.now.columns) bounds.now }
+    ensures limits { IfOk result (λ limits. limits.items ≡ limits_of_rows problem.now.rows sides.now (by_number (value_on ranges.now) (length problem.now.rows)) ++ by_number (column_limits bounds.now) (length problem.now.columns)) }
+    ensures overflow { IfErr result (IsRowOverflow problem.now.rows sides.now (by_number (value_on ranges.now) (length problem.now.rows))) }
+{
+    let rows = problem.rows();
+    let range_values = values_by_row(alloc, rows.len(), ranges)?;
+    let mut limits = limits_by_row(alloc, rows, sides, &range_values)?;
+    let columns = limits_by_column(alloc, problem.columns().len(), bounds)?;
+    limits
+        .extend_from_slice(&columns)
+        .map_err(|_| Stop::NoMemory)?;
+    Ok(limits)
+}
+
+/// The linear program of an objective row and of the items of the sets that apply.
+fn program(
+    alloc: Global,
+    problem: &Problem,
+    objective: u32,
+    rhs: &[DeckEntry],
+    ranges: &[DeckEntry],
+    bounds: &[BoundItem],
+    sense: Sense,
+) -> Result<Lp, Stop>
+    requires lawful { IsLinearProgram (program_with problem.now objective rhs.now ranges.now bounds.now sense) }
+    requires side { AreEntries (length problem.now.rows) rhs.now }
+    requires range { AreEntries (length problem.now.rows) ranges.now }
+    requires bound { AreBounds (length problem.now.columns) bounds.now }
+    ensures program { IfOk result (λ lp. lp ≡ program_with problem.now objective rhs.now ranges.now bounds.now sense) }
+    ensures overflow { IfErr result (IsRowOverflow problem.now.rows (by_number (side_on rhs.now) (length problem.now.rows)) (by_number (value_on ranges.now) (length problem.now.rows))) }
+{
+    let sides = right_hand_sides(alloc, problem.rows().len(), rhs)?;
+    let limits = all_limits(alloc, problem, &sides, ranges, bounds)?;
+    let columns = matrix_columns(alloc, problem.columns())?;
+    let lower = lower_limits(alloc, &limits)?;
+    let upper = upper_limits(alloc, &limits)?;
+    Ok(Lp {
+        rows: problem.row_count(),
+        cols: problem.column_count(),
+        columns,
+        lower,
+        upper,
+        rhs: sides,
+        objective,
+        change: None,
+        sense,
+    })
+}
+
+/// The linear program that a choice selects of a problem, in memory of its own.
+///
+/// The faults of the choice come first, in the order of `SelectStop`: an objective row, a right-hand side set, a range set or a
+/// bound set that is chosen and isn't there, no N row where no objective is chosen, or an objective of another type. Without a
+/// fault only two things stop: the sum that a range makes of a row's right-hand side is too large a number, or there is no memory.
+pub fn select(alloc: Global, problem: &Problem, choice: &Choice) -> Result<Lp, SelectStop>
+    ensures program { IfOk result (λ lp. selected problem.now choice.now ≡ Ok lp) }
+    ensures fault { IfErr result (λ stop. fault_of stop ≡ selection_fault problem.now choice.now) }
+    ensures overflow { IfErr result (IsOverflowOf problem.now choice.now) }
+{
+    let rows = problem.rows();
+    let options = choice.options;
+    let Some(objective) = objective_row(rows, choice.objective) else {
+        return Err(SelectStop::NoObjective);
+    };
+    if is_not_free(rows, choice.objective) {
+        return Err(SelectStop::ObjectiveNotFree);
+    }
+    let Some(rhs) = rhs_items(problem.rhs(), choice.rhs) else {
+        return Err(SelectStop::NoRhsSet);
+    };
+    let Some(ranges) = range_items(problem.ranges(), options.range) else {
+        return Err(SelectStop::NoRangeSet);
+    };
+    let Some(bounds) = bound_items(problem.bounds(), options.bound) else {
+        return Err(SelectStop::NoBoundSet);
+    };
+    match program(
+        alloc,
+        problem,
+        objective,
+        rhs,
+        ranges,
+        bounds,
+        options.sense,
+    ) {
+        Ok(lp) => Ok(lp),
+        Err(Stop::Overflow(evidence)) => Err(SelectStop::Overflow(evidence)),
+        Err(Stop::NoMemory) => Err(SelectStop::NoMemory),
+    }
+}
