@@ -1,0 +1,9 @@
+mod Existence
+mod Lengths
+mod Nearest
+mod PointSums
+mod RatesStops
+mod Refusals
+mod Skips
+mod Writes
+mod PriceLaws
