@@ -253,3 +253,38 @@ module _ (p : LinearProgram) (s : List Status) (basis : IsBasis p s) where
             of_call = of_point p.change e.formula (rw f.0 refl);
             stops = stops_at_basis p s (tableau_of p s basis nonsingular rate) (IsTableau-of p s basis nonsingular rate are) nonsingular (λ to. ⊥) before after e f.1 f.2 (formula_of r);
           }
+
+-- ---- the same at k + 1
+
+module _ (p : LinearProgram) (s : List Status) (j : ℕ) (low : 1 ≤ j) where
+  same : suc (j - 1) ≡ j
+  same = omega (arith, low)
+
+  more : (z : Vector) → IsSoFar p.matrix (basics_of s) (standing p s) (suc (j - 1)) z → IsSoFar p.matrix (basics_of s) (standing p s) j z
+  more z h = subst (λ (n : ℕ). IsSoFar p.matrix (basics_of s) (standing p s) n z) (same) h
+
+  pub more_basic : (z : Vector) → IsSoFar p.matrix (basics_of s) (standing p s) (j - 1) z → is_in (basics_of s) j ≡ true → IsSoFar p.matrix (basics_of s) (standing p s) j z
+  more_basic z h is = more z (so_far-basic p.matrix (basics_of s) (standing p s) (j - 1) z h (ap (is_in (basics_of s)) (same) ∙ is))
+
+  pub more_zero : (z : Vector) → IsSoFar p.matrix (basics_of s) (standing p s) (j - 1) z → IsVariable p.matrix j → is_in (basics_of s) j ≡ false → z j ≡ zero_ℚ → IsSoFar p.matrix (basics_of s) (standing p s) j z
+  more_zero z h is out nothing =
+      more z (so_far-zero p.matrix (basics_of s) (standing p s) (j - 1) z h (ap (is_in (basics_of s)) (same) ∙ out)
+      (ap (standing p s) (same) ∙ sym (h.nonbasics j (is, out)) ∙ nothing))
+
+  pub more_added : (z w d : Vector) (v : ℚ) → IsNonsingular p.matrix (basics_of s) → IsSoFar p.matrix (basics_of s) (standing p s) (j - 1) z → IsNonbasic p.matrix (basics_of s) j → IsDirectionOf p.matrix (basics_of s) j d → v ≡ z j →
+      AreAdded (basics_of s) d v z (size p.matrix) w → IsSoFar p.matrix (basics_of s) (standing p s) j w
+  more_added z w d v nonsingular h out direction is added =
+      more w (so_far-added p.matrix (basics_of s) (standing p s) (j - 1) z w d nonsingular h
+      (subst (λ (n : ℕ). IsNonbasic p.matrix (basics_of s) n) (sym same) out)
+      (subst (λ (n : ℕ). IsDirectionOf p.matrix (basics_of s) n d) (sym same) direction)
+      (subst (λ (x : ℚ). AreAdded (basics_of s) d x z (size p.matrix) w) (is ∙ ap z (sym same)) added))
+
+  pub more_refused : (z d : Vector) (v : ℚ) (term : ℕ) (e : Evidence) (basis : IsBasis p s) → IsNonsingular p.matrix (basics_of s) → IsSoFar p.matrix (basics_of s) (standing p s) (j - 1) z → IsNonbasic p.matrix (basics_of s) j →
+      IsDirectionOf p.matrix (basics_of s) j d → v ≡ z j → term ≡ length (nonbasics_to (basics_of s) (j - 1)) → (before after : List Basics) → ColumnTermRefused (basics_of s) d v z j term (size p.matrix) e → PointRefused p before s after e
+  more_refused z d v term e basis nonsingular h out direction is counted before after refused =
+      term_stops p s basis nonsingular z d (j - 1) e h
+      (subst (λ (n : ℕ). IsNonbasic p.matrix (basics_of s) n) (sym same) out)
+      (subst (λ (n : ℕ). IsDirectionOf p.matrix (basics_of s) n d) (sym same) direction) before after
+      (subst (λ (x : ℚ). ColumnTermRefused (basics_of s) d x z (suc (j - 1)) (length (nonbasics_to (basics_of s) (j - 1))) (size p.matrix) e) (is ∙ ap z (sym same))
+      (subst (λ (t : ℕ). ColumnTermRefused (basics_of s) d v z (suc (j - 1)) t (size p.matrix) e) counted
+      (subst (λ (n : ℕ). ColumnTermRefused (basics_of s) d v z n term (size p.matrix) e) (sym same) refused)))

@@ -27,6 +27,11 @@ pub free_row_basic : (p : LinearProgram) (s : List Status) (i : ℕ) → IsBasis
 free_row_basic p s i basis is free =
     ((is.0, omega (arith, is.1)), is_in-basics_of s i is.0 (omega (arith, is.1, basis.counted)) ∙ ap is_basic (basis.free_rows i is free))
 
+pub change_row_basic : (p : LinearProgram) (s : List Status) (c : Change) → IsBasis p s → IsLinearProgram p → p.change ≡ Some c → IsBasic p.matrix (basics_of s) c.row
+change_row_basic p s c basis lawful is =
+    let free : ChangeIsFree p (Some c) = subst (λ (o : Option Change). ChangeIsFree p o) is lawful.change_free in
+    free_row_basic p s c.row basis free.0 free.1
+
 module _ (p : LinearProgram) (s : List Status) where
   -- without a change row
   pub plain_prices : (o : Vector) → p.change ≡ None → IsRowOf p.matrix (basics_of s) p.objective o → ArePricesOf p s o
@@ -66,7 +71,7 @@ module _ (p : LinearProgram) (s : List Status) where
           ∙ sym (ap₂ (λ m d. cond m zero_ℚ (with_change_row d (λ i. of_objective.rate i k) (of_objective.rate p.objective k))) e is)
 
   module _ (basis : IsBasis p s) (nonsingular : IsNonsingular p.matrix (basics_of s)) (o h : Vector) (c : Change) (of_objective : IsRowOf p.matrix (basics_of s) p.objective o) (of_change : IsRowOf p.matrix (basics_of s) c.row h)
-      (objective : IsBasic p.matrix (basics_of s) p.objective) (basic : IsBasic p.matrix (basics_of s) c.row) (e : Evidence) where
+      (basic : IsBasic p.matrix (basics_of s) c.row) (e : Evidence) where
     abbrev t : Tableau
     t = tableau_of p s basis nonsingular of_objective.rate
 

@@ -16,7 +16,10 @@ use Rattle.lp_algebra.proofs.Values.{clash}
 use Rattle.lp_algebra.proofs.WaypointLaws.{within_itself, Covers, kept_within}
 use Rattle.overflow_definitions.specs.Statements.{is_between}
 use Rattle.overflow_definitions.specs.Evidence.{ShowsRefusal, by_exchange, by_entry, by_carried, names_waypoint}
-use Rattle.bounded_primal.specs.Calls.{StopsAt, job_of, is_of_point, PointRefused}
+use Rattle.lp_model.specs.RatesCalls.{IfOverflow}
+use Rattle.lp_model.specs.declared.Stop.{Stop}
+use Rattle.lp_model.proofs.Stops.{IfOverflow-map}
+use Rattle.bounded_primal.specs.Calls.{HasRates, StopsAt, job_of, is_of_point, PointRefused}
 use Rattle.bounded_primal.proofs.Existence.{rates_exist}
 use Rattle.bounded_primal.proofs.Refusals.{IsTableau-changed, no_parameter}
 
@@ -176,3 +179,15 @@ module _ (p : LinearProgram) (s : List Status) (basis : IsBasis p s) (nonsingula
       of_call = of_point p.change e.formula (entry_facts p.matrix (basics_of s) h.rate e (basics_of s) h.rate h.formula).1;
       stops = stops_by_entry (λ to. ⊥) (basics_of s ∷ before) after (inl (within_itself p.matrix (basics_of s))) cover e h;
     }
+
+-- ---- a stop of the rates of a basis
+
+pub keeps_at : (p : LinearProgram) (s : List Status) (a : Matrix) (b c : Basics) (ways now : List Basics) → HasRates a b p s → c ≡ b → KeepsWaypoints a b ways c now → KeepsWaypoints p.matrix (basics_of s) ways (basics_of s) now
+keeps_at p s a b c ways now has same keeps = rw (same, has.same_matrix, has.same_basics) at keeps
+
+module _ (p : LinearProgram) (s : List Status) (a : Matrix) (b c : Basics) (ways now : List Basics) (stop : Stop) (has : HasRates a b p s) (same : c ≡ b) (keeps : KeepsWaypoints a b ways c now) where
+  pub column_refused : IfOverflow stop (ExchangeRefused a (b ∷ ways) b now) → IfOverflow stop (PointRefused p ways s now)
+  column_refused h = IfOverflow-map stop (λ e x. point_by_column p s has.is_basis has.nonsingular ways now (keeps_at p s a b c ways now has same keeps) e x) (rw (has.same_matrix, has.same_basics) at h)
+
+  pub row_refused : IfOverflow stop (RowRefused a (b ∷ ways) b now) → IfOverflow stop (PointRefused p ways s now)
+  row_refused h = IfOverflow-map stop (λ e x. point_by_row p s has.is_basis has.nonsingular ways now (keeps_at p s a b c ways now has same keeps) e x) (rw (has.same_matrix, has.same_basics) at h)

@@ -53,6 +53,8 @@ impl Formula {
     pub fn sum(self, left: Frac, right: Frac) -> Result<Frac, Evidence>
         ensures value { IfOk result (λ sum. sum ≡ left +ℚ right) }
         ensures refused { IfErr result (IsRefusal self Op.Add left right) }
+        ensures left { OnErr result (left ≢ zero_ℚ) }
+        ensures right { OnErr result (right ≢ zero_ℚ) }
     {
         if left.is_zero() {
             return Ok(right);

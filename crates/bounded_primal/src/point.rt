@@ -1,8 +1,8 @@
 //! The point of a basis.
 
-ghost use Rattle.std.specs.Prelude.{◌≡◌, ◌≤◌, ◌<◌, ◌+◌, ◌^◌, ℕ, true, if◌then◌else◌, length, vec_len, OnOk, OnErr, IfOk, IfErr};
+ghost use Rattle.std.specs.Prelude.{◌≡◌, ◌≤◌, ◌<◌, ◌-◌, ◌^◌, ℕ, true, if◌then◌else◌, length, vec_len, OnOk, OnErr, IfOk, IfErr};
 ghost use Rattle.exact_values.specs.Rational.{◌+ℚ◌, ◌*ℚ◌};
-ghost use Rattle.lp_definitions.specs.LinearProgram.{size, value_at, IsVariable};
+ghost use Rattle.lp_definitions.specs.LinearProgram.{size, value_at, IsVariable, IsLinearProgram};
 ghost use Rattle.lp_definitions.specs.Basis.{basics_of, is_in, IsBasis, IsPointOf};
 ghost use Rattle.lp_definitions.specs.Waypoints.{KeepsWaypoints};
 ghost use Rattle.lp_algebra.specs.Points.{standing};
@@ -121,8 +121,8 @@ fn add_multiple(
     Ok(())
 }
 
-/// How many nonbasics stand before the variable after `k`.
-fn nonbasics_before(basis: &Basis, k: u32) -> u32
+/// How many of the first `k` variables are nonbasic.
+fn nonbasics_up_to(basis: &Basis, k: u32) -> u32
     requires { k ≤ length basis.now }
     ensures { result ≡ length (nonbasics_to (basics_of basis.now) k) }
 {
@@ -136,36 +136,40 @@ fn nonbasics_before(basis: &Basis, k: u32) -> u32
     count
 }
 
-/// Adds the direction of the variable after `k`, times its value, if it is nonbasic. `column` is room for the direction.
+/// Adds the direction of `j`, times its value, if it is nonbasic. `column` is room for the direction.
 fn add_direction<R: Rates>(
     lp: &Lp,
     basis: &Basis,
     rates: &mut R,
-    k: u32,
+    j: u32,
     column: &mut [Frac],
     point: &mut [Frac],
 ) -> Result<(), Stop>
     requires rates { HasRates (R.matrix rates.old) (R.basics rates.old) lp.now basis.now }
-    requires variable { k < size lp.now.matrix }
+    requires lawful { IsLinearProgram lp.now }
+    requires variable { IsVariable lp.now.matrix j }
     requires column { length column.old ≡ size lp.now.matrix }
     requires places { length point.old ≡ size lp.now.matrix }
-    requires so_far { IsSoFar lp.now.matrix (basics_of basis.now) (standing lp.now basis.now) k (value_at point.old) }
-    ensures so_far { OnOk result (IsSoFar lp.now.matrix (basics_of basis.now) (standing lp.now basis.now) (k + 1) (value_at point.new)) }
+    requires so_far { IsSoFar lp.now.matrix (basics_of basis.now) (standing lp.now basis.now) (j - 1) (value_at point.old) }
+    ensures so_far { OnOk result (IsSoFar lp.now.matrix (basics_of basis.now) (standing lp.now basis.now) j (value_at point.new)) }
     ensures matrix { R.matrix rates.new ≡ R.matrix rates.old }
     ensures basics { R.basics rates.new ≡ R.basics rates.old }
     ensures waypoints { KeepsWaypoints lp.now.matrix (basics_of basis.now) (R.waypoints rates.old) (basics_of basis.now) (R.waypoints rates.new) }
     ensures overflow { PointOverflow result lp.now basis.now (R.waypoints rates.old) (R.waypoints rates.new) }
 {
-    if stands_basic(basis, k + 1) {
+    if stands_basic(basis, j) {
         return Ok(());
     }
-    let value = point[k as usize];
+    let value = point[j as usize - 1];
     if value.is_zero() {
         return Ok(());
     }
-    rates.column(k + 1, column)?;
-    let term = nonbasics_before(basis, k);
-    add_multiple(basis, column, value, k + 1, term, point).map_err(Stop::Overflow)
+    rates.column(j, column)?;
+    let term = nonbasics_up_to(basis, j - 1);
+    match add_multiple(basis, column, value, j, term, point) {
+        Ok(()) => Ok(()),
+        Err(evidence) => Err(Stop::Overflow(evidence)),
+    }
 }
 
 /// Adds the directions of the nonbasics, each times the nonbasic's value.
@@ -177,6 +181,7 @@ fn add_directions<R: Rates>(
     point: &mut [Frac],
 ) -> Result<(), Stop>
     requires rates { HasRates (R.matrix rates.old) (R.basics rates.old) lp.now basis.now }
+    requires lawful { IsLinearProgram lp.now }
     requires column { length column.old ≡ size lp.now.matrix }
     requires places { length point.old ≡ size lp.now.matrix }
     requires begins { (k : ℕ) → IsVariable lp.now.matrix k → value_at point.old k ≡ standing lp.now basis.now k }
@@ -187,7 +192,7 @@ fn add_directions<R: Rates>(
     ensures overflow { PointOverflow result lp.now basis.now (R.waypoints rates.old) (R.waypoints rates.new) }
 {
     for k in 0..lp.number_of_variables() {
-        add_direction(lp, basis, rates, k, column, point)?;
+        add_direction(lp, basis, rates, k + 1, column, point)?;
     }
     Ok(())
 }

@@ -1,17 +1,18 @@
 //! The prices of a basis.
 
-ghost use Rattle.std.specs.Prelude.{◌≡◌, ◌≢◌, ◌≤◌, ◌<◌, ◌^◌, ℕ, length, OnOk, OnErr, IfOk, IfErr};
+ghost use Rattle.std.specs.Prelude.{◌≡◌, ◌≢◌, ◌<◌, ◌^◌, Some, length, OnOk, OnErr, IfOk, IfErr};
 ghost use Rattle.exact_values.specs.Rational.{zero_ℚ, ◌+ℚ◌, ◌*ℚ◌};
 ghost use Rattle.lp_definitions.specs.LinearProgram.{size, value_at, IsLinearProgram};
 ghost use Rattle.lp_definitions.specs.Basis.{basics_of, ArePricesOf};
 ghost use Rattle.lp_definitions.specs.Waypoints.{KeepsWaypoints};
+ghost use Rattle.lp_model.specs.RatesCalls.{IsRowOf};
 ghost use Rattle.bounded_primal.specs.Calls.{HasRates};
 ghost use Rattle.bounded_primal.specs.Stops.{PointOverflow};
 ghost use Rattle.bounded_primal.specs.Prices.{ChangedRefused, SomeChangedRefused, AreChanged, price_formula};
 
 use crate::formula::Formula;
 use frac128::Frac;
-use lp_model::{Basis, Evidence, Lp, NoMemory, Rates, Stop};
+use lp_model::{Basis, Change, Evidence, Lp, NoMemory, Rates, Stop};
 use std::alloc::Global;
 
 /// Formula 17 at `j`.
@@ -55,6 +56,37 @@ fn add_changes(theta: Frac, change: &[Frac], prices: &mut [Frac]) -> Result<(), 
     Ok(())
 }
 
+/// Adds the rates of the change row, theta times, to those of the objective row. `change` is room for them.
+fn add_change_row<R: Rates>(
+    lp: &Lp,
+    basis: &Basis,
+    rates: &mut R,
+    added: Change,
+    change: &mut [Frac],
+    prices: &mut [Frac],
+) -> Result<(), Stop>
+    requires rates { HasRates (R.matrix rates.old) (R.basics rates.old) lp.now basis.now }
+    requires lawful { IsLinearProgram lp.now }
+    requires added { lp.now.change ≡ Some added }
+    requires change { length change.old ≡ size lp.now.matrix }
+    requires places { length prices.old ≡ size lp.now.matrix }
+    requires objective { IsRowOf lp.now.matrix (basics_of basis.now) lp.now.objective (value_at prices.old) }
+    ensures prices { OnOk result (ArePricesOf lp.now basis.now (value_at prices.new)) }
+    ensures matrix { R.matrix rates.new ≡ R.matrix rates.old }
+    ensures basics { R.basics rates.new ≡ R.basics rates.old }
+    ensures waypoints { KeepsWaypoints lp.now.matrix (basics_of basis.now) (R.waypoints rates.old) (basics_of basis.now) (R.waypoints rates.new) }
+    ensures overflow { PointOverflow result lp.now basis.now (R.waypoints rates.old) (R.waypoints rates.new) }
+{
+    if added.theta.is_zero() {
+        return Ok(());
+    }
+    rates.row(added.row, change)?;
+    match add_changes(added.theta, change, prices) {
+        Ok(()) => Ok(()),
+        Err(evidence) => Err(Stop::Overflow(evidence)),
+    }
+}
+
 /// Fills `prices` with the objective's rates. `change` is room for the rates of the change row.
 fn fill_prices<R: Rates>(
     lp: &Lp,
@@ -74,14 +106,10 @@ fn fill_prices<R: Rates>(
     ensures overflow { PointOverflow result lp.now basis.now (R.waypoints rates.old) (R.waypoints rates.new) }
 {
     rates.row(lp.objective, prices)?;
-    let Some(added) = lp.change else {
-        return Ok(());
-    };
-    if added.theta.is_zero() {
-        return Ok(());
+    match lp.change {
+        None => Ok(()),
+        Some(added) => add_change_row(lp, basis, rates, added, change, prices),
     }
-    rates.row(added.row, change)?;
-    add_changes(added.theta, change, prices).map_err(Stop::Overflow)
 }
 
 /// Fills `out`, which has a place for each variable, with the basis's prices: the objective's rates at the nonbasics, and 0 at

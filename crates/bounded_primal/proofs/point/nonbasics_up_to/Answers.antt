@@ -2,7 +2,7 @@ use Rattle.std.proofs.Common.{◌≡◌, ◌+◌, suc, sym, ◌∙◌, ap, lengt
 use Rattle.lp_definitions.specs.Basis.{basics_of}
 use Rattle.bounded_primal.specs.Points.{nonbasics_to}
 use Rattle.bounded_primal.proofs.PointSums.{count-basic, count-nonbasic}
-use Rattle.bounded_primal.proofs.point.nonbasics_before.Goals as goal
+use Rattle.bounded_primal.proofs.point.nonbasics_up_to.Goals as goal
 
 pub loop-i-preserved-then-stands_basic : goal.loop-i-preserved-then-stands_basic
 loop-i-preserved-then-stands_basic c = record {
