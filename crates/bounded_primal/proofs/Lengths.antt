@@ -1,7 +1,7 @@
 -- How long a motion lasts until a variable reaches the limit ahead of it.
-use Rattle.std.proofs.Common.{◌≡◌, ◌≢◌, ℕ, ◌+◌, ◌<◌, Bool, true, false, cond, refl, sym, ◌∙◌, ap, ap₂, subst, arith, add-one, pos}
-use Rattle.std.specs.Prelude.{Option, Some, None, if◌then◌else◌, option_map}
-use Rattle.exact_values.specs.Rational.{ℚ, zero_ℚ, one_ℚ, neg_ℚ, inverse_ℚ, ◌-ℚ◌, ◌*ℚ◌, ◌/ℚ◌, ◌<ℚ◌}
+use Rattle.std.proofs.Common.{◌≡◌, ◌≢◌, ℕ, ◌+◌, Bool, true, false, refl, sym, ◌∙◌, ap, ap₂, subst, arith, add-one, pos}
+use Rattle.std.specs.Prelude.{Option, Some, None, option_map}
+use Rattle.exact_values.specs.Rational.{ℚ, zero_ℚ, one_ℚ, neg_ℚ, inverse_ℚ, ◌-ℚ◌, ◌*ℚ◌, ◌/ℚ◌}
 use Rattle.exact_values.specs.Tests.{lt_ℚ}
 use Rattle.exact_values.proofs.Inverse.{inverse-neg}
 use Rattle.exact_values.proofs.Order.{lt_irrefl}

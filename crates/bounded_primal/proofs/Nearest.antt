@@ -1,16 +1,16 @@
 -- How the search for what stops a motion goes on by one variable, and what it has found at the end.
-use Rattle.std.proofs.Common.{◌≡◌, ◌≢◌, ℕ, zero, suc, ◌+◌, ◌<◌, ◌≤◌, ◌⊎◌, inl, inr, Bool, true, false, cond, refl, sym, ◌∙◌, ap, ap₂, subst, arith}
+use Rattle.std.proofs.Common.{◌≡◌, ◌≢◌, ℕ, suc, ◌≤◌, ◌⊎◌, inl, inr, Bool, true, false, cond, refl, sym, ◌∙◌, ap, ap₂, subst, arith}
 use Rattle.std.specs.Prelude.{Option, Some, None, eqb, not, option_map, unwrap_or}
 use Rattle.std.proofs.lemmas.Bool.Decides.{eqb_tells}
 use Rattle.exact_values.specs.Rational.{ℚ, zero_ℚ, ◌≤ℚ◌, ◌<ℚ◌}
 use Rattle.exact_values.specs.Tests.{lt_ℚ, le_ℚ}
-use Rattle.exact_values.proofs.Order.{le_refl, le_trans, le_of_lt, lt_of_lt_of_le, lt_not_le}
+use Rattle.exact_values.proofs.Order.{le_refl, le_of_lt, lt_of_lt_of_le}
 use Rattle.lp_definitions.specs.LinearProgram.{LinearProgram, Vector, size}
 use Rattle.path_definitions.specs.Moves.{is_no_later, room, stopper, signed, reached}
 use Rattle.path_laws.proofs.Tests.{le_true, le_from, lt_true, lt_from}
 use Rattle.path_laws.proofs.Searches.{stopper_is, stopper_nothing}
 use Rattle.lp_algebra.proofs.Values.{clash}
-use Rattle.bounded_primal.specs.Reach.{length_of, reach_of, sooner, IsFirst, IsNearest}
+use Rattle.bounded_primal.specs.Reach.{reach_of, sooner, IsFirst, IsNearest}
 use Rattle.lp_definitions.specs.declared.Status.{Status}
 use Rattle.bounded_primal.specs.Moves.{motion, stop_at, stopper_of}
 use Rattle.bounded_primal.specs.declared.reach.Reach.{Reach}
@@ -111,3 +111,8 @@ stop_found p z d up found r rate speed step to nearest is rate_is speed_is step_
 pub nothing_found : (p : LinearProgram) (z d : Vector) (up : Bool) (found : Option Reach) → IsNearest (room p z (motion d up)) (size p.matrix) found → found ≡ None → None ≡ stopper_of p z d up
 nothing_found p z d up found nearest is =
     sym (ap (option_map (stop_at p z d up)) (nothing_stops p z (motion d up) (subst (λ (o : Option Reach). IsNearest (room p z (motion d up)) (size p.matrix) o) is nearest)))
+
+-- it is a variable
+pub found_within : (f : ℕ → Option ℚ) (n : ℕ) (found : Option Reach) (r : Reach) → IsNearest f n found → found ≡ Some r → (1 ≤ r.p) × (r.p ≤ n)
+found_within f n found r nearest is =
+    let h : IsFirst f n r = subst (λ (o : Option Reach). IsNearest f n o) is nearest in (h.low, h.high)

@@ -1,19 +1,16 @@
 -- The sums of a point, column by column.
-use Rattle.std.proofs.Common.{◌≡◌, ◌≢◌, ℕ, zero, suc, ◌+◌, ◌-◌, ◌<◌, ◌≤◌, ◌⊎◌, inl, inr, List, [], ◌∷◌, ◌++◌, map, take, length, get_or, set, Bool, true, false, cond, refl, sym, ◌∙◌, ap, ap₂, subst, arith, add-one}
-use Rattle.std.specs.Prelude.{Option, Some, None, not, filter, slice_get, eqb}
-use Rattle.std.proofs.lemmas.Bool.Decides.{eqb_tells}
-use Rattle.std.proofs.lemmas.List.{get_or-set_same, get_or-set_other, length-append}
+use Rattle.std.proofs.Common.{◌≡◌, ℕ, zero, suc, ◌+◌, ◌-◌, ◌<◌, ◌≤◌, List, [], ◌∷◌, ◌++◌, map, take, length, Bool, true, false, cond, refl, sym, ◌∙◌, ap, ap₂, subst, arith, add-one}
+use Rattle.std.specs.Prelude.{Some, not, filter, slice_get}
+use Rattle.std.proofs.lemmas.List.{length-append}
 use Rattle.exact_values.specs.Rational.{ℚ, zero_ℚ, ◌+ℚ◌, ◌*ℚ◌}
 use Rattle.exact_values.proofs.Ring_laws.{add-zero, mul-zero}
-use Rattle.lp_definitions.specs.LinearProgram.{Matrix, LinearProgram, Vector, size, IsVariable, value_at, numbers_from, lower_of, upper_of}
-use Rattle.lp_definitions.specs.Basis.{Basics, basics_of, is_in, is_basic, status_of, IsBasis, IsBasic, IsNonbasic, IsNonsingular, IsPointOf, IsDirectionOf, AreRates, Tableau, StandsAt}
+use Rattle.lp_definitions.specs.LinearProgram.{Matrix, LinearProgram, Vector, size, IsVariable, numbers_from, lower_of, upper_of}
+use Rattle.lp_definitions.specs.Basis.{Basics, basics_of, is_in, status_of, IsBasis, IsBasic, IsNonbasic, IsNonsingular, IsPointOf, IsDirectionOf, AreRates, StandsAt}
 use Rattle.lp_definitions.specs.RatesEvidence.{sum_from}
 use Rattle.lp_definitions.specs.declared.Evidence.{Evidence}
 use Rattle.lp_definitions.specs.declared.Status.{Status}
-use Rattle.lp_definitions.specs.declared.Status.TheVariants.{Bs}
 use Rattle.lp_algebra.specs.Rates.{combination}
 use Rattle.lp_algebra.specs.Points.{place_of, standing}
-use Rattle.lp_algebra.proofs.Values.{clash}
 use Rattle.lp_algebra.proofs.Opening.{numbers_from-append}
 use Rattle.lp_algebra.proofs.Ordered.{combination_in_order}
 use Rattle.lp_algebra.proofs.Combination.{combination_at}
@@ -23,7 +20,7 @@ use Rattle.lp_algebra.proofs.Statuses.{basic_from}
 use Rattle.lp_algebra.proofs.Uniqueness.{is_in-basics_of, one_direction}
 use Rattle.overflow_definitions.specs.Formulas.{nonbasics, PointFormula, f10_product, f10_sum}
 use Rattle.bounded_primal.specs.Calls.{PointRefused}
-use Rattle.bounded_primal.specs.Points.{nonbasics_to, with_term, sum_at, IsSoFar, added_at, AreAdded, TermRefused, of_product, of_sum, ColumnTermRefused}
+use Rattle.bounded_primal.specs.Points.{nonbasics_to, with_term, sum_at, IsSoFar, AreAdded, TermRefused, of_product, of_sum, ColumnTermRefused}
 use Rattle.bounded_primal.proofs.Existence.{rates_exist}
 use Rattle.bounded_primal.proofs.Refusals.{stops_at_basis}
 use Rattle.bounded_primal.proofs.RatesStops.{tableau_of, IsTableau-of, of_point}

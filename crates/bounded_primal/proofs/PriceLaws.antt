@@ -1,10 +1,10 @@
 -- The prices of a basis from the rates of the objective row and the change row.
-use Rattle.std.proofs.Common.{◌≡◌, ◌≢◌, ℕ, ◌≤◌, inl, List, [], ◌∷◌, Bool, true, false, cond, refl, sym, ◌∙◌, ap, ap₂, subst, arith}
-use Rattle.std.specs.Prelude.{Option, Some, None, IsTrue, Contains, not}
+use Rattle.std.proofs.Common.{◌≡◌, ℕ, inl, List, [], ◌∷◌, ◌++◌, take, length, Bool, true, false, cond, refl, sym, ◌∙◌, ap, ap₂, subst, arith}
+use Rattle.std.specs.Prelude.{Option, Some, None, IsTrue, Contains}
 use Rattle.exact_values.specs.Rational.{ℚ, zero_ℚ, ◌+ℚ◌, ◌*ℚ◌}
 use Rattle.exact_values.proofs.Ring_laws.{add-zero, mul-zero, zero-mul}
-use Rattle.lp_definitions.specs.LinearProgram.{LinearProgram, Vector, size, IsVariable, IsRow, HasNoLimits, IsLinearProgram, ChangeIsFree, value_at, with_change, with_change_row}
-use Rattle.lp_definitions.specs.Basis.{Basics, basics_of, is_in, is_basic, status_of, IsBasis, IsBasic, IsNonbasic, IsNonsingular, AreRates, ArePricesOf, price_at, Tableau, IsTableau}
+use Rattle.lp_definitions.specs.LinearProgram.{LinearProgram, Vector, size, IsVariable, IsRow, HasNoLimits, IsLinearProgram, ChangeIsFree, with_change, with_change_row}
+use Rattle.lp_definitions.specs.Basis.{Basics, basics_of, is_in, is_basic, IsBasis, IsBasic, IsNonsingular, ArePricesOf, price_at, Tableau}
 use Rattle.lp_definitions.specs.Waypoints.{waypoint}
 use Rattle.lp_definitions.specs.declared.Change.{Change}
 use Rattle.lp_definitions.specs.declared.Evidence.{Evidence}
@@ -16,11 +16,17 @@ use Rattle.lp_algebra.proofs.Uniqueness.{is_in-basics_of, one_table}
 use Rattle.overflow_definitions.specs.Formulas.{ObjectiveFormula, f17_product, f17_sum}
 use Rattle.overflow_definitions.specs.Statements.{thetas_of}
 use Rattle.overflow_definitions.specs.Evidence.{ShowsRefusal, by_objective, names_waypoint}
-use Rattle.bounded_primal.specs.Calls.{StopsAt, job_of, is_of_point, PointRefused}
+use Rattle.bounded_primal.specs.Calls.{job_of, is_of_point, PointRefused}
 use Rattle.bounded_primal.specs.Prices.{AreChanged, ChangedRefused, of_product, of_sum, SomeChangedRefused}
-use Rattle.bounded_primal.proofs.Existence.{rates_exist}
 use Rattle.bounded_primal.proofs.Refusals.{IsTableau-changed}
 use Rattle.bounded_primal.proofs.RatesStops.{tableau_of, IsTableau-of}
+
+pub take_all : (xs ys : List ℚ) (n : ℕ) → n ≡ length xs → take n (xs ++ ys) ≡ xs
+take_all xs ys n is = ap (λ m. take m (xs ++ ys)) is ∙ whole xs
+  where
+    whole : (xs : List ℚ) → take (length xs) (xs ++ ys) ≡ xs
+    whole [] = refl
+    whole (x ∷ xs) = ap (λ zs. x ∷ zs) (whole xs)
 
 -- a row without limits is basic
 pub free_row_basic : (p : LinearProgram) (s : List Status) (i : ℕ) → IsBasis p s → IsRow p.matrix i → HasNoLimits p i → IsBasic p.matrix (basics_of s) i

@@ -1,9 +1,9 @@
 -- Evidence of the rates is evidence of a call at their basis.
-use Rattle.std.proofs.Common.{◌≡◌, ◌≢◌, ℕ, zero, suc, ◌<◌, ◌≤◌, ◌⊎◌, inl, inr, List, [], ◌∷◌, Bool, true, false, length, get_or, refl, sym, ◌∙◌, ap, subst, arith}
-use Rattle.std.specs.Prelude.{Option, Some, None, IsTrue, nat_eq, not, ◌||◌, ◌&&◌, Contains}
-use Rattle.exact_values.specs.Rational.{ℚ, zero_ℚ}
-use Rattle.lp_definitions.specs.LinearProgram.{Matrix, LinearProgram, Vector, IsVariable, with_change}
-use Rattle.lp_definitions.specs.Basis.{Basics, basics_of, exchanged, IsBasis, IsNonsingular, IsPointOf, AreRates, Tableau, IsTableau}
+use Rattle.std.proofs.Common.{◌≡◌, ℕ, zero, suc, ◌<◌, ◌≤◌, inl, inr, List, [], ◌∷◌, true, false, length, get_or, refl, sym, ◌∙◌, ap, subst, arith}
+use Rattle.std.specs.Prelude.{Option, Some, None, not, ◌||◌}
+use Rattle.exact_values.specs.Rational.{ℚ}
+use Rattle.lp_definitions.specs.LinearProgram.{Matrix, LinearProgram}
+use Rattle.lp_definitions.specs.Basis.{Basics, basics_of, IsBasis, IsNonsingular, AreRates, Tableau, IsTableau}
 use Rattle.lp_definitions.specs.Waypoints.{IsWaypoint, IsWithinOne, KeepsWaypoints, waypoint}
 use Rattle.lp_definitions.specs.RatesEvidence.{ExchangeRefused, CarriedRefused, EntryRefused, RowRefused, ExchangeFormula, f1, f2, f3, f4, f5, CarriedFormula, f12_product, f12_sum, f12_quotient, EntryFormula, f11_product, f11_sum}
 use Rattle.lp_definitions.specs.declared.Change.{Change}

@@ -1,23 +1,23 @@
 -- From a refused distance, or that over a rate, to evidence of the call.
-use Rattle.std.proofs.Common.{◌≡◌, ◌≢◌, ℕ, zero, suc, ◌<◌, ◌≤◌, ◌⊎◌, inl, inr, List, [], ◌∷◌, Bool, true, false, cond, refl, sym, ◌∙◌, ap, subst, arith}
+use Rattle.std.proofs.Common.{◌≡◌, ◌≢◌, ℕ, inl, List, [], ◌∷◌, Bool, true, false, refl, sym, ◌∙◌, ap, subst, arith}
 use Rattle.std.specs.Prelude.{Option, Some, None, IsSome, IsTrue, nat_eq, not, ◌||◌, ◌&&◌, Contains}
-use Rattle.exact_values.specs.Rational.{ℚ, zero_ℚ, one_ℚ, ◌-ℚ◌, ◌/ℚ◌}
+use Rattle.exact_values.specs.Rational.{ℚ, zero_ℚ, one_ℚ}
 use Rattle.lp_definitions.specs.LinearProgram.{LinearProgram, Vector, IsVariable, with_change}
-use Rattle.lp_definitions.specs.Basis.{Basics, basics_of, is_in, IsBasis, IsNonsingular, IsNonbasic, IsPointOf, IsDirectionOf, AreRates, Tableau, IsTableau}
-use Rattle.lp_definitions.specs.Waypoints.{IsWaypoint, IsWithinOne, waypoint}
+use Rattle.lp_definitions.specs.Basis.{Basics, basics_of, is_in, IsNonsingular, IsNonbasic, IsPointOf, IsDirectionOf, Tableau, IsTableau}
+use Rattle.lp_definitions.specs.Waypoints.{waypoint}
 use Rattle.lp_definitions.specs.declared.Change.{Change}
 use Rattle.lp_definitions.specs.declared.Evidence.{Evidence}
 use Rattle.lp_definitions.specs.declared.Status.{Status}
 use Rattle.lp_algebra.proofs.Values.{clash}
 use Rattle.lp_algebra.proofs.WaypointLaws.{within_itself}
 use Rattle.lp_algebra.proofs.Uniqueness.{one_direction}
-use Rattle.path_definitions.specs.Moves.{stopper, room, limit_ahead}
+use Rattle.path_definitions.specs.Moves.{stopper, limit_ahead}
 use Rattle.path_laws.proofs.Stoppers.{stopper_none}
 use Rattle.overflow_definitions.specs.Formulas.{PointFormula, f6, f7, f10_product, f10_sum}
-use Rattle.overflow_definitions.specs.Statements.{program_at, thetas_of, SolvingStatement}
-use Rattle.overflow_definitions.specs.Evidence.{ShowsRefusal, Formula, by_point, names_waypoint}
+use Rattle.overflow_definitions.specs.Statements.{thetas_of}
+use Rattle.overflow_definitions.specs.Evidence.{ShowsRefusal, by_point, names_waypoint}
 use Rattle.bounded_primal.specs.Calls.{StopsAt, job_of}
-use Rattle.bounded_primal.specs.Moves.{motion, stopper_of, stop_at, StopperRefused}
+use Rattle.bounded_primal.specs.Moves.{motion, stopper_of, StopperRefused}
 use Rattle.bounded_primal.specs.Reach.{RoomRefused, of_distance, of_quotient}
 use Rattle.bounded_primal.proofs.Existence.{rates_exist}
 

@@ -1,5 +1,5 @@
 -- What an operation gives that need not be made, and the walk of a search.
-use Rattle.std.proofs.Common.{◌≡◌, ◌≢◌, ℕ, suc, ◌+◌, ◌-◌, ◌<◌, List, length, get_or, ◌≤◌, ◌⊎◌, inl, inr, Bool, true, false, sym, ◌∙◌, ap, subst, arith, add-one}
+use Rattle.std.proofs.Common.{◌≡◌, ◌≢◌, ℕ, ◌+◌, ◌-◌, ◌<◌, List, length, get_or, ◌≤◌, ◌⊎◌, inl, inr, Bool, true, false, sym, ◌∙◌, ap, arith}
 use Rattle.std.specs.Prelude.{eqb, Some, None}
 use Rattle.std.proofs.lemmas.Bool.Decides.{eqb_tells}
 use Rattle.exact_values.specs.Rational.{ℚ, zero_ℚ, one_ℚ, neg_ℚ, ◌+ℚ◌, ◌-ℚ◌, ◌*ℚ◌, ◌/ℚ◌, inverse_ℚ}
@@ -7,7 +7,7 @@ use Rattle.exact_values.proofs.Ring_laws.{zero-add, add-zero, zero-mul, mul-zero
 use Rattle.exact_values.proofs.Inverse.{div_is, one_apart}
 use Rattle.lp_algebra.proofs.Values.{sub-zero}
 use Rattle.std.proofs.lemmas.List.{get_or_default}
-use Rattle.lp_definitions.specs.LinearProgram.{LinearProgram, size, IsVariable, value_at}
+use Rattle.lp_definitions.specs.LinearProgram.{LinearProgram, size, value_at}
 use Rattle.lp_definitions.specs.declared.Status.{Status}
 use Rattle.path_definitions.specs.Moves.{least, lowers}
 use Rattle.path_laws.proofs.Searches.{least_is, least_none}

@@ -7,7 +7,6 @@
 --     StopsAt                      the evidence of a call that stays at one basis
 --     PointRefused, RangeRefused   the same, by the formulas of a point or prices, or of a range report
 use Rattle.std.specs.Prelude.{◌≡◌, ℕ, ◌-◌, ◌≤◌, Bool, ◌||◌, List, [], ◌∷◌, ◌++◌, map, length, All, Option, Some, None, Contains, IsTrue, nat_eq}
-use Rattle.exact_values.specs.Rational.{ℚ, zero_ℚ}
 use Rattle.lp_definitions.specs.LinearProgram.{Matrix, LinearProgram}
 use Rattle.lp_definitions.specs.Basis.{Basics, basics_of, IsBasis, IsNonsingular}
 use Rattle.lp_definitions.specs.Waypoints.{IsWithinOne, waypoint}

@@ -4,10 +4,10 @@
 --     IsSoFar a b v n z            z has the values v at the nonbasics, and at the basics their sums over the first n variables
 --     added_at b d v z k           z with v times d added at the basic k
 --     TermRefused                  a product or a sum of that is refused
-use Rattle.std.specs.Prelude.{◌≡◌, ◌≢◌, ℕ, zero, suc, ◌≤◌, Bool, true, not, filter, if◌then◌else◌, List, length}
+use Rattle.std.specs.Prelude.{◌≡◌, ℕ, zero, suc, ◌≤◌, Bool, true, not, filter, if◌then◌else◌, List}
 use Rattle.exact_values.specs.Rational.{ℚ, zero_ℚ, ◌+ℚ◌, ◌*ℚ◌}
 use Rattle.frac128.specs.declared.Op.TheVariants.{Add, Mul}
-use Rattle.lp_definitions.specs.LinearProgram.{Matrix, Vector, numbers_from, IsVariable}
+use Rattle.lp_definitions.specs.LinearProgram.{Matrix, Vector, numbers_from}
 use Rattle.lp_definitions.specs.Basis.{Basics, is_in, IsBasic, IsNonbasic, AreRates}
 use Rattle.lp_definitions.specs.declared.Evidence.{Evidence}
 use Rattle.bounded_primal.specs.Formulas.{IsRefusal}

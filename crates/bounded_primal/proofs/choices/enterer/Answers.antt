@@ -1,5 +1,4 @@
-use Rattle.std.proofs.Common.{◌≡◌, ◌<◌, ◌+◌, length, true, false, sym, ◌∙◌, arith}
-use Rattle.exact_values.specs.Rational.{ℚ}
+use Rattle.std.proofs.Common.{sym, ◌∙◌, arith}
 use Rattle.lp_definitions.specs.LinearProgram.{value_at}
 use Rattle.path_definitions.specs.Moves.{lowers}
 use Rattle.bounded_primal.proofs.Skips.{found_least, found_none, one_more, lowers_at}

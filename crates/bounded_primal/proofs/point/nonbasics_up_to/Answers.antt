@@ -1,6 +1,5 @@
-use Rattle.std.proofs.Common.{◌≡◌, ◌+◌, suc, sym, ◌∙◌, ap, length, arith, add-one}
+use Rattle.std.proofs.Common.{◌+◌, sym, ◌∙◌, ap, arith}
 use Rattle.lp_definitions.specs.Basis.{basics_of}
-use Rattle.bounded_primal.specs.Points.{nonbasics_to}
 use Rattle.bounded_primal.proofs.PointSums.{count-basic, count-nonbasic}
 use Rattle.bounded_primal.proofs.point.nonbasics_up_to.Goals as goal
 

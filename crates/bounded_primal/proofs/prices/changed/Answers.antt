@@ -1,4 +1,4 @@
-use Rattle.std.proofs.Common.{◌≡◌, ◌∙◌, ap}
+use Rattle.std.proofs.Common.{◌∙◌, ap}
 use Rattle.exact_values.specs.Rational.{ℚ, ◌*ℚ◌}
 use Rattle.exact_values.proofs.Ring_laws.{mul-zero}
 use Rattle.bounded_primal.proofs.TermLaws.{OnErr-map}

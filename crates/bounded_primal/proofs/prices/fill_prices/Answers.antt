@@ -1,6 +1,7 @@
-use Rattle.std.proofs.Common.{◌≡◌, Err, rules}
+use Rattle.std.proofs.Common.{◌≡◌, ℕ, Err, None, rules, subst}
 use Rattle.lp_definitions.specs.LinearProgram.{value_at}
 use Rattle.lp_definitions.specs.Basis.{basics_of}
+use Rattle.lp_model.specs.RatesCalls.{IsRowOf}
 use Rattle.lp_algebra.proofs.WaypointLaws.{keeps_then}
 use Rattle.lp_model.proofs.Stops.{IfOverflow-map}
 use Rattle.bounded_primal.proofs.TermLaws.{IfErr-map}
@@ -17,7 +18,10 @@ returns-in_err-row-clause-overflow g c =
 
 pub returns-in-None-clause-prices : goal.returns-in-None-clause-prices
 returns-in-None-clause-prices g c =
-    plain_prices c.args.lp.now c.args.basis.now (value_at c.row.new.out) c.in-None.is (rw (c.requires.rates.same_matrix, c.requires.rates.same_basics) at c.in_ok-row.ensures.rates)
+    let same : c.lp.inside.objective ≡ c.args.lp.now.objective = search rules in
+    let none : c.args.lp.now.change ≡ None = search rules in
+    plain_prices c.args.lp.now c.args.basis.now (value_at c.row.new.out) none
+    (subst (λ (o : ℕ). IsRowOf c.args.lp.now.matrix (basics_of c.args.basis.now) o (value_at c.row.new.out)) same (rw (c.requires.rates.same_matrix, c.requires.rates.same_basics) at c.in_ok-row.ensures.rates))
 
 pub returns-in-Some-clause-waypoints : goal.returns-in-Some-clause-waypoints
 returns-in-Some-clause-waypoints g c =

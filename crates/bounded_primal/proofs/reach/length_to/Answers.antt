@@ -2,7 +2,7 @@ use Rattle.std.proofs.Common.{◌≡◌, Err, rules, arith}
 use Rattle.lp_definitions.specs.LinearProgram.{value_at}
 use Rattle.bounded_primal.proofs.Skips.{value_read}
 use Rattle.bounded_primal.proofs.Lengths.{distance_refused, change_refused, length_is, signed_apart}
-use Rattle.std.proofs.Common.{◌∙◌, sym}
+use Rattle.std.proofs.Common.{◌∙◌}
 use Rattle.bounded_primal.proofs.reach.length_to.Goals as goal
 
 pub returns-in_err-distance-clause-refused : goal.returns-in_err-distance-clause-refused
