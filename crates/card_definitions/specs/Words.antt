@@ -1,5 +1,5 @@
 -- Words on lists and on faults that all definitions of cards share.
-use Rattle.std.specs.Prelude.{Bool, true, false, ◌-◌, ℕ, List, [], ◌∷◌, ◌++◌, Option, Some, None, Result, Ok, Err, take, drop, length, option_map, find, bytes_eq}
+use Rattle.std.specs.Prelude.{Bool, true, false, ◌-◌, ℕ, List, [], ◌∷◌, ◌++◌, Option, Some, None, Result, Ok, Err, take, drop, length, replicate, option_map, find, bytes_eq}
 use Rattle.std.specs.List.{suffix_len, prefix_len, filter_map}
 use Rattle.std.specs.Option.{option_or}
 
@@ -10,6 +10,10 @@ without_trailing p xs = take (length xs - suffix_len p xs) xs
 -- the list without the elements at its front that pass
 abbrev pub without_leading : {X : Type 0} → (X → Bool) → List X → List X
 without_leading p xs = drop (prefix_len p xs) xs
+
+-- a text with blanks behind it up to so many places
+abbrev pub padded : ℕ → List ℕ → List ℕ
+padded width text = text ++ replicate (width - length text) 32
 
 -- whether a list has no element
 abbrev pub is_empty : {X : Type 0} → List X → Bool

@@ -6,7 +6,7 @@ use Rattle.exact_values.specs.Rational.{ℚ}
 use Rattle.lp_definitions.specs.declared.Sense.{Sense}
 use Rattle.lp_definitions.specs.declared.Sense.TheVariants.{Min, Max}
 use Rattle.card_definitions.specs.Words.{named, is_empty, without_trailing}
-use Rattle.card_definitions.specs.Cards.{is_blank}
+use Rattle.card_definitions.specs.Cards.{is_blank, is_printable}
 use Rattle.card_definitions.specs.Numbers.{is_digit, number_of}
 use Rattle.control_definitions.specs.declared.TheConstants.{MAX_STEPS}
 use Rattle.control_definitions.specs.Program.{SetupOptions}
@@ -28,9 +28,9 @@ quotation argument =
 abbrev pub title_argument : List ℕ → Option (List ℕ)
 title_argument argument = option_and_then (if_passes (λ text. nat_le (length text) 60)) (quotation argument)
 
--- a name has 0 to 8 bytes, of which the last isn't a blank
+-- a name has 0 to 8 printable bytes, of which the last isn't a blank
 abbrev pub is_name : List ℕ → Bool
-is_name text = nat_le (length text) 8 && bytes_eq (without_trailing is_blank text) text
+is_name text = nat_le (length text) 8 && list_all is_printable text && bytes_eq (without_trailing is_blank text) text
 
 abbrev pub quoted_name : List ℕ → Option (List ℕ)
 quoted_name argument = option_and_then (if_passes is_name) (quotation argument)

@@ -5,11 +5,11 @@ use Rattle.std.specs.Prelude.{codes}
 use Rattle.std.proofs.lemmas.List.{append_assoc, length-append, length-replicate, take_all}
 use Rattle.std.proofs.Math.Seq.{drop-append_seam, take-append_seam}
 use Rattle.std.proofs.Math.ListN.{drop_of_length-le}
-use Rattle.card_definitions.specs.Words.{without_trailing, without_leading}
+use Rattle.card_definitions.specs.Words.{without_trailing, without_leading, padded}
 use Rattle.card_definitions.specs.Cards.{is_blank}
 use Rattle.card_definitions.specs.Fields.{Fixed, reading_of, columns}
 use Rattle.card_definitions.proofs.Trailing.{without_trailing-append, part_of_trimmed}
-use Rattle.deck_definitions.specs.Written.{padded, data_card}
+use Rattle.deck_definitions.specs.Written.{data_card}
 
 blanks : (n : ℕ) → list_all is_blank (replicate n 32) ≡ true
 blanks zero = refl

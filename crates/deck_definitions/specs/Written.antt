@@ -1,6 +1,6 @@
 -- The deck that is written for a problem.
 use Rattle.std.specs.Prelude.{ℕ, ◌-◌, List, [], ◌∷◌, ◌++◌, codes, if◌then◌else◌, unwrap_or, option_map, map, flat_map, length, replicate, take}
-use Rattle.card_definitions.specs.Words.{without_trailing, is_empty}
+use Rattle.card_definitions.specs.Words.{without_trailing, is_empty, padded}
 use Rattle.card_definitions.specs.Cards.{is_blank}
 use Rattle.problem_definitions.specs.declared.RowKind.{RowKind}
 use Rattle.problem_definitions.specs.declared.RowKind.TheVariants.{N, G, L, E}
@@ -8,10 +8,6 @@ use Rattle.problem_definitions.specs.declared.BoundKind.{BoundKind}
 use Rattle.problem_definitions.specs.declared.BoundKind.TheVariants.{Up, Lo, Fx, Fr, Mi, Pl}
 use Rattle.problem_definitions.specs.Names.{Name}
 use Rattle.problem_definitions.specs.Problem.{Row, Entry, Bound, Group, Problem}
-
--- a text filled up with blanks to a width
-abbrev pub padded : ℕ → List ℕ → List ℕ
-padded width text = text ++ replicate (width - length text) 32
 
 abbrev pub row_kind_text : RowKind → List ℕ
 row_kind_text N = codes "N"

@@ -3,8 +3,8 @@ use Rattle.std.proofs.Common.{◌≡◌, ◌≢◌, ℕ, zero, suc, min, max, �
 use Prim.Native.Nat.{◌∣◌}
 use mir.Val.{bits}
 use lib.Count.{count_trailing_zeros, under}
-use Rattle.std.specs.Int.{IsGcd, abs_diff, trailing_zeros, Width}
-use Rattle.std.proofs.Math.Nat.{one-mul, mul_comm, pow-suc, dvd-mul_left, dvd-mul_right, dvd-mul_right_of_dvd, mul-dvd-mul_right, div-mul_cancel, mul_assoc, mod-eq_of_lt, div-le_self}
+use Rattle.std.specs.Int.{abs_diff, trailing_zeros, Width}
+use Rattle.std.proofs.Math.Nat.{one-mul, mul_comm, pow-suc, dvd-mul_right, mul-dvd-mul_right, div-mul_cancel, mul_assoc, mod-eq_of_lt, div-le_self}
 use Rattle.std.proofs.lemmas.Nat.{div-add-mod', pow_pos, pow-add}
 use Rattle.std.proofs.lemmas.Nat.Gcd.{dvd_refl, dvd_trans, IsGcd-from_sub, le_of_dvd}
 use Rattle.std.proofs.lemmas.Nat.Bits.{bit_at-trailing_zeros}

@@ -1,8 +1,8 @@
--- Tests on rational numbers, which compute.
-use Rattle.std.specs.Prelude.{Bool, not}
+-- Tests on rational numbers, which compute, and magnitudes.
+use Rattle.std.specs.Prelude.{Bool, not, if◌then◌else◌}
 use Rattle.std.specs.Ordering.{is_lt, is_eq}
 use Rattle.std.specs.declared.cmp.Ordering.{Ordering}
-use Rattle.exact_values.specs.Rational.{ℚ, compare_ℚ}
+use Rattle.exact_values.specs.Rational.{ℚ, zero_ℚ, neg_ℚ, compare_ℚ}
 
 -- whether the first of two compared values is below the second
 abbrev pub is_less : Ordering → Bool
@@ -23,3 +23,7 @@ eq_ℚ x y = is_equal (compare_ℚ x y)
 -- whether x is at most y
 abbrev pub le_ℚ : ℚ → ℚ → Bool
 le_ℚ x y = not (lt_ℚ y x)
+
+-- x without its sign
+abbrev pub magnitude : ℚ → ℚ
+magnitude x = if lt_ℚ x zero_ℚ then neg_ℚ x else x

@@ -1,8 +1,8 @@
 -- Worked rows: which sums, products and quotients are refused. M is 2^127 - 1, the largest magnitude that fits.
-use Rattle.std.proofs.Common.{◌≡◌, ◌^◌, ◌-◌, ℕ, ℤ, pos, negsuc, Bool, true, false, refl}
+use Rattle.std.proofs.Common.{◌≡◌, ◌^◌, ◌-◌, ℕ, ℤ, pos, Bool, true, false, refl}
 use Rattle.std.specs.Prelude.{neg_ℤ}
 use Rattle.divisors.specs.Gcd.{gcd}
-use Rattle.exact_values.specs.Rational.{ℚ, whole, fraction, neg_ℚ, inverse_ℚ, reciprocal, ◌+ℚ◌, ◌*ℚ◌}
+use Rattle.exact_values.specs.Rational.{fraction, neg_ℚ, inverse_ℚ, reciprocal, ◌*ℚ◌}
 use Rattle.frac128.specs.Operations.{refuses, shared_factor, raised_numerator, raised_sum, sum_denominator}
 use Rattle.frac128.specs.declared.Op.{Op}
 use Rattle.frac128.specs.declared.Op.TheVariants.{Add, Sub, Mul, Div}

@@ -7,8 +7,7 @@
 use divisors::gcd;
 use frac128::{Frac, Op};
 use std::cmp::Ordering;
-use std::env;
-use std::io;
+use std::{env, io};
 
 /// How many fractions a table has.
 const ROWS: usize = 64;
@@ -49,7 +48,8 @@ struct Outcome {
 
 /// The next of a fixed series of numbers (Knuth's linear generator for 64 bits).
 fn next(seed: u64) -> u64 {
-    seed.wrapping_mul(6364136223846793005).wrapping_add(1442695040888963407)
+    seed.wrapping_mul(6364136223846793005)
+        .wrapping_add(1442695040888963407)
 }
 
 fn fraction(table: Table, a: u64, b: u64, c: u64, d: u64) -> Frac {
@@ -184,7 +184,12 @@ fn report(rt: &impl Print, table: &str, work: &str, turns: u32) -> io::Result<()
 fn main(rt: HostRuntime) -> io::Result<()> {
     let mut words = env::args(&rt)?.skip(1);
     if let (Some(table), Some(work), Some(turns)) = (words.next(), words.next(), words.next()) {
-        return report(&rt, table.as_str(), work.as_str(), turns.as_str().parse().unwrap_or(0));
+        return report(
+            &rt,
+            table.as_str(),
+            work.as_str(),
+            turns.as_str().parse().unwrap_or(0),
+        );
     }
     for table in TABLES {
         for work in WORKS {

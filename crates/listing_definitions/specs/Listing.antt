@@ -1,7 +1,6 @@
 -- The text of a run's end, and the listing of a run.
 --     ending_text ending            the end's own lines
 --     listing reports ending        the whole listing
---     IsFront front whole           the whole begins with front
 use Rattle.std.specs.Prelude.{◌≡◌, ℕ, Bool, true, false, List, [], ◌∷◌, ◌++◌, Option, Some, None, codes, map}
 use Rattle.std.specs.List.{concat, flat_map}
 use Rattle.std.specs.Fmt.{decimal}
@@ -90,7 +89,3 @@ reports_text reports = flat_map report_text reports
 -- The listing of a run is the text of its reports and of its end.
 abbrev pub listing : List Report → Ending → List ℕ
 listing reports ending = reports_text reports ++ ending_text ending
-
--- the whole begins with front
-abbrev pub IsFront : List ℕ → List ℕ → Type 0
-IsFront front whole = (back : List ℕ) × (front ++ back ≡ whole)

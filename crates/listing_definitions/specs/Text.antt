@@ -9,6 +9,7 @@ use Rattle.frac128.specs.declared.Refused.{Refused}
 use Rattle.frac128.specs.Text.{fraction_text}
 use Rattle.lp_definitions.specs.declared.Sense.{Sense}
 use Rattle.lp_definitions.specs.declared.Sense.TheVariants.{Min, Max}
+use Rattle.card_definitions.specs.Words.{padded}
 use Rattle.problem_definitions.specs.Names.{Name}
 use Rattle.listing_definitions.specs.declared.Mark.{Mark}
 use Rattle.listing_definitions.specs.declared.Mark.TheVariants.{Optimal, Infeasible, Unbounded}
@@ -41,7 +42,7 @@ number5 number = replicate (5 - length (decimal number)) 32 ++ decimal number
 
 -- a name at the left of 8 places
 abbrev pub name8 : Name → List ℕ
-name8 name = name ++ replicate (8 - length name) 32
+name8 name = padded 8 name
 
 -- a blank before each value
 abbrev pub values_text : List Value → List ℕ

@@ -1,12 +1,8 @@
 -- Texts that stand in places, with blanks behind them.
-use Rattle.std.specs.Prelude.{◌≡◌, ℕ, List, ◌++◌, length, replicate, take, IsTrue}
+use Rattle.std.specs.Prelude.{◌≡◌, ℕ, List, length, IsTrue}
 use Rattle.std.specs.List.{list_all}
 use Rattle.card_definitions.specs.Words.{without_trailing}
 use Rattle.card_definitions.specs.Cards.{is_blank, is_printable}
-
--- a text with blanks behind it up to so many places
-abbrev pub padded : ℕ → List ℕ → List ℕ
-padded width text = take width (text ++ replicate width 32)
 
 -- the text that stands in these places
 abbrev pub text_in : List ℕ → List ℕ

@@ -10,11 +10,11 @@ use Rattle.std.proofs.lemmas.List.{take-replicate, drop-replicate, length-replic
 use Rattle.std.proofs.lemmas.List.Folds.{list_all-append}
 use Rattle.std.proofs.lemmas.List.Sums.{suffix_len-le-length}
 use Rattle.std.proofs.Math.Seq.{take-append-add, take-length}
-use Rattle.card_definitions.specs.Words.{without_trailing}
+use Rattle.card_definitions.specs.Words.{without_trailing, padded}
 use Rattle.card_definitions.specs.Cards.{is_blank, is_printable}
 use Rattle.card_definitions.proofs.Trailing.{trailing_split, without_trailing-append}
 use Rattle.problem_definitions.specs.Valid.{IsName}
-use Rattle.name_table.specs.Places.{padded, text_in, ArePrintable}
+use Rattle.name_table.specs.Places.{text_in, ArePrintable}
 
 all_blank : (ys : List ℕ) → list_all is_blank ys ≡ true → ys ≡ replicate (length ys) 32
 all_blank [] h = refl
@@ -30,35 +30,28 @@ blanks_pass p zero h = refl
 blanks_pass p (suc n) h = rw h (blanks_pass p n h)
 
 module _ (width : ℕ) where
-  -- a text in its places has blanks behind it
-  padded_is : (text : List ℕ) → length text ≤ width → padded width text ≡ text ++ replicate (width - length text) 32
-  padded_is text short =
-      let sum : length text + (width - length text) ≡ width = omega arith in
-      ap (λ n. take n (text ++ replicate width 32)) (sym sum) ∙ take-append-add text (replicate width 32) (width - length text)
-      ∙ ap (λ zs. text ++ zs) (take-replicate (width - length text) width 32 (omega arith))
-
   pub padded_behind : (text : List ℕ) → length text ≤ width → text ++ drop (length text) (replicate width 32) ≡ padded width text
-  padded_behind text short = ap (λ zs. text ++ zs) (drop-replicate (length text) width 32) ∙ sym (padded_is text short)
+  padded_behind text short = ap (λ zs. text ++ zs) (drop-replicate (length text) width 32)
 
   pub length-padded : (text : List ℕ) → length text ≤ width → length (padded width text) ≡ width
   length-padded text short =
-      ap length (padded_is text short) ∙ length-append text (replicate (width - length text) 32)
+      length-append text (replicate (width - length text) 32)
       ∙ ap (λ n. length text + n) (length-replicate (width - length text) 32) ∙ omega arith
 
   padded-split : (kept ys : List ℕ) → list_all is_blank ys ≡ true → length (kept ++ ys) ≡ width → padded width kept ≡ kept ++ ys
   padded-split kept ys all full =
       let sum : length kept + length ys ≡ width = sym (length-append kept ys) ∙ full in
       let rest : width - length kept ≡ length ys = omega arith in
-      padded_is kept (omega arith) ∙ ap (λ zs. kept ++ zs) (ap (λ n. replicate n 32) rest ∙ sym (all_blank ys all))
+      ap (λ zs. kept ++ zs) (ap (λ n. replicate n 32) rest ∙ sym (all_blank ys all))
 
   -- Places hold their text with blanks behind it.
   pub padded-text_in : (places : List ℕ) → length places ≡ width → padded width (text_in places) ≡ places
   padded-text_in places full = let split = trailing_split is_blank places in padded-split (text_in places) split.0 split.1 (ap length (sym split.2) ∙ full) ∙ sym split.2
 
   -- A text without blanks at its end is what its places hold.
-  pub text_in-padded : (text : List ℕ) → length text ≤ width → without_trailing is_blank text ≡ text → text_in (padded width text) ≡ text
-  text_in-padded text short trimmed =
-      ap text_in (padded_is text short) ∙ without_trailing-append is_blank text (replicate (width - length text) 32) (blanks_pass is_blank (width - length text) refl) ∙ trimmed
+  pub text_in-padded : (text : List ℕ) → without_trailing is_blank text ≡ text → text_in (padded width text) ≡ text
+  text_in-padded text trimmed =
+      without_trailing-append is_blank text (replicate (width - length text) 32) (blanks_pass is_blank (width - length text) refl) ∙ trimmed
 
   -- Places are equal where their texts are.
   pub same_in_places : (a b : List ℕ) → length a ≡ width → length b ≡ width → bytes_eq a b ≡ bytes_eq (text_in a) (text_in b)
@@ -68,12 +61,12 @@ module _ (width : ℕ) where
 
 -- A name's places hold it.
 pub name_in_places : (name : List ℕ) → IsName name → text_in (padded 8 name) ≡ name
-name_in_places name h = text_in-padded 8 name h.short h.trimmed
+name_in_places name h = text_in-padded 8 name h.trimmed
 
 pub placed : (name : List ℕ) → IsName name → ArePrintable (padded 8 name)
 placed name h = record {
   eight = length-padded 8 name h.short;
-  printable = ap (list_all is_printable) (padded_is 8 name h.short) ∙ list_all-append is_printable name (replicate (8 - length name) 32) ∙ rw h.printable (blanks_pass is_printable (8 - length name) refl);
+  printable = list_all-append is_printable name (replicate (8 - length name) 32) ∙ rw h.printable (blanks_pass is_printable (8 - length name) refl);
 }
 
 -- What stands in 8 printable places is a name.

@@ -4,7 +4,7 @@ ghost use Rattle.std.specs.List.{list_all, suffix_len};
 ghost use Rattle.card_definitions.specs.Words.{without_trailing};
 ghost use Rattle.card_definitions.specs.Cards.{is_blank, is_printable};
 ghost use Rattle.problem_definitions.specs.Valid.{IsName};
-ghost use Rattle.name_table.specs.Places.{padded};
+ghost use Rattle.card_definitions.specs.Words.{padded};
 
 use crate::places::{padded, trailing_blanks, without_trailing_blanks};
 use std::hash::{Hash, Hasher};
@@ -22,7 +22,8 @@ pub struct Name {
 
 impl Model for Name {
     ghost use Rattle.problem_definitions.specs.Names.{Name as Text};
-    ghost use Rattle.name_table.specs.Places.{text_in, padded, ArePrintable};
+    ghost use Rattle.card_definitions.specs.Words.{padded};
+    ghost use Rattle.name_table.specs.Places.{text_in, ArePrintable};
     ghost use Rattle.name_table.specs.Places_laws.{padded-text_in};
 
     ghost Value = { Text };

@@ -3,7 +3,7 @@ ghost use Rattle.std.specs.Prelude.{◌≡◌, ◌≤◌, length};
 ghost use Rattle.std.specs.List.{suffix_len};
 ghost use Rattle.card_definitions.specs.Words.{without_trailing};
 ghost use Rattle.card_definitions.specs.Cards.{is_blank};
-ghost use Rattle.name_table.specs.Places.{padded as the_padded};
+ghost use Rattle.card_definitions.specs.Words.{padded as the_padded};
 
 /// The text with blanks behind it.
 #[tactic(auto, using(crate::specs::Places_laws::padded_behind))]

@@ -6,7 +6,7 @@
 use Rattle.std.specs.Prelude.{◌≡◌, ℕ, Bool, not, ◌&&◌, ◌||◌, List, map, Option, Some, None, if◌then◌else◌, nat_le, option_map}
 use Rattle.std.specs.List.{list_all}
 use Rattle.exact_values.specs.Rational.{ℚ, zero_ℚ, neg_ℚ, ◌+ℚ◌, ◌*ℚ◌, ◌/ℚ◌}
-use Rattle.exact_values.specs.Tests.{eq_ℚ, lt_ℚ, le_ℚ}
+use Rattle.exact_values.specs.Tests.{eq_ℚ, lt_ℚ, le_ℚ, magnitude}
 use Rattle.lp_definitions.specs.LinearProgram.{Matrix, LinearProgram, Vector, value_at, variables, lower_of, upper_of, KeepsEquations, with_limits}
 use Rattle.lp_definitions.specs.Basis.{basics_of, is_in, IsNonbasic, Tableau, IsTableau}
 use Rattle.lp_definitions.specs.declared.Status.{Status}
@@ -29,9 +29,6 @@ rhs_family p shift theta = with_limits p (shifted p.matrix shift theta (lower_of
 pub record IsSlope (p : LinearProgram) (s : List Status) (shift : List ℚ) (v : Vector) : Type 0 where
   pub keeps : KeepsEquations p.matrix v
   pub placed : (k : ℕ) → IsNonbasic p.matrix (basics_of s) k → v k ≡ shift_of p.matrix shift k
-
-abbrev pub magnitude : ℚ → ℚ
-magnitude v = if lt_ℚ v zero_ℚ then neg_ℚ v else v
 
 -- p is the linear program at theta, shift its rows' values in the change set, and v the slope
 module _ (p : LinearProgram) (shift : List ℚ) (theta : ℚ) (s : List Status) (t : Tableau) (v : Vector) where

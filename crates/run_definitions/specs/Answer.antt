@@ -15,7 +15,8 @@ use Rattle.control_definitions.specs.Program.{Program}
 use Rattle.control_definitions.specs.Compiled.{compiled}
 use Rattle.listing_definitions.specs.Report.{Report}
 use Rattle.listing_definitions.specs.Ending.{Ending, WordsRefused, ControlStop, CardStop, ReadFault, PrintFault, PunchFault, Memory, status_of}
-use Rattle.listing_definitions.specs.Listing.{listing, IsFront}
+use Rattle.job_devices.specs.Text.{IsFront}
+use Rattle.listing_definitions.specs.Listing.{listing}
 use Rattle.solver_definitions.specs.Solving.{Solving}
 use Rattle.run_definitions.specs.State.{State}
 use Rattle.run_definitions.specs.Moves.{Punches, Goes}

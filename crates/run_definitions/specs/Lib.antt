@@ -1,4 +1,3 @@
-pub mod Cells
 pub mod State
 pub mod Moves
 pub mod Verbs

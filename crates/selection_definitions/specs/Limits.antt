@@ -1,7 +1,7 @@
 -- The limits that a row has by its type, its right-hand side and its range, and those that a column has by its bounds.
 use Rattle.std.specs.Prelude.{ℕ, List, Option, Some, None, if◌then◌else◌, option_map, filter, fold, find, nat_eq}
 use Rattle.exact_values.specs.Rational.{ℚ, zero_ℚ, neg_ℚ}
-use Rattle.exact_values.specs.Tests.{lt_ℚ}
+use Rattle.exact_values.specs.Tests.{lt_ℚ, magnitude}
 use Rattle.frac128.specs.declared.Op.{Op}
 use Rattle.frac128.specs.declared.Op.TheVariants.{Add, Sub}
 use Rattle.frac128.specs.Operations.{value_of}
@@ -24,10 +24,6 @@ abbrev pub value_on : List (Entry ℕ) → ℕ → Option ℚ
 value_on items row = option_map (λ item. item.value.value) (find (λ item. nat_eq item.row row) items)
 
 -- ---- rows
-
--- a value without its sign
-abbrev pub magnitude : ℚ → ℚ
-magnitude v = if lt_ℚ v zero_ℚ then neg_ℚ v else v
 
 -- A range gives a second limit: below the right-hand side for L, above it for G, and for E below it where the range is
 -- negative, else above it.

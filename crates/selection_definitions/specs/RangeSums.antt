@@ -1,12 +1,13 @@
 -- The sums that a selection makes: a row's right-hand side, and the magnitude of its range in the chosen set added or subtracted.
 use Rattle.std.specs.Prelude.{◌≡◌, ℕ, ◌+◌, Some, slice_get}
 use Rattle.exact_values.specs.Rational.{ℚ, zero_ℚ}
+use Rattle.exact_values.specs.Tests.{magnitude}
 use Rattle.frac128.specs.declared.Op.{Op}
 use Rattle.lp_definitions.specs.declared.Evidence.{Evidence}
 use Rattle.lp_definitions.specs.RatesEvidence.{Names, Refuses}
 use Rattle.problem_definitions.specs.Problem.{Row, Problem}
 use Rattle.selection_definitions.specs.Choice.{Choice}
-use Rattle.selection_definitions.specs.Limits.{magnitude, range_operation}
+use Rattle.selection_definitions.specs.Limits.{range_operation}
 use Rattle.selection_definitions.specs.Selection.{rhs_of, range_of}
 
 -- the formula of these sums

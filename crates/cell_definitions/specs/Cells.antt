@@ -2,6 +2,7 @@
 --     default_cells                         what they are at the start of a run, and after INITIALZ
 --     move_name, move_number, move_limit    a cell that was moved
 --     set_demand                            a demand that was set to a position
+--     name_in, demand_in                    what a cell and a demand hold
 use Rattle.std.specs.Prelude.{ℕ, Option, Some, None}
 use Rattle.exact_values.specs.Rational.{ℚ, zero_ℚ}
 use Rattle.problem_definitions.specs.Names.{Name}
@@ -63,3 +64,18 @@ move_limit limit cells = record cells { xiterlim = limit }
 abbrev pub set_demand : Demand → ℕ → Cells → Cells
 set_demand Xdonfs position cells = record cells { xdonfs = Some position }
 set_demand Xdounb position cells = record cells { xdounb = Some position }
+
+-- the name that was moved to a cell last
+abbrev pub name_in : NameCell → Cells → Option Name
+name_in Xdata cells = cells.xdata
+name_in Xpbname cells = cells.xpbname
+name_in Xobj cells = cells.xobj
+name_in Xrhs cells = cells.xrhs
+name_in Xoldname cells = cells.xoldname
+name_in Xchrow cells = cells.xchrow
+name_in Xchcol cells = cells.xchcol
+
+-- the position that a demand was set to last
+abbrev pub demand_in : Demand → Cells → Option ℕ
+demand_in Xdonfs cells = cells.xdonfs
+demand_in Xdounb cells = cells.xdounb

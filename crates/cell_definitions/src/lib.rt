@@ -1,0 +1,2 @@
+//! The cells and demands of a run: definitions alone.
+#![tactic(auto)]

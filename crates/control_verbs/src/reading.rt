@@ -1,0 +1,142 @@
+// The verb that a card says, with its arguments.
+ghost use Rattle.std.specs.Prelude.{◌≡◌, option_map};
+ghost use Rattle.control_definitions.specs.Statements.{With as TheParts, Without as NoParts, split_outside, is_comma};
+ghost use Rattle.control_definitions.specs.Verbs as verbs;
+ghost use Rattle.control_text.specs.Pieces.{arguments_shown};
+ghost use Rattle.control_verbs.specs.Shown.{shown, cell_shown, word_shown, plain_shown};
+
+use crate::given::{label_in, limit_in, name_in, number_in, title_in};
+use crate::options::options_in;
+use crate::tables::{Cell, Plain, VerbWord, cell_of, demand_of, verb_word_of};
+use crate::verb::{SetupOptions, Verb};
+use control_text::{Arguments, arguments_of, one_argument, statement, two_arguments, verb_word};
+use lp_definitions::Sense;
+use name_table::Name;
+
+impl Plain {
+    // The verb.
+    fn verb(self) -> Verb<Name>
+        ensures { shown result ≡ plain_shown self }
+    {
+        match self {
+            Plain::Initialz => Verb::Initialz,
+            Plain::Convert => Verb::Convert,
+            Plain::Primal => Verb::Primal,
+            Plain::Revise => Verb::Revise,
+            Plain::Ranging => Verb::Ranging,
+            Plain::Paraobj => Verb::Paraobj,
+            Plain::Pararhs => Verb::Pararhs,
+            Plain::Solution => Verb::Solution,
+            Plain::Bcdout => Verb::Bcdout,
+            Plain::Exit => Verb::Exit,
+        }
+    }
+}
+
+// MOVE of a cell to an argument of its kind.
+fn moved(cell: Cell, argument: &[u8]) -> Option<Verb<Name>>
+    ensures { option_map shown result ≡ verbs.moved (cell_shown cell) argument.now }
+{
+    match cell {
+        Cell::OfName(cell) => Some(Verb::MoveName(cell, name_in(argument)?)),
+        Cell::OfNumber(cell) => Some(Verb::MoveNumber(cell, number_in(argument)?)),
+        Cell::OfLimit => Some(Verb::MoveLimit(limit_in(argument)?)),
+    }
+}
+
+// TITLE with the arguments between its parentheses.
+#[tactic(auto, using(crate::proofs::Forms::of_title))]
+fn title_with(text: &[u8]) -> Option<Verb<Name>>
+    ensures { option_map shown result ≡ verbs.verb_with verbs.TakesTitle (TheParts (split_outside is_comma text.now)) }
+{
+    Some(Verb::Title(title_in(one_argument(text)?)?))
+}
+
+// MOVE with the arguments between its parentheses.
+#[tactic(auto, using(crate::proofs::Forms::of_cell))]
+fn move_with(text: &[u8]) -> Option<Verb<Name>>
+    ensures { option_map shown result ≡ verbs.verb_with verbs.TakesCell (TheParts (split_outside is_comma text.now)) }
+{
+    let (cell, argument) = two_arguments(text)?;
+    moved(cell_of(cell)?, argument)
+}
+
+// MVADR with the arguments between its parentheses.
+#[tactic(auto, using(crate::proofs::Forms::of_demand))]
+fn mvadr_with(text: &[u8]) -> Option<Verb<Name>>
+    ensures { option_map shown result ≡ verbs.verb_with verbs.TakesDemand (TheParts (split_outside is_comma text.now)) }
+{
+    let (demand, label) = two_arguments(text)?;
+    let demand = demand_of(demand)?;
+    Some(Verb::Mvadr(demand, label_in(label)?))
+}
+
+// GOTO with the arguments between its parentheses.
+#[tactic(auto, using(crate::proofs::Forms::of_label))]
+fn goto_with(text: &[u8]) -> Option<Verb<Name>>
+    ensures { option_map shown result ≡ verbs.verb_with verbs.TakesLabel (TheParts (split_outside is_comma text.now)) }
+{
+    Some(Verb::Goto(label_in(one_argument(text)?)?))
+}
+
+// SETUP with the arguments between its parentheses.
+fn setup_with(text: &[u8]) -> Option<Verb<Name>>
+    ensures { option_map shown result ≡ verbs.verb_with verbs.TakesOptions (TheParts (split_outside is_comma text.now)) }
+{
+    Some(Verb::Setup(options_in(text)?))
+}
+
+// SETUP without parentheses: no set, and the least objective.
+fn plain_setup() -> Verb<Name>
+    ensures { Some (shown result) ≡ verbs.verb_with verbs.TakesOptions NoParts }
+{
+    Verb::Setup(SetupOptions {
+        bound: None,
+        range: None,
+        sense: Sense::Min,
+    })
+}
+
+// The verb of a word with the arguments between its parentheses.
+fn verb_with(word: VerbWord, text: &[u8]) -> Option<Verb<Name>>
+    ensures { option_map shown result ≡ verbs.verb_with (word_shown word) (TheParts (split_outside is_comma text.now)) }
+{
+    match word {
+        VerbWord::Alone(_) => None,
+        VerbWord::TakesTitle => title_with(text),
+        VerbWord::TakesCell => move_with(text),
+        VerbWord::TakesDemand => mvadr_with(text),
+        VerbWord::TakesLabel => goto_with(text),
+        VerbWord::TakesOptions => setup_with(text),
+        VerbWord::EndsProgram => None,
+    }
+}
+
+// The verb of a word without parentheses.
+fn verb_without(word: VerbWord) -> Option<Verb<Name>>
+    ensures { option_map shown result ≡ verbs.verb_with (word_shown word) NoParts }
+{
+    match word {
+        VerbWord::Alone(plain) => Some(plain.verb()),
+        VerbWord::TakesOptions => Some(plain_setup()),
+        VerbWord::TakesTitle => None,
+        VerbWord::TakesCell => None,
+        VerbWord::TakesDemand => None,
+        VerbWord::TakesLabel => None,
+        VerbWord::EndsProgram => None,
+    }
+}
+
+/// The verb of a card with its arguments, where these have the table's form. PEND has none.
+#[tactic(auto, unfolding(control_definitions::specs::Verbs::verb_of), using(crate::proofs::Forms::of_no_form))]
+pub fn verb_of(card: &[u8]) -> Option<Verb<Name>>
+    ensures { option_map shown result ≡ verbs.verb_of card.now }
+{
+    let statement = statement(card);
+    let word = verb_word_of(verb_word(statement))?;
+    match arguments_of(statement) {
+        Arguments::Without => verb_without(word),
+        Arguments::Malformed => None,
+        Arguments::With(text) => verb_with(word, text),
+    }
+}

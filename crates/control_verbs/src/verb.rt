@@ -1,0 +1,46 @@
+// Statements, and their verbs with their arguments.
+
+use crate::text::Text;
+use control_definitions::{Demand, NameCell, NumberCell};
+use frac128::Frac;
+use lp_definitions::Sense;
+use name_table::Name;
+
+/// The sets that SETUP names, if it does, and whether it wants the least or the greatest objective.
+#[derive(Clone, Copy, Debug)]
+pub struct SetupOptions {
+    pub bound: Option<Name>,
+    pub range: Option<Name>,
+    pub sense: Sense,
+}
+
+/// A verb with its arguments. `L` is what stands for a label: its name on a card, and a position in a program. A position is
+/// the number of a statement, from 1, or one more than their count for the program's end.
+#[derive(Debug, Drop)]
+pub enum Verb<L> {
+    Initialz,
+    Title(Text),
+    MoveName(NameCell, Name),
+    MoveNumber(NumberCell, Frac),
+    /// The steps that one verb may take.
+    MoveLimit(u32),
+    Mvadr(Demand, L),
+    Goto(L),
+    Convert,
+    Setup(SetupOptions),
+    Primal,
+    Revise,
+    Ranging,
+    Paraobj,
+    Pararhs,
+    Solution,
+    Bcdout,
+    Exit,
+}
+
+/// A verb with the number of its card.
+#[derive(Debug, Drop)]
+pub struct Statement<L> {
+    pub card: u32,
+    pub verb: Verb<L>,
+}

@@ -1,0 +1,108 @@
+// The rows, columns and sets of a problem. Rows and columns are numbered from 1.
+
+use deck_fields::Decimal;
+use name_table::Name;
+use problem_definitions::{BoundKind, RowKind};
+use std::marker::Model;
+
+/// A row: its type and its name.
+#[derive(Clone, Copy, Debug)]
+pub struct RowDecl {
+    pub kind: RowKind,
+    pub name: Name,
+}
+
+impl Model for RowDecl {
+    ghost use Rattle.problem_definitions.specs.Problem.{Row};
+
+    ghost Value = { Row };
+
+    ghost view = { λ row. record { kind = row.kind; name = row.name } };
+
+    ghost inverse = { λ row. record { kind = row.kind; name = row.name } };
+}
+
+/// A number on a row: an entry of a column, or an item of a right-hand side or range set.
+#[derive(Clone, Copy, Debug)]
+pub struct DeckEntry {
+    pub row: u32,
+    pub value: Decimal,
+}
+
+impl Model for DeckEntry {
+    ghost use Rattle.std.specs.Prelude.{ℕ};
+    ghost use Rattle.problem_definitions.specs.Problem.{Entry};
+
+    ghost Value = { Entry ℕ };
+
+    ghost view = { λ entry. record { row = entry.row; value = entry.value } };
+
+    ghost inverse = { λ entry. record { row = entry.row; value = entry.value } };
+}
+
+/// A column with its entries, in deck order.
+#[derive(Debug, Drop)]
+pub struct ColumnDecl {
+    pub name: Name,
+    pub entries: Vec<DeckEntry>,
+}
+
+impl Model for ColumnDecl {
+    ghost use Rattle.std.specs.Prelude.{ℕ};
+    ghost use Rattle.problem_definitions.specs.Problem.{Entry, Group};
+
+    ghost Value = { Group (Entry ℕ) };
+
+    ghost view = { λ column. record { name = column.name; items = column.entries.items } };
+}
+
+/// A set of right-hand sides or of ranges with its items, in deck order.
+#[derive(Debug, Drop)]
+pub struct ValueSet {
+    pub name: Name,
+    pub items: Vec<DeckEntry>,
+}
+
+impl Model for ValueSet {
+    ghost use Rattle.std.specs.Prelude.{ℕ};
+    ghost use Rattle.problem_definitions.specs.Problem.{Entry, Group};
+
+    ghost Value = { Group (Entry ℕ) };
+
+    ghost view = { λ set. record { name = set.name; items = set.items.items } };
+}
+
+/// A bound on a column. The value is there exactly where the type takes one: for `Up`, `Lo` and `Fx`.
+#[derive(Clone, Copy, Debug)]
+pub struct BoundItem {
+    pub kind: BoundKind,
+    pub column: u32,
+    pub value: Option<Decimal>,
+}
+
+impl Model for BoundItem {
+    ghost use Rattle.std.specs.Prelude.{ℕ};
+    ghost use Rattle.problem_definitions.specs.Problem.{Bound};
+
+    ghost Value = { Bound ℕ };
+
+    ghost view = { λ bound. record { kind = bound.kind; column = bound.column; value = bound.value } };
+
+    ghost inverse = { λ bound. record { kind = bound.kind; column = bound.column; value = bound.value } };
+}
+
+/// A set of bounds with its items, in deck order.
+#[derive(Debug, Drop)]
+pub struct BoundSet {
+    pub name: Name,
+    pub items: Vec<BoundItem>,
+}
+
+impl Model for BoundSet {
+    ghost use Rattle.std.specs.Prelude.{ℕ};
+    ghost use Rattle.problem_definitions.specs.Problem.{Bound, Group};
+
+    ghost Value = { Group (Bound ℕ) };
+
+    ghost view = { λ set. record { name = set.name; items = set.items.items } };
+}

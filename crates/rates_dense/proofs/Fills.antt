@@ -1,0 +1,63 @@
+-- Lists that a loop fills place by place, and the refusals on the way.
+use Rattle.std.proofs.Common.{◌≡◌, ◌≢◌, ℕ, ◌+◌, ◌-◌, ◌<◌, ◌≤◌, List, length, get_or, set, sym, ap, ◌∙◌, arith, below_more, subst}
+use Rattle.std.proofs.lemmas.Bool.{eq-eqb, ne_eqb}
+use Rattle.std.proofs.lemmas.List.{get_or-set_same, get_or-set_other, get_or_read}
+use Rattle.exact_values.specs.Rational.{ℚ, zero_ℚ, ◌-ℚ◌, ◌*ℚ◌}
+use Rattle.frac128.specs.declared.Op.TheVariants.{Sub, Mul, Div}
+use Rattle.lp_definitions.specs.declared.Evidence.{Evidence}
+use Rattle.lp_definitions.specs.LinearProgram.{value_at}
+use Rattle.rates_dense.specs.Lines.{IsFilled, staying_rate}
+use Rattle.rates_dense.specs.Refusals.{IsRefusal, IsDifferenceRefused, by_product, by_difference, QuotientRefused, of_rate, StayingRefused, of_product, of_difference, of_multiple}
+
+-- one more place is filled
+pub filled_more : (xs : List ℚ) (n : ℕ) (v : ℚ) (f : ℕ → ℚ) → n < length xs → ((k : ℕ) → k < n → get_or xs k zero_ℚ ≡ f (k + 1)) → v ≡ f (n + 1) → (k : ℕ) → k < n + 1 → get_or (set xs n v) k zero_ℚ ≡ f (k + 1)
+filled_more xs n v f within so_far is_next =
+    below_more (λ k. get_or (set xs n v) k zero_ℚ ≡ f (k + 1)) n
+    (λ k below. let other : k ≢ n = omega arith in get_or-set_other xs n k v zero_ℚ other ∙ so_far k below)
+    (get_or-set_same xs n v zero_ℚ within ∙ is_next)
+
+-- a filled list has each variable's value
+pub filled_at : (xs : List ℚ) (f : ℕ → ℚ) → IsFilled xs f → (j : ℕ) → 1 ≤ j → j ≤ length xs → value_at xs j ≡ f j
+filled_at xs f filled j low high =
+    let same : j - 1 + 1 ≡ j = omega arith in
+    filled (j - 1) (omega arith) ∙ ap f same
+
+-- what a loop reads is the value of the next variable
+pub read_at : (xs : List ℚ) (k : ℕ) (v : ℚ) → k < length xs → v ≡ get_or xs k v → v ≡ value_at xs (k + 1)
+read_at xs k v within is = let same : k + 1 - 1 ≡ k = omega arith in get_or_read xs k v within is zero_ℚ ∙ ap (λ n. get_or xs n zero_ℚ) (sym same)
+
+-- and at a variable's own place
+pub read_of : (xs : List ℚ) (j : ℕ) (v : ℚ) → 1 ≤ j → j ≤ length xs → v ≡ get_or xs (j - 1) v → v ≡ value_at xs j
+read_of xs j v low high is = let within : j - 1 < length xs = omega arith in get_or_read xs (j - 1) v within is zero_ℚ
+
+pub rate_refused : (p q : ℕ) (rates : List ℚ) (k : ℕ) (v pivot : ℚ) (e : Evidence) → k < length rates → v ≡ value_at rates (k + 1) → pivot ≡ value_at rates q → v ≢ zero_ℚ → IsRefusal 1 p q 0 (k + 1) Div v pivot e → QuotientRefused p q rates e
+rate_refused p q rates k v pivot e within at_k at_q apart refusal =
+    of_rate (k + 1) (omega arith) (omega arith) (λ zero. apart (at_k ∙ zero))
+    (subst (λ x. IsRefusal 1 p q 0 (k + 1) Div x (value_at rates q) e) at_k (subst (λ y. IsRefusal 1 p q 0 (k + 1) Div v y e) at_q refusal))
+
+pub rest_refused : (i p q : ℕ) (quotients rates : List ℚ) (k : ℕ) (v quotient factor : ℚ) (e : Evidence) → k < length rates → v ≡ value_at rates (k + 1) → quotient ≡ value_at quotients (k + 1) → factor ≡ value_at rates q → k + 1 ≢ p → IsDifferenceRefused p q i (k + 1) v quotient factor e → StayingRefused i p q quotients rates e
+rest_refused i p q quotients rates k v quotient factor e within at_v at_quotient at_factor other (by_product apart refusal) =
+    of_product (k + 1) (omega arith) (omega arith) other (λ zero. apart (at_quotient ∙ zero))
+    (subst (λ x. IsRefusal 2 p q i (k + 1) Mul x (value_at rates q) e) at_quotient (subst (λ y. IsRefusal 2 p q i (k + 1) Mul quotient y e) at_factor refusal))
+rest_refused i p q quotients rates k v quotient factor e within at_v at_quotient at_factor other (by_difference apart refusal) =
+    of_difference (k + 1) (omega arith) (omega arith) other (λ zero. apart (at_quotient ∙ zero))
+    (subst (λ x. IsRefusal 3 p q i (k + 1) Sub x (value_at quotients (k + 1) *ℚ value_at rates q) e) at_v
+    (subst (λ x. IsRefusal 3 p q i (k + 1) Sub v (x *ℚ value_at rates q) e) at_quotient (subst (λ y. IsRefusal 3 p q i (k + 1) Sub v (quotient *ℚ y) e) at_factor refusal)))
+
+pub multiple_refused : (i p q : ℕ) (quotients rates : List ℚ) (k : ℕ) (quotient factor : ℚ) (e : Evidence) → quotient ≡ value_at quotients (k + 1) → factor ≡ value_at rates q → k + 1 ≡ p → IsRefusal 5 p q i 0 Mul quotient factor e → StayingRefused i p q quotients rates e
+multiple_refused i p q quotients rates k quotient factor e at_quotient at_factor same refusal =
+    let at_p : quotient ≡ value_at quotients p = at_quotient ∙ ap (value_at quotients) same in
+    of_multiple (subst (λ x. IsRefusal 5 p q i 0 Mul x (value_at rates q) e) at_p (subst (λ y. IsRefusal 5 p q i 0 Mul quotient y e) at_factor refusal))
+
+-- the rate of a basic that stays: at the enterer, at the leaver, and elsewhere
+pub staying_at_enterer : (p q : ℕ) (quotients rates : List ℚ) (j : ℕ) → j ≡ q → zero_ℚ ≡ staying_rate p q quotients rates j
+staying_at_enterer p q quotients rates j same = rw (eq-eqb j q same)
+
+pub staying_at_leaver : (p q : ℕ) (quotients rates : List ℚ) (j : ℕ) (quotient factor v : ℚ) → j ≢ q → j ≡ p → quotient ≡ value_at quotients j → factor ≡ value_at rates q → v ≡ quotient *ℚ factor → v ≡ staying_rate p q quotients rates j
+staying_at_leaver p q quotients rates j quotient factor v other same at_quotient at_factor is_v =
+    rw (ne_eqb j q other, eq-eqb j p same) (is_v ∙ ap (λ x. x *ℚ factor) at_quotient ∙ ap (λ y. value_at quotients j *ℚ y) at_factor)
+
+pub staying_elsewhere : (p q : ℕ) (quotients rates : List ℚ) (j : ℕ) (rate quotient factor v : ℚ) → j ≢ q → j ≢ p → rate ≡ value_at rates j → quotient ≡ value_at quotients j → factor ≡ value_at rates q → v ≡ rate -ℚ quotient *ℚ factor → v ≡ staying_rate p q quotients rates j
+staying_elsewhere p q quotients rates j rate quotient factor v not_q not_p at_rate at_quotient at_factor is_v =
+    rw (ne_eqb j q not_q, ne_eqb j p not_p)
+    (is_v ∙ ap (λ r. r -ℚ quotient *ℚ factor) at_rate ∙ ap (λ x. value_at rates j -ℚ x *ℚ factor) at_quotient ∙ ap (λ y. value_at rates j -ℚ value_at quotients j *ℚ y) at_factor)

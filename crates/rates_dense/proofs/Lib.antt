@@ -1,0 +1,9 @@
+mod Values
+mod Fills
+mod LineSteps
+mod NewLines
+mod Directions
+mod Tables
+mod Exchanges
+mod RefusedLaws
+mod OpeningTable

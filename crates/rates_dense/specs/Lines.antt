@@ -1,0 +1,62 @@
+-- A line of the table, and what an exchange of p for q makes of it. A list has the value of variable k + 1 at place k.
+--     IsFilled xs f                the list has f of each variable
+--     quotient_at p q rates j      the leaver's rate over the pivot, which is its rate at q; 1 over the pivot at p itself
+--     AreQuotients p q rates quotients         the list of all these
+--     entering_rate p q quotients j            the rate at j of the basic that enters
+--     staying_rate p q quotients rates j       the rate at j of a basic that stays, from its rates before
+--     HasPlaces n line             the line has this number of places, twice
+--     LineByLine R old new         R holds of each line before and after
+--     SameRates old new            the line has the same rates; only the room beside them may differ
+--     IsReady p q quotients line   the rates after the exchange stand ready, where they change
+--     IsCommitted p q old new      they were taken
+--     IsExchanged p q quotients old new        both, one after the other
+use Rattle.std.specs.Prelude.{◌≡◌, ◌≢◌, ℕ, ◌+◌, ◌<◌, List, length, slice_index_or, nat_eq, if◌then◌else◌}
+use Rattle.exact_values.specs.Rational.{ℚ, zero_ℚ, one_ℚ, neg_ℚ, ◌-ℚ◌, ◌*ℚ◌, ◌/ℚ◌}
+use Rattle.lp_definitions.specs.LinearProgram.{value_at}
+use Rattle.rates_dense.specs.declared.line.Line.{Line}
+
+abbrev pub IsFilled : List ℚ → (ℕ → ℚ) → Type 0
+IsFilled xs f = (k : ℕ) → k < length xs → slice_index_or xs k zero_ℚ ≡ f (k + 1)
+
+abbrev pub quotient_at : ℕ → ℕ → List ℚ → ℕ → ℚ
+quotient_at p q rates j = (if nat_eq j p then one_ℚ else value_at rates j) /ℚ value_at rates q
+
+pub record AreQuotients (p q : ℕ) (rates quotients : List ℚ) : Type 0 where
+  pub counted : length quotients ≡ length rates
+  pub filled : IsFilled quotients (quotient_at p q rates)
+
+abbrev pub entering_rate : ℕ → ℕ → List ℚ → ℕ → ℚ
+entering_rate p q quotients j =
+    if nat_eq j q then zero_ℚ else (if nat_eq j p then value_at quotients j else neg_ℚ (value_at quotients j))
+
+abbrev pub staying_rate : ℕ → ℕ → List ℚ → List ℚ → ℕ → ℚ
+staying_rate p q quotients rates j =
+    if nat_eq j q then zero_ℚ
+    else (if nat_eq j p then value_at quotients j *ℚ value_at rates q else value_at rates j -ℚ value_at quotients j *ℚ value_at rates q)
+
+pub record HasPlaces (n : ℕ) (line : Line) : Type 0 where
+  pub places : length line.rates.items ≡ n
+  pub room : length line.next.items ≡ n
+
+abbrev pub LineByLine : (Line → Line → Type 0) → List Line → List Line → Type 0
+LineByLine R old new = (slot : ℕ) (d : Line) → slot < length old → R (slice_index_or old slot d) (slice_index_or new slot d)
+
+pub record SameRates (old new : Line) : Type 0 where
+  pub same_basic : new.basic ≡ old.basic
+  pub same_rates : new.rates ≡ old.rates
+  pub same_room : length new.next.items ≡ length old.next.items
+
+pub record IsReady (p q : ℕ) (quotients : List ℚ) (line : Line) : Type 0 where
+  pub entering : line.basic ≡ p → IsFilled line.next.items (entering_rate p q quotients)
+  pub staying : line.basic ≢ p → value_at line.rates.items q ≢ zero_ℚ → IsFilled line.next.items (staying_rate p q quotients line.rates.items)
+
+pub data IsCommitted (p q : ℕ) (old new : Line) : Type 0 where
+  enterer_line : old.basic ≡ p → new.basic ≡ q → new.rates ≡ old.next → new.next ≡ old.rates → IsCommitted p q old new
+  changed_line : old.basic ≢ p → value_at old.rates.items q ≢ zero_ℚ → new.basic ≡ old.basic → new.rates ≡ old.next → new.next ≡ old.rates → IsCommitted p q old new
+  same_line : old.basic ≢ p → value_at old.rates.items q ≡ zero_ℚ → new ≡ old → IsCommitted p q old new
+
+pub record IsExchanged (p q : ℕ) (quotients : List ℚ) (old new : Line) : Type 0 where
+  pub ready : Line
+  pub same : SameRates old ready
+  pub is_ready : IsReady p q quotients ready
+  pub committed : IsCommitted p q ready new

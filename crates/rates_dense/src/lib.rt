@@ -1,0 +1,230 @@
+//! The rates of a matrix as a table: a line for each basic variable, with a place for each variable.
+#![tactic(auto)]
+
+ghost use Rattle.std.specs.Prelude.{◌≡◌, ◌≢◌, ◌<◌, ◌≤◌, ◌^◌, length, All, Contains, IfOk, IfErr, IsOk, OnOk, OnErr, []};
+ghost use Rattle.std.specs.List.{HoldsAt};
+ghost use Rattle.exact_values.specs.Rational.{zero_ℚ};
+ghost use Rattle.lp_definitions.specs.LinearProgram.{size, value_at, Vector, IsVariable};
+ghost use Rattle.lp_definitions.specs.Basis.{IsBasic, IsNonbasic, IsDirectionOf, exchanged, row_basics};
+ghost use Rattle.lp_definitions.specs.Waypoints.{KeepsWaypoints, waypoint};
+ghost use Rattle.lp_model.specs.RatesCalls.{IsRowOf, HasPivot, ExchangeOverflow};
+ghost use Rattle.rates_dense.specs.Lines.{AreQuotients, HasPlaces, LineByLine, SameRates, IsReady, IsCommitted, IsExchanged};
+ghost use Rattle.rates_dense.specs.Placed.{IsPlaced};
+ghost use Rattle.rates_dense.specs.Inverse.{HasRates};
+ghost use Rattle.rates_dense.specs.Refusals.{SomeLineRefused, LinesRefused, IsOwnOverflow};
+
+mod line;
+mod opening;
+
+use frac128::Frac;
+use line::{Line, fill_quotients};
+use lp_model::{Engine, Entry, Evidence, Lp, NoMemory, Rates, Stop};
+use opening::{opening_lines, opening_marks, opening_slots};
+use std::alloc::Global;
+use std::marker::Model;
+
+/// A set of basics of one matrix, with all its rates. Only `new` takes memory: room for the table, and as much for the lines that
+/// an exchange makes.
+#[derive(Drop)]
+pub struct Dense {
+    rows: u32,
+    cols: u32,
+    columns: Vec<Vec<Entry>>,
+    marks: Vec<bool>,
+    slots: Vec<u32>,
+    lines: Vec<Line>,
+    quotients: Vec<Frac>,
+}
+
+impl Model for Dense {
+    ghost use Rattle.rates_dense.specs.Inverse.{Inverse};
+
+    ghost Value = { Inverse };
+
+    ghost use Rattle.rates_dense.specs.Table.{inverse_of, IsTable};
+
+    ghost view = { inverse_of };
+
+    ghost invariant = { IsTable };
+}
+
+/// Makes the lines ready for an exchange of `p` for `q`.
+fn prepare_lines(lines: &mut [Line], p: u32, q: u32, quotients: &[Frac]) -> Result<(), Evidence>
+    requires q_low { 1 ≤ q }
+    requires q_high { q ≤ length quotients.now }
+    requires small { length quotients.now < 2 ^ 32 }
+    requires places { All (HasPlaces (length quotients.now)) lines.old }
+    ensures same { LineByLine SameRates lines.old lines.new }
+    ensures ready { OnOk result (All (IsReady p q quotients.now) lines.new) }
+    ensures refused { IfErr result (SomeLineRefused p q quotients.now lines.old) }
+{
+    for line in lines.iter_mut() {
+        line.prepare(p, q, quotients)?;
+    }
+    Ok(())
+}
+
+/// Takes what was made ready.
+fn commit_lines(lines: &mut [Line], p: u32, q: u32)
+    requires q_low { 1 ≤ q }
+    requires places { All (λ line. q ≤ length line.rates.items) lines.old }
+    ensures { LineByLine (IsCommitted p q) lines.old lines.new }
+{
+    for line in lines.iter_mut() {
+        line.commit(p, q);
+    }
+}
+
+/// The line of the basic `k`.
+fn line_of<'a>(slots: &[u32], lines: &'a [Line], k: u32) -> &'a Line
+    requires low { 1 ≤ k }
+    requires high { k ≤ length slots.now }
+    requires placed { IsPlaced slots.now lines.now k }
+    ensures own { result.now.basic ≡ k }
+    ensures one { Contains lines.now result.now }
+{
+    &lines[slots[k as usize - 1] as usize]
+}
+
+/// Makes the lines after an exchange of `p`, whose line has this slot, for `q`. `quotients` is room for the leaver's rates over the
+/// pivot.
+fn exchange_lines(
+    lines: &mut [Line],
+    slot: usize,
+    p: u32,
+    q: u32,
+    quotients: &mut [Frac],
+) -> Result<(), Evidence>
+    requires q_low { 1 ≤ q }
+    requires q_high { q ≤ length quotients.old }
+    requires small { length quotients.old < 2 ^ 32 }
+    requires places { All (HasPlaces (length quotients.old)) lines.old }
+    requires slot { slot < length lines.old }
+    requires pivot { HoldsAt (λ leaver. value_at leaver.rates.items q ≢ zero_ℚ) lines.old slot }
+    ensures quotients { OnOk result (HoldsAt (λ leaver. AreQuotients p q leaver.rates.items quotients.new) lines.old slot) }
+    ensures lines { OnOk result (LineByLine (IsExchanged p q quotients.new) lines.old lines.new) }
+    ensures err { OnErr result (LineByLine SameRates lines.old lines.new) }
+    ensures refused { IfErr result (LinesRefused p q lines.old slot) }
+{
+    fill_quotients(&lines[slot].rates, p, q, quotients)?;
+    prepare_lines(lines, p, q, quotients)?;
+    commit_lines(lines, p, q);
+    Ok(())
+}
+
+impl Dense {
+    /// The number of variables. The basics have rates.
+    fn size(&self) -> u32
+        ensures size { result ≡ size self.now.matrix }
+        ensures rates { HasRates self.now.matrix self.now.basics }
+    {
+        self.rows + self.cols
+    }
+
+    /// The entry at `k` of the direction of the nonbasic `j`.
+    fn entry(&self, j: u32, k: u32) -> Frac
+        requires nonbasic { IsNonbasic self.now.matrix self.now.basics j }
+        requires variable { IsVariable self.now.matrix k }
+        ensures { (d : Vector) → IsDirectionOf self.now.matrix self.now.basics j d → result ≡ d k }
+    {
+        if self.marks[k as usize - 1] {
+            line_of(&self.slots, &self.lines, k).rates[j as usize - 1]
+        } else if k == j {
+            Frac::whole(1)
+        } else {
+            Frac::whole(0)
+        }
+    }
+
+    /// All rows are basic.
+    pub fn new(alloc: Global, lp: &Lp) -> Result<Dense, NoMemory>
+        ensures matrix { IfOk result (λ table. table.matrix ≡ lp.now.matrix) }
+        ensures basics { IfOk result (λ table. table.basics ≡ row_basics lp.now.matrix) }
+    {
+        let size = lp.number_of_variables();
+        Ok(Dense {
+            rows: lp.rows,
+            cols: lp.cols,
+            columns: lp.copied_columns(alloc)?,
+            marks: opening_marks(alloc, lp)?,
+            slots: opening_slots(alloc, size)?,
+            lines: opening_lines(alloc, lp)?,
+            quotients: vec![in alloc; Frac::whole(0); size as usize]?,
+        })
+    }
+}
+
+impl Rates for Dense {
+    ghost use Rattle.std.specs.Prelude.{[]};
+
+    ghost matrix = { λ table. table.matrix };
+
+    ghost basics = { λ table. table.basics };
+
+    ghost waypoints = { λ _. [] };
+
+    /// Always answers Ok, and takes no memory.
+    fn column(&mut self, j: u32, out: &mut [Frac]) -> Result<(), Stop>
+        requires nonbasic { IsNonbasic self.old.matrix self.old.basics j }
+        requires places { length out.old ≡ size self.old.matrix }
+        ensures direction { IsDirectionOf self.old.matrix self.old.basics j (value_at out.new) }
+        ensures always { IsOk result }
+        ensures same { self.new ≡ self.old }
+    {
+        for k in 0..self.size() {
+            out[k as usize] = self.entry(j, k + 1);
+        }
+        Ok(())
+    }
+
+    /// Always answers Ok, and takes no memory.
+    fn row(&mut self, i: u32, out: &mut [Frac]) -> Result<(), Stop>
+        requires basic { IsBasic self.old.matrix self.old.basics i }
+        requires places { length out.old ≡ size self.old.matrix }
+        ensures rates { IsRowOf self.old.matrix self.old.basics i (value_at out.new) }
+        ensures always { IsOk result }
+        ensures same { self.new ≡ self.old }
+    {
+        out.copy_from_slice(&line_of(&self.slots, &self.lines, i).rates);
+        Ok(())
+    }
+
+    /// Takes no memory. After a Stop the table is as before.
+    fn exchange(&mut self, p: u32, q: u32) -> Result<(), Stop>
+        requires leaves { IsBasic self.old.matrix self.old.basics p }
+        requires enters { IsNonbasic self.old.matrix self.old.basics q }
+        requires pivot { HasPivot self.old.matrix self.old.basics p q }
+        ensures ok { OnOk result (self.new ≡ record self.old { basics = exchanged self.old.basics p q }) }
+        ensures err { OnErr result (self.new ≡ self.old) }
+        ensures overflow { ExchangeOverflow result self.old.matrix self.old.basics p q [] [] }
+
+        // an overflow by a formula of this exchange, at the present basics, and never want of memory
+        ensures own { IfErr result (IsOwnOverflow p q) }
+    {
+        let slot = self.slots[p as usize - 1];
+        let lines = &mut self.lines;
+        if let Err(evidence) = exchange_lines(lines, slot as usize, p, q, &mut self.quotients) {
+            return Err(Stop::Overflow(evidence));
+        }
+        self.slots[q as usize - 1] = slot;
+        self.marks[q as usize - 1] = true;
+        self.marks[p as usize - 1] = false;
+        Ok(())
+    }
+
+    fn way_basics(&self, _way: u32, out: &mut [bool])
+        requires { length out.old ≡ size self.now.matrix }
+        ensures { out.new ≡ self.now.basics }
+    {
+        out.copy_from_slice(&self.marks);
+    }
+}
+
+impl Engine for Dense {
+    fn start(alloc: Global, lp: &Lp) -> Result<Dense, NoMemory> {
+        Dense::new(alloc, lp)
+    }
+}
+
+#[cfg(test)]
+mod tests;

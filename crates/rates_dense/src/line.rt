@@ -1,0 +1,232 @@
+//! The lines of the table, and what an exchange makes of them.
+
+ghost use Rattle.std.specs.Prelude.{◌≡◌, ◌≢◌, ◌<◌, ◌≤◌, ◌^◌, length, IfOk, IfErr, OnOk, OnErr};
+ghost use Rattle.exact_values.specs.Rational.{zero_ℚ, one_ℚ, ◌-ℚ◌, ◌*ℚ◌, ◌/ℚ◌};
+ghost use Rattle.lp_definitions.specs.LinearProgram.{value_at};
+ghost use Rattle.lp_definitions.specs.RatesEvidence.{Names};
+ghost use Rattle.rates_dense.specs.Lines.{IsFilled, quotient_at, entering_rate, staying_rate, SameRates, IsReady, IsCommitted};
+ghost use Rattle.rates_dense.specs.Refusals.{IsRefusal, IsDifferenceRefused, QuotientRefused, StayingRefused};
+
+use frac128::{Frac, Op, Refused};
+use lp_model::Evidence;
+use std::mem::swap;
+
+/// The rates of a basic variable: a place for each variable, with 0 at the basics. `next` is room for those after an exchange.
+#[derive(Drop)]
+pub struct Line {
+    pub basic: u32,
+    pub rates: Vec<Frac>,
+    pub next: Vec<Frac>,
+}
+
+/// An exchange of `p` for `q`, and the rate of `i` at `j` that it changes.
+#[derive(Clone, Copy)]
+struct Cell {
+    p: u32,
+    q: u32,
+    i: u32,
+    j: u32,
+}
+
+impl Cell {
+    /// The evidence that a formula is refused at the present basics.
+    fn evidence(self, formula: u8, refused: Refused) -> Evidence
+        ensures names { Names result formula self.p self.q self.i self.j 0 }
+        ensures present { result.way ≡ 0 }
+        ensures no_theta { result.theta ≡ zero_ℚ }
+        ensures refused { result.refused ≡ refused }
+    {
+        Evidence {
+            formula,
+            way: 0,
+            p: self.p,
+            q: self.q,
+            i: self.i,
+            j: self.j,
+            term: 0,
+            theta: Frac::whole(0),
+            refused,
+        }
+    }
+
+    /// A rate of the leaver over the pivot.
+    fn quotient(self, rate: Frac, pivot: Frac) -> Result<Frac, Evidence>
+        requires { pivot ≢ zero_ℚ }
+        ensures value { IfOk result (λ quotient. quotient ≡ rate /ℚ pivot) }
+        ensures refused { IfErr result (IsRefusal 1 self.p self.q self.i self.j Op.Div rate pivot) }
+        ensures needed { OnErr result (rate ≢ zero_ℚ) }
+    {
+        if rate.is_zero() {
+            return Ok(rate);
+        }
+        rate.div(pivot).map_err(|refused| self.evidence(1, refused))
+    }
+
+    /// 1 over the pivot.
+    fn reciprocal(self, pivot: Frac) -> Result<Frac, Evidence>
+        requires { pivot ≢ zero_ℚ }
+        ensures value { IfOk result (λ quotient. quotient ≡ one_ℚ /ℚ pivot) }
+        ensures refused { IfErr result (IsRefusal 4 self.p self.q self.i self.j Op.Div one_ℚ pivot) }
+    {
+        let one = Frac::whole(1);
+        one.div(pivot).map_err(|refused| self.evidence(4, refused))
+    }
+
+    /// The rate at the leaver: the quotient there, times the rate at the enterer.
+    fn multiple(self, quotient: Frac, factor: Frac) -> Result<Frac, Evidence>
+        ensures value { IfOk result (λ rate. rate ≡ quotient *ℚ factor) }
+        ensures refused { IfErr result (IsRefusal 5 self.p self.q self.i self.j Op.Mul quotient factor) }
+    {
+        quotient
+            .mul(factor)
+            .map_err(|refused| self.evidence(5, refused))
+    }
+
+    /// The quotient times the rate at the enterer.
+    fn product(self, quotient: Frac, factor: Frac) -> Result<Frac, Evidence>
+        ensures value { IfOk result (λ product. product ≡ quotient *ℚ factor) }
+        ensures refused { IfErr result (IsRefusal 2 self.p self.q self.i self.j Op.Mul quotient factor) }
+    {
+        quotient
+            .mul(factor)
+            .map_err(|refused| self.evidence(2, refused))
+    }
+
+    /// A rate less such a product.
+    fn difference(self, rate: Frac, product: Frac) -> Result<Frac, Evidence>
+        ensures value { IfOk result (λ difference. difference ≡ rate -ℚ product) }
+        ensures refused { IfErr result (IsRefusal 3 self.p self.q self.i self.j Op.Sub rate product) }
+    {
+        if rate.is_zero() {
+            return Ok(product.neg());
+        }
+        rate.sub(product)
+            .map_err(|refused| self.evidence(3, refused))
+    }
+
+    /// A rate without its part along the enterer's direction.
+    fn rest(self, rate: Frac, quotient: Frac, factor: Frac) -> Result<Frac, Evidence>
+        ensures value { IfOk result (λ rest. rest ≡ rate -ℚ quotient *ℚ factor) }
+        ensures refused { IfErr result (IsDifferenceRefused self.p self.q self.i self.j rate quotient factor) }
+    {
+        if quotient.is_zero() {
+            return Ok(rate);
+        }
+        let product = self.product(quotient, factor)?;
+        self.difference(rate, product)
+    }
+}
+
+/// The leaver's rates over the pivot, which is its rate at `q`, and 1 over the pivot at the leaver itself.
+pub fn fill_quotients(
+    rates: &[Frac],
+    p: u32,
+    q: u32,
+    quotients: &mut [Frac],
+) -> Result<(), Evidence>
+    requires q_low { 1 ≤ q }
+    requires q_high { q ≤ length rates.now }
+    requires small { length rates.now < 2 ^ 32 }
+    requires room { length quotients.old ≡ length rates.now }
+    requires pivot { value_at rates.now q ≢ zero_ℚ }
+    ensures filled { OnOk result (IsFilled quotients.new (quotient_at p q rates.now)) }
+    ensures refused { IfErr result (QuotientRefused p q rates.now) }
+{
+    let pivot = rates[q as usize - 1];
+    for (k, rate) in rates.iter().enumerate() {
+        let j = k as u32 + 1;
+        quotients[k] = if j == p {
+            Cell { p, q, i: 0, j: 0 }.reciprocal(pivot)?
+        } else {
+            Cell { p, q, i: 0, j }.quotient(*rate, pivot)?
+        };
+    }
+    Ok(())
+}
+
+/// The enterer's rates, from the quotients.
+fn fill_entering(p: u32, q: u32, quotients: &[Frac], next: &mut [Frac])
+    requires small { length quotients.now < 2 ^ 32 }
+    requires room { length next.old ≡ length quotients.now }
+    ensures { IsFilled next.new (entering_rate p q quotients.now) }
+{
+    for (k, quotient) in quotients.iter().enumerate() {
+        let j = k as u32 + 1;
+        next[k] = if j == q {
+            Frac::whole(0)
+        } else if j == p {
+            *quotient
+        } else {
+            quotient.neg()
+        };
+    }
+}
+
+/// The rates of another basic `i`, from those before.
+fn fill_staying(
+    rates: &[Frac],
+    i: u32,
+    p: u32,
+    q: u32,
+    quotients: &[Frac],
+    next: &mut [Frac],
+) -> Result<(), Evidence>
+    requires q_low { 1 ≤ q }
+    requires q_high { q ≤ length rates.now }
+    requires small { length rates.now < 2 ^ 32 }
+    requires places { length quotients.now ≡ length rates.now }
+    requires room { length next.old ≡ length rates.now }
+    ensures filled { OnOk result (IsFilled next.new (staying_rate p q quotients.now rates.now)) }
+    ensures refused { IfErr result (StayingRefused i p q quotients.now rates.now) }
+{
+    let factor = rates[q as usize - 1];
+    for (k, rate) in rates.iter().enumerate() {
+        let j = k as u32 + 1;
+        next[k] = if j == q {
+            Frac::whole(0)
+        } else if j == p {
+            Cell { p, q, i, j: 0 }.multiple(quotients[k], factor)?
+        } else {
+            Cell { p, q, i, j }.rest(*rate, quotients[k], factor)?
+        };
+    }
+    Ok(())
+}
+
+impl Line {
+    /// Makes ready the rates after an exchange of `p` for `q`, where they change.
+    pub fn prepare(&mut self, p: u32, q: u32, quotients: &[Frac]) -> Result<(), Evidence>
+        requires q_low { 1 ≤ q }
+        requires q_high { q ≤ length quotients.now }
+        requires small { length quotients.now < 2 ^ 32 }
+        requires places { length self.old.rates.items ≡ length quotients.now }
+        requires room { length self.old.next.items ≡ length quotients.now }
+        ensures same { SameRates self.old self.new }
+        ensures ready { OnOk result (IsReady p q quotients.now self.new) }
+        ensures stays { OnErr result (self.old.basic ≢ p) }
+        ensures refused { IfErr result (StayingRefused self.old.basic p q quotients.now self.old.rates.items) }
+    {
+        if self.basic == p {
+            fill_entering(p, q, quotients, &mut self.next);
+            Ok(())
+        } else if self.rates[q as usize - 1].is_zero() {
+            Ok(())
+        } else {
+            fill_staying(&self.rates, self.basic, p, q, quotients, &mut self.next)
+        }
+    }
+
+    /// Takes the rates that were made ready.
+    pub fn commit(&mut self, p: u32, q: u32)
+        requires q_low { 1 ≤ q }
+        requires q_high { q ≤ length self.old.rates.items }
+        ensures { IsCommitted p q self.old self.new }
+    {
+        if self.basic == p {
+            self.basic = q;
+            swap(&mut self.rates, &mut self.next);
+        } else if !self.rates[q as usize - 1].is_zero() {
+            swap(&mut self.rates, &mut self.next);
+        }
+    }
+}
