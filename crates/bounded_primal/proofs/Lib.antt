@@ -1,0 +1,11 @@
+mod Covered
+mod Existence
+mod Lengths
+mod Nearest
+mod PointSums
+mod PriceLaws
+mod RatesStops
+mod Refusals
+mod Skips
+mod Writes
+mod TermLaws

@@ -1,0 +1,17 @@
+use Rattle.std.proofs.Common.{sym, ◌∙◌, ap}
+use Rattle.exact_values.specs.Tests.{lt_ℚ}
+use Rattle.bounded_primal.proofs.Lengths.{ahead_up, ahead_down}
+use Rattle.bounded_primal.proofs.reach.limit_before.Goals as goal
+
+pub returns-in_ok-upper : goal.returns-in_ok-upper
+returns-in_ok-upper c =
+    ahead_up c.args.lp.now c.args.k c.args.speed c.in_ok-upper.upper
+    (sym (c.is_less.ensures ∙ ap (λ x. lt_ℚ x c.args.speed) c.whole-zero.ensures) ∙ c.if-is_less.true)
+    (sym c.upper_limit.ensures ∙ c.in_ok-upper.was)
+
+pub returns-in_ok-lower : goal.returns-in_ok-lower
+returns-in_ok-lower c =
+    ahead_down c.args.lp.now c.args.k c.args.speed c.in_ok-lower.lower
+    (sym (c.is_less.ensures ∙ ap (λ x. lt_ℚ x c.args.speed) c.whole-zero.ensures) ∙ c.if-is_less.false)
+    (sym (c.is_less-else-is_less.ensures ∙ ap (λ x. lt_ℚ c.args.speed x) c.whole-zero.ensures) ∙ c.if-is_less-2.true)
+    (sym c.lower_limit.ensures ∙ c.in_ok-lower.was)

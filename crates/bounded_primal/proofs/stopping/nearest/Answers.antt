@@ -1,0 +1,16 @@
+use Rattle.std.proofs.Common.{◌≡◌, ◌+◌, Err, rules, arith}
+use Rattle.lp_definitions.specs.LinearProgram.{value_at}
+use Rattle.path_definitions.specs.Moves.{room}
+use Rattle.bounded_primal.specs.Moves.{motion}
+use Rattle.bounded_primal.proofs.Lengths.{nearest_more}
+use Rattle.bounded_primal.proofs.stopping.nearest.Goals as goal
+
+pub returns-in_err-length-clause-refused : goal.returns-in_err-length-clause-refused
+returns-in_err-length-clause-refused c =
+    let is_err : c.from_residual.result ≡ Err c.in_err-length.field-0.0 = search rules in
+    rw is_err (c.loop-k.k + 1, (omega arith, omega arith), c.in_err-length.ensures.refused)
+
+pub loop-k-preserved : goal.loop-k-preserved
+loop-k-preserved c =
+    nearest_more (room c.args.lp.now (value_at c.args.point.now) (motion (value_at c.args.direction.now) c.args.up)) c.loop-k.k c.loop-k.nearest c.nearer-nearest.result c.in_ok-length.length
+    c.loop-k.invariant c.in_ok-length.ensures.length c.nearer-nearest.ensures

@@ -1,0 +1,8 @@
+use Rattle.lp_definitions.specs.LinearProgram.{value_at}
+use Rattle.path_definitions.specs.Moves.{room}
+use Rattle.bounded_primal.specs.Moves.{motion}
+use Rattle.bounded_primal.specs.Reach.{IsNearest}
+use Rattle.bounded_primal.proofs.stopping.nearest.Given as goal
+
+abbrev pub invariant-loop-k : goal.invariant-loop-k
+invariant-loop-k l = IsNearest (room l.lp (value_at l.point) (motion (value_at l.direction) l.up)) l.k l.nearest

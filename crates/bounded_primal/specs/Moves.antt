@@ -1,0 +1,62 @@
+-- What a move asks and gives.
+--     may_move p s up q            q may move up, or down
+--     motion d up                  how fast each variable moves, where what has the direction d rises or falls
+--     stopper_of p z d up          what stops that motion
+--     IsStepBy p s z d q by        by is that, or it brings a basic to a limit
+--     move_by q by                 the move of the basis
+--     StopperRefused, StepRefused  evidence of a refused call
+use Rattle.std.specs.Prelude.{◌≡◌, ℕ, Bool, ◌&&◌, ◌||◌, not, List, [], ◌∷◌, Option, Some, IsSome, option_map, unwrap_or, if◌then◌else◌, IsTrue, nat_eq, Result, IfErr}
+use Rattle.exact_values.specs.Rational.{ℚ, zero_ℚ, ◌-ℚ◌, ◌/ℚ◌}
+use Rattle.lp_definitions.specs.LinearProgram.{LinearProgram, Vector}
+use Rattle.lp_definitions.specs.Solutions.{IsFeasible}
+use Rattle.lp_definitions.specs.Basis.{Basics, basics_of, exchanged, IsBasic}
+use Rattle.lp_definitions.specs.declared.Evidence.{Evidence}
+use Rattle.lp_definitions.specs.declared.Status.{Status}
+use Rattle.lp_model.specs.declared.Stop.{Stop}
+use Rattle.lp_model.specs.RatesCalls.{IfOverflow}
+use Rattle.path_definitions.specs.Moves.{may_rise, may_fall, signed, room, stopper, reached}
+use Rattle.path_definitions.specs.Path.{Move}
+use Rattle.overflow_definitions.specs.Formulas.{limit_numbered, number_of_limit}
+use Rattle.overflow_definitions.specs.Statements.{Primal, belongs, is_between}
+use Rattle.bounded_primal.specs.Calls.{StopsAt}
+use Rattle.bounded_primal.specs.declared.moves.Stopper.{Stopper}
+
+abbrev pub may_move : LinearProgram → List Status → Bool → ℕ → Bool
+may_move p s up q = if up then may_rise p s q else may_fall p s q
+
+abbrev pub motion : Vector → Bool → Vector
+motion d up k = signed up (d k)
+
+-- k as what stops the motion: the change of what moves, and the limit that k reaches
+abbrev pub stop_at : LinearProgram → Vector → Vector → Bool → ℕ → Stopper
+stop_at p z d up k = record { p = k; step = signed up (unwrap_or (room p z (motion d up) k) zero_ℚ); to = reached (motion d up) k }
+
+-- the least-numbered of the variables that reach a limit first
+abbrev pub stopper_of : LinearProgram → Vector → Vector → Bool → Option Stopper
+stopper_of p z d up = option_map (stop_at p z d up) (stopper p z (motion d up))
+
+-- z is the point of s and d the direction of q
+pub data IsStepBy (p : LinearProgram) (s : List Status) (z d : Vector) (q : ℕ) (by : Stopper) : Type 0 where
+  is_stopper : (up : Bool) → IsFeasible p z → IsTrue (may_move p s up q) → stopper_of p z d up ≡ Some by → IsStepBy p s z d q by
+  brings : (l : ℚ) → IsBasic p.matrix (basics_of s) by.p → limit_numbered p by.p (number_of_limit by.to) ≡ Some l →
+      by.step ≡ (l -ℚ z by.p) /ℚ d by.p → IsStepBy p s z d q by
+
+abbrev pub move_by : ℕ → Stopper → Move
+move_by q by = record { enters = q; leaves = by.p; to = by.to }
+
+-- by a distance to a limit, where something stops q, or by that over a rate of q
+pub record StopperRefused (p : LinearProgram) (s : List Status) (z d : Vector) (q : ℕ) (up : Bool) (e : Evidence) : Type 0 where
+  pub of_call : IsTrue ((nat_eq e.formula 6 && not (nat_eq e.term 3)) || nat_eq e.formula 7)
+  pub is_stopped : IsTrue (nat_eq e.formula 6) → IsSome (stopper_of p z d up)
+  pub enters : IsTrue (nat_eq e.formula 7) → e.q ≡ q
+  pub stops : StopsAt (λ to. ⊥) p (basics_of s ∷ []) s [] e
+
+-- by a formula of a step: of q, and of the p and the limit of by
+pub record StepRefused (p : LinearProgram) (before : List Basics) (s : List Status) (q : ℕ) (by : Stopper) (after : List Basics) (e : Evidence) : Type 0 where
+  pub of_call : IsTrue (belongs (Primal p) e)
+  pub enters : IsTrue (is_between 7 9 e.formula) → e.q ≡ q
+  pub leaves : IsTrue (is_between 8 9 e.formula) → e.p ≡ by.p
+  pub stops : StopsAt (λ to. to ≡ by.to) p (basics_of s ∷ exchanged (basics_of s) by.p q ∷ before) s after e
+
+abbrev pub StepOverflow : Result (Unit {0}) Stop → LinearProgram → List Status → ℕ → Stopper → List Basics → List Basics → Type 0
+StepOverflow result p s q by before after = IfErr result (λ stop. IfOverflow stop (StepRefused p before s q by after))

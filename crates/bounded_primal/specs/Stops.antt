@@ -1,0 +1,27 @@
+-- What holds after a solving call stopped.
+use Rattle.std.specs.Prelude.{◌≡◌, ℕ, ◌≤◌, List, length, Result, IfErr}
+use Rattle.lp_definitions.specs.LinearProgram.{LinearProgram}
+use Rattle.lp_definitions.specs.Basis.{Basics}
+use Rattle.lp_definitions.specs.declared.Status.{Status}
+use Rattle.lp_model.specs.declared.Stop.{Stop}
+use Rattle.lp_model.specs.RatesCalls.{IfOverflow}
+use Rattle.path_definitions.specs.Path.{IsPath, last_of}
+use Rattle.bounded_primal.specs.Calls.{PathGoesOn, StopsOnPath, PointRefused, RangeRefused}
+use Rattle.bounded_primal.specs.declared.moves.PrimalStop.{PrimalStop}
+use Rattle.bounded_primal.specs.declared.moves.PrimalStop.TheVariants.{Limit, Overflow, NoMemory}
+
+-- the bases after s, of which the last is now
+abbrev pub PathFrom : LinearProgram → List Status → List Status → List (List Status) → Type 0
+PathFrom p s now bases = IsPath p s bases × (last_of s bases ≡ now)
+
+abbrev pub PrimalStops : LinearProgram → List Status → List Status → ℕ → List Basics → List Basics → PrimalStop → Type 0
+PrimalStops p s now limit before after Limit = PathGoesOn p s now limit
+PrimalStops p s now limit before after (Overflow e) = StopsOnPath p s now limit before after e
+PrimalStops p s now limit before after NoMemory = (bases : List (List Status)) × PathFrom p s now bases × (length bases ≤ limit)
+
+-- an overflow of `point_of` and `prices_of`, and one of `range`
+abbrev pub PointOverflow : Result (Unit {0}) Stop → LinearProgram → List Status → List Basics → List Basics → Type 0
+PointOverflow result p s before after = IfErr result (λ stop. IfOverflow stop (PointRefused p before s after))
+
+abbrev pub RangeOverflow : {T : Type 0} → Result T Stop → LinearProgram → List Status → List Basics → List Basics → Type 0
+RangeOverflow result p s before after = IfErr result (λ stop. IfOverflow stop (RangeRefused p before s after))

@@ -1,0 +1,16 @@
+//! The bounded simplex method with the least-index rule (Dantzig, Linear Programming and Extensions, chapter 18; Bland, New
+//! Finite Pivoting Rules for the Simplex Method), over any rates. Variables are numbered from 1: the rows, and then the columns.
+#![tactic(auto)]
+
+mod choices;
+mod formula;
+mod moves;
+mod point;
+mod prices;
+mod reach;
+mod stopping;
+
+pub use moves::{PrimalStop, Stopper};
+pub use point::point_of;
+pub use prices::prices_of;
+pub use stopping::stopper;

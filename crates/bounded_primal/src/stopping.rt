@@ -1,0 +1,83 @@
+//! What stops a move.
+
+ghost use Rattle.std.specs.Prelude.{◌≡◌, length, IfOk, IfErr, IsTrue};
+ghost use Rattle.lp_definitions.specs.LinearProgram.{size, value_at, IsVariable};
+ghost use Rattle.lp_definitions.specs.Solutions.{IsFeasible};
+ghost use Rattle.lp_definitions.specs.Basis.{basics_of, IsBasis, IsNonbasic, IsNonsingular, IsPointOf, IsDirectionOf};
+ghost use Rattle.path_definitions.specs.Moves.{room, signed, reached};
+ghost use Rattle.bounded_primal.specs.Moves.{may_move, motion, stopper_of, StopperRefused};
+ghost use Rattle.bounded_primal.specs.Reach.{IsNearest, SomeRoomRefused};
+
+use crate::choices::is_less;
+use crate::moves::Stopper;
+use crate::reach::{Reach, counted, length_to, nearer};
+use frac128::Frac;
+use lp_model::{Basis, Evidence, Lp, Status};
+
+/// What reaches a limit first where `q` moves up or down.
+fn nearest(
+    lp: &Lp,
+    point: &[Frac],
+    direction: &[Frac],
+    q: u32,
+    up: bool,
+) -> Result<Option<Reach>, Evidence>
+    requires point_places { length point.now ≡ size lp.now.matrix }
+    requires direction_places { length direction.now ≡ size lp.now.matrix }
+    ensures nearest { IfOk result (IsNearest (room lp.now (value_at point.now) (motion (value_at direction.now) up)) (size lp.now.matrix)) }
+    ensures refused { IfErr result (SomeRoomRefused lp.now (value_at point.now) (value_at direction.now) up q) }
+{
+    let mut nearest: Option<Reach> = None;
+    for k in 0..lp.number_of_variables() {
+        let length = length_to(lp, point, direction, up, q, k + 1)?;
+        nearest = nearer(nearest, length, k + 1);
+    }
+    Ok(nearest)
+}
+
+/// The limit that a variable of this speed reaches, as a status.
+fn limit_reached(speed: Frac) -> Status
+    ensures { result ≡ reached (λ _. speed) 0 }
+{
+    if is_less(Frac::whole(0), speed) {
+        Status::Ul
+    } else {
+        Status::Ll
+    }
+}
+
+/// What stops `q`, which moves up or down from the feasible point, and how far it comes: the least-numbered of the variables that
+/// reach a limit first. None comes exactly where nothing stops `q`. Takes no memory.
+pub fn stopper(
+    lp: &Lp,
+    basis: &Basis,
+    point: &[Frac],
+    direction: &[Frac],
+    q: u32,
+    up: bool,
+) -> Result<Option<Stopper>, Evidence>
+    requires point_places { length point.now ≡ size lp.now.matrix }
+    requires direction_places { length direction.now ≡ size lp.now.matrix }
+    requires basis { IsBasis lp.now basis.now }
+    requires nonsingular { IsNonsingular lp.now.matrix (basics_of basis.now) }
+    requires point { IsPointOf lp.now basis.now (value_at point.now) }
+    requires feasible { IsFeasible lp.now (value_at point.now) }
+    requires nonbasic { IsNonbasic lp.now.matrix (basics_of basis.now) q }
+    requires direction { IsDirectionOf lp.now.matrix (basics_of basis.now) q (value_at direction.now) }
+    requires may { IsTrue (may_move lp.now basis.now up q) }
+    ensures stopper { IfOk result (λ found. found ≡ stopper_of lp.now (value_at point.now) (value_at direction.now) up) }
+    ensures refused { IfErr result (StopperRefused lp.now basis.now (value_at point.now) (value_at direction.now) q up) }
+{
+    let found = nearest(lp, point, direction, q, up)?;
+    match found {
+        None => Ok(None),
+        Some(nearest) => {
+            let speed = counted(direction[nearest.p as usize - 1], up);
+            Ok(Some(Stopper {
+                p: nearest.p,
+                step: counted(nearest.length, up),
+                to: limit_reached(speed),
+            }))
+        }
+    }
+}
