@@ -1,0 +1,11 @@
+//! The texts of the reports of a run and of its ends, written piece by piece into a sink. No call takes memory.
+#![tactic(auto)]
+
+mod ending;
+mod line;
+mod overflow;
+mod pieces;
+mod plain;
+mod report;
+
+pub use report::{Ending, Report, text_of};
