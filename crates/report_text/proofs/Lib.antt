@@ -1,3 +1,4 @@
 pub mod Faults
 pub mod Overflows
+pub mod Tables
 pub mod Values

@@ -1,3 +1,6 @@
 pub mod Lines
+pub mod Sheets
 pub mod Shown
+pub mod Tables
 pub mod Values
+pub mod Verdicts

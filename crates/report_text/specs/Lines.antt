@@ -1,8 +1,8 @@
 -- The lines of the tables that are printed of a linear program.
 --     name_of problem k            the name of variable k
---     at_of, standing p s k        where a variable stands, as it is printed
+--     at_of p s z k                where a variable stands, as it is printed
 --     lines_of problem values ks   a line for each of these variables
-use Rattle.std.specs.Prelude.{◌≡◌, ℕ, ◌+◌, ◌-◌, not, List, [], ◌∷◌, ◌++◌, map, filter, length, if◌then◌else◌}
+use Rattle.std.specs.Prelude.{◌≡◌, ℕ, ◌+◌, ◌-◌, Bool, not, List, [], ◌∷◌, ◌++◌, map, filter, length, if◌then◌else◌}
 use Rattle.exact_values.specs.Rational.{ℚ, zero_ℚ}
 use Rattle.exact_values.specs.Tests.{eq_ℚ}
 use Rattle.lp_definitions.specs.LinearProgram.{LinearProgram, Vector, value_at, numbers_from, variables, lower_of, upper_of, cost}
@@ -20,20 +20,15 @@ use Rattle.listing_definitions.specs.Report.{Value, Code, Number, limit_value, L
 abbrev pub name_of : Problem ℕ → ℕ → Name
 name_of problem k = name_at (row_names problem ++ group_names problem.columns) k
 
--- where a nonbasic stands, if its limits aren't equal
-abbrev pub nonbasic_at : Status → At
-nonbasic_at Bs = Basic
-nonbasic_at Ll = Lower
-nonbasic_at Ul = Upper
-nonbasic_at Fr = Free
+-- where a variable of a status stands: a basic may be outside its limits, and the limits of a nonbasic may be equal
+abbrev pub at_by : Status → Bool → Bool → At
+at_by Bs outside fixed = if outside then Outside else Basic
+at_by Ll outside fixed = if fixed then Equal else Lower
+at_by Ul outside fixed = if fixed then Equal else Upper
+at_by Fr outside fixed = if fixed then Equal else Free
 
--- a basic may be outside its limits, and the limits of a nonbasic may be equal
 abbrev pub at_of : LinearProgram → List Status → Vector → ℕ → At
-at_of p s z k = by (status_of s k)
-  where
-    by : Status → At
-    by Bs = if is_outside p z k then Outside else Basic
-    by status = if is_fixed p k then Equal else nonbasic_at status
+at_of p s z k = at_by (status_of s k) (is_outside p z k) (is_fixed p k)
 
 abbrev pub line_of : Problem ℕ → (ℕ → List Value) → ℕ → Line
 line_of problem values k = record { number = k; name = name_of problem k; values = values k }

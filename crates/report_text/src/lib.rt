@@ -7,5 +7,8 @@ mod overflow;
 mod pieces;
 mod plain;
 mod report;
+mod sheet;
+mod table;
+mod verdict;
 
 pub use report::{Ending, Report, text_of};
