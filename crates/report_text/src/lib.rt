@@ -8,6 +8,7 @@ mod pieces;
 mod plain;
 mod report;
 mod sheet;
+mod solution;
 mod table;
 mod verdict;
 

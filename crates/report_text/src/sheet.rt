@@ -125,3 +125,10 @@ pub fn objective_of(lp: &Lp, point: &[Frac]) -> Frac
 {
     point[lp.objective as usize - 1]
 }
+
+/// How many rows there are.
+pub fn row_count(lp: &Lp) -> u32
+    ensures { result ≡ lp.now.matrix.rows }
+{
+    lp.rows
+}
