@@ -12,4 +12,6 @@ mod solution;
 mod table;
 mod verdict;
 
+pub use listing_definitions::{Mark, Solver};
 pub use report::{Ending, Report, text_of};
+pub use sheet::Sheet;

@@ -4,9 +4,15 @@ ghost use Rattle.report_text.specs.Shown.{IsReport, text_shown};
 
 use crate::ending::put_ending;
 use crate::plain::{put_converted, put_setup, put_title};
+use crate::sheet::Sheet;
+use crate::solution::put_solution;
+use crate::table::Standing;
+use crate::verdict::put_verdict;
+use frac128::{Frac, Refused};
 use job_devices::{Sink, WriteStop};
+use listing_definitions::{Mark, Solver};
 use lp_definitions::{Evidence, Sense};
-use lp_model::Basis;
+use lp_model::{Basis, Outcome, Point, Prices};
 use name_table::Name;
 
 /// What a statement of a run prints, or the end of the run.
@@ -23,6 +29,22 @@ pub enum Report<'a> {
     },
     /// A problem that was set up.
     SetUp { name: Name, sense: Sense },
+    /// How the path of a solving verb ended, with the first operation that its check was refused, if one was.
+    Solved {
+        by: Solver,
+        sheet: Sheet<'a>,
+        outcome: &'a Outcome,
+        refused: Option<Refused>,
+    },
+    /// A basis with its point and its prices, and the slack of each row: its right-hand side less its activity.
+    Solution {
+        mark: Mark,
+        sheet: Sheet<'a>,
+        basis: &'a Basis,
+        point: &'a Point,
+        prices: &'a Prices,
+        slack: &'a [Frac],
+    },
     /// The end of the run.
     End(Ending<'a>),
 }
@@ -84,6 +106,28 @@ pub fn text_of<P: Sink>(report: &Report<'_>, print: &mut P) -> Result<(), WriteS
             entries,
         } => put_converted(print, name, rows, columns, entries),
         Report::SetUp { name, sense } => put_setup(print, name, sense),
+        Report::Solved {
+            by,
+            sheet,
+            outcome,
+            refused,
+        } => put_verdict(print, by, sheet, outcome, refused),
+        Report::Solution {
+            mark,
+            sheet,
+            basis,
+            point,
+            prices,
+            slack,
+        } => {
+            let standing = Standing {
+                basis,
+                point,
+                prices,
+                slack,
+            };
+            put_solution(print, mark, sheet, standing)
+        }
         Report::End(ending) => put_ending(print, ending),
     }
 }

@@ -9,14 +9,14 @@ use crate::line::{Value, put_line};
 use crate::sheet::{Sheet, at_of, cost, name_of};
 use frac128::Frac;
 use job_devices::{Sink, WriteStop, put_all};
-use lp_model::Basis;
+use lp_model::{Basis, Point, Prices};
 
 /// A basis with its point and its prices, and the slacks of its rows.
 #[derive(Clone, Copy, Debug)]
 pub struct Standing<'a> {
     pub basis: &'a Basis,
-    pub point: &'a [Frac],
-    pub prices: &'a [Frac],
+    pub point: &'a Point,
+    pub prices: &'a Prices,
     pub slack: &'a [Frac],
 }
 
@@ -74,13 +74,15 @@ fn put_row<P: Sink>(
     ensures { Writes P.written P.faults P.refusals print.old print.new result (line_shown sheet.entry (Table.Rows standing.entry) k) }
 {
     let place = k as usize - 1;
+    let point = standing.point.values();
+    let prices = standing.prices.values();
     let values = [
-        Value::Code(at_of(sheet.lp, standing.basis, standing.point, k)),
-        Value::Number(standing.point[place]),
+        Value::Code(at_of(sheet.lp, standing.basis, point, k)),
+        Value::Number(point[place]),
         Value::Number(standing.slack[place]),
         Value::limit(sheet.lp.lower_limit(k)),
         Value::limit(sheet.lp.upper_limit(k)),
-        Value::Number(standing.prices[place]),
+        Value::Number(prices[place]),
     ];
     put_line(print, k, name_of(sheet, k), &values)
 }
@@ -96,13 +98,15 @@ fn put_column<P: Sink>(
 {
     let place = k as usize - 1;
     let lp = sheet.lp;
+    let point = standing.point.values();
+    let prices = standing.prices.values();
     let values = [
-        Value::Code(at_of(lp, standing.basis, standing.point, k)),
-        Value::Number(standing.point[place]),
+        Value::Code(at_of(lp, standing.basis, point, k)),
+        Value::Number(point[place]),
         Value::Number(cost(lp, k - lp.rows)),
         Value::limit(lp.lower_limit(k)),
         Value::limit(lp.upper_limit(k)),
-        Value::Number(standing.prices[place]),
+        Value::Number(prices[place]),
     ];
     put_line(print, k, name_of(sheet, k), &values)
 }
