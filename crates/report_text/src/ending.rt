@@ -112,7 +112,7 @@ fn put_deck_fault<P: Sink>(
 }
 
 // What is reached, at how much of it, and the card of the statement.
-fn put_reached<P: Sink>(
+fn put_limit<P: Sink>(
     print: &mut P,
     reached: &'static [u8],
     limit: u32,
@@ -151,7 +151,7 @@ pub fn put_ending<P: Sink>(print: &mut P, ending: Ending<'_>) -> Result<(), Writ
             column,
         } => put_deck_fault(print, b"STOP 12 DECK ", fault, card, number, column),
         Ending::CardFault { fault, card } => put_card_fault(print, fault, card),
-        Ending::Limit { limit, card } => put_reached(print, b"STOP 16 ITERATION LIMIT ", limit, card),
+        Ending::Limit { limit, card } => put_limit(print, b"STOP 16 ITERATION LIMIT ", limit, card),
         Ending::Statements => put_all(print, b"STOP 17 STATEMENT LIMIT\n"),
         Ending::Overflow {
             evidence,

@@ -15,3 +15,6 @@ mod verdict;
 pub use listing_definitions::{Mark, Solver};
 pub use report::{Ending, Report, text_of};
 pub use sheet::Sheet;
+
+#[cfg(test)]
+mod tests;

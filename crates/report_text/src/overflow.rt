@@ -144,11 +144,7 @@ fn put_letter_lines<P: Sink>(
 }
 
 // The same lines, where there is a basis.
-fn put_place<P: Sink>(
-    print: &mut P,
-    basis: Option<&Basis>,
-    way: &[bool],
-) -> Result<(), WriteStop>
+fn put_place<P: Sink>(print: &mut P, basis: Option<&Basis>, way: &[bool]) -> Result<(), WriteStop>
     ensures { Writes P.written P.faults P.refusals print.old print.new result (place_text (place_shown basis.entry way.now)) }
 {
     match basis {

@@ -19,7 +19,9 @@ use name_table::Name;
 #[derive(Clone, Copy, Debug)]
 pub enum Report<'a> {
     /// The text of a TITLE.
-    Title { text: &'a [u8] },
+    Title {
+        text: &'a [u8],
+    },
     /// A problem that was converted and filed, with its size.
     Converted {
         name: Name,
@@ -28,7 +30,10 @@ pub enum Report<'a> {
         entries: u32,
     },
     /// A problem that was set up.
-    SetUp { name: Name, sense: Sense },
+    SetUp {
+        name: Name,
+        sense: Sense,
+    },
     /// How the path of a solving verb ended, with the first operation that its check was refused, if one was.
     Solved {
         by: Solver,
@@ -57,9 +62,15 @@ pub enum Ending<'a> {
     /// The words of the command line are refused.
     Words,
     /// A control card is refused.
-    Control { fault: u8, card: u32 },
+    Control {
+        fault: u8,
+        card: u32,
+    },
     /// A statement is refused, with a verb fault from 1 to 14.
-    Verb { fault: u8, card: u32 },
+    Verb {
+        fault: u8,
+        card: u32,
+    },
     /// A card of a deck is refused: a fault of a number has its number, and one of a bad character its column.
     Deck {
         fault: u8,
@@ -69,9 +80,15 @@ pub enum Ending<'a> {
     },
     /// The cards of the job are refused: there are too many of them (fault 2, without a card), or one is too long (3) or has a
     /// byte that isn't printable (4).
-    CardFault { fault: u8, card: Option<u32> },
+    CardFault {
+        fault: u8,
+        card: Option<u32>,
+    },
     /// The statement of this card has made as many steps as the limit allows.
-    Limit { limit: u32, card: u32 },
+    Limit {
+        limit: u32,
+        card: u32,
+    },
     /// The run has made as many statements as it may.
     Statements,
     /// An operation is refused in the statement of this card. Where there is a basis, `way` marks the basics that the evidence

@@ -76,10 +76,12 @@ fn put_row<P: Sink>(
     let place = k as usize - 1;
     let point = standing.point.values();
     let prices = standing.prices.values();
+    let activity = point[place];
+    let slack = standing.slack[place];
     let values = [
         Value::Code(at_of(sheet.lp, standing.basis, point, k)),
-        Value::Number(point[place]),
-        Value::Number(standing.slack[place]),
+        Value::Number(activity),
+        Value::Number(slack),
         Value::limit(sheet.lp.lower_limit(k)),
         Value::limit(sheet.lp.upper_limit(k)),
         Value::Number(prices[place]),

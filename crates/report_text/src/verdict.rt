@@ -91,9 +91,7 @@ fn put_verdict_head<P: Sink>(
             let value = objective_of(sheet.lp, point.values());
             put_objective(print, by, b"OPTIMAL STEPS ", *steps, value)
         }
-        Outcome::Crossed { k } => {
-            put_found(print, by, b"INFEASIBLE STEPS 0 CROSSED ", *k, b"")
-        }
+        Outcome::Crossed { k } => { put_found(print, by, b"INFEASIBLE STEPS 0 CROSSED ", *k, b"") }
         Outcome::Infeasible { steps, .. } => {
             put_found(print, by, b"INFEASIBLE STEPS ", *steps, b" RAY")
         }
@@ -154,7 +152,9 @@ fn put_verdict_lines<P: Sink>(
             put_table(print, sheet, Table::Multipliers(ray.values()), 0, last)
         }
         Outcome::Unbounded {
-            point, direction, ..
+            point,
+            direction,
+            ..
         } => {
             let pairs = Table::Pairs(point.values(), direction.values());
             put_table(print, sheet, pairs, 0, last)
