@@ -1,5 +1,5 @@
 -- The numbers of faults.
-use Rattle.std.proofs.Common.{◌≡◌, ℕ, zero, suc, ◌+◌, ◌≤◌, ◌⊎◌, Some, codes, [], ◌∷◌, refl, sym, ap, inl, inr, arith}
+use Rattle.std.proofs.Common.{◌≡◌, ℕ, zero, suc, ◌≤◌, Some, codes, [], ◌∷◌, refl, sym, ap, inl, inr, arith}
 use Rattle.std.specs.List.{concat}
 use Rattle.listing_definitions.specs.Ending.{verb_fault_number, VerbStop, CardStop}
 use Rattle.listing_definitions.specs.Listing.{fault_text, ending_text}

@@ -3,7 +3,7 @@ use Rattle.std.proofs.Common.{◌≡◌, ℕ, ◌++◌, List, [], ◌∷◌, Som
 use Rattle.std.specs.List.{concat, flat_map}
 use Rattle.std.specs.Fmt.{decimal}
 use Rattle.listing_definitions.specs.Ending.{Overflow}
-use Rattle.listing_definitions.specs.Listing.{overflow_text, status_letter, basic_letter}
+use Rattle.listing_definitions.specs.Listing.{overflow_text}
 use Rattle.listing_definitions.specs.Text.{refused_text}
 use Rattle.lp_definitions.specs.declared.Evidence.{Evidence}
 use Rattle.listing_definitions.specs.Ending as endings

@@ -1,5 +1,5 @@
 -- The parts in which SOLUTION is written.
-use Rattle.std.proofs.Common.{◌≡◌, ◌<◌, ◌≤◌, ◌-◌, ◌+◌, ℕ, List, [], ◌∷◌, ◌++◌, codes, sym, ◌∙◌, ap, append_assoc, arith}
+use Rattle.std.proofs.Common.{◌≡◌, ◌<◌, ◌≤◌, ◌-◌, ◌+◌, ℕ, [], ◌∷◌, ◌++◌, codes, sym, ◌∙◌, ap, append_assoc, arith}
 use Rattle.std.specs.List.{concat, flat_map}
 use Rattle.std.proofs.lemmas.List.{append-nil}
 use Rattle.std.proofs.lemmas.List.Folds.{flat_map-map}
@@ -10,7 +10,7 @@ use Rattle.listing_definitions.specs.Text.{mark_text, solution_text, line_text, 
 use Rattle.report_text.specs.declared.sheet.Sheet.{Sheet}
 use Rattle.report_text.specs.declared.table.Standing.{Standing}
 use Rattle.report_text.specs.declared.table.Table.TheVariants.{Rows, Columns}
-use Rattle.report_text.specs.Lines.{line_of, lines_of, row_values, column_values}
+use Rattle.report_text.specs.Lines.{line_of, row_values, column_values}
 use Rattle.report_text.specs.Sheets.{IsSheet}
 use Rattle.report_text.specs.Tables.{HasLine, IsStanding, line_shown}
 use Rattle.report_text.specs.Solutions.{lines_shown, rows_heading, columns_heading}

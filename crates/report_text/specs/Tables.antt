@@ -4,7 +4,7 @@
 use Rattle.std.specs.Prelude.{◌≡◌, ◌<◌, ◌≤◌, ℕ, List, [], None, length, if◌then◌else◌}
 use Rattle.exact_values.specs.Rational.{zero_ℚ}
 use Rattle.exact_values.specs.Tests.{eq_ℚ}
-use Rattle.lp_definitions.specs.LinearProgram.{IsVariable, IsRow, size, value_at}
+use Rattle.lp_definitions.specs.LinearProgram.{IsVariable, size, value_at}
 use Rattle.listing_definitions.specs.Text.{line_text}
 use Rattle.report_text.specs.declared.sheet.Sheet.{Sheet}
 use Rattle.report_text.specs.declared.table.Standing.{Standing}

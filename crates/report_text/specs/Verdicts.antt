@@ -1,5 +1,5 @@
 -- What the borrowed data of a verdict prints.
-use Rattle.std.specs.Prelude.{◌≡◌, ◌≤◌, ℕ, List, Option, Some, None, length}
+use Rattle.std.specs.Prelude.{◌≡◌, List, Option, Some, None, length}
 use Rattle.exact_values.specs.Rational.{ℚ}
 use Rattle.frac128.specs.declared.Refused.{Refused}
 use Rattle.lp_definitions.specs.LinearProgram.{size, value_at}

@@ -1,4 +1,4 @@
-use Rattle.std.proofs.Common.{◌++◌, [], codes}
+use Rattle.std.proofs.Common.{◌++◌, codes}
 use Rattle.std.specs.List.{flat_map}
 use Rattle.std.proofs.lemmas.Result.{err_from_is_err_and}
 use Rattle.job_devices.proofs.TextLemmas.{writes_then, writes_more}

@@ -1,9 +1,8 @@
-use Rattle.std.proofs.Common.{◌∙◌, ap}
 use Rattle.std.proofs.lemmas.Result.{err_from_is_err_and}
 use Rattle.job_devices.proofs.TextLemmas.{writes_then, writes_more, writes_same}
 use Rattle.listing_definitions.specs.Text.{table_text}
 use Rattle.report_text.specs.Solutions.{lines_shown}
-use Rattle.report_text.proofs.Solutions.{row_lines, row_table}
+use Rattle.report_text.proofs.Solutions.{row_table}
 use Rattle.report_text.proofs.solution.put_rows.Goals as goal
 
 pub returns-in_err-put_all : goal.returns-in_err-put_all
