@@ -1,0 +1,6 @@
+pub mod Faults
+pub mod Overflows
+pub mod Tables
+pub mod Values
+pub mod Verdicts
+pub mod Solutions

@@ -1,0 +1,71 @@
+-- The lines of the tables that are printed of a linear program.
+--     name_of problem k            the name of variable k
+--     at_of p s z k                where a variable stands, as it is printed
+--     lines_of problem values ks   a line for each of these variables
+use Rattle.std.specs.Prelude.{ℕ, ◌+◌, ◌-◌, Bool, not, List, [], ◌∷◌, ◌++◌, map, filter, if◌then◌else◌}
+use Rattle.exact_values.specs.Rational.{ℚ, zero_ℚ}
+use Rattle.exact_values.specs.Tests.{eq_ℚ}
+use Rattle.lp_definitions.specs.LinearProgram.{LinearProgram, Vector, value_at, numbers_from, variables, lower_of, upper_of, cost}
+use Rattle.lp_definitions.specs.Basis.{status_of}
+use Rattle.lp_definitions.specs.declared.Status.{Status}
+use Rattle.lp_definitions.specs.declared.Status.TheVariants.{Bs, Ll, Ul, Fr}
+use Rattle.path_definitions.specs.Moves.{is_fixed, is_outside}
+use Rattle.problem_definitions.specs.Names.{Name, name_at}
+use Rattle.problem_definitions.specs.Problem.{Problem, row_names, group_names}
+use Rattle.listing_definitions.specs.declared.At.{At}
+use Rattle.listing_definitions.specs.declared.At.TheVariants.{Basic, Outside, Equal, Lower, Upper, Free}
+use Rattle.listing_definitions.specs.Report.{Value, Code, Number, limit_value, Line, SolutionLines}
+
+-- the variables are the rows, and then the columns
+abbrev pub name_of : Problem ℕ → ℕ → Name
+name_of problem k = name_at (row_names problem ++ group_names problem.columns) k
+
+-- where a variable of a status stands: a basic may be outside its limits, and the limits of a nonbasic may be equal
+abbrev pub at_by : Status → Bool → Bool → At
+at_by Bs outside fixed = if outside then Outside else Basic
+at_by Ll outside fixed = if fixed then Equal else Lower
+at_by Ul outside fixed = if fixed then Equal else Upper
+at_by Fr outside fixed = if fixed then Equal else Free
+
+abbrev pub at_of : LinearProgram → List Status → Vector → ℕ → At
+at_of p s z k = at_by (status_of s k) (is_outside p z k) (is_fixed p k)
+
+abbrev pub line_of : Problem ℕ → (ℕ → List Value) → ℕ → Line
+line_of problem values k = record { number = k; name = name_of problem k; values = values k }
+
+abbrev pub lines_of : Problem ℕ → (ℕ → List Value) → List ℕ → List Line
+lines_of problem values numbers = map (line_of problem values) numbers
+
+-- a variable's values in two vectors
+abbrev pub pair_values : List ℚ → List ℚ → ℕ → List Value
+pair_values first second k = Number (value_at first k) ∷ Number (value_at second k) ∷ []
+
+-- a line for each variable
+abbrev pub pair_lines : Problem ℕ → LinearProgram → List ℚ → List ℚ → List Line
+pair_lines problem p first second = lines_of problem (pair_values first second) (variables p.matrix)
+
+abbrev pub multiplier_values : List ℚ → ℕ → List Value
+multiplier_values ray k = Number (value_at ray k) ∷ []
+
+-- a line for each variable with a multiplier other than 0
+abbrev pub ray_lines : Problem ℕ → LinearProgram → List ℚ → List Line
+ray_lines problem p ray = lines_of problem (multiplier_values ray) (filter (λ k. not (eq_ℚ (value_at ray k) zero_ℚ)) (variables p.matrix))
+
+-- Where a row stands, its activity, its slack, its limits and its multiplier.
+abbrev pub row_values : LinearProgram → List Status → List ℚ → List ℚ → List ℚ → ℕ → List Value
+row_values p s point slack prices k =
+    Code (at_of p s (value_at point) k) ∷ Number (value_at point k) ∷ Number (value_at slack k) ∷
+    limit_value (lower_of p k) ∷ limit_value (upper_of p k) ∷ Number (value_at prices k) ∷ []
+
+-- Where a column stands, its activity, its cost, its limits and its reduced cost.
+abbrev pub column_values : LinearProgram → List Status → List ℚ → List ℚ → ℕ → List Value
+column_values p s point prices k =
+    Code (at_of p s (value_at point) k) ∷ Number (value_at point k) ∷ Number (cost p (k - p.rows)) ∷
+    limit_value (lower_of p k) ∷ limit_value (upper_of p k) ∷ Number (value_at prices k) ∷ []
+
+-- a line for each row, and one for each column
+abbrev pub solution_lines : Problem ℕ → LinearProgram → List Status → List ℚ → List ℚ → List ℚ → SolutionLines
+solution_lines problem p s point prices slack = record {
+  rows = lines_of problem (row_values p s point slack prices) (numbers_from 1 p.rows);
+  columns = lines_of problem (column_values p s point prices) (numbers_from (p.rows + 1) p.cols);
+}

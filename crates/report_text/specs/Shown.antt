@@ -1,0 +1,112 @@
+-- What the borrowed data of a report prints, in the words of the definitions of listings.
+--     IsReport report          the report can be printed
+--     text_shown report        its text
+use Rattle.std.specs.Prelude.{ℕ, ◌-◌, ◌≤◌, ◌≡◌, ◌⊎◌, List, [], ◌∷◌, ◌++◌, Option, Some, None, Bool, codes, slice_index_or, nat_eq, if◌then◌else◌}
+use denote.Bor.{Bor}
+use Rattle.std.specs.List.{concat, flat_map}
+use Rattle.std.specs.Fmt.{decimal}
+use Rattle.frac128.specs.Text.{fraction_text}
+use Rattle.lp_definitions.specs.declared.Evidence.{Evidence}
+use Rattle.lp_definitions.specs.declared.Status.{Status}
+use Rattle.card_definitions.specs.declared.CardFault.{CardFault}
+use Rattle.card_definitions.specs.declared.CardFault.TheVariants as card_faults
+use Rattle.listing_definitions.specs.declared.VerbFault.{VerbFault}
+use Rattle.listing_definitions.specs.declared.VerbFault.TheVariants.{DeckNotFound, NoProblem, NoSetup, NotSolved, NotOptimal, NoChangeRow, NoChangeSet, NoParmax, ParmaxBelow, NoObjective, ObjectiveNotFree, NoRhsSet, NoRangeSet, NoBoundSet}
+use Rattle.listing_definitions.specs.Report as reports
+use Rattle.listing_definitions.specs.Ending as endings
+use Rattle.listing_definitions.specs.Text.{report_text}
+use Rattle.listing_definitions.specs.Listing.{status_letter, basic_letter, ending_text}
+use Rattle.report_text.specs.Lines.{solution_lines}
+use Rattle.report_text.specs.Solutions.{IsSolution}
+use Rattle.report_text.specs.Verdicts.{IsOutcome, verdict_shown, check_shown}
+use Rattle.report_text.specs.declared.report.Report.{Report}
+use Rattle.report_text.specs.declared.report.Report.TheVariants.{Title, Converted, SetUp, Solved, Solution, End}
+use Rattle.report_text.specs.declared.report.Ending.{Ending}
+use Rattle.report_text.specs.declared.report.Ending.TheVariants.{Code, Words, Control, Verb, Deck, CardFault as CardStop, Limit, Statements, Overflow, ReadFault, PunchFault, Memory, NotBuilt}
+
+-- ---- ends
+
+-- the verb faults, in the order of their numbers from 1
+abbrev pub verb_faults : List VerbFault
+verb_faults = DeckNotFound ∷ NoProblem ∷ NoSetup ∷ NotSolved ∷ NotOptimal ∷ NoChangeRow ∷ NoChangeSet ∷ NoParmax ∷ ParmaxBelow ∷ NoObjective ∷ ObjectiveNotFree ∷ NoRhsSet ∷ NoRangeSet ∷ NoBoundSet ∷ []
+
+-- the verb fault of a number
+abbrev pub verb_fault : ℕ → VerbFault
+verb_fault number = slice_index_or verb_faults (number - 1) DeckNotFound
+
+abbrev pub IsVerbFault : ℕ → Type 0
+IsVerbFault number = (1 ≤ number) × (number ≤ 14)
+
+-- fault 2 has no card; of the two that have one, 3 is a card that is too long
+abbrev pub card_fault : ℕ → Option ℕ → CardFault
+card_fault fault None = card_faults.TooLong
+card_fault fault (Some card) = if nat_eq fault 3 then card_faults.CardTooLong card else card_faults.NotPrintable card
+
+abbrev pub IsCardFault : ℕ → Option ℕ → Type 0
+IsCardFault fault None = fault ≡ 2
+IsCardFault fault (Some card) = (fault ≡ 3) ⊎ (fault ≡ 4)
+
+-- the faults have the numbers that there are
+abbrev pub IsEnding : Ending → Type 0
+IsEnding (Verb fault card) = IsVerbFault fault
+IsEnding (CardStop fault card) = IsCardFault fault card
+IsEnding _ = Unit {0}
+
+-- the present basis and the set that the evidence speaks of, where there is a basis
+abbrev pub place_shown : Option (Bor (List Status)) → List Bool → Option endings.Place
+place_shown None way = None
+place_shown (Some basis) way = Some (record { basis = basis.now; way = way })
+
+abbrev pub ending_shown : Ending → endings.Ending
+ending_shown (Code code) = endings.Ended code
+ending_shown Words = endings.WordsRefused
+ending_shown (Control fault card) = endings.ControlStop (record { number = fault; card = card })
+ending_shown (Verb fault card) = endings.VerbStop (record { fault = verb_fault fault; card = card })
+ending_shown (Deck fault card number column) = endings.DeckStop (record { fault = fault; card = card; number = number; column = column })
+ending_shown (CardStop fault card) = endings.CardStop (card_fault fault card)
+ending_shown (Limit limit card) = endings.LimitStop (record { limit = limit; card = card })
+ending_shown Statements = endings.StatementLimit
+ending_shown (Overflow evidence basis way card) = endings.OverflowStop (record { evidence = evidence.now; place = place_shown basis way.now; card = card })
+ending_shown ReadFault = endings.ReadFault
+ending_shown PunchFault = endings.PunchFault
+ending_shown Memory = endings.Memory
+ending_shown NotBuilt = endings.NotBuilt
+
+-- ---- the parts in which an overflow is written
+
+-- the numbers of an evidence
+abbrev pub evidence_tail : Evidence → List ℕ
+evidence_tail e =
+    concat (codes " P " ∷ decimal e.p ∷ codes " Q " ∷ decimal e.q ∷ codes " I " ∷ decimal e.i ∷ codes " J " ∷ decimal e.j ∷
+    codes " TERM " ∷ decimal e.term ∷ codes " THETA " ∷ fraction_text e.theta ∷ [])
+
+-- one letter as a text
+abbrev pub letters_of : {X : Type 0} → (X → ℕ) → X → List ℕ
+letters_of letter x = letter x ∷ []
+
+-- a line of letters, behind its word
+abbrev pub letter_line : {X : Type 0} → List ℕ → (X → ℕ) → List X → List ℕ
+letter_line word letter items = concat (word ∷ flat_map (letters_of letter) items ∷ codes "\n" ∷ [])
+
+-- the two lines of letters
+abbrev pub place_text : Option endings.Place → List ℕ
+place_text None = codes "BASIS NONE\nWAY NONE\n"
+place_text (Some place) = letter_line (codes "BASIS ") status_letter place.basis ++ letter_line (codes "WAY ") basic_letter place.way
+
+-- ---- reports
+
+-- What is borrowed can be printed: the sheet names each row and column, all lists have their lengths, and the faults have the
+-- numbers that there are.
+abbrev pub IsReport : Report → Type 0
+IsReport (Solved by sheet outcome refused) = IsOutcome sheet outcome.now
+IsReport (Solution mark sheet basis point prices slack) = IsSolution sheet (record { basis = basis; point = point; prices = prices; slack = slack })
+IsReport (End ending) = IsEnding ending
+IsReport _ = Unit {0}
+
+abbrev pub text_shown : Report → List ℕ
+text_shown (Title text) = report_text (reports.Titled text.now)
+text_shown (Converted name rows columns entries) = report_text (reports.Converted (record { name = name; rows = rows; columns = columns; entries = entries }))
+text_shown (SetUp name sense) = report_text (reports.SetUp name sense)
+text_shown (Solved by sheet outcome refused) = report_text (reports.Solved by (verdict_shown sheet outcome.now) (check_shown refused))
+text_shown (Solution mark sheet basis point prices slack) = report_text (reports.Solution mark (solution_lines sheet.problem.now sheet.lp.now basis.now point.now prices.now slack.now))
+text_shown (End ending) = ending_text (ending_shown ending)

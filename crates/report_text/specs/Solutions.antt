@@ -1,0 +1,22 @@
+-- What the borrowed data of SOLUTION prints.
+use Rattle.std.specs.Prelude.{ℕ, List, codes}
+use Rattle.listing_definitions.specs.Report.{SolutionLines}
+use Rattle.report_text.specs.declared.sheet.Sheet.{Sheet}
+use Rattle.report_text.specs.declared.table.Standing.{Standing}
+use Rattle.report_text.specs.Lines.{solution_lines}
+use Rattle.report_text.specs.Sheets.{IsSheet}
+use Rattle.report_text.specs.Tables.{IsStanding}
+
+pub record IsSolution (sheet : Sheet) (standing : Standing) : Type 0 where
+  pub is_sheet : IsSheet sheet
+  pub is_standing : IsStanding sheet standing
+
+abbrev pub lines_shown : Sheet → Standing → SolutionLines
+lines_shown sheet standing = solution_lines sheet.problem.now sheet.lp.now standing.basis.now standing.point.now standing.prices.now standing.slack.now
+
+-- the heads of the two sections
+abbrev pub rows_heading : List ℕ
+rows_heading = codes "SECTION 1 - ROWS\nNUMBER ROW AT ACTIVITY SLACK LOWER UPPER DUAL\n"
+
+abbrev pub columns_heading : List ℕ
+columns_heading = codes "SECTION 2 - COLUMNS\nNUMBER COLUMN AT ACTIVITY COST LOWER UPPER REDUCED\n"

@@ -1,0 +1,15 @@
+-- The values of a table line.
+use Rattle.std.specs.Prelude.{ℕ, List, ◌++◌, codes}
+use Rattle.listing_definitions.specs.Report as reports
+use Rattle.listing_definitions.specs.Text.{value_text}
+use Rattle.report_text.specs.declared.line.Value.{Value}
+use Rattle.report_text.specs.declared.line.Value.TheVariants.{Code, Number, Absent}
+
+abbrev pub value_shown : Value → reports.Value
+value_shown (Code at) = reports.Code at
+value_shown (Number value) = reports.Number value
+value_shown Absent = reports.Absent
+
+-- the text of a value, with the blank before it
+abbrev pub value_behind_blank : Value → List ℕ
+value_behind_blank value = codes " " ++ value_text (value_shown value)

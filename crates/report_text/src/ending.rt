@@ -1,0 +1,167 @@
+// The texts of the ends of a run.
+ghost use Rattle.std.specs.Prelude.{◌≡◌, ◌≤◌, ◌∷◌, [], codes, length};
+ghost use Rattle.std.specs.List.{concat};
+ghost use Rattle.std.specs.Fmt.{decimal};
+ghost use Rattle.job_devices.specs.Text.{Writes};
+ghost use Rattle.listing_definitions.specs.Ending as endings;
+ghost use Rattle.listing_definitions.specs.Listing.{ending_text, fault_text, labelled, deck_stop_text};
+ghost use Rattle.report_text.specs.Shown.{IsEnding, IsVerbFault, IsCardFault, verb_fault, card_fault, ending_shown};
+
+use crate::overflow::put_overflow;
+use crate::report::Ending;
+use arrayvec::ArrayString;
+use itoa::Buffer;
+use job_devices::{Sink, WriteStop, put_all, put_each};
+
+// The code of a run that ends by itself.
+fn put_code<P: Sink>(print: &mut P, code: u8) -> Result<(), WriteStop>
+    ensures { Writes P.written P.faults P.refusals print.old print.new result (ending_text (endings.Ended code)) }
+{
+    let mut digits = Buffer::new();
+    put_each(print, &[b"END ", digits.format(code).as_bytes(), b"\n"])
+}
+
+// What is refused, the number of the fault, and the card on which it stands.
+fn put_fault<P: Sink>(
+    print: &mut P,
+    refused: &'static [u8],
+    fault: u8,
+    card: u32,
+) -> Result<(), WriteStop>
+    ensures { Writes P.written P.faults P.refusals print.old print.new result (concat (refused.now ∷ fault_text fault card ∷ codes "\n" ∷ [])) }
+{
+    let mut fault_digits = Buffer::new();
+    let mut card_digits = Buffer::new();
+    put_each(
+        print,
+        &[
+            refused,
+            b"FAULT ",
+            fault_digits.format(fault).as_bytes(),
+            b" CARD ",
+            card_digits.format(card).as_bytes(),
+            b"\n",
+        ],
+    )
+}
+
+// A statement that is refused, by the number of its fault.
+fn put_verb_fault<P: Sink>(print: &mut P, fault: u8, card: u32) -> Result<(), WriteStop>
+    requires { IsVerbFault fault }
+    ensures { Writes P.written P.faults P.refusals print.old print.new result (ending_text (endings.VerbStop (record { fault = verb_fault fault; card = card }))) }
+{
+    put_fault(print, b"STOP 10 VERB ", fault, card)
+}
+
+// The cards of the job are refused.
+fn put_card_fault<P: Sink>(print: &mut P, fault: u8, card: Option<u32>) -> Result<(), WriteStop>
+    requires { IsCardFault fault card }
+    ensures { Writes P.written P.faults P.refusals print.old print.new result (ending_text (endings.CardStop (card_fault fault card))) }
+{
+    match card {
+        Some(card) => put_fault(print, b"STOP 13 CARD ", fault, card),
+        None => put_all(print, b"STOP 13 CARD FAULT 2\n"),
+    }
+}
+
+// A word of at most 8 letters, and a number of at most 3 digits.
+type Label = ArrayString<11>;
+
+// A number behind its word, where there is one.
+fn label(word: &str, number: Option<u8>) -> Label
+    requires { length word.now ≤ 8 }
+    ensures { result.bytes ≡ labelled word.now number }
+{
+    let mut text = Label::new();
+    if let Some(number) = number {
+        let mut digits = Buffer::new();
+        text.push_str(word);
+        text.push_str(digits.format(number));
+    }
+    text
+}
+
+// The fault of a deck's card, with the number of a fault in a number, and the column of a bad character.
+fn put_deck_fault<P: Sink>(
+    print: &mut P,
+    refused: &'static [u8],
+    fault: u8,
+    card: u32,
+    number: Option<u8>,
+    column: Option<u8>,
+) -> Result<(), WriteStop>
+    ensures { Writes P.written P.faults P.refusals print.old print.new result (concat (refused.now ∷ fault_text fault card ∷ labelled (codes " NUMBER ") number ∷ labelled (codes " COLUMN ") column ∷ codes "\n" ∷ [])) }
+{
+    let mut fault_digits = Buffer::new();
+    let mut card_digits = Buffer::new();
+    let number_label = label(" NUMBER ", number);
+    let column_label = label(" COLUMN ", column);
+    put_each(
+        print,
+        &[
+            refused,
+            b"FAULT ",
+            fault_digits.format(fault).as_bytes(),
+            b" CARD ",
+            card_digits.format(card).as_bytes(),
+            number_label.as_str().as_bytes(),
+            column_label.as_str().as_bytes(),
+            b"\n",
+        ],
+    )
+}
+
+// What is reached, at how much of it, and the card of the statement.
+fn put_limit<P: Sink>(
+    print: &mut P,
+    reached: &'static [u8],
+    limit: u32,
+    card: u32,
+) -> Result<(), WriteStop>
+    ensures { Writes P.written P.faults P.refusals print.old print.new result (concat (reached.now ∷ decimal limit ∷ codes " CARD " ∷ decimal card ∷ codes "\n" ∷ [])) }
+{
+    let mut limit_digits = Buffer::new();
+    let mut card_digits = Buffer::new();
+    put_each(
+        print,
+        &[
+            reached,
+            limit_digits.format(limit).as_bytes(),
+            b" CARD ",
+            card_digits.format(card).as_bytes(),
+            b"\n",
+        ],
+    )
+}
+
+/// Writes the lines of an end.
+pub fn put_ending<P: Sink>(print: &mut P, ending: Ending<'_>) -> Result<(), WriteStop>
+    requires { IsEnding ending }
+    ensures { Writes P.written P.faults P.refusals print.old print.new result (ending_text (ending_shown ending.entry)) }
+{
+    match ending {
+        Ending::Code(code) => put_code(print, code),
+        Ending::Words => put_all(print, b"STOP 4 WORDS\n"),
+        Ending::Control { fault, card } => put_fault(print, b"STOP 8 CONTROL ", fault, card),
+        Ending::Verb { fault, card } => put_verb_fault(print, fault, card),
+        Ending::Deck {
+            fault,
+            card,
+            number,
+            column,
+        } => put_deck_fault(print, b"STOP 12 DECK ", fault, card, number, column),
+        Ending::CardFault { fault, card } => put_card_fault(print, fault, card),
+        Ending::Limit { limit, card } => put_limit(print, b"STOP 16 ITERATION LIMIT ", limit, card),
+        Ending::Statements => put_all(print, b"STOP 17 STATEMENT LIMIT\n"),
+        Ending::Overflow {
+            evidence,
+            basis,
+            way,
+            card,
+        } => put_overflow(print, evidence, basis, way, card),
+        Ending::ReadFault => put_all(print, b"STOP 24 READ FAULT\n"),
+        Ending::PunchFault => put_all(print, b"STOP 26 PUNCH FAULT\n"),
+        Ending::Memory => put_all(print, b"STOP 28 MEMORY\n"),
+        Ending::NotBuilt => put_all(print, b"STOP 30 NOT BUILT\n"),
+    }
+}

@@ -1,0 +1,107 @@
+// Lines of tables: a variable's number and name, and its values.
+ghost use Rattle.std.specs.Prelude.{◌≡◌, ◌∷◌, ◌++◌, [], codes, map};
+ghost use Rattle.std.specs.List.{concat, flat_map};
+ghost use Rattle.job_devices.specs.Text.{Writes};
+ghost use Rattle.listing_definitions.specs.Report.{limit_value};
+ghost use Rattle.listing_definitions.specs.Text.{at_text, number5, name8, value_text, line_text};
+ghost use Rattle.report_text.specs.Values.{value_shown, value_behind_blank};
+
+use crate::pieces::{NAME_PLACES, NUMBER_PLACES, blanks, fraction};
+use frac128::Frac;
+use itoa::Buffer;
+use job_devices::{Sink, WriteStop, put_all, put_each};
+use listing_definitions::At;
+use name_table::Name;
+
+/// A printed value of a table line.
+#[derive(Clone, Copy, Debug)]
+pub enum Value {
+    /// Where the variable stands.
+    Code(At),
+    Number(Frac),
+    /// A limit that isn't there.
+    Absent,
+}
+
+impl Value {
+    /// A limit, which may be absent.
+    pub fn limit(limit: Option<Frac>) -> Value
+        ensures { value_shown result ≡ limit_value limit }
+    {
+        match limit {
+            Some(number) => Value::Number(number),
+            None => Value::Absent,
+        }
+    }
+}
+
+// The word of a place.
+fn at_word(at: At) -> &'static [u8]
+    ensures { result.now ≡ at_text at }
+{
+    match at {
+        At::Basic => b"BS",
+        At::Outside => b"**",
+        At::Equal => b"EQ",
+        At::Lower => b"LL",
+        At::Upper => b"UL",
+        At::Free => b"FR",
+    }
+}
+
+// A value behind a blank.
+fn put_value<P: Sink>(print: &mut P, value: Value) -> Result<(), WriteStop>
+    ensures { Writes P.written P.faults P.refusals print.old print.new result (value_behind_blank value) }
+{
+    match value {
+        Value::Code(at) => put_each(print, &[b" ", at_word(at)]),
+        Value::Number(number) => {
+            let text = fraction(number);
+            put_each(print, &[b" ", text.as_str().as_bytes()])
+        }
+        Value::Absent => put_all(print, b" NONE"),
+    }
+}
+
+// Each value behind a blank.
+fn put_values<P: Sink>(print: &mut P, values: &[Value]) -> Result<(), WriteStop>
+    ensures { Writes P.written P.faults P.refusals print.old print.new result (flat_map value_behind_blank values.now) }
+{
+    for value in values {
+        put_value(print, *value)?;
+    }
+    Ok(())
+}
+
+// The number and the name.
+fn put_line_head<P: Sink>(print: &mut P, number: u32, name: Name) -> Result<(), WriteStop>
+    ensures { Writes P.written P.faults P.refusals print.old print.new result (concat (number5 number ∷ codes " " ∷ name8 name ∷ [])) }
+{
+    let mut buffer = Buffer::new();
+    let digits = buffer.format(number).as_bytes();
+    let letters = name.bytes();
+    put_each(
+        print,
+        &[
+            blanks(NUMBER_PLACES, digits.len()),
+            digits,
+            b" ",
+            letters,
+            blanks(NAME_PLACES, letters.len()),
+        ],
+    )
+}
+
+/// Writes a line of a table.
+pub fn put_line<P: Sink>(
+    print: &mut P,
+    number: u32,
+    name: Name,
+    values: &[Value],
+) -> Result<(), WriteStop>
+    ensures { Writes P.written P.faults P.refusals print.old print.new result (line_text (record { number = number; name = name; values = map value_shown values.now })) }
+{
+    put_line_head(print, number, name)?;
+    put_values(print, values)?;
+    put_all(print, b"\n")
+}

@@ -1,0 +1,169 @@
+// The text of an operation that was refused.
+ghost use Rattle.std.specs.Prelude.{ℕ, ◌≡◌, ◌∷◌, ◌++◌, [], codes};
+ghost use Rattle.std.specs.List.{concat, flat_map};
+ghost use Rattle.std.specs.Fmt.{decimal};
+ghost use Rattle.frac128.specs.Text.{fraction_text};
+ghost use Rattle.job_devices.specs.Text.{Writes};
+ghost use Rattle.listing_definitions.specs.Listing.{status_letter, basic_letter, overflow_text};
+ghost use Rattle.listing_definitions.specs.Text.{refused_text};
+ghost use Rattle.report_text.specs.Shown.{place_shown, place_text, evidence_tail, letters_of, letter_line};
+
+use crate::pieces::{fraction, operation};
+use itoa::Buffer;
+use job_devices::{Sink, WriteStop, put_all, put_each};
+use lp_definitions::{Evidence, Status};
+use lp_model::Basis;
+
+// The formula, and the refused operation.
+fn put_evidence_head<P: Sink>(
+    print: &mut P,
+    stop: &'static [u8],
+    evidence: &Evidence,
+) -> Result<(), WriteStop>
+    ensures { Writes P.written P.faults P.refusals print.old print.new result (concat (stop.now ∷ decimal evidence.now.formula ∷ codes " " ∷ refused_text evidence.now.refused ∷ [])) }
+{
+    let mut formula_digits = Buffer::new();
+    let left = fraction(evidence.refused.left);
+    let right = fraction(evidence.refused.right);
+    put_each(
+        print,
+        &[
+            stop,
+            formula_digits.format(evidence.formula).as_bytes(),
+            b" ",
+            operation(evidence.refused.op),
+            b" ",
+            left.as_str().as_bytes(),
+            b" ",
+            right.as_str().as_bytes(),
+        ],
+    )
+}
+
+// The numbers of the evidence, and the card.
+fn put_evidence_tail<P: Sink>(
+    print: &mut P,
+    evidence: &Evidence,
+    card: u32,
+) -> Result<(), WriteStop>
+    ensures { Writes P.written P.faults P.refusals print.old print.new result (concat (evidence_tail evidence.now ∷ codes " CARD " ∷ decimal card ∷ codes "\n" ∷ [])) }
+{
+    let mut p_digits = Buffer::new();
+    let mut q_digits = Buffer::new();
+    let mut i_digits = Buffer::new();
+    let mut j_digits = Buffer::new();
+    let mut term_digits = Buffer::new();
+    let mut card_digits = Buffer::new();
+    let theta = fraction(evidence.theta);
+    put_each(
+        print,
+        &[
+            b" P ",
+            p_digits.format(evidence.p).as_bytes(),
+            b" Q ",
+            q_digits.format(evidence.q).as_bytes(),
+            b" I ",
+            i_digits.format(evidence.i).as_bytes(),
+            b" J ",
+            j_digits.format(evidence.j).as_bytes(),
+            b" TERM ",
+            term_digits.format(evidence.term).as_bytes(),
+            b" THETA ",
+            theta.as_str().as_bytes(),
+            b" CARD ",
+            card_digits.format(card).as_bytes(),
+            b"\n",
+        ],
+    )
+}
+
+// What is printed as one letter.
+trait Lettered: Copy {
+    ghost letter_of: { Self → ℕ };
+
+    fn letter(self) -> &'static [u8]
+        ensures { result.now ≡ letter_of self ∷ [] };
+}
+
+// B, L, U or F.
+impl Lettered for Status {
+    ghost letter_of = { status_letter };
+
+    fn letter(self) -> &'static [u8] {
+        match self {
+            Status::Bs => b"B",
+            Status::Ll => b"L",
+            Status::Ul => b"U",
+            Status::Fr => b"F",
+        }
+    }
+}
+
+// B for a basic, and N for a nonbasic.
+impl Lettered for bool {
+    ghost letter_of = { basic_letter };
+
+    fn letter(self) -> &'static [u8] {
+        if self { b"B" } else { b"N" }
+    }
+}
+
+// A letter for each variable.
+fn put_letters<T: Lettered, P: Sink>(print: &mut P, items: &[T]) -> Result<(), WriteStop>
+    ensures { Writes P.written P.faults P.refusals print.old print.new result (flat_map (letters_of T.letter_of) items.now) }
+{
+    for item in items {
+        put_all(print, item.letter())?;
+    }
+    Ok(())
+}
+
+// A line of letters, behind its word.
+fn put_letter_line<T: Lettered, P: Sink>(
+    print: &mut P,
+    word: &'static [u8],
+    items: &[T],
+) -> Result<(), WriteStop>
+    ensures { Writes P.written P.faults P.refusals print.old print.new result (letter_line word.now T.letter_of items.now) }
+{
+    put_all(print, word)?;
+    put_letters(print, items)?;
+    put_all(print, b"\n")
+}
+
+// The lines of the basis and of the waypoint.
+fn put_letter_lines<P: Sink>(
+    print: &mut P,
+    statuses: &[Status],
+    way: &[bool],
+) -> Result<(), WriteStop>
+    ensures { Writes P.written P.faults P.refusals print.old print.new result (letter_line (codes "BASIS ") status_letter statuses.now ++ letter_line (codes "WAY ") basic_letter way.now) }
+{
+    put_letter_line(print, b"BASIS ", statuses)?;
+    put_letter_line(print, b"WAY ", way)
+}
+
+// The same lines, where there is a basis.
+fn put_place<P: Sink>(print: &mut P, basis: Option<&Basis>, way: &[bool]) -> Result<(), WriteStop>
+    ensures { Writes P.written P.faults P.refusals print.old print.new result (place_text (place_shown basis.entry way.now)) }
+{
+    match basis {
+        Some(basis) => put_letter_lines(print, basis.statuses(), way),
+        None => put_all(print, b"BASIS NONE\nWAY NONE\n"),
+    }
+}
+
+/// Writes the three lines of an overflow.
+pub fn put_overflow<P: Sink>(
+    print: &mut P,
+    evidence: &Evidence,
+    basis: Option<&Basis>,
+    way: &[bool],
+    card: u32,
+) -> Result<(), WriteStop>
+    ensures { Writes P.written P.faults P.refusals print.old print.new result (overflow_text (record { evidence = evidence.now; place = place_shown basis.entry way.now; card = card })) }
+{
+    put_evidence_head(print, b"STOP 20 OVERFLOW F", evidence)?;
+    put_evidence_tail(print, evidence, card)?;
+    put_place(print, basis, way)
+}

@@ -1,0 +1,64 @@
+// Blanks, fractions and words, as the listing shows them.
+ghost use Rattle.std.specs.Prelude.{◌≡◌, ◌≤◌, ◌-◌, replicate};
+ghost use Rattle.frac128.specs.Text.{fraction_text};
+ghost use Rattle.listing_definitions.specs.Text.{operation_text, sense_text};
+
+use arrayvec::ArrayString;
+use frac128::{Frac, Op};
+use itoa::Buffer;
+use lp_definitions::Sense;
+
+/// The text of a fraction: a sign, 39 digits, a slash and 39 digits at most.
+pub type FractionText = ArrayString<80>;
+
+/// The places of a name.
+pub const NAME_PLACES: usize = 8;
+
+/// The places of a variable's number.
+pub const NUMBER_PLACES: usize = 5;
+
+static BLANKS: [u8; 8] = [b' '; 8];
+
+/// The numerator, and behind a slash the denominator where it isn't 1.
+pub fn fraction(value: Frac) -> FractionText
+    ensures { result.bytes ≡ fraction_text value }
+{
+    let mut digits = Buffer::new();
+    let mut text = FractionText::new();
+    text.push_str(digits.format(value.num()));
+    if value.den() != 1 {
+        text.push_str("/");
+        text.push_str(digits.format(value.den().unsigned_abs()));
+    }
+    text
+}
+
+/// The blanks that fill up so many places, of which some are taken.
+pub fn blanks(places: usize, taken: usize) -> &'static [u8]
+    requires { places ≤ 8 }
+    ensures { result.now ≡ replicate (places - taken) 32 }
+{
+    &BLANKS[..places.saturating_sub(taken)]
+}
+
+/// The word of an operation.
+pub fn operation(op: Op) -> &'static [u8]
+    ensures { result.now ≡ operation_text op }
+{
+    match op {
+        Op::Add => b"ADD",
+        Op::Sub => b"SUB",
+        Op::Mul => b"MUL",
+        Op::Div => b"DIV",
+    }
+}
+
+/// The word of a sense.
+pub fn sense_word(sense: Sense) -> &'static [u8]
+    ensures { result.now ≡ sense_text sense }
+{
+    match sense {
+        Sense::Min => b"MIN",
+        Sense::Max => b"MAX",
+    }
+}

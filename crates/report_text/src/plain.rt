@@ -1,0 +1,64 @@
+// The reports of one line.
+ghost use Rattle.std.specs.Prelude.{codes};
+ghost use Rattle.job_devices.specs.Text.{Writes};
+ghost use Rattle.listing_definitions.specs.Report as reports;
+ghost use Rattle.listing_definitions.specs.Text.{report_text};
+
+use crate::pieces::{NAME_PLACES, blanks, sense_word};
+use itoa::Buffer;
+use job_devices::{Sink, WriteStop, put_each};
+use lp_definitions::Sense;
+use name_table::Name;
+
+pub fn put_title<P: Sink>(print: &mut P, text: &[u8]) -> Result<(), WriteStop>
+    ensures { Writes P.written P.faults P.refusals print.old print.new result (report_text (reports.Titled text.now)) }
+{
+    put_each(print, &[b"TITLE ", text, b"\n"])
+}
+
+pub fn put_converted<P: Sink>(
+    print: &mut P,
+    name: Name,
+    rows: u32,
+    columns: u32,
+    entries: u32,
+) -> Result<(), WriteStop>
+    ensures { Writes P.written P.faults P.refusals print.old print.new result (report_text (reports.Converted (record { name = name; rows = rows; columns = columns; entries = entries }))) }
+{
+    let mut row_digits = Buffer::new();
+    let mut column_digits = Buffer::new();
+    let mut entry_digits = Buffer::new();
+    let letters = name.bytes();
+    put_each(
+        print,
+        &[
+            b"CONVERT ",
+            letters,
+            blanks(NAME_PLACES, letters.len()),
+            b" ROWS ",
+            row_digits.format(rows).as_bytes(),
+            b" COLUMNS ",
+            column_digits.format(columns).as_bytes(),
+            b" ENTRIES ",
+            entry_digits.format(entries).as_bytes(),
+            b"\n",
+        ],
+    )
+}
+
+pub fn put_setup<P: Sink>(print: &mut P, name: Name, sense: Sense) -> Result<(), WriteStop>
+    ensures { Writes P.written P.faults P.refusals print.old print.new result (report_text (reports.SetUp name sense)) }
+{
+    let letters = name.bytes();
+    put_each(
+        print,
+        &[
+            b"SETUP   ",
+            letters,
+            blanks(NAME_PLACES, letters.len()),
+            b" ",
+            sense_word(sense),
+            b"\n",
+        ],
+    )
+}

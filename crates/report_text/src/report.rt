@@ -1,0 +1,150 @@
+// The reports of a run, and their texts.
+ghost use Rattle.job_devices.specs.Text.{Writes};
+ghost use Rattle.report_text.specs.Shown.{IsReport, text_shown};
+
+use crate::ending::put_ending;
+use crate::plain::{put_converted, put_setup, put_title};
+use crate::sheet::Sheet;
+use crate::solution::put_solution;
+use crate::table::Standing;
+use crate::verdict::put_verdict;
+use frac128::{Frac, Refused};
+use job_devices::{Sink, WriteStop};
+use listing_definitions::{Mark, Solver};
+use lp_definitions::{Evidence, Sense};
+use lp_model::{Basis, Outcome, Point, Prices};
+use name_table::Name;
+
+/// What a statement of a run prints, or the end of the run.
+#[derive(Clone, Copy, Debug)]
+pub enum Report<'a> {
+    /// The text of a TITLE.
+    Title {
+        text: &'a [u8],
+    },
+    /// A problem that was converted and filed, with its size.
+    Converted {
+        name: Name,
+        rows: u32,
+        columns: u32,
+        entries: u32,
+    },
+    /// A problem that was set up.
+    SetUp {
+        name: Name,
+        sense: Sense,
+    },
+    /// How the path of a solving verb ended, with the first operation that its check was refused, if one was.
+    Solved {
+        by: Solver,
+        sheet: Sheet<'a>,
+        outcome: &'a Outcome,
+        refused: Option<Refused>,
+    },
+    /// A basis with its point and its prices, and the slack of each row: its right-hand side less its activity.
+    Solution {
+        mark: Mark,
+        sheet: Sheet<'a>,
+        basis: &'a Basis,
+        point: &'a Point,
+        prices: &'a Prices,
+        slack: &'a [Frac],
+    },
+    /// The end of the run.
+    End(Ending<'a>),
+}
+
+/// How a run ends. A card is named by its number in the job, from 1.
+#[derive(Clone, Copy, Debug)]
+pub enum Ending<'a> {
+    /// The run ends by itself, with this code.
+    Code(u8),
+    /// The words of the command line are refused.
+    Words,
+    /// A control card is refused.
+    Control {
+        fault: u8,
+        card: u32,
+    },
+    /// A statement is refused, with a verb fault from 1 to 14.
+    Verb {
+        fault: u8,
+        card: u32,
+    },
+    /// A card of a deck is refused: a fault of a number has its number, and one of a bad character its column.
+    Deck {
+        fault: u8,
+        card: u32,
+        number: Option<u8>,
+        column: Option<u8>,
+    },
+    /// The cards of the job are refused: there are too many of them (fault 2, without a card), or one is too long (3) or has a
+    /// byte that isn't printable (4).
+    CardFault {
+        fault: u8,
+        card: Option<u32>,
+    },
+    /// The statement of this card has made as many steps as the limit allows.
+    Limit {
+        limit: u32,
+        card: u32,
+    },
+    /// The run has made as many statements as it may.
+    Statements,
+    /// An operation is refused in the statement of this card. Where there is a basis, `way` marks the basics that the evidence
+    /// speaks of.
+    Overflow {
+        evidence: &'a Evidence,
+        basis: Option<&'a Basis>,
+        way: &'a [bool],
+        card: u32,
+    },
+    /// The job can't be read.
+    ReadFault,
+    /// The punch can't be written.
+    PunchFault,
+    /// There is no memory.
+    Memory,
+    /// The run meets what isn't built yet.
+    NotBuilt,
+}
+
+/// Writes the text of a report. At a stop a front of it is written.
+pub fn text_of<P: Sink>(report: &Report<'_>, print: &mut P) -> Result<(), WriteStop>
+    requires { IsReport report.now }
+    ensures { Writes P.written P.faults P.refusals print.old print.new result (text_shown report.now) }
+{
+    match *report {
+        Report::Title { text } => put_title(print, text),
+        Report::Converted {
+            name,
+            rows,
+            columns,
+            entries,
+        } => put_converted(print, name, rows, columns, entries),
+        Report::SetUp { name, sense } => put_setup(print, name, sense),
+        Report::Solved {
+            by,
+            sheet,
+            outcome,
+            refused,
+        } => put_verdict(print, by, sheet, outcome, refused),
+        Report::Solution {
+            mark,
+            sheet,
+            basis,
+            point,
+            prices,
+            slack,
+        } => {
+            let standing = Standing {
+                basis,
+                point,
+                prices,
+                slack,
+            };
+            put_solution(print, mark, sheet, standing)
+        }
+        Report::End(ending) => put_ending(print, ending),
+    }
+}

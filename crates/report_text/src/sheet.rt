@@ -1,0 +1,134 @@
+// A problem with the linear program that is selected from it: names, places and costs of its variables.
+ghost use Rattle.std.specs.Prelude.{◌≡◌, ◌≤◌, ◌-◌, None, length};
+ghost use Rattle.lp_definitions.specs.LinearProgram.{IsVariable, IsColumn, size, value_at, on_row, cost};
+ghost use Rattle.lp_definitions.specs.Basis.{status_of};
+ghost use Rattle.path_definitions.specs.Moves.{is_fixed, is_below, is_above, is_outside};
+ghost use Rattle.exact_values.specs.Tests.{lt_ℚ};
+ghost use Rattle.report_text.specs.Lines.{name_of, at_by, at_of};
+ghost use Rattle.report_text.specs.Sheets.{IsSheet};
+
+use frac128::Frac;
+use listing_definitions::At;
+use lp_model::{Basis, Entry, Lp, Status};
+use name_table::Name;
+use problem_file::Problem;
+
+/// A problem, which has the names, and the linear program that is selected from it.
+#[derive(Clone, Copy, Debug)]
+pub struct Sheet<'a> {
+    pub problem: &'a Problem,
+    pub lp: &'a Lp,
+}
+
+/// The name of variable `k`.
+pub fn name_of(sheet: Sheet<'_>, k: u32) -> Name
+    requires sheet { IsSheet sheet }
+    requires variable { IsVariable sheet.lp.now.matrix k }
+    ensures { result ≡ name_of sheet.entry.problem.now k }
+{
+    let rows = sheet.problem.rows();
+    let columns = sheet.problem.columns();
+    let place = k as usize - 1;
+    if place < rows.len() {
+        let row = &rows[place];
+        row.name
+    } else {
+        let column = &columns[place - rows.len()];
+        column.name
+    }
+}
+
+// Whether `x` is below `y`.
+fn is_less(x: Frac, y: Frac) -> bool
+    ensures { result ≡ lt_ℚ x y }
+{
+    x.compare(y).is_lt()
+}
+
+// Whether this activity of `k` is outside its limits.
+fn lies_outside(lp: &Lp, activity: Frac, k: u32) -> bool
+    requires { IsVariable lp.now.matrix k }
+    ensures { result ≡ is_outside lp.now (λ _. activity) k }
+{
+    let is_below = match lp.lower_limit(k) {
+        Some(lower) => is_less(activity, lower),
+        None => false,
+    };
+    let is_above = match lp.upper_limit(k) {
+        Some(upper) => is_less(upper, activity),
+        None => false,
+    };
+    is_below || is_above
+}
+
+// Whether both limits of `k` are there, and equal.
+fn stands_fixed(lp: &Lp, k: u32) -> bool
+    requires { IsVariable lp.now.matrix k }
+    ensures { result ≡ is_fixed lp.now k }
+{
+    match (lp.lower_limit(k), lp.upper_limit(k)) {
+        (Some(lower), Some(upper)) => lower.compare(upper).is_eq(),
+        _ => false,
+    }
+}
+
+// Where a variable of this status stands, as it is printed.
+fn at_by(status: Status, is_outside: bool, is_fixed: bool) -> At
+    ensures { result ≡ at_by status is_outside is_fixed }
+{
+    match status {
+        Status::Bs if is_outside => At::Outside,
+        Status::Bs => At::Basic,
+        _ if is_fixed => At::Equal,
+        Status::Ll => At::Lower,
+        Status::Ul => At::Upper,
+        Status::Fr => At::Free,
+    }
+}
+
+/// Where variable `k` stands at this point of the basis.
+pub fn at_of(lp: &Lp, basis: &Basis, point: &[Frac], k: u32) -> At
+    requires variable { IsVariable lp.now.matrix k }
+    requires counted { length basis.now ≡ size lp.now.matrix }
+    requires places { length point.now ≡ size lp.now.matrix }
+    ensures { result ≡ at_of lp.now basis.now (value_at point.now) k }
+{
+    let is_outside = lies_outside(lp, point[k as usize - 1], k);
+    at_by(basis.status(k), is_outside, stands_fixed(lp, k))
+}
+
+// The number on this row, and 0 where there is none.
+fn number_on_row(entries: &[Entry], row: u32) -> Frac
+    ensures { result ≡ on_row entries.now row }
+{
+    for entry in entries {
+        if entry.row == row {
+            return entry.value;
+        }
+    }
+    Frac::whole(0)
+}
+
+/// What column `j` costs, where no row is added to the objective.
+pub fn cost(lp: &Lp, j: u32) -> Frac
+    requires column { IsColumn lp.now.matrix j }
+    requires no_change { lp.now.change ≡ None }
+    ensures { result ≡ cost lp.now j }
+{
+    number_on_row(lp.column(j), lp.objective)
+}
+
+/// The activity of the objective row.
+pub fn objective_of(lp: &Lp, point: &[Frac]) -> Frac
+    requires { length point.now ≡ size lp.now.matrix }
+    ensures { result ≡ value_at point.now lp.now.objective }
+{
+    point[lp.objective as usize - 1]
+}
+
+/// How many rows there are.
+pub fn row_count(lp: &Lp) -> u32
+    ensures { result ≡ lp.now.matrix.rows }
+{
+    lp.rows
+}
