@@ -1,0 +1,4 @@
+pub mod Live
+pub mod Passing
+pub mod Places
+pub mod Taking

@@ -1,0 +1,27 @@
+-- What a draft of a program holds of the cards that were read.
+use Rattle.std.specs.Prelude.{◌≡◌, ℕ, ◌+◌, ◌++◌, ◌∷◌, [], Bool, true, false, List, Option, Some, None, Result, Ok, Err, All, map, length, option_map, filter_map, bytes_eq}
+use Rattle.std.specs.Map.{lookup}
+use Rattle.card_definitions.specs.Words.{is_empty}
+use Rattle.card_definitions.specs.Cards.{Card}
+use Rattle.control_definitions.specs.declared.ControlFault.{ControlFault}
+use Rattle.control_definitions.specs.Program.{Statement}
+use Rattle.control_definitions.specs.Verbs.{verb_of}
+use Rattle.control_definitions.specs.Compiled.{position_of, control_card_fault, is_pend, fault_at}
+use Rattle.control_verbs.specs.Shown.{shown, statement_shown, IsLawful}
+use Rattle.control_compiler.specs.declared.stop.CompileStop.{CompileStop}
+use Rattle.control_compiler.specs.declared.stop.CompileStop.TheVariants.{Fault, NoMemory}
+use Rattle.control_compiler.specs.Cards.{HasPositions, statement_said}
+use Rattle.control_compiler.specs.declared.draft.Draft.{Draft}
+
+-- a draft holds the labels and the statements of these cards
+pub record IsBehind (cards : List Card) (draft : Draft) : Type 0 where
+  pub labels : HasPositions draft.labels cards
+  pub statements : map statement_shown draft.statements.items ≡ filter_map statement_said cards
+  pub lawful : All (λ statement. IsLawful (shown statement.verb)) draft.statements.items
+
+-- What becomes of a draft by one more card, of which there are as many before as it has statements and PROGRAM: the card's
+-- fault, or a draft with it. Want of memory comes whenever it comes.
+abbrev pub Takes : Result Bool CompileStop → List Card → Card → Draft → Type 0
+Takes (Err (Fault fault)) cards card draft = option_map (fault_at card.number) (control_card_fault cards card.bytes) ≡ Some fault
+Takes (Err NoMemory) cards card draft = Unit {0}
+Takes (Ok ends) cards card draft = (control_card_fault cards card.bytes ≡ None) × (ends ≡ is_pend card.bytes) × IsBehind (cards ++ card ∷ []) draft

@@ -1,0 +1,26 @@
+-- What reading a job's control cards may answer.
+use Rattle.std.specs.Prelude.{◌≡◌, ℕ, ◌+◌, ◌≤◌, List, Option, Some, None, Result, Ok, Err, length, is_some, IfSome, if◌then◌else◌}
+use Rattle.card_definitions.specs.Cards.{last_number}
+use Rattle.control_definitions.specs.Compiled.{control_fault, cards_to_pend}
+use Rattle.control_definitions.specs.declared.TheConstants.{MAX_STATEMENTS}
+use Rattle.control_compiler.specs.declared.stop.CompileStop.{CompileStop}
+use Rattle.control_compiler.specs.declared.stop.CompileStop.TheVariants.{Fault, NoMemory}
+use Rattle.control_compiler.specs.declared.reading.Reading.{Reading}
+use Rattle.control_compiler.specs.Behind.{IsBehind}
+use Rattle.control_compiler.specs.Jobs.{live_cards, has_end, late_fault}
+
+-- what is read of a job none of whose cards has a fault of its own: its statements and labels, and PEND's number, if it has one
+pub record IsRead (job : List (List ℕ)) (reading : Reading) : Type 0 where
+  pub behind : IsBehind (cards_to_pend (live_cards job)) reading.draft
+  pub ends : is_some reading.end ≡ has_end job
+  pub fault : control_fault job ≡ late_fault job
+  pub count : length (cards_to_pend (live_cards job)) ≡ length reading.draft.statements.items + (if is_some reading.end then 2 else 1)
+  pub last : IfSome reading.end (λ number. number ≡ last_number (cards_to_pend (live_cards job)))
+  pub within : IfSome reading.end (λ number. number ≤ length job)
+  pub few : length reading.draft.statements.items ≤ MAX_STATEMENTS
+
+-- The job's first fault, or what was read. Want of memory comes whenever it comes.
+abbrev pub Reads : Result Reading CompileStop → List (List ℕ) → Type 0
+Reads (Ok reading) job = IsRead job reading
+Reads (Err (Fault fault)) job = control_fault job ≡ Some fault
+Reads (Err NoMemory) job = Unit {0}

@@ -1,0 +1,86 @@
+// A program while its cards are read: labels still stand for positions.
+ghost use Rattle.std.specs.Prelude.{◌≡◌, ◌+◌, ◌≤◌, ◌++◌, List, ℕ, All, length, map, bytes_eq, is_some, false, option_to_list, OnOk, IfErr};
+ghost use Rattle.control_verbs.specs.Shown.{shown, statement_shown, IsLawful};
+ghost use Rattle.control_compiler.specs.Cards.{placed, statement_said};
+ghost use Rattle.control_compiler.specs.declared.stop.CompileStop.TheVariants.{NoMemory};
+ghost use Rattle.std.specs.Option.{option_map_or};
+ghost use Rattle.std.specs.Map.{lookup};
+ghost use Rattle.card_definitions.specs.Cards.{Card};
+
+use crate::labels::Labels;
+use crate::stop::CompileStop;
+use control_definitions::ControlFault;
+use control_text::label;
+use control_verbs::{Statement, card_fault, is_pend, label_in, verb_of};
+use name_table::Name;
+
+/// The labels and the statements of the cards read so far, of which the first is PROGRAM.
+#[derive(Drop)]
+pub struct Draft {
+    pub labels: Labels,
+    pub statements: Vec<Statement<Name>>,
+}
+
+// Gives a label its position, if there is one.
+pub fn place_label(
+    labels: &mut Labels,
+    label: Option<Name>,
+    position: u32,
+) -> Result<(), CompileStop>
+    ensures ok { OnOk result ((other : List ℕ) → lookup (bytes_eq other) labels.new ≡ placed label position other (lookup (bytes_eq other) labels.old)) }
+    ensures err { IfErr result (λ stop. stop ≡ NoMemory) }
+{
+    match label {
+        Some(label) => labels.add(label, position),
+        None => Ok(()),
+    }
+}
+
+// Puts the statement of a card behind the others, if it has one.
+fn push_statement(
+    statements: &mut Vec<Statement<Name>>,
+    number: u32,
+    card: &[u8],
+) -> Result<(), CompileStop>
+    ensures ok { OnOk result (map statement_shown statements.new.items ≡ map statement_shown statements.old.items ++ option_to_list (statement_said (record { number = number; bytes = card.now }))) }
+    ensures lawful { OnOk result (All (λ statement. IsLawful (shown statement.verb)) statements.old.items → All (λ statement. IsLawful (shown statement.verb)) statements.new.items) }
+    ensures err { IfErr result (λ stop. stop ≡ NoMemory) }
+{
+    if let Some(verb) = verb_of(card) {
+        statements.push(Statement { card: number, verb })?;
+    }
+    Ok(())
+}
+
+// Whether a label has a position.
+fn is_placed(labels: &Labels, label: &Option<Name>) -> bool
+    ensures { result ≡ option_map_or (λ (name : List ℕ). is_some (lookup (bytes_eq name) labels.now)) label.now false }
+{
+    match label {
+        Some(label) => labels.position(label).is_some(),
+        None => false,
+    }
+}
+
+impl Draft {
+    ghost use Rattle.control_compiler.specs.Behind.{IsBehind, Takes};
+
+    /// Takes one more card of the program, and tells whether it is PEND.
+    pub fn take(&mut self, number: u32, card: &[u8]) -> Result<bool, CompileStop>
+        requires { length self.old.statements.items ≤ 5000 }
+        ensures { (cards : List Card) → IsBehind cards self.old → length cards ≡ length self.old.statements.items + 1 → Takes result cards (record { number = number; bytes = card.now }) self.new }
+    {
+        let position = self.statements.len() + 1;
+        let label = label_in(label(card));
+        let is_twice = is_placed(&self.labels, &label);
+        if let Some(fault) = card_fault(card, is_twice, position) {
+            return Err(CompileStop::Fault(ControlFault {
+                number: fault,
+                card: number,
+            }));
+        }
+        place_label(&mut self.labels, label, position as u32)?;
+        push_statement(&mut self.statements, number, card)?;
+        Ok(is_pend(card))
+    }
+}

@@ -1,0 +1,8 @@
+-- The problem that a draft stands for.
+use Rattle.std.specs.Prelude.{[]}
+use Rattle.problem_definitions.specs.Names.{Name}
+use Rattle.problem_definitions.specs.Problem.{Problem}
+use Rattle.mps_convert.specs.declared.draft.DeckDraft.{DeckDraft}
+
+abbrev pub problem_shown : DeckDraft → Problem Name
+problem_shown draft = record { name = []; rows = draft.rows; columns = draft.columns; rhs = draft.rhs; ranges = draft.ranges; bounds = draft.bounds }

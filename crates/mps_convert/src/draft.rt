@@ -1,0 +1,246 @@
+// A problem in the making, card by card.
+ghost use Rattle.std.specs.Prelude.{◌≡◌, ◌≤◌, ◌++◌, None, Some, length, sum_by, IsFalse, IsTrue, IfOk, OnOk, IfErr};
+ghost use Rattle.std.specs.List.{list_all, position_or_len};
+ghost use Rattle.card_definitions.specs.Cards.{is_printable, is_blank};
+ghost use Rattle.card_definitions.specs.Words.{named};
+ghost use Rattle.problem_definitions.specs.Groups.{in_set};
+ghost use Rattle.deck_definitions.specs.DataCards.{entries_of};
+ghost use Rattle.deck_definitions.specs.Sections.{may_follow, is_section, is_section_card, section_word, section_words};
+ghost use Rattle.deck_definitions.specs.declared.Section.TheVariants.{Header};
+ghost use Rattle.deck_definitions.specs.Tests.{columns_fault};
+ghost use Rattle.deck_definitions.specs.Conversion.{section_card_fault};
+ghost use Rattle.mps_convert.specs.State.{Tells};
+ghost use Rattle.mps_convert.specs.Shown.{columns_alone};
+ghost use Rattle.mps_convert.specs.Fields_shown.{shown};
+
+use crate::bound_sets::{BoundSets, take_bound_card};
+use crate::card_reading::read_data_card;
+use crate::card_stop::CardStop;
+use crate::data_card::DataCard;
+use crate::groups::Groups;
+use crate::reading::Draft;
+use crate::rows::Rows;
+use crate::sections::{order_fault, take_column_card, take_row_card, take_set_card};
+use crate::words::{is_blank as is_empty_text, section_named};
+use card_reader::Card;
+use deck_definitions::{DeckFaultKind, Section};
+use std::alloc::Global;
+
+// Whether a card is a section card.
+fn begins_section(card: &[u8]) -> bool
+    ensures { result ≡ is_section_card card.now }
+{
+    match card.first() {
+        Some(byte) => !(*byte == b' ' || *byte == b'*'),
+        None => false,
+    }
+}
+
+// Where the first blank stands, or the card's length.
+fn first_blank(card: &[u8]) -> usize
+    ensures place { result ≡ position_or_len is_blank card.now }
+    ensures bound { result ≤ length card.now }
+{
+    card.iter()
+        .take_while(|byte| !matches!(**byte, b' '))
+        .count()
+}
+
+// The word of a section card.
+fn section_word_of(card: &[u8]) -> &[u8]
+    ensures { result.now ≡ section_word card.now }
+{
+    &card[..first_blank(card)]
+}
+
+// Whether this is the section of the NAME card.
+fn is_header(section: Section) -> bool
+    ensures { result ≡ is_section Header section }
+{
+    matches!(section, Section::Header)
+}
+
+// The section that a section card begins behind another.
+fn next_section(before: Option<Section>, card: &[u8]) -> Result<Section, CardStop>
+    ensures section { IfOk result (λ section. named section_words (section_word card.now) ≡ Some section) }
+    ensures no_fault { OnOk result (section_card_fault may_follow before card.now ≡ None) }
+    ensures stop { IfErr result (Tells (section_card_fault may_follow before card.now)) }
+{
+    let next = section_named(section_word_of(card));
+    let Some(before) = before else {
+        return match next {
+            Some(Section::Header) => Ok(Section::Header),
+            Some(Section::Rows) => Err(CardStop::Refused(DeckFaultKind::SectionOrder)),
+            Some(Section::Columns) => Err(CardStop::Refused(DeckFaultKind::SectionOrder)),
+            Some(Section::Rhs) => Err(CardStop::Refused(DeckFaultKind::SectionOrder)),
+            Some(Section::Ranges) => Err(CardStop::Refused(DeckFaultKind::SectionOrder)),
+            Some(Section::Bounds) => Err(CardStop::Refused(DeckFaultKind::SectionOrder)),
+            Some(Section::Endata) => Err(CardStop::Refused(DeckFaultKind::SectionOrder)),
+            None => Err(CardStop::Refused(DeckFaultKind::SectionOrder)),
+        };
+    };
+    let Some(section) = next else {
+        return Err(CardStop::Refused(DeckFaultKind::UnknownSection));
+    };
+    match order_fault(before, section) {
+        Some(kind) => Err(CardStop::Refused(kind)),
+        None => Ok(section),
+    }
+}
+
+// How many pairs a data card has.
+fn pair_count(card: &DataCard<'_>) -> u32
+    ensures count { result ≡ length (entries_of (shown card.now)) }
+    ensures few { result ≤ 2 }
+{
+    if is_empty_text(card.name3.bytes()) && is_empty_text(card.value2) {
+        return 1;
+    }
+    2
+}
+
+// Takes a card of COLUMNS, and counts the entries. An `Err` leaves no column.
+fn take_column(
+    alloc: Global,
+    rows: &Rows,
+    columns: &mut Groups,
+    entries: &mut u32,
+    card: &DataCard<'_>,
+) -> Result<(), CardStop>
+    requires counted { entries.old ≡ sum_by (λ column. length column.items) columns.old }
+    requires few { entries.old ≤ 50000 }
+    ensures counted { entries.new ≡ sum_by (λ column. length column.items) columns.new }
+    ensures few { entries.new ≤ 50000 }
+    ensures no_fault { OnOk result (columns_fault (columns_alone rows.now columns.old) (shown card.now) ≡ None) }
+    ensures step { OnOk result (columns.new ≡ in_set card.now.name1 (λ items. items ++ entries_of (shown card.now)) columns.old) }
+    ensures stop { IfErr result (Tells (columns_fault (columns_alone rows.now columns.old) (shown card.now))) }
+{
+    let _ = columns.len();
+    match take_column_card(alloc, rows, columns, *entries, card) {
+        Ok(()) => {
+            *entries += pair_count(card);
+            Ok(())
+        }
+        Err(stop) => {
+            *columns = Groups::new(alloc);
+            *entries = 0;
+            Err(stop)
+        }
+    }
+}
+
+/// A problem in the making: the section that goes on, and what the cards so far describe.
+#[derive(Drop)]
+pub struct DeckDraft {
+    alloc: Global,
+    section: Option<Section>,
+    rows: Rows,
+    columns: Groups,
+    entries: u32,
+    rhs: Groups,
+    ranges: Groups,
+    bounds: BoundSets,
+    ghost counted: { entries ≡ sum_by (λ column. length column.items) columns },
+    ghost few: { entries ≤ 50000 },
+}
+
+impl DeckDraft {
+    ghost use Rattle.std.specs.Prelude.{◌≡◌, [], None, Some, OnOk, IfErr, IsTrue, IsFalse};
+    ghost use Rattle.std.specs.List.{list_all};
+    ghost use Rattle.card_definitions.specs.Cards.{is_printable};
+    ghost use Rattle.card_definitions.specs.Fields.{Fixed, reading_of};
+    ghost use Rattle.card_reader.specs.Card.{card_bytes};
+    ghost use Rattle.deck_definitions.specs.Conversion.{section_fault, data_card_fault};
+    ghost use Rattle.deck_definitions.proofs.Steps.{with_card};
+    ghost use Rattle.mps_convert.specs.State.{Tells, with_data, state_of};
+    ghost use Rattle.mps_convert.specs.Fields_shown.{shown};
+    ghost use Rattle.mps_convert.specs.Draft_shown.{problem_shown};
+
+    /// A draft behind no card, which grows in this memory.
+    pub fn new(alloc: Global) -> DeckDraft
+        ensures section { result.section ≡ None }
+        ensures problem { problem_shown result ≡ record { name = []; rows = []; columns = []; rhs = []; ranges = []; bounds = [] } }
+    {
+        DeckDraft {
+            alloc,
+            section: None,
+            rows: Rows::new(alloc),
+            columns: Groups::new(alloc),
+            entries: 0,
+            rhs: Groups::new(alloc),
+            ranges: Groups::new(alloc),
+            bounds: BoundSets::new(alloc),
+        }
+    }
+
+    // Takes a data card of this section.
+    fn take_in(&mut self, section: Section, card: &DataCard<'_>) -> Result<(), CardStop>
+        ensures no_fault { OnOk result (section_fault (problem_shown self.old) section (shown card.now) ≡ None) }
+        ensures same_section { OnOk result (self.new.section ≡ self.old.section) }
+        ensures step { OnOk result (problem_shown self.new ≡ with_card section (shown card.now) (problem_shown self.old)) }
+        ensures stop { IfErr result (Tells (section_fault (problem_shown self.old) section (shown card.now))) }
+    {
+        match section {
+            Section::Rows => take_row_card(&mut self.rows, card),
+            Section::Columns => take_column(
+                self.alloc,
+                &self.rows,
+                &mut self.columns,
+                &mut self.entries,
+                card,
+            ),
+            Section::Rhs => {
+                take_set_card(self.alloc, &self.rows, Section::Rhs, &mut self.rhs, card)
+            }
+            Section::Ranges => {
+                take_set_card(
+                    self.alloc,
+                    &self.rows,
+                    Section::Ranges,
+                    &mut self.ranges,
+                    card,
+                )
+            }
+            Section::Bounds => {
+                take_bound_card(self.alloc, &self.columns, &mut self.bounds, card)
+            }
+            Section::Header => Err(CardStop::Refused(DeckFaultKind::SectionOrder)),
+            Section::Endata => Err(CardStop::Refused(DeckFaultKind::SectionOrder)),
+        }
+    }
+
+    // Takes a data card.
+    fn take_data(&mut self, card: Card<'_>) -> Result<(), CardStop>
+        requires { IsTrue (list_all is_printable (card_bytes card)) }
+        ensures no_fault { OnOk result (data_card_fault (problem_shown self.old) Fixed self.old.section (card_bytes card.entry) ≡ None) }
+        ensures same_section { OnOk result (self.new.section ≡ self.old.section) }
+        ensures step { OnOk result (problem_shown self.new ≡ with_data self.old.section (reading_of Fixed (card_bytes card.entry)) (problem_shown self.old)) }
+        ensures stop { IfErr result (Tells (data_card_fault (problem_shown self.old) Fixed self.old.section (card_bytes card.entry))) }
+    {
+        let Some(section) = self.section else {
+            return Err(CardStop::Refused(DeckFaultKind::SectionOrder));
+        };
+        if is_header(section) {
+            return Err(CardStop::Refused(DeckFaultKind::SectionOrder));
+        }
+        match read_data_card(card) {
+            Ok(data) => self.take_in(section, &data),
+            Err(kind) => Err(CardStop::Refused(kind)),
+        }
+    }
+}
+
+impl Draft for DeckDraft {
+    ghost use Rattle.std.specs.Prelude.{[]};
+
+    ghost state = { λ d. record { section = d.section; problem = record { name = []; rows = d.rows; columns = d.columns; rhs = d.rhs; ranges = d.ranges; bounds = d.bounds } } };
+
+    fn take(&mut self, card: Card<'_>) -> Result<(), CardStop> {
+        if begins_section(card.bytes()) {
+            let section = next_section(self.section, card.bytes())?;
+            self.section = Some(section);
+            return Ok(());
+        }
+        self.take_data(card)
+    }
+}

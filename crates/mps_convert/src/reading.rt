@@ -1,0 +1,64 @@
+// The cards of a deck, one after another.
+ghost use Rattle.std.specs.Prelude.{◌≡◌, ◌≤◌, [], None, All, OnOk, IfErr, IsTrue, length};
+ghost use Rattle.std.specs.List.{list_all};
+ghost use Rattle.card_definitions.specs.Cards.{live, cards_between, is_printable};
+ghost use Rattle.card_reader.specs.Card.{card_bytes};
+ghost use Rattle.deck_definitions.specs.Conversion.{card_fault, first_faulty};
+ghost use Rattle.mps_convert.specs.State.{State, state_of, state_with, state_after, fault_at, live_fault, Tells, Stops, StopsAt};
+
+use crate::card_stop::CardStop;
+use card_reader::{Card, Cards};
+use deck_fields::{DeckFault, DeckStop};
+
+/// A problem in the making.
+pub trait Draft {
+    /// What is known of the cards so far.
+    ghost state: { Self → State };
+
+    /// Takes one more card that isn't skipped. After an `Err` the draft is of no use.
+    fn take(&mut self, card: Card<'_>) -> Result<(), CardStop>
+        requires { IsTrue (list_all is_printable (card_bytes card)) }
+        ensures no_fault { OnOk result (fault_at (state self.old) (card_bytes card.entry) ≡ None) }
+        ensures step { OnOk result (state self.new ≡ state_with (state self.old) (card_bytes card.entry)) }
+        ensures stop { IfErr result (Tells (fault_at (state self.old) (card_bytes card.entry))) };
+}
+
+// Reads one more card.
+fn read_card<D: Draft>(draft: &mut D, number: u32, card: Card<'_>) -> Result<(), DeckStop>
+    requires { IsTrue (list_all is_printable (card_bytes card)) }
+    ensures no_fault { OnOk result (live_fault (D.state draft.old) (card_bytes card.entry) ≡ None) }
+    ensures step { OnOk result (D.state draft.new ≡ state_after (D.state draft.old) (card_bytes card.entry)) }
+    ensures stop { IfErr result (StopsAt number (live_fault (D.state draft.old) (card_bytes card.entry))) }
+{
+    if card.is_skipped() {
+        return Ok(());
+    }
+    match draft.take(card) {
+        Ok(()) => Ok(()),
+        Err(CardStop::Refused(kind)) => Err(DeckStop::Fault(DeckFault { card: number, kind })),
+        Err(CardStop::NoMemory) => Err(DeckStop::NoMemory),
+    }
+}
+
+/// Reads the cards from the first to the last of these numbers. An `Err` tells the first faulty card.
+pub fn read_cards<D: Draft>(
+    draft: &mut D,
+    cards: &Cards,
+    first: u32,
+    last: u32,
+) -> Result<(), DeckStop>
+    requires start { D.state draft.old ≡ state_of [] }
+    requires from_one { 1 ≤ first }
+    requires ordered { first ≤ last }
+    requires within { last ≤ length cards.now }
+    requires printable { All (λ card. IsTrue (list_all is_printable card)) cards.now }
+    ensures state { OnOk result (D.state draft.new ≡ state_of (live (cards_between first last cards.now))) }
+    ensures no_fault { OnOk result (first_faulty card_fault [] (live (cards_between first last cards.now)) ≡ None) }
+    ensures stop { IfErr result (Stops (live (cards_between first last cards.now))) }
+{
+    let end = last.min(cards.count()) + 1;
+    for number in first..end {
+        read_card(draft, number, cards.card(number))?;
+    }
+    Ok(())
+}

@@ -1,0 +1,105 @@
+// Words on cards.
+ghost use Rattle.std.specs.Prelude.{◌≡◌, bytes_eq};
+ghost use Rattle.card_definitions.specs.Words.{is_empty, named};
+ghost use Rattle.problem_definitions.specs.Names.{has_name};
+ghost use Rattle.deck_definitions.specs.DataCards.{row_kinds, bound_kinds};
+ghost use Rattle.deck_definitions.specs.Sections.{section_words, is_section};
+ghost use Rattle.deck_definitions.specs.Tests.{combination_kinds};
+ghost use Rattle.deck_definitions.specs.declared.Section.TheVariants.{Columns, Ranges};
+
+use deck_definitions::Section;
+use problem_definitions::{BoundKind, RowKind};
+
+// Whether two texts are equal.
+pub fn is_word(word: &[u8], text: &[u8]) -> bool
+    ensures { result ≡ bytes_eq word.now text.now }
+{
+    *word == *text
+}
+
+// Whether a text has no byte.
+pub fn is_blank(text: &[u8]) -> bool
+    ensures { result ≡ is_empty text.now }
+{
+    text.first().is_none()
+}
+
+// The type of a row that a word names.
+pub fn row_kind(word: &[u8]) -> Option<RowKind>
+    ensures { result ≡ named row_kinds word.now }
+{
+    if is_word(b"N", word) {
+        Some(RowKind::N)
+    } else if is_word(b"G", word) {
+        Some(RowKind::G)
+    } else if is_word(b"L", word) {
+        Some(RowKind::L)
+    } else if is_word(b"E", word) {
+        Some(RowKind::E)
+    } else {
+        None
+    }
+}
+
+// Whether a word names a type of rows that are made of other rows.
+pub fn is_combination(word: &[u8]) -> bool
+    ensures { result ≡ has_name combination_kinds word.now }
+{
+    is_word(word, b"DN") || is_word(word, b"DE") || is_word(word, b"DL") || is_word(word, b"DG")
+}
+
+// The type of a bound that a word names.
+pub fn bound_kind(word: &[u8]) -> Option<BoundKind>
+    ensures { result ≡ named bound_kinds word.now }
+{
+    if is_word(b"UP", word) {
+        Some(BoundKind::Up)
+    } else if is_word(b"LO", word) {
+        Some(BoundKind::Lo)
+    } else if is_word(b"FX", word) {
+        Some(BoundKind::Fx)
+    } else if is_word(b"FR", word) {
+        Some(BoundKind::Fr)
+    } else if is_word(b"MI", word) {
+        Some(BoundKind::Mi)
+    } else if is_word(b"PL", word) {
+        Some(BoundKind::Pl)
+    } else {
+        None
+    }
+}
+
+// The section that a word begins.
+pub fn section_named(word: &[u8]) -> Option<Section>
+    ensures { result ≡ named section_words word.now }
+{
+    if is_word(b"NAME", word) {
+        Some(Section::Header)
+    } else if is_word(b"ROWS", word) {
+        Some(Section::Rows)
+    } else if is_word(b"COLUMNS", word) {
+        Some(Section::Columns)
+    } else if is_word(b"RHS", word) {
+        Some(Section::Rhs)
+    } else if is_word(b"RANGES", word) {
+        Some(Section::Ranges)
+    } else if is_word(b"BOUNDS", word) {
+        Some(Section::Bounds)
+    } else if is_word(b"ENDATA", word) {
+        Some(Section::Endata)
+    } else {
+        None
+    }
+}
+
+pub fn is_columns(section: Section) -> bool
+    ensures { result ≡ is_section Columns section }
+{
+    matches!(section, Section::Columns)
+}
+
+pub fn is_ranges(section: Section) -> bool
+    ensures { result ≡ is_section Ranges section }
+{
+    matches!(section, Section::Ranges)
+}
