@@ -1,15 +1,18 @@
 -- The fault of a job's cards, card by card.
-use Rattle.std.proofs.Common.{◌≡◌, ℕ, ◌+◌, ◌<◌, ◌≤◌, Bool, true, false, ◌||◌, List, [], ◌∷◌, ◌++◌, Option, Some, None, length, map, refl, sym, ◌∙◌, ap, arith, subst}
+use Rattle.std.proofs.Common.{◌≡◌, ℕ, ◌+◌, ◌<◌, ◌≤◌, Bool, true, false, ◌||◌, not, List, [], ◌∷◌, ◌++◌, Option, Some, None, length, map, All, refl, sym, ◌∙◌, ap, arith, subst}
 use Rattle.std.specs.Prelude.{nat_lt}
 use Rattle.std.specs.Option.{option_or}
+use Rattle.std.specs.List.{list_all}
 use Rattle.std.proofs.lemmas.Bool.Decides.{nat_tests}
 use Rattle.std.proofs.lemmas.List.{map-append}
+use Rattle.std.proofs.lemmas.List.Elements.{All-cons, All-nil}
 use Rattle.card_definitions.proofs.Behind.{first_fault-append}
 use Rattle.card_definitions.specs.Words.{first_fault, ◌⟹◌}
-use Rattle.card_definitions.specs.Cards.{Card, card_fault, cards_of, job_fault, numbered_cards, numbered_from}
+use Rattle.card_definitions.specs.Cards.{Card, card_fault, is_printable, cards_of, job_fault, numbered_cards, numbered_from}
 use Rattle.card_definitions.specs.declared.CardFault.{CardFault}
 use Rattle.card_definitions.specs.declared.CardFault.TheVariants.{TooLong, NotPrintable, CardTooLong}
 use Rattle.card_reader.specs.Reading.{Tells}
+use Rattle.card_reader.specs.Spans.{IsFaultless}
 use Rattle.card_reader.specs.Stop.{stop_of}
 use Rattle.card_reader.specs.declared.stop.ReadStop.{ReadStop}
 
@@ -80,3 +83,32 @@ tells_fault fault stop found same e = let Goal : ReadStop → Type 0 = λ s. Tel
     each TooLong e = e
     each (NotPrintable number) e = e
     each (CardTooLong number) e = e
+
+none_first : {F : Type 0} (first rest : Option F) → option_or first rest ≡ None → first ≡ None
+none_first None rest e = refl
+none_first (Some fault) rest e = cc
+
+none_rest : {F : Type 0} (first rest : Option F) → option_or first rest ≡ None → rest ≡ None
+none_rest None rest e = e
+none_rest (Some fault) rest e = cc
+
+-- a card without a fault is printable, and short enough
+faultless_card : (number : ℕ) (card : List ℕ) → card_fault (record { number = number; bytes = card }) ≡ None → IsFaultless card
+faultless_card number card none = by (list_all is_printable card) refl (nat_lt 80 (length card)) refl none
+  where
+    by : (printable : Bool) → list_all is_printable card ≡ printable → (long : Bool) → nat_lt 80 (length card) ≡ long
+        → first_fault ((not printable ⟹ NotPrintable number) ∷ (long ⟹ CardTooLong number) ∷ []) ≡ None → IsFaultless card
+    by true p false q e = record { printable = cc; short = grind (arith, nat_tests) }
+    by true p true q e = cc
+    by false p long q e = cc
+
+-- where no card has a fault, each is printable, and short enough
+pub faultless : (cards : List (List ℕ)) → fault_of_cards cards ≡ None → All IsFaultless cards
+faultless cards none = from 1 cards none
+  where
+    from : (number : ℕ) (cards : List (List ℕ)) → first_fault (map card_fault (numbered_from number cards)) ≡ None → All IsFaultless cards
+    from number [] e = All-nil IsFaultless
+    from number (card ∷ cards) e =
+        let first = card_fault (record { number = number; bytes = card }) in
+        let rest = first_fault (map card_fault (numbered_from (number + 1) cards)) in
+        All-cons IsFaultless card cards (faultless_card number card (none_first first rest e)) (from (number + 1) cards (none_rest first rest e))

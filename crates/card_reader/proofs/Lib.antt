@@ -1,4 +1,5 @@
 pub mod CardLemmas
+pub mod CardRead
 pub mod FaultLemmas
 pub mod FieldLemmas
 pub mod ReadLemmas

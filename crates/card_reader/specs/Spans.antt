@@ -1,5 +1,7 @@
 -- Where the cards stand in the bytes of a job.
-use Rattle.std.specs.Prelude.{ℕ, ◌≤◌, List, length, map, slice_range, All}
+use Rattle.std.specs.Prelude.{ℕ, ◌≤◌, List, length, map, slice_range, All, IsTrue}
+use Rattle.std.specs.List.{list_all}
+use Rattle.card_definitions.specs.Cards.{is_printable}
 use Rattle.card_definitions.specs.declared.TheConstants.{MAX_JOB_CARDS}
 use Rattle.card_reader.specs.declared.span.Span.{Span}
 
@@ -16,7 +18,13 @@ pub record IsWithin (len : ℕ) (span : Span) : Type 0 where
   pub ordered : span.start ≤ span.end
   pub ends : span.end ≤ len
 
--- the spans lie within the bytes, and are no more than a job may have cards
+-- a card without a fault has printable bytes alone, and at most 80
+pub record IsFaultless (card : List ℕ) : Type 0 where
+  pub printable : IsTrue (list_all is_printable card)
+  pub short : length card ≤ 80
+
+-- the spans lie within the bytes, are no more than a job may have cards, and mark cards without a fault
 pub record AreSpans (bytes : List ℕ) (spans : List Span) : Type 0 where
   pub within : All (IsWithin (length bytes)) spans
   pub few : length spans ≤ MAX_JOB_CARDS
+  pub faultless : All IsFaultless (cards_at bytes spans)

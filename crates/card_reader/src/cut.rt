@@ -3,7 +3,7 @@ ghost use Rattle.std.specs.Prelude.{◌≡◌, ◌+◌, ◌≤◌, ◌<◌, ◌�
 ghost use Rattle.std.specs.List.{list_all, position, position_or_len, suffix_len};
 ghost use Rattle.card_definitions.specs.Cards.{is_line_feed, is_trailing, is_printable, cards_of, card_fault};
 ghost use Rattle.card_reader.specs.Reading.{Judges};
-ghost use Rattle.card_reader.specs.Spans.{span_bytes, cards_at, IsWithin};
+ghost use Rattle.card_reader.specs.Spans.{span_bytes, cards_at, IsWithin, IsFaultless};
 
 use crate::ReadStop;
 use crate::span::Span;
@@ -77,6 +77,7 @@ pub fn cut_cards(alloc: Global, bytes: &[u8]) -> Result<Vec<Span>, ReadStop>
     ensures cards { IfOk result (λ spans. cards_at bytes.now spans.items ≡ cards_of bytes.now) }
     ensures within { IfOk result (λ spans. All (IsWithin (length bytes.now)) spans.items) }
     ensures few { IfOk result (λ spans. length spans.items ≤ 200000) }
+    ensures faultless { IfOk result (λ spans. All IsFaultless (cards_at bytes.now spans.items)) }
     ensures fault { Judges result (Some bytes.now) }
     ensures no_read { IsErrOf result ReadStop.ReadFault → ⊥ }
 {

@@ -1,6 +1,8 @@
 //! Reads a job to its end and cuts it into cards.
 #![tactic(auto)]
 
+mod blanks;
+mod card;
 mod cards;
 mod cut;
 mod read;
@@ -9,6 +11,7 @@ mod stop;
 #[cfg(test)]
 mod tests;
 
-pub use cards::{Card, Cards};
+pub use card::Card;
+pub use cards::Cards;
 pub use read::read_job;
 pub use stop::ReadStop;

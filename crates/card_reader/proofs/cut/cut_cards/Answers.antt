@@ -5,7 +5,7 @@ use Rattle.std.specs.Option.{option_or}
 use Rattle.card_definitions.specs.Cards.{cards_of}
 use Rattle.card_reader.specs.Spans.{IsWithin, cards_at, span_bytes}
 use Rattle.card_reader.proofs.CardLemmas.{cards_done, cards_left, cards_more, length-cards_at}
-use Rattle.card_reader.proofs.FaultLemmas.{fault_of_cards, fault_of_cards-append, job_fault-cards, job_fault-within, tells_fault}
+use Rattle.card_reader.proofs.FaultLemmas.{fault_of_cards, fault_of_cards-append, faultless, job_fault-cards, job_fault-within, tells_fault}
 use Rattle.card_reader.proofs.cut.cut_cards.Goals as goal
 
 pub returns-then-len-eq-MAX_JOB_CARDS-clause-fault : goal.returns-then-len-eq-MAX_JOB_CARDS-clause-fault
@@ -53,3 +53,6 @@ returns-in-None-clause-fault c =
     let cards = cards_at bytes spans in
     let all = cards_done bytes c.loop-start.start cards c.loop-start-test.false c.loop-start.invariant.cards in
     job_fault-within bytes cards c.requires (omega (arith, length-cards_at bytes spans)) all ∙ sym c.loop-start.invariant.fault ∙ c.in-None.is
+
+pub returns-in-None-clause-faultless : goal.returns-in-None-clause-faultless
+returns-in-None-clause-faultless c = faultless _ (sym c.loop-start.invariant.fault ∙ c.in-None.is)

@@ -2,7 +2,7 @@ use Rattle.std.proofs.Common.{◌∙◌, ◌+◌, ◌-◌, ap, arith}
 use Rattle.card_definitions.specs.Cards.{is_blank}
 use Rattle.card_definitions.specs.Words.{without_trailing}
 use Rattle.card_reader.proofs.FieldLemmas.{columns_of}
-use Rattle.card_reader.proofs.cards.Card.field.Goals as goal
+use Rattle.card_reader.proofs.card.Card.field.Goals as goal
 
 pub returns : goal.returns
 returns c =
