@@ -8,9 +8,11 @@ use Rattle.std.proofs.Math.ListN.{drop_of_length-le}
 use Rattle.card_definitions.specs.Words.{each_behind, first_fault}
 use Rattle.card_definitions.specs.Cards.{Card, is_skipped, live, numbered_from}
 use Rattle.control_definitions.specs.declared.ControlFault.{ControlFault}
+use Rattle.control_definitions.specs.Verbs.{verb_of}
 use Rattle.control_definitions.specs.Compiled.{is_pend, program_cards, cards_to_pend, control_card_fault, first_control_fault, control_fault, fault_at, head_fault, live_fault, end_fault, misses_label, no_program}
 use Rattle.control_compiler.specs.Jobs.{live_cards, live_behind, behind_head, has_end, late_fault}
 use Rattle.control_compiler.specs.Underway.{IsReached}
+use Rattle.control_compiler.proofs.Taking.{program_is_no_statement}
 
 drop_at : {X : Type 0} (xs : List X) (n : ℕ) (x : X) → slice_get xs n ≡ Some x → drop n xs ≡ x ∷ drop (suc n) xs
 drop_at [] n x e = cc e
@@ -84,17 +86,26 @@ or_none : {F : Type 0} (fault : Option F) → option_or fault None ≡ fault
 or_none None = refl
 or_none (Some fault) = refl
 
+-- PROGRAM names no label.
+names_no_label : (whole : List Card) (head : Card) (rest : List Card) → verb_of head.bytes ≡ None → find (misses_label whole) rest ≡ find (misses_label whole) (head ∷ rest)
+names_no_label whole head rest none = rw none refl
+
 -- PROGRAM stands first, and the others come.
 pub reached_first : (job : List (List ℕ)) (head : Card) (rest : List Card) → live_cards job ≡ head ∷ rest → head_fault head.bytes ≡ None → IsReached job (head ∷ []) rest
 unfolding control_fault
-reached_first job head rest e lawful = record {
-  whole = ap cards_to_pend e;
-  ends = ap (λ cards. list_any (λ (card : Card). is_pend card.bytes) (behind_head cards)) e;
-  fault = subst (λ (cards : List Card). live_fault (length job) cards ≡ option_or (first_control_fault (head ∷ []) (program_cards rest))
-      (end_fault (length job) (list_any (λ (card : Card). is_pend card.bytes) (behind_head cards)) (find (misses_label (cards_to_pend cards)) (program_cards (behind_head cards)))))
-      (sym e) (rw lawful (ap (option_or (first_control_fault (head ∷ []) (program_cards rest)))
-      (or_none (end_fault (length job) (list_any (λ (card : Card). is_pend card.bytes) rest) (find (misses_label (head ∷ program_cards rest)) (program_cards rest))))));
-}
+reached_first job head rest e lawful =
+    let whole : List Card = head ∷ program_cards rest in
+    let ends : Bool = list_any (λ (card : Card). is_pend card.bytes) rest in
+    let behind : live_fault (length job) (head ∷ rest) ≡ option_or (first_control_fault (head ∷ []) (program_cards rest)) (end_fault (length job) ends (find (misses_label whole) (program_cards rest))) =
+    rw lawful (ap (option_or (first_control_fault (head ∷ []) (program_cards rest))) (or_none (end_fault (length job) ends (find (misses_label whole) (program_cards rest))))) in
+    let missing : find (misses_label whole) (program_cards rest) ≡ find (misses_label whole) whole = names_no_label whole head (program_cards rest) (program_is_no_statement head.bytes lawful).1 in
+    record {
+      whole = ap cards_to_pend e;
+      ends = ap (λ cards. list_any (λ (card : Card). is_pend card.bytes) (behind_head cards)) e;
+      fault = subst (λ (cards : List Card). live_fault (length job) cards ≡ option_or (first_control_fault (head ∷ []) (program_cards rest))
+          (end_fault (length job) (list_any (λ (card : Card). is_pend card.bytes) (behind_head cards)) (find (misses_label (cards_to_pend cards)) (cards_to_pend cards))))
+          (sym e) (behind ∙ ap (λ (card : Option Card). option_or (first_control_fault (head ∷ []) (program_cards rest)) (end_fault (length job) ends card)) missing);
+    }
 
 -- The first card isn't PROGRAM in its lawful form, or there is none.
 pub head_is_faulty : (job : List (List ℕ)) (head : Card) (rest : List Card) (fault : ControlFault) → live_cards job ≡ head ∷ rest → option_map (fault_at head.number) (head_fault head.bytes) ≡ Some fault → control_fault job ≡ Some fault

@@ -1,6 +1,8 @@
--- What reading a job's control cards may answer.
+-- What reading and compiling a job's control cards may answer.
 use Rattle.std.specs.Prelude.{◌≡◌, ℕ, ◌+◌, ◌≤◌, List, Option, Some, None, Result, Ok, Err, length, is_some, IfSome, if◌then◌else◌}
 use Rattle.card_definitions.specs.Cards.{last_number}
+use Rattle.control_definitions.specs.declared.ControlFault.{ControlFault}
+use Rattle.control_definitions.specs.Program.{Program}
 use Rattle.control_definitions.specs.Compiled.{control_fault, cards_to_pend}
 use Rattle.control_definitions.specs.declared.TheConstants.{MAX_STATEMENTS}
 use Rattle.control_compiler.specs.declared.stop.CompileStop.{CompileStop}
@@ -24,3 +26,13 @@ abbrev pub Reads : Result Reading CompileStop → List (List ℕ) → Type 0
 Reads (Ok reading) job = IsRead job reading
 Reads (Err (Fault fault)) job = control_fault job ≡ Some fault
 Reads (Err NoMemory) job = Unit {0}
+
+-- The number of PEND's card, or the fault of the program as a whole.
+abbrev pub EndsAt : Result ℕ ControlFault → Option ℕ → Option ControlFault → Type 0
+EndsAt (Ok number) pend fault = (pend ≡ Some number) × (fault ≡ None)
+EndsAt (Err told) pend fault = fault ≡ Some told
+
+-- A fault is the one that the cards have, and memory may be wanted at any time.
+abbrev pub Tells : Result Program ControlFault → CompileStop → Type 0
+Tells outcome (Fault fault) = outcome ≡ Err fault
+Tells outcome NoMemory = Unit {0}

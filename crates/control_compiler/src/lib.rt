@@ -1,13 +1,17 @@
 //! The compiler of control programs.
 #![tactic(auto)]
 
+mod compiler;
 mod draft;
 mod labels;
 mod program;
 mod reading;
 mod settling;
 mod stop;
+#[cfg(test)]
+mod tests;
 
+pub use compiler::compile;
 pub use control_definitions::{ControlFault, Demand, NameCell, NumberCell};
 pub use control_verbs::{SetupOptions, Statement, Text, Verb};
 pub use program::Program;

@@ -2,11 +2,13 @@
 ghost use Rattle.std.specs.Prelude.{◌≡◌, IfErr, IfOk, map, find, option_map};
 ghost use Rattle.control_definitions.specs.Program.{verb_by};
 ghost use Rattle.control_verbs.specs.Shown.{shown, statement_shown};
-ghost use Rattle.control_compiler.specs.Settled.{lacks_label, place_in, settled};
+ghost use Rattle.control_compiler.specs.Settled.{lacks_label, place_in, settled, settled_program};
+ghost use Rattle.control_compiler.specs.Valid.{IsProgram};
 ghost use Rattle.control_compiler.specs.declared.stop.CompileStop.TheVariants.{NoMemory};
 
 use crate::draft::Draft;
 use crate::labels::Labels;
+use crate::program::Program;
 use crate::stop::CompileStop;
 use control_verbs::{Statement, Verb};
 use name_table::Name;
@@ -68,7 +70,7 @@ fn settled_verb(labels: &Labels, verb: Verb<Name>) -> Verb<u32>
 }
 
 // The statements with positions in place of labels.
-pub fn settled_statements(
+fn settled_statements(
     alloc: Global,
     labels: &Labels,
     statements: Vec<Statement<Name>>,
@@ -82,4 +84,15 @@ pub fn settled_statements(
         all.push(Statement { card, verb })?;
     }
     Ok(all)
+}
+
+// The program of a draft, with the first card behind it.
+pub fn settle(alloc: Global, draft: Draft, decks_from: u32) -> Result<Program, CompileStop>
+    requires { IsProgram (settled_program draft decks_from) }
+    ensures ok { IfOk result (λ program. program ≡ settled_program draft decks_from) }
+    ensures err { IfErr result (λ stop. stop ≡ NoMemory) }
+{
+    let Draft { labels, statements } = draft;
+    let statements = settled_statements(alloc, &labels, statements)?;
+    Ok(Program::new(statements, decks_from))
 }

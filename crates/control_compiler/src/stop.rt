@@ -22,3 +22,14 @@ impl<T: Drop> From<AllocFailed<T>> for CompileStop {
         CompileStop::NoMemory
     }
 }
+
+impl From<ControlFault> for CompileStop {
+    ghost use Rattle.std.specs.Prelude.{◌≡◌};
+    ghost use Rattle.control_compiler.specs.declared.stop.CompileStop.TheVariants.{Fault};
+
+    ghost from_gives = { λ fault stop. stop ≡ Fault fault };
+
+    fn from(fault: ControlFault) -> Self {
+        CompileStop::Fault(fault)
+    }
+}
