@@ -13,9 +13,11 @@ use Rattle.control_definitions.specs.Compiled.{misses_label, statement_on, cards
 use Rattle.control_verbs.specs.declared.verb.Statement as read
 use Rattle.control_verbs.specs.Shown.{shown, statement_shown}
 use Rattle.control_compiler.specs.declared.reading.Reading.{Reading}
+use Rattle.control_compiler.specs.declared.stop.CompileStop.{CompileStop}
+use Rattle.control_compiler.specs.declared.stop.CompileStop.TheVariants.{Fault, NoMemory}
 use Rattle.control_compiler.specs.Cards.{statement_said}
 use Rattle.control_compiler.specs.Jobs.{live_cards, has_end, first_missing, late_fault}
-use Rattle.control_compiler.specs.Outcomes.{IsRead, EndsAt}
+use Rattle.control_compiler.specs.Outcomes.{IsRead, Reads, EndsAt, Tells}
 use Rattle.control_compiler.specs.Settled.{lacks_label, settled, settled_program}
 use Rattle.control_compiler.specs.Valid.{IsProgram}
 use Rattle.control_compiler.proofs.Named.{HoldsLaw, HoldsPosition, HoldsLimit, lacking, missing_told, statements_told, positions_within, limits_within}
@@ -51,6 +53,16 @@ numbered : (pend : Option ℕ) (number last : ℕ) → pend ≡ Some number → 
 numbered None number last e is = cc e
 numbered (Some other) number last e is = let same : other ≡ number = cc e in sym same ∙ is
 
+pub pend_within : (pend : Option ℕ) (number last : ℕ) → pend ≡ Some number → IfSome pend (λ number. number ≤ last) → number ≤ last
+pend_within None number last e le = cc e
+pend_within (Some other) number last e le = let same : other ≡ number = cc e in subst (λ (n : ℕ). n ≤ last) same le
+
+-- a job's fault, where it isn't read to PEND
+pub stopped : (job : List (List ℕ)) (stop : CompileStop) → Reads (Err stop) job → Tells (compiled job) stop
+unfolding compiled
+stopped job (Fault fault) some = ap (λ (fault : Option ControlFault). unless fault (program_of (cards_to_pend (live_cards job)))) some
+stopped job NoMemory some = tt
+
 module _ (job : List (List ℕ)) (reading : Reading) (is : IsRead job reading) where
   lawful : All HoldsLaw (filter_map statement_said (cards_to_pend (live_cards job)))
   lawful = subst (All HoldsLaw) is.behind.statements (All-map HoldsLaw statement_shown reading.draft.statements.items is.behind.lawful)
@@ -61,10 +73,18 @@ module _ (job : List (List ℕ)) (reading : Reading) (is : IsRead job reading) w
       ∙ statements_told reading.draft.labels (cards_to_pend (live_cards job)) is.behind.labels (cards_to_pend (live_cards job)) lawful
 
   -- the first statement that names a label without a position
-  pub missing_is : option_map (λ (statement : read.Statement (List ℕ)). statement.card) (find (λ (statement : read.Statement (List ℕ)). lacks_label reading.draft.labels (shown statement.verb)) reading.draft.statements.items)
+  missing_is : option_map (λ (statement : read.Statement (List ℕ)). statement.card) (find (λ (statement : read.Statement (List ℕ)). lacks_label reading.draft.labels (shown statement.verb)) reading.draft.statements.items)
       ≡ option_map (λ (card : Card). card.number) (first_missing job)
   missing_is = find_shown (lacks_label reading.draft.labels) reading.draft.statements.items ∙ ap (lacking reading.draft.labels) is.behind.statements
       ∙ missing_told reading.draft.labels (cards_to_pend (live_cards job)) is.behind.labels (cards_to_pend (live_cards job)) lawful
+
+  -- what decides, by the job's last card and the first statement that misses its label
+  pub ends_at : (last : ℕ) (missing : Option ℕ) (outcome : Result ℕ ControlFault) → last ≡ length job
+      → missing ≡ option_map (λ (statement : read.Statement (List ℕ)). statement.card) (find (λ (statement : read.Statement (List ℕ)). lacks_label reading.draft.labels (shown statement.verb)) reading.draft.statements.items)
+      → ((card : Option Card) → missing ≡ option_map (λ (card : Card). card.number) card → EndsAt outcome reading.end (end_fault last (is_some reading.end) card))
+      → EndsAt outcome reading.end (end_fault (length job) (is_some reading.end) (first_missing job))
+  ends_at last missing outcome len first told =
+      subst (λ (n : ℕ). EndsAt outcome reading.end (end_fault n (is_some reading.end) (first_missing job))) len (told (first_missing job) (first ∙ missing_is))
 
   decides : control_fault job ≡ end_fault (length job) (is_some reading.end) (first_missing job)
   decides = is.fault ∙ ap (λ (ends : Bool). end_fault (length job) ends (first_missing job)) (sym is.ends)
