@@ -1,5 +1,5 @@
 -- A job whose cards are read: its fault as a whole, or its program.
-use Rattle.std.proofs.Common.{◌≡◌, ℕ, ◌+◌, ◌≤◌, Bool, true, false, cond, List, [], ◌∷◌, Option, Some, None, length, map, refl, ap, sym, subst, ◌∙◌, arith}
+use Rattle.std.proofs.Common.{◌≡◌, ℕ, ◌+◌, ◌≤◌, Bool, true, false, cond, List, [], ◌∷◌, Option, Some, None, length, map, refl, ap, sym, subst, ◌∙◌}
 use Rattle.std.specs.Prelude.{is_some, option_map, filter_map, find, Result, Ok, Err, IfSome, if◌then◌else◌}
 use Rattle.std.specs.List.{All}
 use Rattle.std.proofs.lemmas.List.{length-map}
@@ -8,15 +8,15 @@ use Rattle.card_definitions.specs.Words.{unless}
 use Rattle.card_definitions.specs.Cards.{Card, last_number}
 use Rattle.control_definitions.specs.declared.ControlFault.{ControlFault}
 use Rattle.control_definitions.specs.declared.TheConstants.{MAX_STATEMENTS}
-use Rattle.control_definitions.specs.Program.{Verb, Statement, Program}
-use Rattle.control_definitions.specs.Compiled.{misses_label, statement_on, cards_to_pend, program_of, end_fault, no_label, fault_at, control_fault, compiled}
+use Rattle.control_definitions.specs.Program.{Verb, Statement}
+use Rattle.control_definitions.specs.Compiled.{statement_on, cards_to_pend, program_of, end_fault, control_fault, compiled}
 use Rattle.control_verbs.specs.declared.verb.Statement as read
 use Rattle.control_verbs.specs.Shown.{shown, statement_shown}
 use Rattle.control_compiler.specs.declared.reading.Reading.{Reading}
 use Rattle.control_compiler.specs.declared.stop.CompileStop.{CompileStop}
 use Rattle.control_compiler.specs.declared.stop.CompileStop.TheVariants.{Fault, NoMemory}
 use Rattle.control_compiler.specs.Cards.{statement_said}
-use Rattle.control_compiler.specs.Jobs.{live_cards, has_end, first_missing, late_fault}
+use Rattle.control_compiler.specs.Jobs.{live_cards, first_missing}
 use Rattle.control_compiler.specs.Outcomes.{IsRead, Reads, EndsAt, Tells}
 use Rattle.control_compiler.specs.Settled.{lacks_label, settled, settled_program}
 use Rattle.control_compiler.specs.Valid.{IsProgram}
@@ -25,15 +25,15 @@ use Rattle.control_compiler.proofs.Named.{HoldsLaw, HoldsPosition, HoldsLimit, l
 -- the first statement as it is shown
 find_shown : (p : Verb (List ℕ) → Bool) (statements : List (read.Statement (List ℕ)))
     → option_map (λ (statement : read.Statement (List ℕ)). statement.card) (find (λ (statement : read.Statement (List ℕ)). p (shown statement.verb)) statements)
-        ≡ option_map (λ (statement : Statement (List ℕ)). statement.card) (find (λ (statement : Statement (List ℕ)). p statement.verb) (map statement_shown statements))
+    ≡ option_map (λ (statement : Statement (List ℕ)). statement.card) (find (λ (statement : Statement (List ℕ)). p statement.verb) (map statement_shown statements))
 find_shown p [] = refl
 find_shown p (statement ∷ statements) = by (p (shown statement.verb)) (find_shown p statements)
   where
     by : (t : Bool)
         → option_map (λ (statement : read.Statement (List ℕ)). statement.card) (find (λ (statement : read.Statement (List ℕ)). p (shown statement.verb)) statements)
-            ≡ option_map (λ (statement : Statement (List ℕ)). statement.card) (find (λ (statement : Statement (List ℕ)). p statement.verb) (map statement_shown statements))
+        ≡ option_map (λ (statement : Statement (List ℕ)). statement.card) (find (λ (statement : Statement (List ℕ)). p statement.verb) (map statement_shown statements))
         → option_map (λ (statement : read.Statement (List ℕ)). statement.card) (cond t (Some statement) (find (λ (statement : read.Statement (List ℕ)). p (shown statement.verb)) statements))
-            ≡ option_map (λ (statement : Statement (List ℕ)). statement.card) (cond t (Some (statement_shown statement)) (find (λ (statement : Statement (List ℕ)). p statement.verb) (map statement_shown statements)))
+        ≡ option_map (λ (statement : Statement (List ℕ)). statement.card) (cond t (Some (statement_shown statement)) (find (λ (statement : Statement (List ℕ)). p statement.verb) (map statement_shown statements)))
     by true rest = refl
     by false rest = rest
 

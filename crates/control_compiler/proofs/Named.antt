@@ -1,13 +1,13 @@
 -- The labels that statements name: by the table of labels, and by the cards.
-use Rattle.std.proofs.Common.{◌≡◌, ℕ, zero, suc, ◌+◌, ◌-◌, ◌≤◌, ◌<◌, Bool, true, false, cond, List, [], ◌∷◌, Option, Some, None, length, map, refl, ap, sym, subst, ◌∙◌, arith, ltb}
-use Rattle.std.specs.Prelude.{max, is_none, is_some, bytes_eq, option_map, option_and_then, filter_map, find, unwrap_or, IfSome}
+use Rattle.std.proofs.Common.{◌≡◌, ℕ, ◌+◌, ◌≤◌, ◌<◌, Bool, true, false, cond, List, [], ◌∷◌, Option, Some, None, length, map, refl, ap, ◌∙◌, arith, ltb}
+use Rattle.std.specs.Prelude.{max, is_none, bytes_eq, option_map, option_and_then, filter_map, find, unwrap_or, IfSome}
 use Rattle.std.specs.Option.{option_map_or}
-use Rattle.std.specs.List.{All, cons_option, position, position_or_len}
+use Rattle.std.specs.List.{All, cons_option, position_or_len}
 use Rattle.std.proofs.lemmas.List.Elements.{All-nil, All-cons, All-head, All-tail}
 use Rattle.std.proofs.lemmas.Bool.Decides.{nat_tests}
 use Rattle.card_definitions.specs.Cards.{Card}
 use Rattle.control_definitions.specs.declared.TheConstants.{MAX_STEPS}
-use Rattle.control_definitions.specs.Program.{Verb, Statement, Initialz, Title, MoveName, MoveNumber, MoveLimit, Mvadr, Goto, Convert, Setup, Primal, Revise, Ranging, Paraobj, Pararhs, Solution, Bcdout, Exit, label_argument, verb_by}
+use Rattle.control_definitions.specs.Program.{Verb, Statement, MoveLimit, Mvadr, Goto, label_argument, verb_by}
 use Rattle.control_definitions.specs.Statements.{label_of}
 use Rattle.control_definitions.specs.Verbs.{verb_of}
 use Rattle.control_definitions.specs.Compiled.{position_of, misses_label, positioned, statement_on}
@@ -65,7 +65,7 @@ module _ (labels : List (List ℕ × ℕ)) (whole : List Card) (holds : HasPosit
       by : (verb : Option (Verb (List ℕ))) → All HoldsLaw (cons_option (option_map (said_on card.number) verb) (filter_map statement_said cards))
           → (All HoldsLaw (filter_map statement_said cards) → lacking labels (filter_map statement_said cards) ≡ missing_on whole cards)
           → lacking labels (cons_option (option_map (said_on card.number) verb) (filter_map statement_said cards))
-              ≡ option_map (λ (card : Card). card.number) (cond (misses_by whole verb) (Some card) (find (misses_label whole) cards))
+          ≡ option_map (λ (card : Card). card.number) (cond (misses_by whole verb) (Some card) (find (misses_label whole) cards))
       by None lawful rest = rest lawful
       by (Some verb) lawful rest =
           ap (λ (t : Bool). option_map (λ (statement : Statement (List ℕ)). statement.card) (cond t (Some (said_on card.number verb)) (find (λ (statement : Statement (List ℕ)). lacks_label labels statement.verb) (filter_map statement_said cards))))
@@ -74,7 +74,7 @@ module _ (labels : List (List ℕ × ℕ)) (whole : List Card) (holds : HasPosit
         where
           each : (t : Bool) → lacking labels (filter_map statement_said cards) ≡ missing_on whole cards
               → option_map (λ (statement : Statement (List ℕ)). statement.card) (cond t (Some (said_on card.number verb)) (find (λ (statement : Statement (List ℕ)). lacks_label labels statement.verb) (filter_map statement_said cards)))
-                  ≡ option_map (λ (card : Card). card.number) (cond t (Some card) (find (misses_label whole) cards))
+              ≡ option_map (λ (card : Card). card.number) (cond t (Some card) (find (misses_label whole) cards))
           each true others = refl
           each false others = others
 

@@ -1,5 +1,5 @@
 -- One more card of a job: what is known behind it.
-use Rattle.std.proofs.Common.{◌≡◌, ℕ, zero, ◌+◌, ◌<◌, ◌≤◌, Bool, true, false, not, ◌&&◌, List, [], ◌∷◌, ◌++◌, Option, Some, None, length, refl, ap, sym, subst, ◌∙◌, arith, length-append, ltb}
+use Rattle.std.proofs.Common.{◌≡◌, ℕ, ◌+◌, ◌≤◌, Bool, true, false, not, ◌&&◌, List, [], ◌∷◌, ◌++◌, Option, Some, None, length, refl, ap, sym, subst, ◌∙◌, arith, length-append, ltb}
 use Rattle.std.specs.Prelude.{Result, Ok, Err, slice_get, is_some, option_to_list}
 use Rattle.std.proofs.lemmas.Bool.Decides.{nat_tests}
 use Rattle.card_definitions.specs.Cards.{Card, is_skipped, last_number}
@@ -11,7 +11,7 @@ use Rattle.control_compiler.specs.declared.stop.CompileStop.TheVariants.{Fault, 
 use Rattle.control_compiler.specs.declared.draft.Draft.{Draft}
 use Rattle.control_compiler.specs.Behind.{IsBehind, Takes}
 use Rattle.control_compiler.specs.Jobs.{live_cards, live_behind}
-use Rattle.control_compiler.specs.Underway.{StandsFirst, IsReached, IsUnderway, IsThrough, Passes}
+use Rattle.control_compiler.specs.Underway.{StandsFirst, IsReached, IsUnderway, Passes}
 use Rattle.control_compiler.specs.Outcomes.{IsRead}
 use Rattle.control_compiler.proofs.Live.{skipped_next, live_next, none_behind, reached_next, reached_fault, reached_end, reached_nothing, reached_first}
 use Rattle.control_compiler.proofs.Taking.{IsFaultless, faultless, says_verb, pend_is_no_statement, statements_more, last_number-push}

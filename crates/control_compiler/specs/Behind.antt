@@ -1,12 +1,7 @@
 -- What a draft of a program holds of the cards that were read.
-use Rattle.std.specs.Prelude.{◌≡◌, ℕ, ◌+◌, ◌++◌, ◌∷◌, [], Bool, true, false, List, Option, Some, None, Result, Ok, Err, All, map, length, option_map, filter_map, bytes_eq}
-use Rattle.std.specs.Map.{lookup}
-use Rattle.card_definitions.specs.Words.{is_empty}
+use Rattle.std.specs.Prelude.{◌≡◌, ◌++◌, ◌∷◌, [], Bool, List, Some, None, Result, Ok, Err, All, map, option_map, filter_map}
 use Rattle.card_definitions.specs.Cards.{Card}
-use Rattle.control_definitions.specs.declared.ControlFault.{ControlFault}
-use Rattle.control_definitions.specs.Program.{Statement}
-use Rattle.control_definitions.specs.Verbs.{verb_of}
-use Rattle.control_definitions.specs.Compiled.{position_of, control_card_fault, is_pend, fault_at}
+use Rattle.control_definitions.specs.Compiled.{control_card_fault, is_pend, fault_at}
 use Rattle.control_verbs.specs.Shown.{shown, statement_shown, IsLawful}
 use Rattle.control_compiler.specs.declared.stop.CompileStop.{CompileStop}
 use Rattle.control_compiler.specs.declared.stop.CompileStop.TheVariants.{Fault, NoMemory}

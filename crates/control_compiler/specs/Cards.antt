@@ -1,5 +1,5 @@
 -- What the labels and the statements of cards are, before labels are positions.
-use Rattle.std.specs.Prelude.{◌≡◌, ℕ, Bool, false, List, Option, Some, None, option_map, bytes_eq, if◌then◌else◌}
+use Rattle.std.specs.Prelude.{◌≡◌, ℕ, false, List, Option, Some, None, option_map, bytes_eq, if◌then◌else◌}
 use Rattle.std.specs.Map.{lookup}
 use Rattle.card_definitions.specs.Words.{is_empty}
 use Rattle.card_definitions.specs.Cards.{Card}

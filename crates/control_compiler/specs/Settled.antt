@@ -1,5 +1,5 @@
 -- Labels replaced by positions.
-use Rattle.std.specs.Prelude.{ℕ, Bool, false, List, Option, is_none, map, unwrap_or, bytes_eq}
+use Rattle.std.specs.Prelude.{ℕ, Bool, false, List, is_none, map, unwrap_or, bytes_eq}
 use Rattle.std.specs.Option.{option_map_or}
 use Rattle.std.specs.Map.{lookup}
 use Rattle.control_definitions.specs.Program.{Verb, Statement, Program, label_argument, verb_by}

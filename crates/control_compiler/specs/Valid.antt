@@ -1,7 +1,7 @@
 -- What holds of every compiled program.
-use Rattle.std.specs.Prelude.{ℕ, ◌+◌, ◌≤◌, ◌<◌, List, length, Option, Some, None, All, IfSome}
+use Rattle.std.specs.Prelude.{ℕ, ◌+◌, ◌≤◌, ◌<◌, length, Option, Some, None, All, IfSome}
 use Rattle.control_definitions.specs.declared.TheConstants.{MAX_STATEMENTS, MAX_STEPS}
-use Rattle.control_definitions.specs.Program.{Verb, MoveLimit, Statement, Program, label_argument}
+use Rattle.control_definitions.specs.Program.{Verb, MoveLimit, Program, label_argument}
 
 -- the number of steps that a verb moves
 abbrev pub moved_limit : {L : Type 0} → Verb L → Option ℕ

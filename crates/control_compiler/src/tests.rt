@@ -143,8 +143,12 @@ fn statements_say_what_their_cards_say(rt: HostRuntime) -> Result<(), Fail> {
     )?;
     let program = program_of(alloc, &job)?;
     assert!(rt; matches!(verb_at(&program, 1), Some(Verb::MoveLimit(5))));
-    assert!(rt; matches!(verb_at(&program, 2), Some(Verb::MoveName(NameCell::Xobj, name)) if name.bytes().is_empty()));
-    assert!(rt; matches!(verb_at(&program, 3), Some(Verb::Title(text)) if text.bytes() == b"A, B".as_slice()));
+    assert!(rt;
+        matches!(verb_at(&program, 2), Some(Verb::MoveName(NameCell::Xobj, name)) if name.bytes().is_empty())
+    );
+    assert!(rt;
+        matches!(verb_at(&program, 3), Some(Verb::Title(text)) if text.bytes() == b"A, B".as_slice())
+    );
     assert_eq!(rt; program.decks_from(), 6);
     Ok(())
 }

@@ -1,6 +1,6 @@
 -- A job's fault, or its program.
-use Rattle.std.proofs.Common.{◌≡◌, ℕ, ◌+◌, ◌≤◌, List, Option, Some, ap, sym, ◌∙◌, arith}
-use Rattle.std.specs.Prelude.{is_some, Result, Ok, Err, IfOk}
+use Rattle.std.proofs.Common.{◌≡◌, ap, sym, ◌∙◌, arith}
+use Rattle.std.specs.Prelude.{Result, Ok, Err, IfOk}
 use Rattle.std.proofs.lemmas.Result.{err_from_is_err_and}
 use Rattle.control_definitions.specs.declared.ControlFault.{ControlFault}
 use Rattle.control_definitions.specs.Program.{Program}

@@ -2,7 +2,6 @@
 use Rattle.std.proofs.Common.{◌≡◌, ℕ, ◌-◌, Bool, true, false, ◌&&◌, List, [], ◌∷◌, Option, Some, None, map, refl, ap, sym, subst, ◌∙◌, rules}
 use Rattle.std.specs.Prelude.{slice_get, option_map}
 use Rattle.std.specs.List.{cons_option}
-use Rattle.card_definitions.specs.Cards.{Card}
 use Rattle.control_definitions.specs.Program.{Verb}
 use Rattle.control_definitions.specs.Arguments.{label_text}
 use Rattle.control_definitions.specs.Compiled.{head_fault, has_label, fault_at}

@@ -1,5 +1,5 @@
 -- All cards up to the number are skipped.
-use Rattle.std.proofs.Common.{◌≡◌, ℕ, ◌-◌, length}
+use Rattle.std.proofs.Common.{◌≡◌, ◌-◌, length}
 use Rattle.control_compiler.specs.Jobs.{live_cards, live_behind}
 use Rattle.control_compiler.proofs.reading.first_live.Given as goal
 

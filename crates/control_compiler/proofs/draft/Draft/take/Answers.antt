@@ -1,16 +1,14 @@
 -- One more card: its fault, or the labels and the statements with it.
-use Rattle.std.proofs.Common.{◌≡◌, ℕ, ◌+◌, ◌++◌, List, [], ◌∷◌, Option, Some, None, false, length, map, refl, ap, sym, ◌∙◌, arith}
-use Rattle.std.specs.Prelude.{bytes_eq, is_some, option_map, option_to_list, filter_map, max}
+use Rattle.std.proofs.Common.{◌≡◌, ℕ, ◌+◌, ◌++◌, List, [], ◌∷◌, Option, Some, None, false, refl, ap, sym, ◌∙◌, arith}
+use Rattle.std.specs.Prelude.{bytes_eq, is_some, option_map, option_to_list, filter_map}
 use Rattle.std.specs.Option.{option_map_or}
 use Rattle.std.specs.List.{cons_option}
 use Rattle.std.specs.Map.{lookup}
 use Rattle.std.proofs.lemmas.List.Elements.{filter_map-append}
-use Rattle.card_definitions.specs.Cards.{Card}
 use Rattle.control_definitions.specs.Statements.{label_of}
 use Rattle.control_definitions.specs.Arguments.{label_text}
-use Rattle.control_definitions.specs.Compiled.{has_bad_label, has_label_twice, control_card_fault, fault_at}
+use Rattle.control_definitions.specs.Compiled.{control_card_fault, fault_at}
 use Rattle.control_compiler.specs.Cards.{statement_said}
-use Rattle.control_compiler.specs.Behind.{IsBehind, Takes}
 use Rattle.control_compiler.proofs.Places.{twice_told, next_positions}
 use Rattle.control_compiler.proofs.Taking.{faultless}
 use Rattle.control_compiler.proofs.draft.Draft.take.Goals as goal

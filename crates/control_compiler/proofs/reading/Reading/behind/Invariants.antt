@@ -1,5 +1,5 @@
 -- The cards up to the number are read.
-use Rattle.std.proofs.Common.{ℕ, ◌-◌, ◌≤◌, length}
+use Rattle.std.proofs.Common.{◌-◌, length}
 use Rattle.control_compiler.specs.Underway.{IsUnderway}
 use Rattle.control_compiler.proofs.reading.Reading.behind.Given as goal
 
