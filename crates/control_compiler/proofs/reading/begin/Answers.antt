@@ -25,7 +25,7 @@ first_card job number bytes read there got live =
 
 pub returns-in-Some : goal.returns-in-Some
 returns-in-Some c = head_is_faulty c.args.cards.now (record { number = c.args.number; bytes = c.bytes-card.result.now }) (live_behind c.args.number c.args.cards.now) (record { number = c.in-Some.fault; card = c.args.number })
-    (first_card c.args.cards.now c.args.number c.requires.bytes c.bytes-card.result.now c.requires.there (c.card.ensures ∙ ap Some (sym c.bytes-card.ensures)) c.requires.live)
+    (first_card c.args.cards.now c.args.number c.requires.bytes c.bytes-card.result.now c.requires.there (c.card.ensures ∙ ap Some (sym c.bytes-card.ensures.bytes)) c.requires.live)
     (ap (option_map (fault_at c.args.number)) (sym c.in-Some.ensures))
 
 pub returns : goal.returns
@@ -34,7 +34,7 @@ returns c =
     let facts = program_is_no_statement c.bytes-card.result.now lawful in
     record {
       card = record { number = c.args.number; bytes = c.bytes-card.result.now };
-      live = first_card c.args.cards.now c.args.number c.requires.bytes c.bytes-card.result.now c.requires.there (c.card.ensures ∙ ap Some (sym c.bytes-card.ensures)) c.requires.live;
+      live = first_card c.args.cards.now c.args.number c.requires.bytes c.bytes-card.result.now c.requires.there (c.card.ensures ∙ ap Some (sym c.bytes-card.ensures.bytes)) c.requires.live;
       lawful = lawful;
       behind = record {
         labels = next_positions c.new-labels.result c.place_label.new.labels [] (record { number = c.args.number; bytes = c.bytes-card.result.now }) c.label_in.result 1
