@@ -9,6 +9,7 @@ fn decks_are_cut_at_endata_cards(rt: HostRuntime) -> Result<(), Fail> {
     let job = b"PEND\n* a note\n\nNAME          ONE\nROWS\nENDATA\n  ENDATA\nENDATA\n\n";
     let mut source = SureSource::new(rt.alloc(), job)?;
     let cards = read_job(rt.alloc(), &mut source)?;
+    assert_eq!(rt; cards.count(), 9);
     assert_eq!(rt;
         take_deck(&cards, 2, None),
         Some(Deck { first: 4, last: 6 })
@@ -28,6 +29,7 @@ fn the_first_deck_of_the_name_is_taken(rt: HostRuntime) -> Result<(), Fail> {
         b"NAME          TWO\nENDATA\nROWS\nNAME          ONE\nENDATA\nNAME          ONE\nENDATA\nNAME";
     let mut source = SureSource::new(rt.alloc(), job)?;
     let cards = read_job(rt.alloc(), &mut source)?;
+    assert_eq!(rt; cards.count(), 8);
     let one = Name::of(b"ONE").ok_or("no name")?;
     let two = Name::of(b"TWO").ok_or("no name")?;
     assert_eq!(rt;
