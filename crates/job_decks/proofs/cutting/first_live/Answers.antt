@@ -1,4 +1,4 @@
-use Rattle.std.proofs.Common.{◌<◌, ◌≤◌, ◌+◌, length, ◌∙◌, sym, arith}
+use Rattle.std.proofs.Common.{◌<◌, ◌≤◌, length, ◌∙◌, sym, arith}
 use Rattle.job_decks.proofs.Places.{skip_card, no_deck}
 use Rattle.job_decks.proofs.cutting.first_live.Goals as goal
 

@@ -1,4 +1,4 @@
-use Rattle.std.proofs.Common.{◌≡◌, ◌≤◌, ◌+◌, ◌-◌, ◌∷◌, length, drop, true, false, ap, sym, ◌∙◌, arith}
+use Rattle.std.proofs.Common.{◌≡◌, ◌≤◌, ◌+◌, ◌-◌, drop, true, false, ap, sym, ◌∙◌, arith}
 use Rattle.deck_definitions.specs.Decks.{decks_of, deck_taken, is_wanted}
 use Rattle.card_definitions.specs.Cards.{cards_between, numbered_cards}
 use Rattle.job_decks.proofs.Places.{take_first, pass_first, none_taken, first_of_deck}

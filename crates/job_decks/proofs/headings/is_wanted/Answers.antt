@@ -1,5 +1,4 @@
 use Rattle.std.proofs.Common.{◌∷◌, ap, sym, ◌∙◌}
-use Rattle.card_definitions.specs.Cards.{Card}
 use Rattle.deck_definitions.specs.Decks.{is_wanted}
 use Rattle.job_decks.proofs.Places.{named_first, unnamed_first}
 use Rattle.job_decks.proofs.headings.is_wanted.Goals as goal
