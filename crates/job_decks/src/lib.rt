@@ -1,0 +1,11 @@
+//! The decks of a job, cut from the cards behind its program, and the deck that a run takes. Nothing here takes memory.
+#![tactic(auto)]
+
+mod cutting;
+mod deck;
+mod headings;
+#[cfg(test)]
+mod tests;
+
+pub use cutting::take_deck;
+pub use deck::Deck;
