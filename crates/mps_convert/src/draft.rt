@@ -9,21 +9,17 @@ ghost use Rattle.deck_definitions.specs.Sections.{may_follow, is_section, is_sec
 ghost use Rattle.deck_definitions.specs.declared.Section.TheVariants.{Header};
 ghost use Rattle.deck_definitions.specs.Tests.{columns_fault};
 ghost use Rattle.deck_definitions.specs.Conversion.{section_card_fault};
-ghost use Rattle.mps_convert.specs.State.{Tells};
-ghost use Rattle.mps_convert.specs.Shown.{columns_alone};
-ghost use Rattle.mps_convert.specs.Fields_shown.{shown};
+ghost use Rattle.deck_parts.specs.Told.{Tells};
+ghost use Rattle.deck_parts.specs.Shown.{columns_alone};
+ghost use Rattle.deck_parts.specs.Fields_shown.{shown};
 
-use crate::bound_sets::{BoundSets, take_bound_card};
-use crate::card_reading::read_data_card;
-use crate::card_stop::CardStop;
-use crate::data_card::DataCard;
-use crate::groups::Groups;
 use crate::reading::Draft;
-use crate::rows::Rows;
-use crate::sections::{order_fault, take_column_card, take_row_card, take_set_card};
-use crate::words::{is_blank as is_empty_text, section_named};
 use card_reader::Card;
-use deck_definitions::{DeckFaultKind, Section};
+use deck_parts::{
+    BoundSets, CardStop, DataCard, DeckFaultKind, Groups, Rows, Section, is_blank as is_empty_text,
+    order_fault, read_data_card, section_named, take_bound_card, take_column_card, take_row_card,
+    take_set_card,
+};
 use std::alloc::Global;
 
 // Whether a card is a section card.
@@ -152,8 +148,9 @@ impl DeckDraft {
     ghost use Rattle.card_reader.specs.Card.{card_bytes};
     ghost use Rattle.deck_definitions.specs.Conversion.{section_fault, data_card_fault};
     ghost use Rattle.deck_definitions.proofs.Steps.{with_card};
-    ghost use Rattle.mps_convert.specs.State.{Tells, with_data, state_of};
-    ghost use Rattle.mps_convert.specs.Fields_shown.{shown};
+    ghost use Rattle.mps_convert.specs.State.{with_data, state_of};
+    ghost use Rattle.deck_parts.specs.Told.{Tells};
+    ghost use Rattle.deck_parts.specs.Fields_shown.{shown};
     ghost use Rattle.mps_convert.specs.Draft_shown.{problem_shown};
 
     /// A draft behind no card, which grows in this memory.

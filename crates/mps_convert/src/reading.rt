@@ -4,11 +4,12 @@ ghost use Rattle.std.specs.List.{list_all};
 ghost use Rattle.card_definitions.specs.Cards.{live, cards_between, is_printable};
 ghost use Rattle.card_reader.specs.Card.{card_bytes};
 ghost use Rattle.deck_definitions.specs.Conversion.{card_fault, first_faulty};
-ghost use Rattle.mps_convert.specs.State.{State, state_of, state_with, state_after, fault_at, live_fault, Tells, Stops, StopsAt};
+ghost use Rattle.mps_convert.specs.State.{State, state_of, state_with, state_after, fault_at, live_fault, Stops, StopsAt};
+ghost use Rattle.deck_parts.specs.Told.{Tells};
 
-use crate::card_stop::CardStop;
 use card_reader::{Card, Cards};
 use deck_fields::{DeckFault, DeckStop};
+use deck_parts::CardStop;
 
 /// A problem in the making.
 pub trait Draft {
