@@ -69,7 +69,7 @@ module _ {X : Type 0} (name : Name) where
   length-groups (e ∷ es) = ap (λ n. suc n) (length-groups es)
 
 module _ {X : Type 0} where
-  names-groups : (es : List (Name × List X)) → group_names (map group_at es) ≡ keys_of es
+  pub names-groups : (es : List (Name × List X)) → group_names (map group_at es) ≡ keys_of es
   names-groups [] = refl
   names-groups (e ∷ es) = ap (λ names. e.0 ∷ names) (names-groups es)
 

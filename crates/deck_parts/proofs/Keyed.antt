@@ -32,6 +32,11 @@ module _ {V X : Type 0} (f : Name × V → X) (name_of : X → Name) (own : (e :
       by true e' rest = absurd (cc e')
       by false e' rest = ap (λ xs. f e ∷ xs) (rest e')
 
+-- the names of the rows
+pub names-rows : (es : List (Name × RowKind)) → map (λ row. row.name) (map row_at es) ≡ keys_of es
+names-rows [] = refl
+names-rows (e ∷ es) = ap (λ names. e.0 ∷ names) (names-rows es)
+
 pub row_is_there : (name : Name) (es : List (Name × RowKind)) → is_some (lookup (same name) es) ≡ has_row (map row_at es) name
 row_is_there name es = there row_at (λ row. row.name) (λ e. refl) name es
 

@@ -1,5 +1,5 @@
 -- What the reader's structures show, in the words of the definitions.
-use Rattle.std.specs.Prelude.{◌≡◌, Bool, ◌&&◌, Option, List, [], ◌∷◌, ◌++◌, is_some, if◌then◌else◌}
+use Rattle.std.specs.Prelude.{◌≡◌, ℕ, Bool, ◌&&◌, Option, List, [], ◌∷◌, ◌++◌, map, is_some, if◌then◌else◌}
 use Rattle.std.specs.List.{list_any}
 use Rattle.std.specs.Map.{lookup}
 use Rattle.indexmap.specs.IndexSet.{insert_key}
@@ -8,11 +8,18 @@ use Rattle.card_definitions.specs.Fields.{Reading}
 use Rattle.card_definitions.specs.Numbers.{Decimal}
 use Rattle.problem_definitions.specs.declared.RowKind.{RowKind}
 use Rattle.problem_definitions.specs.declared.BoundKind.{BoundKind}
-use Rattle.problem_definitions.specs.Names.{Name, same}
-use Rattle.problem_definitions.specs.Problem.{Row, Entry, Bound, Group, Problem}
+use Rattle.problem_definitions.specs.Names.{Name, same, number_in}
+use Rattle.problem_definitions.specs.Problem.{Row, Entry, Bound, Group, Problem, group_names}
 use Rattle.deck_definitions.specs.declared.DeckFaultKind.{DeckFaultKind}
 use Rattle.deck_definitions.specs.declared.DeckFaultKind.TheVariants.{BoundTwice}
 use Rattle.deck_definitions.specs.Tests.{is_bound_already, bound_value_fault, filled_from_5}
+
+-- the number of the row, or of the column, of a name, from 1; 0 where it isn't there
+abbrev pub row_number : List Row → Name → ℕ
+row_number rows name = number_in (map (λ row. row.name) rows) name
+
+abbrev pub column_number : List (Group (Entry Name)) → Name → ℕ
+column_number columns name = number_in (group_names columns) name
 
 -- the rows that names with types stand for
 abbrev pub row_at : Name × RowKind → Row

@@ -1,16 +1,17 @@
 // The sets of bounds in the making.
-ghost use Rattle.std.specs.Prelude.{◌≡◌, ◌++◌, ◌∷◌, [], None, Some, map, is_some, IsTrue, IfOk, OnOk, IfErr, not, if◌then◌else◌};
+ghost use Rattle.std.specs.Prelude.{◌≡◌, ◌≤◌, ◌++◌, ◌∷◌, [], None, Some, map, length, is_some, IsTrue, IfOk, OnOk, IfErr, not, if◌then◌else◌};
 ghost use Rattle.std.specs.Map.{lookup};
 ghost use Rattle.card_definitions.specs.Numbers.{decimal_of};
 ghost use Rattle.card_definitions.specs.Words.{is_empty};
 ghost use Rattle.problem_definitions.specs.Kinds.{takes_value};
 ghost use Rattle.problem_definitions.specs.Names.{same};
+ghost use Rattle.problem_definitions.specs.Numbering.{bound_by, group_by};
 ghost use Rattle.problem_definitions.specs.Groups.{items_of, in_group, in_set};
 ghost use Rattle.deck_definitions.specs.DataCards.{bound_of, bound_group};
 ghost use Rattle.deck_definitions.specs.Tests.{bound_value_fault, bounds_fault};
 ghost use Rattle.deck_definitions.proofs.Steps.{with_group};
 ghost use Rattle.deck_parts.specs.Told.{Tells};
-ghost use Rattle.deck_parts.specs.Shown.{group_at, bounds_alone, bound_rest_fault};
+ghost use Rattle.deck_parts.specs.Shown.{group_at, bounds_alone, bound_rest_fault, column_number};
 ghost use Rattle.deck_parts.specs.Fields_shown.{shown};
 
 use crate::bounds::{Bounds, NamedBound};
@@ -23,7 +24,8 @@ use deck_definitions::DeckFaultKind;
 use deck_fields::Decimal;
 use indexmap::IndexMap;
 use name_table::Name;
-use problem_definitions::BoundKind;
+use problem_definitions::{BoundKind, MAX_COLUMNS};
+use problem_file::{BoundSet, NoMemory};
 use std::alloc::Global;
 use std::marker::Model;
 
@@ -98,6 +100,26 @@ fn take_bound_into(
     take_bound(items, kind, card)
 }
 
+// Sets with the numbers of their columns.
+fn numbered_sets(
+    alloc: Global,
+    columns: &Groups,
+    sets: &IndexMap<Name, Bounds>,
+) -> Result<Vec<BoundSet>, NoMemory>
+    requires { length columns.now ≤ MAX_COLUMNS }
+    ensures { IfOk result (λ numbered. numbered.items ≡ map (group_by (bound_by (column_number columns.now))) (map group_at sets.now.entries)) }
+{
+    let mut numbered = Vec::new(alloc);
+    for (name, bounds) in sets {
+        let set = BoundSet {
+            name: *name,
+            items: bounds.numbered(alloc, columns)?,
+        };
+        numbered.push(set).map_err(|_| NoMemory)?;
+    }
+    Ok(numbered)
+}
+
 /// Sets of bounds in first-seen order.
 #[derive(Drop)]
 pub struct BoundSets {
@@ -122,6 +144,14 @@ impl BoundSets {
         BoundSets {
             sets: IndexMap::new(alloc),
         }
+    }
+
+    /// The sets with the numbers of their columns.
+    pub fn numbered(&self, alloc: Global, columns: &Groups) -> Result<Vec<BoundSet>, NoMemory>
+        requires { length columns.now ≤ MAX_COLUMNS }
+        ensures { IfOk result (λ sets. sets.items ≡ map (group_by (bound_by (column_number columns.now))) self.now) }
+    {
+        numbered_sets(alloc, columns, &self.sets)
     }
 
     /// Takes the bound on a card into the set in its field 2, which is added last if it isn't there.

@@ -1,16 +1,19 @@
 // The bounds of a set in the making.
-ghost use Rattle.std.specs.Prelude.{◌≡◌, ◌++◌, ◌∷◌, [], ◌&&◌, ◌||◌, OnOk, IfErr};
+ghost use Rattle.std.specs.Prelude.{◌≡◌, ◌≤◌, ◌++◌, ◌∷◌, [], ◌&&◌, ◌||◌, map, length, IfOk, OnOk, IfErr};
 ghost use Rattle.std.specs.List.{list_any};
 ghost use Rattle.problem_definitions.specs.Names.{same};
+ghost use Rattle.problem_definitions.specs.Numbering.{bound_by};
 ghost use Rattle.problem_definitions.specs.Kinds.{touches_upper, touches_lower};
 ghost use Rattle.deck_definitions.specs.Tests.{is_bound_already};
-ghost use Rattle.deck_parts.specs.Shown.{marked};
+ghost use Rattle.deck_parts.specs.Shown.{marked, column_number};
 
 use crate::card_stop::CardStop;
+use crate::groups::Groups;
 use deck_fields::Decimal;
 use indexmap::IndexSet;
 use name_table::Name;
-use problem_definitions::BoundKind;
+use problem_definitions::{BoundKind, MAX_COLUMNS};
+use problem_file::{BoundItem, NoMemory};
 use std::alloc::Global;
 use std::marker::Model;
 
@@ -124,6 +127,27 @@ fn add_to(
     Ok(())
 }
 
+// Bounds with the numbers of their columns.
+fn numbered_bounds(
+    alloc: Global,
+    columns: &Groups,
+    bounds: &[NamedBound],
+) -> Result<Vec<BoundItem>, NoMemory>
+    requires { length columns.now ≤ MAX_COLUMNS }
+    ensures { IfOk result (λ items. items.items ≡ map (bound_by (column_number columns.now)) bounds.now) }
+{
+    let mut items = Vec::new(alloc);
+    for bound in bounds {
+        let item = BoundItem {
+            kind: bound.kind,
+            column: columns.number_of(&bound.column),
+            value: bound.value,
+        };
+        items.push(item).map_err(|_| NoMemory)?;
+    }
+    Ok(items)
+}
+
 impl Bounds {
     pub fn new(alloc: Global) -> Bounds
         ensures { result ≡ [] }
@@ -143,6 +167,14 @@ impl Bounds {
             is_touched(touches_top(kind), &self.uppers, column),
             is_touched(touches_bottom(kind), &self.lowers, column),
         )
+    }
+
+    /// The bounds with the numbers of their columns.
+    pub fn numbered(&self, alloc: Global, columns: &Groups) -> Result<Vec<BoundItem>, NoMemory>
+        requires { length columns.now ≤ MAX_COLUMNS }
+        ensures { IfOk result (λ items. items.items ≡ map (bound_by (column_number columns.now)) self.now) }
+    {
+        numbered_bounds(alloc, columns, &self.items)
     }
 
     /// Adds a bound at the end. An `Err` leaves no bounds.

@@ -16,8 +16,8 @@ use deck_definitions::DeckFaultKind;
 use deck_fields::fields;
 use name_table::Name;
 
-// The name in a field that holds one.
-fn name_in(field: &[u8]) -> Name
+/// The name in a field that holds one.
+pub fn name_in(field: &[u8]) -> Name
     requires { IsName field.now }
     ensures { result ≡ field.now }
 {
@@ -27,7 +27,7 @@ fn name_in(field: &[u8]) -> Name
     }
 }
 
-// Reads a data card.
+/// Reads a data card.
 #[tactic(auto, unfolding(card_definitions::specs::Fields::reading_of))]
 pub fn read_data_card<'a>(card: Card<'a>) -> Result<DataCard<'a>, DeckFaultKind>
     requires { IsTrue (list_all is_printable (card_bytes card)) }

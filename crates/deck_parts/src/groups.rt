@@ -1,24 +1,28 @@
 // Columns and sets in the making.
-ghost use Rattle.std.specs.Prelude.{◌≡◌, ◌≤◌, ◌++◌, ◌∷◌, [], None, map, length, is_some, IsTrue, OnOk, IfErr};
+ghost use Rattle.std.specs.Prelude.{◌≡◌, ◌≤◌, ◌++◌, ◌∷◌, [], None, map, length, is_some, IsTrue, IfOk, OnOk, IfErr};
 ghost use Rattle.std.specs.List.{IsDistinct};
 ghost use Rattle.std.specs.Map.{lookup};
 ghost use Rattle.problem_definitions.specs.Names.{same};
+ghost use Rattle.problem_definitions.specs.Numbering.{entry_by, group_by};
 ghost use Rattle.problem_definitions.specs.Problem.{has_group, group_names};
 ghost use Rattle.problem_definitions.specs.Groups.{items_of, in_group, in_set};
 ghost use Rattle.deck_definitions.specs.DataCards.{entries_of, pairs_of};
 ghost use Rattle.deck_definitions.specs.Tests.{pairs_fault, all_but_last};
 ghost use Rattle.deck_parts.specs.Told.{Tells};
-ghost use Rattle.deck_parts.specs.Shown.{rows_alone, group_at, opened};
+ghost use Rattle.deck_parts.specs.Shown.{rows_alone, group_at, opened, row_number, column_number};
 ghost use Rattle.deck_parts.specs.Fields_shown.{shown};
 
 use crate::card_stop::CardStop;
 use crate::data_card::DataCard;
 use crate::entries::Entries;
+use crate::numbers::number_among;
 use crate::pairs::take_pairs;
 use crate::rows::Rows;
 use deck_definitions::Section;
 use indexmap::IndexMap;
 use name_table::Name;
+use problem_definitions::{MAX_COLUMNS, MAX_ROWS};
+use problem_file::{ColumnDecl, NoMemory, ValueSet};
 use std::alloc::Global;
 use std::marker::Model;
 
@@ -52,6 +56,46 @@ fn take_into(
         return Ok(());
     };
     take_pairs(rows, section, items, count, card)
+}
+
+// Columns with the numbers of their rows.
+fn column_decls(
+    alloc: Global,
+    rows: &Rows,
+    groups: &IndexMap<Name, Entries>,
+) -> Result<Vec<ColumnDecl>, NoMemory>
+    requires { length rows.now ≤ MAX_ROWS }
+    ensures { IfOk result (λ columns. columns.items ≡ map (group_by (entry_by (row_number rows.now))) (map group_at groups.now.entries)) }
+{
+    let mut columns = Vec::new(alloc);
+    for (name, entries) in groups {
+        let column = ColumnDecl {
+            name: *name,
+            entries: entries.numbered(alloc, rows)?,
+        };
+        columns.push(column).map_err(|_| NoMemory)?;
+    }
+    Ok(columns)
+}
+
+// Sets with the numbers of their rows.
+fn value_sets(
+    alloc: Global,
+    rows: &Rows,
+    groups: &IndexMap<Name, Entries>,
+) -> Result<Vec<ValueSet>, NoMemory>
+    requires { length rows.now ≤ MAX_ROWS }
+    ensures { IfOk result (λ sets. sets.items ≡ map (group_by (entry_by (row_number rows.now))) (map group_at groups.now.entries)) }
+{
+    let mut sets = Vec::new(alloc);
+    for (name, entries) in groups {
+        let set = ValueSet {
+            name: *name,
+            items: entries.numbered(alloc, rows)?,
+        };
+        sets.push(set).map_err(|_| NoMemory)?;
+    }
+    Ok(sets)
 }
 
 /// Columns, or the sets of right-hand sides or of ranges, in first-seen order.
@@ -104,6 +148,30 @@ impl Groups {
             Some(place) => place < self.groups.len() - 1,
             None => false,
         }
+    }
+
+    /// The number of the group of this name, from 1, or 0 where it isn't there.
+    pub fn number_of(&self, name: &Name) -> u32
+        requires { length self.now ≤ MAX_COLUMNS }
+        ensures { result ≡ column_number self.now name.now }
+    {
+        number_among(&self.groups, name)
+    }
+
+    /// The groups as columns with the numbers of their rows.
+    pub fn columns(&self, alloc: Global, rows: &Rows) -> Result<Vec<ColumnDecl>, NoMemory>
+        requires { length rows.now ≤ MAX_ROWS }
+        ensures { IfOk result (λ columns. columns.items ≡ map (group_by (entry_by (row_number rows.now))) self.now) }
+    {
+        column_decls(alloc, rows, &self.groups)
+    }
+
+    /// The groups as sets with the numbers of their rows.
+    pub fn sets(&self, alloc: Global, rows: &Rows) -> Result<Vec<ValueSet>, NoMemory>
+        requires { length rows.now ≤ MAX_ROWS }
+        ensures { IfOk result (λ sets. sets.items ≡ map (group_by (entry_by (row_number rows.now))) self.now) }
+    {
+        value_sets(alloc, rows, &self.groups)
     }
 
     /// Takes the pairs of a card into the group in its field 2, which is added last if it isn't there.

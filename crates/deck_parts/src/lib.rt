@@ -9,6 +9,7 @@ mod card_stop;
 mod data_card;
 mod entries;
 mod groups;
+mod numbers;
 mod pairs;
 mod rows;
 mod sections;
@@ -17,7 +18,7 @@ mod tests;
 mod words;
 
 pub use bound_sets::{BoundSets, take_bound_card};
-pub use card_reading::read_data_card;
+pub use card_reading::{name_in, read_data_card};
 pub use card_stop::CardStop;
 pub use data_card::DataCard;
 pub use deck_definitions::{DeckFaultKind, Section};

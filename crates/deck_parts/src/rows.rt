@@ -1,12 +1,15 @@
 // The rows of a problem in the making.
-ghost use Rattle.std.specs.Prelude.{◌≡◌, ◌++◌, ◌∷◌, [], map, length, IsFalse, OnOk, IfErr};
+ghost use Rattle.std.specs.Prelude.{◌≡◌, ◌≤◌, ◌++◌, ◌∷◌, [], map, length, IsFalse, IfOk, OnOk, IfErr};
 ghost use Rattle.problem_definitions.specs.Kinds.{is_free_kind};
 ghost use Rattle.problem_definitions.specs.Problem.{has_row, has_free_row};
+ghost use Rattle.deck_parts.specs.Shown.{row_at, row_number};
 
 use crate::card_stop::CardStop;
+use crate::numbers::number_among;
 use indexmap::IndexMap;
 use name_table::Name;
-use problem_definitions::RowKind;
+use problem_definitions::{MAX_ROWS, RowKind};
+use problem_file::{NoMemory, RowDecl};
 use std::alloc::Global;
 use std::marker::Model;
 
@@ -65,6 +68,21 @@ impl Rows {
         }
     }
 
+    /// The number of the row of this name, from 1, or 0 where it isn't there.
+    pub fn number_of(&self, name: &Name) -> u32
+        requires { length self.now ≤ MAX_ROWS }
+        ensures { result ≡ row_number self.now name.now }
+    {
+        number_among(&self.kinds, name)
+    }
+
+    /// The rows as a problem has them.
+    pub fn decls(&self, alloc: Global) -> Result<Vec<RowDecl>, NoMemory>
+        ensures { IfOk result (λ decls. decls.items ≡ self.now) }
+    {
+        row_decls(alloc, &self.kinds)
+    }
+
     /// Adds a new row at the end.
     pub fn add(&mut self, kind: RowKind, name: Name) -> Result<(), CardStop>
         requires { IsFalse (has_row self.old name) }
@@ -74,6 +92,21 @@ impl Rows {
         self.kinds.insert(name, kind)?;
         Ok(())
     }
+}
+
+// The rows of these names and types.
+fn row_decls(alloc: Global, kinds: &IndexMap<Name, RowKind>) -> Result<Vec<RowDecl>, NoMemory>
+    ensures { IfOk result (λ decls. decls.items ≡ map row_at kinds.now.entries) }
+{
+    let mut decls = Vec::new(alloc);
+    for (name, kind) in kinds {
+        let row = RowDecl {
+            kind: *kind,
+            name: *name,
+        };
+        decls.push(row).map_err(|_| NoMemory)?;
+    }
+    Ok(decls)
 }
 
 // Whether a row of this type has no limits.

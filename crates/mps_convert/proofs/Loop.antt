@@ -48,7 +48,7 @@ state-step cards card fine = by (is_section_card card.bytes) refl fine
         let place = stands cards card.bytes (section_after cards) (rw e at h) in
         build false e (described-data [] cards card place.0 e place.1 ∙ ap (λ s. with_data s (reading_of Fixed card.bytes) (described [] cards)) (sym place.1))
 
-live-append : (xs ys : List Card) → live (xs ++ ys) ≡ live xs ++ live ys
+pub live-append : (xs ys : List Card) → live (xs ++ ys) ≡ live xs ++ live ys
 live-append xs ys = filter-append (λ card. not (is_skipped card.bytes)) xs ys
 
 -- the first fault of one card behind others

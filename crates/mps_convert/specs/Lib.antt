@@ -1,2 +1,3 @@
 pub mod State
 pub mod Draft_shown
+pub mod Conversion

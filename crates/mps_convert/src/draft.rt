@@ -6,7 +6,7 @@ ghost use Rattle.card_definitions.specs.Words.{named};
 ghost use Rattle.problem_definitions.specs.Groups.{in_set};
 ghost use Rattle.deck_definitions.specs.DataCards.{entries_of};
 ghost use Rattle.deck_definitions.specs.Sections.{may_follow, is_section, is_section_card, section_word, section_words};
-ghost use Rattle.deck_definitions.specs.declared.Section.TheVariants.{Header};
+ghost use Rattle.deck_definitions.specs.declared.Section.TheVariants.{Header, Endata};
 ghost use Rattle.deck_definitions.specs.Tests.{columns_fault};
 ghost use Rattle.deck_definitions.specs.Conversion.{section_card_fault};
 ghost use Rattle.deck_parts.specs.Told.{Tells};
@@ -20,6 +20,8 @@ use deck_parts::{
     order_fault, read_data_card, section_named, take_bound_card, take_column_card, take_row_card,
     take_set_card,
 };
+use name_table::Name;
+use problem_file::{NoMemory, Problem};
 use std::alloc::Global;
 
 // Whether a card is a section card.
@@ -54,6 +56,13 @@ fn is_header(section: Section) -> bool
     ensures { result ≡ is_section Header section }
 {
     matches!(section, Section::Header)
+}
+
+// Whether this is the section of the ENDATA card.
+fn is_last(section: Section) -> bool
+    ensures { result ≡ is_section Endata section }
+{
+    matches!(section, Section::Endata)
 }
 
 // The section that a section card begins behind another.
@@ -141,7 +150,7 @@ pub struct DeckDraft {
 }
 
 impl DeckDraft {
-    ghost use Rattle.std.specs.Prelude.{◌≡◌, [], None, Some, OnOk, IfErr, IsTrue, IsFalse};
+    ghost use Rattle.std.specs.Prelude.{◌≡◌, [], None, Some, IfOk, OnOk, IfErr, IsTrue, IsFalse, unwrap_or, option_map};
     ghost use Rattle.std.specs.List.{list_all};
     ghost use Rattle.card_definitions.specs.Cards.{is_printable};
     ghost use Rattle.card_definitions.specs.Fields.{Fixed, reading_of};
@@ -151,7 +160,11 @@ impl DeckDraft {
     ghost use Rattle.mps_convert.specs.State.{with_data, state_of};
     ghost use Rattle.deck_parts.specs.Told.{Tells};
     ghost use Rattle.deck_parts.specs.Fields_shown.{shown};
-    ghost use Rattle.mps_convert.specs.Draft_shown.{problem_shown};
+    ghost use Rattle.mps_convert.specs.Draft_shown.{problem_shown, problem_named};
+    ghost use Rattle.problem_definitions.specs.Numbering.{numbered};
+    ghost use Rattle.problem_definitions.specs.Valid.{IsProblem};
+    ghost use Rattle.deck_definitions.specs.Sections.{is_section};
+    ghost use Rattle.deck_definitions.specs.declared.Section.TheVariants.{Endata};
 
     /// A draft behind no card, which grows in this memory.
     pub fn new(alloc: Global) -> DeckDraft
@@ -168,6 +181,30 @@ impl DeckDraft {
             ranges: Groups::new(alloc),
             bounds: BoundSets::new(alloc),
         }
+    }
+
+    /// Whether the last section goes on.
+    pub fn is_ended(&self) -> bool
+        ensures { result ≡ unwrap_or (option_map (is_section Endata) self.now.section) false }
+    {
+        match self.section {
+            Some(section) => is_last(section),
+            None => false,
+        }
+    }
+
+    /// The problem that the cards so far describe, under this name and with numbers in place of names.
+    #[tactic(auto, unfolding(problem_definitions::specs::Numbering::numbered))]
+    pub fn problem(&self, name: Name) -> Result<Problem, NoMemory>
+        requires { IsProblem (numbered (problem_named name self.now)) }
+        ensures { IfOk result (λ problem. problem ≡ numbered (problem_named name self.now)) }
+    {
+        let rows = self.rows.decls(self.alloc)?;
+        let columns = self.columns.columns(self.alloc, &self.rows)?;
+        let rhs = self.rhs.sets(self.alloc, &self.rows)?;
+        let ranges = self.ranges.sets(self.alloc, &self.rows)?;
+        let bounds = self.bounds.numbered(self.alloc, &self.columns)?;
+        Ok(Problem::new(name, rows, columns, rhs, ranges, bounds))
     }
 
     // Takes a data card of this section.

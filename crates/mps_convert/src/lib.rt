@@ -1,10 +1,12 @@
-//! The conversion of data decks: the cards of a deck one after another, and what each adds to a problem in the making, or its
-//! fault.
+//! The conversion of data decks: the cards of a deck one after another, what each adds to a problem in the making, or its fault,
+//! and the problem of the whole deck.
 #![tactic(auto)]
 
+mod conversion;
 mod draft;
 mod reading;
 
+pub use conversion::convert;
 pub use deck_fields::{DeckFault, DeckFaultKind, DeckStop};
 pub use deck_parts::{CardStop, Section};
 pub use draft::DeckDraft;
