@@ -150,7 +150,7 @@ pub struct DeckDraft {
 }
 
 impl DeckDraft {
-    ghost use Rattle.std.specs.Prelude.{◌≡◌, [], None, Some, IfOk, OnOk, IfErr, IsTrue, IsFalse, unwrap_or, option_map};
+    ghost use Rattle.std.specs.Prelude.{◌≡◌, [], None, Some, IfOk, OnOk, IfErr, IsTrue, IsFalse, false, unwrap_or, option_map};
     ghost use Rattle.std.specs.List.{list_all};
     ghost use Rattle.card_definitions.specs.Cards.{is_printable};
     ghost use Rattle.card_definitions.specs.Fields.{Fixed, reading_of};
