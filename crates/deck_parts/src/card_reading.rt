@@ -1,7 +1,5 @@
 // Data cards read from cards.
-ghost use Rattle.std.specs.Prelude.{◌≡◌, ◌≤◌, ◌∷◌, [], None, Some, length, IfOk, OnOk, IfErr, IfSome, IfNone, IsTrue};
-ghost use Rattle.std.specs.List.{list_all};
-ghost use Rattle.card_definitions.specs.Cards.{is_printable};
+ghost use Rattle.std.specs.Prelude.{◌≡◌, ◌≤◌, ◌∷◌, [], None, Some, length, IfOk, OnOk, IfErr, IfSome, IfNone};
 ghost use Rattle.card_definitions.specs.Fields.{Fixed, reading_of};
 ghost use Rattle.card_reader.specs.Card.{card_bytes};
 ghost use Rattle.problem_definitions.specs.Valid.{IsName};
@@ -30,7 +28,6 @@ pub fn name_in(field: &[u8]) -> Name
 /// Reads a data card.
 #[tactic(auto, unfolding(card_definitions::specs::Fields::reading_of))]
 pub fn read_data_card<'a>(card: Card<'a>) -> Result<DataCard<'a>, DeckFaultKind>
-    requires { IsTrue (list_all is_printable (card_bytes card)) }
     ensures reading { IfOk result (λ d. shown d ≡ reading_of Fixed (card_bytes card.entry)) }
     ensures no_fault { OnOk result (form_fault Fixed (card_bytes card.entry) ≡ None) }
     ensures fault { IfErr result (λ kind. form_fault Fixed (card_bytes card.entry) ≡ Some kind) }

@@ -1,18 +1,8 @@
-ghost use Rattle.std.specs.Prelude.{◌≡◌};
-ghost use Rattle.std.specs.List.{list_all};
-ghost use Rattle.card_definitions.specs.Cards.{is_printable};
-
 use super::*;
 use card_reader::{Cards, read_job};
 use job_devices::SureSource;
 use std::alloc::Global;
 use std::test::Fail;
-
-fn is_printable_text(text: &[u8]) -> bool
-    ensures { result ≡ list_all is_printable text.now }
-{
-    text.iter().all(|byte| 32 <= *byte && *byte <= 126)
-}
 
 fn cards_of(alloc: Global, job: &[u8]) -> Result<Cards, Fail> {
     let mut source = SureSource::new(alloc, job)?;
@@ -30,7 +20,6 @@ fn the_cards_of_testprob_are_taken(rt: HostRuntime) -> Result<(), Fail> {
     let mut rows = Rows::new(alloc);
     for number in 1..3 {
         let card = cards.card(number);
-        assert!(rt; is_printable_text(card.bytes()));
         let Ok(data) = read_data_card(card) else {
             continue;
         };

@@ -1,11 +1,11 @@
 -- The conversion of a whole deck, by its parts: the first faulty card, its end and its name.
-use Rattle.std.proofs.Common.{◌≡◌, ℕ, suc, ◌+◌, ◌-◌, ◌≤◌, ◌<◌, Bool, true, false, cond, not, List, [], ◌∷◌, ◌++◌, Option, Some, None, Result, Ok, Err, IsTrue, length, map, take, drop, slice_get, get_or, refl, ap, sym, subst, ◌∙◌, unwrap_or, arith, lit≤}
-use Rattle.std.specs.List.{All, AllByRecursion, list_all, last_or}
+use Rattle.std.proofs.Common.{◌≡◌, ℕ, ◌+◌, ◌-◌, ◌≤◌, ◌<◌, Bool, true, false, cond, not, List, [], ◌∷◌, ◌++◌, Option, Some, None, Result, Ok, Err, length, map, take, drop, slice_get, get_or, refl, ap, sym, subst, ◌∙◌, unwrap_or, arith, lit≤}
+use Rattle.std.specs.List.{last_or}
 use Rattle.std.specs.Option.{option_map, option_or, option_to_list}
 use Rattle.std.proofs.lemmas.Option.{slice_get-get_or}
 use Rattle.std.proofs.lemmas.List.{map-append}
 use Rattle.card_definitions.specs.Words.{unless, ◌⟹◌}
-use Rattle.card_definitions.specs.Cards.{Card, live, numbered_from, numbered_cards, cards_between, is_skipped, is_printable, last_number}
+use Rattle.card_definitions.specs.Cards.{Card, live, numbered_cards, cards_between, is_skipped, last_number}
 use Rattle.problem_definitions.specs.Names.{Name}
 use Rattle.problem_definitions.specs.Problem.{Problem}
 use Rattle.problem_definitions.specs.Numbering.{numbered}
@@ -60,39 +60,14 @@ pub named_as : (name : Name) (cards : List Card) (problem : Problem Name) → pr
 unfolding described
 named_as name cards problem is = ap (λ (p : Problem Name). record p { name = name }) is
 
--- ---- cards of printable bytes
-
-each-of : {X : Type 0} (P : X → Type 0) (xs : List X) → All P xs → AllByRecursion P xs
-each-of P [] h = tt
-each-of P (x ∷ xs) h =
-    let first : 0 < suc (length xs) = omega arith in
-    (h 0 x first, each-of P xs (λ k d below. let inner : suc k < suc (length xs) = omega arith in h (suc k) d inner))
-
-each_numbered : (start : ℕ) (cards : List (List ℕ)) → AllByRecursion (λ (card : List ℕ). list_all is_printable card ≡ true) cards → ArePrintable (numbered_from start cards)
-each_numbered start [] h = tt
-each_numbered start (card ∷ cards) h = (h.0, each_numbered (start + 1) cards h.1)
-
-each_dropped : (n : ℕ) (cards : List Card) → ArePrintable cards → ArePrintable (drop n cards)
-each_dropped 0 cards h = h
-each_dropped (suc n) [] h = tt
-each_dropped (suc n) (card ∷ cards) h = each_dropped n cards h.1
-
-each_taken : (n : ℕ) (cards : List Card) → ArePrintable cards → ArePrintable (take n cards)
-each_taken 0 cards h = tt
-each_taken (suc n) [] h = tt
-each_taken (suc n) (card ∷ cards) h = (h.0, each_taken n cards h.1)
-
-each_live : (cards : List Card) → ArePrintable cards → ArePrintable (live cards)
-each_live [] h = tt
-each_live (card ∷ cards) h = by (is_skipped card.bytes) (each_live cards h.1)
+-- the cards that aren't skipped are printable where all are
+pub printable_live : (cards : List Card) → ArePrintable cards → ArePrintable (live cards)
+printable_live [] h = tt
+printable_live (card ∷ cards) h = by (is_skipped card.bytes) (printable_live cards h.1)
   where
     by : (b : Bool) → ArePrintable (live cards) → ArePrintable (cond (not b) (card ∷ live cards) (live cards))
     by true rest = rest
     by false rest = (h.0, rest)
-
--- the cards of a deck that aren't skipped are printable where the cards of the job are
-pub printable_deck : (first last : ℕ) (cards : List (List ℕ)) → All (λ (card : List ℕ). IsTrue (list_all is_printable card)) cards → ArePrintable (live (cards_between first last cards))
-printable_deck first last cards h = each_live (cards_between first last cards) (each_taken (last + 1 - first) (drop (first - 1) (numbered_cards cards)) (each_dropped (first - 1) (numbered_cards cards) (each_numbered 1 cards (each-of (λ (card : List ℕ). list_all is_printable card ≡ true) cards h))))
 
 -- ---- the last card and the first
 

@@ -1,7 +1,6 @@
 // The conversion of a deck.
-ghost use Rattle.std.specs.Prelude.{◌≡◌, ◌≤◌, [], All, IfOk, IfErr, IfSome, IfNone, IsTrue, length, unwrap_or};
-ghost use Rattle.std.specs.List.{list_all};
-ghost use Rattle.card_definitions.specs.Cards.{live, cards_between, is_printable};
+ghost use Rattle.std.specs.Prelude.{◌≡◌, ◌≤◌, [], IfOk, IfErr, IfSome, IfNone, length, unwrap_or};
+ghost use Rattle.card_definitions.specs.Cards.{live, cards_between};
 ghost use Rattle.card_reader.specs.Card.{card_bytes};
 ghost use Rattle.problem_definitions.specs.Valid.{IsName};
 ghost use Rattle.deck_definitions.specs.Sections.{header_name};
@@ -22,9 +21,7 @@ fn first_live(cards: &Cards, first: u32, last: u32) -> Option<Card<'_>>
     requires from_one { 1 ≤ first }
     requires ordered { first ≤ last }
     requires within { last ≤ length cards.now }
-    requires printable { All (λ card. IsTrue (list_all is_printable card)) cards.now }
     ensures name { IfSome result (λ card. deck_name (live (cards_between first last cards.now)) ≡ header_name (card_bytes card)) }
-    ensures printable { IfSome result (λ card. IsTrue (list_all is_printable (card_bytes card))) }
     ensures none { IfNone result (live (cards_between first last cards.now) ≡ []) }
 {
     let end = last.min(cards.count()) + 1;
@@ -42,7 +39,6 @@ fn own_name(cards: &Cards, first: u32, last: u32) -> Name
     requires from_one { 1 ≤ first }
     requires ordered { first ≤ last }
     requires within { last ≤ length cards.now }
-    requires printable { All (λ card. IsTrue (list_all is_printable card)) cards.now }
     ensures name { result ≡ deck_name (live (cards_between first last cards.now)) }
     ensures is_name { IsName result }
 {
@@ -57,7 +53,6 @@ fn problem_name(cards: &Cards, first: u32, last: u32, name: Option<Name>) -> Nam
     requires from_one { 1 ≤ first }
     requires ordered { first ≤ last }
     requires within { last ≤ length cards.now }
-    requires printable { All (λ card. IsTrue (list_all is_printable card)) cards.now }
     ensures name { result ≡ unwrap_or name (deck_name (live (cards_between first last cards.now))) }
     ensures is_name { IsName result }
 {
@@ -83,7 +78,6 @@ pub fn convert(
     requires from_one { 1 ≤ first }
     requires ordered { first ≤ last }
     requires within { last ≤ length cards.now }
-    requires printable { All (λ card. IsTrue (list_all is_printable card)) cards.now }
     ensures problem { IfOk result (λ problem. conversion (cards_between first last cards.now) name ≡ Ok problem) }
     ensures stop { IfErr result (Refuses (cards_between first last cards.now) name) }
 {

@@ -1,7 +1,7 @@
 // A problem in the making, card by card.
-ghost use Rattle.std.specs.Prelude.{◌≡◌, ◌≤◌, ◌++◌, None, Some, length, sum_by, IsFalse, IsTrue, IfOk, OnOk, IfErr};
-ghost use Rattle.std.specs.List.{list_all, position_or_len};
-ghost use Rattle.card_definitions.specs.Cards.{is_printable, is_blank};
+ghost use Rattle.std.specs.Prelude.{◌≡◌, ◌≤◌, ◌++◌, None, Some, length, sum_by, IfOk, OnOk, IfErr};
+ghost use Rattle.std.specs.List.{position_or_len};
+ghost use Rattle.card_definitions.specs.Cards.{is_blank};
 ghost use Rattle.card_definitions.specs.Words.{named};
 ghost use Rattle.problem_definitions.specs.Groups.{in_set};
 ghost use Rattle.deck_definitions.specs.DataCards.{entries_of};
@@ -150,9 +150,7 @@ pub struct DeckDraft {
 }
 
 impl DeckDraft {
-    ghost use Rattle.std.specs.Prelude.{◌≡◌, [], None, Some, IfOk, OnOk, IfErr, IsTrue, IsFalse, false, unwrap_or, option_map};
-    ghost use Rattle.std.specs.List.{list_all};
-    ghost use Rattle.card_definitions.specs.Cards.{is_printable};
+    ghost use Rattle.std.specs.Prelude.{◌≡◌, [], None, Some, IfOk, OnOk, IfErr, false, unwrap_or, option_map};
     ghost use Rattle.card_definitions.specs.Fields.{Fixed, reading_of};
     ghost use Rattle.card_reader.specs.Card.{card_bytes};
     ghost use Rattle.deck_definitions.specs.Conversion.{section_fault, data_card_fault};
@@ -245,7 +243,6 @@ impl DeckDraft {
 
     // Takes a data card.
     fn take_data(&mut self, card: Card<'_>) -> Result<(), CardStop>
-        requires { IsTrue (list_all is_printable (card_bytes card)) }
         ensures no_fault { OnOk result (data_card_fault (problem_shown self.old) Fixed self.old.section (card_bytes card.entry) ≡ None) }
         ensures same_section { OnOk result (self.new.section ≡ self.old.section) }
         ensures step { OnOk result (problem_shown self.new ≡ with_data self.old.section (reading_of Fixed (card_bytes card.entry)) (problem_shown self.old)) }
