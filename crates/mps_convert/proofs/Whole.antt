@@ -20,7 +20,7 @@ use Rattle.deck_definitions.proofs.Converted.{ArePrintable, described-problem}
 use Rattle.deck_definitions.proofs.Steps.{last_or-push}
 use Rattle.deck_fields.specs.declared.stop.DeckStop.{DeckStop}
 use Rattle.deck_fields.specs.declared.stop.DeckStop.TheVariants.{Fault, NoMemory}
-use Rattle.mps_convert.specs.State.{Stops}
+use Rattle.mps_convert.specs.State.{State, state_of, Stops}
 use Rattle.mps_convert.specs.Conversion.{Refuses}
 use Rattle.mps_convert.proofs.Loop.{cards_up_to, cards_more, cards_split, live-append, nothing_yet}
 
@@ -68,6 +68,24 @@ printable_live (card ∷ cards) h = by (is_skipped card.bytes) (printable_live c
     by : (b : Bool) → ArePrintable (live cards) → ArePrintable (cond (not b) (card ∷ live cards) (live cards))
     by true rest = rest
     by false rest = (h.0, rest)
+
+-- what a draft shows behind the cards of a deck without a fault, under a name, is a problem
+pub is_problem : (deck : List Card) (own : Name) (problem : Problem Name) → IsName own → ArePrintable deck → first_faulty card_fault [] (live deck) ≡ None → problem ≡ described [] (live deck)
+    → IsProblem (numbered (record problem { name = own }))
+is_problem deck own problem named printable fine is =
+    subst (λ (p : Problem Name). IsProblem (numbered p)) (sym (named_as own (live deck) problem is)) (described-problem own (live deck) named (printable_live deck printable) fine)
+
+-- and the deck converts to it
+pub converts : (deck : List Card) (name : Option Name) (own : Name) (shown : Problem Name) (problem : Problem ℕ) → first_faulty card_fault [] (live deck) ≡ None → is_section_after Endata (live deck) ≡ true
+    → shown ≡ described [] (live deck) → own ≡ unwrap_or name (deck_name (live deck)) → problem ≡ numbered (record shown { name = own }) → conversion deck name ≡ Ok problem
+converts deck name own shown problem fine ended is own_is problem_is =
+    whole deck name fine ended
+    ∙ ap (λ (p : Problem ℕ). Ok p) (ap (λ n. numbered (described n (live deck))) (sym own_is) ∙ ap numbered (sym (named_as own (live deck) shown is)) ∙ sym problem_is)
+
+-- behind no card
+pub nothing_read : (state : State) → state.section ≡ None → state.problem ≡ record { name = []; rows = []; columns = []; rhs = []; ranges = []; bounds = [] } → state ≡ state_of []
+unfolding described
+nothing_read state section problem = λ i. record { section = section i; problem = problem i }
 
 -- ---- the last card and the first
 

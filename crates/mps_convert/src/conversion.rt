@@ -1,11 +1,14 @@
 // The conversion of a deck.
-ghost use Rattle.std.specs.Prelude.{◌≡◌, ◌≤◌, [], IfOk, IfErr, IfSome, IfNone, length, unwrap_or};
+ghost use Rattle.std.specs.Prelude.{◌≡◌, ◌≤◌, [], None, IfOk, IfErr, IfSome, IfNone, length, unwrap_or};
 ghost use Rattle.card_definitions.specs.Cards.{live, cards_between};
 ghost use Rattle.card_reader.specs.Card.{card_bytes};
 ghost use Rattle.problem_definitions.specs.Valid.{IsName};
-ghost use Rattle.deck_definitions.specs.Sections.{header_name};
-ghost use Rattle.deck_definitions.specs.Conversion.{deck_name, conversion};
+ghost use Rattle.deck_definitions.specs.Sections.{header_name, section_after};
+ghost use Rattle.deck_definitions.specs.Described.{described};
+ghost use Rattle.deck_definitions.specs.Conversion.{card_fault, first_faulty, deck_name, conversion};
+ghost use Rattle.deck_definitions.proofs.Converted.{ArePrintable};
 ghost use Rattle.mps_convert.specs.Conversion.{Refuses};
+ghost use Rattle.mps_convert.specs.Draft_shown.{problem_shown};
 
 use crate::draft::DeckDraft;
 use crate::reading::read_cards;
@@ -65,6 +68,37 @@ fn problem_name(cards: &Cards, first: u32, last: u32, name: Option<Name>) -> Nam
     }
 }
 
+// The problem of a deck whose cards were read without a fault, or the fault of its end.
+fn ended_problem(
+    draft: &DeckDraft,
+    cards: &Cards,
+    first: u32,
+    last: u32,
+    name: Option<Name>,
+) -> Result<Problem, DeckStop>
+    requires from_one { 1 ≤ first }
+    requires ordered { first ≤ last }
+    requires within { last ≤ length cards.now }
+    requires section { draft.now.section ≡ section_after (live (cards_between first last cards.now)) }
+    requires described { problem_shown draft.now ≡ described [] (live (cards_between first last cards.now)) }
+    requires no_fault { first_faulty card_fault [] (live (cards_between first last cards.now)) ≡ None }
+    requires printable { ArePrintable (cards_between first last cards.now) }
+    ensures problem { IfOk result (λ problem. conversion (cards_between first last cards.now) name ≡ Ok problem) }
+    ensures stop { IfErr result (Refuses (cards_between first last cards.now) name) }
+{
+    if !draft.is_ended() {
+        return Err(DeckStop::Fault(DeckFault {
+            card: last,
+            kind: DeckFaultKind::NoEndata,
+        }));
+    }
+    let own = problem_name(cards, first, last, name);
+    match draft.problem(own) {
+        Ok(problem) => Ok(problem),
+        Err(_) => Err(DeckStop::NoMemory),
+    }
+}
+
 /// Converts the deck whose cards have the numbers from the first to the last: the problem that it describes, under this name or
 /// else its own, or the first fault of its first faulty card. A deck without a faulty card that doesn't end with ENDATA has its
 /// fault on the last card. An `Err` leaves nothing behind.
@@ -83,12 +117,5 @@ pub fn convert(
 {
     let mut draft = DeckDraft::new(alloc);
     read_cards(&mut draft, cards, first, last)?;
-    if !draft.is_ended() {
-        return Err(DeckStop::Fault(DeckFault {
-            card: last,
-            kind: DeckFaultKind::NoEndata,
-        }));
-    }
-    let name = problem_name(cards, first, last, name);
-    draft.problem(name).map_err(|_| DeckStop::NoMemory)
+    ended_problem(&draft, cards, first, last, name)
 }
