@@ -1,7 +1,7 @@
 -- The conversion of a whole deck, by its parts: the first faulty card, its end and its name.
-use Rattle.std.proofs.Common.{◌≡◌, ℕ, ◌+◌, ◌-◌, ◌≤◌, ◌<◌, Bool, true, false, cond, not, List, [], ◌∷◌, ◌++◌, Option, Some, None, Result, Ok, Err, length, map, take, drop, slice_get, get_or, refl, ap, sym, subst, ◌∙◌, unwrap_or, arith, lit≤}
+use Rattle.std.proofs.Common.{◌≡◌, ℕ, ◌+◌, ◌-◌, ◌≤◌, ◌<◌, Bool, true, false, cond, not, List, [], ◌∷◌, ◌++◌, Option, Some, None, Result, Ok, Err, length, map, take, drop, slice_get, get_or, refl, ap, sym, subst, ◌∙◌, unwrap_or, arith}
 use Rattle.std.specs.List.{last_or}
-use Rattle.std.specs.Option.{option_map, option_or, option_to_list}
+use Rattle.std.specs.Option.{option_or}
 use Rattle.std.proofs.lemmas.Option.{slice_get-get_or}
 use Rattle.std.proofs.lemmas.List.{map-append}
 use Rattle.card_definitions.specs.Words.{unless, ◌⟹◌}
@@ -22,7 +22,7 @@ use Rattle.deck_fields.specs.declared.stop.DeckStop.{DeckStop}
 use Rattle.deck_fields.specs.declared.stop.DeckStop.TheVariants.{Fault, NoMemory}
 use Rattle.mps_convert.specs.State.{State, state_of, Stops}
 use Rattle.mps_convert.specs.Conversion.{Refuses}
-use Rattle.mps_convert.proofs.Loop.{cards_up_to, cards_more, cards_split, live-append, nothing_yet}
+use Rattle.mps_convert.proofs.Loop.{cards_up_to, cards_more, cards_split, live-append}
 
 module _ (deck : List Card) (name : Option Name) where
   made : Problem ℕ

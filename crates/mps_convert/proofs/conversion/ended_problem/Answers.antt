@@ -1,4 +1,4 @@
-use Rattle.std.proofs.Common.{◌≡◌, false, true, unwrap_or, ap, sym, ◌∙◌}
+use Rattle.std.proofs.Common.{false, unwrap_or, ap, sym, ◌∙◌}
 use Rattle.std.specs.Option.{option_map}
 use Rattle.card_definitions.specs.Cards.{cards_between}
 use Rattle.deck_definitions.specs.declared.Section.TheVariants.{Endata}

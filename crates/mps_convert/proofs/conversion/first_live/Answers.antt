@@ -1,4 +1,4 @@
-use Rattle.std.proofs.Common.{◌≤◌, [], ap, sym, ◌∙◌, arith}
+use Rattle.std.proofs.Common.{◌≤◌, ap, sym, ◌∙◌, arith}
 use Rattle.card_definitions.specs.Cards.{live}
 use Rattle.mps_convert.proofs.Loop.{nothing_yet}
 use Rattle.mps_convert.proofs.Whole.{still_none, name_at_first}
