@@ -1,16 +1,19 @@
 -- The cards of a deck, cut where a reader stands.
-use Rattle.std.proofs.Common.{◌≡◌, ℕ, zero, suc, ◌+◌, ◌-◌, ◌≤◌, Bool, true, false, cond, not, List, [], ◌∷◌, ◌++◌, Option, Some, None, take, drop, slice_get, refl, ap, sym, ◌∙◌, arith}
+use Rattle.std.proofs.Common.{◌≡◌, ℕ, zero, suc, ◌+◌, ◌-◌, ◌≤◌, Bool, true, false, cond, not, List, [], ◌∷◌, ◌++◌, Option, Some, None, take, drop, slice_get, refl, ap, sym, subst, ◌∙◌, arith}
+use Rattle.std.specs.List.{list_all}
 use Rattle.std.specs.Option.{option_or, option_map}
 use Rattle.std.proofs.lemmas.List.Elements.{filter-append}
 use Rattle.std.proofs.lemmas.List.{append_assoc, append-nil}
-use Rattle.card_definitions.specs.Cards.{Card, live, numbered_from, numbered_cards, cards_between, is_skipped}
+use Rattle.card_definitions.specs.Cards.{Card, live, numbered_from, numbered_cards, cards_between, is_skipped, is_printable}
 use Rattle.card_definitions.specs.Fields.{Fixed, reading_of}
+use Rattle.problem_definitions.proofs.Each.{each-push}
 use Rattle.deck_definitions.specs.declared.Section.{Section}
 use Rattle.deck_definitions.specs.declared.DeckFault.{DeckFault}
 use Rattle.deck_definitions.specs.declared.DeckFaultKind.{DeckFaultKind}
 use Rattle.deck_definitions.specs.Sections.{is_section_card, section_begun, section_after}
 use Rattle.deck_definitions.specs.Described.{described}
 use Rattle.deck_definitions.specs.Conversion.{card_fault, data_card_fault, first_faulty}
+use Rattle.deck_definitions.proofs.Converted.{ArePrintable}
 use Rattle.deck_definitions.proofs.Steps.{section_after-push, described-data, described-section, first_faulty-append}
 use Rattle.deck_fields.specs.declared.stop.DeckStop.{DeckStop}
 use Rattle.deck_fields.specs.declared.stop.DeckStop.TheVariants.{Fault, NoMemory}
@@ -48,7 +51,7 @@ state-step cards card fine = by (is_section_card card.bytes) refl fine
         let place = stands cards card.bytes (section_after cards) (rw e at h) in
         build false e (described-data [] cards card place.0 e place.1 ∙ ap (λ s. with_data s (reading_of Fixed card.bytes) (described [] cards)) (sym place.1))
 
-live-append : (xs ys : List Card) → live (xs ++ ys) ≡ live xs ++ live ys
+pub live-append : (xs ys : List Card) → live (xs ++ ys) ≡ live xs ++ live ys
 live-append xs ys = filter-append (λ card. not (is_skipped card.bytes)) xs ys
 
 -- the first fault of one card behind others
@@ -155,6 +158,13 @@ cards_split first number last cards below from =
 -- at first no card is seen
 pub nothing_yet : (first : ℕ) (cards : List (List ℕ)) → cards_up_to first first cards ≡ []
 nothing_yet first cards = let none : first - first ≡ 0 = omega arith in rw none refl
+
+-- one more printable card
+pub next_printable : (first number : ℕ) (cards : List (List ℕ)) (card : List ℕ) → 1 ≤ first → first ≤ number → slice_get cards (number - 1) ≡ Some card
+    → ArePrintable (cards_up_to first number cards) → list_all is_printable card ≡ true → ArePrintable (cards_up_to first (number + 1) cards)
+next_printable first number cards card from_one from at printable also =
+    subst ArePrintable (sym (cards_more first number cards card from_one from at))
+    (each-push (λ (c : Card). list_all is_printable c.bytes ≡ true) (cards_up_to first number cards) (record { number = number; bytes = card }) printable also)
 
 module _ (first number : ℕ) (cards : List (List ℕ)) (card : List ℕ) (from_one : 1 ≤ first) (from : first ≤ number) (at : slice_get cards (number - 1) ≡ Some card)
     (state : State) (is : state ≡ state_of (live (cards_up_to first number cards))) where

@@ -4,5 +4,9 @@ use Rattle.problem_definitions.specs.Names.{Name}
 use Rattle.problem_definitions.specs.Problem.{Problem}
 use Rattle.mps_convert.specs.declared.draft.DeckDraft.{DeckDraft}
 
+-- under this name
+abbrev pub problem_named : Name → DeckDraft → Problem Name
+problem_named name draft = record { name = name; rows = draft.rows; columns = draft.columns; rhs = draft.rhs; ranges = draft.ranges; bounds = draft.bounds }
+
 abbrev pub problem_shown : DeckDraft → Problem Name
-problem_shown draft = record { name = []; rows = draft.rows; columns = draft.columns; rhs = draft.rhs; ranges = draft.ranges; bounds = draft.bounds }
+problem_shown draft = problem_named [] draft

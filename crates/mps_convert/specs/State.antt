@@ -13,8 +13,6 @@ use Rattle.deck_definitions.specs.Conversion.{section_card_fault, data_card_faul
 use Rattle.deck_definitions.proofs.Steps.{with_card}
 use Rattle.deck_fields.specs.declared.stop.DeckStop.{DeckStop}
 use Rattle.deck_fields.specs.declared.stop.DeckStop.TheVariants.{Fault, NoMemory}
-use Rattle.mps_convert.specs.declared.card_stop.CardStop.{CardStop}
-use Rattle.mps_convert.specs.declared.card_stop.CardStop.TheVariants as card_stop
 
 -- the section that goes on, and the problem described so far
 pub record State : Type 0 where
@@ -42,11 +40,6 @@ state_with state card = record {
   section = option_or (section_begun card) state.section;
   problem = if is_section_card card then state.problem else with_data state.section (reading_of Fixed card) state.problem;
 }
-
--- a card that is refused has this fault, and memory may be wanted at any time
-abbrev pub Tells : Option DeckFaultKind → CardStop → Type 0
-Tells fault (card_stop.Refused kind) = fault ≡ Some kind
-Tells fault card_stop.NoMemory = Unit {0}
 
 -- the same where a skipped card may stand
 abbrev pub live_fault : State → List ℕ → Option DeckFaultKind

@@ -1,29 +1,27 @@
 // A problem in the making, card by card.
-ghost use Rattle.std.specs.Prelude.{◌≡◌, ◌≤◌, ◌++◌, None, Some, length, sum_by, IsFalse, IsTrue, IfOk, OnOk, IfErr};
-ghost use Rattle.std.specs.List.{list_all, position_or_len};
-ghost use Rattle.card_definitions.specs.Cards.{is_printable, is_blank};
+ghost use Rattle.std.specs.Prelude.{◌≡◌, ◌≤◌, ◌++◌, None, Some, length, sum_by, IfOk, OnOk, IfErr};
+ghost use Rattle.std.specs.List.{position_or_len};
+ghost use Rattle.card_definitions.specs.Cards.{is_blank};
 ghost use Rattle.card_definitions.specs.Words.{named};
 ghost use Rattle.problem_definitions.specs.Groups.{in_set};
 ghost use Rattle.deck_definitions.specs.DataCards.{entries_of};
 ghost use Rattle.deck_definitions.specs.Sections.{may_follow, is_section, is_section_card, section_word, section_words};
-ghost use Rattle.deck_definitions.specs.declared.Section.TheVariants.{Header};
+ghost use Rattle.deck_definitions.specs.declared.Section.TheVariants.{Header, Endata};
 ghost use Rattle.deck_definitions.specs.Tests.{columns_fault};
 ghost use Rattle.deck_definitions.specs.Conversion.{section_card_fault};
-ghost use Rattle.mps_convert.specs.State.{Tells};
-ghost use Rattle.mps_convert.specs.Shown.{columns_alone};
-ghost use Rattle.mps_convert.specs.Fields_shown.{shown};
+ghost use Rattle.deck_parts.specs.Told.{Tells};
+ghost use Rattle.deck_parts.specs.Shown.{columns_alone};
+ghost use Rattle.deck_parts.specs.Fields_shown.{shown};
 
-use crate::bound_sets::{BoundSets, take_bound_card};
-use crate::card_reading::read_data_card;
-use crate::card_stop::CardStop;
-use crate::data_card::DataCard;
-use crate::groups::Groups;
 use crate::reading::Draft;
-use crate::rows::Rows;
-use crate::sections::{order_fault, take_column_card, take_row_card, take_set_card};
-use crate::words::{is_blank as is_empty_text, section_named};
 use card_reader::Card;
-use deck_definitions::{DeckFaultKind, Section};
+use deck_parts::{
+    BoundSets, CardStop, DataCard, DeckFaultKind, Groups, Rows, Section, is_blank as is_empty_text,
+    order_fault, read_data_card, section_named, take_bound_card, take_column_card, take_row_card,
+    take_set_card,
+};
+use name_table::Name;
+use problem_file::{NoMemory, Problem};
 use std::alloc::Global;
 
 // Whether a card is a section card.
@@ -58,6 +56,13 @@ fn is_header(section: Section) -> bool
     ensures { result ≡ is_section Header section }
 {
     matches!(section, Section::Header)
+}
+
+// Whether this is the section of the ENDATA card.
+fn is_last(section: Section) -> bool
+    ensures { result ≡ is_section Endata section }
+{
+    matches!(section, Section::Endata)
 }
 
 // The section that a section card begins behind another.
@@ -145,16 +150,19 @@ pub struct DeckDraft {
 }
 
 impl DeckDraft {
-    ghost use Rattle.std.specs.Prelude.{◌≡◌, [], None, Some, OnOk, IfErr, IsTrue, IsFalse};
-    ghost use Rattle.std.specs.List.{list_all};
-    ghost use Rattle.card_definitions.specs.Cards.{is_printable};
+    ghost use Rattle.std.specs.Prelude.{◌≡◌, [], None, Some, IfOk, OnOk, IfErr, false, unwrap_or, option_map};
     ghost use Rattle.card_definitions.specs.Fields.{Fixed, reading_of};
     ghost use Rattle.card_reader.specs.Card.{card_bytes};
     ghost use Rattle.deck_definitions.specs.Conversion.{section_fault, data_card_fault};
     ghost use Rattle.deck_definitions.proofs.Steps.{with_card};
-    ghost use Rattle.mps_convert.specs.State.{Tells, with_data, state_of};
-    ghost use Rattle.mps_convert.specs.Fields_shown.{shown};
-    ghost use Rattle.mps_convert.specs.Draft_shown.{problem_shown};
+    ghost use Rattle.mps_convert.specs.State.{with_data, state_of};
+    ghost use Rattle.deck_parts.specs.Told.{Tells};
+    ghost use Rattle.deck_parts.specs.Fields_shown.{shown};
+    ghost use Rattle.mps_convert.specs.Draft_shown.{problem_shown, problem_named};
+    ghost use Rattle.problem_definitions.specs.Numbering.{numbered};
+    ghost use Rattle.problem_definitions.specs.Valid.{IsProblem};
+    ghost use Rattle.deck_definitions.specs.Sections.{is_section};
+    ghost use Rattle.deck_definitions.specs.declared.Section.TheVariants.{Endata};
 
     /// A draft behind no card, which grows in this memory.
     pub fn new(alloc: Global) -> DeckDraft
@@ -171,6 +179,30 @@ impl DeckDraft {
             ranges: Groups::new(alloc),
             bounds: BoundSets::new(alloc),
         }
+    }
+
+    /// Whether the last section goes on.
+    pub fn is_ended(&self) -> bool
+        ensures { result ≡ unwrap_or (option_map (is_section Endata) self.now.section) false }
+    {
+        match self.section {
+            Some(section) => is_last(section),
+            None => false,
+        }
+    }
+
+    /// The problem that the cards so far describe, under this name and with numbers in place of names.
+    #[tactic(auto, unfolding(problem_definitions::specs::Numbering::numbered))]
+    pub fn problem(&self, name: Name) -> Result<Problem, NoMemory>
+        requires { IsProblem (numbered (problem_named name self.now)) }
+        ensures { IfOk result (λ problem. problem ≡ numbered (problem_named name self.now)) }
+    {
+        let rows = self.rows.decls(self.alloc)?;
+        let columns = self.columns.columns(self.alloc, &self.rows)?;
+        let rhs = self.rhs.sets(self.alloc, &self.rows)?;
+        let ranges = self.ranges.sets(self.alloc, &self.rows)?;
+        let bounds = self.bounds.numbered(self.alloc, &self.columns)?;
+        Ok(Problem::new(name, rows, columns, rhs, ranges, bounds))
     }
 
     // Takes a data card of this section.
@@ -211,7 +243,6 @@ impl DeckDraft {
 
     // Takes a data card.
     fn take_data(&mut self, card: Card<'_>) -> Result<(), CardStop>
-        requires { IsTrue (list_all is_printable (card_bytes card)) }
         ensures no_fault { OnOk result (data_card_fault (problem_shown self.old) Fixed self.old.section (card_bytes card.entry) ≡ None) }
         ensures same_section { OnOk result (self.new.section ≡ self.old.section) }
         ensures step { OnOk result (problem_shown self.new ≡ with_data self.old.section (reading_of Fixed (card_bytes card.entry)) (problem_shown self.old)) }

@@ -1,14 +1,15 @@
 // The cards of a deck, one after another.
-ghost use Rattle.std.specs.Prelude.{◌≡◌, ◌≤◌, [], None, All, OnOk, IfErr, IsTrue, length};
-ghost use Rattle.std.specs.List.{list_all};
-ghost use Rattle.card_definitions.specs.Cards.{live, cards_between, is_printable};
+ghost use Rattle.std.specs.Prelude.{◌≡◌, ◌≤◌, [], None, OnOk, IfErr, length};
+ghost use Rattle.card_definitions.specs.Cards.{live, cards_between};
 ghost use Rattle.card_reader.specs.Card.{card_bytes};
 ghost use Rattle.deck_definitions.specs.Conversion.{card_fault, first_faulty};
-ghost use Rattle.mps_convert.specs.State.{State, state_of, state_with, state_after, fault_at, live_fault, Tells, Stops, StopsAt};
+ghost use Rattle.deck_definitions.proofs.Converted.{ArePrintable};
+ghost use Rattle.mps_convert.specs.State.{State, state_of, state_with, state_after, fault_at, live_fault, Stops, StopsAt};
+ghost use Rattle.deck_parts.specs.Told.{Tells};
 
-use crate::card_stop::CardStop;
 use card_reader::{Card, Cards};
 use deck_fields::{DeckFault, DeckStop};
+use deck_parts::CardStop;
 
 /// A problem in the making.
 pub trait Draft {
@@ -17,7 +18,6 @@ pub trait Draft {
 
     /// Takes one more card that isn't skipped. After an `Err` the draft is of no use.
     fn take(&mut self, card: Card<'_>) -> Result<(), CardStop>
-        requires { IsTrue (list_all is_printable (card_bytes card)) }
         ensures no_fault { OnOk result (fault_at (state self.old) (card_bytes card.entry) ≡ None) }
         ensures step { OnOk result (state self.new ≡ state_with (state self.old) (card_bytes card.entry)) }
         ensures stop { IfErr result (Tells (fault_at (state self.old) (card_bytes card.entry))) };
@@ -25,7 +25,6 @@ pub trait Draft {
 
 // Reads one more card.
 fn read_card<D: Draft>(draft: &mut D, number: u32, card: Card<'_>) -> Result<(), DeckStop>
-    requires { IsTrue (list_all is_printable (card_bytes card)) }
     ensures no_fault { OnOk result (live_fault (D.state draft.old) (card_bytes card.entry) ≡ None) }
     ensures step { OnOk result (D.state draft.new ≡ state_after (D.state draft.old) (card_bytes card.entry)) }
     ensures stop { IfErr result (StopsAt number (live_fault (D.state draft.old) (card_bytes card.entry))) }
@@ -51,9 +50,9 @@ pub fn read_cards<D: Draft>(
     requires from_one { 1 ≤ first }
     requires ordered { first ≤ last }
     requires within { last ≤ length cards.now }
-    requires printable { All (λ card. IsTrue (list_all is_printable card)) cards.now }
     ensures state { OnOk result (D.state draft.new ≡ state_of (live (cards_between first last cards.now))) }
     ensures no_fault { OnOk result (first_faulty card_fault [] (live (cards_between first last cards.now)) ≡ None) }
+    ensures printable { OnOk result (ArePrintable (cards_between first last cards.now)) }
     ensures stop { IfErr result (Stops (live (cards_between first last cards.now))) }
 {
     let end = last.min(cards.count()) + 1;

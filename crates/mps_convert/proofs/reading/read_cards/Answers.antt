@@ -1,9 +1,10 @@
-use Rattle.std.proofs.Common.{◌≤◌, [], sym, ap, ◌∙◌, arith}
+use Rattle.std.proofs.Common.{◌≤◌, [], sym, ap, subst, ◌∙◌, arith}
 use Rattle.std.proofs.lemmas.Result.{err_from_is_err_and}
 use Rattle.card_definitions.specs.Cards.{live}
 use Rattle.deck_definitions.specs.Conversion.{card_fault, first_faulty}
+use Rattle.deck_definitions.proofs.Converted.{ArePrintable}
 use Rattle.mps_convert.specs.State.{state_of}
-use Rattle.mps_convert.proofs.Loop.{nothing_yet, next_state, next_no_fault, stop_at}
+use Rattle.mps_convert.proofs.Loop.{nothing_yet, next_state, next_no_fault, next_printable, stop_at}
 use Rattle.mps_convert.proofs.reading.read_cards.Goals as goal
 
 pub returns-in_err-read_card-clause-stop : goal.returns-in_err-read_card-clause-stop
@@ -18,6 +19,7 @@ pub loop-number-init : goal.loop-number-init
 loop-number-init g c = record {
   state = c.requires.start ∙ ap (λ cards. state_of (live cards)) (sym (nothing_yet c.args.first c.args.cards.now));
   no_fault = ap (λ cards. first_faulty card_fault [] (live cards)) (nothing_yet c.args.first c.args.cards.now);
+  printable = subst ArePrintable (sym (nothing_yet c.args.first c.args.cards.now)) tt;
 }
 
 pub loop-number-preserved : goal.loop-number-preserved
@@ -26,4 +28,5 @@ loop-number-preserved g c = record {
       ∙ next_state c.args.first c.loop-number.number c.args.cards.now c.card.result.bytes.now c.requires.from_one c.loop-number.auto.number c.card.ensures _ c.loop-number.invariant.state c.in_ok-read_card.ensures.no_fault;
   no_fault = next_no_fault c.args.first c.loop-number.number c.args.cards.now c.card.result.bytes.now c.requires.from_one c.loop-number.auto.number c.card.ensures _ c.loop-number.invariant.state
       c.loop-number.invariant.no_fault c.in_ok-read_card.ensures.no_fault;
+  printable = next_printable c.args.first c.loop-number.number c.args.cards.now c.card.result.bytes.now c.requires.from_one c.loop-number.auto.number c.card.ensures c.loop-number.invariant.printable c.card.result.printable;
 }

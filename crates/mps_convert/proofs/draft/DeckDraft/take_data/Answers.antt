@@ -1,9 +1,9 @@
 use Rattle.std.proofs.Common.{◌≡◌, None, OnOk, IfErr, sym, subst}
 use Rattle.card_definitions.specs.Fields.{Fixed}
 use Rattle.deck_definitions.specs.Conversion.{data_card_fault}
-use Rattle.mps_convert.specs.State.{Tells}
+use Rattle.deck_parts.specs.Told.{Tells}
 use Rattle.mps_convert.specs.Draft_shown.{problem_shown}
-use Rattle.mps_convert.specs.Fields_shown.{shown}
+use Rattle.deck_parts.specs.Fields_shown.{shown}
 use Rattle.mps_convert.proofs.DataTaken.{fault_in_section}
 use Rattle.mps_convert.proofs.draft.DeckDraft.take_data.Goals as goal
 

@@ -1,0 +1,7 @@
+mod Keyed
+mod CardNames
+mod NumbersTold
+mod Second
+mod Grouped
+mod Fronts
+mod Touched

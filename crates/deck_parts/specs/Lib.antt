@@ -1,0 +1,3 @@
+pub mod Told
+pub mod Shown
+pub mod Fields_shown

@@ -1,0 +1,195 @@
+// The bounds of a set in the making.
+ghost use Rattle.std.specs.Prelude.{◌≡◌, ◌≤◌, ◌++◌, ◌∷◌, [], ◌&&◌, ◌||◌, map, length, IfOk, OnOk, IfErr};
+ghost use Rattle.std.specs.List.{list_any};
+ghost use Rattle.problem_definitions.specs.Names.{same};
+ghost use Rattle.problem_definitions.specs.Numbering.{bound_by};
+ghost use Rattle.problem_definitions.specs.Kinds.{touches_upper, touches_lower};
+ghost use Rattle.deck_definitions.specs.Tests.{is_bound_already};
+ghost use Rattle.deck_parts.specs.Shown.{marked, column_number};
+
+use crate::card_stop::CardStop;
+use crate::groups::Groups;
+use deck_fields::Decimal;
+use indexmap::IndexSet;
+use name_table::Name;
+use problem_definitions::{BoundKind, MAX_COLUMNS};
+use problem_file::{BoundItem, NoMemory};
+use std::alloc::Global;
+use std::marker::Model;
+
+/// A bound on the column of this name.
+#[derive(Drop)]
+pub struct NamedBound {
+    pub kind: BoundKind,
+    pub column: Name,
+    pub value: Option<Decimal>,
+}
+
+impl Model for NamedBound {
+    ghost use Rattle.problem_definitions.specs.Names.{Name as Text};
+    ghost use Rattle.problem_definitions.specs.Problem.{Bound};
+
+    ghost Value = { Bound Text };
+
+    ghost view = { λ bound. record { kind = bound.kind; column = bound.column; value = bound.value } };
+}
+
+/// Bounds in deck order, with the columns whose upper and whose lower ends they touch.
+#[derive(Drop)]
+pub struct Bounds {
+    items: Vec<NamedBound>,
+    uppers: IndexSet<Name>,
+    lowers: IndexSet<Name>,
+}
+
+impl Model for Bounds {
+    ghost use Rattle.std.specs.Prelude.{List};
+    ghost use Rattle.problem_definitions.specs.Names.{Name as Text};
+    ghost use Rattle.problem_definitions.specs.Problem.{Bound};
+    ghost use Rattle.problem_definitions.specs.Kinds.{touches_upper, touches_lower};
+    ghost use Rattle.deck_parts.specs.Shown.{Marks};
+
+    ghost Value = { List (Bound Text) };
+
+    ghost view = { λ bounds. bounds.items.items };
+
+    ghost invariant = { λ bounds. Marks touches_upper bounds.uppers.keys bounds.items.items × Marks touches_lower bounds.lowers.keys bounds.items.items };
+}
+
+// Whether a bound of this type touches the upper end.
+fn touches_top(kind: BoundKind) -> bool
+    ensures { result ≡ touches_upper kind }
+{
+    match kind {
+        BoundKind::Up => true,
+        BoundKind::Lo => false,
+        BoundKind::Fx => true,
+        BoundKind::Fr => true,
+        BoundKind::Mi => false,
+        BoundKind::Pl => true,
+    }
+}
+
+// Whether a bound of this type touches the lower end.
+fn touches_bottom(kind: BoundKind) -> bool
+    ensures { result ≡ touches_lower kind }
+{
+    match kind {
+        BoundKind::Up => false,
+        BoundKind::Lo => true,
+        BoundKind::Fx => true,
+        BoundKind::Fr => true,
+        BoundKind::Mi => true,
+        BoundKind::Pl => false,
+    }
+}
+
+// Whether a column is among those whose end is touched, where the end matters.
+fn is_touched(matters: bool, columns: &IndexSet<Name>, column: &Name) -> bool
+    ensures { result ≡ (matters && list_any (same column.now) columns.now.keys) }
+{
+    matters && columns.contains(column)
+}
+
+fn either(first: bool, second: bool) -> bool
+    ensures { result ≡ (first || second) }
+{
+    first || second
+}
+
+// Marks a column whose end is touched.
+fn mark(columns: &mut IndexSet<Name>, column: Name, touches: bool) -> Result<(), CardStop>
+    ensures marked { OnOk result (columns.new.keys ≡ marked touches column columns.old.keys) }
+    ensures stop { IfErr result (λ stop. stop ≡ CardStop.NoMemory) }
+{
+    if !touches {
+        return Ok(());
+    }
+    columns.insert(column)?;
+    Ok(())
+}
+
+// Adds a bound to the parts.
+fn add_to(
+    items: &mut Vec<NamedBound>,
+    uppers: &mut IndexSet<Name>,
+    lowers: &mut IndexSet<Name>,
+    bound: NamedBound,
+) -> Result<(), CardStop>
+    ensures items { OnOk result (items.new.items ≡ items.old.items ++ bound ∷ []) }
+    ensures uppers { OnOk result (uppers.new.keys ≡ marked (touches_upper bound.kind) bound.column uppers.old.keys) }
+    ensures lowers { OnOk result (lowers.new.keys ≡ marked (touches_lower bound.kind) bound.column lowers.old.keys) }
+    ensures stop { IfErr result (λ stop. stop ≡ CardStop.NoMemory) }
+{
+    mark(uppers, bound.column, touches_top(bound.kind))?;
+    mark(lowers, bound.column, touches_bottom(bound.kind))?;
+    items.push(bound)?;
+    Ok(())
+}
+
+// Bounds with the numbers of their columns.
+fn numbered_bounds(
+    alloc: Global,
+    columns: &Groups,
+    bounds: &[NamedBound],
+) -> Result<Vec<BoundItem>, NoMemory>
+    requires { length columns.now ≤ MAX_COLUMNS }
+    ensures { IfOk result (λ items. items.items ≡ map (bound_by (column_number columns.now)) bounds.now) }
+{
+    let mut items = Vec::new(alloc);
+    for bound in bounds {
+        let item = BoundItem {
+            kind: bound.kind,
+            column: columns.number_of(&bound.column),
+            value: bound.value,
+        };
+        items.push(item).map_err(|_| NoMemory)?;
+    }
+    Ok(items)
+}
+
+impl Bounds {
+    pub fn new(alloc: Global) -> Bounds
+        ensures { result ≡ [] }
+    {
+        Bounds {
+            items: Vec::new(alloc),
+            uppers: IndexSet::new(alloc),
+            lowers: IndexSet::new(alloc),
+        }
+    }
+
+    /// Whether an end of this column is touched that a bound of this type touches.
+    pub fn has(&self, column: &Name, kind: BoundKind) -> bool
+        ensures { result ≡ is_bound_already self.now column.now kind }
+    {
+        either(
+            is_touched(touches_top(kind), &self.uppers, column),
+            is_touched(touches_bottom(kind), &self.lowers, column),
+        )
+    }
+
+    /// The bounds with the numbers of their columns.
+    pub fn numbered(&self, alloc: Global, columns: &Groups) -> Result<Vec<BoundItem>, NoMemory>
+        requires { length columns.now ≤ MAX_COLUMNS }
+        ensures { IfOk result (λ items. items.items ≡ map (bound_by (column_number columns.now)) self.now) }
+    {
+        numbered_bounds(alloc, columns, &self.items)
+    }
+
+    /// Adds a bound at the end. An `Err` leaves no bounds.
+    pub fn add(&mut self, bound: NamedBound) -> Result<(), CardStop>
+        ensures added { OnOk result (self.new ≡ self.old ++ bound ∷ []) }
+        ensures stop { IfErr result (λ stop. stop ≡ CardStop.NoMemory) }
+    {
+        match add_to(&mut self.items, &mut self.uppers, &mut self.lowers, bound) {
+            Ok(()) => Ok(()),
+            Err(stop) => {
+                self.items.clear();
+                self.uppers.clear();
+                self.lowers.clear();
+                Err(stop)
+            }
+        }
+    }
+}

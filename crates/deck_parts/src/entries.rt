@@ -1,0 +1,88 @@
+// The entries of a column, or the items of a set, in the making.
+ghost use Rattle.std.specs.Prelude.{◌≡◌, ◌≤◌, ◌++◌, ◌∷◌, [], map, length, IsFalse, IfOk, OnOk, IfErr};
+ghost use Rattle.problem_definitions.specs.Numbering.{entry_by};
+ghost use Rattle.problem_definitions.specs.Problem.{has_entry};
+ghost use Rattle.deck_parts.specs.Shown.{entry_at, row_number};
+
+use crate::card_stop::CardStop;
+use crate::rows::Rows;
+use deck_fields::Decimal;
+use indexmap::IndexMap;
+use name_table::Name;
+use problem_definitions::MAX_ROWS;
+use problem_file::{DeckEntry, NoMemory};
+use std::alloc::Global;
+use std::marker::Model;
+
+/// Numbers on rows, in deck order.
+#[derive(Drop)]
+pub struct Entries {
+    values: IndexMap<Name, Decimal>,
+}
+
+impl Model for Entries {
+    ghost use Rattle.std.specs.Prelude.{List, map};
+    ghost use Rattle.problem_definitions.specs.Names.{Name as Text};
+    ghost use Rattle.problem_definitions.specs.Problem.{Entry};
+    ghost use Rattle.deck_parts.specs.Shown.{entry_at};
+
+    ghost Value = { List (Entry Text) };
+
+    ghost view = { λ entries. map entry_at entries.values.entries };
+}
+
+impl Entries {
+    pub fn new(alloc: Global) -> Entries
+        ensures { result ≡ [] }
+    {
+        Entries {
+            values: IndexMap::new(alloc),
+        }
+    }
+
+    /// Whether a number stands on this row.
+    #[tactic(auto, using(crate::proofs::Keyed::entry_is_there))]
+    pub fn has(&self, row: &Name) -> bool
+        ensures { result ≡ has_entry self.now row.now }
+    {
+        self.values.contains_key(row)
+    }
+
+    /// The numbers on the numbers of their rows.
+    pub fn numbered(&self, alloc: Global, rows: &Rows) -> Result<Vec<DeckEntry>, NoMemory>
+        requires { length rows.now ≤ MAX_ROWS }
+        ensures { IfOk result (λ entries. entries.items ≡ map (entry_by (row_number rows.now)) self.now) }
+    {
+        numbered_entries(alloc, rows, &self.values)
+    }
+
+    /// Adds a number on a row that has none.
+    pub fn add(&mut self, row: Name, value: Decimal) -> Result<(), CardStop>
+        requires { IsFalse (has_entry self.old row) }
+        ensures added { OnOk result (self.new ≡ self.old ++ record { row = row; value = value } ∷ []) }
+        ensures stop { IfErr result (λ stop. stop ≡ CardStop.NoMemory) }
+    {
+        self.values.insert(row, value)?;
+        Ok(())
+    }
+}
+
+// Numbers on the numbers of their rows.
+fn numbered_entries(
+    alloc: Global,
+    rows: &Rows,
+    values: &IndexMap<Name, Decimal>,
+) -> Result<Vec<DeckEntry>, NoMemory>
+    requires { length rows.now ≤ MAX_ROWS }
+    ensures { IfOk result (λ entries. entries.items ≡ map (entry_by (row_number rows.now)) (map entry_at values.now.entries)) }
+{
+    let mut entries = Vec::new(alloc);
+    for (row, value) in values {
+        let entry = DeckEntry {
+            row: rows.number_of(row),
+            value: *value,
+        };
+        entries.push(entry).map_err(|_| NoMemory)?;
+    }
+    Ok(entries)
+}

@@ -1,0 +1,194 @@
+// Columns and sets in the making.
+ghost use Rattle.std.specs.Prelude.{◌≡◌, ◌≤◌, ◌++◌, ◌∷◌, [], None, map, length, is_some, IsTrue, IfOk, OnOk, IfErr};
+ghost use Rattle.std.specs.List.{IsDistinct};
+ghost use Rattle.std.specs.Map.{lookup};
+ghost use Rattle.problem_definitions.specs.Names.{same};
+ghost use Rattle.problem_definitions.specs.Numbering.{entry_by, group_by};
+ghost use Rattle.problem_definitions.specs.Problem.{has_group, group_names};
+ghost use Rattle.problem_definitions.specs.Groups.{items_of, in_group, in_set};
+ghost use Rattle.deck_definitions.specs.DataCards.{entries_of, pairs_of};
+ghost use Rattle.deck_definitions.specs.Tests.{pairs_fault, all_but_last};
+ghost use Rattle.deck_parts.specs.Told.{Tells};
+ghost use Rattle.deck_parts.specs.Shown.{rows_alone, group_at, opened, row_number, column_number};
+ghost use Rattle.deck_parts.specs.Fields_shown.{shown};
+
+use crate::card_stop::CardStop;
+use crate::data_card::DataCard;
+use crate::entries::Entries;
+use crate::numbers::number_among;
+use crate::pairs::take_pairs;
+use crate::rows::Rows;
+use deck_definitions::Section;
+use indexmap::IndexMap;
+use name_table::Name;
+use problem_definitions::{MAX_COLUMNS, MAX_ROWS};
+use problem_file::{ColumnDecl, NoMemory, ValueSet};
+use std::alloc::Global;
+use std::marker::Model;
+
+// Makes a place for a name, at the end where it has none.
+pub fn open<I: Drop>(groups: &mut IndexMap<Name, I>, name: Name, empty: I) -> Result<(), CardStop>
+    ensures opened { OnOk result (groups.new.entries ≡ opened name empty groups.old.entries) }
+    ensures stop { IfErr result (λ stop. stop ≡ CardStop.NoMemory) }
+{
+    if groups.contains_key(&name) {
+        return Ok(());
+    }
+    groups.insert(name, empty)?;
+    Ok(())
+}
+
+// Takes the pairs of a card into a group that is there.
+fn take_into(
+    rows: &Rows,
+    section: Section,
+    groups: &mut IndexMap<Name, Entries>,
+    count: u32,
+    card: &DataCard<'_>,
+) -> Result<(), CardStop>
+    requires few { count ≤ 100000 }
+    requires is_there { IsTrue (is_some (lookup (same card.now.name1) groups.old.entries)) }
+    ensures no_fault { OnOk result (pairs_fault (rows_alone rows.now) section (items_of card.now.name1 (map group_at groups.old.entries)) count (pairs_of (shown card.now)) ≡ None) }
+    ensures step { OnOk result (map group_at groups.new.entries ≡ in_group card.now.name1 (λ items. items ++ entries_of (shown card.now)) (map group_at groups.old.entries)) }
+    ensures stop { IfErr result (Tells (pairs_fault (rows_alone rows.now) section (items_of card.now.name1 (map group_at groups.old.entries)) count (pairs_of (shown card.now)))) }
+{
+    let Some(items) = groups.get_mut(&card.name1) else {
+        return Ok(());
+    };
+    take_pairs(rows, section, items, count, card)
+}
+
+// Columns with the numbers of their rows.
+fn column_decls(
+    alloc: Global,
+    rows: &Rows,
+    groups: &IndexMap<Name, Entries>,
+) -> Result<Vec<ColumnDecl>, NoMemory>
+    requires { length rows.now ≤ MAX_ROWS }
+    ensures { IfOk result (λ columns. columns.items ≡ map (group_by (entry_by (row_number rows.now))) (map group_at groups.now.entries)) }
+{
+    let mut columns = Vec::new(alloc);
+    for (name, entries) in groups {
+        let column = ColumnDecl {
+            name: *name,
+            entries: entries.numbered(alloc, rows)?,
+        };
+        columns.push(column).map_err(|_| NoMemory)?;
+    }
+    Ok(columns)
+}
+
+// Sets with the numbers of their rows.
+fn value_sets(
+    alloc: Global,
+    rows: &Rows,
+    groups: &IndexMap<Name, Entries>,
+) -> Result<Vec<ValueSet>, NoMemory>
+    requires { length rows.now ≤ MAX_ROWS }
+    ensures { IfOk result (λ sets. sets.items ≡ map (group_by (entry_by (row_number rows.now))) (map group_at groups.now.entries)) }
+{
+    let mut sets = Vec::new(alloc);
+    for (name, entries) in groups {
+        let set = ValueSet {
+            name: *name,
+            items: entries.numbered(alloc, rows)?,
+        };
+        sets.push(set).map_err(|_| NoMemory)?;
+    }
+    Ok(sets)
+}
+
+/// Columns, or the sets of right-hand sides or of ranges, in first-seen order.
+#[derive(Drop)]
+pub struct Groups {
+    groups: IndexMap<Name, Entries>,
+}
+
+impl Model for Groups {
+    ghost use Rattle.std.specs.Prelude.{List, map};
+    ghost use Rattle.problem_definitions.specs.Names.{Name as Text};
+    ghost use Rattle.problem_definitions.specs.Problem.{Entry, Group};
+    ghost use Rattle.deck_parts.specs.Shown.{group_at};
+
+    ghost Value = { List (Group (Entry Text)) };
+
+    ghost view = { λ groups. map group_at groups.groups.entries };
+}
+
+impl Groups {
+    pub fn new(alloc: Global) -> Groups
+        ensures { result ≡ [] }
+    {
+        Groups {
+            groups: IndexMap::new(alloc),
+        }
+    }
+
+    /// How many groups there are.
+    #[tactic(auto, using(crate::proofs::Fronts::distinct_groups))]
+    pub fn len(&self) -> usize
+        ensures count { result ≡ length self.now }
+        ensures distinct { IsDistinct same (group_names self.now) }
+    {
+        self.groups.len()
+    }
+
+    /// Whether a group of this name is there.
+    pub fn has(&self, name: &Name) -> bool
+        ensures { result ≡ has_group self.now name.now }
+    {
+        self.groups.contains_key(name)
+    }
+
+    /// Whether a group of this name is there that isn't the last.
+    pub fn has_before_last(&self, name: &Name) -> bool
+        ensures { result ≡ has_group (all_but_last self.now) name.now }
+    {
+        match self.groups.get_index_of(name) {
+            Some(place) => place < self.groups.len() - 1,
+            None => false,
+        }
+    }
+
+    /// The number of the group of this name, from 1, or 0 where it isn't there.
+    pub fn number_of(&self, name: &Name) -> u32
+        requires { length self.now ≤ MAX_COLUMNS }
+        ensures { result ≡ column_number self.now name.now }
+    {
+        number_among(&self.groups, name)
+    }
+
+    /// The groups as columns with the numbers of their rows.
+    pub fn columns(&self, alloc: Global, rows: &Rows) -> Result<Vec<ColumnDecl>, NoMemory>
+        requires { length rows.now ≤ MAX_ROWS }
+        ensures { IfOk result (λ columns. columns.items ≡ map (group_by (entry_by (row_number rows.now))) self.now) }
+    {
+        column_decls(alloc, rows, &self.groups)
+    }
+
+    /// The groups as sets with the numbers of their rows.
+    pub fn sets(&self, alloc: Global, rows: &Rows) -> Result<Vec<ValueSet>, NoMemory>
+        requires { length rows.now ≤ MAX_ROWS }
+        ensures { IfOk result (λ sets. sets.items ≡ map (group_by (entry_by (row_number rows.now))) self.now) }
+    {
+        value_sets(alloc, rows, &self.groups)
+    }
+
+    /// Takes the pairs of a card into the group in its field 2, which is added last if it isn't there.
+    pub fn take(
+        &mut self,
+        alloc: Global,
+        rows: &Rows,
+        section: Section,
+        count: u32,
+        card: &DataCard<'_>,
+    ) -> Result<(), CardStop>
+        requires { count ≤ 100000 }
+        ensures no_fault { OnOk result (pairs_fault (rows_alone rows.now) section (items_of card.now.name1 self.old) count (pairs_of (shown card.now)) ≡ None) }
+        ensures step { OnOk result (self.new ≡ in_set card.now.name1 (λ items. items ++ entries_of (shown card.now)) self.old) }
+        ensures stop { IfErr result (Tells (pairs_fault (rows_alone rows.now) section (items_of card.now.name1 self.old) count (pairs_of (shown card.now)))) }
+    {
+        open(&mut self.groups, card.name1, Entries::new(alloc))?;
+        take_into(rows, section, &mut self.groups, count, card)
+    }
+}

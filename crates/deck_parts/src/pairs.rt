@@ -1,0 +1,113 @@
+// The pairs of a card of COLUMNS, RHS or RANGES.
+ghost use Rattle.std.specs.Prelude.{◌≡◌, ◌≤◌, ◌++◌, ◌∷◌, [], None, Some, ℕ, length, IfOk, OnOk, IfErr};
+ghost use Rattle.card_definitions.specs.Numbers.{decimal_of};
+ghost use Rattle.card_definitions.specs.declared.NumberFault.TheVariants.{BadCharacter};
+ghost use Rattle.deck_definitions.specs.DataCards.{entry_of, entries_of, pairs_of};
+ghost use Rattle.deck_definitions.specs.Tests.{number_fault_from, value_fault, pair_row_fault, pair_fault, pairs_fault};
+ghost use Rattle.deck_parts.specs.Told.{Tells};
+ghost use Rattle.deck_parts.specs.Shown.{rows_alone};
+ghost use Rattle.deck_parts.specs.Fields_shown.{shown, pair_shown};
+
+use crate::card_reading::{first_pair, second_pair};
+use crate::card_stop::CardStop;
+use crate::data_card::{DataCard, PairText};
+use crate::entries::Entries;
+use crate::rows::Rows;
+use crate::words::{is_blank, is_columns, is_ranges};
+use card_definitions::NumberFault;
+use deck_definitions::{DeckFaultKind, Section};
+use deck_fields::{Decimal, number};
+use name_table::Name;
+use problem_definitions::MAX_ENTRIES;
+
+// The fault of the row in a pair.
+fn row_fault(rows: &Rows, section: Section, row: &Name) -> Option<DeckFaultKind>
+    ensures { result ≡ pair_row_fault (rows_alone rows.now) section row.now }
+{
+    if is_blank(row.bytes()) {
+        Some(DeckFaultKind::EmptyName)
+    } else if !rows.has(row) {
+        Some(DeckFaultKind::UnknownRow)
+    } else if is_ranges(section) && rows.has_free(row) {
+        Some(DeckFaultKind::RangeOnFree)
+    } else {
+        None
+    }
+}
+
+// The fault of a number in a field that begins in this column.
+fn fault_from(column: u8, fault: NumberFault) -> DeckFaultKind
+    requires from_one { 1 ≤ column }
+    requires in_card { column ≤ 80 }
+    requires in_field { (place : ℕ) → fault ≡ BadCharacter place → place ≤ 12 }
+    ensures { result ≡ number_fault_from column fault }
+{
+    match fault {
+        NumberFault::Empty => DeckFaultKind::Number(NumberFault::Empty, 0),
+        NumberFault::BadCharacter(place) => {
+            DeckFaultKind::Number(NumberFault::BadCharacter(place), column + place - 1)
+        }
+        NumberFault::NoDigit => DeckFaultKind::Number(NumberFault::NoDigit, 0),
+        NumberFault::ExponentRange => DeckFaultKind::Number(NumberFault::ExponentRange, 0),
+    }
+}
+
+// The number in a field that begins in this column.
+pub fn number_in(column: u8, field: &[u8]) -> Result<Decimal, CardStop>
+    requires short { length field.now ≤ 12 }
+    requires from_one { 1 ≤ column }
+    requires in_card { column ≤ 80 }
+    ensures value { IfOk result (λ v. v ≡ decimal_of field.now) }
+    ensures no_fault { OnOk result (value_fault column field.now ≡ None) }
+    ensures stop { IfErr result (Tells (value_fault column field.now)) }
+{
+    match number(field) {
+        Ok(value) => Ok(value),
+        Err(fault) => Err(CardStop::Refused(fault_from(column, fault))),
+    }
+}
+
+// Takes a pair.
+pub fn take_pair(
+    rows: &Rows,
+    section: Section,
+    items: &mut Entries,
+    count: u32,
+    pair: &PairText<'_>,
+) -> Result<(), CardStop>
+    ensures no_fault { OnOk result (pair_fault (rows_alone rows.now) section items.old count (pair_shown pair.now) ≡ None) }
+    ensures step { OnOk result (items.new ≡ items.old ++ entry_of (pair_shown pair.now) ∷ []) }
+    ensures stop { IfErr result (Tells (pair_fault (rows_alone rows.now) section items.old count (pair_shown pair.now))) }
+{
+    if let Some(kind) = row_fault(rows, section, &pair.row) {
+        return Err(CardStop::Refused(kind));
+    }
+    if items.has(&pair.row) {
+        return Err(CardStop::Refused(DeckFaultKind::DuplicateEntry));
+    }
+    let value = number_in(pair.column, pair.value)?;
+    if is_columns(section) && MAX_ENTRIES <= count as usize {
+        return Err(CardStop::Refused(DeckFaultKind::TooManyEntries));
+    }
+    items.add(pair.row, value)
+}
+
+// Takes the pairs of a card.
+pub fn take_pairs(
+    rows: &Rows,
+    section: Section,
+    items: &mut Entries,
+    count: u32,
+    card: &DataCard<'_>,
+) -> Result<(), CardStop>
+    requires { count ≤ 100000 }
+    ensures no_fault { OnOk result (pairs_fault (rows_alone rows.now) section items.old count (pairs_of (shown card.now)) ≡ None) }
+    ensures step { OnOk result (items.new ≡ items.old ++ entries_of (shown card.now)) }
+    ensures stop { IfErr result (Tells (pairs_fault (rows_alone rows.now) section items.old count (pairs_of (shown card.now)))) }
+{
+    take_pair(rows, section, items, count, &first_pair(card))?;
+    match second_pair(card) {
+        Some(second) => take_pair(rows, section, items, count + 1, &second),
+        None => Ok(()),
+    }
+}

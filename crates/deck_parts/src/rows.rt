@@ -1,0 +1,122 @@
+// The rows of a problem in the making.
+ghost use Rattle.std.specs.Prelude.{◌≡◌, ◌≤◌, ◌++◌, ◌∷◌, [], map, length, IsFalse, IfOk, OnOk, IfErr};
+ghost use Rattle.problem_definitions.specs.Kinds.{is_free_kind};
+ghost use Rattle.problem_definitions.specs.Problem.{has_row, has_free_row};
+ghost use Rattle.deck_parts.specs.Shown.{row_at, row_number};
+
+use crate::card_stop::CardStop;
+use crate::numbers::number_among;
+use indexmap::IndexMap;
+use name_table::Name;
+use problem_definitions::{MAX_ROWS, RowKind};
+use problem_file::{NoMemory, RowDecl};
+use std::alloc::Global;
+use std::marker::Model;
+
+/// Rows in deck order.
+#[derive(Drop)]
+pub struct Rows {
+    kinds: IndexMap<Name, RowKind>,
+}
+
+impl Model for Rows {
+    ghost use Rattle.std.specs.Prelude.{List, map};
+    ghost use Rattle.std.specs.List.{IsDistinct};
+    ghost use Rattle.std.specs.Map.{keys_of};
+    ghost use Rattle.problem_definitions.specs.Names.{same};
+    ghost use Rattle.problem_definitions.specs.Problem.{Row};
+    ghost use Rattle.deck_parts.specs.Shown.{row_at};
+
+    ghost Value = { List Row };
+
+    ghost view = { λ rows. map row_at rows.kinds.entries };
+
+    ghost invariant = { λ rows. IsDistinct same (keys_of rows.kinds.entries) };
+}
+
+impl Rows {
+    pub fn new(alloc: Global) -> Rows
+        ensures { result ≡ [] }
+    {
+        Rows {
+            kinds: IndexMap::new(alloc),
+        }
+    }
+
+    /// How many rows there are.
+    pub fn len(&self) -> usize
+        ensures { result ≡ length self.now }
+    {
+        self.kinds.len()
+    }
+
+    /// Whether a row of this name is there.
+    #[tactic(auto, using(crate::proofs::Keyed::row_is_there))]
+    pub fn has(&self, name: &Name) -> bool
+        ensures { result ≡ has_row self.now name.now }
+    {
+        self.kinds.contains_key(name)
+    }
+
+    /// Whether a free row of this name is there.
+    pub fn has_free(&self, name: &Name) -> bool
+        ensures { result ≡ has_free_row self.now name.now }
+    {
+        match self.kinds.get(name) {
+            Some(kind) => is_free(*kind),
+            None => false,
+        }
+    }
+
+    /// The number of the row of this name, from 1, or 0 where it isn't there.
+    pub fn number_of(&self, name: &Name) -> u32
+        requires { length self.now ≤ MAX_ROWS }
+        ensures { result ≡ row_number self.now name.now }
+    {
+        number_among(&self.kinds, name)
+    }
+
+    /// The rows as a problem has them.
+    pub fn decls(&self, alloc: Global) -> Result<Vec<RowDecl>, NoMemory>
+        ensures { IfOk result (λ decls. decls.items ≡ self.now) }
+    {
+        row_decls(alloc, &self.kinds)
+    }
+
+    /// Adds a new row at the end.
+    pub fn add(&mut self, kind: RowKind, name: Name) -> Result<(), CardStop>
+        requires { IsFalse (has_row self.old name) }
+        ensures added { OnOk result (self.new ≡ self.old ++ record { kind = kind; name = name } ∷ []) }
+        ensures stop { IfErr result (λ stop. stop ≡ CardStop.NoMemory) }
+    {
+        self.kinds.insert(name, kind)?;
+        Ok(())
+    }
+}
+
+// The rows of these names and types.
+fn row_decls(alloc: Global, kinds: &IndexMap<Name, RowKind>) -> Result<Vec<RowDecl>, NoMemory>
+    ensures { IfOk result (λ decls. decls.items ≡ map row_at kinds.now.entries) }
+{
+    let mut decls = Vec::new(alloc);
+    for (name, kind) in kinds {
+        let row = RowDecl {
+            kind: *kind,
+            name: *name,
+        };
+        decls.push(row).map_err(|_| NoMemory)?;
+    }
+    Ok(decls)
+}
+
+// Whether a row of this type has no limits.
+fn is_free(kind: RowKind) -> bool
+    ensures { result ≡ is_free_kind kind }
+{
+    match kind {
+        RowKind::N => true,
+        RowKind::G => false,
+        RowKind::L => false,
+        RowKind::E => false,
+    }
+}

@@ -1,0 +1,173 @@
+// The cards of the sections: a section card, and the data cards of ROWS, COLUMNS, RHS and RANGES.
+ghost use Rattle.std.specs.Prelude.{◌≡◌, ◌≤◌, ◌++◌, None, OnOk, IfErr, not, ◌||◌};
+ghost use Rattle.card_definitions.specs.Words.{is_empty, ◌⟹◌};
+ghost use Rattle.std.specs.Option.{option_to_list};
+ghost use Rattle.problem_definitions.specs.Names.{same, marker};
+ghost use Rattle.problem_definitions.specs.Problem.{entry_count};
+ghost use Rattle.problem_definitions.specs.Groups.{in_set};
+ghost use Rattle.deck_definitions.specs.DataCards.{entries_of, row_of};
+ghost use Rattle.deck_definitions.specs.Sections.{may_follow, rank, furthest_next};
+ghost use Rattle.deck_definitions.specs.Tests.{rows_fault, columns_fault, set_fault};
+ghost use Rattle.deck_parts.specs.Told.{Tells};
+ghost use Rattle.deck_parts.specs.Shown.{rows_alone, columns_alone};
+ghost use Rattle.deck_parts.specs.Fields_shown.{shown};
+
+use crate::card_stop::CardStop;
+use crate::data_card::DataCard;
+use crate::groups::Groups;
+use crate::rows::Rows;
+use crate::words::{is_blank, is_combination, is_word, row_kind};
+use deck_definitions::{DeckFaultKind, Section};
+use problem_definitions::{MAX_COLUMNS, MAX_ROWS};
+use std::alloc::Global;
+
+// The fault of a card of ROWS.
+fn row_card_fault(rows: &Rows, card: &DataCard<'_>) -> Option<DeckFaultKind>
+    ensures { result ≡ rows_fault (rows_alone rows.now) (shown card.now) }
+{
+    if is_combination(card.kind) {
+        Some(DeckFaultKind::CombinationRow)
+    } else if row_kind(card.kind).is_none() {
+        Some(DeckFaultKind::BadRowType)
+    } else if is_blank(card.name1.bytes()) {
+        Some(DeckFaultKind::EmptyName)
+    } else if rows.has(&card.name1) {
+        Some(DeckFaultKind::DuplicateRow)
+    } else if MAX_ROWS <= rows.len() {
+        Some(DeckFaultKind::TooManyRows)
+    } else if has_more(card) {
+        Some(DeckFaultKind::ExtraField)
+    } else {
+        None
+    }
+}
+
+// Whether one of the fields 3 to 6 isn't blank.
+fn has_more(card: &DataCard<'_>) -> bool
+    ensures { result ≡ not (is_empty (card.now.name2 ++ card.now.value1.now ++ card.now.name3 ++ card.now.value2.now)) }
+{
+    !(is_blank(card.name2.bytes())
+        && is_blank(card.value1)
+        && is_blank(card.name3.bytes())
+        && is_blank(card.value2))
+}
+
+/// Takes a card of ROWS.
+pub fn take_row_card(rows: &mut Rows, card: &DataCard<'_>) -> Result<(), CardStop>
+    ensures no_fault { OnOk result (rows_fault (rows_alone rows.old) (shown card.now) ≡ None) }
+    ensures step { OnOk result (rows.new ≡ rows.old ++ option_to_list (row_of (shown card.now))) }
+    ensures stop { IfErr result (Tells (rows_fault (rows_alone rows.old) (shown card.now))) }
+{
+    if let Some(kind) = row_card_fault(rows, card) {
+        return Err(CardStop::Refused(kind));
+    }
+    match row_kind(card.kind) {
+        Some(kind) => rows.add(kind, card.name1),
+        None => Ok(()),
+    }
+}
+
+// Whether a card marks integer columns.
+fn is_marker(card: &DataCard<'_>) -> bool
+    ensures { result ≡ (same marker card.now.name2 || same marker card.now.name3) }
+{
+    is_word(b"'MARKER'", card.name2.bytes()) || is_word(b"'MARKER'", card.name3.bytes())
+}
+
+/// Takes a card of COLUMNS; so many entries are there already.
+pub fn take_column_card(
+    alloc: Global,
+    rows: &Rows,
+    columns: &mut Groups,
+    count: u32,
+    card: &DataCard<'_>,
+) -> Result<(), CardStop>
+    requires few { count ≤ 100000 }
+    requires counted { count ≡ entry_count (columns_alone rows.now columns.old) }
+    ensures no_fault { OnOk result (columns_fault (columns_alone rows.now columns.old) (shown card.now) ≡ None) }
+    ensures step { OnOk result (columns.new ≡ in_set card.now.name1 (λ items. items ++ entries_of (shown card.now)) columns.old) }
+    ensures stop { IfErr result (Tells (columns_fault (columns_alone rows.now columns.old) (shown card.now))) }
+{
+    if !is_blank(card.kind) {
+        return Err(CardStop::Refused(DeckFaultKind::ExtraField));
+    }
+    if is_marker(card) {
+        return Err(CardStop::Refused(DeckFaultKind::Marker));
+    }
+    if is_blank(card.name1.bytes()) {
+        return Err(CardStop::Refused(DeckFaultKind::EmptyName));
+    }
+    if columns.has_before_last(&card.name1) {
+        return Err(CardStop::Refused(DeckFaultKind::ColumnSplit));
+    }
+    if !columns.has(&card.name1) && MAX_COLUMNS <= columns.len() {
+        return Err(CardStop::Refused(DeckFaultKind::TooManyColumns));
+    }
+    columns.take(alloc, rows, Section::Columns, count, card)
+}
+
+/// Takes a card of RHS or RANGES.
+pub fn take_set_card(
+    alloc: Global,
+    rows: &Rows,
+    section: Section,
+    sets: &mut Groups,
+    card: &DataCard<'_>,
+) -> Result<(), CardStop>
+    ensures no_fault { OnOk result (set_fault (rows_alone rows.now) section sets.old (shown card.now) ≡ None) }
+    ensures step { OnOk result (sets.new ≡ in_set card.now.name1 (λ items. items ++ entries_of (shown card.now)) sets.old) }
+    ensures stop { IfErr result (Tells (set_fault (rows_alone rows.now) section sets.old (shown card.now))) }
+{
+    if !is_blank(card.kind) {
+        return Err(CardStop::Refused(DeckFaultKind::ExtraField));
+    }
+    sets.take(alloc, rows, section, 0, card)
+}
+
+// How far along a section stands.
+fn rank_of(section: Section) -> u8
+    ensures { result ≡ rank section }
+{
+    match section {
+        Section::Header => 0,
+        Section::Rows => 1,
+        Section::Columns => 2,
+        Section::Rhs => 3,
+        Section::Ranges => 4,
+        Section::Bounds => 5,
+        Section::Endata => 6,
+    }
+}
+
+// The furthest section that may come next.
+fn furthest_after(section: Section) -> Section
+    ensures { result ≡ furthest_next section }
+{
+    match section {
+        Section::Header => Section::Rows,
+        Section::Rows => Section::Columns,
+        Section::Columns => Section::Endata,
+        Section::Rhs => Section::Endata,
+        Section::Ranges => Section::Endata,
+        Section::Bounds => Section::Endata,
+        Section::Endata => Section::Endata,
+    }
+}
+
+// Whether a section may come next.
+fn follows(before: Section, section: Section) -> bool
+    ensures { result ≡ may_follow before section }
+{
+    rank_of(before) < rank_of(section) && rank_of(section) <= rank_of(furthest_after(before))
+}
+
+/// The fault of a section after another.
+pub fn order_fault(before: Section, section: Section) -> Option<DeckFaultKind>
+    ensures { result ≡ (not (may_follow before section) ⟹ DeckFaultKind.SectionOrder) }
+{
+    if follows(before, section) {
+        None
+    } else {
+        Some(DeckFaultKind::SectionOrder)
+    }
+}

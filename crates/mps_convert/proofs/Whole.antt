@@ -1,0 +1,118 @@
+-- The conversion of a whole deck, by its parts: the first faulty card, its end and its name.
+use Rattle.std.proofs.Common.{◌≡◌, ℕ, ◌+◌, ◌-◌, ◌≤◌, ◌<◌, Bool, true, false, cond, not, List, [], ◌∷◌, ◌++◌, Option, Some, None, Result, Ok, Err, length, map, take, drop, slice_get, get_or, refl, ap, sym, subst, ◌∙◌, unwrap_or, arith}
+use Rattle.std.specs.List.{last_or}
+use Rattle.std.specs.Option.{option_or}
+use Rattle.std.proofs.lemmas.Option.{slice_get-get_or}
+use Rattle.std.proofs.lemmas.List.{map-append}
+use Rattle.card_definitions.specs.Words.{unless, ◌⟹◌}
+use Rattle.card_definitions.specs.Cards.{Card, live, numbered_cards, cards_between, is_skipped, last_number}
+use Rattle.problem_definitions.specs.Names.{Name}
+use Rattle.problem_definitions.specs.Problem.{Problem}
+use Rattle.problem_definitions.specs.Numbering.{numbered}
+use Rattle.problem_definitions.specs.Valid.{IsName, IsProblem}
+use Rattle.deck_definitions.specs.declared.DeckFault.{DeckFault}
+use Rattle.deck_definitions.specs.declared.DeckFaultKind.TheVariants.{NoEndata}
+use Rattle.deck_definitions.specs.declared.Section.TheVariants.{Endata}
+use Rattle.deck_definitions.specs.Sections.{is_section_after, header_name}
+use Rattle.deck_definitions.specs.Described.{described}
+use Rattle.deck_definitions.specs.Conversion.{card_fault, first_faulty, deck_fault, deck_name, conversion}
+use Rattle.deck_definitions.proofs.Converted.{ArePrintable, described-problem}
+use Rattle.deck_definitions.proofs.Steps.{last_or-push}
+use Rattle.deck_fields.specs.declared.stop.DeckStop.{DeckStop}
+use Rattle.deck_fields.specs.declared.stop.DeckStop.TheVariants.{Fault, NoMemory}
+use Rattle.mps_convert.specs.State.{State, state_of, Stops}
+use Rattle.mps_convert.specs.Conversion.{Refuses}
+use Rattle.mps_convert.proofs.Loop.{cards_up_to, cards_more, cards_split, live-append}
+
+module _ (deck : List Card) (name : Option Name) where
+  made : Problem ℕ
+  made = numbered (described (unwrap_or name (deck_name (live deck))) (live deck))
+
+  by_parts : Option DeckFault → Bool → ℕ → Result (Problem ℕ) DeckFault
+  by_parts faulty ended last = unless (option_or faulty (option_or (not ended ⟹ record { card = last; kind = NoEndata }) None)) made
+
+  in_parts : conversion deck name ≡ by_parts (first_faulty card_fault [] (live deck)) (is_section_after Endata (live deck)) (last_number deck)
+  unfolding conversion deck_fault made by_parts
+  in_parts = refl
+
+  -- the first faulty card decides
+  pub faulty : (stop : DeckStop) → Stops (live deck) stop → Refuses deck name stop
+  unfolding by_parts
+  faulty NoMemory h = tt
+  faulty (Fault told) h = in_parts ∙ ap (λ o. by_parts o (is_section_after Endata (live deck)) (last_number deck)) h
+
+  -- where no card is faulty, the end of the deck may be missing
+  pub unended : (last : ℕ) → first_faulty card_fault [] (live deck) ≡ None → is_section_after Endata (live deck) ≡ false → last_number deck ≡ last
+      → conversion deck name ≡ Err (record { card = last; kind = NoEndata })
+  unfolding by_parts
+  unended last fine open_end is =
+      in_parts ∙ ap (λ o. by_parts o (is_section_after Endata (live deck)) (last_number deck)) fine ∙ ap (λ b. by_parts None b (last_number deck)) open_end ∙ ap (by_parts None false) is
+
+  -- else it converts to the problem that it describes
+  pub whole : first_faulty card_fault [] (live deck) ≡ None → is_section_after Endata (live deck) ≡ true
+      → conversion deck name ≡ Ok (numbered (described (unwrap_or name (deck_name (live deck))) (live deck)))
+  unfolding by_parts made
+  whole fine ended =
+      in_parts ∙ ap (λ o. by_parts o (is_section_after Endata (live deck)) (last_number deck)) fine ∙ ap (λ b. by_parts None b (last_number deck)) ended
+
+-- a problem under another name
+pub named_as : (name : Name) (cards : List Card) (problem : Problem Name) → problem ≡ described [] cards → record problem { name = name } ≡ described name cards
+unfolding described
+named_as name cards problem is = ap (λ (p : Problem Name). record p { name = name }) is
+
+-- the cards that aren't skipped are printable where all are
+pub printable_live : (cards : List Card) → ArePrintable cards → ArePrintable (live cards)
+printable_live [] h = tt
+printable_live (card ∷ cards) h = by (is_skipped card.bytes) (printable_live cards h.1)
+  where
+    by : (b : Bool) → ArePrintable (live cards) → ArePrintable (cond (not b) (card ∷ live cards) (live cards))
+    by true rest = rest
+    by false rest = (h.0, rest)
+
+-- what a draft shows behind the cards of a deck without a fault, under a name, is a problem
+pub is_problem : (deck : List Card) (own : Name) (problem : Problem Name) → IsName own → ArePrintable deck → first_faulty card_fault [] (live deck) ≡ None → problem ≡ described [] (live deck)
+    → IsProblem (numbered (record problem { name = own }))
+is_problem deck own problem named printable fine is =
+    subst (λ (p : Problem Name). IsProblem (numbered p)) (sym (named_as own (live deck) problem is)) (described-problem own (live deck) named (printable_live deck printable) fine)
+
+-- and the deck converts to it
+pub converts : (deck : List Card) (name : Option Name) (own : Name) (shown : Problem Name) (problem : Problem ℕ) → first_faulty card_fault [] (live deck) ≡ None → is_section_after Endata (live deck) ≡ true
+    → shown ≡ described [] (live deck) → own ≡ unwrap_or name (deck_name (live deck)) → problem ≡ numbered (record shown { name = own }) → conversion deck name ≡ Ok problem
+converts deck name own shown problem fine ended is own_is problem_is =
+    whole deck name fine ended
+    ∙ ap (λ (p : Problem ℕ). Ok p) (ap (λ n. numbered (described n (live deck))) (sym own_is) ∙ ap numbered (sym (named_as own (live deck) shown is)) ∙ sym problem_is)
+
+-- behind no card
+pub nothing_read : (state : State) → state.section ≡ None → state.problem ≡ record { name = []; rows = []; columns = []; rhs = []; ranges = []; bounds = [] } → state ≡ state_of []
+unfolding described
+nothing_read state section problem = λ i. record { section = section i; problem = problem i }
+
+-- ---- the last card and the first
+
+pub last_is : (first last : ℕ) (cards : List (List ℕ)) → 1 ≤ first → first ≤ last → last ≤ length cards → last_number (cards_between first last cards) ≡ last
+last_is first last cards from_one from within =
+    let inside : last - 1 < length cards = omega arith in
+    let card = get_or cards (last - 1) [] in
+    let more = cards_more first last cards card from_one from (slice_get-get_or cards (last - 1) [] inside) in
+    ap last_number more
+    ∙ ap (λ numbers. unwrap_or (last_or None numbers) 0) (map-append (λ (c : Card). c.number) (cards_up_to first last cards) (record { number = last; bytes = card } ∷ []))
+    ∙ ap (λ o. unwrap_or o 0) (last_or-push None (map (λ (c : Card). c.number) (cards_up_to first last cards)) (Some last))
+
+module _ (first number : ℕ) (cards : List (List ℕ)) (card : List ℕ) (from_one : 1 ≤ first) (from : first ≤ number) (at : slice_get cards (number - 1) ≡ Some card)
+    (none : live (cards_up_to first number cards) ≡ []) where
+  up_to : live (cards_up_to first (number + 1) cards) ≡ cond (not (is_skipped card)) (record { number = number; bytes = card } ∷ []) []
+  up_to =
+      ap live (cards_more first number cards card from_one from at) ∙ live-append (cards_up_to first number cards) (record { number = number; bytes = card } ∷ [])
+      ∙ ap (λ cs. cs ++ cond (not (is_skipped card)) (record { number = number; bytes = card } ∷ []) []) none
+
+  -- one more skipped card
+  pub still_none : is_skipped card ≡ true → live (cards_up_to first (number + 1) cards) ≡ []
+  still_none skipped = up_to ∙ ap (λ b. cond (not b) (record { number = number; bytes = card } ∷ []) []) skipped
+
+  -- the first card that isn't skipped has the deck's name
+  pub name_at_first : (last : ℕ) → number ≤ last → is_skipped card ≡ false → deck_name (live (cards_between first last cards)) ≡ header_name card
+  name_at_first last below live_card =
+      let rest = take (last + 1 - first - (number + 1 - first)) (drop (number + 1 - first) (drop (first - 1) (numbered_cards cards))) in
+      ap (λ cs. deck_name (live cs)) (cards_split first number last cards below from)
+      ∙ ap deck_name (live-append (cards_up_to first (number + 1) cards) rest)
+      ∙ ap (λ cs. deck_name (cs ++ live rest)) (up_to ∙ ap (λ b. cond (not b) (record { number = number; bytes = card } ∷ []) []) live_card)
