@@ -1,0 +1,5 @@
+pub mod Opening
+pub mod Turns
+pub mod Missing
+pub mod Answers
+pub mod Laws
