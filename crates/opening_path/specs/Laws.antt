@@ -4,7 +4,7 @@ use Rattle.lp_definitions.specs.LinearProgram.{LinearProgram}
 use Rattle.problem_definitions.specs.Problem.{Problem}
 use Rattle.selection_definitions.specs.Choice.{Choice}
 use Rattle.selection_definitions.specs.Selection.{selected}
-use Rattle.opening_path.specs.Opening.{AreAtZero}
+use Rattle.opening_turn.specs.Opening.{AreAtZero}
 
 -- where no bound set is chosen the columns lie in 0 and upward; and no selection has a change row
 pub record SelectionLaws : Type 0 where

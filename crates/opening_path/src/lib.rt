@@ -9,25 +9,20 @@ ghost use Rattle.solving_definitions.specs.Sections.{IsShown};
 ghost use Rattle.path_definitions.specs.Path.{EndsOptimal, EndsCrossed, EndsAt};
 ghost use Rattle.report_text.specs.Lines.{solution_lines};
 ghost use Rattle.report_text.specs.Sheets.{IsSheet};
-ghost use Rattle.opening_path.specs.Opening.{AreAtZero, opening_point, opening_prices};
+ghost use Rattle.opening_turn.specs.Opening.{AreAtZero, opening_point, opening_prices};
 ghost use Rattle.opening_path.specs.Missing.{IsMissing};
 ghost use Rattle.opening_path.specs.Answers.{sheet_shown, end_shown, HasOutcome, AreShown};
 ghost use Rattle.opening_path.specs.Laws.{SelectionLaws};
 
 mod check;
-mod choices;
-mod numbers;
-mod turn;
-mod vectors;
 
 use certificate_check::{check_crossed, check_optimal};
 use check::refused_of;
 use frac128::{Frac, Refused};
 use lp_model::{Basis, NoMemory, Outcome, Point, Prices};
+use opening_turn::{OpeningTurn, opening_point, opening_prices, turn_at_opening};
 use report_text::Sheet;
 use std::alloc::Global;
-use turn::{OpeningTurn, turn_at_opening};
-use vectors::{opening_point, opening_prices};
 
 /// Where a path ends that starts at the opening basis.
 #[derive(Debug, Drop)]

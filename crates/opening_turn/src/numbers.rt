@@ -4,7 +4,7 @@ ghost use Rattle.std.specs.Prelude.{◌≡◌, None, not};
 ghost use Rattle.exact_values.specs.Tests.{lt_ℚ};
 ghost use Rattle.lp_definitions.specs.LinearProgram.{IsColumn, IsVariable, on_row, entry, cost, for_min};
 ghost use Rattle.path_definitions.specs.Moves.{signed};
-ghost use Rattle.opening_path.specs.Opening.{opening_price};
+ghost use Rattle.opening_turn.specs.Opening.{opening_price};
 
 use frac128::Frac;
 use lp_model::{Entry, Lp, Sense};

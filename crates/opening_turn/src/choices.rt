@@ -6,7 +6,7 @@ ghost use Rattle.lp_definitions.specs.Basis.{opening_statuses};
 ghost use Rattle.lp_algebra.specs.Rates.{opening_rate};
 ghost use Rattle.path_definitions.specs.Moves.{is_crossed, is_below, is_above, is_outside, entering, limit_ahead, stopper};
 ghost use Rattle.path_definitions.specs.Path as path;
-ghost use Rattle.opening_path.specs.Opening.{AreAtZero, zero_vector, opening_tableau};
+ghost use Rattle.opening_turn.specs.Opening.{AreAtZero, zero_vector, opening_tableau};
 
 use crate::numbers::{excess, is_less, number_at, worth};
 use frac128::Frac;

@@ -1,7 +1,7 @@
 //! The point and the prices of the opening basis.
 
 ghost use Rattle.std.specs.Prelude.{◌≡◌, None, IfOk};
-ghost use Rattle.opening_path.specs.Opening.{opening_point, opening_prices};
+ghost use Rattle.opening_turn.specs.Opening.{opening_point, opening_prices};
 
 use crate::numbers::price;
 use frac128::Frac;

@@ -6,9 +6,9 @@ use Rattle.lp_definitions.specs.LinearProgram.{LinearProgram}
 use Rattle.lp_definitions.specs.Basis.{opening_statuses}
 use Rattle.lp_definitions.specs.declared.Status.{Status}
 use Rattle.path_definitions.specs.Path.{EndsOptimal, EndsCrossed, EndsInfeasible, EndsUnbounded, IsStep, EndsAt}
-use Rattle.opening_path.specs.Opening.{opening_point, opening_prices}
-use Rattle.opening_path.specs.declared.turn.OpeningTurn.{OpeningTurn}
-use Rattle.opening_path.specs.declared.turn.OpeningTurn.TheVariants.{Crossed, Infeasible, Unbounded, Moves, Optimal}
+use Rattle.opening_turn.specs.Opening.{opening_point, opening_prices}
+use Rattle.opening_turn.specs.declared.turn.OpeningTurn.{OpeningTurn}
+use Rattle.opening_turn.specs.declared.turn.OpeningTurn.TheVariants.{Crossed, Infeasible, Unbounded, Moves, Optimal}
 
 abbrev pub IsOpeningTurn : LinearProgram → OpeningTurn → Type 0
 IsOpeningTurn p (Crossed k) = EndsAt p (opening_statuses p) (EndsCrossed k)

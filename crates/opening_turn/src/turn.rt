@@ -3,8 +3,8 @@
 ghost use Rattle.std.specs.Prelude.{◌≡◌, Some, None};
 ghost use Rattle.lp_definitions.specs.Basis.{opening_statuses};
 ghost use Rattle.path_definitions.specs.Path as path;
-ghost use Rattle.opening_path.specs.Opening.{AreAtZero, opening_tableau};
-ghost use Rattle.opening_path.specs.Turns.{IsOpeningTurn};
+ghost use Rattle.opening_turn.specs.Opening.{AreAtZero, opening_tableau};
+ghost use Rattle.opening_turn.specs.Turns.{IsOpeningTurn};
 
 use crate::choices::{betterer, crossed, is_stopped, outside, returner};
 use lp_model::Lp;
