@@ -85,3 +85,17 @@ pub worth_lowers : (p : LinearProgram) → IsLinearProgram p → AreAtZero p →
 worth_lowers p lawful at j is =
     column_lowers p (worth_rate p (opening_statuses p) (opening_tableau p)) at (p.rows + j) (variable_of p.matrix j is) (omega (arith, is.0))
     ∙ ap (λ v. lt_ℚ (for_min p.sense v) zero_ℚ) (objective_rate_at p lawful j is)
+
+-- ---- the same at the next column of a walk
+
+pub excess_next : (p : LinearProgram) → AreAtZero p → (r : ℕ) (below : Bool) (j : ℕ) → IsRow p.matrix r → j < p.cols
+    → lowers p (opening_statuses p) (excess_rate (opening_rate p.matrix) r below) (p.rows + j + 1) ≡ lt_ℚ (signed (not below) (entry p.matrix r (j + 1))) zero_ℚ
+excess_next p at r below j row within =
+    let place : p.rows + j + 1 ≡ p.rows + (j + 1) = omega arith in
+    ap (lowers p (opening_statuses p) (excess_rate (opening_rate p.matrix) r below)) place ∙ excess_lowers p at r below (j + 1) row (omega arith, omega (arith, within))
+
+pub worth_next : (p : LinearProgram) → IsLinearProgram p → AreAtZero p → (j : ℕ) → j < p.cols
+    → lowers p (opening_statuses p) (worth_rate p (opening_statuses p) (opening_tableau p)) (p.rows + j + 1) ≡ lt_ℚ (for_min p.sense (cost p (j + 1))) zero_ℚ
+worth_next p lawful at j within =
+    let place : p.rows + j + 1 ≡ p.rows + (j + 1) = omega arith in
+    ap (lowers p (opening_statuses p) (worth_rate p (opening_statuses p) (opening_tableau p))) place ∙ worth_lowers p lawful at (j + 1) (omega arith, omega (arith, within))

@@ -2,6 +2,7 @@
 use Rattle.std.proofs.Common.{◌≡◌, ℕ, ◌+◌, ◌-◌, ◌<◌, ◌≤◌, Option, Some, None, Bool, true, false, cond, refl, sym, ap, ap₂, ◌∙◌, arith}
 use Rattle.std.specs.Prelude.{is_some, nat_le, nat_eq, option_map}
 use Rattle.exact_values.specs.Rational.{ℚ, zero_ℚ, one_ℚ, ◌-ℚ◌, ◌/ℚ◌}
+use Rattle.exact_values.specs.Rational as rational
 use Rattle.exact_values.specs.Tests.{lt_ℚ}
 use Rattle.lp_definitions.specs.LinearProgram.{LinearProgram, Vector, size, IsRow, IsColumn, IsVariable, lower_of, upper_of, entry}
 use Rattle.lp_algebra.specs.Rates.{opening_rate}
@@ -27,6 +28,7 @@ endless v low high none still = by (lt_ℚ zero_ℚ v)
 
 -- a column is 1 or 0
 unit_values : (same : Bool) → lt_ℚ (cond same one_ℚ zero_ℚ) zero_ℚ ≡ false
+unfolding rational.compare_ℚ rational.whole
 unit_values true = refl
 unit_values false = refl
 

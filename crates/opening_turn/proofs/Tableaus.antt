@@ -1,5 +1,5 @@
 -- The opening basis: where its variables stand, its point and its rates.
-use Rattle.std.proofs.Common.{◌≡◌, ℕ, ◌+◌, ◌-◌, ◌<◌, ◌≤◌, Option, Some, None, Bool, true, false, cond, refl, sym, ap, subst, ◌∙◌, arith}
+use Rattle.std.proofs.Common.{◌≡◌, ℕ, suc, ◌+◌, ◌-◌, ◌<◌, ◌≤◌, Option, Some, None, Bool, true, false, cond, refl, sym, ap, subst, ◌∙◌, arith}
 use Rattle.std.specs.Prelude.{nat_le}
 use Rattle.exact_values.specs.Rational.{ℚ, zero_ℚ, ◌*ℚ◌}
 use Rattle.exact_values.proofs.Ring_laws.{mul-zero}
@@ -63,7 +63,7 @@ placed p at k is = by (nat_le k p.rows) refl
         subst (λ st. StandsAt st (lower_of p k) (upper_of p k) zero_ℚ) (sym (column_status p at k is above)) (lower_at p at k is above)
 
 keeps : (a : Matrix) → KeepsEquations a zero_vector
-keeps a i row = sym (sum_to-zero a.cols _ (λ j below. mul-zero (entry a i (1 + j))))
+keeps a i row = sym (sum_to-zero a.cols _ (λ j below. mul-zero (entry a i (suc j))))
 
 pub is_tableau : (p : LinearProgram) → AreAtZero p → IsTableau p (opening_statuses p) (opening_tableau p)
 is_tableau p at = record {

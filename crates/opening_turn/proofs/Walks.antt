@@ -1,11 +1,12 @@
 -- Searches that go up by one.
-use Rattle.std.proofs.Common.{◌≡◌, ◌≢◌, ℕ, ◌+◌, ◌-◌, ◌<◌, ◌≤◌, ◌⊎◌, inl, inr, Bool, true, false, sym, ap, ◌∙◌, arith}
+use Rattle.std.proofs.Common.{◌≡◌, ◌≢◌, ℕ, ◌+◌, ◌-◌, ◌<◌, ◌≤◌, ◌⊎◌, inl, inr, Bool, true, false, refl, sym, ap, ◌∙◌, arith}
 use Rattle.std.specs.Prelude.{eqb, Some, None, nat_le, ◌&&◌}
 use Rattle.std.proofs.lemmas.Bool.Decides.{eqb_tells}
-use Rattle.lp_definitions.specs.LinearProgram.{LinearProgram, size, IsVariable}
+use Rattle.lp_definitions.specs.LinearProgram.{LinearProgram, size, IsRow, IsVariable}
 use Rattle.lp_definitions.specs.Basis.{is_in, basics_of, opening_statuses}
 use Rattle.path_definitions.specs.Moves.{least, is_outside}
-use Rattle.path_laws.proofs.Searches.{least_is, least_none}
+use Rattle.path_laws.proofs.Searches.{least_is, least_none, found_passes}
+use Rattle.lp_algebra.proofs.Values.{clash}
 use Rattle.opening_turn.specs.Opening.{zero_vector}
 use Rattle.opening_turn.proofs.Tableaus.{is_in-opening}
 
@@ -49,3 +50,13 @@ rows_alone p rows k low high = at (nat_le k p.rows) refl
     at : (row : Bool) → nat_le k p.rows ≡ row → breaks p k ≡ false
     at true e = let within : k ≤ p.rows = grind arith in rows k low within
     at false e = ap (λ b. b && is_outside p zero_vector k) (is_in-opening p k (low, high) ∙ e)
+
+-- so what is found is a row
+pub broken_row : (p : LinearProgram) (r : ℕ) → least p (breaks p) ≡ Some r → IsRow p.matrix r
+broken_row p r e = at (nat_le r p.rows) refl
+  where
+    at : (row : Bool) → nat_le r p.rows ≡ row → IsRow p.matrix r
+    at true low = let within : r ≤ p.rows = grind arith in ((found_passes p (breaks p) r e).0.0, within)
+    at false high =
+        let found = found_passes p (breaks p) r e in
+        absurd (clash (sym found.1 ∙ ap (λ b. b && is_outside p zero_vector r) (is_in-opening p r found.0 ∙ high)))

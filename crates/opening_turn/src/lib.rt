@@ -4,6 +4,8 @@
 
 mod choices;
 mod numbers;
+#[cfg(test)]
+mod tests;
 mod turn;
 mod vectors;
 

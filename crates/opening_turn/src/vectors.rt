@@ -13,7 +13,7 @@ pub fn opening_point(alloc: Global, lp: &Lp) -> Result<Point, NoMemory>
     ensures { IfOk result (λ point. point ≡ opening_point lp.now) }
 {
     let mut values = Vec::new(alloc);
-    for _ in 0..lp.number_of_variables() {
+    for k in 0..lp.number_of_variables() {
         values.push(Frac::whole(0)).map_err(|_| NoMemory)?;
     }
     Ok(Point::new(values))
