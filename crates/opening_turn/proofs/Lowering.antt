@@ -4,9 +4,8 @@ use Rattle.std.specs.Prelude.{not, ◌&&◌, ◌||◌, nat_le}
 use Rattle.exact_values.specs.Rational.{ℚ, zero_ℚ}
 use Rattle.exact_values.specs.Tests.{lt_ℚ, eq_ℚ}
 use Rattle.lp_definitions.specs.LinearProgram.{Matrix, LinearProgram, Vector, IsRow, IsColumn, IsVariable, IsLinearProgram, lower_of, upper_of, entry, cost, for_min, objective_value}
-use Rattle.lp_definitions.specs.Basis.{status_of, opening_statuses, objective_rate}
+use Rattle.lp_definitions.specs.Basis.{opening_statuses, objective_rate}
 use Rattle.lp_definitions.specs.declared.Status.{Status}
-use Rattle.lp_definitions.specs.declared.Status.TheVariants.{Bs, Ll, Ul, Fr}
 use Rattle.lp_algebra.specs.Rates.{opening_rate}
 use Rattle.lp_algebra.specs.Vectors.{unit}
 use Rattle.lp_algebra.proofs.Functionals.{objective_of_unit}

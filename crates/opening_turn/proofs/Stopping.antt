@@ -1,13 +1,13 @@
 -- What stops a column that rises from the opening basis: a row with a limit ahead of it.
-use Rattle.std.proofs.Common.{◌≡◌, ℕ, ◌+◌, ◌-◌, ◌<◌, ◌≤◌, Option, Some, None, Bool, true, false, cond, refl, sym, ap, ap₂, ◌∙◌, arith}
+use Rattle.std.proofs.Common.{◌≡◌, ℕ, ◌+◌, ◌-◌, ◌<◌, ◌≤◌, Option, Some, None, Bool, true, false, cond, refl, sym, ap, ◌∙◌, arith}
 use Rattle.std.specs.Prelude.{is_some, nat_le, nat_eq, option_map}
 use Rattle.exact_values.specs.Rational.{ℚ, zero_ℚ, one_ℚ, ◌-ℚ◌, ◌/ℚ◌}
 use Rattle.exact_values.specs.Rational as rational
 use Rattle.exact_values.specs.Tests.{lt_ℚ}
-use Rattle.lp_definitions.specs.LinearProgram.{LinearProgram, Vector, size, IsRow, IsColumn, IsVariable, lower_of, upper_of, entry}
+use Rattle.lp_definitions.specs.LinearProgram.{LinearProgram, Vector, IsRow, IsVariable, lower_of, upper_of, entry}
 use Rattle.lp_algebra.specs.Rates.{opening_rate}
 use Rattle.lp_algebra.proofs.Values.{clash}
-use Rattle.path_definitions.specs.Moves.{limit_ahead, room, stopper}
+use Rattle.path_definitions.specs.Moves.{limit_ahead, stopper}
 use Rattle.path_definitions.specs.Path.{speeds}
 use Rattle.path_laws.proofs.Searches.{stopper_nothing}
 use Rattle.path_laws.proofs.Stoppers.{stopper_none}

@@ -1,13 +1,12 @@
 -- The opening basis: where its variables stand, its point and its rates.
 use Rattle.std.proofs.Common.{◌≡◌, ℕ, suc, ◌+◌, ◌-◌, ◌<◌, ◌≤◌, Option, Some, None, Bool, true, false, cond, refl, sym, ap, subst, ◌∙◌, arith}
 use Rattle.std.specs.Prelude.{nat_le}
-use Rattle.exact_values.specs.Rational.{ℚ, zero_ℚ, ◌*ℚ◌}
+use Rattle.exact_values.specs.Rational.{ℚ, zero_ℚ}
 use Rattle.exact_values.proofs.Ring_laws.{mul-zero}
 use Rattle.exact_values.proofs.Sums.{sum_to-zero}
 use Rattle.lp_definitions.specs.LinearProgram.{Matrix, LinearProgram, IsRow, IsColumn, IsVariable, KeepsEquations, lower_of, upper_of, entry}
-use Rattle.lp_definitions.specs.Basis.{StandsAt, status_of, basics_of, is_in, AreRates, opening_status_of, opening_at_of, opening_statuses, IsTableau}
-use Rattle.lp_definitions.specs.declared.Status.{Status}
-use Rattle.lp_definitions.specs.declared.Status.TheVariants.{Bs, Ll, Ul, Fr}
+use Rattle.lp_definitions.specs.Basis.{StandsAt, status_of, basics_of, is_in, AreRates, opening_status_of, opening_statuses, IsTableau}
+use Rattle.lp_definitions.specs.declared.Status.TheVariants.{Bs, Ll}
 use Rattle.lp_algebra.specs.Rates.{opening_rate}
 use Rattle.lp_algebra.specs.Vectors.{unit}
 use Rattle.lp_algebra.proofs.Functionals.{unit_row}

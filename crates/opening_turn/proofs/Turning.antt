@@ -1,13 +1,12 @@
 -- What is done at the opening basis, by the rule that does it.
-use Rattle.std.proofs.Common.{◌≡◌, ℕ, ◌+◌, ◌-◌, ◌<◌, Option, Some, None, Bool, true, false, List, refl, sym, ap, ap₂, ◌∙◌, arith}
+use Rattle.std.proofs.Common.{◌≡◌, ℕ, ◌+◌, ◌-◌, ◌<◌, Option, Some, None, Bool, true, false, refl, sym, ap, ap₂, ◌∙◌, arith}
 use Rattle.std.specs.Prelude.{is_some, nat_le, if◌then◌else◌}
-use Rattle.exact_values.specs.Rational.{ℚ, zero_ℚ}
-use Rattle.lp_definitions.specs.LinearProgram.{LinearProgram, Vector, size, IsVariable, IsLinearProgram, cost}
-use Rattle.lp_definitions.specs.Basis.{basics_of, is_in, opening_statuses, price_at, objective_rate}
-use Rattle.lp_definitions.specs.declared.Status.{Status}
+use Rattle.exact_values.specs.Rational.{zero_ℚ}
+use Rattle.lp_definitions.specs.LinearProgram.{LinearProgram, size, IsVariable, IsLinearProgram, cost}
+use Rattle.lp_definitions.specs.Basis.{basics_of, opening_statuses, price_at, objective_rate}
 use Rattle.lp_algebra.specs.Rates.{opening_rate}
-use Rattle.path_definitions.specs.Moves.{stopper, goes_up}
-use Rattle.path_definitions.specs.Path.{Turn, Moves, Ends, Ending, EndsOptimal, EndsCrossed, EndsInfeasible, EndsUnbounded, after, IsStep, EndsAt, crossed, outside, mover, worth_rate, speeds, bring_back, run_until, better, turn_for, turn, listed}
+use Rattle.path_definitions.specs.Moves.{stopper}
+use Rattle.path_definitions.specs.Path.{Turn, Moves, Ends, Ending, EndsOptimal, EndsCrossed, after, EndsAt, crossed, outside, mover, worth_rate, speeds, bring_back, run_until, better, turn_for, turn, listed}
 use Rattle.path_laws.proofs.Numbered.{map_same}
 use Rattle.path_laws.proofs.Searches.{found_passes}
 use Rattle.opening_turn.specs.Opening.{AreAtZero, zero_vector, opening_tableau, opening_price, opening_point, opening_prices}

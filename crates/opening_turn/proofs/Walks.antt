@@ -1,8 +1,8 @@
 -- Searches that go up by one.
-use Rattle.std.proofs.Common.{◌≡◌, ◌≢◌, ℕ, ◌+◌, ◌-◌, ◌<◌, ◌≤◌, ◌⊎◌, inl, inr, Bool, true, false, refl, sym, ap, ◌∙◌, arith}
+use Rattle.std.proofs.Common.{◌≡◌, ◌≢◌, ℕ, ◌+◌, ◌<◌, ◌≤◌, ◌⊎◌, inl, inr, Bool, true, false, refl, sym, ap, ◌∙◌, arith}
 use Rattle.std.specs.Prelude.{eqb, Some, None, nat_le, ◌&&◌}
 use Rattle.std.proofs.lemmas.Bool.Decides.{eqb_tells}
-use Rattle.lp_definitions.specs.LinearProgram.{LinearProgram, size, IsRow, IsVariable}
+use Rattle.lp_definitions.specs.LinearProgram.{LinearProgram, size, IsRow}
 use Rattle.lp_definitions.specs.Basis.{is_in, basics_of, opening_statuses}
 use Rattle.path_definitions.specs.Moves.{least, is_outside}
 use Rattle.path_laws.proofs.Searches.{least_is, least_none, found_passes}

@@ -1,5 +1,5 @@
 use Rattle.std.proofs.Common.{◌≡◌, ◌+◌, Some, false, true, rules, sym, ap, ap₂, ◌∙◌, arith}
-use Rattle.lp_definitions.specs.LinearProgram.{size, IsLinearProgram}
+use Rattle.lp_definitions.specs.LinearProgram.{IsLinearProgram}
 use Rattle.lp_definitions.specs.Basis.{opening_statuses}
 use Rattle.exact_values.specs.Tests.{lt_ℚ}
 use Rattle.path_definitions.specs.Moves.{lowers}
@@ -19,8 +19,8 @@ returns-then-is_less c =
     let lawful : IsLinearProgram c.args.lp.now = search rules in
     let f = worth_rate c.args.lp.now (opening_statuses c.args.lp.now) (opening_tableau c.args.lp.now) in
     let here : lowers c.args.lp.now (opening_statuses c.args.lp.now) f (c.args.lp.now.matrix.rows + c.loop-j.j + 1) ≡ true =
-        worth_next c.args.lp.now lawful c.requires.at_zero c.loop-j.j (omega arith)
-        ∙ ap₂ lt_ℚ (sym c.worth.ensures) (sym c.whole.ensures) ∙ sym c.is_less.ensures ∙ c.if-is_less.true in
+    worth_next c.args.lp.now lawful c.requires.at_zero c.loop-j.j (omega arith)
+    ∙ ap₂ lt_ℚ (sym c.worth.ensures) (sym c.whole.ensures) ∙ sym c.is_less.ensures ∙ c.if-is_less.true in
     ap (λ n. Some (n + c.loop-j.j + 1)) rows
     ∙ found_least c.args.lp.now (lowers c.args.lp.now (opening_statuses c.args.lp.now) f) (c.args.lp.now.matrix.rows + c.loop-j.j) (omega arith) c.loop-j.invariant here
 
@@ -30,8 +30,8 @@ loop-j-preserved c k low high =
     let lawful : IsLinearProgram c.args.lp.now = search rules in
     let f = worth_rate c.args.lp.now (opening_statuses c.args.lp.now) (opening_tableau c.args.lp.now) in
     let here : lowers c.args.lp.now (opening_statuses c.args.lp.now) f (c.args.lp.now.matrix.rows + c.loop-j.j + 1) ≡ false =
-        worth_next c.args.lp.now lawful c.requires.at_zero c.loop-j.j (omega arith)
-        ∙ ap₂ lt_ℚ (sym c.worth.ensures) (sym c.whole.ensures) ∙ sym c.is_less.ensures ∙ c.if-is_less.false in
+    worth_next c.args.lp.now lawful c.requires.at_zero c.loop-j.j (omega arith)
+    ∙ ap₂ lt_ℚ (sym c.worth.ensures) (sym c.whole.ensures) ∙ sym c.is_less.ensures ∙ c.if-is_less.false in
     one_more (lowers c.args.lp.now (opening_statuses c.args.lp.now) f) (c.args.lp.now.matrix.rows + c.loop-j.j) c.loop-j.invariant here k low (omega (arith, high))
 
 pub returns : goal.returns

@@ -10,7 +10,7 @@ pub returns-then-has_limit_ahead : goal.returns-then-has_limit_ahead
 returns-then-has_limit_ahead c =
     let rows : c.lp.inside.rows ≡ c.args.lp.now.matrix.rows = search rules in
     let ahead : is_some (limit_ahead c.args.lp.now (λ _. entry c.args.lp.now.matrix (c.loop-i.i + 1) c.args.j) (c.loop-i.i + 1)) ≡ true =
-        ap (λ (v : ℚ). is_some (limit_ahead c.args.lp.now (λ _. v) (c.loop-i.i + 1))) (sym c.number_at.ensures) ∙ sym c.has_limit_ahead.ensures ∙ c.if-has_limit_ahead.true in
+    ap (λ (v : ℚ). is_some (limit_ahead c.args.lp.now (λ _. v) (c.loop-i.i + 1))) (sym c.number_at.ensures) ∙ sym c.has_limit_ahead.ensures ∙ c.if-has_limit_ahead.true in
     something_stops c.args.lp.now c.args.j (c.loop-i.i + 1) (omega arith, omega arith) ahead
 
 pub returns : goal.returns
