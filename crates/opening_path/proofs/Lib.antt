@@ -1,3 +1,3 @@
 mod Verdicts
-mod Shown
+mod SolutionLines
 mod Selecting

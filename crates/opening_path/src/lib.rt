@@ -128,12 +128,14 @@ pub fn solution_at_opening(
     ensures listed { IfOk result (AreShown sheet.entry.lp.now basis.now) }
     ensures shown { IfOk result (λ shown. IsShown (sheet_shown sheet.entry) basis.now (solution_lines sheet.entry.problem.now sheet.entry.lp.now basis.now shown.point shown.prices shown.slack.items)) }
 {
-    let point = opening_point(alloc, sheet.lp)?;
-    let prices = opening_prices(alloc, sheet.lp)?;
+    let lp = sheet.lp;
+    let point = opening_point(alloc, lp)?;
+    let prices = opening_prices(alloc, lp)?;
+    let slack = Vec::from_slice(alloc, &lp.rhs)?;
     Ok(Shown {
         point,
         prices,
-        slack: Vec::from_slice(alloc, &sheet.lp.rhs)?,
+        slack,
     })
 }
 

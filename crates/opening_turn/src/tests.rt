@@ -80,6 +80,9 @@ fn crossed_limits_end_the_path(rt: HostRuntime) -> Result<(), Fail> {
     let crossed = one_column(rt.alloc(), one, one, Some(two), Some(one), Sense::Min)?;
     assert_eq!(rt; turn_at_opening(&crossed), OpeningTurn::Crossed(2));
     let prices = opening_prices(rt.alloc(), &crossed)?;
-    assert_eq!(rt; prices.values(), [Frac::whole(0), Frac::whole(0), one].as_slice());
+    assert_eq!(rt;
+        prices.values(),
+        [Frac::whole(0), Frac::whole(0), one].as_slice()
+    );
     Ok(())
 }

@@ -69,11 +69,11 @@ module _ (problem : Problem ℕ) (p : LinearProgram) (lawful : IsLinearProgram p
   unfolding sheet
   lines_same =
       let rows = map_same (printed.line_of problem (printed.row_values p (opening_statuses p) (opening_point p) p.rhs (opening_prices p)))
-          (printed.line_of problem (solution_row (record { problem = problem; lp = p }) (opening_statuses p) (opening_tableau p))) p.rows 1
-          (λ k low high. ap (λ (vs : List Value). printed.line_of problem (λ _. vs) k) (row_same k (low, omega (arith, high)))) in
+      (printed.line_of problem (solution_row (record { problem = problem; lp = p }) (opening_statuses p) (opening_tableau p))) p.rows 1
+      (λ k low high. ap (λ (vs : List Value). printed.line_of problem (λ _. vs) k) (row_same k (low, omega (arith, high)))) in
       let columns = map_same (printed.line_of problem (printed.column_values p (opening_statuses p) (opening_point p) (opening_prices p)))
-          (printed.line_of problem (solution_column (record { problem = problem; lp = p }) (opening_statuses p) (opening_tableau p))) p.cols (p.rows + 1)
-          (λ k low high. ap (λ (vs : List Value). printed.line_of problem (λ _. vs) k) (column_same k (omega (arith, low), omega (arith, high)))) in
+      (printed.line_of problem (solution_column (record { problem = problem; lp = p }) (opening_statuses p) (opening_tableau p))) p.cols (p.rows + 1)
+      (λ k low high. ap (λ (vs : List Value). printed.line_of problem (λ _. vs) k) (column_same k (omega (arith, low), omega (arith, high)))) in
       λ i. record { rows = rows i; columns = columns i }
 
 pub shown : (problem : Problem ℕ) (p : LinearProgram) → IsLinearProgram p → AreAtZero p → (point prices slack : List ℚ) → point ≡ opening_point p → prices ≡ opening_prices p → slack ≡ p.rhs
