@@ -1,6 +1,6 @@
 -- The lines that SOLUTION prints of the opening basis are those that are asked of it.
 use Rattle.std.proofs.Common.{◌≡◌, ℕ, ◌+◌, ◌-◌, ◌<◌, ◌≤◌, List, [], ◌∷◌, refl, sym, ap, ap₂, ◌∙◌, arith}
-use Rattle.std.specs.Prelude.{◌||◌}
+use Rattle.std.specs.Prelude.{◌||◌, if◌then◌else◌}
 use Rattle.exact_values.specs.Rational.{ℚ, zero_ℚ, ◌-ℚ◌}
 use Rattle.exact_values.specs.Tests.{lt_ℚ}
 use Rattle.lp_definitions.specs.LinearProgram.{LinearProgram, Vector, size, value_at, IsVariable, IsLinearProgram, lower_of, upper_of, cost}
@@ -14,22 +14,32 @@ use Rattle.path_laws.proofs.Ends.{value_at-listed}
 use Rattle.path_laws.proofs.Numbered.{map_same}
 use Rattle.problem_definitions.specs.Problem.{Problem}
 use Rattle.listing_definitions.specs.Report.{Value, Code, Number, limit_value, Line, SolutionLines}
+use Rattle.listing_definitions.specs.declared.At.TheVariants.{Equal, Lower, Upper, Free}
 use Rattle.report_text.specs.Lines as printed
 use Rattle.solving_definitions.specs.Lines as asked
 use Rattle.solver_definitions.specs.Answers.{Sheet}
 use Rattle.solving_definitions.specs.Sections.{IsShown, solution_row, solution_column, solution_lines}
 use Rattle.opening_turn.specs.Opening.{AreAtZero, zero_vector, opening_tableau, opening_price, opening_point, opening_prices}
 use Rattle.opening_turn.proofs.Tableaus.{is_tableau}
-use Rattle.opening_turn.proofs.Turning.{price_same}
+use Rattle.opening_turn.proofs.Turning.{prices_same}
 
 -- ---- where a variable stands, in the two forms
 
 module _ (p : LinearProgram) (s : List Status) where
+  at_lower : (k : ℕ) → status_of s k ≡ Ll → asked.standing p s k ≡ (if is_fixed p k then Equal else Lower)
+  at_lower k e = rw e refl
+
+  at_upper : (k : ℕ) → status_of s k ≡ Ul → asked.standing p s k ≡ (if is_fixed p k then Equal else Upper)
+  at_upper k e = rw e refl
+
+  at_free : (k : ℕ) → status_of s k ≡ Fr → asked.standing p s k ≡ (if is_fixed p k then Equal else Free)
+  at_free k e = rw e refl
+
   by_status : (w : Vector) (k : ℕ) (st : Status) → status_of s k ≡ st → printed.at_of p s w k ≡ asked.at_of p s w k
   by_status w k Bs e = rw e refl
-  by_status w k Ll e = rw e refl
-  by_status w k Ul e = rw e refl
-  by_status w k Fr e = rw e refl
+  by_status w k Ll e = rw e (sym (at_lower k e))
+  by_status w k Ul e = rw e (sym (at_upper k e))
+  by_status w k Fr e = rw e (sym (at_free k e))
 
   at_same : (z w : Vector) (k : ℕ) → z k ≡ w k → printed.at_of p s z k ≡ asked.at_of p s w k
   at_same z w k same =
@@ -46,7 +56,7 @@ module _ (problem : Problem ℕ) (p : LinearProgram) (lawful : IsLinearProgram p
   point_same k is = value_at-listed p.matrix zero_vector k is
 
   price_shown : (k : ℕ) → IsVariable p.matrix k → value_at (opening_prices p) k ≡ price_at p (basics_of (opening_statuses p)) (opening_rate p.matrix) k
-  price_shown k is = value_at-listed p.matrix (opening_price p) k is ∙ price_same p lawful k is
+  price_shown k is = ap (λ (xs : List ℚ). value_at xs k) (prices_same p lawful) ∙ value_at-listed p.matrix (price_at p (basics_of (opening_statuses p)) (opening_rate p.matrix)) k is
 
   row_same : (k : ℕ) → IsVariable p.matrix k → printed.row_values p (opening_statuses p) (opening_point p) p.rhs (opening_prices p) k ≡ solution_row sheet (opening_statuses p) (opening_tableau p) k
   unfolding sheet

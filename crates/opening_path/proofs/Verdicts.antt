@@ -1,5 +1,6 @@
 -- What the answers tell of the path from the opening basis.
 use Rattle.std.proofs.Common.{◌≡◌, ◌≢◌, ℕ, zero, suc, ◌≤◌, List, [], refl, sym, ap₂, subst, ◌∙◌, arith}
+use Rattle.std.specs.Prelude.{Result, Ok, Err, IfOk}
 use Rattle.exact_values.specs.Rational.{ℚ}
 use Rattle.lp_definitions.specs.LinearProgram.{LinearProgram, IsLinearProgram, value_at}
 use Rattle.lp_definitions.specs.Solutions.{IsFeasible, AreProvingPrices, IsCrossed}
@@ -103,3 +104,8 @@ module _ (p : LinearProgram) where
 
 pub not_failed : (v : CheckVerdict) → v ≡ found_so.Checked → IsNotFailed v
 not_failed v is part number e = cc
+
+-- what holds of each value holds of that of a result
+pub IfOk-map : {A E : Type 0} {P Q : A → Type 0} (r : Result A E) → ((a : A) → P a → Q a) → IfOk r P → IfOk r Q
+IfOk-map (Ok a) f h = f a h
+IfOk-map (Err e) f h = tt

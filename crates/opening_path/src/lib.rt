@@ -3,6 +3,7 @@
 #![tactic(auto)]
 
 ghost use Rattle.std.specs.Prelude.{◌≡◌, ◌≤◌, ℕ, None, IfOk};
+ghost use Rattle.lp_definitions.specs.LinearProgram.{IsLinearProgram};
 ghost use Rattle.lp_definitions.specs.Basis.{opening_statuses};
 ghost use Rattle.solving_definitions.specs.Real.{IsSolvedUnless};
 ghost use Rattle.solving_definitions.specs.Sections.{IsShown};
@@ -49,6 +50,7 @@ pub struct Shown {
 /// The crossed variable, checked.
 fn crossed_answer(sheet: Sheet<'_>, k: u32) -> PathAnswer
     requires sheet { IsSheet sheet }
+    requires lawful { IsLinearProgram sheet.lp.now }
     requires ends { EndsAt sheet.lp.now (opening_statuses sheet.lp.now) (EndsCrossed k) }
     ensures outcome { HasOutcome sheet.entry result }
     ensures solved { (limit : ℕ) → IsSolvedUnless IsMissing (sheet_shown sheet.entry) (opening_statuses sheet.entry.lp.now) limit (end_shown sheet.entry result) }
@@ -62,6 +64,7 @@ fn crossed_answer(sheet: Sheet<'_>, k: u32) -> PathAnswer
 /// The point and the prices of the opening basis, checked.
 fn optimal_answer(alloc: Global, sheet: Sheet<'_>) -> Result<PathAnswer, NoMemory>
     requires sheet { IsSheet sheet }
+    requires lawful { IsLinearProgram sheet.lp.now }
     requires no_change { sheet.lp.now.change ≡ None }
     requires ends { EndsAt sheet.lp.now (opening_statuses sheet.lp.now) (EndsOptimal (opening_point sheet.lp.now) (opening_prices sheet.lp.now)) }
     ensures outcome { IfOk result (HasOutcome sheet.entry) }
@@ -107,11 +110,14 @@ pub fn path_at_opening(
     ensures outcome { IfOk result (HasOutcome sheet.entry) }
     ensures solved { IfOk result (λ answer. IsSolvedUnless IsMissing (sheet_shown sheet.entry) basis.now limit (end_shown sheet.entry answer)) }
 {
+    // every linear program is lawful, as this tells
+    let _ = sheet.lp.number_of_variables();
     match turn_at_opening(sheet.lp) {
         OpeningTurn::Crossed(k) => Ok(crossed_answer(sheet, k)),
         OpeningTurn::Optimal => optimal_answer(alloc, sheet),
         OpeningTurn::Moves => Ok(step_answer(limit)),
-        OpeningTurn::Infeasible | OpeningTurn::Unbounded => Ok(PathAnswer::NotBuilt),
+        OpeningTurn::Infeasible => Ok(PathAnswer::NotBuilt),
+        OpeningTurn::Unbounded => Ok(PathAnswer::NotBuilt),
     }
 }
 
