@@ -1,9 +1,9 @@
 -- A selection without bounds has its columns in 0 and upward.
 use Rattle.std.proofs.Common.{◌≡◌, ℕ, zero, suc, ◌+◌, ◌-◌, ◌<◌, List, [], ◌∷◌, ◌++◌, Option, Some, None, map, length, get_or, refl, sym, ap, subst, ◌∙◌, arith}
-use Rattle.std.specs.Prelude.{Ok, Err}
+use Rattle.std.specs.Prelude.{Ok}
 use Rattle.std.specs.List.{enumerate_from}
 use Rattle.exact_values.specs.Rational.{ℚ, zero_ℚ}
-use Rattle.lp_definitions.specs.LinearProgram.{LinearProgram, IsColumn, lower_of, upper_of}
+use Rattle.lp_definitions.specs.LinearProgram.{LinearProgram, IsColumn}
 use Rattle.card_definitions.specs.Words.{unless}
 use Rattle.problem_definitions.specs.Problem.{Row, Group, Entry, Problem}
 use Rattle.selection_definitions.specs.Choice.{Choice, set_items, selection_fault}

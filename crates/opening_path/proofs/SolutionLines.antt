@@ -1,9 +1,9 @@
 -- The lines that SOLUTION prints of the opening basis are those that are asked of it.
-use Rattle.std.proofs.Common.{◌≡◌, ℕ, ◌+◌, ◌-◌, ◌<◌, ◌≤◌, List, [], ◌∷◌, refl, sym, ap, ap₂, ◌∙◌, arith}
+use Rattle.std.proofs.Common.{◌≡◌, ℕ, ◌+◌, ◌-◌, List, [], ◌∷◌, refl, sym, ap, ◌∙◌, arith}
 use Rattle.std.specs.Prelude.{◌||◌, if◌then◌else◌}
 use Rattle.exact_values.specs.Rational.{ℚ, zero_ℚ, ◌-ℚ◌}
 use Rattle.exact_values.specs.Tests.{lt_ℚ}
-use Rattle.lp_definitions.specs.LinearProgram.{LinearProgram, Vector, size, value_at, IsVariable, IsLinearProgram, lower_of, upper_of, cost}
+use Rattle.lp_definitions.specs.LinearProgram.{LinearProgram, Vector, value_at, IsVariable, IsLinearProgram, lower_of, upper_of, cost}
 use Rattle.lp_definitions.specs.Basis.{status_of, basics_of, opening_statuses, price_at}
 use Rattle.lp_definitions.specs.declared.Status.{Status}
 use Rattle.lp_definitions.specs.declared.Status.TheVariants.{Bs, Ll, Ul, Fr}
@@ -13,13 +13,13 @@ use Rattle.path_definitions.specs.Moves.{on_limit, is_fixed}
 use Rattle.path_laws.proofs.Ends.{value_at-listed}
 use Rattle.path_laws.proofs.Numbered.{map_same}
 use Rattle.problem_definitions.specs.Problem.{Problem}
-use Rattle.listing_definitions.specs.Report.{Value, Code, Number, limit_value, Line, SolutionLines}
+use Rattle.listing_definitions.specs.Report.{Value, Code, Number, limit_value}
 use Rattle.listing_definitions.specs.declared.At.TheVariants.{Equal, Lower, Upper, Free}
 use Rattle.report_text.specs.Lines as printed
 use Rattle.solving_definitions.specs.Lines as asked
 use Rattle.solver_definitions.specs.Answers.{Sheet}
 use Rattle.solving_definitions.specs.Sections.{IsShown, solution_row, solution_column, solution_lines}
-use Rattle.opening_turn.specs.Opening.{AreAtZero, zero_vector, opening_tableau, opening_price, opening_point, opening_prices}
+use Rattle.opening_turn.specs.Opening.{AreAtZero, zero_vector, opening_tableau, opening_point, opening_prices}
 use Rattle.opening_turn.proofs.Tableaus.{is_tableau}
 use Rattle.opening_turn.proofs.Turning.{prices_same}
 

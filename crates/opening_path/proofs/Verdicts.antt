@@ -1,5 +1,5 @@
 -- What the answers tell of the path from the opening basis.
-use Rattle.std.proofs.Common.{◌≡◌, ◌≢◌, ℕ, zero, suc, ◌≤◌, List, [], refl, sym, ap₂, subst, ◌∙◌, arith}
+use Rattle.std.proofs.Common.{◌≡◌, ◌≢◌, ℕ, zero, suc, ◌≤◌, List, [], refl, sym, ap₂, subst, arith}
 use Rattle.std.specs.Prelude.{Result, Ok, Err, IfOk}
 use Rattle.exact_values.specs.Rational.{ℚ}
 use Rattle.lp_definitions.specs.LinearProgram.{LinearProgram, IsLinearProgram, value_at}
@@ -15,8 +15,8 @@ use Rattle.path_laws.proofs.Steps.{opening_is}
 use Rattle.path_laws.proofs.OnePath.{one_end, step_or_end}
 use Rattle.path_laws.proofs.Ends.{optimal_end}
 use Rattle.path_laws.proofs.Endless.{crossed_end}
-use Rattle.solver_definitions.specs.Answers.{Basis, Sheet, Reached, PathLimit, PathNotBuilt}
-use Rattle.solving_definitions.specs.Verdicts.{IsVerdict, ReachesVerdict, found}
+use Rattle.solver_definitions.specs.Answers.{Basis, Sheet, Reached, PathLimit}
+use Rattle.solving_definitions.specs.Verdicts.{IsVerdict, found}
 use Rattle.solving_definitions.specs.Real.{IsSolvedUnless}
 use Rattle.report_text.specs.declared.sheet.Sheet.{Sheet as Shown}
 use Rattle.opening_turn.specs.Opening.{opening_point, opening_prices}

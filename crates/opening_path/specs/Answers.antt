@@ -3,7 +3,7 @@
 --     end_shown sheet answer   where the path ends
 --     HasOutcome sheet answer  what was reached can be printed
 --     AreShown p s shown       the lists of SOLUTION have their lengths
-use Rattle.std.specs.Prelude.{◌≡◌, [], List, length}
+use Rattle.std.specs.Prelude.{◌≡◌, [], length}
 use Rattle.lp_definitions.specs.LinearProgram.{LinearProgram, size}
 use Rattle.solver_definitions.specs.Answers as answers
 use Rattle.report_text.specs.declared.sheet.Sheet.{Sheet}
