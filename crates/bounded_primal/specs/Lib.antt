@@ -5,3 +5,5 @@ pub mod Moves
 pub mod Stops
 pub mod Points
 pub mod Prices
+pub mod Steps
+pub mod Turns
