@@ -13,3 +13,6 @@ mod Returns
 mod StepFacts
 mod StepRefusals
 mod TurnEvidence
+mod SameChoices
+mod TurnChoices
+mod PathWalk

@@ -130,6 +130,7 @@ module _ (p : LinearProgram) (s : List Status) (z d : Vector) (q : ℕ) (by : St
   }
 
   pub move_refused : (before after : List Basics) → SomeMovedRefused by d z q (size p.matrix) e → StepRefused p before s q by after e
+  unfolding tableau
   move_refused before after some =
       let h = of_step some.i (some.low, some.high) some.refused in
       record {
@@ -170,3 +171,6 @@ pub exchange_refused : (p : LinearProgram) (s : List Status) (q : ℕ) (by : Sto
     IfOverflow stop (ExchangeRefused a (b ∷ exchanged b by.p q ∷ before) b after) → IfOverflow stop (StepRefused p before s q by after)
 exchange_refused p s q by a b c before after stop has same keeps h =
     IfOverflow-map stop (λ e x. exchange_stops p s q by has.is_basis has.nonsingular before after (keeps_at p s a b c before after has same keeps) e x) (rw (has.same_matrix, has.same_basics) at h)
+
+pub keeps_to : (p : LinearProgram) (s next : List Status) (a : Matrix) (b c : Basics) (ways now : List Basics) → HasRates a b p s → c ≡ basics_of next → KeepsWaypoints a b ways c now → KeepsWaypoints p.matrix (basics_of s) ways (basics_of next) now
+keeps_to p s next a b c ways now has is keeps = rw (is, has.same_matrix, has.same_basics) at keeps

@@ -1,8 +1,7 @@
 //! The path of the bounded simplex method.
 
 ghost use Rattle.std.specs.Prelude.{◌≡◌, length, IfOk, IfErr};
-ghost use Rattle.lp_definitions.specs.LinearProgram.{size, value_at};
-ghost use Rattle.lp_definitions.specs.Basis.{IsPointOf};
+ghost use Rattle.lp_definitions.specs.LinearProgram.{size};
 ghost use Rattle.bounded_primal.specs.Calls.{HasRates, CallEnds};
 ghost use Rattle.bounded_primal.specs.Stops.{PrimalStops};
 ghost use Rattle.bounded_primal.specs.Turns.{IsUncrossed};
@@ -15,7 +14,8 @@ use frac128::Frac;
 use lp_model::{Basis, Lp, NoMemory, Outcome, Rates};
 use std::alloc::Global;
 
-/// Goes from basis to basis, with the point. `row` and `direction` are room.
+/// Makes the basis's point, and goes from basis to basis with it. `point`, `row` and `direction` are room.
+#[tactic(none)]
 fn walk<R: Rates>(
     alloc: Global,
     lp: &Lp,
@@ -30,15 +30,18 @@ fn walk<R: Rates>(
     requires point_places { length point.old ≡ size lp.now.matrix }
     requires row_places { length row.old ≡ size lp.now.matrix }
     requires direction_places { length direction.old ≡ size lp.now.matrix }
-    requires point { IsPointOf lp.now basis.old (value_at point.old) }
     requires uncrossed { IsUncrossed lp.now }
     ensures ends { IfOk result (CallEnds lp.now basis.old basis.new limit) }
     ensures stops { IfErr result (PrimalStops lp.now basis.old basis.new limit (R.waypoints rates.old) (R.waypoints rates.new)) }
     ensures rates { HasRates (R.matrix rates.new) (R.basics rates.new) lp.now basis.new }
 {
+    point_of(alloc, lp, basis, rates, point)?;
     let mut steps = 0;
     loop {
-        if let Some(outcome) = make_turn(alloc, lp, basis, rates, point, row, direction, steps, limit)? {
+        let turn = make_turn(
+            alloc, lp, basis, rates, point, row, direction, steps, limit,
+        )?;
+        if let Some(outcome) = turn {
             return Ok(outcome);
         }
         steps += 1;
@@ -49,6 +52,7 @@ fn walk<R: Rates>(
 /// A crossed variable ends it; else the least-numbered basic outside its limits is brought back to the limit that it broke; else
 /// the least-numbered nonbasic that betters the objective moves until something stops it. `Limit` comes exactly where the path has
 /// not ended after so many steps. The basis and the rates are those that the path has reached, after a stop too.
+#[tactic(none)]
 pub fn primal<R: Rates>(
     alloc: Global,
     lp: &Lp,
@@ -68,6 +72,14 @@ pub fn primal<R: Rates>(
     let mut point = vec![in alloc; Frac::whole(0); size].map_err(|_| NoMemory)?;
     let mut row = vec![in alloc; Frac::whole(0); size].map_err(|_| NoMemory)?;
     let mut direction = vec![in alloc; Frac::whole(0); size].map_err(|_| NoMemory)?;
-    point_of(alloc, lp, basis, rates, &mut point)?;
-    walk(alloc, lp, basis, rates, &mut point, &mut row, &mut direction, limit)
+    walk(
+        alloc,
+        lp,
+        basis,
+        rates,
+        &mut point,
+        &mut row,
+        &mut direction,
+        limit,
+    )
 }

@@ -139,8 +139,9 @@ pub fn take_step<R: Rates>(
     ensures waypoints { KeepsWaypoints lp.now.matrix (basics_of basis.old) (R.waypoints rates.old) (basics_of basis.new) (R.waypoints rates.new) }
     ensures overflow { StepOverflow result lp.now basis.old q by.now (R.waypoints rates.old) (R.waypoints rates.new) }
 {
-    if let Err(evidence) = move_point(lp, direction, q, by, point) {
-        return Err(Stop::Overflow(evidence));
+    match move_point(lp, direction, q, by, point) {
+        Ok(()) => {}
+        Err(evidence) => return Err(Stop::Overflow(evidence)),
     }
     if by.p == q {
         basis.flip(q, by.to);

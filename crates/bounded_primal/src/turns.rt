@@ -1,6 +1,6 @@
 //! What the path does at a basis: it ends there, or goes on to the next basis.
 
-ghost use Rattle.std.specs.Prelude.{◌≡◌, ◌≤◌, ℕ, length, IfOk};
+ghost use Rattle.std.specs.Prelude.{◌≡◌, ◌≤◌, ℕ, if◌then◌else◌, length, IfOk};
 ghost use Rattle.exact_values.specs.Rational.{ℚ};
 ghost use Rattle.lp_definitions.specs.LinearProgram.{size, value_at, for_min, IsVariable};
 ghost use Rattle.lp_definitions.specs.Basis.{basics_of, IsPointOf};
@@ -94,8 +94,16 @@ fn is_minimized(lp: &Lp) -> bool
     }
 }
 
+/// The limit that was broken, as a status.
+fn limit_broken(below: bool) -> Status
+    ensures { result ≡ (if below then Status.Ll else Status.Ul) }
+{
+    if below { Status::Ll } else { Status::Ul }
+}
+
 /// The first phase: brings the basic `r` back to the limit that it broke, or answers why nothing does. `row` and `direction` are
 /// room.
+#[tactic(none)]
 fn bring_back<R: Rates>(
     alloc: Global,
     lp: &Lp,
@@ -130,8 +138,7 @@ fn bring_back<R: Rates>(
         return Err(PrimalStop::Limit);
     }
     rates.column(q, direction)?;
-    let to = if below { Status::Ll } else { Status::Ul };
-    match returning(lp, point, direction, q, r, to) {
+    match returning(lp, point, direction, q, r, limit_broken(below)) {
         Ok(by) => {
             take_step(lp, basis, rates, point, direction, q, &by)?;
             Ok(None)
@@ -142,6 +149,7 @@ fn bring_back<R: Rates>(
 
 /// The second phase: moves the least-numbered variable that betters the objective, or answers that none does or that nothing stops
 /// it. `row` and `direction` are room.
+#[tactic(none)]
 fn better<R: Rates>(
     alloc: Global,
     lp: &Lp,
@@ -193,6 +201,7 @@ fn better<R: Rates>(
 }
 
 /// What the path does at the basis: it ends there, or goes on to the next basis. `row` and `direction` are room.
+#[tactic(none)]
 pub fn make_turn<R: Rates>(
     alloc: Global,
     lp: &Lp,
