@@ -12,7 +12,3 @@ mod TermLaws
 mod Returns
 mod StepFacts
 mod StepRefusals
-mod TurnEvidence
-mod SameChoices
-mod TurnChoices
-mod PathWalk

@@ -1,13 +1,13 @@
 -- A step: the limit to which its stopper goes, and the basis to which it leads.
 use Rattle.std.proofs.Common.{◌≡◌, ◌≢◌, ℕ, ◌-◌, List, Bool, true, false, refl, sym, ap, ◌∙◌, subst}
-use Rattle.std.specs.Prelude.{Option, Some, None, IsSome, option_map, unwrap_or, if◌then◌else◌}
+use Rattle.std.specs.Prelude.{Option, Some, None, option_map, unwrap_or, if◌then◌else◌}
 use Rattle.std.proofs.lemmas.List.{set-set}
-use Rattle.exact_values.specs.Rational.{ℚ, zero_ℚ, one_ℚ, inverse_ℚ, ◌+ℚ◌, ◌-ℚ◌, ◌*ℚ◌, ◌/ℚ◌}
+use Rattle.exact_values.specs.Rational.{ℚ, zero_ℚ, inverse_ℚ, ◌+ℚ◌, ◌-ℚ◌, ◌*ℚ◌, ◌/ℚ◌}
 use Rattle.exact_values.specs.Tests.{lt_ℚ}
 use Rattle.exact_values.proofs.Inverse.{mul-inverse}
-use Rattle.exact_values.proofs.Ring.{by_ring1, by_ring3, by_ring4, number, ◌⊕◌, ◌⊖◌, ◌⊗◌, ◌≐◌, opposite}
+use Rattle.exact_values.proofs.Ring.{by_ring1, by_ring3, by_ring4, ◌⊕◌, ◌⊖◌, ◌⊗◌, ◌≐◌, opposite}
 use Rattle.exact_values.proofs.Ring_laws.{mul-one}
-use Rattle.lp_definitions.specs.LinearProgram.{Matrix, LinearProgram, Vector, size, IsVariable, lower_of, upper_of}
+use Rattle.lp_definitions.specs.LinearProgram.{Matrix, LinearProgram, Vector, IsVariable, lower_of, upper_of}
 use Rattle.lp_definitions.specs.Basis.{Basics, basics_of, is_in, is_basic, status_of, with_status, exchanged, IsBasis, IsBasic, IsNonbasic, IsNonsingular, IsDirectionOf, IsPointOf, IsAllowed, StandsAt}
 use Rattle.lp_definitions.specs.declared.Status.{Status}
 use Rattle.lp_definitions.specs.declared.Status.TheVariants.{Bs, Ll, Ul, Fr}
@@ -17,11 +17,11 @@ use Rattle.lp_algebra.proofs.Equations.{KeepsEquations-same}
 use Rattle.lp_algebra.proofs.Exchange.{IsNonsingular-exchanged}
 use Rattle.lp_algebra.proofs.Statuses.{basics_of-replaced, basics_of-flipped, status_of_basic, status_of_nonbasic, IsBasis-replaced, IsBasis-flipped}
 use Rattle.lp_algebra.proofs.Points.{IsPointOf-replaced, IsPointOf-flipped}
-use Rattle.path_definitions.specs.Moves.{signed, limit_ahead, room, reached, stopper}
+use Rattle.path_definitions.specs.Moves.{signed, limit_ahead, room, stopper}
 use Rattle.path_laws.proofs.Stoppers.{stopper_some, reaches_limit}
 use Rattle.overflow_definitions.specs.Formulas.{limit_numbered, number_of_limit}
 use Rattle.bounded_primal.specs.Calls.{HasRates}
-use Rattle.bounded_primal.specs.Moves.{motion, stop_at, stopper_of, IsStepBy, is_stopper, brings}
+use Rattle.bounded_primal.specs.Moves.{motion, stop_at, IsStepBy, is_stopper, brings}
 use Rattle.bounded_primal.specs.declared.moves.Stopper.{Stopper}
 use Rattle.bounded_primal.proofs.Lengths.{signed_over}
 

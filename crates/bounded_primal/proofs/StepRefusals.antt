@@ -1,7 +1,7 @@
 -- From a refused operation of a step to evidence of the call.
-use Rattle.std.proofs.Common.{◌≡◌, ◌≢◌, ℕ, inl, inr, List, [], ◌∷◌, true, false, refl, sym, ◌∙◌, ap, subst, arith}
-use Rattle.std.specs.Prelude.{Option, Some, None, IsTrue, not}
-use Rattle.exact_values.specs.Rational.{ℚ, zero_ℚ, one_ℚ, ◌-ℚ◌, ◌*ℚ◌, ◌/ℚ◌}
+use Rattle.std.proofs.Common.{◌≡◌, ◌≢◌, ℕ, inl, List, ◌∷◌, true, false, refl, sym, ◌∙◌, ap, subst, arith}
+use Rattle.std.specs.Prelude.{Option, Some, None}
+use Rattle.exact_values.specs.Rational.{ℚ, zero_ℚ, ◌-ℚ◌, ◌*ℚ◌, ◌/ℚ◌}
 use Rattle.lp_definitions.specs.LinearProgram.{Matrix, LinearProgram, Vector, size, IsVariable, with_change}
 use Rattle.lp_definitions.specs.Basis.{Basics, basics_of, exchanged, IsBasis, IsNonbasic, IsNonsingular, IsDirectionOf, IsPointOf, Tableau, IsTableau}
 use Rattle.lp_definitions.specs.Waypoints.{KeepsWaypoints, waypoint}
@@ -14,7 +14,7 @@ use Rattle.lp_model.specs.RatesCalls.{IfOverflow}
 use Rattle.lp_model.specs.declared.Stop.{Stop}
 use Rattle.lp_model.proofs.Stops.{IfOverflow-map}
 use Rattle.lp_algebra.proofs.Values.{clash}
-use Rattle.lp_algebra.proofs.WaypointLaws.{Covers, Covers-insert, kept_within, within_itself}
+use Rattle.lp_algebra.proofs.WaypointLaws.{Covers-insert, kept_within, within_itself}
 use Rattle.lp_algebra.proofs.Uniqueness.{one_direction}
 use Rattle.overflow_definitions.specs.Formulas.{MoveFormula, f8, f9, IsStepTo}
 use Rattle.overflow_definitions.specs.Statements.{Primal, belongs, is_between}

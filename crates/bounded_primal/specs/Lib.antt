@@ -6,4 +6,3 @@ pub mod Stops
 pub mod Points
 pub mod Prices
 pub mod Steps
-pub mod Turns
