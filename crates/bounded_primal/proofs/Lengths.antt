@@ -40,7 +40,7 @@ signed_apart false d some = λ vanishes. some (ap neg_ℚ vanishes ∙ neg_nothi
     neg_nothing : neg_ℚ zero_ℚ ≡ zero_ℚ
     neg_nothing = by_ring1 zero_ℚ (λ x. opposite (number (pos 0)) ≐ number (pos 0)) refl
 
-signed_over : (up : Bool) (x d : ℚ) → d ≢ zero_ℚ → signed up (x /ℚ d) ≡ x /ℚ signed up d
+pub signed_over : (up : Bool) (x d : ℚ) → d ≢ zero_ℚ → signed up (x /ℚ d) ≡ x /ℚ signed up d
 signed_over true x d some = refl
 signed_over false x d some = over_opposite x d some
 

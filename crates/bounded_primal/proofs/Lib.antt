@@ -9,3 +9,6 @@ mod Refusals
 mod Skips
 mod Writes
 mod TermLaws
+mod Returns
+mod StepFacts
+mod StepRefusals

@@ -9,8 +9,9 @@ use Rattle.lp_algebra.proofs.Values.{sub-zero}
 use Rattle.std.proofs.lemmas.List.{get_or_default}
 use Rattle.lp_definitions.specs.LinearProgram.{LinearProgram, size, value_at}
 use Rattle.lp_definitions.specs.declared.Status.{Status}
-use Rattle.path_definitions.specs.Moves.{least, lowers}
+use Rattle.path_definitions.specs.Moves.{least, lowers, signed}
 use Rattle.path_laws.proofs.Searches.{least_is, least_none}
+use Rattle.bounded_primal.specs.Moves.{motion}
 
 pub left_sum : (x y : ℚ) → x ≡ zero_ℚ → y ≡ x +ℚ y
 left_sum x y e = sym (ap (λ u. u +ℚ y) e ∙ zero-add y)
@@ -52,8 +53,8 @@ value_next xs k x below is =
 pub value_read : (xs : List ℚ) (k : ℕ) (x : ℚ) → k - 1 < length xs → x ≡ get_or xs (k - 1) x → x ≡ value_at xs k
 value_read xs k x below is = is ∙ get_or_default xs (k - 1) x zero_ℚ below
 
-pub lowers_at : (p : LinearProgram) (s : List Status) (xs : List ℚ) (k : ℕ) (x : ℚ) → k < length xs → x ≡ get_or xs k x → lowers p s (value_at xs) (k + 1) ≡ lowers p s (λ _. x) (k + 1)
-lowers_at p s xs k x below is = ap (λ (u : ℚ). lowers p s (λ _. u) (k + 1)) (value_next xs k x below is)
+pub lowers_at : (p : LinearProgram) (s : List Status) (xs : List ℚ) (up : Bool) (k : ℕ) (x r : ℚ) → k < length xs → x ≡ get_or xs k x → r ≡ signed up x → lowers p s (motion (value_at xs) up) (k + 1) ≡ lowers p s (λ _. r) (k + 1)
+lowers_at p s xs up k x r below is signed_is = ap (λ (u : ℚ). lowers p s (λ _. u) (k + 1)) (ap (signed up) (value_next xs k x below is) ∙ sym signed_is)
 
 -- ---- a search that goes up by one
 

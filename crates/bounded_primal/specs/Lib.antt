@@ -5,3 +5,4 @@ pub mod Moves
 pub mod Stops
 pub mod Points
 pub mod Prices
+pub mod Steps

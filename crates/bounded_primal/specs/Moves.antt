@@ -2,7 +2,8 @@
 --     may_move p s up q            q may move up, or down
 --     motion d up                  how fast each variable moves, where what has the direction d rises or falls
 --     stopper_of p z d up          what stops that motion
---     IsStepBy p s z d q by        by is that, or it brings a basic to a limit
+--     return_by p z d k to         what brings k to the limit of the status to
+--     IsStepBy p s z d q by        by is what stops the motion, or it brings a basic to a limit
 --     move_by q by                 the move of the basis
 --     StopperRefused, StepRefused  evidence of a refused call
 use Rattle.std.specs.Prelude.{◌≡◌, ℕ, Bool, ◌&&◌, ◌||◌, not, List, [], ◌∷◌, Option, Some, IsSome, option_map, unwrap_or, if◌then◌else◌, IsTrue, nat_eq, Result, IfErr}
@@ -34,6 +35,10 @@ stop_at p z d up k = record { p = k; step = signed up (unwrap_or (room p z (moti
 -- the least-numbered of the variables that reach a limit first
 abbrev pub stopper_of : LinearProgram → Vector → Vector → Bool → Option Stopper
 stopper_of p z d up = option_map (stop_at p z d up) (stopper p z (motion d up))
+
+-- k comes to the limit of the status to, which it has
+abbrev pub return_by : LinearProgram → Vector → Vector → ℕ → Status → Stopper
+return_by p z d k to = record { p = k; step = (unwrap_or (limit_numbered p k (number_of_limit to)) zero_ℚ -ℚ z k) /ℚ d k; to = to }
 
 -- z is the point of s and d the direction of q
 pub data IsStepBy (p : LinearProgram) (s : List Status) (z d : Vector) (q : ℕ) (by : Stopper) : Type 0 where

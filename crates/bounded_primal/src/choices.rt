@@ -4,7 +4,8 @@ ghost use Rattle.std.specs.Prelude.{◌≡◌, ◌&&◌, ◌≤◌, length};
 ghost use Rattle.exact_values.specs.Tests.{lt_ℚ};
 ghost use Rattle.lp_definitions.specs.LinearProgram.{size, value_at, IsVariable};
 ghost use Rattle.lp_definitions.specs.Basis.{basics_of, is_in};
-ghost use Rattle.path_definitions.specs.Moves.{least, is_crossed, is_fixed, is_below, is_above, is_outside, lowers, entering};
+ghost use Rattle.path_definitions.specs.Moves.{least, is_crossed, is_fixed, is_below, is_above, is_outside, lowers, entering, signed};
+ghost use Rattle.bounded_primal.specs.Moves.{motion};
 
 use frac128::Frac;
 use lp_model::{Basis, Lp, Status};
@@ -14,6 +15,13 @@ pub fn is_less(x: Frac, y: Frac) -> bool
     ensures { result ≡ lt_ℚ x y }
 {
     x.compare(y).is_lt()
+}
+
+/// The value as it counts upward or downward.
+pub fn counted(value: Frac, up: bool) -> Frac
+    ensures { result ≡ signed up value }
+{
+    if up { value } else { value.neg() }
 }
 
 /// Whether both limits are there, and the lower one is above the upper one.
@@ -123,14 +131,16 @@ fn may_lower(lp: &Lp, basis: &Basis, rate: Frac, k: u32) -> bool
     moves && !stands_fixed(lp, k)
 }
 
-/// The least-numbered nonbasic that may move so as to lower a quantity with these rates.
-pub fn enterer(lp: &Lp, basis: &Basis, rates: &[Frac]) -> Option<u32>
+/// The least-numbered nonbasic that may move so as to lower a quantity with these rates, or, where they don't count up, one with
+/// the opposite rates.
+pub fn enterer(lp: &Lp, basis: &Basis, rates: &[Frac], up: bool) -> Option<u32>
     requires counted { length basis.now ≡ size lp.now.matrix }
     requires places { length rates.now ≡ size lp.now.matrix }
-    ensures { result ≡ entering lp.now basis.now (value_at rates.now) }
+    ensures { result ≡ entering lp.now basis.now (motion (value_at rates.now) up) }
 {
     for k in 0..lp.number_of_variables() {
-        if may_lower(lp, basis, rates[k as usize], k + 1) {
+        let rate = rates[k as usize];
+        if may_lower(lp, basis, counted(rate, up), k + 1) {
             return Some(k + 1);
         }
     }

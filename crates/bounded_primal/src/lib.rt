@@ -8,9 +8,11 @@ mod moves;
 mod point;
 mod prices;
 mod reach;
+mod step;
 mod stopping;
 
 pub use moves::{PrimalStop, Stopper};
 pub use point::point_of;
 pub use prices::prices_of;
+pub use step::take_step;
 pub use stopping::stopper;

@@ -2,11 +2,11 @@
 
 ghost use Rattle.std.specs.Prelude.{◌≡◌, length, IfOk, IfErr};
 ghost use Rattle.lp_definitions.specs.LinearProgram.{size, value_at, IsVariable};
-ghost use Rattle.path_definitions.specs.Moves.{signed, room};
+ghost use Rattle.path_definitions.specs.Moves.{room};
 ghost use Rattle.bounded_primal.specs.Moves.{motion};
 ghost use Rattle.bounded_primal.specs.Reach.{RoomRefused, IsAhead, sooner, reach_formula};
 
-use crate::choices::is_less;
+use crate::choices::{counted, is_less};
 use crate::formula::Formula;
 use frac128::Frac;
 use lp_model::{Evidence, Lp};
@@ -25,15 +25,8 @@ struct Ahead {
     limit: Frac,
 }
 
-/// The value as it counts upward or downward.
-pub fn counted(value: Frac, up: bool) -> Frac
-    ensures { result ≡ signed up value }
-{
-    if up { value } else { value.neg() }
-}
-
 /// Formula 6 or 7 of the variable `k` and its limit of this number.
-fn formula(number: u8, q: u32, k: u32, term: u32) -> Formula
+pub fn formula(number: u8, q: u32, k: u32, term: u32) -> Formula
     ensures { result ≡ reach_formula number q k term }
 {
     Formula {

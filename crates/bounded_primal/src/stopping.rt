@@ -8,9 +8,9 @@ ghost use Rattle.path_definitions.specs.Moves.{room, signed, reached};
 ghost use Rattle.bounded_primal.specs.Moves.{may_move, motion, stopper_of, StopperRefused};
 ghost use Rattle.bounded_primal.specs.Reach.{IsNearest, SomeRoomRefused};
 
-use crate::choices::is_less;
+use crate::choices::{counted, is_less};
 use crate::moves::Stopper;
-use crate::reach::{Reach, counted, length_to, nearer};
+use crate::reach::{Reach, length_to, nearer};
 use frac128::Frac;
 use lp_model::{Basis, Evidence, Lp, Status};
 

@@ -1,0 +1,20 @@
+use Rattle.std.proofs.Common.{◌≡◌, ◌+◌, Err, rules, sym, ◌∙◌, subst, arith}
+use Rattle.exact_values.specs.Rational.{ℚ}
+use Rattle.lp_definitions.specs.LinearProgram.{value_at}
+use Rattle.bounded_primal.specs.Steps.{MovedRefused}
+use Rattle.bounded_primal.proofs.Skips.{value_next}
+use Rattle.bounded_primal.proofs.step.move_point.Goals as goal
+
+pub returns-in_err-next-clause-refused : goal.returns-in_err-next-clause-refused
+returns-in_err-next-clause-refused c =
+    let is_err : c.from_residual.result ≡ Err c.in_err-next.field-0.0 = search rules in
+    let value_is = sym (value_next c.loop-k.point c.loop-k.k c.index-point-k.result (omega arith) c.index-point-k.is) ∙ c.loop-k.invariant.rest (c.loop-k.k + 1) (omega arith) in
+    let rate_is = sym (value_next c.args.direction.now c.loop-k.k c.index-direction-k.result (omega arith) c.index-direction-k.is) in
+    rw is_err (record {
+      i = c.loop-k.k + 1;
+      low = omega arith;
+      high = omega arith;
+      moves = λ e. c.in_err-next.ensures.needed (rate_is ∙ e);
+      refused = subst (λ (x : ℚ). MovedRefused c.args.by.now.step x (value_at c.args.point.now (c.loop-k.k + 1)) c.args.by.now.p c.args.q (c.loop-k.k + 1) c.in_err-next.field-0.0) rate_is
+          (subst (λ (x : ℚ). MovedRefused c.args.by.now.step c.index-direction-k.result x c.args.by.now.p c.args.q (c.loop-k.k + 1) c.in_err-next.field-0.0) value_is c.in_err-next.ensures.refused);
+    })

@@ -1,0 +1,153 @@
+//! One step: a basis goes over to the next one, and its point with it.
+
+ghost use Rattle.std.specs.Prelude.{◌≡◌, ◌≢◌, length, OnOk, OnErr, IfOk, IfErr, IsSome};
+ghost use Rattle.exact_values.specs.Rational.{zero_ℚ, ◌+ℚ◌, ◌*ℚ◌};
+ghost use Rattle.lp_definitions.specs.LinearProgram.{size, value_at, IsVariable};
+ghost use Rattle.lp_definitions.specs.Basis.{basics_of, IsNonbasic, IsPointOf, IsDirectionOf};
+ghost use Rattle.lp_definitions.specs.Waypoints.{KeepsWaypoints};
+ghost use Rattle.path_definitions.specs.Path.{after};
+ghost use Rattle.overflow_definitions.specs.Formulas.{limit_numbered, number_of_limit};
+ghost use Rattle.bounded_primal.specs.Calls.{HasRates};
+ghost use Rattle.bounded_primal.specs.Moves.{IsStepBy, move_by, return_by, StepOverflow};
+ghost use Rattle.bounded_primal.specs.Steps.{IsMoved, MovedRefused, SomeMovedRefused, ReturnRefused, step_formula};
+
+use crate::formula::Formula;
+use crate::moves::Stopper;
+use crate::reach;
+use frac128::Frac;
+use lp_model::{Basis, Evidence, Lp, Rates, Status, Stop};
+
+/// Formula 8 or 9 of the variable `i`, where `q` moves until `p` stops it.
+fn formula(number: u8, p: u32, q: u32, i: u32) -> Formula
+    ensures { result ≡ step_formula number p q i }
+{
+    Formula {
+        number,
+        p,
+        q,
+        i,
+        j: 0,
+        term: 0,
+        theta: Frac::whole(0),
+    }
+}
+
+/// The value of `i` after the step.
+fn moved(value: Frac, step: Frac, rate: Frac, p: u32, q: u32, i: u32) -> Result<Frac, Evidence>
+    ensures value { IfOk result (λ moved. moved ≡ value +ℚ step *ℚ rate) }
+    ensures refused { IfErr result (MovedRefused step rate value p q i) }
+    ensures needed { OnErr result (rate ≢ zero_ℚ) }
+{
+    let product = formula(8, p, q, i).product(step, rate)?;
+    formula(9, p, q, i).sum(value, product)
+}
+
+/// Moves the point by the step.
+fn move_point(
+    lp: &Lp,
+    direction: &[Frac],
+    q: u32,
+    by: &Stopper,
+    point: &mut [Frac],
+) -> Result<(), Evidence>
+    requires direction_places { length direction.now ≡ size lp.now.matrix }
+    requires point_places { length point.old ≡ size lp.now.matrix }
+    ensures moved { OnOk result (IsMoved by.now.step (value_at direction.now) (value_at point.old) (size lp.now.matrix) (value_at point.new)) }
+    ensures refused { IfErr result (SomeMovedRefused by.now (value_at direction.now) (value_at point.old) q (size lp.now.matrix)) }
+{
+    for k in 0..lp.number_of_variables() {
+        let value = point[k as usize];
+        let rate = direction[k as usize];
+        let next = moved(value, by.step, rate, by.p, q, k + 1)?;
+        point[k as usize] = next;
+    }
+    Ok(())
+}
+
+/// The limit of `k` that has this status.
+fn limit_at(lp: &Lp, k: u32, to: Status) -> Option<Frac>
+    requires { IsVariable lp.now.matrix k }
+    ensures { result ≡ limit_numbered lp.now k (number_of_limit to) }
+{
+    match to {
+        Status::Bs | Status::Fr => None,
+        Status::Ll => lp.lower_limit(k),
+        Status::Ul => lp.upper_limit(k),
+    }
+}
+
+/// The number of a status's limit.
+fn number_of(to: Status) -> u32
+    ensures { result ≡ number_of_limit to }
+{
+    match to {
+        Status::Bs | Status::Fr => 0,
+        Status::Ll => 1,
+        Status::Ul => 2,
+    }
+}
+
+/// The move of `q` that brings `p` to the limit of the status `to`.
+pub fn returning(
+    lp: &Lp,
+    point: &[Frac],
+    direction: &[Frac],
+    q: u32,
+    p: u32,
+    to: Status,
+) -> Result<Stopper, Evidence>
+    requires variable { IsVariable lp.now.matrix p }
+    requires point_places { length point.now ≡ size lp.now.matrix }
+    requires direction_places { length direction.now ≡ size lp.now.matrix }
+    requires limit { IsSome (limit_numbered lp.now p (number_of_limit to)) }
+    requires moves { value_at direction.now p ≢ zero_ℚ }
+    ensures stopper { IfOk result (λ by. by ≡ return_by lp.now (value_at point.now) (value_at direction.now) p to) }
+    ensures refused { IfErr result (ReturnRefused lp.now (value_at point.now) (value_at direction.now) q p to) }
+{
+    let number = number_of(to);
+    let limit = limit_at(lp, p, to).unwrap_or(Frac::whole(0));
+    let value = point[p as usize - 1];
+    let rate = direction[p as usize - 1];
+    let distance = reach::formula(6, 0, p, number).difference(limit, value)?;
+    let step = reach::formula(7, q, p, number).quotient(distance, rate)?;
+    Ok(Stopper { p, step, to })
+}
+
+/// Makes the step `by` of `q`: the basis, the rates and the point go over to the next basis. Where `q` itself stops, it changes its
+/// limit, and no exchange is made. After a Stop the basis and the basics are as before, and of `point` nothing is promised.
+pub fn take_step<R: Rates>(
+    lp: &Lp,
+    basis: &mut Basis,
+    rates: &mut R,
+    point: &mut [Frac],
+    direction: &[Frac],
+    q: u32,
+    by: &Stopper,
+) -> Result<(), Stop>
+    requires rates { HasRates (R.matrix rates.old) (R.basics rates.old) lp.now basis.old }
+    requires point_places { length point.old ≡ size lp.now.matrix }
+    requires direction_places { length direction.now ≡ size lp.now.matrix }
+    requires nonbasic { IsNonbasic lp.now.matrix (basics_of basis.old) q }
+    requires point { IsPointOf lp.now basis.old (value_at point.old) }
+    requires direction { IsDirectionOf lp.now.matrix (basics_of basis.old) q (value_at direction.now) }
+    requires moves { value_at direction.now by.now.p ≢ zero_ℚ }
+    requires step { IsStepBy lp.now basis.old (value_at point.old) (value_at direction.now) q by.now }
+    ensures basis { OnOk result (basis.new ≡ after basis.old (move_by q by.now)) }
+    ensures point { OnOk result (IsPointOf lp.now basis.new (value_at point.new)) }
+    ensures unchanged { OnErr result (basis.new ≡ basis.old) }
+    ensures rates { HasRates (R.matrix rates.new) (R.basics rates.new) lp.now basis.new }
+    ensures waypoints { KeepsWaypoints lp.now.matrix (basics_of basis.old) (R.waypoints rates.old) (basics_of basis.new) (R.waypoints rates.new) }
+    ensures overflow { StepOverflow result lp.now basis.old q by.now (R.waypoints rates.old) (R.waypoints rates.new) }
+{
+    match move_point(lp, direction, q, by, point) {
+        Ok(()) => {}
+        Err(evidence) => return Err(Stop::Overflow(evidence)),
+    }
+    if by.p == q {
+        basis.flip(q, by.to);
+        return Ok(());
+    }
+    rates.exchange(by.p, q)?;
+    basis.replace(by.p, q, by.to);
+    Ok(())
+}
