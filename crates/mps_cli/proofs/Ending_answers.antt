@@ -54,32 +54,32 @@ module _ (S : Solving) (job : Job) (stop : Stop) (may_end : MayEnd S job [] [] (
   }
 
   -- the end is printed
-  ended : {wanted : Type 0} {old new : Option (List ℕ)} (status : ℕ) → status ≡ status_of (stop_shown stop) → (punch : Option (List ℕ)) → Appends old new (ending_text (stop_shown stop)) →
+  ended : {wanted : Type 0} (old new : Option (List ℕ)) (status : ℕ) → status ≡ status_of (stop_shown stop) → (punch : Option (List ℕ)) → Appends old new (ending_text (stop_shown stop)) →
       IsAnswered S job wanted status (Appends old new) (Appends punch punch)
-  ended status is punch text = (ending_text (stop_shown stop), [], text, keeps punch, whole (stop_shown stop) may_end is refl (gains_nothing stop))
+  ended old new status is punch text = (ending_text (stop_shown stop), [], text, keeps punch, whole (stop_shown stop) may_end is refl (gains_nothing stop))
 
   -- the print fails
-  ended_by_fault : {wanted : Type 0} {old new : Option (List ℕ)} (status : ℕ) → status ≡ 25 → (punch : Option (List ℕ)) → AppendsFront old new (ending_text (stop_shown stop)) →
+  ended_by_fault : {wanted : Type 0} (old new : Option (List ℕ)) (status : ℕ) → status ≡ 25 → (punch : Option (List ℕ)) → AppendsFront old new (ending_text (stop_shown stop)) →
       IsAnswered S job wanted status (Appends old new) (Appends punch punch)
-  ended_by_fault status is punch front = (front.0, [], front.2, keeps punch, print_fails is (cut status front.0 front.1.0 front.1.1))
+  ended_by_fault old new status is punch front = (front.0, [], front.2, keeps punch, print_fails is (cut status front.0 front.1.0 front.1.1))
 
   -- the print wants memory
-  ended_for_memory : {wanted : Type 0} {old new : Option (List ℕ)} (status : ℕ) → status ≡ 28 → (punch : Option (List ℕ)) → wanted → AppendsFront old new (ending_text (stop_shown stop)) →
+  ended_for_memory : {wanted : Type 0} (old new : Option (List ℕ)) (status : ℕ) → status ≡ 28 → (punch : Option (List ℕ)) → wanted → AppendsFront old new (ending_text (stop_shown stop)) →
       IsAnswered S job wanted status (Appends old new) (Appends punch punch)
-  ended_for_memory status is punch wants front = (front.0, [], front.2, keeps punch, print_wants_memory wants is (cut status front.0 front.1.0 front.1.1))
+  ended_for_memory old new status is punch wants front = (front.0, [], front.2, keeps punch, print_wants_memory wants is (cut status front.0 front.1.0 front.1.1))
 
 module _ (S : Solving) {P : Type 0} (written : P → Option (List ℕ)) (faults refusals : P → ℕ) {old new : P} (shown : Ending) (stop : Stop) (same : shown ≡ stop_shown stop) (status : Status) where
   pub end_printed : {T : Type 0} {done : T} → status ≡ status_at stop → Writes written faults refusals old new (Ok done) (ending_text shown) →
       (job : Job) (punch : Option (List ℕ)) → MayEnd S job [] [] (stop_shown stop) →
       IsAnswered S job (Rose (refusals old) (refusals new)) (code_of status) (Appends (written old) (written new)) (Appends punch punch)
   end_printed is writes job punch may_end =
-      ended S job stop may_end (code_of status) (ap code_of is ∙ code_is stop) punch (subst (λ (e : Ending). Appends (written old) (written new) (ending_text e)) same writes.bytes)
+      ended S job stop may_end (written old) (written new) (code_of status) (ap code_of is ∙ code_is stop) punch (subst (λ (e : Ending). Appends (written old) (written new) (ending_text e)) same writes.bytes)
 
   pub end_cut : {T : Type 0} (cause : WriteStop) → status ≡ cut_status cause → Writes {T = T} written faults refusals old new (Err cause) (ending_text shown) →
       (job : Job) (punch : Option (List ℕ)) → MayEnd S job [] [] (stop_shown stop) →
       IsAnswered S job (Rose (refusals old) (refusals new)) (code_of status) (Appends (written old) (written new)) (Appends punch punch)
   end_cut Failed is writes job punch may_end =
-      ended_by_fault S job stop may_end (code_of status) (ap code_of is) punch (subst (λ (e : Ending). AppendsFront (written old) (written new) (ending_text e)) same writes.bytes)
+      ended_by_fault S job stop may_end (written old) (written new) (code_of status) (ap code_of is) punch (subst (λ (e : Ending). AppendsFront (written old) (written new) (ending_text e)) same writes.bytes)
   end_cut NoMemory is writes job punch may_end =
-      ended_for_memory S job stop may_end (code_of status) (ap code_of is) punch (writes.cause.no_memory refl)
+      ended_for_memory S job stop may_end (written old) (written new) (code_of status) (ap code_of is) punch (writes.cause.no_memory refl)
       (subst (λ (e : Ending). AppendsFront (written old) (written new) (ending_text e)) same writes.bytes)
