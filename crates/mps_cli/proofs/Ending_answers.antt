@@ -8,7 +8,6 @@ use Rattle.job_devices.specs.declared.device.WriteStop.{WriteStop}
 use Rattle.job_devices.specs.declared.device.WriteStop.TheVariants.{Failed, NoMemory}
 use Rattle.deck_definitions.specs.Written.{card_text}
 use Rattle.listing_definitions.specs.Ending.{Ending, status_of}
-use Rattle.listing_definitions.specs.Ending as endings
 use Rattle.listing_definitions.specs.Listing.{listing, ending_text}
 use Rattle.solver_definitions.specs.Solving.{Solving}
 use Rattle.run_definitions.specs.Answer.{Job, Gains, MayEnd, IsCutShort, IsAnswered, whole, print_fails, print_wants_memory}
