@@ -1,0 +1,2 @@
+pub mod Ending_answers
+pub mod May_end

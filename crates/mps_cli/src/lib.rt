@@ -1,10 +1,12 @@
 //! One job, from the words of the command line and the bytes of the job to the listing and the status.
 #![tactic(auto)]
 
+mod end;
+mod prepare;
 mod run;
-mod status;
+mod stop;
 #[cfg(test)]
 mod tests;
 
+pub use control_run::Status;
 pub use run::run_job;
-pub use status::Status;

@@ -1,0 +1,62 @@
+-- Why the program of a job isn't run.
+--     stop_shown, status_at stop     the end of the listing, and the status
+--     Tells known stop               what a stop says of a job
+--     ArePrepared known prepared     the cards and the program are those of a job
+use Rattle.std.specs.Prelude.{◌≡◌, ℕ, List, Option, None, Some, Err, IfSome}
+use Rattle.card_definitions.specs.declared.CardFault.TheVariants as fault
+use Rattle.card_definitions.specs.Cards.{cards_of, job_fault}
+use Rattle.card_reader.specs.declared.stop.ReadStop.{ReadStop}
+use Rattle.card_reader.specs.declared.stop.ReadStop.TheVariants as reading
+use Rattle.control_definitions.specs.Compiled.{compiled}
+use Rattle.control_compiler.specs.declared.stop.CompileStop.{CompileStop}
+use Rattle.control_compiler.specs.declared.stop.CompileStop.TheVariants as compiling
+use Rattle.control_run.specs.declared.status.Status.{Status}
+use Rattle.control_run.specs.declared.status.Status.TheVariants as status
+use Rattle.listing_definitions.specs.Ending.{Ending}
+use Rattle.listing_definitions.specs.Ending as endings
+use Rattle.run_definitions.specs.Answer.{IsProgramOf}
+use Rattle.mps_cli.specs.declared.prepare.Prepared.{Prepared}
+use Rattle.mps_cli.specs.declared.stop.Stop.{Stop}
+use Rattle.mps_cli.specs.declared.stop.Stop.TheVariants.{Words, ReadFault, Card, Control, Memory}
+
+-- the end of the run in the words of the listing
+abbrev pub stop_shown : Stop → Ending
+stop_shown Words = endings.WordsRefused
+stop_shown ReadFault = endings.ReadFault
+stop_shown (Card fault) = endings.CardStop fault
+stop_shown (Control fault) = endings.ControlStop fault
+stop_shown Memory = endings.Memory
+
+abbrev pub status_at : Stop → Status
+status_at Words = status.Words
+status_at ReadFault = status.ReadFault
+status_at (Card fault) = status.Card
+status_at (Control fault) = status.Control
+status_at Memory = status.Memory
+
+-- where the job isn't read
+abbrev pub stop_of_reading : ReadStop → Stop
+stop_of_reading reading.ReadFault = ReadFault
+stop_of_reading reading.TooLong = Card fault.TooLong
+stop_of_reading (reading.CardTooLong card) = Card (fault.CardTooLong card)
+stop_of_reading (reading.NotPrintable card) = Card (fault.NotPrintable card)
+stop_of_reading reading.NoMemory = Memory
+
+-- where the program isn't compiled
+abbrev pub stop_of_compiling : CompileStop → Stop
+stop_of_compiling (compiling.Fault fault) = Control fault
+stop_of_compiling compiling.NoMemory = Memory
+
+-- Where the job is known, the stop tells the fault of its cards, or else the fault of its program. A fault of the source or want of
+-- memory may come in its place. The words have nothing to do with the job.
+abbrev pub Tells : Option (List ℕ) → Stop → Type 0
+Tells known Words = ⊥
+Tells known ReadFault = Unit {0}
+Tells known (Card fault) = IfSome known (λ job. job_fault job ≡ Some fault)
+Tells known (Control fault) = IfSome known (λ job. (job_fault job ≡ None) × (compiled (cards_of job) ≡ Err fault))
+Tells known Memory = Unit {0}
+
+-- where the job is known, these are its cards and its program
+abbrev pub ArePrepared : Option (List ℕ) → Prepared → Type 0
+ArePrepared None prepared = Unit {0}
+ArePrepared (Some job) prepared = (prepared.cards ≡ cards_of job) × IsProgramOf job prepared.program
