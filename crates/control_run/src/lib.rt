@@ -1,0 +1,15 @@
+//! Runs a compiled control program over the cards of a job, and prints its reports.
+#![tactic(auto)]
+
+mod act;
+mod cells;
+mod end;
+mod execute;
+mod finish;
+mod machine;
+mod run;
+mod status;
+mod title;
+
+pub use run::run_program;
+pub use status::Status;
