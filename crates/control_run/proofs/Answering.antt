@@ -24,6 +24,9 @@ use Rattle.control_run.specs.Ends.{end_shown, code_of}
 use Rattle.control_run.specs.Finishing.{cut_status, Finishes, printed, cut_off}
 use Rattle.control_run.specs.Running.{CanEnd, by_itself, for_memory, RunsTo, IsRunCut, IsRunAnswer, whole, print_fails, print_wants_memory}
 
+apart : (code : ℕ) → code ≡ 28 → code ≡ 25 → ⊥
+apart code memory fault = omega arith
+
 module _ (S : Solving) (program : Program) (cards : List (List ℕ)) {P : Type 0} (written : P → Option (List ℕ)) (faults refusals : P → ℕ) where
   -- the end is printed behind the reports
   pub finished : {old now later : P} {ending : Ending} {status : Status} → RunsTo S program cards written faults refusals old now ending → Finishes written faults refusals now later ending status →
@@ -55,11 +58,11 @@ module _ (S : Solving) (program : Program) (cards : List (List ℕ)) {P : Type 0
       status ≡ PrintFault → Rose (faults old) (faults later)
   finish_rose end r (printed e w) is = absurd (no_fault end (sym (ap code_of is) ∙ e))
   finish_rose end r (cut_off Failed e w) is = (writes_then r.writes w).cause.failed refl
-  finish_rose end r (cut_off NoMemory e w) is = let apart : 28 ≡ 25 = sym (ap code_of e) ∙ ap code_of is in absurd (omega arith)
+  finish_rose end {status = status} r (cut_off NoMemory e w) is = absurd (apart (code_of status) (ap code_of e) (ap code_of is))
 
   pub cut_rose : {old new : P} (stop : WriteStop) → IsRunCut S program cards written faults refusals old new stop → cut_status stop ≡ PrintFault → Rose (faults old) (faults new)
   cut_rose Failed r is = r.writes.cause.failed refl
-  cut_rose NoMemory r is = let apart : 28 ≡ 25 = ap code_of is in absurd (omega arith)
+  cut_rose NoMemory r is = absurd (apart 28 refl (ap code_of is))
 
 -- ---- the job
 

@@ -56,11 +56,11 @@ module _ (S : Solving) (verb : Verb ℕ) (card : ℕ) {P : Type 0} (written : P 
   loudly report comes writes = λ position executed state s. record { gain = Prints report; no_cards = refl; comes = comes position executed state s; writes = writes }
 
   -- the report is broken off
-  pub cut_off : {print_old print_new : P} {new : Machine} (stop : WriteStop) (report : Report) →
+  pub cut_off : {print_old print_new : P} (new : Machine) (stop : WriteStop) (report : Report) →
       ((position executed : ℕ) (state : State) → Stands cards old position executed state → (outcome : Outcome) × Gives card (statement_move S verb card state) outcome × (gain_of outcome ≡ Prints report)) →
       Writes {T = Unit {0}} written faults refusals print_old print_new (Err stop) (report_text report) →
       Executes S verb card written faults refusals print_old print_new cards old new (Err (halt.Print stop))
-  cut_off {print_old = print_old} {print_new = print_new} stop report comes writes = λ position executed state s.
+  cut_off {print_old = print_old} {print_new = print_new} new stop report comes writes = λ position executed state s.
       let t = comes position executed state s in
       record {
         outcome = t.0;

@@ -5,3 +5,6 @@ pub mod Answering
 pub mod Clamping
 pub mod Giving
 pub mod Stepping
+pub mod Titling
+pub mod Ending_lines
+pub mod Sound

@@ -9,6 +9,7 @@ use Rattle.run_definitions.specs.Verbs.{statement_move}
 use Rattle.run_definitions.specs.Run.{counted, max_executed, Step}
 use Rattle.control_run.specs.declared.act.Act.{Act}
 use Rattle.control_run.specs.declared.act.Act.TheVariants as act
+use Rattle.control_run.specs.declared.act.Halt.{Halt}
 use Rattle.control_run.specs.declared.act.Halt.TheVariants as halt
 use Rattle.control_run.specs.declared.act.Turn.{Turn}
 use Rattle.control_run.specs.declared.machine.Machine.{Machine}
@@ -51,14 +52,14 @@ module _ (S : Solving) (program : Program) (cards : List (List ℕ)) (position :
     gives = gives;
   }
 
-  leads_by : {old new : Machine} {executed : ℕ} {state : State} → Stands cards old position executed state → executed < 100000 → (gain : Gain) (act : Act) →
+  leads_by : (old new : Machine) {executed : ℕ} {state : State} → Stands cards old position executed state → executed < 100000 → (gain : Gain) (act : Act) →
       Comes S statement.verb statement.card cards position (executed + 1) (counted state) new gain act → Leads S program cards executed state new gain (turn_of position act)
-  leads_by s within gain act.Next c =
+  leads_by old new s within gain act.Next c =
       (record (c.0) { position = c.0.position + 1 }, step_of s within _ c.1, placed_stands (position + 1) (c.0.position + 1) c.2 (ap (λ n. n + 1) c.2.is_position), omega arith)
-  leads_by s within gain (act.Jump to) c = (record (c.0) { position = to }, step_of s within _ c.1, placed_stands to to c.2 refl, c.3)
-  leads_by s within gain (act.Ends end) c = step_of s within _ c
+  leads_by old new s within gain (act.Jump to) c = (record (c.0) { position = to }, step_of s within _ c.1, placed_stands to to c.2 refl, c.3)
+  leads_by old new s within gain (act.Ends end) c = step_of s within _ c
 
-  module _ {P : Type 0} (written : P → Option (List ℕ)) (faults refusals : P → ℕ) {print_old print_new : P} {old new : Machine} where
+  module _ {P : Type 0} (written : P → Option (List ℕ)) (faults refusals : P → ℕ) {print_old print_new : P} (old new : Machine) where
     pub steps_to : (act : Act) (turn : Turn) → turn ≡ turn_of position act → Executes S statement.verb statement.card written faults refusals print_old print_new cards old new (Ok act) →
         Steps S program cards written faults refusals print_old print_new position old new (Ok turn)
     steps_to act turn is executes = λ executed state within s.
@@ -66,7 +67,7 @@ module _ (S : Solving) (program : Program) (cards : List (List ℕ)) (position :
         record {
           gain = a.gain;
           no_cards = a.no_cards;
-          leads = subst (λ (t : Turn). Leads S program cards executed state new a.gain t) (sym is) (leads_by s within a.gain act a.comes);
+          leads = subst (λ (t : Turn). Leads S program cards executed state new a.gain t) (sym is) (leads_by old new s within a.gain act a.comes);
           writes = a.writes;
         }
 
@@ -75,3 +76,8 @@ module _ (S : Solving) (program : Program) (cards : List (List ℕ)) (position :
     steps_cut stop executes = λ executed state within s.
         let a = executes position (executed + 1) (counted state) (counted_stands s) in
         record { outcome = a.outcome; no_cards = a.no_cards; step = step_of s within a.outcome a.gives; writes = a.writes }
+
+    pub steps_err : (h : Halt) → Executes S statement.verb statement.card written faults refusals print_old print_new cards old new (Err h) →
+        Steps S program cards written faults refusals print_old print_new position old new (Err h)
+    steps_err (halt.Print stop) executes = steps_cut stop executes
+    steps_err halt.NoMemory executes = executes

@@ -13,13 +13,16 @@ use Rattle.solver_definitions.specs.Solving.{Solving}
 use Rattle.run_definitions.specs.State.{State, start}
 use Rattle.run_definitions.specs.Moves.{Gain, printed_by, punched_by, Outcome, Goes as GoesOn, Ends as EndsRun}
 use Rattle.run_definitions.specs.Run.{max_executed, Step, Reaches, begun, stepped, IsRun, is_over, is_ended, at_end, at_limit}
+use Rattle.control_run.specs.declared.act.Halt.{Halt}
+use Rattle.control_run.specs.declared.act.Halt.TheVariants as halt
+use Rattle.control_run.specs.declared.act.Turn.{Turn}
 use Rattle.control_run.specs.declared.act.Turn.TheVariants.{Goes, Ends}
 use Rattle.control_run.specs.declared.end.End.{End}
 use Rattle.control_run.specs.declared.machine.Machine.{Machine}
 use Rattle.control_run.specs.Ends.{end_shown}
 use Rattle.control_run.specs.Standing.{IsSound, Stands}
 use Rattle.control_run.specs.Statements.{gain_text, gain_of}
-use Rattle.control_run.specs.Running.{decks_behind, by_itself, for_memory, CanEnd, Turns, IsStepCut, RunsTo, IsRunCut}
+use Rattle.control_run.specs.Running.{decks_behind, by_itself, for_memory, CanEnd, Turns, IsStepCut, Steps, RunsTo, IsRunCut}
 use Rattle.control_run.proofs.Gains.{reports_text_more}
 
 -- the run has come to a state that the machine shows, and its reports so far are printed
@@ -131,3 +134,31 @@ module _ (S : Solving) (program : Program) (cards : List (List ℕ)) where
           can_end = by_itself (subst (λ (punched : List (List ℕ)). IsRun S program (decks_behind program cards) (u.reports ++ printed_by gain) punched ending) none (is_ended gain u.reaches step));
           writes = writes_same (reports_text_more u.reports gain) (writes_then u.writes writes);
         }
+
+    -- ---- by what a statement's result is
+
+    pub underway_goes : {old now later : P} {machine new : Machine} {position executed to : ℕ} (turn : Turn) → turn ≡ Goes to →
+        (u : IsUnderway S program cards written faults refusals old now machine position executed) → executed < 100000 → IsSound cards new →
+        Steps S program cards written faults refusals now later position machine new (Ok turn) → IsUnderway S program cards written faults refusals old later new to (executed + 1)
+    underway_goes {now = now} {later = later} {new = new} {executed = executed} turn is u within sound steps =
+        underway_more u within sound (subst (λ (t : Turn). Turns S program cards written faults refusals now later executed u.state new t) is (steps executed u.state within u.stands))
+
+    pub underway_ends : {old now later : P} {machine : Machine} (new : Machine) {position executed : ℕ} (turn : Turn) (end : End) → turn ≡ Ends end →
+        (u : IsUnderway S program cards written faults refusals old now machine position executed) → executed < 100000 →
+        Steps S program cards written faults refusals now later position machine new (Ok turn) → RunsTo S program cards written faults refusals old later (end_shown end)
+    underway_ends {now = now} {later = later} new {executed = executed} turn end is u within steps =
+        underway_ended {new = new} end u (subst (λ (t : Turn). Turns S program cards written faults refusals now later executed u.state new t) is (steps executed u.state within u.stands))
+
+    pub underway_out_of_memory : {old now later : P} {machine : Machine} (new : Machine) {position executed : ℕ} (h : Halt) → h ≡ halt.NoMemory →
+        (u : IsUnderway S program cards written faults refusals old now machine position executed) →
+        Steps S program cards written faults refusals now later position machine new (Err h) → RunsTo S program cards written faults refusals old later Memory
+    underway_out_of_memory {now = now} {later = later} {machine = machine} new {position = position} h is u steps =
+        underway_without_memory u (subst (λ (x : Halt). Steps S program cards written faults refusals now later position machine new (Err x)) is steps)
+
+    pub underway_stopped : {old now later : P} {machine : Machine} (new : Machine) {position executed : ℕ} (h : Halt) (stop : WriteStop) → h ≡ halt.Print stop →
+        (u : IsUnderway S program cards written faults refusals old now machine position executed) → executed < 100000 →
+        Steps S program cards written faults refusals now later position machine new (Err h) → IsRunCut S program cards written faults refusals old later stop
+    underway_stopped {now = now} {later = later} {machine = machine} new {position = position} {executed = executed} h stop is u within steps =
+        let at : Steps S program cards written faults refusals now later position machine new (Err (halt.Print stop)) =
+        subst (λ (x : Halt). Steps S program cards written faults refusals now later position machine new (Err x)) is steps in
+        underway_cut stop u (at executed u.state within u.stands)

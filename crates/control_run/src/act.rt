@@ -2,10 +2,9 @@
 
 use crate::end::End;
 use job_devices::{NoMemory, WriteStop};
-use thiserror::Error;
 
 /// What follows a statement.
-#[derive(Clone, Copy, Debug)]
+#[derive(Clone, Copy)]
 pub enum Act {
     /// The next statement.
     Next,
@@ -16,7 +15,7 @@ pub enum Act {
 }
 
 /// Where a statement leads.
-#[derive(Clone, Copy, Debug)]
+#[derive(Clone, Copy)]
 pub enum Turn {
     /// To the statement with this number, from 1, or to the program's end.
     Goes(u32),
@@ -42,13 +41,11 @@ impl Act {
 }
 
 /// Why a statement comes to nothing.
-#[derive(Clone, Copy, Debug, PartialEq, Eq, Error)]
+#[derive(Clone, Copy)]
 pub enum Halt {
     /// The print took no more.
-    #[error("{0}")]
     Print(WriteStop),
     /// Memory ran out.
-    #[error("out of memory")]
     NoMemory,
 }
 

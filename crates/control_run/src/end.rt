@@ -1,11 +1,9 @@
 // How a run ends, where no device fails.
-ghost use Rattle.std.specs.Prelude.{◌≡◌};
-
 use deck_definitions::DeckFault;
 use listing_definitions::VerbFault;
 
 /// How a run ends, where no device fails.
-#[derive(Clone, Copy, Debug)]
+#[derive(Clone, Copy)]
 pub enum End {
     /// At the program's end, or with EXIT.
     Done,

@@ -1,6 +1,7 @@
 // The statements of a program.
 ghost use Rattle.std.specs.Prelude.{◌≡◌, ◌≤◌, length};
 ghost use Rattle.control_verbs.specs.Shown.{shown};
+ghost use Rattle.control_compiler.specs.Valid.{IsProgram};
 ghost use Rattle.control_run.specs.Stage.{stage};
 ghost use Rattle.control_run.specs.Standing.{IsSound};
 ghost use Rattle.control_run.specs.Statements.{IsSoundVerb, Executes};
@@ -41,9 +42,11 @@ fn execute<P: Sink>(
         Verb::Mvadr(demand, position) => Ok(machine.set_demand(*demand, *position)),
         Verb::Goto(position) => Ok(machine.jump(*position)),
         Verb::Convert | Verb::Setup(_) | Verb::Primal | Verb::Solution => Err(Halt::NoMemory),
-        Verb::Revise | Verb::Ranging | Verb::Paraobj | Verb::Pararhs | Verb::Bcdout => {
-            Ok(Act::Ends(End::NotBuilt))
-        }
+        Verb::Revise => Ok(Act::Ends(End::NotBuilt)),
+        Verb::Ranging => Ok(Act::Ends(End::NotBuilt)),
+        Verb::Paraobj => Ok(Act::Ends(End::NotBuilt)),
+        Verb::Pararhs => Ok(Act::Ends(End::NotBuilt)),
+        Verb::Bcdout => Ok(Act::Ends(End::NotBuilt)),
         Verb::Exit => Ok(machine.exit()),
     }
 }
@@ -57,6 +60,7 @@ pub fn step<P: Sink>(
     print: &mut P,
     position: u32,
 ) -> Result<Turn, Halt>
+    requires valid { IsProgram program.now }
     requires first { 1 ≤ position }
     requires within { position ≤ length program.now.statements }
     requires sound { IsSound cards.now machine.old }
