@@ -59,8 +59,8 @@ module _ (S : Solving) (program : Program) (cards : List (List ℕ)) (position :
   leads_by old new s within gain (act.Jump to) c = (record (c.0) { position = to }, step_of s within _ c.1, placed_stands to to c.2 refl, c.3)
   leads_by old new s within gain (act.Ends end) c = step_of s within _ c
 
-  module _ {P : Type 0} (written : P → Option (List ℕ)) (faults refusals : P → ℕ) {print_old print_new : P} (old new : Machine) where
-    pub steps_to : (act : Act) (turn : Turn) → turn ≡ turn_of position act → Executes S statement.verb statement.card written faults refusals print_old print_new cards old new (Ok act) →
+  module _ {P : Type 0} (written : P → Option (List ℕ)) (faults refusals : P → ℕ) (old new : Machine) where
+    pub steps_to : {print_old print_new : P} (act : Act) (turn : Turn) → turn ≡ turn_of position act → Executes S statement.verb statement.card written faults refusals print_old print_new cards old new (Ok act) →
         Steps S program cards written faults refusals print_old print_new position old new (Ok turn)
     steps_to act turn is executes = λ executed state within s.
         let a = executes position (executed + 1) (counted state) (counted_stands s) in
@@ -71,13 +71,13 @@ module _ (S : Solving) (program : Program) (cards : List (List ℕ)) (position :
           writes = a.writes;
         }
 
-    pub steps_cut : (stop : WriteStop) → Executes S statement.verb statement.card written faults refusals print_old print_new cards old new (Err (halt.Print stop)) →
+    pub steps_cut : {print_old print_new : P} (stop : WriteStop) → Executes S statement.verb statement.card written faults refusals print_old print_new cards old new (Err (halt.Print stop)) →
         Steps S program cards written faults refusals print_old print_new position old new (Err (halt.Print stop))
     steps_cut stop executes = λ executed state within s.
         let a = executes position (executed + 1) (counted state) (counted_stands s) in
         record { outcome = a.outcome; no_cards = a.no_cards; step = step_of s within a.outcome a.gives; writes = a.writes }
 
-    pub steps_err : (h : Halt) → Executes S statement.verb statement.card written faults refusals print_old print_new cards old new (Err h) →
-        Steps S program cards written faults refusals print_old print_new position old new (Err h)
-    steps_err (halt.Print stop) executes = steps_cut stop executes
-    steps_err halt.NoMemory executes = executes
+    pub steps_err : (from to : P) (h : Halt) → Executes S statement.verb statement.card written faults refusals from to cards old new (Err h) →
+        Steps S program cards written faults refusals from to position old new (Err h)
+    steps_err from to (halt.Print stop) executes = steps_cut stop executes
+    steps_err from to halt.NoMemory executes = executes

@@ -1,5 +1,5 @@
 -- A run that is underway, and what each statement makes of it.
-use Rattle.std.proofs.Common.{◌≡◌, ℕ, ◌+◌, ◌-◌, ◌≤◌, ◌<◌, List, [], ◌++◌, Option, Ok, Err, drop, length, refl, sym, ap, subst, arith}
+use Rattle.std.proofs.Common.{◌≡◌, ℕ, ◌+◌, ◌-◌, ◌≤◌, ◌<◌, List, [], ◌++◌, Option, Ok, Err, MatchResult, drop, length, refl, sym, ap, subst, arith}
 use Rattle.job_devices.proofs.TextLemmas.{writes_then, writes_same, writes_nothing}
 use Rattle.job_devices.specs.declared.device.WriteStop.{WriteStop}
 use Rattle.job_devices.specs.Text.{Writes}
@@ -20,6 +20,7 @@ use Rattle.control_run.specs.declared.act.Turn.TheVariants.{Goes, Ends}
 use Rattle.control_run.specs.declared.end.End.{End}
 use Rattle.control_run.specs.declared.machine.Machine.{Machine}
 use Rattle.control_run.specs.Ends.{end_shown}
+use Rattle.control_run.specs.Turning.{end_of_halt}
 use Rattle.control_run.specs.Standing.{IsSound, Stands}
 use Rattle.control_run.specs.Statements.{gain_text, gain_of}
 use Rattle.control_run.specs.Running.{decks_behind, by_itself, for_memory, CanEnd, Turns, IsStepCut, Steps, RunsTo, IsRunCut}
@@ -149,16 +150,10 @@ module _ (S : Solving) (program : Program) (cards : List (List ℕ)) where
     underway_ends {now = now} {later = later} new {executed = executed} turn end is u within steps =
         underway_ended {new = new} end u (subst (λ (t : Turn). Turns S program cards written faults refusals now later executed u.state new t) is (steps executed u.state within u.stands))
 
-    pub underway_out_of_memory : {old now later : P} {machine : Machine} (new : Machine) {position executed : ℕ} (h : Halt) → h ≡ halt.NoMemory →
-        (u : IsUnderway S program cards written faults refusals old now machine position executed) →
-        Steps S program cards written faults refusals now later position machine new (Err h) → RunsTo S program cards written faults refusals old later Memory
-    underway_out_of_memory {now = now} {later = later} {machine = machine} new {position = position} h is u steps =
-        underway_without_memory u (subst (λ (x : Halt). Steps S program cards written faults refusals now later position machine new (Err x)) is steps)
-
-    pub underway_stopped : {old now later : P} {machine : Machine} (new : Machine) {position executed : ℕ} (h : Halt) (stop : WriteStop) → h ≡ halt.Print stop →
+    -- a statement comes to nothing
+    pub underway_halted : {old now : P} (later : P) {machine : Machine} (new : Machine) {position executed : ℕ} (h : Halt) →
         (u : IsUnderway S program cards written faults refusals old now machine position executed) → executed < 100000 →
-        Steps S program cards written faults refusals now later position machine new (Err h) → IsRunCut S program cards written faults refusals old later stop
-    underway_stopped {now = now} {later = later} {machine = machine} new {position = position} {executed = executed} h stop is u within steps =
-        let at : Steps S program cards written faults refusals now later position machine new (Err (halt.Print stop)) =
-        subst (λ (x : Halt). Steps S program cards written faults refusals now later position machine new (Err x)) is steps in
-        underway_cut stop u (at executed u.state within u.stands)
+        Steps S program cards written faults refusals now later position machine new (Err h) →
+        MatchResult (end_of_halt h) (λ end. RunsTo S program cards written faults refusals old later (end_shown end)) (IsRunCut S program cards written faults refusals old later)
+    underway_halted later new halt.NoMemory u within steps = underway_without_memory u steps
+    underway_halted later new {executed = executed} (halt.Print stop) u within steps = underway_cut stop u (steps executed u.state within u.stands)

@@ -1,19 +1,21 @@
 -- What is built of the verbs, and what a run knows of linear programming while not all is.
-use Rattle.std.specs.Prelude.{ℕ, Bool, true, false, ◌&&◌, is_none}
-use Rattle.control_definitions.specs.Program.{Verb, Setup, Revise, Ranging, Paraobj, Pararhs, Bcdout}
+use Rattle.std.specs.Prelude.{ℕ, Bool, true, false}
+use Rattle.control_definitions.specs.Program.{Verb, Initialz, Title, MoveName, MoveNumber, MoveLimit, Mvadr, Goto, Exit}
 use Rattle.solver_definitions.specs.Solving.{Solving}
 use Rattle.solving_definitions.specs.Real.{staged}
-use Rattle.opening_path.specs.Missing.{IsMissing}
 
--- Nothing is built of REVISE, RANGE, PARAOBJ, PARARHS and BCDOUT, nor of a SETUP that names a bound set or a range set.
+-- What is built are the verbs that ask nothing of a deck, and nothing of linear programming.
 abbrev pub builds : Verb ℕ → Bool
-builds (Setup options) = is_none options.bound && is_none options.range
-builds Revise = false
-builds Ranging = false
-builds Paraobj = false
-builds Pararhs = false
-builds Bcdout = false
-builds _ = true
+builds Initialz = true
+builds (Title text) = true
+builds (MoveName cell name) = true
+builds (MoveNumber cell value) = true
+builds (MoveLimit limit) = true
+builds (Mvadr demand position) = true
+builds (Goto position) = true
+builds Exit = true
+builds _ = false
 
+-- no path is followed, so that none is missing
 unfoldable pub stage : Solving
-stage = staged builds IsMissing
+stage = staged builds (λ sheet basis limit. ⊥)

@@ -41,7 +41,10 @@ fn execute<P: Sink>(
         Verb::MoveLimit(limit) => Ok(machine.move_limit(*limit)),
         Verb::Mvadr(demand, position) => Ok(machine.set_demand(*demand, *position)),
         Verb::Goto(position) => Ok(machine.jump(*position)),
-        Verb::Convert | Verb::Setup(_) | Verb::Primal | Verb::Solution => Err(Halt::NoMemory),
+        Verb::Convert => Ok(Act::Ends(End::NotBuilt)),
+        Verb::Setup(_) => Ok(Act::Ends(End::NotBuilt)),
+        Verb::Primal => Ok(Act::Ends(End::NotBuilt)),
+        Verb::Solution => Ok(Act::Ends(End::NotBuilt)),
         Verb::Revise => Ok(Act::Ends(End::NotBuilt)),
         Verb::Ranging => Ok(Act::Ends(End::NotBuilt)),
         Verb::Paraobj => Ok(Act::Ends(End::NotBuilt)),
@@ -67,14 +70,7 @@ pub fn step<P: Sink>(
     ensures steps { Steps stage program.now cards.now P.written P.faults P.refusals print.old print.new position machine.old machine.new result }
     ensures sound { IsSound cards.now machine.new }
 {
-    let statement = program.statement(position);
-    let act = execute(
-        alloc,
-        machine,
-        cards,
-        print,
-        statement.card,
-        &statement.verb,
-    )?;
+    let next = program.statement(position);
+    let act = execute(alloc, machine, cards, print, next.card, &next.verb)?;
     Ok(act.turn(position))
 }

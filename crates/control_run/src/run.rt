@@ -6,6 +6,7 @@ ghost use Rattle.job_devices.specs.Causes.{Rose};
 ghost use Rattle.run_definitions.specs.Answer.{Job, bytes_of, IsProgramOf, IsAnswered};
 ghost use Rattle.control_run.specs.Stage.{stage};
 ghost use Rattle.control_run.specs.Ends.{end_shown, code_of};
+ghost use Rattle.control_run.specs.Turning.{end_of_halt};
 ghost use Rattle.control_run.specs.Running.{RunsTo, IsRunCut, IsRunAnswer};
 
 use crate::act::{Halt, Turn};
@@ -31,6 +32,16 @@ fn first_behind(program: &Program, cards: &Cards) -> u32
     program.decks_from().max(1).min(cards.count() + 1)
 }
 
+// How the run ends where a statement comes to nothing.
+fn end_of(halt: Halt) -> Result<End, WriteStop>
+    ensures { result ≡ end_of_halt halt }
+{
+    match halt {
+        Halt::NoMemory => Ok(End::Memory),
+        Halt::Print(stop) => Err(stop),
+    }
+}
+
 // Executes the statements of a program until the run ends.
 fn run<P: Sink>(
     alloc: Global,
@@ -53,8 +64,7 @@ fn run<P: Sink>(
         match step(alloc, &mut machine, program, cards, print, position) {
             Ok(Turn::Goes(to)) => position = to,
             Ok(Turn::Ends(end)) => return Ok(end),
-            Err(Halt::NoMemory) => return Ok(End::Memory),
-            Err(Halt::Print(stop)) => return Err(stop),
+            Err(halt) => return end_of(halt),
         }
     }
     Ok(End::Done)

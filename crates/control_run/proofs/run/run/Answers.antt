@@ -1,7 +1,7 @@
 -- The run goes on statement by statement, and ends.
 use Rattle.std.proofs.Common.{arith}
 use Rattle.control_run.specs.Stage.{stage}
-use Rattle.control_run.proofs.Underway.{underway_first, underway_goes, underway_ends, underway_over, underway_at_limit, underway_out_of_memory, underway_stopped}
+use Rattle.control_run.proofs.Underway.{underway_first, underway_goes, underway_ends, underway_over, underway_at_limit, underway_halted}
 use Rattle.control_run.proofs.run.run.Goals as goal
 
 pub loop-position-init : goal.loop-position-init
@@ -21,13 +21,8 @@ pub returns-in-Ok-Ends : goal.returns-in-Ok-Ends
 returns-in-Ok-Ends g c =
     underway_ends stage c.args.program.now c.args.cards.now g.P.Sink.written g.P.Sink.faults g.P.Sink.refusals c.step.new.machine c.in-Ok-Ends.field-0 c.in-Ok-Ends.end c.in-Ok-Ends.field-0-is c.loop-position.invariant (omega arith) c.in-Ok-Ends.ensures.steps
 
-pub returns-in-Err-NoMemory : goal.returns-in-Err-NoMemory
-returns-in-Err-NoMemory g c =
-    underway_out_of_memory stage c.args.program.now c.args.cards.now g.P.Sink.written g.P.Sink.faults g.P.Sink.refusals c.step.new.machine c.in-Err-NoMemory.field-0 c.in-Err-NoMemory.field-0-is c.loop-position.invariant c.in-Err-NoMemory.ensures.steps
-
-pub returns-in-Err-Print : goal.returns-in-Err-Print
-returns-in-Err-Print g c =
-    underway_stopped stage c.args.program.now c.args.cards.now g.P.Sink.written g.P.Sink.faults g.P.Sink.refusals c.step.new.machine c.in-Err-Print.field-0 c.in-Err-Print.stop c.in-Err-Print.field-0-is c.loop-position.invariant (omega arith) c.in-Err-Print.ensures.steps
+pub returns-in-Err : goal.returns-in-Err
+returns-in-Err g c = rw c.end_of.ensures (underway_halted stage c.args.program.now c.args.cards.now g.P.Sink.written g.P.Sink.faults g.P.Sink.refusals c.step.new.print c.step.new.machine c.in-Err.halt c.loop-position.invariant (omega arith) c.in-Err.ensures.steps)
 
 pub returns : goal.returns
 returns g c = underway_over stage c.args.program.now c.args.cards.now g.P.Sink.written g.P.Sink.faults g.P.Sink.refusals c.loop-position.invariant (omega (arith, c.count.ensures.count, c.loop-position-test.false))
