@@ -1,9 +1,8 @@
 -- What a run is answered, and what its job is answered then.
-use Rattle.std.proofs.Common.{◌≡◌, ℕ, List, [], ◌++◌, Option, None, Some, Ok, Err, refl, sym, ap, subst, arith, ◌∙◌}
-use Rattle.std.specs.Io.KnownBytes.{Appends, Keeps}
+use Rattle.std.proofs.Common.{◌≡◌, ℕ, List, [], ◌++◌, Option, None, Some, refl, sym, ap, subst, arith, ◌∙◌}
+use Rattle.std.specs.Io.KnownBytes.{Appends}
 use Rattle.job_devices.proofs.TextLemmas.{Appends-nothing, AppendsFront-more, writes_then}
 use Rattle.job_devices.specs.Causes.{Rose}
-use Rattle.job_devices.specs.Text.{AppendsFront}
 use Rattle.job_devices.specs.declared.device.WriteStop.{WriteStop}
 use Rattle.job_devices.specs.declared.device.WriteStop.TheVariants.{Failed, NoMemory}
 use Rattle.card_definitions.specs.Cards.{cards_of}

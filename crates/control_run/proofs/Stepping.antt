@@ -1,12 +1,12 @@
 -- A statement at a position, and where it leads.
-use Rattle.std.proofs.Common.{◌≡◌, ℕ, ◌+◌, ◌-◌, ◌<◌, ◌≤◌, List, Option, Some, Ok, Err, slice_get, refl, sym, ap, subst, arith}
+use Rattle.std.proofs.Common.{◌≡◌, ℕ, ◌+◌, ◌-◌, ◌<◌, List, Option, Some, Ok, Err, slice_get, refl, sym, ap, subst, arith}
 use Rattle.job_devices.specs.declared.device.WriteStop.{WriteStop}
 use Rattle.control_definitions.specs.Program.{Statement, Program}
 use Rattle.solver_definitions.specs.Solving.{Solving}
 use Rattle.run_definitions.specs.State.{State}
-use Rattle.run_definitions.specs.Moves.{Gain, Outcome, Gives, Goes as GoesOn, Ends as EndsRun}
+use Rattle.run_definitions.specs.Moves.{Gain, Outcome, Gives}
 use Rattle.run_definitions.specs.Verbs.{statement_move}
-use Rattle.run_definitions.specs.Run.{counted, max_executed, Step}
+use Rattle.run_definitions.specs.Run.{counted, Step}
 use Rattle.control_run.specs.declared.act.Act.{Act}
 use Rattle.control_run.specs.declared.act.Act.TheVariants as act
 use Rattle.control_run.specs.declared.act.Halt.{Halt}

@@ -6,7 +6,7 @@ use Rattle.control_definitions.specs.Program.{Verb, Title}
 use Rattle.listing_definitions.specs.Report.{Titled}
 use Rattle.listing_definitions.specs.Text.{report_text}
 use Rattle.run_definitions.specs.State.{State}
-use Rattle.run_definitions.specs.Moves.{Nothing, Prints, next, Gives, stops}
+use Rattle.run_definitions.specs.Moves.{Prints, next, Gives, stops}
 use Rattle.listing_definitions.specs.Ending as endings
 use Rattle.run_definitions.specs.Verbs.{if_built, statement_move, verb_move}
 use Rattle.control_run.specs.declared.act.Act.TheVariants.{Next, Ends}

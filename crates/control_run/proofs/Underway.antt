@@ -1,5 +1,5 @@
 -- A run that is underway, and what each statement makes of it.
-use Rattle.std.proofs.Common.{◌≡◌, ℕ, ◌+◌, ◌-◌, ◌≤◌, ◌<◌, List, [], ◌++◌, Option, Ok, Err, MatchResult, drop, length, refl, sym, ap, subst, arith}
+use Rattle.std.proofs.Common.{◌≡◌, ℕ, ◌+◌, ◌-◌, ◌≤◌, ◌<◌, List, [], ◌++◌, Option, Ok, Err, MatchResult, drop, length, sym, subst, arith}
 use Rattle.job_devices.proofs.TextLemmas.{writes_then, writes_same, writes_nothing}
 use Rattle.job_devices.specs.declared.device.WriteStop.{WriteStop}
 use Rattle.job_devices.specs.Text.{Writes}
@@ -12,7 +12,7 @@ use Rattle.listing_definitions.specs.Listing.{reports_text}
 use Rattle.solver_definitions.specs.Solving.{Solving}
 use Rattle.run_definitions.specs.State.{State, start}
 use Rattle.run_definitions.specs.Moves.{Gain, printed_by, punched_by, Outcome, Goes as GoesOn, Ends as EndsRun}
-use Rattle.run_definitions.specs.Run.{max_executed, Step, Reaches, begun, stepped, IsRun, is_over, is_ended, at_end, at_limit}
+use Rattle.run_definitions.specs.Run.{Step, Reaches, begun, stepped, IsRun, is_over, is_ended, at_end, at_limit}
 use Rattle.control_run.specs.declared.act.Halt.{Halt}
 use Rattle.control_run.specs.declared.act.Halt.TheVariants as halt
 use Rattle.control_run.specs.declared.act.Turn.{Turn}
@@ -23,7 +23,7 @@ use Rattle.control_run.specs.Ends.{end_shown}
 use Rattle.control_run.specs.Turning.{end_of_halt}
 use Rattle.control_run.specs.Standing.{IsSound, Stands}
 use Rattle.control_run.specs.Statements.{gain_text, gain_of}
-use Rattle.control_run.specs.Running.{decks_behind, by_itself, for_memory, CanEnd, Turns, IsStepCut, Steps, RunsTo, IsRunCut}
+use Rattle.control_run.specs.Running.{decks_behind, by_itself, for_memory, Turns, IsStepCut, Steps, RunsTo, IsRunCut}
 use Rattle.control_run.proofs.Gains.{reports_text_more}
 
 -- the run has come to a state that the machine shows, and its reports so far are printed

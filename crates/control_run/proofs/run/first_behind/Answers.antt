@@ -1,4 +1,4 @@
-use Rattle.std.proofs.Common.{◌≡◌, ◌+◌, min, max, length, arith}
+use Rattle.std.proofs.Common.{arith}
 use Rattle.control_run.proofs.Clamping.{same_behind}
 use Rattle.control_run.proofs.run.first_behind.Goals as goal
 

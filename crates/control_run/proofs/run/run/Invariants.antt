@@ -1,5 +1,5 @@
 -- The run is underway.
-use Rattle.std.proofs.Common.{ℕ, ◌-◌}
+use Rattle.std.proofs.Common.{◌-◌}
 use Rattle.control_run.specs.Stage.{stage}
 use Rattle.control_run.proofs.Underway.{IsUnderway}
 use Rattle.control_run.proofs.run.run.Given as goal
