@@ -8,3 +8,8 @@ pub mod Stepping
 pub mod Titling
 pub mod Ending_lines
 pub mod Sound
+pub mod Opening_laws
+pub mod Setting
+pub mod Showing
+pub mod Walking
+pub mod Refusing

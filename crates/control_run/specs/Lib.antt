@@ -5,3 +5,4 @@ pub mod Statements
 pub mod Running
 pub mod Turning
 pub mod Finishing
+pub mod Selecting

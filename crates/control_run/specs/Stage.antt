@@ -1,21 +1,20 @@
 -- What is built of the verbs, and what a run knows of linear programming while not all is.
-use Rattle.std.specs.Prelude.{ℕ, Bool, true, false}
-use Rattle.control_definitions.specs.Program.{Verb, Initialz, Title, MoveName, MoveNumber, MoveLimit, Mvadr, Goto, Exit}
+use Rattle.std.specs.Prelude.{ℕ, Bool, true, false, ◌&&◌, is_none}
+use Rattle.control_definitions.specs.Program.{Verb, Setup, Convert, Revise, Ranging, Paraobj, Pararhs, Bcdout}
 use Rattle.solver_definitions.specs.Solving.{Solving}
 use Rattle.solving_definitions.specs.Real.{staged}
+use Rattle.opening_path.specs.Missing.{IsMissing}
 
--- What is built are the verbs that ask nothing of a deck, and nothing of linear programming.
+-- Nothing is built of CONVERT, REVISE, RANGE, PARAOBJ, PARARHS and BCDOUT, nor of a SETUP that names a bound set or a range set.
 abbrev pub builds : Verb ℕ → Bool
-builds Initialz = true
-builds (Title text) = true
-builds (MoveName cell name) = true
-builds (MoveNumber cell value) = true
-builds (MoveLimit limit) = true
-builds (Mvadr demand position) = true
-builds (Goto position) = true
-builds Exit = true
-builds _ = false
+builds (Setup options) = is_none options.bound && is_none options.range
+builds Convert = false
+builds Revise = false
+builds Ranging = false
+builds Paraobj = false
+builds Pararhs = false
+builds Bcdout = false
+builds _ = true
 
--- no path is followed, so that none is missing
 unfoldable pub stage : Solving
-stage = staged builds (λ sheet basis limit. ⊥)
+stage = staged builds IsMissing

@@ -30,9 +30,6 @@ fn execute<P: Sink>(
     ensures acts { Executes stage (shown verb.now) card P.written P.faults P.refusals print.old print.new cards.now machine.old machine.new result }
     ensures sound { IsSound cards.now machine.new }
 {
-    let _ = alloc;
-    let _ = cards;
-    let _ = card;
     match verb {
         Verb::Initialz => Ok(machine.initialize()),
         Verb::Title(text) => print_title(print, text),
@@ -42,9 +39,14 @@ fn execute<P: Sink>(
         Verb::Mvadr(demand, position) => Ok(machine.set_demand(*demand, *position)),
         Verb::Goto(position) => Ok(machine.jump(*position)),
         Verb::Convert => Ok(Act::Ends(End::NotBuilt)),
-        Verb::Setup(_) => Ok(Act::Ends(End::NotBuilt)),
-        Verb::Primal => Ok(Act::Ends(End::NotBuilt)),
-        Verb::Solution => Ok(Act::Ends(End::NotBuilt)),
+        Verb::Setup(options) => {
+            if options.bound.is_some() || options.range.is_some() {
+                return Ok(Act::Ends(End::NotBuilt));
+            }
+            machine.set_up(alloc, cards, print, card, options.sense)
+        }
+        Verb::Primal => machine.solve(alloc, cards, print, card),
+        Verb::Solution => machine.show(alloc, cards, print, card),
         Verb::Revise => Ok(Act::Ends(End::NotBuilt)),
         Verb::Ranging => Ok(Act::Ends(End::NotBuilt)),
         Verb::Paraobj => Ok(Act::Ends(End::NotBuilt)),

@@ -7,7 +7,11 @@ mod end;
 mod execute;
 mod finish;
 mod machine;
+mod primal;
 mod run;
+mod selection;
+mod setup;
+mod solution;
 mod status;
 mod title;
 

@@ -40,12 +40,6 @@ returns-in-Exit-clause-acts g c =
 pub returns-in-Convert-clause-acts : goal.returns-in-Convert-clause-acts
 returns-in-Convert-clause-acts g c = rw c.in-Convert.is (unbuilt_executes g.P.Sink.written g.P.Sink.faults g.P.Sink.refusals c.args.print.now program.Convert c.args.card c.args.cards.now c.args.machine.now refl)
 
-pub returns-in-Primal-clause-acts : goal.returns-in-Primal-clause-acts
-returns-in-Primal-clause-acts g c = rw c.in-Primal.is (unbuilt_executes g.P.Sink.written g.P.Sink.faults g.P.Sink.refusals c.args.print.now program.Primal c.args.card c.args.cards.now c.args.machine.now refl)
-
-pub returns-in-Solution-clause-acts : goal.returns-in-Solution-clause-acts
-returns-in-Solution-clause-acts g c = rw c.in-Solution.is (unbuilt_executes g.P.Sink.written g.P.Sink.faults g.P.Sink.refusals c.args.print.now program.Solution c.args.card c.args.cards.now c.args.machine.now refl)
-
 pub returns-in-Revise-clause-acts : goal.returns-in-Revise-clause-acts
 returns-in-Revise-clause-acts g c = rw c.in-Revise.is (unbuilt_executes g.P.Sink.written g.P.Sink.faults g.P.Sink.refusals c.args.print.now program.Revise c.args.card c.args.cards.now c.args.machine.now refl)
 
@@ -61,5 +55,8 @@ returns-in-Pararhs-clause-acts g c = rw c.in-Pararhs.is (unbuilt_executes g.P.Si
 pub returns-in-Bcdout-clause-acts : goal.returns-in-Bcdout-clause-acts
 returns-in-Bcdout-clause-acts g c = rw c.in-Bcdout.is (unbuilt_executes g.P.Sink.written g.P.Sink.faults g.P.Sink.refusals c.args.print.now program.Bcdout c.args.card c.args.cards.now c.args.machine.now refl)
 
-pub returns-in-Setup-clause-acts : goal.returns-in-Setup-clause-acts
-returns-in-Setup-clause-acts g c = rw c.in-Setup.is (unbuilt_executes g.P.Sink.written g.P.Sink.faults g.P.Sink.refusals c.args.print.now _ c.args.card c.args.cards.now c.args.machine.now refl)
+pub returns-in-Primal-clause-acts : goal.returns-in-Primal-clause-acts
+returns-in-Primal-clause-acts g c = rw c.in-Primal.is c.solve.ensures.acts
+
+pub returns-in-Solution-clause-acts : goal.returns-in-Solution-clause-acts
+returns-in-Solution-clause-acts g c = rw c.in-Solution.is c.show.ensures
