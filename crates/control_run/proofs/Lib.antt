@@ -13,3 +13,6 @@ pub mod Setting
 pub mod Showing
 pub mod Walking
 pub mod Refusing
+pub mod Filing
+pub mod Printed
+pub mod Sound_setup

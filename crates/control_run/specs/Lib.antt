@@ -6,3 +6,4 @@ pub mod Running
 pub mod Turning
 pub mod Finishing
 pub mod Selecting
+pub mod Converting

@@ -38,7 +38,7 @@ fn execute<P: Sink>(
         Verb::MoveLimit(limit) => Ok(machine.move_limit(*limit)),
         Verb::Mvadr(demand, position) => Ok(machine.set_demand(*demand, *position)),
         Verb::Goto(position) => Ok(machine.jump(*position)),
-        Verb::Convert => Ok(Act::Ends(End::NotBuilt)),
+        Verb::Convert => machine.convert(alloc, cards, print, card),
         Verb::Setup(options) => {
             if options.bound.is_some() || options.range.is_some() {
                 return Ok(Act::Ends(End::NotBuilt));

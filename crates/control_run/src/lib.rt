@@ -3,6 +3,7 @@
 
 mod act;
 mod cells;
+mod convert;
 mod end;
 mod execute;
 mod finish;

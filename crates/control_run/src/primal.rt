@@ -21,7 +21,7 @@ use report_text::{Report, Sheet, text_of};
 use std::alloc::Global;
 
 /// How a path ends.
-#[derive(Clone, Copy, Debug)]
+#[derive(Clone, Copy)]
 pub enum Walked {
     /// With a verdict of this mark.
     Verdict(Mark),

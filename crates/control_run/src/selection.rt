@@ -14,7 +14,7 @@ use run_cells::Cells;
 use std::alloc::Global;
 
 /// Why nothing is selected.
-#[derive(Clone, Copy, Debug)]
+#[derive(Clone, Copy)]
 pub enum Refusal {
     /// The statement is refused.
     Fault(VerbFault),

@@ -20,7 +20,7 @@ use report_text::{Report, text_of};
 use std::alloc::Global;
 
 /// What SETUP finds.
-#[derive(Debug, Drop)]
+#[derive(Drop)]
 pub enum Opened {
     /// This is to be kept.
     Kept(Setup),

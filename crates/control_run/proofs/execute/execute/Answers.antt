@@ -37,9 +37,6 @@ pub returns-in-Exit-clause-acts : goal.returns-in-Exit-clause-acts
 returns-in-Exit-clause-acts g c =
     rw c.in-Exit.is (quietly stage program.Exit c.args.card g.P.Sink.written g.P.Sink.faults g.P.Sink.refusals c.args.cards.now c.args.machine.now c.args.print.now (c.exit.ensures c.args.card c.args.cards.now))
 
-pub returns-in-Convert-clause-acts : goal.returns-in-Convert-clause-acts
-returns-in-Convert-clause-acts g c = rw c.in-Convert.is (unbuilt_executes g.P.Sink.written g.P.Sink.faults g.P.Sink.refusals c.args.print.now program.Convert c.args.card c.args.cards.now c.args.machine.now refl)
-
 pub returns-in-Revise-clause-acts : goal.returns-in-Revise-clause-acts
 returns-in-Revise-clause-acts g c = rw c.in-Revise.is (unbuilt_executes g.P.Sink.written g.P.Sink.faults g.P.Sink.refusals c.args.print.now program.Revise c.args.card c.args.cards.now c.args.machine.now refl)
 
@@ -54,6 +51,9 @@ returns-in-Pararhs-clause-acts g c = rw c.in-Pararhs.is (unbuilt_executes g.P.Si
 
 pub returns-in-Bcdout-clause-acts : goal.returns-in-Bcdout-clause-acts
 returns-in-Bcdout-clause-acts g c = rw c.in-Bcdout.is (unbuilt_executes g.P.Sink.written g.P.Sink.faults g.P.Sink.refusals c.args.print.now program.Bcdout c.args.card c.args.cards.now c.args.machine.now refl)
+
+pub returns-in-Convert-clause-acts : goal.returns-in-Convert-clause-acts
+returns-in-Convert-clause-acts g c = rw c.in-Convert.is c.convert.ensures.acts
 
 pub returns-in-Primal-clause-acts : goal.returns-in-Primal-clause-acts
 returns-in-Primal-clause-acts g c = rw c.in-Primal.is c.solve.ensures.acts
