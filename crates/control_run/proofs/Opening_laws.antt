@@ -11,7 +11,7 @@ use Rattle.problem_definitions.specs.Problem.{Problem}
 use Rattle.selection_definitions.specs.declared.SelectionFault.{SelectionFault}
 use Rattle.selection_definitions.specs.Choice.{Choice, selection_fault}
 use Rattle.selection_definitions.specs.Selection.{matrix_of, program_of_choice, selected}
-use Rattle.opening_path.specs.Opening.{AreAtZero}
+use Rattle.opening_turn.specs.Opening.{AreAtZero}
 use Rattle.opening_path.specs.Laws.{SelectionLaws}
 
 unless_ok : {A F : Type 0} (fault : Option F) (value p : A) → unless fault value ≡ Ok p → value ≡ p

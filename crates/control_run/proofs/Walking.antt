@@ -43,7 +43,7 @@ verdict_gain Infeasible report state = demanded_gain state.cells.xdonfs 1 report
 verdict_gain Unbounded report state = demanded_gain state.cells.xdounb 2 report state
 
 -- a demand is obeyed
-demanded_comes : (move : Move) (card : ℕ) {cards : List (List ℕ)} {new : Machine} {position executed : ℕ} {state : State} (demand : Option ℕ) (end : End) (code : ℕ) (report : Report) (after : State) →
+demanded_comes : (move : Move) (card : ℕ) {cards : List (List ℕ)} {new : Machine} {position executed : ℕ} (demand : Option ℕ) (end : End) (code : ℕ) (report : Report) (after : State) →
     IfSome demand (λ to. 1 ≤ to) → Ended code ≡ end_shown end → Stands cards new position executed after → Gives card move (demanded demand code report after) →
     Follows card move cards new position executed (Prints report) (demanded_act demand end)
 demanded_comes move card None end code report after first ends stands given = subst (λ (ending : Ending). Gives card move (EndsRun (Prints report) ending)) ends given
@@ -68,7 +68,7 @@ module _ (card : ℕ) {cards : List (List ℕ)} {machine : Machine} {position ex
     module _ (lp : LinearProgram) (is_selected : selected problem (choice_of machine.cells (without_sets setup.sense)) ≡ Ok lp) where
       -- the path's end decides
       walks_to : (end : PathEnd) → stage.Solves (record { problem = problem; lp = lp }) setup.basis machine.cells.xiterlim end →
-          Gives card (statement_move stage Primal card state) (after_path card (present_of setup problem) state end)
+          Gives card (statement_move stage Primal card state) (after_path stage card (present_of setup problem) state end)
       unfolding stage verb_move
       walks_to end solves =
           gives_found card NoSetup state.setup _ (present_of setup problem) _ present_is
@@ -87,7 +87,7 @@ module _ (card : ℕ) {cards : List (List ℕ)} {machine : Machine} {position ex
       pub walks_cut : (verdict : Verdict) (check : Check) → stage.Solves (record { problem = problem; lp = lp }) setup.basis machine.cells.xiterlim (Reached [] verdict check) →
           (outcome : Outcome) × Gives card (statement_move stage Primal card state) outcome × (gain_of outcome ≡ Prints (Solved ByPrimal verdict check))
       walks_cut verdict check solves = (
-        after_path card (present_of setup problem) state (Reached [] verdict check),
+        after_path stage card (present_of setup problem) state (Reached [] verdict check),
         walks_to (Reached [] verdict check) solves,
         verdict_gain (mark_of verdict) (Solved ByPrimal verdict check) _,
       )

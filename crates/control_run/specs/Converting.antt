@@ -33,4 +33,4 @@ abbrev pub Describes : Solving → ℕ → List (List ℕ) → Machine → Resul
 Describes S card cards machine (Ok (Filed problem next)) = IsDescribed cards machine problem next
 Describes S card cards machine (Ok (Ends end)) =
     (position executed : ℕ) (state : State) → Stands cards machine position executed state → Comes S Convert card cards position executed state machine Nothing (act.Ends end)
-Describes S card cards machine (Err halt) = halt ≡ halt.NoMemory
+Describes S card cards machine (Err stop) = stop ≡ halt.NoMemory

@@ -16,7 +16,7 @@ use control_definitions::Demand;
 use job_devices::Sink;
 use listing_definitions::{Mark, Solver, VerbFault};
 use lp_model::Outcome;
-use opening_path::{PathAnswer, path_at_opening};
+use opening_path::{PathAnswer, path_at_opening, selection_laws};
 use report_text::{Report, Sheet, text_of};
 use std::alloc::Global;
 
@@ -74,6 +74,7 @@ impl Machine {
         ensures { Walks stage card P.written P.faults P.refusals print.old print.new cards.now self.now result }
     {
         let _ = cards;
+        selection_laws();
         let Some(setup) = &self.setup else {
             return Ok(Walked::Ends(verb_end(VerbFault::NoSetup, card)));
         };

@@ -16,6 +16,7 @@ use job_devices::Sink;
 use listing_definitions::VerbFault;
 use lp_model::Basis;
 use name_table::Name;
+use opening_path::selection_laws;
 use report_text::{Report, text_of};
 use std::alloc::Global;
 
@@ -91,6 +92,7 @@ impl Machine {
         ensures sound { IsSound cards.now self.new }
     {
         let _ = cards;
+        selection_laws();
         match self.opened(alloc, print, card, sense)? {
             Opened::Ends(end) => Ok(Act::Ends(end)),
             Opened::Kept(setup) => {

@@ -12,7 +12,7 @@ use crate::setup::verb_end;
 use card_reader::Cards;
 use job_devices::Sink;
 use listing_definitions::VerbFault;
-use opening_path::solution_at_opening;
+use opening_path::{selection_laws, solution_at_opening};
 use report_text::{Report, Sheet, text_of};
 use std::alloc::Global;
 
@@ -29,6 +29,7 @@ impl Machine {
         ensures { Executes stage program.Solution card P.written P.faults P.refusals print.old print.new cards.now self.now self.now result }
     {
         let _ = cards;
+        selection_laws();
         let Some(setup) = &self.setup else {
             return Ok(Act::Ends(verb_end(VerbFault::NoSetup, card)));
         };
