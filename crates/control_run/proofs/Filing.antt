@@ -1,12 +1,15 @@
 -- What CONVERT comes to.
-use Rattle.std.proofs.Common.{◌≡◌, ℕ, ◌-◌, Bool, true, false, List, [], ◌∷◌, Option, None, Some, Result, Ok, Err, if◌then◌else◌, drop, refl, sym, ap, subst, ◌∙◌}
+use Rattle.std.proofs.Common.{◌≡◌, ℕ, ◌+◌, ◌-◌, ◌≤◌, length, arith, Bool, true, false, List, [], ◌∷◌, Option, None, Some, Result, Ok, Err, if◌then◌else◌, drop, refl, sym, ap, subst, ◌∙◌}
 use Rattle.std.specs.Prelude.{option_and_then, bytes_eq}
 use Rattle.std.proofs.lemmas.Slice.Eq.{bytes_eq-Decides}
 use Rattle.std.proofs.lemmas.Bool.Decides.{same_from_decides}
-use Rattle.card_definitions.specs.Cards.{Card, numbered_cards}
+use Rattle.card_definitions.specs.Cards.{Card, numbered_cards, cards_between}
 use Rattle.deck_definitions.specs.declared.DeckFault.{DeckFault}
 use Rattle.deck_definitions.specs.Decks.{decks_of, deck_taken}
 use Rattle.deck_definitions.specs.Conversion.{conversion}
+use Rattle.deck_fields.specs.declared.stop.DeckStop.{DeckStop}
+use Rattle.deck_fields.specs.declared.stop.DeckStop.TheVariants.{Fault, NoMemory}
+use Rattle.mps_convert.specs.Conversion.{Refuses}
 use Rattle.problem_definitions.specs.Names.{Name, same}
 use Rattle.problem_definitions.specs.Problem.{Problem}
 use Rattle.problem_file.specs.Filed.{Filed, filed_under}
@@ -18,12 +21,13 @@ use Rattle.run_definitions.specs.State.{State, problem_of}
 use Rattle.run_definitions.specs.Moves.{Nothing, Prints, Outcome, stops, Move, Gives}
 use Rattle.run_definitions.specs.Verbs.{deck_stop, or_deck_fault, size_of, verb_move}
 use Rattle.control_run.specs.declared.act.Act.TheVariants.{Next, Ends}
+use Rattle.control_run.specs.declared.convert.Described.TheVariants as described
 use Rattle.control_run.specs.declared.end.End.TheVariants.{Verb, Deck}
 use Rattle.control_run.specs.declared.machine.Machine.{Machine}
 use Rattle.control_run.specs.Stage.{stage}
 use Rattle.control_run.specs.Standing.{named, filed, Stands}
 use Rattle.control_run.specs.Statements.{Comes}
-use Rattle.control_run.specs.Converting.{decks_from, IsDescribed}
+use Rattle.control_run.specs.Converting.{decks_from, IsDescribed, Describes, stopped_at}
 use Rattle.control_run.proofs.Giving.{gives_fault, gives_found}
 
 same_either_way : (a b : Name) → same a b ≡ same b a
@@ -87,3 +91,31 @@ module _ (card : ℕ) {cards : List (List ℕ)} {machine : Machine} {position ex
       mark = refl;
     },
   )
+
+-- ---- a deck and what it describes
+
+-- the decks behind a card are those from the next card on
+pub described_by : (cards : List (List ℕ)) (machine : Machine) (problem : Problem ℕ) (wanted : Option Name) (deck : List Card) (last next : ℕ) → wanted ≡ machine.cells.xdata →
+    deck_taken wanted (decks_from machine.decks_from cards) ≡ Some (deck, decks_of (drop last (numbered_cards cards))) → conversion deck machine.cells.xpbname ≡ Ok problem →
+    last ≤ length cards → next ≡ last + 1 → IsDescribed cards machine problem next
+described_by cards machine problem wanted deck last next same taken converts within is =
+    let behind : last ≡ next - 1 = omega (arith, is) in
+    record {
+      deck = deck;
+      is_taken = subst (λ (n : ℕ). deck_taken machine.cells.xdata (decks_from machine.decks_from cards) ≡ Some (deck, decks_of (drop n (numbered_cards cards)))) behind
+          (subst (λ (w : Option Name). deck_taken w (decks_from machine.decks_from cards) ≡ Some (deck, decks_of (drop last (numbered_cards cards)))) same taken);
+      converts = converts;
+      first = omega (arith, is);
+      last = omega (arith, is, within);
+    }
+
+module _ (card : ℕ) (cards : List (List ℕ)) (machine : Machine) (wanted : Option Name) (same_name : wanted ≡ machine.cells.xdata) where
+  pub finds_no_deck : deck_taken wanted (decks_from machine.decks_from cards) ≡ None → Describes stage card cards machine (Ok (described.Ends (Verb DeckNotFound card)))
+  finds_no_deck none = λ position executed state s.
+      converts_nothing card s (subst (λ (w : Option Name). deck_taken w (decks_from machine.decks_from cards) ≡ None) same_name none)
+
+  pub deck_refused : (deck : List Card) (rest : List (List Card)) (stop : DeckStop) → deck_taken wanted (decks_from machine.decks_from cards) ≡ Some (deck, rest) →
+      Refuses deck machine.cells.xpbname stop → Describes stage card cards machine (stopped_at stop)
+  deck_refused deck rest (Fault fault) taken err = λ position executed state s.
+      converts_refused card s deck rest fault (subst (λ (w : Option Name). deck_taken w (decks_from machine.decks_from cards) ≡ Some (deck, rest)) same_name taken) err
+  deck_refused deck rest NoMemory taken err = refl

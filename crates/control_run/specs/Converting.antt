@@ -3,6 +3,8 @@ use Rattle.std.specs.Prelude.{◌≡◌, ℕ, ◌+◌, ◌-◌, ◌≤◌, List,
 use Rattle.card_definitions.specs.Cards.{Card, numbered_cards}
 use Rattle.deck_definitions.specs.Decks.{decks_of, deck_taken}
 use Rattle.deck_definitions.specs.Conversion.{conversion}
+use Rattle.deck_fields.specs.declared.stop.DeckStop.{DeckStop}
+use Rattle.deck_fields.specs.declared.stop.DeckStop.TheVariants.{Fault, NoMemory}
 use Rattle.problem_definitions.specs.Problem.{Problem}
 use Rattle.control_definitions.specs.Program.{Convert}
 use Rattle.solver_definitions.specs.Solving.{Solving}
@@ -13,6 +15,7 @@ use Rattle.control_run.specs.declared.act.Halt.{Halt}
 use Rattle.control_run.specs.declared.act.Halt.TheVariants as halt
 use Rattle.control_run.specs.declared.convert.Described.{Described}
 use Rattle.control_run.specs.declared.convert.Described.TheVariants.{Filed, Ends}
+use Rattle.control_run.specs.declared.end.End.TheVariants as ends
 use Rattle.control_run.specs.declared.machine.Machine.{Machine}
 use Rattle.control_run.specs.Standing.{Stands}
 use Rattle.control_run.specs.Statements.{Comes}
@@ -28,6 +31,11 @@ pub record IsDescribed (cards : List (List ℕ)) (machine : Machine) (problem : 
   pub converts : conversion deck machine.cells.xpbname ≡ Ok problem
   pub first : 1 ≤ next
   pub last : next ≤ length cards + 1
+
+-- a conversion stops at a fault of the deck, which ends the run, or where there is no memory
+abbrev pub stopped_at : DeckStop → Result Described Halt
+stopped_at (Fault fault) = Ok (Ends (ends.Deck fault))
+stopped_at NoMemory = Err halt.NoMemory
 
 abbrev pub Describes : Solving → ℕ → List (List ℕ) → Machine → Result Described Halt → Type 0
 Describes S card cards machine (Ok (Filed problem next)) = IsDescribed cards machine problem next

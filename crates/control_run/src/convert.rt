@@ -1,5 +1,5 @@
 // CONVERT.
-ghost use Rattle.std.specs.Prelude.{◌≡◌, ℕ, List, Option, None, sum_by, length};
+ghost use Rattle.std.specs.Prelude.{◌≡◌, ◌+◌, ◌≤◌, ℕ, List, Option, None, sum_by, length};
 ghost use Rattle.problem_definitions.specs.Problem.{entry_count};
 ghost use Rattle.listing_definitions.specs.Report as reports;
 ghost use Rattle.listing_definitions.specs.Text.{report_text};
@@ -9,7 +9,7 @@ ghost use Rattle.run_definitions.specs.Verbs.{size_of};
 ghost use Rattle.control_run.specs.Stage.{stage};
 ghost use Rattle.control_run.specs.Standing.{IsSound};
 ghost use Rattle.control_run.specs.Statements.{Executes};
-ghost use Rattle.control_run.specs.Converting.{Describes};
+ghost use Rattle.control_run.specs.Converting.{Describes, stopped_at};
 
 use crate::act::{Act, Halt};
 use crate::end::End;
@@ -58,6 +58,24 @@ fn converted(problem: &Problem) -> Report<'static>
     }
 }
 
+// The number of the next card behind the one with this number.
+fn next_card(cards: &Cards, last: u32) -> u32
+    requires { last ≤ length cards.now }
+    ensures { result ≡ last + 1 }
+{
+    last.min(cards.count()) + 1
+}
+
+// What a conversion that stops comes to.
+fn stopped(stop: DeckStop) -> Result<Described, Halt>
+    ensures { result ≡ stopped_at stop }
+{
+    match stop {
+        DeckStop::Fault(fault) => Ok(Described::Ends(End::Deck(fault))),
+        DeckStop::NoMemory => Err(Halt::NoMemory),
+    }
+}
+
 impl Machine {
     // Takes a deck, and converts it.
     fn described(&self, alloc: Global, cards: &Cards, card: u32) -> Result<Described, Halt>
@@ -72,10 +90,9 @@ impl Machine {
         match convert(alloc, cards, deck.first, deck.last, name) {
             Ok(problem) => Ok(Described::Filed {
                 problem,
-                next: deck.last + 1,
+                next: next_card(cards, deck.last),
             }),
-            Err(DeckStop::Fault(fault)) => Ok(Described::Ends(End::Deck(fault))),
-            Err(DeckStop::NoMemory) => Err(Halt::NoMemory),
+            Err(stop) => stopped(stop),
         }
     }
 
