@@ -3,6 +3,8 @@ use Rattle.std.proofs.Common.{◌≡◌, ℕ, ◌+◌, ◌-◌, ◌≤◌, lengt
 use Rattle.std.specs.Prelude.{option_and_then, bytes_eq}
 use Rattle.std.proofs.lemmas.Slice.Eq.{bytes_eq-Decides}
 use Rattle.std.proofs.lemmas.Bool.Decides.{same_from_decides}
+use Rattle.job_devices.specs.declared.device.WriteStop.{WriteStop}
+use Rattle.job_devices.specs.Text.{Writes}
 use Rattle.card_definitions.specs.Cards.{Card, numbered_cards, cards_between}
 use Rattle.deck_definitions.specs.declared.DeckFault.{DeckFault}
 use Rattle.deck_definitions.specs.Decks.{decks_of, deck_taken}
@@ -16,19 +18,21 @@ use Rattle.problem_file.specs.Filed.{Filed, filed_under}
 use Rattle.control_definitions.specs.Program.{Convert}
 use Rattle.listing_definitions.specs.declared.VerbFault.TheVariants.{DeckNotFound}
 use Rattle.listing_definitions.specs.Report.{Converted}
+use Rattle.listing_definitions.specs.Text.{report_text}
 use Rattle.cell_definitions.specs.Cells.{Cells}
 use Rattle.run_definitions.specs.State.{State, problem_of}
-use Rattle.run_definitions.specs.Moves.{Nothing, Prints, Outcome, stops, Move, Gives}
+use Rattle.run_definitions.specs.Moves.{Nothing, Prints, Outcome, next, stops, Move, Gives}
 use Rattle.run_definitions.specs.Verbs.{deck_stop, or_deck_fault, size_of, verb_move}
 use Rattle.control_run.specs.declared.act.Act.TheVariants.{Next, Ends}
+use Rattle.control_run.specs.declared.act.Halt.TheVariants as halt
 use Rattle.control_run.specs.declared.convert.Described.TheVariants as described
 use Rattle.control_run.specs.declared.end.End.TheVariants.{Verb, Deck}
 use Rattle.control_run.specs.declared.machine.Machine.{Machine}
 use Rattle.control_run.specs.Stage.{stage}
 use Rattle.control_run.specs.Standing.{named, filed, Stands}
-use Rattle.control_run.specs.Statements.{Comes}
+use Rattle.control_run.specs.Statements.{Comes, Executes}
 use Rattle.control_run.specs.Converting.{decks_from, IsDescribed, Describes, stopped_at}
-use Rattle.control_run.proofs.Giving.{gives_fault, gives_found}
+use Rattle.control_run.proofs.Giving.{gives_fault, gives_found, loudly, cut_off}
 
 same_either_way : (a b : Name) → same a b ≡ same b a
 same_either_way a b = same_from_decides (bytes_eq a b) (bytes_eq b a) (bytes_eq-Decides a b) (λ e. sym ((bytes_eq-Decides b a).0 e), λ e. (bytes_eq-Decides b a).1 (sym e))
@@ -119,3 +123,19 @@ module _ (card : ℕ) (cards : List (List ℕ)) (machine : Machine) (wanted : Op
   deck_refused deck rest (Fault fault) taken err = λ position executed state s.
       converts_refused card s deck rest fault (subst (λ (w : Option Name). deck_taken w (decks_from machine.decks_from cards) ≡ Some (deck, rest)) same_name taken) err
   deck_refused deck rest NoMemory taken err = refl
+
+-- ---- the statement
+
+module _ {P : Type 0} (written : P → Option (List ℕ)) (faults refusals : P → ℕ) (card : ℕ) (cards : List (List ℕ)) (machine : Machine) where
+  module _ (problem : Problem ℕ) (from_card : ℕ) (file : Filed) (described : IsDescribed cards machine problem from_card)
+      (put : (name : Name) → filed_under name file ≡ (if same problem.name name then Some problem else filed_under name machine.file)) (last : file.last ≡ Some problem.name) where
+    pub converted_done : {from to : P} → Writes {T = Unit {0}} written faults refusals from to (Ok tt) (report_text (Converted (size_of problem))) →
+        Executes stage Convert card written faults refusals from to cards machine (record machine { file = file; decks_from = from_card; setup = None; mark = None }) (Ok Next)
+    converted_done writes =
+        loudly stage Convert card written faults refusals cards machine (Converted (size_of problem)) (λ position executed state s. converts_to card s problem from_card file described put last) writes
+
+    pub converted_cut : {from to : P} (new : Machine) (stop : WriteStop) → Writes {T = Unit {0}} written faults refusals from to (Err stop) (report_text (Converted (size_of problem))) →
+        Executes stage Convert card written faults refusals from to cards machine new (Err (halt.Print stop))
+    converted_cut new stop writes =
+        cut_off stage Convert card written faults refusals cards machine new stop (Converted (size_of problem))
+        (λ position executed state s. let c = converts_to card s problem from_card file described put last in (next (Prints (Converted (size_of problem))) c.0, c.1, refl)) writes

@@ -8,11 +8,8 @@ pub mod Stepping
 pub mod Titling
 pub mod Ending_lines
 pub mod Sound
-pub mod Opening_laws
+pub mod Chosen
 pub mod Setting
 pub mod Showing
-pub mod Walking
-pub mod Refusing
+pub mod Solving_steps
 pub mod Filing
-pub mod Printed
-pub mod Sound_setup

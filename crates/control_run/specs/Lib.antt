@@ -5,5 +5,6 @@ pub mod Statements
 pub mod Running
 pub mod Turning
 pub mod Finishing
-pub mod Selecting
+pub mod Choosing
+pub mod Findings
 pub mod Converting

@@ -14,7 +14,6 @@ ghost use Rattle.control_run.specs.Converting.{Describes, stopped_at};
 use crate::act::{Act, Halt};
 use crate::end::End;
 use crate::machine::Machine;
-use crate::setup::verb_end;
 use card_reader::Cards;
 use control_definitions::NameCell;
 use job_decks::take_deck;
@@ -84,7 +83,10 @@ impl Machine {
     {
         let wanted = self.cells.name(NameCell::Xdata);
         let Some(deck) = take_deck(cards, self.decks_from, wanted) else {
-            return Ok(Described::Ends(verb_end(VerbFault::DeckNotFound, card)));
+            return Ok(Described::Ends(End::Verb {
+                fault: VerbFault::DeckNotFound,
+                card,
+            }));
         };
         let name = self.cells.name(NameCell::Xpbname);
         match convert(alloc, cards, deck.first, deck.last, name) {

@@ -10,6 +10,9 @@ ghost use Rattle.control_run.specs.Running.{Steps};
 use crate::act::{Act, Halt, Turn};
 use crate::end::End;
 use crate::machine::Machine;
+use crate::primal::solve;
+use crate::setup::set_up;
+use crate::solution::show_solution;
 use crate::title::print_title;
 use card_reader::Cards;
 use control_compiler::{Program, Verb};
@@ -39,14 +42,9 @@ fn execute<P: Sink>(
         Verb::Mvadr(demand, position) => Ok(machine.set_demand(*demand, *position)),
         Verb::Goto(position) => Ok(machine.jump(*position)),
         Verb::Convert => machine.convert(alloc, cards, print, card),
-        Verb::Setup(options) => {
-            if options.bound.is_some() || options.range.is_some() {
-                return Ok(Act::Ends(End::NotBuilt));
-            }
-            machine.set_up(alloc, cards, print, card, options.sense)
-        }
-        Verb::Primal => machine.solve(alloc, cards, print, card),
-        Verb::Solution => machine.show(alloc, cards, print, card),
+        Verb::Setup(options) => set_up(alloc, machine, print, card, options),
+        Verb::Primal => solve(alloc, machine, print, card),
+        Verb::Solution => show_solution(alloc, machine, print, card),
         Verb::Revise => Ok(Act::Ends(End::NotBuilt)),
         Verb::Ranging => Ok(Act::Ends(End::NotBuilt)),
         Verb::Paraobj => Ok(Act::Ends(End::NotBuilt)),

@@ -10,7 +10,7 @@ mod finish;
 mod machine;
 mod primal;
 mod run;
-mod selection;
+mod selecting;
 mod setup;
 mod solution;
 mod status;

@@ -1,105 +1,111 @@
 // SETUP.
-ghost use Rattle.std.specs.Prelude.{◌≡◌, ℕ, List, Option, None};
+ghost use Rattle.std.specs.Prelude.{◌≡◌, ◌||◌, ℕ, List, IfOk, IfErr, is_some};
 ghost use Rattle.control_definitions.specs.Program as program;
+ghost use Rattle.control_verbs.specs.Shown.{options_shown};
 ghost use Rattle.control_run.specs.Stage.{stage};
 ghost use Rattle.control_run.specs.Standing.{IsSound, named, without_sets};
 ghost use Rattle.control_run.specs.Statements.{Executes};
-ghost use Rattle.control_run.specs.Selecting.{Opens};
+ghost use Rattle.control_run.specs.Choosing.{IsOpened, IsNotOpened};
 
 use crate::act::{Act, Halt};
 use crate::end::End;
 use crate::machine::{Machine, Setup};
-use crate::selection::{Refusal, selection};
-use card_reader::Cards;
-use control_definitions::{NameCell, Sense};
+use crate::selecting::{Refusal, select_without_sets};
+use control_verbs::SetupOptions;
 use job_devices::Sink;
 use listing_definitions::VerbFault;
+use lp_definitions::Sense;
 use lp_model::Basis;
 use name_table::Name;
-use opening_path::selection_laws;
+use problem_file::ProblemFile;
 use report_text::{Report, text_of};
+use run_cells::{Cells, NameCell};
 use std::alloc::Global;
 
-/// What SETUP finds.
+/// A problem that was chosen: its own name, and what is kept of it.
 #[derive(Drop)]
-pub enum Opened {
-    /// This is to be kept.
-    Kept(Setup),
-    /// The run ends.
-    Ends(End),
+pub struct Opened {
+    pub name: Name,
+    pub setup: Setup,
 }
 
-/// The end of a run with a statement that is refused.
-pub fn verb_end(fault: VerbFault, card: u32) -> End
-    ensures { result ≡ End.Verb fault card }
+// The name under which the problem is filed: that in XPBNAME, or else the one put last.
+fn wanted_name(cells: &Cells, file: &ProblemFile) -> Option<Name>
+    ensures { result ≡ named cells.now.xpbname file.now }
 {
-    End::Verb { fault, card }
+    match cells.name(NameCell::Xpbname) {
+        Some(name) => Some(name),
+        None => file.last(),
+    }
 }
 
-impl Machine {
-    // The name of the problem that is set up: the one moved to XPBNAME, or else the one put last.
-    fn problem_name(&self) -> Option<Name>
-        ensures { result ≡ named self.now.cells.xpbname self.now.file }
-    {
-        match self.cells.name(NameCell::Xpbname) {
-            Some(name) => Some(name),
-            None => self.file.last(),
-        }
-    }
+// Chooses the problem, selects of it, and opens with the basis of that selection.
+fn open(alloc: Global, cells: &Cells, file: &ProblemFile, sense: Sense) -> Result<Opened, Refusal>
+    ensures opened { IfOk result (IsOpened cells.now file.now sense) }
+    ensures refused { IfErr result (IsNotOpened cells.now file.now sense) }
+{
+    let Some(name) = wanted_name(cells, file) else {
+        return Err(Refusal::Fault(VerbFault::NoProblem));
+    };
+    let Some(problem) = file.get(&name) else {
+        return Err(Refusal::Fault(VerbFault::NoProblem));
+    };
+    let lp = match select_without_sets(alloc, problem, cells, sense) {
+        Ok(lp) => lp,
+        Err(refusal) => return Err(refusal),
+    };
+    let Ok(basis) = Basis::opening(alloc, &lp) else {
+        return Err(Refusal::NoMemory);
+    };
+    Ok(Opened {
+        name: problem.name(),
+        setup: Setup { name, sense, basis },
+    })
+}
 
-    // Selects, makes the opening basis, and reports it.
-    fn opened<P: Sink>(
-        &self,
-        alloc: Global,
-        print: &mut P,
-        card: u32,
-        sense: Sense,
-    ) -> Result<Opened, Halt>
-        ensures { (cards : List (List ℕ)) → Opens stage card P.written P.faults P.refusals print.old print.new cards self.now sense result }
-    {
-        let Some(name) = self.problem_name() else {
-            return Ok(Opened::Ends(verb_end(VerbFault::NoProblem, card)));
-        };
-        let Some(problem) = self.file.get(&name) else {
-            return Ok(Opened::Ends(verb_end(VerbFault::NoProblem, card)));
-        };
-        let lp = match selection(alloc, problem, &self.cells, sense) {
-            Ok(lp) => lp,
-            Err(Refusal::Fault(fault)) => return Ok(Opened::Ends(verb_end(fault, card))),
-            Err(Refusal::NoMemory) => return Err(Halt::NoMemory),
-        };
-        let basis = Basis::opening(alloc, &lp)?;
-        let report = Report::SetUp {
-            name: problem.name(),
-            sense,
-        };
-        text_of(&report, print)?;
-        Ok(Opened::Kept(Setup { name, sense, basis }))
-    }
+// SETUP without a bound set and without a range set.
+fn set_up_without_sets<P: Sink>(
+    alloc: Global,
+    machine: &mut Machine,
+    print: &mut P,
+    card: u32,
+    sense: Sense,
+) -> Result<Act, Halt>
+    ensures acts { (cards : List (List ℕ)) → Executes stage (program.Setup (without_sets sense)) card P.written P.faults P.refusals print.old print.new cards machine.old machine.new result }
+    ensures sound { (cards : List (List ℕ)) → IsSound cards machine.old → IsSound cards machine.new }
+{
+    let opened = match open(alloc, &machine.cells, &machine.file, sense) {
+        Ok(opened) => opened,
+        Err(refusal) => return refusal.act(card),
+    };
+    let Opened { name, setup } = opened;
+    text_of(&Report::SetUp { name, sense }, print)?;
+    machine.setup = Some(setup);
+    machine.mark = None;
+    Ok(Act::Next)
+}
 
-    /// SETUP without sets: selects of the problem that XPBNAME names, or else of the one put last, keeps it with its opening
-    /// basis, and clears the mark.
-    pub fn set_up<P: Sink>(
-        &mut self,
-        alloc: Global,
-        cards: &Cards,
-        print: &mut P,
-        card: u32,
-        sense: Sense,
-    ) -> Result<Act, Halt>
-        requires { IsSound cards.now self.old }
-        ensures acts { Executes stage (program.Setup (without_sets sense)) card P.written P.faults P.refusals print.old print.new cards.now self.old self.new result }
-        ensures sound { IsSound cards.now self.new }
-    {
-        let _ = cards;
-        selection_laws();
-        match self.opened(alloc, print, card, sense)? {
-            Opened::Ends(end) => Ok(Act::Ends(end)),
-            Opened::Kept(setup) => {
-                self.setup = Some(setup);
-                self.mark = None;
-                Ok(Act::Next)
-            }
-        }
+// Whether a bound set or a range set is named.
+fn names_sets(options: &SetupOptions) -> bool
+    ensures { result ≡ (is_some options.now.bound || is_some options.now.range) }
+{
+    options.bound.is_some() || options.range.is_some()
+}
+
+/// SETUP: chooses the problem that XPBNAME names, or else the one filed last, and keeps it with the opening basis of what the present
+/// cells select of it. Clears the mark. With a bound set or a range set it isn't built.
+pub fn set_up<P: Sink>(
+    alloc: Global,
+    machine: &mut Machine,
+    print: &mut P,
+    card: u32,
+    options: &SetupOptions,
+) -> Result<Act, Halt>
+    ensures acts { (cards : List (List ℕ)) → Executes stage (program.Setup (options_shown options.now)) card P.written P.faults P.refusals print.old print.new cards machine.old machine.new result }
+    ensures sound { (cards : List (List ℕ)) → IsSound cards machine.old → IsSound cards machine.new }
+{
+    if names_sets(options) {
+        return Ok(Act::Ends(End::NotBuilt));
     }
+    set_up_without_sets(alloc, machine, print, card, options.sense)
 }

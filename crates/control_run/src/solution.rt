@@ -1,60 +1,82 @@
 // SOLUTION.
-ghost use Rattle.std.specs.Prelude.{◌≡◌, ℕ, List, Option, None};
+ghost use Rattle.std.specs.Prelude.{◌≡◌, ℕ, None, List, IfSome};
+ghost use Rattle.lp_definitions.specs.Basis.{opening_statuses};
 ghost use Rattle.control_definitions.specs.Program as program;
+ghost use Rattle.report_text.specs.Sheets.{IsSheet};
+ghost use Rattle.opening_turn.specs.Opening.{AreAtZero};
+ghost use Rattle.opening_path.specs.Answers.{sheet_shown};
 ghost use Rattle.control_run.specs.Stage.{stage};
-ghost use Rattle.control_run.specs.Standing.{IsSound};
+ghost use Rattle.control_run.specs.Standing.{HasOpeningBasis};
 ghost use Rattle.control_run.specs.Statements.{Executes};
+ghost use Rattle.control_run.specs.Choosing.{PrintsLines};
 
 use crate::act::{Act, Halt};
 use crate::machine::Machine;
-use crate::selection::{Refusal, selection};
-use crate::setup::verb_end;
-use card_reader::Cards;
+use crate::selecting::{Refusal, select_without_sets};
 use job_devices::Sink;
-use listing_definitions::VerbFault;
-use opening_path::{selection_laws, solution_at_opening};
+use listing_definitions::{Mark, VerbFault};
+use lp_model::Basis;
+use opening_path::solution_at_opening;
 use report_text::{Report, Sheet, text_of};
 use std::alloc::Global;
 
-impl Machine {
-    /// SOLUTION: prints the point and the prices of the setup's basis, under the mark.
-    pub fn show<P: Sink>(
-        &self,
-        alloc: Global,
-        cards: &Cards,
-        print: &mut P,
-        card: u32,
-    ) -> Result<Act, Halt>
-        requires { IsSound cards.now self.now }
-        ensures { Executes stage program.Solution card P.written P.faults P.refusals print.old print.new cards.now self.now self.now result }
-    {
-        let _ = cards;
-        selection_laws();
-        let Some(setup) = &self.setup else {
-            return Ok(Act::Ends(verb_end(VerbFault::NoSetup, card)));
-        };
-        let Some(problem) = self.file.get(&setup.name) else {
-            return Ok(Act::Ends(verb_end(VerbFault::NoSetup, card)));
-        };
-        let Some(mark) = self.mark else {
-            return Ok(Act::Ends(verb_end(VerbFault::NotSolved, card)));
-        };
-        let lp = match selection(alloc, problem, &self.cells, setup.sense) {
-            Ok(lp) => lp,
-            Err(Refusal::Fault(fault)) => return Ok(Act::Ends(verb_end(fault, card))),
-            Err(Refusal::NoMemory) => return Err(Halt::NoMemory),
-        };
-        let sheet = Sheet { problem, lp: &lp };
-        let shown = solution_at_opening(alloc, sheet, &setup.basis)?;
-        let report = Report::Solution {
-            mark,
-            sheet,
-            basis: &setup.basis,
-            point: &shown.point,
-            prices: &shown.prices,
-            slack: &shown.slack,
-        };
-        text_of(&report, print)?;
-        Ok(Act::Next)
+// Prints the point and the prices of the opening basis.
+fn print_lines<P: Sink>(
+    alloc: Global,
+    sheet: Sheet<'_>,
+    basis: &Basis,
+    mark: Mark,
+    print: &mut P,
+) -> Result<(), Halt>
+    requires sheet { IsSheet sheet }
+    requires basis { basis.now ≡ opening_statuses sheet.lp.now }
+    requires at_zero { AreAtZero sheet.lp.now }
+    requires no_change { sheet.lp.now.change ≡ None }
+    ensures { PrintsLines P.written P.faults P.refusals print.old print.new (sheet_shown sheet.entry) basis.now mark result }
+{
+    let Ok(shown) = solution_at_opening(alloc, sheet, basis) else {
+        return Err(Halt::NoMemory);
+    };
+    let report = Report::Solution {
+        mark,
+        sheet,
+        basis,
+        point: &shown.point,
+        prices: &shown.prices,
+        slack: &shown.slack,
+    };
+    match text_of(&report, print) {
+        Ok(()) => Ok(()),
+        Err(stop) => Err(Halt::Print(stop)),
+    }
+}
+
+/// SOLUTION: prints the point and the prices of the present basis. It needs a setup and a mark.
+pub fn show_solution<P: Sink>(
+    alloc: Global,
+    machine: &Machine,
+    print: &mut P,
+    card: u32,
+) -> Result<Act, Halt>
+    requires { IfSome machine.now.setup (HasOpeningBasis machine.now.file) }
+    ensures { (cards : List (List ℕ)) → Executes stage program.Solution card P.written P.faults P.refusals print.old print.new cards machine.now machine.now result }
+{
+    let Some(setup) = &machine.setup else {
+        return Refusal::Fault(VerbFault::NoSetup).act(card);
+    };
+    let Some(problem) = machine.file.get(&setup.name) else {
+        return Refusal::Fault(VerbFault::NoSetup).act(card);
+    };
+    let Some(mark) = machine.mark else {
+        return Refusal::Fault(VerbFault::NotSolved).act(card);
+    };
+    let lp = match select_without_sets(alloc, problem, &machine.cells, setup.sense) {
+        Ok(lp) => lp,
+        Err(refusal) => return refusal.act(card),
+    };
+    let sheet = Sheet { problem, lp: &lp };
+    match print_lines(alloc, sheet, &setup.basis, mark, print) {
+        Ok(()) => Ok(Act::Next),
+        Err(halt) => Err(halt),
     }
 }

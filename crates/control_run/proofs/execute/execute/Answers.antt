@@ -55,8 +55,11 @@ returns-in-Bcdout-clause-acts g c = rw c.in-Bcdout.is (unbuilt_executes g.P.Sink
 pub returns-in-Convert-clause-acts : goal.returns-in-Convert-clause-acts
 returns-in-Convert-clause-acts g c = rw c.in-Convert.is c.convert.ensures.acts
 
+pub returns-in-Setup-clause-acts : goal.returns-in-Setup-clause-acts
+returns-in-Setup-clause-acts g c = rw c.in-Setup.is (c.set_up.ensures.acts c.args.cards.now)
+
 pub returns-in-Primal-clause-acts : goal.returns-in-Primal-clause-acts
-returns-in-Primal-clause-acts g c = rw c.in-Primal.is c.solve.ensures.acts
+returns-in-Primal-clause-acts g c = rw c.in-Primal.is (c.solve.ensures.acts c.args.cards.now)
 
 pub returns-in-Solution-clause-acts : goal.returns-in-Solution-clause-acts
-returns-in-Solution-clause-acts g c = rw c.in-Solution.is c.show.ensures
+returns-in-Solution-clause-acts g c = rw c.in-Solution.is (c.show_solution.ensures c.args.cards.now)

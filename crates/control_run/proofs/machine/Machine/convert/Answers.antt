@@ -1,6 +1,6 @@
 -- The problem that was found is on file, and is reported.
 use Rattle.std.proofs.lemmas.Result.{err_from_is_err_and}
-use Rattle.control_run.proofs.Printed.{converted_done, converted_cut}
+use Rattle.control_run.proofs.Filing.{converted_done, converted_cut}
 use Rattle.control_run.proofs.machine.Machine.convert.Goals as goal
 
 pub returns-in_err-text_of-in-Filed-clause-acts : goal.returns-in_err-text_of-in-Filed-clause-acts

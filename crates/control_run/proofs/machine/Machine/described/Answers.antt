@@ -4,7 +4,7 @@ use Rattle.control_run.proofs.machine.Machine.described.Goals as goal
 
 pub returns-in_default : goal.returns-in_default
 returns-in_default c =
-    rw c.verb_end.ensures (finds_no_deck c.args.card c.args.cards.now c.args.self.now c.name-wanted.result c.name-wanted.ensures c.in_default.ensures.taken)
+    finds_no_deck c.args.card c.args.cards.now c.args.self.now c.name-wanted.result c.name-wanted.ensures c.in_default.ensures.taken
 
 pub returns-in-Ok : goal.returns-in-Ok
 returns-in-Ok c =
