@@ -18,7 +18,7 @@ use Rattle.lp_setup.specs.declared.stop.SelectStop.TheVariants as stops
 use Rattle.lp_setup.specs.Stops.{fault_of, IsOverflowOf}
 use Rattle.run_definitions.specs.Verbs.{selection_verb_fault}
 use Rattle.opening_turn.specs.Opening.{AreAtZero}
-use Rattle.opening_path.proofs.Selecting.{at_zero}
+use Rattle.opening_path.specs.Laws.{SelectionLaws}
 use Rattle.control_run.specs.declared.selecting.Refusal.{Refusal}
 use Rattle.control_run.specs.declared.selecting.Refusal.TheVariants.{Fault, NoMemory}
 use Rattle.control_run.specs.Choosing.{IsNoOverflow, IsRefusalOf, IsUnselected}
@@ -90,7 +90,7 @@ unfolding all_low
 opens_low p z = each_low p z 1 (size p.matrix) (omega arith) (omega arith)
 
 -- whatever is selected of a problem without bounds, the opening basis is the same
-pub same_opening : (problem : Problem ℕ) (c d : Choice) (p q : LinearProgram) → c.options.bound ≡ None → d.options.bound ≡ None → selected problem c ≡ Ok p → selected problem d ≡ Ok q →
+pub same_opening : SelectionLaws → (problem : Problem ℕ) (c d : Choice) (p q : LinearProgram) → c.options.bound ≡ None → d.options.bound ≡ None → selected problem c ≡ Ok p → selected problem d ≡ Ok q →
     opening_statuses p ≡ opening_statuses q
-same_opening problem c d p q unbound also e f =
-    opens_low p (at_zero problem c p unbound e) ∙ ap all_low (sym (same_matrix problem c p e) ∙ same_matrix problem d q f) ∙ sym (opens_low q (at_zero problem d q also f))
+same_opening laws problem c d p q unbound also e f =
+    opens_low p (laws.at_zero problem c p unbound e) ∙ ap all_low (sym (same_matrix problem c p e) ∙ same_matrix problem d q f) ∙ sym (opens_low q (laws.at_zero problem d q also f))

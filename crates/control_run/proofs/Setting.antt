@@ -17,6 +17,7 @@ use Rattle.listing_definitions.specs.Report.{SetUp}
 use Rattle.listing_definitions.specs.Ending.{VerbStop}
 use Rattle.listing_definitions.specs.Text.{report_text}
 use Rattle.solver_definitions.specs.Answers.{Basis}
+use Rattle.opening_path.specs.Laws.{SelectionLaws}
 use Rattle.cell_definitions.specs.Cells.{Cells}
 use Rattle.run_definitions.specs.State.{Present, State, problem_of, choice_of}
 use Rattle.run_definitions.specs.Moves.{Prints, Outcome, next, stops, Move, Does, MayStop, Gives}
@@ -138,14 +139,14 @@ module _ (card : ℕ) {P : Type 0} (written : P → Option (List ℕ)) (faults r
         (λ position executed state s. (outcome_of o.problem sense (opening_statuses o.lp) state, gives_opened s, refl))
         (subst (λ (n : Name). Writes {T = Unit {0}} written faults refusals print_old print_new (Err stop) (report_text (SetUp n sense))) o.is_own writes)
 
-    pub setup_sound : IsSound cards machine → IsSound cards (record machine { setup = Some opened.setup; mark = None })
-    setup_sound s = record {
+    pub setup_sound : SelectionLaws → IsSound cards machine → IsSound cards (record machine { setup = Some opened.setup; mark = None })
+    setup_sound laws s = record {
       first = s.first;
       last = s.last;
       demands = s.demands;
       basis = λ problem on_file choice unbound lp is_selected.
           o.is_opening
-          ∙ same_opening o.problem (choice_of machine.cells (without_sets sense)) choice o.lp lp refl unbound o.is_selected
+          ∙ same_opening laws o.problem (choice_of machine.cells (without_sets sense)) choice o.lp lp refl unbound o.is_selected
           (subst (λ (p : Problem ℕ). selected p choice ≡ Ok lp) (same_some problem o.problem (sym on_file ∙ o.is_filed)) is_selected);
     }
 

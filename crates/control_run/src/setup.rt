@@ -18,6 +18,7 @@ use lp_definitions::Sense;
 use lp_model::Basis;
 use name_table::Name;
 use problem_file::ProblemFile;
+use opening_path::selection_laws;
 use report_text::{Report, text_of};
 use run_cells::{Cells, NameCell};
 use std::alloc::Global;
@@ -74,6 +75,8 @@ fn set_up_without_sets<P: Sink>(
     ensures acts { (cards : List (List ℕ)) → Executes stage (program.Setup (without_sets sense)) card P.written P.faults P.refusals print.old print.new cards machine.old machine.new result }
     ensures sound { (cards : List (List ℕ)) → IsSound cards machine.old → IsSound cards machine.new }
 {
+    // the opening basis is the same whatever is selected without a bound set
+    selection_laws();
     let opened = match open(alloc, &machine.cells, &machine.file, sense) {
         Ok(opened) => opened,
         Err(refusal) => return refusal.act(card),

@@ -16,7 +16,7 @@ use crate::selecting::{Refusal, select_without_sets};
 use job_devices::Sink;
 use listing_definitions::{Mark, VerbFault};
 use lp_model::Basis;
-use opening_path::solution_at_opening;
+use opening_path::{selection_laws, solution_at_opening};
 use report_text::{Report, Sheet, text_of};
 use std::alloc::Global;
 
@@ -61,6 +61,8 @@ pub fn show_solution<P: Sink>(
     requires { IfSome machine.now.setup (HasOpeningBasis machine.now.file) }
     ensures { (cards : List (List ℕ)) → Executes stage program.Solution card P.written P.faults P.refusals print.old print.new cards machine.now machine.now result }
 {
+    // where no bound set is chosen the columns lie in 0 and upward
+    selection_laws();
     let Some(setup) = &machine.setup else {
         return Refusal::Fault(VerbFault::NoSetup).act(card);
     };

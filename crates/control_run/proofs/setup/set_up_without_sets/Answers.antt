@@ -18,4 +18,4 @@ returns-clause-acts g c = λ cards.
 
 pub returns-clause-sound : goal.returns-clause-sound
 returns-clause-sound g c = λ cards sound.
-    setup_sound c.args.card g.P.Sink.written g.P.Sink.faults g.P.Sink.refusals cards c.args.machine.now c.args.sense c.in-Ok.opened c.in-Ok.ensures.opened sound
+    setup_sound c.args.card g.P.Sink.written g.P.Sink.faults g.P.Sink.refusals cards c.args.machine.now c.args.sense c.in-Ok.opened c.in-Ok.ensures.opened c.selection_laws.ensures sound

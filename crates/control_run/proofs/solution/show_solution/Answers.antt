@@ -1,7 +1,6 @@
 use Rattle.std.proofs.Common.{Option, Some, None, refl, sym, ap}
 use Rattle.lp_definitions.specs.LinearProgram.{Matrix}
 use Rattle.run_definitions.specs.State.{choice_of}
-use Rattle.opening_path.proofs.Selecting.{at_zero, no_change}
 use Rattle.control_run.specs.declared.machine.Setup.{Setup}
 use Rattle.control_run.specs.Standing.{without_sets, present_of, setup_shown}
 use Rattle.control_run.proofs.Chosen.{same_matrix}
@@ -40,10 +39,10 @@ print_lines-requires-clause-sheet g c =
     record { rows = ap (λ (a : Matrix). a.rows) same; columns = ap (λ (a : Matrix). a.cols) same }
 
 pub print_lines-requires-clause-at_zero : goal.print_lines-requires-clause-at_zero
-print_lines-requires-clause-at_zero g c = at_zero c.in-Some-get.problem.now (choice_of c.args.machine.now.cells (without_sets c.in-Some.setup.sense)) c.in-Ok.lp refl c.in-Ok.ensures.selected
+print_lines-requires-clause-at_zero g c = c.selection_laws.ensures.at_zero c.in-Some-get.problem.now (choice_of c.args.machine.now.cells (without_sets c.in-Some.setup.sense)) c.in-Ok.lp refl c.in-Ok.ensures.selected
 
 pub print_lines-requires-clause-no_change : goal.print_lines-requires-clause-no_change
-print_lines-requires-clause-no_change g c = no_change c.in-Some-get.problem.now (choice_of c.args.machine.now.cells (without_sets c.in-Some.setup.sense)) c.in-Ok.lp c.in-Ok.ensures.selected
+print_lines-requires-clause-no_change g c = c.selection_laws.ensures.no_change c.in-Some-get.problem.now (choice_of c.args.machine.now.cells (without_sets c.in-Some.setup.sense)) c.in-Ok.lp c.in-Ok.ensures.selected
 
 pub returns-in-Ok-print_lines : goal.returns-in-Ok-print_lines
 returns-in-Ok-print_lines g c = λ cards.
