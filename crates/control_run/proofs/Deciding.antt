@@ -1,0 +1,92 @@
+-- What the statements come to that print nothing.
+use Rattle.std.proofs.Common.{◌≡◌, ℕ, ◌≤◌, List, Option, None, refl, sym, ap, ◌∙◌}
+use Rattle.exact_values.specs.Rational.{ℚ}
+use Rattle.control_definitions.specs.declared.NameCell.{NameCell}
+use Rattle.control_definitions.specs.declared.NameCell.TheVariants.{Xdata, Xpbname, Xobj, Xrhs, Xoldname, Xchrow, Xchcol}
+use Rattle.control_definitions.specs.declared.NumberCell.{NumberCell}
+use Rattle.control_definitions.specs.declared.NumberCell.TheVariants.{Xparam, Xparmax}
+use Rattle.control_definitions.specs.declared.Demand.{Demand}
+use Rattle.control_definitions.specs.declared.Demand.TheVariants.{Xdonfs, Xdounb}
+use Rattle.control_definitions.specs.Program.{Initialz, MoveName, MoveNumber, MoveLimit, Mvadr, Goto, Exit}
+use Rattle.listing_definitions.specs.declared.Mark.{Mark}
+use Rattle.cell_definitions.specs.Cells.{Cells, default_cells, move_name, move_number, move_limit, set_demand}
+use Rattle.run_definitions.specs.State.{State}
+use Rattle.run_definitions.specs.Verbs.{mark_after, verb_move}
+use Rattle.control_run.specs.declared.act.Act.TheVariants.{Next, Jump, Ends}
+use Rattle.control_run.specs.declared.end.End.TheVariants.{Done}
+use Rattle.control_run.specs.declared.machine.Machine.{Machine}
+use Rattle.control_run.specs.Stage.{stage}
+use Rattle.control_run.specs.Standing.{AreDemands, IsSound, Stands}
+use Rattle.control_run.specs.Statements.{Decides}
+
+-- cells and mark change in the state as they do in the machine
+pub stands_changed : {cards : List (List ℕ)} {old : Machine} {position executed : ℕ} {state : State} → Stands cards old position executed state →
+    (v w : Cells) (m n : Option Mark) → v ≡ w → m ≡ n → Stands cards (record old { cells = w; mark = n }) position executed (record state { cells = v; mark = m })
+stands_changed s v w m n e f = record { is_position = s.is_position; is_executed = s.is_executed; cells = e; file = s.file; decks = s.decks; setup = s.setup; mark = f }
+
+pub initialz_decides : (card : ℕ) (old : Machine) (cells : Cells) → cells ≡ default_cells → Decides stage Initialz card old (record old { cells = cells; mark = None }) Next
+unfolding stage verb_move
+initialz_decides card old cells e = λ cards position executed state s.
+    (record state { cells = default_cells; mark = None }, refl, stands_changed s default_cells cells None None (sym e) refl)
+
+pub name_decides : (cell : NameCell) (name : List ℕ) (card : ℕ) (old : Machine) (cells : Cells) (mark : Option Mark) → cells ≡ move_name cell name old.cells → mark ≡ mark_after cell old.mark →
+    Decides stage (MoveName cell name) card old (record old { cells = cells; mark = mark }) Next
+unfolding stage verb_move
+name_decides cell name card old cells mark e f = λ cards position executed state s. (
+  record state { cells = move_name cell name state.cells; mark = mark_after cell state.mark },
+  refl,
+  stands_changed s (move_name cell name state.cells) cells (mark_after cell state.mark) mark (ap (move_name cell name) s.cells ∙ sym e) (ap (mark_after cell) s.mark ∙ sym f),
+)
+
+pub number_decides : (cell : NumberCell) (value : ℚ) (card : ℕ) (old : Machine) (cells : Cells) → cells ≡ move_number cell value old.cells →
+    Decides stage (MoveNumber cell value) card old (record old { cells = cells }) Next
+unfolding stage verb_move
+number_decides cell value card old cells e = λ cards position executed state s. (
+  record state { cells = move_number cell value state.cells },
+  refl,
+  stands_changed s (move_number cell value state.cells) cells state.mark old.mark (ap (move_number cell value) s.cells ∙ sym e) s.mark,
+)
+
+pub limit_decides : (limit card : ℕ) (old : Machine) (cells : Cells) → cells ≡ move_limit limit old.cells → Decides stage (MoveLimit limit) card old (record old { cells = cells }) Next
+unfolding stage verb_move
+limit_decides limit card old cells e = λ cards position executed state s.
+    (record state { cells = move_limit limit state.cells }, refl, stands_changed s (move_limit limit state.cells) cells state.mark old.mark (ap (move_limit limit) s.cells ∙ sym e) s.mark)
+
+pub demand_decides : (demand : Demand) (to card : ℕ) (old : Machine) (cells : Cells) → cells ≡ set_demand demand to old.cells →
+    Decides stage (Mvadr demand to) card old (record old { cells = cells }) Next
+unfolding stage verb_move
+demand_decides demand to card old cells e = λ cards position executed state s. (
+  record state { cells = set_demand demand to state.cells },
+  refl,
+  stands_changed s (set_demand demand to state.cells) cells state.mark old.mark (ap (set_demand demand to) s.cells ∙ sym e) s.mark,
+)
+
+pub goto_decides : (to card : ℕ) (machine : Machine) → 1 ≤ to → Decides stage (Goto to) card machine machine (Jump to)
+unfolding stage verb_move
+goto_decides to card machine h = λ cards position executed state s. (state, refl, s, h)
+
+pub exit_decides : (card : ℕ) (machine : Machine) → Decides stage Exit card machine machine (Ends Done)
+unfolding stage verb_move
+exit_decides card machine = λ cards position executed state s. refl
+
+-- ---- soundness
+
+pub sound_changed : {cards : List (List ℕ)} {old : Machine} → IsSound cards old → (cells : Cells) (mark : Option Mark) → AreDemands cells → IsSound cards (record old { cells = cells; mark = mark })
+sound_changed s cells mark d = record { first = s.first; last = s.last; demands = d; basis = s.basis }
+
+pub demands_named : (cell : NameCell) (name : List ℕ) (c : Cells) → AreDemands c → AreDemands (move_name cell name c)
+demands_named Xdata name c d = record { infeasible = d.infeasible; unbounded = d.unbounded }
+demands_named Xpbname name c d = record { infeasible = d.infeasible; unbounded = d.unbounded }
+demands_named Xobj name c d = record { infeasible = d.infeasible; unbounded = d.unbounded }
+demands_named Xrhs name c d = record { infeasible = d.infeasible; unbounded = d.unbounded }
+demands_named Xoldname name c d = record { infeasible = d.infeasible; unbounded = d.unbounded }
+demands_named Xchrow name c d = record { infeasible = d.infeasible; unbounded = d.unbounded }
+demands_named Xchcol name c d = record { infeasible = d.infeasible; unbounded = d.unbounded }
+
+pub demands_numbered : (cell : NumberCell) (value : ℚ) (c : Cells) → AreDemands c → AreDemands (move_number cell value c)
+demands_numbered Xparam value c d = record { infeasible = d.infeasible; unbounded = d.unbounded }
+demands_numbered Xparmax value c d = record { infeasible = d.infeasible; unbounded = d.unbounded }
+
+pub demands_set : (demand : Demand) (to : ℕ) (c : Cells) → 1 ≤ to → AreDemands c → AreDemands (set_demand demand to c)
+demands_set Xdonfs to c h d = record { infeasible = h; unbounded = d.unbounded }
+demands_set Xdounb to c h d = record { infeasible = d.infeasible; unbounded = h }

@@ -1,0 +1,18 @@
+-- The end's own lines, printed or broken off.
+use Rattle.std.proofs.Common.{◌≡◌, ℕ, List, Option, Ok, Err, subst}
+use Rattle.job_devices.specs.declared.device.WriteStop.{WriteStop}
+use Rattle.job_devices.specs.Text.{Writes}
+use Rattle.listing_definitions.specs.Ending.{Ending, status_of}
+use Rattle.listing_definitions.specs.Listing.{ending_text}
+use Rattle.control_run.specs.declared.status.Status.{Status}
+use Rattle.control_run.specs.Ends.{code_of}
+use Rattle.control_run.specs.Finishing.{cut_status, Finishes, printed, cut_off}
+
+module _ {P : Type 0} (written : P → Option (List ℕ)) (faults refusals : P → ℕ) {old new : P} (shown ending : Ending) (same : shown ≡ ending) where
+  pub lines_printed : (status : Status) → code_of status ≡ status_of ending → Writes {T = Unit {0}} written faults refusals old new (Ok tt) (ending_text shown) →
+      Finishes written faults refusals old new ending status
+  lines_printed status is writes = printed is (subst (λ (e : Ending). Writes {T = Unit {0}} written faults refusals old new (Ok tt) (ending_text e)) same writes)
+
+  pub lines_cut : (stop : WriteStop) (status : Status) → status ≡ cut_status stop → Writes {T = Unit {0}} written faults refusals old new (Err stop) (ending_text shown) →
+      Finishes written faults refusals old new ending status
+  lines_cut stop status is writes = cut_off stop is (subst (λ (e : Ending). Writes {T = Unit {0}} written faults refusals old new (Err stop) (ending_text e)) same writes)

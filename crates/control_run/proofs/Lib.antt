@@ -1,0 +1,15 @@
+pub mod Deciding
+pub mod Gains
+pub mod Underway
+pub mod Answering
+pub mod Clamping
+pub mod Giving
+pub mod Stepping
+pub mod Titling
+pub mod Ending_lines
+pub mod Sound
+pub mod Chosen
+pub mod Setting
+pub mod Showing
+pub mod Solving_steps
+pub mod Filing

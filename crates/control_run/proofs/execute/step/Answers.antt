@@ -1,0 +1,24 @@
+-- The statement at a position is executed.
+use Rattle.std.proofs.Common.{◌-◌, arith}
+use Rattle.std.proofs.lemmas.Result.{err_from_is_err_and}
+use Rattle.control_verbs.specs.Shown.{statement_shown}
+use Rattle.control_run.specs.Stage.{stage}
+use Rattle.control_run.proofs.Sound.{sound_statement}
+use Rattle.control_run.proofs.Stepping.{steps_to, steps_err}
+use Rattle.control_run.proofs.execute.step.Goals as goal
+
+pub execute-requires-clause-verb : goal.execute-requires-clause-verb
+execute-requires-clause-verb g c = sound_statement c.args.program.now (c.args.position - 1) (statement_shown c.statement-next.result.now) c.requires.valid c.statement-next.ensures
+
+pub turn-requires : goal.turn-requires
+turn-requires g c = omega (arith, c.requires.within, c.requires.valid.few)
+
+pub returns-in_err-act-clause-steps : goal.returns-in_err-act-clause-steps
+returns-in_err-act-clause-steps g c =
+    let p = err_from_is_err_and c.from_residual.result c.from_residual.ensures.1 in
+    rw (p.1, p.2)
+    (steps_err stage c.args.program.now c.args.cards.now c.args.position (statement_shown c.statement-next.result.now) c.statement-next.ensures g.P.Sink.written g.P.Sink.faults g.P.Sink.refusals c.args.machine.now c.execute.new.machine c.args.print.now c.execute.new.print _ c.in_err-act.ensures.acts)
+
+pub returns-clause-steps : goal.returns-clause-steps
+returns-clause-steps g c =
+    steps_to stage c.args.program.now c.args.cards.now c.args.position (statement_shown c.statement-next.result.now) c.statement-next.ensures g.P.Sink.written g.P.Sink.faults g.P.Sink.refusals c.args.machine.now _ _ c.turn.result c.turn.ensures c.in_ok-act.ensures.acts

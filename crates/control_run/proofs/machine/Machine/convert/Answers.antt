@@ -1,0 +1,18 @@
+-- The problem that was found is on file, and is reported.
+use Rattle.std.proofs.lemmas.Result.{err_from_is_err_and}
+use Rattle.control_run.proofs.Filing.{converted_done, converted_cut}
+use Rattle.control_run.proofs.machine.Machine.convert.Goals as goal
+
+pub returns-in_err-text_of-in-Filed-clause-acts : goal.returns-in_err-text_of-in-Filed-clause-acts
+returns-in_err-text_of-in-Filed-clause-acts g c =
+    let d = rw c.in-Filed.is at c.in_ok-end.ensures in
+    let p = err_from_is_err_and c.from_residual-in_err-text_of-in-Filed.result c.from_residual-in_err-text_of-in-Filed.ensures.1 in
+    rw (p.1, p.2)
+    (converted_cut g.P.Sink.written g.P.Sink.faults g.P.Sink.refusals c.args.card c.args.cards.now c.args.self.now c.in-Filed.problem c.in-Filed.next c.put.new.self d
+    c.in_ok-put-in-Filed.ensures.filed c.in_ok-put-in-Filed.ensures.last c.args.self.now _ (rw c.converted-report.ensures.text at c.in_err-text_of-in-Filed.ensures))
+
+pub returns-in_ok-text_of-in-Filed-clause-acts : goal.returns-in_ok-text_of-in-Filed-clause-acts
+returns-in_ok-text_of-in-Filed-clause-acts g c =
+    let d = rw c.in-Filed.is at c.in_ok-end.ensures in
+    converted_done g.P.Sink.written g.P.Sink.faults g.P.Sink.refusals c.args.card c.args.cards.now c.args.self.now c.in-Filed.problem c.in-Filed.next c.put.new.self d
+    c.in_ok-put-in-Filed.ensures.filed c.in_ok-put-in-Filed.ensures.last (rw c.converted-report.ensures.text at c.in_ok-text_of-in-Filed.ensures)

@@ -1,0 +1,39 @@
+-- How a run ends, in the words of the listing, and its exit code.
+use Rattle.std.specs.Prelude.{ℕ}
+use Rattle.listing_definitions.specs.Ending.{Ending, Ended, VerbStop, LimitStop, StatementLimit}
+use Rattle.listing_definitions.specs.Ending as endings
+use Rattle.run_definitions.specs.Verbs.{deck_stop}
+use Rattle.control_run.specs.declared.end.End.{End}
+use Rattle.control_run.specs.declared.end.End.TheVariants.{Done, Infeasible, Unbounded, Verb, Deck, Limit, Statements, Memory, NotBuilt}
+use Rattle.control_run.specs.declared.status.Status.{Status}
+use Rattle.control_run.specs.declared.status.Status.TheVariants as status
+
+abbrev pub end_shown : End → Ending
+end_shown Done = Ended 0
+end_shown Infeasible = Ended 1
+end_shown Unbounded = Ended 2
+end_shown (Verb fault card) = VerbStop (record { fault = fault; card = card })
+end_shown (Deck fault) = deck_stop fault
+end_shown (Limit limit card) = LimitStop (record { limit = limit; card = card })
+end_shown Statements = StatementLimit
+end_shown Memory = endings.Memory
+end_shown NotBuilt = endings.NotBuilt
+
+-- the exit code of a status
+abbrev pub code_of : Status → ℕ
+code_of status.Done = 0
+code_of status.Infeasible = 1
+code_of status.Unbounded = 2
+code_of status.Words = 4
+code_of status.Control = 8
+code_of status.Verb = 10
+code_of status.Deck = 12
+code_of status.Card = 13
+code_of status.Limit = 16
+code_of status.Statements = 17
+code_of status.Overflow = 20
+code_of status.ReadFault = 24
+code_of status.PrintFault = 25
+code_of status.PunchFault = 26
+code_of status.Memory = 28
+code_of status.NotBuilt = 30

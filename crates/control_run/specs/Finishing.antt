@@ -1,0 +1,20 @@
+-- The end of a listing, and the status then.
+use Rattle.std.specs.Prelude.{◌≡◌, ℕ, List, Option, Ok, Err}
+use Rattle.job_devices.specs.declared.device.WriteStop.{WriteStop}
+use Rattle.job_devices.specs.declared.device.WriteStop.TheVariants.{Failed, NoMemory}
+use Rattle.job_devices.specs.Text.{Writes}
+use Rattle.listing_definitions.specs.Ending.{Ending, status_of}
+use Rattle.listing_definitions.specs.Listing.{ending_text}
+use Rattle.control_run.specs.declared.status.Status.{Status}
+use Rattle.control_run.specs.declared.status.Status.TheVariants.{PrintFault, Memory}
+use Rattle.control_run.specs.Ends.{code_of}
+
+-- the status where the print takes no more
+abbrev pub cut_status : WriteStop → Status
+cut_status Failed = PrintFault
+cut_status NoMemory = Memory
+
+-- the end's own lines are printed, and the status is that of the end; or the print stops in them
+pub data Finishes {P : Type 0} (written : P → Option (List ℕ)) (faults refusals : P → ℕ) (old new : P) (ending : Ending) (status : Status) : Type 0 where
+  printed : code_of status ≡ status_of ending → Writes {T = Unit {0}} written faults refusals old new (Ok tt) (ending_text ending) → Finishes written faults refusals old new ending status
+  cut_off : (stop : WriteStop) → status ≡ cut_status stop → Writes {T = Unit {0}} written faults refusals old new (Err stop) (ending_text ending) → Finishes written faults refusals old new ending status

@@ -1,0 +1,76 @@
+// The statements of a program.
+ghost use Rattle.std.specs.Prelude.{◌≡◌, ◌≤◌, length};
+ghost use Rattle.control_verbs.specs.Shown.{shown};
+ghost use Rattle.control_compiler.specs.Valid.{IsProgram};
+ghost use Rattle.control_run.specs.Stage.{stage};
+ghost use Rattle.control_run.specs.Standing.{IsSound};
+ghost use Rattle.control_run.specs.Statements.{IsSoundVerb, Executes};
+ghost use Rattle.control_run.specs.Running.{Steps};
+
+use crate::act::{Act, Halt, Turn};
+use crate::end::End;
+use crate::machine::Machine;
+use crate::primal::solve;
+use crate::setup::set_up;
+use crate::solution::show_solution;
+use crate::title::print_title;
+use card_reader::Cards;
+use control_compiler::{Program, Verb};
+use job_devices::Sink;
+use std::alloc::Global;
+
+/// Does what the statement of a verb on a card says.
+fn execute<P: Sink>(
+    alloc: Global,
+    machine: &mut Machine,
+    cards: &Cards,
+    print: &mut P,
+    card: u32,
+    verb: &Verb<u32>,
+) -> Result<Act, Halt>
+    requires sound { IsSound cards.now machine.old }
+    requires verb { IsSoundVerb (shown verb.now) }
+    ensures acts { Executes stage (shown verb.now) card P.written P.faults P.refusals print.old print.new cards.now machine.old machine.new result }
+    ensures sound { IsSound cards.now machine.new }
+{
+    match verb {
+        Verb::Initialz => Ok(machine.initialize()),
+        Verb::Title(text) => print_title(print, text),
+        Verb::MoveName(cell, name) => Ok(machine.move_name(*cell, *name)),
+        Verb::MoveNumber(cell, value) => Ok(machine.move_number(*cell, *value)),
+        Verb::MoveLimit(limit) => Ok(machine.move_limit(*limit)),
+        Verb::Mvadr(demand, position) => Ok(machine.set_demand(*demand, *position)),
+        Verb::Goto(position) => Ok(machine.jump(*position)),
+        Verb::Convert => machine.convert(alloc, cards, print, card),
+        Verb::Setup(options) => set_up(alloc, machine, print, card, options),
+        Verb::Primal => solve(alloc, machine, print, card),
+        Verb::Solution => show_solution(alloc, machine, print, card),
+        Verb::Revise => Ok(Act::Ends(End::NotBuilt)),
+        Verb::Ranging => Ok(Act::Ends(End::NotBuilt)),
+        Verb::Paraobj => Ok(Act::Ends(End::NotBuilt)),
+        Verb::Pararhs => Ok(Act::Ends(End::NotBuilt)),
+        Verb::Bcdout => Ok(Act::Ends(End::NotBuilt)),
+        Verb::Exit => Ok(machine.exit()),
+    }
+}
+
+/// Executes the statement at a position.
+pub fn step<P: Sink>(
+    alloc: Global,
+    machine: &mut Machine,
+    program: &Program,
+    cards: &Cards,
+    print: &mut P,
+    position: u32,
+) -> Result<Turn, Halt>
+    requires valid { IsProgram program.now }
+    requires first { 1 ≤ position }
+    requires within { position ≤ length program.now.statements }
+    requires sound { IsSound cards.now machine.old }
+    ensures steps { Steps stage program.now cards.now P.written P.faults P.refusals print.old print.new position machine.old machine.new result }
+    ensures sound { IsSound cards.now machine.new }
+{
+    let next = program.statement(position);
+    let act = execute(alloc, machine, cards, print, next.card, &next.verb)?;
+    Ok(act.turn(position))
+}

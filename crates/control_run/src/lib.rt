@@ -1,0 +1,20 @@
+//! Runs a compiled control program over the cards of a job, and prints its reports.
+#![tactic(auto)]
+
+mod act;
+mod cells;
+mod convert;
+mod end;
+mod execute;
+mod finish;
+mod machine;
+mod primal;
+mod run;
+mod selecting;
+mod setup;
+mod solution;
+mod status;
+mod title;
+
+pub use run::run_program;
+pub use status::Status;

@@ -1,0 +1,51 @@
+// The machine that runs a program.
+
+ghost use Rattle.std.specs.Prelude.{◌≡◌, ◌≤◌, ◌+◌, ◌-◌, ℕ, List, length, drop};
+ghost use Rattle.card_definitions.specs.Cards.{numbered_cards};
+ghost use Rattle.deck_definitions.specs.Decks.{decks_of};
+ghost use Rattle.run_definitions.specs.State.{start};
+ghost use Rattle.control_run.specs.Standing.{IsSound, Stands};
+
+use listing_definitions::Mark;
+use lp_definitions::Sense;
+use lp_model::Basis;
+use name_table::Name;
+use problem_file::ProblemFile;
+use run_cells::Cells;
+use std::alloc::Global;
+
+/// What SETUP keeps: the name under which the problem is on file, whether the least or the greatest objective is wanted, and
+/// the basis with which a path begins. Neither a bound set nor a range set applies.
+#[derive(Debug, Drop)]
+pub struct Setup {
+    pub name: Name,
+    pub sense: Sense,
+    pub basis: Basis,
+}
+
+/// All that statements see and change: the cells and demands, the problems on file, the number of the first card whose deck isn't
+/// taken yet, the setup and the mark.
+#[derive(Drop)]
+pub struct Machine {
+    pub cells: Cells,
+    pub file: ProblemFile,
+    pub decks_from: u32,
+    pub setup: Option<Setup>,
+    pub mark: Option<Mark>,
+}
+
+impl Machine {
+    /// A machine at the start of a run, whose decks begin with the card of this number.
+    pub fn new(alloc: Global, decks_from: u32) -> Machine
+        ensures start { (cards : List (List ℕ)) → Stands cards result 1 0 (start (decks_of (drop (decks_from - 1) (numbered_cards cards)))) }
+        ensures sound { (cards : List (List ℕ)) → 1 ≤ decks_from → decks_from ≤ length cards + 1 → IsSound cards result }
+    {
+        Machine {
+            cells: Cells::new(),
+            file: ProblemFile::new(alloc),
+            decks_from,
+            setup: None,
+            mark: None,
+        }
+    }
+}

@@ -1,0 +1,102 @@
+// The run of a program.
+ghost use Rattle.std.specs.Prelude.{◌≡◌, ◌≤◌, ◌-◌, ◌+◌, ℕ, List, length, drop, Some, MatchResult};
+ghost use Rattle.card_definitions.specs.Cards.{cards_of, numbered_cards};
+ghost use Rattle.std.specs.Io.KnownBytes.{Appends};
+ghost use Rattle.job_devices.specs.Causes.{Rose};
+ghost use Rattle.run_definitions.specs.Answer.{Job, bytes_of, IsProgramOf, IsAnswered};
+ghost use Rattle.control_run.specs.Stage.{stage};
+ghost use Rattle.control_run.specs.Ends.{end_shown, code_of};
+ghost use Rattle.control_run.specs.Turning.{end_of_halt};
+ghost use Rattle.control_run.specs.Running.{RunsTo, IsRunCut, IsRunAnswer};
+
+use crate::act::{Halt, Turn};
+use crate::end::End;
+use crate::execute::step;
+use crate::finish::{finish, status_of_cut};
+use crate::machine::Machine;
+use crate::status::Status;
+use card_reader::Cards;
+use control_compiler::Program;
+use job_devices::{Sink, WriteStop};
+use std::alloc::Global;
+
+/// A run executes at most so many statements.
+const MAX_EXECUTED: u32 = 100_000;
+
+// The number of the first card behind the program; where the job has none, it is one more than that of its last card.
+fn first_behind(program: &Program, cards: &Cards) -> u32
+    ensures first { 1 ≤ result }
+    ensures last { result ≤ length cards.now + 1 }
+    ensures same { drop (result - 1) (numbered_cards cards.now) ≡ drop (program.now.decks_from - 1) (numbered_cards cards.now) }
+{
+    program.decks_from().max(1).min(cards.count() + 1)
+}
+
+// How the run ends where a statement comes to nothing.
+fn end_of(halt: Halt) -> Result<End, WriteStop>
+    ensures { result ≡ end_of_halt halt }
+{
+    match halt {
+        Halt::NoMemory => Ok(End::Memory),
+        Halt::Print(stop) => Err(stop),
+    }
+}
+
+// Executes the statements of a program until the run ends.
+fn run<P: Sink>(
+    alloc: Global,
+    program: &Program,
+    cards: &Cards,
+    print: &mut P,
+) -> Result<End, WriteStop>
+    ensures { MatchResult result
+        (λ end. RunsTo stage program.now cards.now P.written P.faults P.refusals print.old print.new (end_shown end))
+        (IsRunCut stage program.now cards.now P.written P.faults P.refusals print.old print.new) }
+{
+    let mut machine = Machine::new(alloc, first_behind(program, cards));
+    let mut position = 1;
+    let mut executed = 0;
+    while position <= program.count() {
+        if executed >= MAX_EXECUTED {
+            return Ok(End::Statements);
+        }
+        executed += 1;
+        match step(alloc, &mut machine, program, cards, print, position) {
+            Ok(Turn::Goes(to)) => position = to,
+            Ok(Turn::Ends(end)) => return Ok(end),
+            Err(halt) => return end_of(halt),
+        }
+    }
+    Ok(End::Done)
+}
+
+// Runs a program to its end, and prints that end too.
+fn run_to_end<P: Sink>(alloc: Global, program: &Program, cards: &Cards, print: &mut P) -> Status
+    ensures answer { IsRunAnswer stage program.now cards.now (Rose (P.refusals print.old) (P.refusals print.new)) (code_of result) (P.written print.old) (P.written print.new) }
+    ensures print_fault { result ≡ Status.PrintFault → Rose (P.faults print.old) (P.faults print.new) }
+{
+    match run(alloc, program, cards, print) {
+        Ok(end) => finish(print, end),
+        Err(stop) => status_of_cut(stop),
+    }
+}
+
+/// Runs a compiled program over the cards of its job: prints the listing, and answers how the run ended.
+///
+/// A run ends by itself; where memory is wanted the listing ends with that, if it can. Behind a fault of the print, or where the
+/// print itself wants memory, nothing more is printed. Nothing is punched.
+pub fn run_program<P: Sink, U: Sink>(
+    alloc: Global,
+    program: &Program,
+    cards: &Cards,
+    print: &mut P,
+    punch: &mut U,
+) -> Status
+    ensures answer { (job : Job) (bytes : List ℕ) → bytes_of job ≡ Some bytes → IsProgramOf bytes program.now → cards.now ≡ cards_of bytes →
+        IsAnswered stage job (Rose (P.refusals print.old) (P.refusals print.new)) (code_of result) (Appends (P.written print.old) (P.written print.new)) (Appends (U.written punch.old) (U.written punch.new)) }
+    ensures print_fault { result ≡ Status.PrintFault → Rose (P.faults print.old) (P.faults print.new) }
+    ensures punch { punch.new ≡ punch.old }
+{
+    let _ = punch;
+    run_to_end(alloc, program, cards, print)
+}
