@@ -231,7 +231,7 @@ module _ {P : Type 0} (written : P → Option (List ℕ)) (faults refusals : P �
       Executes stage Primal card written faults refusals print_old print_new cards old new (Err h)
   cut_executes new (halt.Print stop) t = λ position executed state s.
       let o = outcome_by card (statement_move stage Primal card state) cards (record old { mark = mark_left t.finding old.mark }) position executed t.gain (act_of old.cells card t.finding)
-        (found_comes card cards position executed old state s (setup_shown old.file old.setup) t.gain t.finding demands s.setup t.holds) in
+      (found_comes card cards position executed old state s (setup_shown old.file old.setup) t.gain t.finding demands s.setup t.holds) in
       record {
         outcome = o.0;
         no_cards = subst (λ (g : Gain). punched_by g ≡ []) (sym o.2) (no_cards_by old.cells (setup_shown old.file old.setup) t.gain t.finding t.holds);

@@ -4,7 +4,7 @@ ghost use Rattle.job_devices.specs.Causes.{Rose};
 ghost use Rattle.job_devices.specs.declared.device.WriteStop as stops;
 ghost use Rattle.report_text.specs.Shown.{IsEnding, ending_shown, verb_fault, IsVerbFault};
 ghost use Rattle.run_definitions.specs.Verbs.{deck_fault_number, number_fault_of, column_of};
-ghost use Rattle.control_run.specs.Ends.{end_shown, code_of};
+ghost use Rattle.control_run.specs.Ends.{end_shown, code_of, IsStatusOfRun};
 ghost use Rattle.control_run.specs.Finishing.{Finishes, cut_status};
 ghost use Rattle.listing_definitions.specs.Ending.{status_of};
 
@@ -122,7 +122,8 @@ fn ending_of(end: End) -> Ending<'static>
 
 // The status of an end.
 fn status_of(end: End) -> Status
-    ensures { code_of result ≡ status_of (end_shown end) }
+    ensures code { code_of result ≡ status_of (end_shown end) }
+    ensures own { IsStatusOfRun result }
 {
     match end {
         End::Done => Status::Done,
@@ -139,7 +140,8 @@ fn status_of(end: End) -> Status
 
 /// The status where the print took no more.
 pub fn status_of_cut(stop: WriteStop) -> Status
-    ensures { result ≡ cut_status stop }
+    ensures cut { result ≡ cut_status stop }
+    ensures own { IsStatusOfRun result }
 {
     match stop {
         WriteStop::Failed => Status::PrintFault,
@@ -149,7 +151,8 @@ pub fn status_of_cut(stop: WriteStop) -> Status
 
 /// Ends the listing, and answers how the run ended.
 pub fn finish<P: Sink>(print: &mut P, end: End) -> Status
-    ensures { Finishes P.written P.faults P.refusals print.old print.new (end_shown end) result }
+    ensures finishes { Finishes P.written P.faults P.refusals print.old print.new (end_shown end) result }
+    ensures own { IsStatusOfRun result }
 {
     match text_of(&Report::End(ending_of(end)), print) {
         Ok(()) => status_of(end),

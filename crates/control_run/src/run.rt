@@ -5,7 +5,7 @@ ghost use Rattle.std.specs.Io.KnownBytes.{Appends};
 ghost use Rattle.job_devices.specs.Causes.{Rose};
 ghost use Rattle.run_definitions.specs.Answer.{Job, bytes_of, IsProgramOf, IsAnswered};
 ghost use Rattle.control_run.specs.Stage.{stage};
-ghost use Rattle.control_run.specs.Ends.{end_shown, code_of};
+ghost use Rattle.control_run.specs.Ends.{end_shown, code_of, IsStatusOfRun};
 ghost use Rattle.control_run.specs.Turning.{end_of_halt};
 ghost use Rattle.control_run.specs.Running.{RunsTo, IsRunCut, IsRunAnswer};
 
@@ -74,6 +74,7 @@ fn run<P: Sink>(
 fn run_to_end<P: Sink>(alloc: Global, program: &Program, cards: &Cards, print: &mut P) -> Status
     ensures answer { IsRunAnswer stage program.now cards.now (Rose (P.refusals print.old) (P.refusals print.new)) (code_of result) (P.written print.old) (P.written print.new) }
     ensures print_fault { result ≡ Status.PrintFault → Rose (P.faults print.old) (P.faults print.new) }
+    ensures own { IsStatusOfRun result }
 {
     match run(alloc, program, cards, print) {
         Ok(end) => finish(print, end),
@@ -95,6 +96,7 @@ pub fn run_program<P: Sink, U: Sink>(
     ensures answer { (job : Job) (bytes : List ℕ) → bytes_of job ≡ Some bytes → IsProgramOf bytes program.now → cards.now ≡ cards_of bytes →
         IsAnswered stage job (Rose (P.refusals print.old) (P.refusals print.new)) (code_of result) (Appends (P.written print.old) (P.written print.new)) (Appends (U.written punch.old) (U.written punch.new)) }
     ensures print_fault { result ≡ Status.PrintFault → Rose (P.faults print.old) (P.faults print.new) }
+    ensures own { IsStatusOfRun result }
     ensures punch { punch.new ≡ punch.old }
 {
     let _ = punch;
