@@ -1,0 +1,35 @@
+#!/usr/bin/env bash
+# Times a whole run over a deck of the greatest size: 1,000 rows, 5,000 columns and 50,000 entries, whose opening basis is
+# optimal. Prints the last line of its listing, the least processor time of five runs, in seconds, and the peak memory.
+set -eu
+program=$("$(dirname "$0")/program.sh")
+job=$(mktemp)
+trap 'rm -f "$job"' EXIT
+awk 'BEGIN {
+    for (k = split("PROGRAM CONVERT SETUP PRIMAL SOLUTION EXIT PEND", verb, " "); i++ < k;) printf "         %s\n", verb[i]
+    print "NAME          GREATEST\nROWS\n N  COST"
+    for (row = 1; row < 1000; row++) printf " L  R%d\n", row
+    print "COLUMNS"
+    for (column = 1; column <= 5000; column++) {
+        name = "X" column
+        printf "    %-8s  %-8s  %-12s\n", name, "COST", column % 97
+        for (entry = 0; entry < 9; entry++) printf "    %-8s  %-8s  %-12s\n", name, "R" (1 + (column * 7 + entry * 111) % 999), "-3.25"
+    }
+    print "RHS"
+    for (row = 1; row < 1000; row++) printf "    %-8s  %-8s  %-12s\n", "LIMIT", "R" row, row
+    print "ENDATA"
+}' >"$job"
+python3 - "$job" "$program" <<'PYTHON'
+import resource, subprocess, sys
+
+job, program = sys.argv[1:]
+least, before = None, 0.0
+for _ in range(5):
+    with open(job, "rb") as file:
+        ended = subprocess.run([program], stdin=file, stdout=subprocess.PIPE)
+    used = resource.getrusage(resource.RUSAGE_CHILDREN)
+    spent = used.ru_utime + used.ru_stime
+    least = spent - before if least is None else min(least, spent - before)
+    before = spent
+print(f"{ended.stdout.decode().splitlines()[-1]}: {least:.3f} s, {used.ru_maxrss / 1024:.1f} MB")
+PYTHON
