@@ -1,6 +1,6 @@
 -- What PRIMAL finds, what it does then, and the facts that it goes by.
-use Rattle.std.proofs.Common.{◌≡◌, ℕ, ◌+◌, ◌-◌, ◌<◌, ◌≤◌, ◌⊎◌, inl, inr, List, [], ◌++◌, Option, None, Some, IfSome, Result, Ok, Err, length, map, refl, sym, ap, subst, ◌∙◌, append-nil}
-use Rattle.std.specs.Prelude.{MatchResult, option_map, option_and_then}
+use Rattle.std.proofs.Common.{◌≡◌, ℕ, ◌≤◌, inl, List, [], Option, None, Some, IfSome, Result, Ok, Err, length, refl, sym, ap, subst, ◌∙◌, append-nil}
+use Rattle.std.specs.Prelude.{MatchResult, option_map}
 use Rattle.job_devices.proofs.TextLemmas.{writes_nothing}
 use Rattle.job_devices.specs.declared.device.WriteStop.{WriteStop}
 use Rattle.job_devices.specs.Text.{Writes}
@@ -9,7 +9,6 @@ use Rattle.problem_definitions.specs.Problem.{Problem}
 use Rattle.problem_file.specs.Filed.{Filed, filed_under}
 use Rattle.control_definitions.specs.Program.{Primal}
 use Rattle.cell_definitions.specs.Cells.{Cells}
-use Rattle.selection_definitions.specs.declared.SelectionFault.{SelectionFault}
 use Rattle.selection_definitions.specs.Choice.{Choice}
 use Rattle.selection_definitions.specs.Selection.{selected}
 use Rattle.listing_definitions.specs.declared.Mark.{Mark}
@@ -35,7 +34,7 @@ use Rattle.control_run.specs.declared.end.End.TheVariants as end
 use Rattle.control_run.specs.declared.machine.Machine.{Machine}
 use Rattle.control_run.specs.declared.machine.Setup.{Setup}
 use Rattle.control_run.specs.declared.primal.Finding.{Finding}
-use Rattle.control_run.specs.declared.primal.Finding.TheVariants.{Refused, Ended, Limit, NotBuilt}
+use Rattle.control_run.specs.declared.primal.Finding.TheVariants.{Refused, Ended}
 use Rattle.control_run.specs.Ends.{end_shown}
 use Rattle.control_run.specs.Stage.{stage}
 use Rattle.control_run.specs.Standing.{AreDemands, Stands, present_of, setup_shown}
@@ -231,7 +230,7 @@ module _ {P : Type 0} (written : P → Option (List ℕ)) (faults refusals : P �
       Executes stage Primal card written faults refusals print_old print_new cards old new (Err h)
   cut_executes new (halt.Print stop) t = λ position executed state s.
       let o = outcome_by card (statement_move stage Primal card state) cards (record old { mark = mark_left t.finding old.mark }) position executed t.gain (act_of old.cells card t.finding)
-        (found_comes card cards position executed old state s (setup_shown old.file old.setup) t.gain t.finding demands s.setup t.holds) in
+      (found_comes card cards position executed old state s (setup_shown old.file old.setup) t.gain t.finding demands s.setup t.holds) in
       record {
         outcome = o.0;
         no_cards = subst (λ (g : Gain). punched_by g ≡ []) (sym o.2) (no_cards_by old.cells (setup_shown old.file old.setup) t.gain t.finding t.holds);
