@@ -1,5 +1,5 @@
 -- What is selected of a problem without a bound set and without a range set.
-use Rattle.std.proofs.Common.{◌≡◌, ℕ, zero, suc, ◌+◌, ◌-◌, ◌<◌, ◌≤◌, Bool, true, false, List, [], ◌∷◌, Option, Some, None, map, length, refl, sym, ap, subst, ◌∙◌, arith, if◌then◌else◌}
+use Rattle.std.proofs.Common.{◌≡◌, ℕ, zero, suc, ◌+◌, ◌-◌, ◌<◌, ◌≤◌, Bool, true, false, List, ◌∷◌, Option, Some, None, map, refl, sym, ap, subst, ◌∙◌, arith, if◌then◌else◌}
 use Rattle.std.specs.Prelude.{Ok, Err, nat_le}
 use Rattle.std.proofs.lemmas.Bool.{leb-false}
 use Rattle.exact_values.specs.Rational.{ℚ, zero_ℚ}
@@ -16,11 +16,9 @@ use Rattle.selection_definitions.specs.Selection.{matrix_of, program_of_choice, 
 use Rattle.lp_setup.specs.declared.stop.SelectStop.{SelectStop}
 use Rattle.lp_setup.specs.declared.stop.SelectStop.TheVariants as stops
 use Rattle.lp_setup.specs.Stops.{fault_of, IsOverflowOf}
-use Rattle.run_definitions.specs.Verbs.{selection_verb_fault}
 use Rattle.opening_turn.specs.Opening.{AreAtZero}
 use Rattle.opening_path.specs.Laws.{SelectionLaws}
 use Rattle.control_run.specs.declared.selecting.Refusal.{Refusal}
-use Rattle.control_run.specs.declared.selecting.Refusal.TheVariants.{Fault, NoMemory}
 use Rattle.control_run.specs.Choosing.{IsNoOverflow, IsRefusalOf, IsUnselected}
 
 -- ---- refusals

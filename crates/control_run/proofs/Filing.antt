@@ -1,11 +1,11 @@
 -- What CONVERT comes to.
-use Rattle.std.proofs.Common.{◌≡◌, ℕ, ◌+◌, ◌-◌, ◌≤◌, length, arith, Bool, true, false, List, [], ◌∷◌, Option, None, Some, Result, Ok, Err, if◌then◌else◌, drop, refl, sym, ap, subst, ◌∙◌}
+use Rattle.std.proofs.Common.{◌≡◌, ℕ, ◌+◌, ◌-◌, ◌≤◌, length, arith, Bool, true, List, ◌∷◌, Option, None, Some, Result, Ok, Err, if◌then◌else◌, drop, refl, sym, ap, subst, ◌∙◌}
 use Rattle.std.specs.Prelude.{option_and_then, bytes_eq}
 use Rattle.std.proofs.lemmas.Slice.Eq.{bytes_eq-Decides}
 use Rattle.std.proofs.lemmas.Bool.Decides.{same_from_decides}
 use Rattle.job_devices.specs.declared.device.WriteStop.{WriteStop}
 use Rattle.job_devices.specs.Text.{Writes}
-use Rattle.card_definitions.specs.Cards.{Card, numbered_cards, cards_between}
+use Rattle.card_definitions.specs.Cards.{Card, numbered_cards}
 use Rattle.deck_definitions.specs.declared.DeckFault.{DeckFault}
 use Rattle.deck_definitions.specs.Decks.{decks_of, deck_taken}
 use Rattle.deck_definitions.specs.Conversion.{conversion}
@@ -29,7 +29,7 @@ use Rattle.control_run.specs.declared.convert.Described.TheVariants as described
 use Rattle.control_run.specs.declared.end.End.TheVariants.{Verb, Deck}
 use Rattle.control_run.specs.declared.machine.Machine.{Machine}
 use Rattle.control_run.specs.Stage.{stage}
-use Rattle.control_run.specs.Standing.{named, filed, Stands}
+use Rattle.control_run.specs.Standing.{filed, Stands}
 use Rattle.control_run.specs.Statements.{Comes, Executes}
 use Rattle.control_run.specs.Converting.{decks_from, IsDescribed, Describes, stopped_at}
 use Rattle.control_run.proofs.Giving.{gives_fault, gives_found, loudly, cut_off}

@@ -1,5 +1,5 @@
 -- What SETUP comes to.
-use Rattle.std.proofs.Common.{◌≡◌, ◌||◌, ◌&&◌, ℕ, Bool, true, false, is_some, is_none, List, [], Option, None, Some, Result, Ok, Err, refl, sym, ap, subst, inl, ◌∙◌, option_map}
+use Rattle.std.proofs.Common.{◌≡◌, ◌||◌, ◌&&◌, ℕ, true, false, is_some, is_none, List, [], Option, None, Some, Ok, Err, refl, sym, ap, subst, inl, ◌∙◌, option_map}
 use Rattle.job_devices.specs.declared.device.WriteStop.{WriteStop}
 use Rattle.job_devices.specs.Text.{Writes}
 use Rattle.problem_definitions.specs.Names.{Name}
@@ -9,7 +9,6 @@ use Rattle.lp_definitions.specs.declared.Sense.{Sense}
 use Rattle.lp_definitions.specs.LinearProgram.{LinearProgram}
 use Rattle.lp_definitions.specs.Basis.{opening_statuses}
 use Rattle.control_definitions.specs.Program.{SetupOptions, Setup as SetupVerb}
-use Rattle.selection_definitions.specs.Choice.{Choice}
 use Rattle.selection_definitions.specs.Selection.{selected}
 use Rattle.listing_definitions.specs.declared.VerbFault.{VerbFault}
 use Rattle.listing_definitions.specs.declared.VerbFault.TheVariants as verb_fault
@@ -21,11 +20,10 @@ use Rattle.opening_path.specs.Laws.{SelectionLaws}
 use Rattle.cell_definitions.specs.Cells.{Cells}
 use Rattle.run_definitions.specs.State.{Present, State, problem_of, choice_of}
 use Rattle.run_definitions.specs.Moves.{Prints, Outcome, next, stops, Move, Does, MayStop, Gives}
-use Rattle.run_definitions.specs.Verbs.{selects, or_selection_fault, RangeOverflows, verb_move, statement_move}
+use Rattle.run_definitions.specs.Verbs.{or_selection_fault, RangeOverflows, verb_move, statement_move}
 use Rattle.control_run.specs.declared.act.Act.TheVariants.{Next}
 use Rattle.control_run.specs.declared.act.Halt.TheVariants as halt
 use Rattle.control_run.specs.declared.machine.Machine.{Machine}
-use Rattle.control_run.specs.declared.machine.Setup.{Setup}
 use Rattle.control_run.specs.declared.selecting.Refusal.{Refusal}
 use Rattle.control_run.specs.declared.selecting.Refusal.TheVariants.{Fault, NoMemory}
 use Rattle.control_run.specs.declared.setup.Opened.{Opened}

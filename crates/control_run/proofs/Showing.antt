@@ -16,17 +16,14 @@ use Rattle.listing_definitions.specs.declared.VerbFault.TheVariants as verb_faul
 use Rattle.listing_definitions.specs.Report.{SolutionLines, Solution}
 use Rattle.listing_definitions.specs.Ending.{VerbStop}
 use Rattle.solver_definitions.specs.Answers.{Basis, Sheet, OfSolution}
-use Rattle.solver_definitions.specs.Solving.{Solving}
 use Rattle.cell_definitions.specs.Cells.{Cells}
 use Rattle.solving_definitions.specs.Sections.{IsShown}
-use Rattle.run_definitions.specs.State.{Present, State, choice_of, present_basis, path_of}
-use Rattle.run_definitions.specs.Moves.{Prints, Outcome, next, stops, Move, Does, MayStop, Asks, Gives, or_fault}
+use Rattle.run_definitions.specs.State.{Present, State, choice_of, present_basis}
+use Rattle.run_definitions.specs.Moves.{Prints, Outcome, next, stops, Move, Gives, or_fault}
 use Rattle.run_definitions.specs.Verbs.{asks, shows_present, verb_move, statement_move}
-use Rattle.control_run.specs.declared.act.Act.{Act}
-use Rattle.control_run.specs.declared.act.Act.TheVariants.{Next, Ends}
+use Rattle.control_run.specs.declared.act.Act.TheVariants.{Next}
 use Rattle.control_run.specs.declared.act.Halt.{Halt}
 use Rattle.control_run.specs.declared.act.Halt.TheVariants as halt
-use Rattle.control_run.specs.declared.end.End.TheVariants as ends
 use Rattle.control_run.specs.declared.machine.Machine.{Machine}
 use Rattle.control_run.specs.declared.machine.Setup.{Setup}
 use Rattle.control_run.specs.declared.selecting.Refusal.{Refusal}

@@ -1,6 +1,6 @@
 -- What PRIMAL finds, what it does then, and the facts that it goes by.
-use Rattle.std.proofs.Common.{◌≡◌, ℕ, ◌+◌, ◌-◌, ◌<◌, ◌≤◌, ◌⊎◌, inl, inr, List, [], ◌++◌, Option, None, Some, IfSome, Result, Ok, Err, length, map, refl, sym, ap, subst, ◌∙◌, append-nil}
-use Rattle.std.specs.Prelude.{MatchResult, option_map, option_and_then}
+use Rattle.std.proofs.Common.{◌≡◌, ℕ, ◌≤◌, inl, List, [], Option, None, Some, IfSome, Result, Ok, Err, length, refl, sym, ap, subst, ◌∙◌, append-nil}
+use Rattle.std.specs.Prelude.{MatchResult, option_map}
 use Rattle.job_devices.proofs.TextLemmas.{writes_nothing}
 use Rattle.job_devices.specs.declared.device.WriteStop.{WriteStop}
 use Rattle.job_devices.specs.Text.{Writes}
@@ -9,7 +9,6 @@ use Rattle.problem_definitions.specs.Problem.{Problem}
 use Rattle.problem_file.specs.Filed.{Filed, filed_under}
 use Rattle.control_definitions.specs.Program.{Primal}
 use Rattle.cell_definitions.specs.Cells.{Cells}
-use Rattle.selection_definitions.specs.declared.SelectionFault.{SelectionFault}
 use Rattle.selection_definitions.specs.Choice.{Choice}
 use Rattle.selection_definitions.specs.Selection.{selected}
 use Rattle.listing_definitions.specs.declared.Mark.{Mark}
@@ -35,7 +34,7 @@ use Rattle.control_run.specs.declared.end.End.TheVariants as end
 use Rattle.control_run.specs.declared.machine.Machine.{Machine}
 use Rattle.control_run.specs.declared.machine.Setup.{Setup}
 use Rattle.control_run.specs.declared.primal.Finding.{Finding}
-use Rattle.control_run.specs.declared.primal.Finding.TheVariants.{Refused, Ended, Limit, NotBuilt}
+use Rattle.control_run.specs.declared.primal.Finding.TheVariants.{Refused, Ended}
 use Rattle.control_run.specs.Ends.{end_shown}
 use Rattle.control_run.specs.Stage.{stage}
 use Rattle.control_run.specs.Standing.{AreDemands, Stands, present_of, setup_shown}

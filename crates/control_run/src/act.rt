@@ -60,17 +60,6 @@ impl From<WriteStop> for Halt {
     }
 }
 
-impl From<lp_model::NoMemory> for Halt {
-    ghost use Rattle.std.specs.Prelude.{◌≡◌};
-    ghost use Rattle.control_run.specs.declared.act.Halt.TheVariants as halt;
-
-    ghost from_gives = { λ _ h. h ≡ halt.NoMemory };
-
-    fn from(_refused: lp_model::NoMemory) -> Halt {
-        Halt::NoMemory
-    }
-}
-
 impl From<NoMemory> for Halt {
     ghost use Rattle.std.specs.Prelude.{◌≡◌};
     ghost use Rattle.control_run.specs.declared.act.Halt.TheVariants as halt;
