@@ -1,0 +1,72 @@
+-- Every report of every run holds.
+use Rattle.std.proofs.Common.{◌≡◌, ℕ, List, [], ◌∷◌, ◌++◌}
+use Rattle.std.specs.Prelude.{Bool, All}
+use Rattle.std.proofs.lemmas.List.Elements.{All-append, All-nil, All-cons}
+use Rattle.card_definitions.specs.Cards.{Card}
+use Rattle.control_definitions.specs.Program.{Program, Verb}
+use Rattle.listing_definitions.specs.Report.{Report}
+use Rattle.listing_definitions.specs.Ending.{Ending}
+use Rattle.solver_definitions.specs.Answers.{Basis, Sheet}
+use Rattle.solver_definitions.specs.Solving.{Solving}
+use Rattle.solving_definitions.specs.Real.{linear_programming, staged}
+use Rattle.run_definitions.specs.State.{State}
+use Rattle.run_definitions.specs.Moves.{Gain, Nothing, Prints, Punches, printed_by, Outcome, Goes, Ends}
+use Rattle.run_definitions.specs.Run.{counted, Step, Reaches, begun, stepped, IsRun, is_over, is_ended}
+use Rattle.run_definitions.specs.Answer.{Job, IsJobRun, card_fault, control_fault, run, MayEnd, words_refused, read_fails, by_itself, memory_at_start, memory_in_run, memory_at_punch, punch_fails, IsPossibleListing}
+use Rattle.run_laws.specs.Truth.{HoldsOf}
+use Rattle.run_laws.specs.Laws.{KnowsSolving, ListsTruth}
+use Rattle.run_laws.proofs.Moves.{Knows, HoldsGain, Keeps, unmarked}
+use Rattle.run_laws.proofs.Verbs.{statement_kept}
+
+-- the report of a gain
+printed_holds : (gain : Gain) → HoldsGain gain → All HoldsOf (printed_by gain)
+printed_holds Nothing holds = All-nil HoldsOf
+printed_holds (Prints report) holds = All-cons HoldsOf report [] holds (All-nil HoldsOf)
+printed_holds (Punches report cards) holds = All-cons HoldsOf report [] holds (All-nil HoldsOf)
+
+module _ (S : Solving) (solving : KnowsSolving S) where
+  step_keeps : (program : Program) (state : State) (outcome : Outcome) → Knows state → Step S program state outcome → Keeps outcome
+  step_keeps program state outcome knows step = (statement_kept S solving step.statement.verb step.statement.card (counted state) knows).by outcome step.gives
+
+  reaching : (program : Program) (decks : List (List Card)) (reports : List Report) (cards : List (List ℕ)) (state : State) →
+      Reaches S program decks reports cards state → All HoldsOf reports × Knows state
+  reaching program decks _ _ _ begun = (All-nil HoldsOf, unmarked _ _ _)
+  reaching program decks _ _ _ (stepped {reports} {cards} {state} gain after before step) =
+      let so_far = reaching program decks reports cards state before in
+      let kept = step_keeps program state (Goes gain after) so_far.1 step in
+      (All-append HoldsOf reports (printed_by gain) so_far.0 (printed_holds gain kept.0), kept.1)
+
+  running : (program : Program) (decks : List (List Card)) (reports : List Report) (cards : List (List ℕ)) (ending : Ending) →
+      IsRun S program decks reports cards ending → All HoldsOf reports
+  running program decks reports cards ending (is_over before over) = (reaching program decks _ _ _ before).0
+  running program decks _ _ ending (is_ended {reports} {cards} {state} gain before step) =
+      let so_far = reaching program decks reports cards state before in
+      All-append HoldsOf reports (printed_by gain) so_far.0 (printed_holds gain (step_keeps program state (Ends gain ending) so_far.1 step))
+
+  job_running : (bytes : List ℕ) (reports : List Report) (cards : List (List ℕ)) (ending : Ending) → IsJobRun S bytes reports cards ending → All HoldsOf reports
+  job_running bytes _ _ _ (card_fault fault is) = All-nil HoldsOf
+  job_running bytes _ _ _ (control_fault fault is compiled) = All-nil HoldsOf
+  job_running bytes reports cards ending (run program is runs) = running program _ reports cards ending runs
+
+  ending_so : (job : Job) (reports : List Report) (cards : List (List ℕ)) (ending : Ending) → MayEnd S job reports cards ending → All HoldsOf reports
+  ending_so job _ _ _ (words_refused is) = All-nil HoldsOf
+  ending_so job _ _ _ (read_fails bytes is) = All-nil HoldsOf
+  ending_so job reports cards ending (by_itself bytes is runs) = job_running bytes reports cards ending runs
+  ending_so job _ _ _ memory_at_start = All-nil HoldsOf
+  ending_so job _ _ _ (memory_in_run bytes program state is so_far) = (reaching program _ _ _ state so_far.reaches).0
+  ending_so job _ _ _ (memory_at_punch bytes program state deck is so_far punching) = (reaching program _ _ _ state so_far.reaches).0
+  ending_so job _ _ _ (punch_fails bytes program state deck is so_far punching) = (reaching program _ _ _ state so_far.reaches).0
+
+  pub lists_truth : ListsTruth S
+  lists_truth = record {
+    so_far = λ program decks reports cards state reaches. (reaching program decks reports cards state reaches).0;
+    whole = running;
+    job = ending_so;
+    listing = λ job text deck_text possible. ending_so job possible.reports possible.cards possible.ending possible.may_end;
+  }
+
+pub knows_linear : KnowsSolving linear_programming
+knows_linear = record { solves = λ sheet s limit bases verdict check solved. solved; shows = λ sheet s lines shown. shown }
+
+pub knows_built : (builds : Verb ℕ → Bool) (IsMissing : Sheet → Basis → ℕ → Type 0) → KnowsSolving (staged builds IsMissing)
+knows_built builds IsMissing = record { solves = λ sheet s limit bases verdict check solved. solved.0; shows = λ sheet s lines shown. shown }

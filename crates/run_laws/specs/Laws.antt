@@ -1,0 +1,36 @@
+-- The law of whole runs, as the function of src/lib.rt promises it.
+--     KnowsSolving S               the ends of paths and the lines of SOLUTION are those of the linear program
+--     ListsTruth S                 every report of every run holds
+use Rattle.std.specs.Prelude.{ℕ, Bool, IsTrue, List, All}
+use Rattle.card_definitions.specs.Cards.{Card}
+use Rattle.control_definitions.specs.Program.{Verb, Program}
+use Rattle.listing_definitions.specs.Report.{SolutionLines, Verdict, Check, Report}
+use Rattle.listing_definitions.specs.Ending.{Ending}
+use Rattle.solver_definitions.specs.Answers.{Basis, Sheet, Reached}
+use Rattle.solver_definitions.specs.Solving.{Solving}
+use Rattle.solving_definitions.specs.Verdicts.{ReachesVerdict}
+use Rattle.solving_definitions.specs.Sections.{IsShown}
+use Rattle.solving_definitions.specs.Real.{linear_programming, staged}
+use Rattle.run_definitions.specs.State.{State}
+use Rattle.run_definitions.specs.Run.{Reaches, IsRun}
+use Rattle.run_definitions.specs.Answer.{Job, MayEnd, IsPossibleListing}
+use Rattle.run_laws.specs.Truth.{HoldsOf}
+
+pub record KnowsSolving (S : Solving) : Type 0 where
+  pub solves : (sheet : Sheet) (s : Basis) (limit : ℕ) (bases : List Basis) (verdict : Verdict) (check : Check) →
+      S.Solves sheet s limit (Reached bases verdict check) → ReachesVerdict sheet s limit bases verdict check
+  pub shows : (sheet : Sheet) (s : Basis) (lines : SolutionLines) → S.Shows sheet s lines → IsShown sheet s lines
+
+-- of a run so far, of a whole run, of a job however it ends, and so of every listing that a job may have
+pub record ListsTruth (S : Solving) : Type 0 where
+  pub so_far : (program : Program) (decks : List (List Card)) (reports : List Report) (cards : List (List ℕ)) (state : State) →
+      Reaches S program decks reports cards state → All HoldsOf reports
+  pub whole : (program : Program) (decks : List (List Card)) (reports : List Report) (cards : List (List ℕ)) (ending : Ending) →
+      IsRun S program decks reports cards ending → All HoldsOf reports
+  pub job : (job : Job) (reports : List Report) (cards : List (List ℕ)) (ending : Ending) → MayEnd S job reports cards ending → All HoldsOf reports
+  pub listing : (job : Job) (text deck_text : List ℕ) → (possible : IsPossibleListing S job text deck_text) → All HoldsOf possible.reports
+
+-- where every verb is built; and where only some are, and no path from some bases
+pub record RunLaws : Type 0 where
+  pub linear : ListsTruth linear_programming
+  pub built : (builds : Verb ℕ → Bool) (is_missing : Sheet → Basis → ℕ → Bool) → ListsTruth (staged builds (λ sheet s limit. IsTrue (is_missing sheet s limit)))

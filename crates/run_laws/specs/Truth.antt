@@ -1,0 +1,77 @@
+-- What is true of the reports of a run.
+--     IsSound p s                  p is a linear program, and s is a nonsingular basis of it
+--     IsBestShown lines            the lines show a basis at which the path has ended optimal: its point is best, and its prices prove it
+--     IsTrueVerdict verdict check  the verdict is the end of a path, and what it says of the linear program holds
+--     HoldsOf report               what holds of a report
+use Rattle.std.specs.Prelude.{◌≡◌, List, length, Ok}
+use Rattle.exact_values.specs.Rational.{ℚ}
+use Rattle.lp_definitions.specs.LinearProgram.{LinearProgram, value_at, IsLinearProgram}
+use Rattle.lp_definitions.specs.Solutions.{IsBest, AreProvingPrices, IsInfeasible, IsUnbounded}
+use Rattle.lp_definitions.specs.Basis.{basics_of, Tableau, IsTableau, price_at}
+use Rattle.path_definitions.specs.Path.{Ending, EndsOptimal, EndsCrossed, EndsInfeasible, EndsUnbounded, EndsAt, PathEnds}
+use Rattle.path_laws.specs.Laws.{IsNonsingularBasis}
+use Rattle.selection_definitions.specs.Choice.{Choice}
+use Rattle.selection_definitions.specs.Selection.{selected}
+use Rattle.listing_definitions.specs.declared.Mark.{Mark}
+use Rattle.listing_definitions.specs.declared.Mark.TheVariants.{Optimal}
+use Rattle.listing_definitions.specs.declared.Solver.{Solver}
+use Rattle.listing_definitions.specs.declared.Solver.TheVariants.{Primal as ByPrimal}
+use Rattle.listing_definitions.specs.Report.{SolutionLines, Verdict, Check, Report, Titled, Converted, Revised, SetUp, Punched, Solved, Solution, Ranges, Parametric}
+use Rattle.solver_definitions.specs.Answers.{Basis, Sheet}
+use Rattle.solving_definitions.specs.Verdicts.{IsVerdict}
+use Rattle.solving_definitions.specs.Sections.{solution_lines}
+
+pub record IsSound (p : LinearProgram) (s : Basis) : Type 0 where
+  pub lawful : IsLinearProgram p
+  pub nonsingular : IsNonsingularBasis p s
+
+-- the point is feasible and no feasible one betters it, and the prices prove that
+pub record IsProvedBest (p : LinearProgram) (s : Basis) (t : Tableau) : Type 0 where
+  pub best : IsBest p t.point
+  pub proving : AreProvingPrices p t.point (price_at p (basics_of s) t.rate)
+
+-- The lines are those of a basis of a linear program that a choice selects of a problem; the path has ended optimal at this basis;
+-- and its point and prices, which are printed, are proved best.
+pub record IsBestShown (lines : SolutionLines) : Type 0 where
+  pub sheet : Sheet
+  pub choice : Choice
+  pub is_selected : selected sheet.problem choice ≡ Ok sheet.lp
+  pub basis : Basis
+  pub tableau : Tableau
+  pub is_tableau : IsTableau sheet.lp basis tableau
+  pub are_lines : lines ≡ solution_lines sheet basis tableau
+  pub point : List ℚ
+  pub prices : List ℚ
+  pub ends : EndsAt sheet.lp basis (EndsOptimal point prices)
+  pub proved : IsSound sheet.lp basis → IsProvedBest sheet.lp basis tableau
+
+-- what an end says of the linear program
+abbrev pub IsTrueEnd : LinearProgram → Ending → Type 0
+IsTrueEnd p (EndsOptimal point prices) = IsBest p (value_at point)
+IsTrueEnd p (EndsCrossed k) = IsInfeasible p
+IsTrueEnd p (EndsInfeasible ray) = IsInfeasible p
+IsTrueEnd p (EndsUnbounded point direction) = IsUnbounded p
+
+-- The verdict is that of a path, from a basis of a linear program that a choice selects of a problem; and it is true.
+pub record IsTrueVerdict (verdict : Verdict) (check : Check) : Type 0 where
+  pub sheet : Sheet
+  pub choice : Choice
+  pub is_selected : selected sheet.problem choice ≡ Ok sheet.lp
+  pub from : Basis
+  pub bases : List Basis
+  pub ending : Ending
+  pub ends : PathEnds sheet.lp from bases ending
+  pub is_verdict : IsVerdict sheet (length bases) ending verdict check
+  pub is_true : IsSound sheet.lp from → IsTrueEnd sheet.lp ending
+
+-- SOLUTION with the mark OPTIMAL shows what is best, and each verdict of PRIMAL is true. Of other reports nothing is said here.
+abbrev pub HoldsOf : Report → Type 0
+HoldsOf (Titled text) = Unit {0}
+HoldsOf (Converted filed) = Unit {0}
+HoldsOf (Revised filed) = Unit {0}
+HoldsOf (SetUp name sense) = Unit {0}
+HoldsOf (Punched name cards) = Unit {0}
+HoldsOf (Solved solver verdict check) = solver ≡ ByPrimal → IsTrueVerdict verdict check
+HoldsOf (Solution mark lines) = mark ≡ Optimal → IsBestShown lines
+HoldsOf (Ranges lines) = Unit {0}
+HoldsOf (Parametric solver chain) = Unit {0}
