@@ -1,5 +1,5 @@
 -- What the ends of paths prove of the linear program, and of the point and the prices that are shown.
-use Rattle.std.proofs.Common.{◌≡◌, List, sym, ◌∙◌}
+use Rattle.std.proofs.Common.{◌≡◌, List, ◌∙◌}
 use Rattle.exact_values.specs.Rational.{ℚ}
 use Rattle.lp_definitions.specs.LinearProgram.{LinearProgram, IsLinearProgram}
 use Rattle.lp_definitions.specs.Solutions.{by_crossed, by_ray}
@@ -16,7 +16,7 @@ use Rattle.path_laws.proofs.Rays.{infeasible_end}
 use Rattle.path_laws.proofs.OneTurn.{SameTableau, turn_same}
 use Rattle.path_laws.proofs.OnePath.{path_leads}
 use Rattle.solver_definitions.specs.Answers.{Basis}
-use Rattle.run_laws.specs.Truth.{IsSound, IsProvedBest, IsTrueEnd}
+use Rattle.run_laws.specs.Truth.{IsProvedBest, IsTrueEnd}
 
 ends_optimal : (p : LinearProgram) (s : Basis) (t : Tableau) (z y : List ℚ) → turn p s t ≡ Ends (EndsOptimal z y) → IsOptimalTurn p s t (Ends (EndsOptimal z y))
 ends_optimal p s t z y turns = optimal_turn p s t z y (rule_of p s t (Ends (EndsOptimal z y)) turns)
@@ -43,10 +43,10 @@ same_tableau p s t u at first second = record {
 }
 
 -- where the path ends optimal, every tableau of the basis shows what is best
-pub shown_is_best : (p : LinearProgram) (s : Basis) (t : Tableau) (z y : List ℚ) → IsTableau p s t → EndsAt p s (EndsOptimal z y) → IsSound p s → IsProvedBest p s t
-shown_is_best p s t z y tab ends sound =
-    let same = turn_same p s t ends.tableau sound.lawful sound.nonsingular.is_basis (same_tableau p s t ends.tableau sound.nonsingular tab ends.is_tableau) in
-    optimal_at p s t z y sound.nonsingular tab (same ∙ ends.turns) sound.lawful
+pub shown_is_best : (p : LinearProgram) (s : Basis) (t : Tableau) (z y : List ℚ) → IsTableau p s t → EndsAt p s (EndsOptimal z y) → IsNonsingularBasis p s → IsLinearProgram p → IsProvedBest p s t
+shown_is_best p s t z y tab ends at lawful =
+    let same = turn_same p s t ends.tableau lawful at.is_basis (same_tableau p s t ends.tableau at tab ends.is_tableau) in
+    optimal_at p s t z y at tab (same ∙ ends.turns) lawful
 
 -- what an end says is true
 end_is_true : (p : LinearProgram) (s : Basis) (ending : Ending) → IsLinearProgram p → IsNonsingularBasis p s → EndsAt p s ending → IsTrueEnd p ending
@@ -55,5 +55,5 @@ end_is_true p s (EndsCrossed k) lawful at ends = infeasible_by_proof p (by_cross
 end_is_true p s (EndsInfeasible w) lawful at ends = infeasible_by_proof p (by_ray _ (infeasible_end p s w at.is_basis at.nonsingular ends))
 end_is_true p s (EndsUnbounded z d) lawful at ends = unbounded_by_direction p _ _ (unbounded_end p s z d lawful at.is_basis ends)
 
-pub path_is_true : (p : LinearProgram) (s : Basis) (bases : List Basis) (ending : Ending) → PathEnds p s bases ending → IsSound p s → IsTrueEnd p ending
-path_is_true p s bases ending path sound = end_is_true p (last_of s bases) ending sound.lawful (path_leads p s bases sound.nonsingular path.is_path) path.ends
+pub path_is_true : (p : LinearProgram) (s : Basis) (bases : List Basis) (ending : Ending) → PathEnds p s bases ending → IsNonsingularBasis p s → IsLinearProgram p → IsTrueEnd p ending
+path_is_true p s bases ending path at lawful = end_is_true p (last_of s bases) ending lawful (path_leads p s bases at path.is_path) path.ends

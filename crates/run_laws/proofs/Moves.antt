@@ -21,7 +21,9 @@ use Rattle.listing_definitions.specs.Ending.{Place}
 use Rattle.run_definitions.specs.State.{Present, present_basis, State}
 use Rattle.run_definitions.specs.Moves.{Gain, Nothing, Prints, Punches, Outcome, Goes, Ends, Move, Does, MayStop, Asks, Gives, or_fault}
 use Rattle.run_definitions.specs.Verbs.{or_deck_fault, or_selection_fault, selects}
+use Rattle.path_laws.specs.Laws.{IsNonsingularBasis}
 use Rattle.run_laws.specs.Truth.{HoldsOf}
+use Rattle.run_laws.proofs.Shapes.{basis_of_either}
 
 pub record EndsOptimally (setup : Option Present) (objective rhs : Option Name) : Type 0 where
   pub present : Present
@@ -35,8 +37,17 @@ pub record EndsOptimally (setup : Option Present) (objective rhs : Option Name) 
 abbrev pub KnowsMark : Option Mark → Option Present → Option Name → Option Name → Type 0
 KnowsMark mark setup objective rhs = mark ≡ Some Optimal → EndsOptimally setup objective rhs
 
-abbrev pub Knows : State → Type 0
-Knows state = KnowsMark state.mark state.setup state.cells.xobj state.cells.xrhs
+-- whatever the cells select of the setup's problem, the present basis is a nonsingular basis of it
+pub record HasBases (present : Present) : Type 0 where
+  pub in_each : (objective rhs : Option Name) (lp : LinearProgram) → selected present.problem (record { objective = objective; rhs = rhs; options = present.options }) ≡ Ok lp →
+      IsNonsingularBasis lp (present_basis present)
+
+abbrev pub KnowsBases : Option Present → Type 0
+KnowsBases setup = (present : Present) → setup ≡ Some present → HasBases present
+
+pub record Knows (state : State) : Type 0 where
+  pub marked : KnowsMark state.mark state.setup state.cells.xobj state.cells.xrhs
+  pub bases : KnowsBases state.setup
 
 abbrev pub HoldsGain : Gain → Type 0
 HoldsGain Nothing = Unit {0}
@@ -53,6 +64,20 @@ pub record IsKept (card : ℕ) (move : Move) : Type 0 where
 -- no mark, nothing to know
 pub unmarked : (setup : Option Present) (objective rhs : Option Name) → KnowsMark None setup objective rhs
 unmarked setup objective rhs e = absurd (cc e)
+
+-- no setup, no bases
+pub without_setup : KnowsBases None
+without_setup present e = absurd (cc e)
+
+-- a nonsingular basis of what is selected now is one of all that may be selected
+pub with_basis : (present : Present) (objective rhs : Option Name) (lp : LinearProgram) → selected present.problem (record { objective = objective; rhs = rhs; options = present.options }) ≡ Ok lp →
+    IsNonsingularBasis lp (present_basis present) → KnowsBases (Some present)
+with_basis present objective rhs lp is at other e = subst HasBases same (record {
+  in_each = λ objective' rhs' lp' is'. basis_of_either present.problem present.options objective rhs objective' rhs' lp lp' (present_basis present) is is' at;
+})
+  where
+    same : present ≡ other
+    same = cc
 
 pub does : (card : ℕ) (outcome : Outcome) → Keeps outcome → IsKept card (Does outcome)
 does card outcome keeps = record { by = λ given e. subst Keeps (sym e) keeps }

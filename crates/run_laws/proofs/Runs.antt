@@ -1,9 +1,9 @@
 -- Every report of every run holds.
-use Rattle.std.proofs.Common.{◌≡◌, ℕ, List, [], ◌∷◌, ◌++◌}
-use Rattle.std.specs.Prelude.{Bool, All}
+use Rattle.std.proofs.Common.{◌≡◌, ℕ, Bool, false, List, [], inl, inr}
+use Rattle.std.specs.Prelude.{All}
 use Rattle.std.proofs.lemmas.List.Elements.{All-append, All-nil, All-cons}
 use Rattle.card_definitions.specs.Cards.{Card}
-use Rattle.control_definitions.specs.Program.{Program, Verb}
+use Rattle.control_definitions.specs.Program.{Program, Verb, Paraobj, Pararhs}
 use Rattle.listing_definitions.specs.Report.{Report}
 use Rattle.listing_definitions.specs.Ending.{Ending}
 use Rattle.solver_definitions.specs.Answers.{Basis, Sheet}
@@ -12,10 +12,10 @@ use Rattle.solving_definitions.specs.Real.{linear_programming, staged}
 use Rattle.run_definitions.specs.State.{State}
 use Rattle.run_definitions.specs.Moves.{Gain, Nothing, Prints, Punches, printed_by, Outcome, Goes, Ends}
 use Rattle.run_definitions.specs.Run.{counted, Step, Reaches, begun, stepped, IsRun, is_over, is_ended}
-use Rattle.run_definitions.specs.Answer.{Job, IsJobRun, card_fault, control_fault, run, MayEnd, words_refused, read_fails, by_itself, memory_at_start, memory_in_run, memory_at_punch, punch_fails, IsPossibleListing}
+use Rattle.run_definitions.specs.Answer.{Job, IsJobRun, card_fault, control_fault, run, MayEnd, words_refused, read_fails, by_itself, memory_at_start, memory_in_run, memory_at_punch, punch_fails}
 use Rattle.run_laws.specs.Truth.{HoldsOf}
-use Rattle.run_laws.specs.Laws.{KnowsSolving, ListsTruth}
-use Rattle.run_laws.proofs.Moves.{Knows, HoldsGain, Keeps, unmarked}
+use Rattle.run_laws.specs.Laws.{KnowsSolving, SweepsKeepBases, ListsTruth}
+use Rattle.run_laws.proofs.Moves.{Knows, HoldsGain, Keeps, unmarked, without_setup}
 use Rattle.run_laws.proofs.Verbs.{statement_kept}
 
 -- the report of a gain
@@ -26,11 +26,11 @@ printed_holds (Punches report cards) holds = All-cons HoldsOf report [] holds (A
 
 module _ (S : Solving) (solving : KnowsSolving S) where
   step_keeps : (program : Program) (state : State) (outcome : Outcome) → Knows state → Step S program state outcome → Keeps outcome
-  step_keeps program state outcome knows step = (statement_kept S solving step.statement.verb step.statement.card (counted state) knows).by outcome step.gives
+  step_keeps program state outcome knows step = (statement_kept S solving step.statement.verb step.statement.card (counted state) (record { marked = knows.marked; bases = knows.bases })).by outcome step.gives
 
   reaching : (program : Program) (decks : List (List Card)) (reports : List Report) (cards : List (List ℕ)) (state : State) →
       Reaches S program decks reports cards state → All HoldsOf reports × Knows state
-  reaching program decks _ _ _ begun = (All-nil HoldsOf, unmarked _ _ _)
+  reaching program decks _ _ _ begun = (All-nil HoldsOf, record { marked = unmarked _ _ _; bases = without_setup })
   reaching program decks _ _ _ (stepped {reports} {cards} {state} gain after before step) =
       let so_far = reaching program decks reports cards state before in
       let kept = step_keeps program state (Goes gain after) so_far.1 step in
@@ -65,8 +65,12 @@ module _ (S : Solving) (solving : KnowsSolving S) where
     listing = λ job text deck_text possible. ending_so job possible.reports possible.cards possible.ending possible.may_end;
   }
 
-pub knows_linear : KnowsSolving linear_programming
-knows_linear = record { solves = λ sheet s limit bases verdict check solved. solved; shows = λ sheet s lines shown. shown }
+pub knows_linear : SweepsKeepBases linear_programming → KnowsSolving linear_programming
+knows_linear keep = record { solves = λ sheet s limit bases verdict check solved. solved; shows = λ sheet s lines shown. shown; sweeps = inr keep }
 
-pub knows_built : (builds : Verb ℕ → Bool) (IsMissing : Sheet → Basis → ℕ → Type 0) → KnowsSolving (staged builds IsMissing)
-knows_built builds IsMissing = record { solves = λ sheet s limit bases verdict check solved. solved.0; shows = λ sheet s lines shown. shown }
+pub knows_built : (builds : Verb ℕ → Bool) (IsMissing : Sheet → Basis → ℕ → Type 0) → builds Paraobj ≡ false → builds Pararhs ≡ false → KnowsSolving (staged builds IsMissing)
+knows_built builds IsMissing paraobj pararhs = record {
+  solves = λ sheet s limit bases verdict check solved. solved.0;
+  shows = λ sheet s lines shown. shown;
+  sweeps = inl (record { paraobj = paraobj; pararhs = pararhs });
+}

@@ -1,5 +1,5 @@
 -- Each verb keeps what a run knows, and what it reports holds.
-use Rattle.std.proofs.Common.{◌≡◌, ℕ, Bool, true, false, List, [], ◌∷◌, ◌++◌, refl, sym, ap, subst, ◌∙◌}
+use Rattle.std.proofs.Common.{◌⊎◌, inl, inr, ◌≡◌, ℕ, Bool, true, false, List, [], ◌∷◌, ◌++◌, refl, sym, ap, subst, ◌∙◌}
 use Rattle.std.specs.Prelude.{Option, Some, None, Ok, option_and_then}
 use Rattle.exact_values.specs.Rational.{ℚ}
 use Rattle.lp_definitions.specs.LinearProgram.{LinearProgram}
@@ -30,12 +30,15 @@ use Rattle.solving_definitions.specs.Verdicts.{verdict_of}
 use Rattle.solving_definitions.specs.Sections.{IsShown}
 use Rattle.cell_definitions.specs.Cells.{Cells, move_name, move_number, set_demand}
 use Rattle.run_definitions.specs.State.{Present, present_basis, gone_through, State, problem_of, choice_of}
-use Rattle.run_definitions.specs.Moves.{Prints, Punches, Outcome, next, Move, Does}
+use Rattle.run_definitions.specs.Moves.{Prints, Punches, next, Does}
 use Rattle.run_definitions.specs.Verbs.{size_of, files, not_less, change_row, change_set, asks, mark_of, mark_after, demanded, by_verdict, after_path, after_sweep, shows_present, solves, shows, ranges, sweeps, converts, revises, sets_up, punches, verb_move, if_built, statement_move}
+use Rattle.path_laws.specs.Laws.{IsNonsingularBasis}
+use Rattle.path_laws.proofs.Steps.{opening_is}
+use Rattle.path_laws.proofs.OnePath.{path_leads}
 use Rattle.run_laws.specs.Truth.{IsBestShown, IsTrueVerdict, HoldsOf}
-use Rattle.run_laws.specs.Laws.{KnowsSolving}
+use Rattle.run_laws.specs.Laws.{KnowsSolving, BuildsNoSweep, SweepsKeepBases, gone_over}
 use Rattle.run_laws.proofs.Ends.{shown_is_best, path_is_true}
-use Rattle.run_laws.proofs.Moves.{EndsOptimally, KnowsMark, Knows, Keeps, IsKept, unmarked, does, may_stop, answered, unless_fault, unless_deck_fault, unless_selection_fault, selecting}
+use Rattle.run_laws.proofs.Moves.{EndsOptimally, KnowsMark, Knows, Keeps, IsKept, unmarked, HasBases, KnowsBases, without_setup, with_basis, does, may_stop, answered, unless_fault, unless_deck_fault, unless_selection_fault, selecting}
 
 -- ---- PRIMAL
 
@@ -63,12 +66,18 @@ marks present lp objective rhs bases verdict steps (EndsInfeasible w) is ends gi
 marks present lp objective rhs bases verdict steps (EndsUnbounded z d) is ends gives marked =
     let h : Some Unbounded ≡ Some Optimal = subst (λ v. Some (mark_of v) ≡ Some Optimal) gives marked in absurd (cc h)
 
+-- the setup after a path that has led to a nonsingular basis
+goes_to : (present : Present) (objective rhs : Option Name) (lp : LinearProgram) (bases : List Basis) → selected present.problem (record { objective = objective; rhs = rhs; options = present.options }) ≡ Ok lp →
+    IsNonsingularBasis lp (last_of (present_basis present) bases) → KnowsBases (Some (gone_through bases present))
+goes_to present objective rhs lp bases is at =
+    with_basis (gone_through bases present) objective rhs lp is (subst (IsNonsingularBasis lp) (sym (last_of-append present.opening present.steps bases)) at)
+
 demanded_keeps : (position : Option ℕ) (code : ℕ) (report : Report) (state : State) → HoldsOf report → Knows state → Keeps (demanded position code report state)
-demanded_keeps (Some position) code report state holds knows = (holds, knows)
+demanded_keeps (Some position) code report state holds knows = (holds, record { marked = knows.marked; bases = knows.bases })
 demanded_keeps None code report state holds knows = holds
 
 by_verdict_keeps : (mark : Mark) (report : Report) (state : State) → HoldsOf report → Knows state → Keeps (by_verdict mark report state)
-by_verdict_keeps Optimal report state holds knows = (holds, knows)
+by_verdict_keeps Optimal report state holds knows = (holds, record { marked = knows.marked; bases = knows.bases })
 by_verdict_keeps Infeasible report state holds knows = demanded_keeps state.cells.xdonfs 1 report state holds knows
 by_verdict_keeps Unbounded report state holds knows = demanded_keeps state.cells.xdounb 2 report state holds knows
 
@@ -76,9 +85,9 @@ by_verdict_keeps Unbounded report state holds knows = demanded_keeps state.cells
 
 -- what is shown where the path ended optimal at the present basis is best
 best_shown : (present : Present) (lp : LinearProgram) (objective rhs : Option Name) (setup : Option Present) (lines : SolutionLines) →
-    EndsOptimally setup objective rhs → setup ≡ Some present → selected present.problem (record { objective = objective; rhs = rhs; options = present.options }) ≡ Ok lp →
+    EndsOptimally setup objective rhs → IsNonsingularBasis lp (present_basis present) → setup ≡ Some present → selected present.problem (record { objective = objective; rhs = rhs; options = present.options }) ≡ Ok lp →
     IsShown (record { problem = present.problem; lp = lp }) (present_basis present) lines → IsBestShown lines
-best_shown present lp objective rhs setup lines known is_setup is shown = record {
+best_shown present lp objective rhs setup lines known at is_setup is shown = record {
   sheet = record { problem = present.problem; lp = lp };
   choice = record { objective = objective; rhs = rhs; options = present.options };
   is_selected = is;
@@ -88,8 +97,9 @@ best_shown present lp objective rhs setup lines known is_setup is shown = record
   are_lines = shown.are_lines;
   point = known.point;
   prices = known.prices;
+  nonsingular = at;
   ends = ends;
-  proved = shown_is_best lp (present_basis present) shown.tableau known.point known.prices shown.is_tableau ends;
+  proved = shown_is_best lp (present_basis present) shown.tableau known.point known.prices shown.is_tableau ends at;
 }
   where
     same_present : known.present ≡ present
@@ -118,23 +128,26 @@ named Xoldname name cells mark setup knows = knows
 named Xchrow name cells mark setup knows = knows
 named Xchcol name cells mark setup knows = knows
 
-moved_number : (cell : NumberCell) (value : ℚ) (state : State) → Knows state → Knows (record state { cells = move_number cell value state.cells })
-moved_number Xparam value state knows = knows
-moved_number Xparmax value state knows = knows
+moved_number : (cell : NumberCell) (value : ℚ) (cells : Cells) (mark : Option Mark) (setup : Option Present) → KnowsMark mark setup cells.xobj cells.xrhs →
+    KnowsMark mark setup (move_number cell value cells).xobj (move_number cell value cells).xrhs
+moved_number Xparam value cells mark setup knows = knows
+moved_number Xparmax value cells mark setup knows = knows
 
-moved_demand : (demand : Demand) (position : ℕ) (state : State) → Knows state → Knows (record state { cells = set_demand demand position state.cells })
-moved_demand Xdonfs position state knows = knows
-moved_demand Xdounb position state knows = knows
+moved_demand : (demand : Demand) (position : ℕ) (cells : Cells) (mark : Option Mark) (setup : Option Present) → KnowsMark mark setup cells.xobj cells.xrhs →
+    KnowsMark mark setup (set_demand demand position cells).xobj (set_demand demand position cells).xrhs
+moved_demand Xdonfs position cells mark setup knows = knows
+moved_demand Xdounb position cells mark setup knows = knows
 
 not_by_primal : (changing : Changing) → sweeper changing ≡ ByPrimal → ⊥
 not_by_primal (Row name) e = cc e
 not_by_primal (Set name) e = cc e
 
 module _ (S : Solving) (solving : KnowsSolving S) where
-  pathed : (card : ℕ) (present : Present) (state : State) (lp : LinearProgram) → selected present.problem (choice_of state.cells present.options) ≡ Ok lp → (end : PathEnd) →
+  pathed : (card : ℕ) (present : Present) (state : State) (lp : LinearProgram) → selected present.problem (choice_of state.cells present.options) ≡ Ok lp → HasBases present → (end : PathEnd) →
       S.Solves (record { problem = present.problem; lp = lp }) (present_basis present) state.cells.xiterlim end → Keeps (after_path S card present state end)
-  pathed card present state lp is (Reached bases verdict check) solved =
+  pathed card present state lp is has (Reached bases verdict check) solved =
       let reaches = solving.solves (record { problem = present.problem; lp = lp }) (present_basis present) state.cells.xiterlim bases verdict check solved in
+      let at = has.in_each state.cells.xobj state.cells.xrhs lp is in
       let truth : IsTrueVerdict verdict check = record {
         sheet = record { problem = present.problem; lp = lp };
         choice = choice_of state.cells present.options;
@@ -144,32 +157,35 @@ module _ (S : Solving) (solving : KnowsSolving S) where
         ending = reaches.ending;
         ends = reaches.ends;
         is_verdict = reaches.is_verdict;
-        is_true = path_is_true lp (present_basis present) bases reaches.ending reaches.ends;
+        is_true = path_is_true lp (present_basis present) bases reaches.ending reaches.ends at;
       } in
       by_verdict_keeps (mark_of verdict) (Solved ByPrimal verdict check) _ (λ e. truth)
-      (marks present lp state.cells.xobj state.cells.xrhs bases verdict _ reaches.ending is reaches.ends.ends reaches.is_verdict.is_verdict)
-  pathed card present state lp is PathLimit solved = tt
-  pathed card present state lp is PathNotBuilt solved = tt
+      (record {
+        marked = marks present lp state.cells.xobj state.cells.xrhs bases verdict _ reaches.ending is reaches.ends.ends reaches.is_verdict.is_verdict;
+        bases = goes_to present state.cells.xobj state.cells.xrhs lp bases is (path_leads lp (present_basis present) bases at reaches.ends.is_path);
+      })
+  pathed card present state lp is has PathLimit solved = tt
+  pathed card present state lp is has PathNotBuilt solved = tt
 
-  solving_kept : (card : ℕ) (state : State) → IsKept card (solves S card state)
-  solving_kept card state =
+  solving_kept : (card : ℕ) (state : State) → Knows state → IsKept card (solves S card state)
+  solving_kept card state knows =
       unless_fault card VerbFault.NoSetup state.setup _ (λ present e.
       selecting card present.problem _ _ (λ lp is.
-      may_stop card _ _ (answered card PathEnd _ _ (pathed card present state lp is))))
+      may_stop card _ _ (answered card PathEnd _ _ (pathed card present state lp is (knows.bases present e)))))
 
   showing : (card : ℕ) (state : State) (present : Present) (question : Question) (Answer : Type 0) (Shown : Sheet → Basis → Answer → Type 0) (report : Answer → Report) → Knows state →
       ((lp : LinearProgram) → selected present.problem (choice_of state.cells present.options) ≡ Ok lp → (lines : Answer) → Shown (record { problem = present.problem; lp = lp }) (present_basis present) lines →
       HoldsOf (report lines)) → IsKept card (shows_present S card state present question Answer Shown report)
   showing card state present question Answer Shown report knows holds =
       unless_selection_fault card (selected present.problem (choice_of state.cells present.options)) _ (λ lp is.
-      may_stop card _ _ (answered card Answer _ _ (λ lines shown. (holds lp is lines shown, knows))))
+      may_stop card _ _ (answered card Answer _ _ (λ lines shown. (holds lp is lines shown, record { marked = knows.marked; bases = knows.bases }))))
 
   shows_kept : (card : ℕ) (state : State) → Knows state → IsKept card (shows S card state)
   shows_kept card state knows =
       unless_fault card VerbFault.NoSetup state.setup _ (λ present e.
       unless_fault card VerbFault.NotSolved state.mark _ (λ mark m.
       showing card state present OfSolution SolutionLines S.Shows (Solution mark) knows (λ lp is lines shown optimal.
-      best_shown present lp state.cells.xobj state.cells.xrhs state.setup lines (knows (m ∙ ap (λ x. Some x) optimal)) e is (solving.shows _ _ lines shown))))
+      best_shown present lp state.cells.xobj state.cells.xrhs state.setup lines (knows.marked (m ∙ ap (λ x. Some x) optimal)) ((knows.bases present e).in_each state.cells.xobj state.cells.xrhs lp is) e is (solving.shows _ _ lines shown))))
 
   ranges_kept : (card : ℕ) (state : State) → Knows state → IsKept card (ranges S card state)
   ranges_kept card state knows =
@@ -178,28 +194,33 @@ module _ (S : Solving) (solving : KnowsSolving S) where
       unless_fault card VerbFault.NotOptimal _ _ (λ optimal o.
       showing card state present OfRanges RangeLines S.Ranges Ranges knows (λ lp is lines shown. tt))))
 
-  swept : (card : ℕ) (sweep : Sweep) (present : Present) (state : State) (end : SweepEnd) → Keeps (after_sweep S card sweep present state end)
-  swept card sweep present state (Opening bases verdict check) =
-      by_verdict_keeps (mark_of verdict) (Solved (sweeper sweep.changing) verdict check) _ (λ e. absurd (not_by_primal sweep.changing e)) (unmarked _ _ _)
-  swept card sweep present state (Chained bases intervals end) = (tt, unmarked _ _ _)
-  swept card sweep present state SweepLimit = tt
+  swept : (card : ℕ) (sweep : Sweep) (present : Present) (state : State) (lp : LinearProgram) → selected present.problem (choice_of state.cells present.options) ≡ Ok lp → (end : SweepEnd) →
+      IsNonsingularBasis lp (last_of (present_basis present) (gone_over end)) → Keeps (after_sweep S card sweep present state end)
+  swept card sweep present state lp is (Opening bases verdict check) at =
+      by_verdict_keeps (mark_of verdict) (Solved (sweeper sweep.changing) verdict check) _ (λ e. absurd (not_by_primal sweep.changing e))
+      (record { marked = unmarked _ _ _; bases = goes_to present state.cells.xobj state.cells.xrhs lp bases is at })
+  swept card sweep present state lp is (Chained bases intervals end) at =
+      (tt, record { marked = unmarked _ _ _; bases = goes_to present state.cells.xobj state.cells.xrhs lp bases is at })
+  swept card sweep present state lp is SweepLimit at = tt
 
-  asked_kept : (card : ℕ) (present : Present) (state : State) (lp : LinearProgram) (sweep : Sweep) →
+  asked_kept : (card : ℕ) (present : Present) (state : State) (lp : LinearProgram) (sweep : Sweep) → SweepsKeepBases S → HasBases present → selected present.problem (choice_of state.cells present.options) ≡ Ok lp →
       IsKept card (asks S (OfSweep sweep) (record { problem = present.problem; lp = lp }) present SweepEnd (S.Sweeps (record { problem = present.problem; lp = lp }) (present_basis present) sweep) (after_sweep S card sweep present state))
-  asked_kept card present state lp sweep = may_stop card _ _ (answered card SweepEnd _ _ (λ end right. swept card sweep present state end))
+  asked_kept card present state lp sweep keep has is = may_stop card _ _ (answered card SweepEnd _ _ (λ end right.
+      swept card sweep present state lp is end (keep (record { problem = present.problem; lp = lp }) (present_basis present) sweep end right (has.in_each state.cells.xobj state.cells.xrhs lp is))))
 
-  sweeps_kept : (card : ℕ) (fault : VerbFault) (change : Problem ℕ → Name → Option Changing) (moved : Option Name) (state : State) → IsKept card (sweeps S card fault change moved state)
-  sweeps_kept card fault change moved state =
+  sweeps_kept : (card : ℕ) (fault : VerbFault) (change : Problem ℕ → Name → Option Changing) (moved : Option Name) (state : State) → SweepsKeepBases S → Knows state →
+      IsKept card (sweeps S card fault change moved state)
+  sweeps_kept card fault change moved state keep knows =
       unless_fault card VerbFault.NoSetup state.setup _ (λ present e.
       selecting card present.problem _ _ (λ lp is.
       unless_fault {X = Changing} card fault (option_and_then (change present.problem) moved) _ (λ changing c.
       unless_fault {X = ℚ} card VerbFault.NoParmax state.cells.xparmax _ (λ last l.
       unless_fault {X = ℚ} card VerbFault.ParmaxBelow (not_less state.cells.xparam last) _ (λ to t.
-      asked_kept card present state lp (record { changing = changing; from = state.cells.xparam; to = to; limit = state.cells.xiterlim }))))))
+      asked_kept card present state lp (record { changing = changing; from = state.cells.xparam; to = to; limit = state.cells.xiterlim }) keep (knows.bases present e) is)))))
 
   files_kept : (card : ℕ) (report : Filed → Report) (decks : List (List Card)) (state : State) → ((filed : Filed) → HoldsOf (report filed)) → (problem : Problem ℕ) →
       IsKept card (files report decks state problem)
-  files_kept card report decks state holds problem = does card _ (holds (size_of problem), unmarked _ _ _)
+  files_kept card report decks state holds problem = does card _ (holds (size_of problem), record { marked = unmarked _ _ _; bases = without_setup })
 
   converts_kept : (card : ℕ) (state : State) → IsKept card (converts card state)
   converts_kept card state =
@@ -212,44 +233,58 @@ module _ (S : Solving) (solving : KnowsSolving S) where
       unless_fault {X = List Card × List (List Card)} card VerbFault.DeckNotFound (deck_taken state.cells.xdata state.decks) _ (λ taken f.
       unless_deck_fault card (revision old taken.0 state.cells.xpbname) (files Revised taken.1 state) (files_kept card Revised taken.1 state (λ filed. tt))))
 
-  opened : (card : ℕ) (options : SetupOptions) (state : State) (problem : Problem ℕ) (lp : LinearProgram) →
+  opened : (card : ℕ) (options : SetupOptions) (state : State) (problem : Problem ℕ) (lp : LinearProgram) → selected problem (choice_of state.cells options) ≡ Ok lp →
       IsKept card (Does (next (Prints (SetUp problem.name options.sense)) (record state { setup = Some (record { problem = problem; options = options; opening = opening_statuses lp; steps = [] }); mark = None })))
-  opened card options state problem lp = does card _ (tt, unmarked _ _ _)
+  opened card options state problem lp is = does card _ (
+    tt,
+    record {
+      marked = unmarked _ _ _;
+      bases = with_basis (record { problem = problem; options = options; opening = opening_statuses lp; steps = [] }) state.cells.xobj state.cells.xrhs lp is (opening_is lp);
+    },
+  )
 
   sets_up_kept : (card : ℕ) (options : SetupOptions) (state : State) → IsKept card (sets_up card options state)
   sets_up_kept card options state =
       unless_fault card VerbFault.NoProblem (problem_of state.cells.xpbname state.file) _ (λ problem e.
-      selecting card problem (choice_of state.cells options) _ (λ lp is. opened card options state problem lp))
+      selecting card problem (choice_of state.cells options) _ (λ lp is. opened card options state problem lp is))
 
   punched : (card : ℕ) (state : State) (name : Name) (count : ℕ) (cards : List (List ℕ)) → Knows state → IsKept card (Does (next (Punches (Punched name count) cards) state))
-  punched card state name count cards knows = does card _ (tt, knows)
+  punched card state name count cards knows = does card _ (tt, record { marked = knows.marked; bases = knows.bases })
 
   punches_kept : (card : ℕ) (state : State) → Knows state → IsKept card (punches card state)
   punches_kept card state knows = unless_fault card VerbFault.NoProblem (problem_of state.cells.xpbname state.file) _ (λ problem e. punched card state problem.name _ _ knows)
 
-  verb_kept : (verb : Verb ℕ) (card : ℕ) (state : State) → Knows state → IsKept card (verb_move S verb card state)
-  unfolding verb_move
-  verb_kept Initialz card state knows = does card _ (tt, unmarked _ _ _)
-  verb_kept (Title text) card state knows = does card _ (tt, knows)
-  verb_kept (MoveName cell name) card state knows = does card _ (tt, named cell name state.cells state.mark state.setup knows)
-  verb_kept (MoveNumber cell value) card state knows = does card _ (tt, moved_number cell value state knows)
-  verb_kept (MoveLimit limit) card state knows = does card _ (tt, knows)
-  verb_kept (Mvadr demand position) card state knows = does card _ (tt, moved_demand demand position state knows)
-  verb_kept (Goto position) card state knows = does card _ (tt, knows)
-  verb_kept Convert card state knows = converts_kept card state
-  verb_kept Revise card state knows = revises_kept card state
-  verb_kept (Setup options) card state knows = sets_up_kept card options state
-  verb_kept Primal card state knows = solving_kept card state
-  verb_kept SolutionVerb card state knows = shows_kept card state knows
-  verb_kept Ranging card state knows = ranges_kept card state knows
-  verb_kept Paraobj card state knows = sweeps_kept card VerbFault.NoChangeRow change_row state.cells.xchrow state
-  verb_kept Pararhs card state knows = sweeps_kept card VerbFault.NoChangeSet change_set state.cells.xchcol state
-  verb_kept Bcdout card state knows = punches_kept card state knows
-  verb_kept Exit card state knows = does card _ tt
+  -- a parametric verb that is built keeps to bases
+  with_sweeps : {X : Type 0} (verb : Verb ℕ) → S.builds verb ≡ true → (BuildsNoSweep S → S.builds verb ≡ false) → (SweepsKeepBases S → X) → X
+  with_sweeps {X} verb built unbuilt by = at solving.sweeps
+    where
+      at : BuildsNoSweep S ⊎ SweepsKeepBases S → X
+      at (inl none) = let e = unbuilt none in absurd (cc e)
+      at (inr keep) = by keep
 
-  if_built_kept : (card : ℕ) (built : Bool) (move : Move) → IsKept card move → IsKept card (if_built S built move)
-  if_built_kept card true move kept = kept
-  if_built_kept card false move kept = does card _ tt
+  verb_kept : (verb : Verb ℕ) (card : ℕ) (state : State) → Knows state → S.builds verb ≡ true → IsKept card (verb_move S verb card state)
+  unfolding verb_move
+  verb_kept Initialz card state knows built = does card _ (tt, record { marked = unmarked _ _ _; bases = knows.bases })
+  verb_kept (Title text) card state knows built = does card _ (tt, record { marked = knows.marked; bases = knows.bases })
+  verb_kept (MoveName cell name) card state knows built = does card _ (tt, record { marked = named cell name state.cells state.mark state.setup knows.marked; bases = knows.bases })
+  verb_kept (MoveNumber cell value) card state knows built = does card _ (tt, record { marked = moved_number cell value state.cells state.mark state.setup knows.marked; bases = knows.bases })
+  verb_kept (MoveLimit limit) card state knows built = does card _ (tt, record { marked = knows.marked; bases = knows.bases })
+  verb_kept (Mvadr demand position) card state knows built = does card _ (tt, record { marked = moved_demand demand position state.cells state.mark state.setup knows.marked; bases = knows.bases })
+  verb_kept (Goto position) card state knows built = does card _ (tt, record { marked = knows.marked; bases = knows.bases })
+  verb_kept Convert card state knows built = converts_kept card state
+  verb_kept Revise card state knows built = revises_kept card state
+  verb_kept (Setup options) card state knows built = sets_up_kept card options state
+  verb_kept Primal card state knows built = solving_kept card state knows
+  verb_kept SolutionVerb card state knows built = shows_kept card state knows
+  verb_kept Ranging card state knows built = ranges_kept card state knows
+  verb_kept Paraobj card state knows built = with_sweeps Paraobj built (λ none. none.paraobj) (λ keep. sweeps_kept card VerbFault.NoChangeRow change_row state.cells.xchrow state keep knows)
+  verb_kept Pararhs card state knows built = with_sweeps Pararhs built (λ none. none.pararhs) (λ keep. sweeps_kept card VerbFault.NoChangeSet change_set state.cells.xchcol state keep knows)
+  verb_kept Bcdout card state knows built = punches_kept card state knows
+  verb_kept Exit card state knows built = does card _ tt
+
+  if_built_kept : (card : ℕ) (verb : Verb ℕ) (state : State) → Knows state → (built : Bool) → S.builds verb ≡ built → IsKept card (if_built S built (verb_move S verb card state))
+  if_built_kept card verb state knows true is = verb_kept verb card state knows is
+  if_built_kept card verb state knows false is = does card _ tt
 
   pub statement_kept : (verb : Verb ℕ) (card : ℕ) (state : State) → Knows state → IsKept card (statement_move S verb card state)
-  statement_kept verb card state knows = if_built_kept card (S.builds verb) (verb_move S verb card state) (verb_kept verb card state knows)
+  statement_kept verb card state knows = if_built_kept card verb state knows (S.builds verb) refl

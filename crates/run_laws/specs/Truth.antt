@@ -1,5 +1,4 @@
 -- What is true of the reports of a run.
---     IsSound p s                  p is a linear program, and s is a nonsingular basis of it
 --     IsBestShown lines            the lines show a basis at which the path has ended optimal: its point is best, and its prices prove it
 --     IsTrueVerdict verdict check  the verdict is the end of a path, and what it says of the linear program holds
 --     HoldsOf report               what holds of a report
@@ -12,18 +11,12 @@ use Rattle.path_definitions.specs.Path.{Ending, EndsOptimal, EndsCrossed, EndsIn
 use Rattle.path_laws.specs.Laws.{IsNonsingularBasis}
 use Rattle.selection_definitions.specs.Choice.{Choice}
 use Rattle.selection_definitions.specs.Selection.{selected}
-use Rattle.listing_definitions.specs.declared.Mark.{Mark}
 use Rattle.listing_definitions.specs.declared.Mark.TheVariants.{Optimal}
-use Rattle.listing_definitions.specs.declared.Solver.{Solver}
 use Rattle.listing_definitions.specs.declared.Solver.TheVariants.{Primal as ByPrimal}
 use Rattle.listing_definitions.specs.Report.{SolutionLines, Verdict, Check, Report, Titled, Converted, Revised, SetUp, Punched, Solved, Solution, Ranges, Parametric}
 use Rattle.solver_definitions.specs.Answers.{Basis, Sheet}
 use Rattle.solving_definitions.specs.Verdicts.{IsVerdict}
 use Rattle.solving_definitions.specs.Sections.{solution_lines}
-
-pub record IsSound (p : LinearProgram) (s : Basis) : Type 0 where
-  pub lawful : IsLinearProgram p
-  pub nonsingular : IsNonsingularBasis p s
 
 -- the point is feasible and no feasible one betters it, and the prices prove that
 pub record IsProvedBest (p : LinearProgram) (s : Basis) (t : Tableau) : Type 0 where
@@ -42,8 +35,9 @@ pub record IsBestShown (lines : SolutionLines) : Type 0 where
   pub are_lines : lines ≡ solution_lines sheet basis tableau
   pub point : List ℚ
   pub prices : List ℚ
+  pub nonsingular : IsNonsingularBasis sheet.lp basis
   pub ends : EndsAt sheet.lp basis (EndsOptimal point prices)
-  pub proved : IsSound sheet.lp basis → IsProvedBest sheet.lp basis tableau
+  pub proved : IsLinearProgram sheet.lp → IsProvedBest sheet.lp basis tableau
 
 -- what an end says of the linear program
 abbrev pub IsTrueEnd : LinearProgram → Ending → Type 0
@@ -62,7 +56,7 @@ pub record IsTrueVerdict (verdict : Verdict) (check : Check) : Type 0 where
   pub ending : Ending
   pub ends : PathEnds sheet.lp from bases ending
   pub is_verdict : IsVerdict sheet (length bases) ending verdict check
-  pub is_true : IsSound sheet.lp from → IsTrueEnd sheet.lp ending
+  pub is_true : IsLinearProgram sheet.lp → IsTrueEnd sheet.lp ending
 
 -- SOLUTION with the mark OPTIMAL shows what is best, and each verdict of PRIMAL is true. Of other reports nothing is said here.
 abbrev pub HoldsOf : Report → Type 0

@@ -3,6 +3,6 @@ use Rattle.run_laws.proofs.run_laws.Goals as goal
 
 pub returns : goal.returns
 returns c = record {
-  linear = lists_truth _ knows_linear;
-  built = λ builds is_missing. lists_truth _ (knows_built builds _);
+  built = λ builds is_missing paraobj pararhs. lists_truth _ (knows_built builds _ paraobj pararhs);
+  linear = λ keep. lists_truth _ (knows_linear keep);
 }
