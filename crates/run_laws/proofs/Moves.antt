@@ -22,7 +22,7 @@ use Rattle.run_definitions.specs.State.{Present, present_basis, State}
 use Rattle.run_definitions.specs.Moves.{Gain, Nothing, Prints, Punches, Outcome, Goes, Ends, Move, Does, MayStop, Asks, Gives, or_fault}
 use Rattle.run_definitions.specs.Verbs.{or_deck_fault, or_selection_fault, selects}
 use Rattle.path_laws.specs.Laws.{IsNonsingularBasis}
-use Rattle.run_laws.specs.Truth.{HoldsOf}
+use Rattle.run_laws.specs.Truth.{HoldsIn}
 use Rattle.run_laws.proofs.Shapes.{basis_of_either}
 
 pub record EndsOptimally (setup : Option Present) (objective rhs : Option Name) : Type 0 where
@@ -49,18 +49,6 @@ pub record Knows (state : State) : Type 0 where
   pub marked : KnowsMark state.mark state.setup state.cells.xobj state.cells.xrhs
   pub bases : KnowsBases state.setup
 
-abbrev pub HoldsGain : Gain → Type 0
-HoldsGain Nothing = Unit {0}
-HoldsGain (Prints report) = HoldsOf report
-HoldsGain (Punches report cards) = HoldsOf report
-
-abbrev pub Keeps : Outcome → Type 0
-Keeps (Goes gain after) = HoldsGain gain × Knows after
-Keeps (Ends gain ending) = HoldsGain gain
-
-pub record IsKept (card : ℕ) (move : Move) : Type 0 where
-  pub by : (outcome : Outcome) → Gives card move outcome → Keeps outcome
-
 -- no mark, nothing to know
 pub unmarked : (setup : Option Present) (objective rhs : Option Name) → KnowsMark None setup objective rhs
 unmarked setup objective rhs e = absurd (cc e)
@@ -79,33 +67,45 @@ with_basis present objective rhs lp is at other e = subst HasBases same (record 
     same : present ≡ other
     same = cc
 
-pub does : (card : ℕ) (outcome : Outcome) → Keeps outcome → IsKept card (Does outcome)
-does card outcome keeps = record { by = λ given e. subst Keeps (sym e) keeps }
+abbrev pub HoldsGain : Option Present → Option Name → Option Name → Gain → Type 0
+HoldsGain setup objective rhs Nothing = Unit {0}
+HoldsGain setup objective rhs (Prints report) = HoldsIn setup objective rhs report
+HoldsGain setup objective rhs (Punches report cards) = HoldsIn setup objective rhs report
 
-pub may_stop : (card : ℕ) (Holds : Evidence → Option Place → Type 0) (move : Move) → IsKept card move → IsKept card (MayStop Holds move)
-may_stop card Holds move kept = record { by = at }
+abbrev pub Keeps : Option Present → Option Name → Option Name → Outcome → Type 0
+Keeps setup objective rhs (Goes gain after) = HoldsGain setup objective rhs gain × Knows after
+Keeps setup objective rhs (Ends gain ending) = HoldsGain setup objective rhs gain
+
+pub record IsKept (setup : Option Present) (objective rhs : Option Name) (card : ℕ) (move : Move) : Type 0 where
+  pub by : (outcome : Outcome) → Gives card move outcome → Keeps setup objective rhs outcome
+
+pub does : (setup : Option Present) (objective rhs : Option Name) (card : ℕ) (outcome : Outcome) → Keeps setup objective rhs outcome → IsKept setup objective rhs card (Does outcome)
+does setup objective rhs card outcome keeps = record { by = λ given e. subst (Keeps setup objective rhs) (sym e) keeps }
+
+pub may_stop : (setup : Option Present) (objective rhs : Option Name) (card : ℕ) (Holds : Evidence → Option Place → Type 0) (move : Move) → IsKept setup objective rhs card move → IsKept setup objective rhs card (MayStop Holds move)
+may_stop setup objective rhs card Holds move kept = record { by = at }
   where
-    at : (given : Outcome) → Gives card (MayStop Holds move) given → Keeps given
+    at : (given : Outcome) → Gives card (MayStop Holds move) given → Keeps setup objective rhs given
     at given (inl gives) = kept.by given gives
-    at given (inr stop) = subst Keeps (sym stop.3) tt
+    at given (inr stop) = subst (Keeps setup objective rhs) (sym stop.3) tt
 
-pub answered : (card : ℕ) (Answer : Type 0) (IsRight : Answer → Type 0) (go : Answer → Outcome) →
-    ((answer : Answer) → IsRight answer → Keeps (go answer)) → IsKept card (Asks Answer IsRight go)
-answered card Answer IsRight go kept = record { by = λ given a. subst Keeps (sym a.2) (kept a.0 a.1) }
+pub answered : (setup : Option Present) (objective rhs : Option Name) (card : ℕ) (Answer : Type 0) (IsRight : Answer → Type 0) (go : Answer → Outcome) →
+    ((answer : Answer) → IsRight answer → Keeps setup objective rhs (go answer)) → IsKept setup objective rhs card (Asks Answer IsRight go)
+answered setup objective rhs card Answer IsRight go kept = record { by = λ given a. subst (Keeps setup objective rhs) (sym a.2) (kept a.0 a.1) }
 
-pub unless_fault : {X : Type 0} (card : ℕ) (fault : VerbFault) (o : Option X) (go : X → Move) → ((x : X) → o ≡ Some x → IsKept card (go x)) → IsKept card (or_fault card fault o go)
-unless_fault card fault None go kept = does card _ tt
-unless_fault card fault (Some x) go kept = kept x refl
+pub unless_fault : {X : Type 0} (setup : Option Present) (objective rhs : Option Name) (card : ℕ) (fault : VerbFault) (o : Option X) (go : X → Move) → ((x : X) → o ≡ Some x → IsKept setup objective rhs card (go x)) → IsKept setup objective rhs card (or_fault card fault o go)
+unless_fault setup objective rhs card fault None go kept = does setup objective rhs card _ tt
+unless_fault setup objective rhs card fault (Some x) go kept = kept x refl
 
-pub unless_deck_fault : (card : ℕ) (r : Result (Problem ℕ) DeckFault) (go : Problem ℕ → Move) → ((problem : Problem ℕ) → IsKept card (go problem)) → IsKept card (or_deck_fault r go)
-unless_deck_fault card (Err fault) go kept = does card _ tt
-unless_deck_fault card (Ok problem) go kept = kept problem
+pub unless_deck_fault : (setup : Option Present) (objective rhs : Option Name) (card : ℕ) (r : Result (Problem ℕ) DeckFault) (go : Problem ℕ → Move) → ((problem : Problem ℕ) → IsKept setup objective rhs card (go problem)) → IsKept setup objective rhs card (or_deck_fault r go)
+unless_deck_fault setup objective rhs card (Err fault) go kept = does setup objective rhs card _ tt
+unless_deck_fault setup objective rhs card (Ok problem) go kept = kept problem
 
-pub unless_selection_fault : (card : ℕ) (r : Result LinearProgram SelectionFault) (go : LinearProgram → Move) → ((lp : LinearProgram) → r ≡ Ok lp → IsKept card (go lp)) →
-    IsKept card (or_selection_fault card r go)
-unless_selection_fault card (Err fault) go kept = does card _ tt
-unless_selection_fault card (Ok lp) go kept = kept lp refl
+pub unless_selection_fault : (setup : Option Present) (objective rhs : Option Name) (card : ℕ) (r : Result LinearProgram SelectionFault) (go : LinearProgram → Move) → ((lp : LinearProgram) → r ≡ Ok lp → IsKept setup objective rhs card (go lp)) →
+    IsKept setup objective rhs card (or_selection_fault card r go)
+unless_selection_fault setup objective rhs card (Err fault) go kept = does setup objective rhs card _ tt
+unless_selection_fault setup objective rhs card (Ok lp) go kept = kept lp refl
 
-pub selecting : (card : ℕ) (problem : Problem ℕ) (choice : Choice) (go : LinearProgram → Move) → ((lp : LinearProgram) → selected problem choice ≡ Ok lp → IsKept card (go lp)) →
-    IsKept card (selects card problem choice go)
-selecting card problem choice go kept = unless_selection_fault card (selected problem choice) _ (λ lp e. may_stop card _ (go lp) (kept lp e))
+pub selecting : (setup : Option Present) (objective rhs : Option Name) (card : ℕ) (problem : Problem ℕ) (choice : Choice) (go : LinearProgram → Move) → ((lp : LinearProgram) → selected problem choice ≡ Ok lp → IsKept setup objective rhs card (go lp)) →
+    IsKept setup objective rhs card (selects card problem choice go)
+selecting setup objective rhs card problem choice go kept = unless_selection_fault setup objective rhs card (selected problem choice) _ (λ lp e. may_stop setup objective rhs card _ (go lp) (kept lp e))

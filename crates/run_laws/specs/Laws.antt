@@ -14,9 +14,10 @@ use Rattle.solving_definitions.specs.Verdicts.{ReachesVerdict}
 use Rattle.solving_definitions.specs.Sections.{IsShown}
 use Rattle.solving_definitions.specs.Real.{linear_programming, staged}
 use Rattle.run_definitions.specs.State.{State}
-use Rattle.run_definitions.specs.Run.{Reaches, IsRun}
+use Rattle.run_definitions.specs.Moves.{Prints, Goes}
+use Rattle.run_definitions.specs.Run.{Step, Reaches, IsRun}
 use Rattle.run_definitions.specs.Answer.{Job, MayEnd, IsPossibleListing}
-use Rattle.run_laws.specs.Truth.{HoldsOf}
+use Rattle.run_laws.specs.Truth.{HoldsOf, HoldsIn}
 
 -- the bases that a parametric run has gone over
 abbrev pub gone_over : SweepEnd → List Basis
@@ -40,8 +41,10 @@ pub record KnowsSolving (S : Solving) : Type 0 where
   pub shows : (sheet : Sheet) (s : Basis) (lines : SolutionLines) → S.Shows sheet s lines → IsShown sheet s lines
   pub sweeps : BuildsNoSweep S ⊎ SweepsKeepBases S
 
--- of a run so far, of a whole run, of a job however it ends, and so of every listing that a job may have
+-- of a statement that reports, of a run so far, of a whole run, of a job however it ends, and so of every listing that a job may have
 pub record ListsTruth (S : Solving) : Type 0 where
+  pub step : (program : Program) (decks : List (List Card)) (reports : List Report) (cards : List (List ℕ)) (state after : State) (report : Report) →
+      Reaches S program decks reports cards state → Step S program state (Goes (Prints report) after) → HoldsIn state.setup state.cells.xobj state.cells.xrhs report
   pub so_far : (program : Program) (decks : List (List Card)) (reports : List Report) (cards : List (List ℕ)) (state : State) →
       Reaches S program decks reports cards state → All HoldsOf reports
   pub whole : (program : Program) (decks : List (List Card)) (reports : List Report) (cards : List (List ℕ)) (ending : Ending) →

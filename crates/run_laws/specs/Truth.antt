@@ -2,7 +2,8 @@
 --     IsBestShown lines            the lines show a basis at which the path has ended optimal: its point is best, and its prices prove it
 --     IsTrueVerdict verdict check  the verdict is the end of a path, and what it says of the linear program holds
 --     HoldsOf report               what holds of a report
-use Rattle.std.specs.Prelude.{◌≡◌, List, length, Ok}
+--     HoldsIn setup ..             what holds of it where it is made
+use Rattle.std.specs.Prelude.{◌≡◌, List, Option, Some, length, Ok}
 use Rattle.exact_values.specs.Rational.{ℚ}
 use Rattle.lp_definitions.specs.LinearProgram.{LinearProgram, value_at, IsLinearProgram}
 use Rattle.lp_definitions.specs.Solutions.{IsBest, AreProvingPrices, IsInfeasible, IsUnbounded}
@@ -15,6 +16,8 @@ use Rattle.listing_definitions.specs.declared.Mark.TheVariants.{Optimal}
 use Rattle.listing_definitions.specs.declared.Solver.TheVariants.{Primal as ByPrimal}
 use Rattle.listing_definitions.specs.Report.{SolutionLines, Verdict, Check, Report, Titled, Converted, Revised, SetUp, Punched, Solved, Solution, Ranges, Parametric}
 use Rattle.solver_definitions.specs.Answers.{Basis, Sheet}
+use Rattle.problem_definitions.specs.Names.{Name}
+use Rattle.run_definitions.specs.State.{Present, present_basis}
 use Rattle.solving_definitions.specs.Verdicts.{IsVerdict}
 use Rattle.solving_definitions.specs.Sections.{solution_lines}
 
@@ -69,3 +72,35 @@ HoldsOf (Solved solver verdict check) = solver ≡ ByPrimal → IsTrueVerdict ve
 HoldsOf (Solution mark lines) = mark ≡ Optimal → IsBestShown lines
 HoldsOf (Ranges lines) = Unit {0}
 HoldsOf (Parametric solver chain) = Unit {0}
+
+-- ---- at a statement
+
+-- what SOLUTION shows is the present basis, in the linear program that the present cells select of the setup's problem
+pub record IsPresentShown (setup : Option Present) (objective rhs : Option Name) (lines : SolutionLines) : Type 0 where
+  pub present : Present
+  pub is_setup : setup ≡ Some present
+  pub shown : IsBestShown lines
+  pub same_problem : shown.sheet.problem ≡ present.problem
+  pub same_choice : shown.choice ≡ record { objective = objective; rhs = rhs; options = present.options }
+  pub same_basis : shown.basis ≡ present_basis present
+
+-- and PRIMAL's path begins at the present basis, in that linear program
+pub record IsPresentVerdict (setup : Option Present) (objective rhs : Option Name) (verdict : Verdict) (check : Check) : Type 0 where
+  pub present : Present
+  pub is_setup : setup ≡ Some present
+  pub truth : IsTrueVerdict verdict check
+  pub same_problem : truth.sheet.problem ≡ present.problem
+  pub same_choice : truth.choice ≡ record { objective = objective; rhs = rhs; options = present.options }
+  pub same_from : truth.from ≡ present_basis present
+
+-- what holds of a report where it is made, with this setup and with these names in the cells
+abbrev pub HoldsIn : Option Present → Option Name → Option Name → Report → Type 0
+HoldsIn setup objective rhs (Solved solver verdict check) = solver ≡ ByPrimal → IsPresentVerdict setup objective rhs verdict check
+HoldsIn setup objective rhs (Solution mark lines) = mark ≡ Optimal → IsPresentShown setup objective rhs lines
+HoldsIn setup objective rhs (Titled text) = Unit {0}
+HoldsIn setup objective rhs (Converted filed) = Unit {0}
+HoldsIn setup objective rhs (Revised filed) = Unit {0}
+HoldsIn setup objective rhs (SetUp name sense) = Unit {0}
+HoldsIn setup objective rhs (Punched name cards) = Unit {0}
+HoldsIn setup objective rhs (Ranges lines) = Unit {0}
+HoldsIn setup objective rhs (Parametric solver chain) = Unit {0}
