@@ -15,7 +15,7 @@ use Rattle.run_definitions.specs.Moves.{Gain, Nothing, Prints, Punches, printed_
 use Rattle.run_definitions.specs.Run.{counted, Step, Reaches, begun, stepped, IsRun, is_over, is_ended}
 use Rattle.run_definitions.specs.Answer.{Job, IsJobRun, card_fault, control_fault, run, MayEnd, words_refused, read_fails, by_itself, memory_at_start, memory_in_run, memory_at_punch, punch_fails}
 use Rattle.run_laws.specs.Truth.{HoldsOf, HoldsIn}
-use Rattle.run_laws.specs.Laws.{KnowsSolving, SweepsKeepBases, ListsTruth}
+use Rattle.run_laws.specs.Laws.{KnowsSolving, SweepsKeepBases, ListsTruth, unfinished}
 use Rattle.run_laws.proofs.Moves.{Knows, HoldsGain, Keeps, unmarked, without_setup}
 use Rattle.run_laws.proofs.Verbs.{statement_kept}
 
@@ -85,6 +85,13 @@ knows_linear keep = record { solves = λ sheet s limit bases verdict check solve
 pub knows_built : (builds : Verb ℕ → Bool) (IsMissing : Sheet → Basis → ℕ → Type 0) → builds Paraobj ≡ false → builds Pararhs ≡ false → KnowsSolving (staged builds IsMissing)
 knows_built builds IsMissing paraobj pararhs = record {
   solves = λ sheet s limit bases verdict check solved. solved.0;
+  shows = λ sheet s lines shown. shown;
+  sweeps = inl (record { paraobj = paraobj; pararhs = pararhs });
+}
+
+pub knows_unfinished : (builds : Verb ℕ → Bool) → builds Paraobj ≡ false → builds Pararhs ≡ false → KnowsSolving (unfinished builds)
+knows_unfinished builds paraobj pararhs = record {
+  solves = λ sheet s limit bases verdict check solved. solved;
   shows = λ sheet s lines shown. shown;
   sweeps = inl (record { paraobj = paraobj; pararhs = pararhs });
 }

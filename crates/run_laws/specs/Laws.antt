@@ -8,9 +8,9 @@ use Rattle.path_definitions.specs.Path.{last_of}
 use Rattle.path_laws.specs.Laws.{IsNonsingularBasis}
 use Rattle.listing_definitions.specs.Report.{SolutionLines, Verdict, Check, Report}
 use Rattle.listing_definitions.specs.Ending.{Ending}
-use Rattle.solver_definitions.specs.Answers.{Basis, Sheet, Sweep, Reached, SweepEnd, Opening, Chained, SweepLimit}
+use Rattle.solver_definitions.specs.Answers.{Basis, Sheet, Sweep, PathEnd, Reached, PathLimit, PathNotBuilt, SweepEnd, Opening, Chained, SweepLimit}
 use Rattle.solver_definitions.specs.Solving.{Solving}
-use Rattle.solving_definitions.specs.Verdicts.{ReachesVerdict}
+use Rattle.solving_definitions.specs.Verdicts.{ReachesVerdict, IsSolved}
 use Rattle.solving_definitions.specs.Sections.{IsShown}
 use Rattle.solving_definitions.specs.Real.{linear_programming, staged}
 use Rattle.run_definitions.specs.State.{State}
@@ -52,9 +52,19 @@ pub record ListsTruth (S : Solving) : Type 0 where
   pub job : (job : Job) (reports : List Report) (cards : List (List ℕ)) (ending : Ending) → MayEnd S job reports cards ending → All HoldsOf reports
   pub listing : (job : Job) (text deck_text : List ℕ) → (possible : IsPossibleListing S job text deck_text) → All HoldsOf possible.reports
 
--- where only some verbs are built and no parametric runs, and no path from some bases; and where every verb is built, if parametric
+-- While a path may not be built from any basis. A run of `staged builds IsMissing` is one of these, whatever is missing.
+abbrev pub IsSolvedOrNotBuilt : Sheet → Basis → ℕ → PathEnd → Type 0
+IsSolvedOrNotBuilt sheet s limit (Reached bases verdict check) = ReachesVerdict sheet s limit bases verdict check
+IsSolvedOrNotBuilt sheet s limit PathLimit = IsSolved sheet s limit PathLimit
+IsSolvedOrNotBuilt sheet s limit PathNotBuilt = Unit {0}
+
+abbrev pub unfinished : (Verb ℕ → Bool) → Solving
+unfinished builds = record linear_programming { builds = builds; Solves = IsSolvedOrNotBuilt }
+
+-- where only some verbs are built and no parametric runs, and no path from some bases, or perhaps from any; and where every verb is built, if parametric
 -- runs keep to bases
 pub record RunLaws : Type 0 where
   pub built : (builds : Verb ℕ → Bool) (is_missing : Sheet → Basis → ℕ → Bool) → builds Paraobj ≡ false → builds Pararhs ≡ false →
       ListsTruth (staged builds (λ sheet s limit. IsTrue (is_missing sheet s limit)))
+  pub anywhere : (builds : Verb ℕ → Bool) → builds Paraobj ≡ false → builds Pararhs ≡ false → ListsTruth (unfinished builds)
   pub linear : SweepsKeepBases linear_programming → ListsTruth linear_programming
