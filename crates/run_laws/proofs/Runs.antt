@@ -73,6 +73,7 @@ module _ (S : Solving) (solving : KnowsSolving S) where
   pub lists_truth : ListsTruth S
   lists_truth = record {
     step = λ program decks reports cards state after report reaches step. (step_keeps program state (Goes (Prints report) after) (reaching program decks reports cards state reaches).1 step).0;
+    last_step = λ program decks reports cards state report ending reaches step. step_keeps program state (Ends (Prints report) ending) (reaching program decks reports cards state reaches).1 step;
     so_far = λ program decks reports cards state reaches. (reaching program decks reports cards state reaches).0;
     whole = running;
     job = ending_so;

@@ -14,7 +14,7 @@ use Rattle.solving_definitions.specs.Verdicts.{ReachesVerdict, IsSolved}
 use Rattle.solving_definitions.specs.Sections.{IsShown}
 use Rattle.solving_definitions.specs.Real.{linear_programming, staged}
 use Rattle.run_definitions.specs.State.{State}
-use Rattle.run_definitions.specs.Moves.{Prints, Goes}
+use Rattle.run_definitions.specs.Moves.{Prints, Goes, Ends}
 use Rattle.run_definitions.specs.Run.{Step, Reaches, IsRun}
 use Rattle.run_definitions.specs.Answer.{Job, MayEnd, IsPossibleListing}
 use Rattle.run_laws.specs.Truth.{HoldsOf, HoldsIn}
@@ -45,6 +45,8 @@ pub record KnowsSolving (S : Solving) : Type 0 where
 pub record ListsTruth (S : Solving) : Type 0 where
   pub step : (program : Program) (decks : List (List Card)) (reports : List Report) (cards : List (List ℕ)) (state after : State) (report : Report) →
       Reaches S program decks reports cards state → Step S program state (Goes (Prints report) after) → HoldsIn state.setup state.cells.xobj state.cells.xrhs report
+  pub last_step : (program : Program) (decks : List (List Card)) (reports : List Report) (cards : List (List ℕ)) (state : State) (report : Report) (ending : Ending) →
+      Reaches S program decks reports cards state → Step S program state (Ends (Prints report) ending) → HoldsIn state.setup state.cells.xobj state.cells.xrhs report
   pub so_far : (program : Program) (decks : List (List Card)) (reports : List Report) (cards : List (List ℕ)) (state : State) →
       Reaches S program decks reports cards state → All HoldsOf reports
   pub whole : (program : Program) (decks : List (List Card)) (reports : List Report) (cards : List (List ℕ)) (ending : Ending) →
