@@ -1,0 +1,5 @@
+pub mod Ends
+pub mod Shapes
+pub mod Moves
+pub mod Verbs
+pub mod Runs

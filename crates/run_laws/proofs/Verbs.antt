@@ -1,0 +1,305 @@
+-- Each verb keeps what a run knows, and what it reports holds.
+use Rattle.std.proofs.Common.{◌⊎◌, inl, inr, ◌≡◌, ℕ, Bool, true, false, List, [], ◌∷◌, ◌++◌, refl, sym, ap, subst, ◌∙◌}
+use Rattle.std.specs.Prelude.{Option, Some, None, Ok, option_and_then}
+use Rattle.exact_values.specs.Rational.{ℚ}
+use Rattle.lp_definitions.specs.LinearProgram.{LinearProgram}
+use Rattle.lp_definitions.specs.Basis.{opening_statuses}
+use Rattle.card_definitions.specs.Cards.{Card}
+use Rattle.deck_definitions.specs.Conversion.{conversion}
+use Rattle.deck_definitions.specs.Decks.{deck_taken}
+use Rattle.revise_definitions.specs.Revision.{revision}
+use Rattle.problem_definitions.specs.Names.{Name}
+use Rattle.problem_definitions.specs.Problem.{Problem}
+use Rattle.control_definitions.specs.declared.NameCell.{NameCell}
+use Rattle.control_definitions.specs.declared.NameCell.TheVariants.{Xdata, Xpbname, Xobj, Xrhs, Xoldname, Xchrow, Xchcol}
+use Rattle.control_definitions.specs.declared.NumberCell.{NumberCell}
+use Rattle.control_definitions.specs.declared.NumberCell.TheVariants.{Xparam, Xparmax}
+use Rattle.control_definitions.specs.declared.Demand.{Demand}
+use Rattle.control_definitions.specs.declared.Demand.TheVariants.{Xdonfs, Xdounb}
+use Rattle.control_definitions.specs.Program.{SetupOptions, Verb, Initialz, Title, MoveName, MoveNumber, MoveLimit, Mvadr, Goto, Convert, Setup, Primal, Revise, Ranging, Paraobj, Pararhs, Solution as SolutionVerb, Bcdout, Exit}
+use Rattle.path_definitions.specs.Path.{Ending, EndsOptimal, EndsCrossed, EndsInfeasible, EndsUnbounded, EndsAt, last_of}
+use Rattle.selection_definitions.specs.Selection.{selected}
+use Rattle.listing_definitions.specs.declared.Mark.{Mark}
+use Rattle.listing_definitions.specs.declared.Mark.TheVariants.{Optimal, Infeasible, Unbounded}
+use Rattle.listing_definitions.specs.declared.Solver.TheVariants.{Primal as ByPrimal}
+use Rattle.listing_definitions.specs.declared.VerbFault.{VerbFault}
+use Rattle.listing_definitions.specs.Report.{SolutionLines, RangeLines, Verdict, Filed, Report, Converted, Revised, SetUp, Punched, Solved, Solution, Ranges}
+use Rattle.solver_definitions.specs.Answers.{Basis, Sheet, Changing, Row, Set, sweeper, Sweep, Question, OfSolution, OfRanges, OfSweep, PathEnd, Reached, PathLimit, PathNotBuilt, SweepEnd, Opening, Chained, SweepLimit}
+use Rattle.solver_definitions.specs.Solving.{Solving}
+use Rattle.solving_definitions.specs.Verdicts.{verdict_of}
+use Rattle.solving_definitions.specs.Sections.{IsShown}
+use Rattle.cell_definitions.specs.Cells.{Cells, move_name, move_number, set_demand}
+use Rattle.run_definitions.specs.State.{Present, present_basis, gone_through, State, problem_of, choice_of}
+use Rattle.run_definitions.specs.Moves.{Prints, Punches, next, Does}
+use Rattle.run_definitions.specs.Verbs.{size_of, files, not_less, change_row, change_set, asks, mark_of, mark_after, demanded, by_verdict, after_path, after_sweep, shows_present, solves, shows, ranges, sweeps, converts, revises, sets_up, punches, verb_move, if_built, statement_move}
+use Rattle.path_laws.specs.Laws.{IsNonsingularBasis}
+use Rattle.path_laws.proofs.Steps.{opening_is}
+use Rattle.path_laws.proofs.OnePath.{path_leads}
+use Rattle.run_laws.specs.Truth.{IsPresentShown, IsPresentVerdict, HoldsIn}
+use Rattle.run_laws.specs.Laws.{KnowsSolving, BuildsNoSweep, SweepsKeepBases, gone_over}
+use Rattle.run_laws.proofs.Ends.{shown_is_best, path_is_true}
+use Rattle.run_laws.proofs.Moves.{EndsOptimally, KnowsMark, Knows, Keeps, IsKept, unmarked, HasBases, KnowsBases, without_setup, with_basis, does, may_stop, answered, unless_fault, unless_deck_fault, unless_selection_fault, selecting}
+
+-- ---- PRIMAL
+
+last_of-append : (s : Basis) (first second : List Basis) → last_of s (first ++ second) ≡ last_of (last_of s first) second
+last_of-append s [] second = refl
+last_of-append s (next ∷ first) second = last_of-append next first second
+
+-- a path that leaves the mark OPTIMAL has ended optimal at the basis that it reached
+marks : (present : Present) (lp : LinearProgram) (objective rhs : Option Name) (bases : List Basis) (verdict : Verdict) (steps : ℕ) (ending : Ending) →
+    selected present.problem (record { objective = objective; rhs = rhs; options = present.options }) ≡ Ok lp → EndsAt lp (last_of (present_basis present) bases) ending →
+    verdict ≡ verdict_of (record { problem = present.problem; lp = lp }) steps ending → KnowsMark (Some (mark_of verdict)) (Some (gone_through bases present)) objective rhs
+marks present lp objective rhs bases verdict steps (EndsOptimal z y) is ends gives marked = record {
+  present = gone_through bases present;
+  is_setup = refl;
+  lp = lp;
+  is_selected = is;
+  point = z;
+  prices = y;
+  ends = subst (λ s. EndsAt lp s (EndsOptimal z y)) (sym (last_of-append present.opening present.steps bases)) ends;
+}
+marks present lp objective rhs bases verdict steps (EndsCrossed k) is ends gives marked =
+    let h : Some Infeasible ≡ Some Optimal = subst (λ v. Some (mark_of v) ≡ Some Optimal) gives marked in absurd (cc h)
+marks present lp objective rhs bases verdict steps (EndsInfeasible w) is ends gives marked =
+    let h : Some Infeasible ≡ Some Optimal = subst (λ v. Some (mark_of v) ≡ Some Optimal) gives marked in absurd (cc h)
+marks present lp objective rhs bases verdict steps (EndsUnbounded z d) is ends gives marked =
+    let h : Some Unbounded ≡ Some Optimal = subst (λ v. Some (mark_of v) ≡ Some Optimal) gives marked in absurd (cc h)
+
+-- the setup after a path that has led to a nonsingular basis
+goes_to : (present : Present) (objective rhs : Option Name) (lp : LinearProgram) (bases : List Basis) → selected present.problem (record { objective = objective; rhs = rhs; options = present.options }) ≡ Ok lp →
+    IsNonsingularBasis lp (last_of (present_basis present) bases) → KnowsBases (Some (gone_through bases present))
+goes_to present objective rhs lp bases is at =
+    with_basis (gone_through bases present) objective rhs lp is (subst (IsNonsingularBasis lp) (sym (last_of-append present.opening present.steps bases)) at)
+
+module _ (setup : Option Present) (objective rhs : Option Name) where
+  demanded_keeps : (position : Option ℕ) (code : ℕ) (report : Report) (state : State) → HoldsIn setup objective rhs report → Knows state → Keeps setup objective rhs (demanded position code report state)
+  demanded_keeps (Some position) code report state holds knows = (holds, record { marked = knows.marked; bases = knows.bases })
+  demanded_keeps None code report state holds knows = holds
+
+  by_verdict_keeps : (mark : Mark) (report : Report) (state : State) → HoldsIn setup objective rhs report → Knows state → Keeps setup objective rhs (by_verdict mark report state)
+  by_verdict_keeps Optimal report state holds knows = (holds, record { marked = knows.marked; bases = knows.bases })
+  by_verdict_keeps Infeasible report state holds knows = demanded_keeps state.cells.xdonfs 1 report state holds knows
+  by_verdict_keeps Unbounded report state holds knows = demanded_keeps state.cells.xdounb 2 report state holds knows
+
+-- ---- SOLUTION
+
+-- what is shown where the path ended optimal at the present basis is best
+best_shown : (present : Present) (lp : LinearProgram) (objective rhs : Option Name) (setup : Option Present) (lines : SolutionLines) →
+    EndsOptimally setup objective rhs → IsNonsingularBasis lp (present_basis present) → setup ≡ Some present → selected present.problem (record { objective = objective; rhs = rhs; options = present.options }) ≡ Ok lp →
+    IsShown (record { problem = present.problem; lp = lp }) (present_basis present) lines → IsPresentShown setup objective rhs lines
+best_shown present lp objective rhs setup lines known at is_setup is shown = record {
+  present = present;
+  is_setup = is_setup;
+  shown = record {
+    sheet = record { problem = present.problem; lp = lp };
+    choice = record { objective = objective; rhs = rhs; options = present.options };
+    is_selected = is;
+    basis = present_basis present;
+    tableau = shown.tableau;
+    is_tableau = shown.is_tableau;
+    are_lines = shown.are_lines;
+    point = known.point;
+    prices = known.prices;
+    nonsingular = at;
+    ends = ends;
+    proved = shown_is_best lp (present_basis present) shown.tableau known.point known.prices shown.is_tableau ends at;
+  };
+  same_problem = refl;
+  same_choice = refl;
+  same_basis = refl;
+}
+  where
+    same_present : known.present ≡ present
+    same_present = let e = sym known.is_setup ∙ is_setup in cc
+
+    moved : (selected present.problem (record { objective = objective; rhs = rhs; options = present.options }) ≡ Ok known.lp) × EndsAt known.lp (present_basis present) (EndsOptimal known.point known.prices)
+    moved =
+        subst (λ (x : Present). (selected x.problem (record { objective = objective; rhs = rhs; options = x.options }) ≡ Ok known.lp) × EndsAt known.lp (present_basis x) (EndsOptimal known.point known.prices))
+        same_present (known.is_selected, known.ends)
+
+    same_lp : known.lp ≡ lp
+    same_lp = let e = sym moved.0 ∙ is in cc
+
+    ends : EndsAt lp (present_basis present) (EndsOptimal known.point known.prices)
+    ends = subst (λ p. EndsAt p (present_basis present) (EndsOptimal known.point known.prices)) same_lp moved.1
+
+-- ---- cells
+
+named : (cell : NameCell) (name : Name) (cells : Cells) (mark : Option Mark) (setup : Option Present) → KnowsMark mark setup cells.xobj cells.xrhs →
+    KnowsMark (mark_after cell mark) setup (move_name cell name cells).xobj (move_name cell name cells).xrhs
+named Xdata name cells mark setup knows = knows
+named Xpbname name cells mark setup knows = knows
+named Xobj name cells mark setup knows = unmarked _ _ _
+named Xrhs name cells mark setup knows = unmarked _ _ _
+named Xoldname name cells mark setup knows = knows
+named Xchrow name cells mark setup knows = knows
+named Xchcol name cells mark setup knows = knows
+
+moved_number : (cell : NumberCell) (value : ℚ) (cells : Cells) (mark : Option Mark) (setup : Option Present) → KnowsMark mark setup cells.xobj cells.xrhs →
+    KnowsMark mark setup (move_number cell value cells).xobj (move_number cell value cells).xrhs
+moved_number Xparam value cells mark setup knows = knows
+moved_number Xparmax value cells mark setup knows = knows
+
+moved_demand : (demand : Demand) (position : ℕ) (cells : Cells) (mark : Option Mark) (setup : Option Present) → KnowsMark mark setup cells.xobj cells.xrhs →
+    KnowsMark mark setup (set_demand demand position cells).xobj (set_demand demand position cells).xrhs
+moved_demand Xdonfs position cells mark setup knows = knows
+moved_demand Xdounb position cells mark setup knows = knows
+
+not_by_primal : (changing : Changing) → sweeper changing ≡ ByPrimal → ⊥
+not_by_primal (Row name) e = cc e
+not_by_primal (Set name) e = cc e
+
+module _ (S : Solving) (solving : KnowsSolving S) where
+  pathed : (card : ℕ) (present : Present) (state : State) (lp : LinearProgram) → selected present.problem (choice_of state.cells present.options) ≡ Ok lp → state.setup ≡ Some present → HasBases present → (end : PathEnd) →
+      S.Solves (record { problem = present.problem; lp = lp }) (present_basis present) state.cells.xiterlim end → Keeps state.setup state.cells.xobj state.cells.xrhs (after_path S card present state end)
+  pathed card present state lp is set has (Reached bases verdict check) solved =
+      let reaches = solving.solves (record { problem = present.problem; lp = lp }) (present_basis present) state.cells.xiterlim bases verdict check solved in
+      let at = has.in_each state.cells.xobj state.cells.xrhs lp is in
+      let truth : IsPresentVerdict state.setup state.cells.xobj state.cells.xrhs verdict check = record {
+        present = present;
+        is_setup = set;
+        truth = record {
+          sheet = record { problem = present.problem; lp = lp };
+          choice = choice_of state.cells present.options;
+          is_selected = is;
+          from = present_basis present;
+          bases = bases;
+          ending = reaches.ending;
+          ends = reaches.ends;
+          is_verdict = reaches.is_verdict;
+          is_true = path_is_true lp (present_basis present) bases reaches.ending reaches.ends at;
+        };
+        same_problem = refl;
+        same_choice = refl;
+        same_from = refl;
+      } in
+      by_verdict_keeps state.setup state.cells.xobj state.cells.xrhs (mark_of verdict) (Solved ByPrimal verdict check) _ (λ e. truth)
+      (record {
+        marked = marks present lp state.cells.xobj state.cells.xrhs bases verdict _ reaches.ending is reaches.ends.ends reaches.is_verdict.is_verdict;
+        bases = goes_to present state.cells.xobj state.cells.xrhs lp bases is (path_leads lp (present_basis present) bases at reaches.ends.is_path);
+      })
+  pathed card present state lp is set has PathLimit solved = tt
+  pathed card present state lp is set has PathNotBuilt solved = tt
+
+  solving_kept : (card : ℕ) (state : State) → Knows state → IsKept state.setup state.cells.xobj state.cells.xrhs card (solves S card state)
+  solving_kept card state knows =
+      unless_fault state.setup state.cells.xobj state.cells.xrhs card VerbFault.NoSetup state.setup _ (λ present e.
+      selecting state.setup state.cells.xobj state.cells.xrhs card present.problem _ _ (λ lp is.
+      may_stop state.setup state.cells.xobj state.cells.xrhs card _ _ (answered state.setup state.cells.xobj state.cells.xrhs card PathEnd _ _ (pathed card present state lp is e (knows.bases present e)))))
+
+  showing : (card : ℕ) (state : State) (present : Present) (question : Question) (Answer : Type 0) (Shown : Sheet → Basis → Answer → Type 0) (report : Answer → Report) → Knows state →
+      ((lp : LinearProgram) → selected present.problem (choice_of state.cells present.options) ≡ Ok lp → (lines : Answer) → Shown (record { problem = present.problem; lp = lp }) (present_basis present) lines →
+      HoldsIn state.setup state.cells.xobj state.cells.xrhs (report lines)) → IsKept state.setup state.cells.xobj state.cells.xrhs card (shows_present S card state present question Answer Shown report)
+  showing card state present question Answer Shown report knows holds =
+      unless_selection_fault state.setup state.cells.xobj state.cells.xrhs card (selected present.problem (choice_of state.cells present.options)) _ (λ lp is.
+      may_stop state.setup state.cells.xobj state.cells.xrhs card _ _ (answered state.setup state.cells.xobj state.cells.xrhs card Answer _ _ (λ lines shown. (holds lp is lines shown, record { marked = knows.marked; bases = knows.bases }))))
+
+  shows_kept : (card : ℕ) (state : State) → Knows state → IsKept state.setup state.cells.xobj state.cells.xrhs card (shows S card state)
+  shows_kept card state knows =
+      unless_fault state.setup state.cells.xobj state.cells.xrhs card VerbFault.NoSetup state.setup _ (λ present e.
+      unless_fault state.setup state.cells.xobj state.cells.xrhs card VerbFault.NotSolved state.mark _ (λ mark m.
+      showing card state present OfSolution SolutionLines S.Shows (Solution mark) knows (λ lp is lines shown optimal.
+      best_shown present lp state.cells.xobj state.cells.xrhs state.setup lines (knows.marked (m ∙ ap (λ x. Some x) optimal)) ((knows.bases present e).in_each state.cells.xobj state.cells.xrhs lp is) e is (solving.shows _ _ lines shown))))
+
+  ranges_kept : (card : ℕ) (state : State) → Knows state → IsKept state.setup state.cells.xobj state.cells.xrhs card (ranges S card state)
+  ranges_kept card state knows =
+      unless_fault state.setup state.cells.xobj state.cells.xrhs card VerbFault.NoSetup state.setup _ (λ present e.
+      unless_fault state.setup state.cells.xobj state.cells.xrhs card VerbFault.NotSolved state.mark _ (λ mark m.
+      unless_fault state.setup state.cells.xobj state.cells.xrhs card VerbFault.NotOptimal _ _ (λ optimal o.
+      showing card state present OfRanges RangeLines S.Ranges Ranges knows (λ lp is lines shown. tt))))
+
+  swept : (card : ℕ) (sweep : Sweep) (present : Present) (state : State) (lp : LinearProgram) → selected present.problem (choice_of state.cells present.options) ≡ Ok lp → (end : SweepEnd) →
+      IsNonsingularBasis lp (last_of (present_basis present) (gone_over end)) → Keeps state.setup state.cells.xobj state.cells.xrhs (after_sweep S card sweep present state end)
+  swept card sweep present state lp is (Opening bases verdict check) at =
+      by_verdict_keeps state.setup state.cells.xobj state.cells.xrhs (mark_of verdict) (Solved (sweeper sweep.changing) verdict check) _ (λ e. absurd (not_by_primal sweep.changing e))
+      (record { marked = unmarked _ _ _; bases = goes_to present state.cells.xobj state.cells.xrhs lp bases is at })
+  swept card sweep present state lp is (Chained bases intervals end) at =
+      (tt, record { marked = unmarked _ _ _; bases = goes_to present state.cells.xobj state.cells.xrhs lp bases is at })
+  swept card sweep present state lp is SweepLimit at = tt
+
+  asked_kept : (card : ℕ) (present : Present) (state : State) (lp : LinearProgram) (sweep : Sweep) → SweepsKeepBases S → HasBases present → selected present.problem (choice_of state.cells present.options) ≡ Ok lp →
+      IsKept state.setup state.cells.xobj state.cells.xrhs card (asks S (OfSweep sweep) (record { problem = present.problem; lp = lp }) present SweepEnd (S.Sweeps (record { problem = present.problem; lp = lp }) (present_basis present) sweep) (after_sweep S card sweep present state))
+  asked_kept card present state lp sweep keep has is = may_stop state.setup state.cells.xobj state.cells.xrhs card _ _ (answered state.setup state.cells.xobj state.cells.xrhs card SweepEnd _ _ (λ end right.
+      swept card sweep present state lp is end (keep (record { problem = present.problem; lp = lp }) (present_basis present) sweep end right (has.in_each state.cells.xobj state.cells.xrhs lp is))))
+
+  sweeps_kept : (card : ℕ) (fault : VerbFault) (change : Problem ℕ → Name → Option Changing) (moved : Option Name) (state : State) → SweepsKeepBases S → Knows state →
+      IsKept state.setup state.cells.xobj state.cells.xrhs card (sweeps S card fault change moved state)
+  sweeps_kept card fault change moved state keep knows =
+      unless_fault state.setup state.cells.xobj state.cells.xrhs card VerbFault.NoSetup state.setup _ (λ present e.
+      selecting state.setup state.cells.xobj state.cells.xrhs card present.problem _ _ (λ lp is.
+      unless_fault {X = Changing} state.setup state.cells.xobj state.cells.xrhs card fault (option_and_then (change present.problem) moved) _ (λ changing c.
+      unless_fault {X = ℚ} state.setup state.cells.xobj state.cells.xrhs card VerbFault.NoParmax state.cells.xparmax _ (λ last l.
+      unless_fault {X = ℚ} state.setup state.cells.xobj state.cells.xrhs card VerbFault.ParmaxBelow (not_less state.cells.xparam last) _ (λ to t.
+      asked_kept card present state lp (record { changing = changing; from = state.cells.xparam; to = to; limit = state.cells.xiterlim }) keep (knows.bases present e) is)))))
+
+  files_kept : (card : ℕ) (report : Filed → Report) (decks : List (List Card)) (state : State) → ((filed : Filed) → HoldsIn state.setup state.cells.xobj state.cells.xrhs (report filed)) → (problem : Problem ℕ) →
+      IsKept state.setup state.cells.xobj state.cells.xrhs card (files report decks state problem)
+  files_kept card report decks state holds problem = does state.setup state.cells.xobj state.cells.xrhs card _ (holds (size_of problem), record { marked = unmarked _ _ _; bases = without_setup })
+
+  converts_kept : (card : ℕ) (state : State) → IsKept state.setup state.cells.xobj state.cells.xrhs card (converts card state)
+  converts_kept card state =
+      unless_fault {X = List Card × List (List Card)} state.setup state.cells.xobj state.cells.xrhs card VerbFault.DeckNotFound (deck_taken state.cells.xdata state.decks) _ (λ taken e.
+      unless_deck_fault state.setup state.cells.xobj state.cells.xrhs card (conversion taken.0 state.cells.xpbname) (files Converted taken.1 state) (files_kept card Converted taken.1 state (λ filed. tt)))
+
+  revises_kept : (card : ℕ) (state : State) → IsKept state.setup state.cells.xobj state.cells.xrhs card (revises card state)
+  revises_kept card state =
+      unless_fault state.setup state.cells.xobj state.cells.xrhs card VerbFault.NoProblem (problem_of state.cells.xoldname state.file) _ (λ old e.
+      unless_fault {X = List Card × List (List Card)} state.setup state.cells.xobj state.cells.xrhs card VerbFault.DeckNotFound (deck_taken state.cells.xdata state.decks) _ (λ taken f.
+      unless_deck_fault state.setup state.cells.xobj state.cells.xrhs card (revision old taken.0 state.cells.xpbname) (files Revised taken.1 state) (files_kept card Revised taken.1 state (λ filed. tt))))
+
+  opened : (card : ℕ) (options : SetupOptions) (state : State) (problem : Problem ℕ) (lp : LinearProgram) → selected problem (choice_of state.cells options) ≡ Ok lp →
+      IsKept state.setup state.cells.xobj state.cells.xrhs card (Does (next (Prints (SetUp problem.name options.sense)) (record state { setup = Some (record { problem = problem; options = options; opening = opening_statuses lp; steps = [] }); mark = None })))
+  opened card options state problem lp is = does state.setup state.cells.xobj state.cells.xrhs card _ (
+    tt,
+    record {
+      marked = unmarked _ _ _;
+      bases = with_basis (record { problem = problem; options = options; opening = opening_statuses lp; steps = [] }) state.cells.xobj state.cells.xrhs lp is (opening_is lp);
+    },
+  )
+
+  sets_up_kept : (card : ℕ) (options : SetupOptions) (state : State) → IsKept state.setup state.cells.xobj state.cells.xrhs card (sets_up card options state)
+  sets_up_kept card options state =
+      unless_fault state.setup state.cells.xobj state.cells.xrhs card VerbFault.NoProblem (problem_of state.cells.xpbname state.file) _ (λ problem e.
+      selecting state.setup state.cells.xobj state.cells.xrhs card problem (choice_of state.cells options) _ (λ lp is. opened card options state problem lp is))
+
+  punched : (card : ℕ) (state : State) (name : Name) (count : ℕ) (cards : List (List ℕ)) → Knows state → IsKept state.setup state.cells.xobj state.cells.xrhs card (Does (next (Punches (Punched name count) cards) state))
+  punched card state name count cards knows = does state.setup state.cells.xobj state.cells.xrhs card _ (tt, record { marked = knows.marked; bases = knows.bases })
+
+  punches_kept : (card : ℕ) (state : State) → Knows state → IsKept state.setup state.cells.xobj state.cells.xrhs card (punches card state)
+  punches_kept card state knows = unless_fault state.setup state.cells.xobj state.cells.xrhs card VerbFault.NoProblem (problem_of state.cells.xpbname state.file) _ (λ problem e. punched card state problem.name _ _ knows)
+
+  -- a parametric verb that is built keeps to bases
+  with_sweeps : {X : Type 0} (verb : Verb ℕ) → S.builds verb ≡ true → (BuildsNoSweep S → S.builds verb ≡ false) → (SweepsKeepBases S → X) → X
+  with_sweeps {X} verb built unbuilt by = at solving.sweeps
+    where
+      at : BuildsNoSweep S ⊎ SweepsKeepBases S → X
+      at (inl none) = let e = unbuilt none in absurd (cc e)
+      at (inr keep) = by keep
+
+  verb_kept : (verb : Verb ℕ) (card : ℕ) (state : State) → Knows state → S.builds verb ≡ true → IsKept state.setup state.cells.xobj state.cells.xrhs card (verb_move S verb card state)
+  unfolding verb_move
+  verb_kept Initialz card state knows built = does state.setup state.cells.xobj state.cells.xrhs card _ (tt, record { marked = unmarked _ _ _; bases = knows.bases })
+  verb_kept (Title text) card state knows built = does state.setup state.cells.xobj state.cells.xrhs card _ (tt, record { marked = knows.marked; bases = knows.bases })
+  verb_kept (MoveName cell name) card state knows built = does state.setup state.cells.xobj state.cells.xrhs card _ (tt, record { marked = named cell name state.cells state.mark state.setup knows.marked; bases = knows.bases })
+  verb_kept (MoveNumber cell value) card state knows built = does state.setup state.cells.xobj state.cells.xrhs card _ (tt, record { marked = moved_number cell value state.cells state.mark state.setup knows.marked; bases = knows.bases })
+  verb_kept (MoveLimit limit) card state knows built = does state.setup state.cells.xobj state.cells.xrhs card _ (tt, record { marked = knows.marked; bases = knows.bases })
+  verb_kept (Mvadr demand position) card state knows built = does state.setup state.cells.xobj state.cells.xrhs card _ (tt, record { marked = moved_demand demand position state.cells state.mark state.setup knows.marked; bases = knows.bases })
+  verb_kept (Goto position) card state knows built = does state.setup state.cells.xobj state.cells.xrhs card _ (tt, record { marked = knows.marked; bases = knows.bases })
+  verb_kept Convert card state knows built = converts_kept card state
+  verb_kept Revise card state knows built = revises_kept card state
+  verb_kept (Setup options) card state knows built = sets_up_kept card options state
+  verb_kept Primal card state knows built = solving_kept card state knows
+  verb_kept SolutionVerb card state knows built = shows_kept card state knows
+  verb_kept Ranging card state knows built = ranges_kept card state knows
+  verb_kept Paraobj card state knows built = with_sweeps Paraobj built (λ none. none.paraobj) (λ keep. sweeps_kept card VerbFault.NoChangeRow change_row state.cells.xchrow state keep knows)
+  verb_kept Pararhs card state knows built = with_sweeps Pararhs built (λ none. none.pararhs) (λ keep. sweeps_kept card VerbFault.NoChangeSet change_set state.cells.xchcol state keep knows)
+  verb_kept Bcdout card state knows built = punches_kept card state knows
+  verb_kept Exit card state knows built = does state.setup state.cells.xobj state.cells.xrhs card _ tt
+
+  if_built_kept : (card : ℕ) (verb : Verb ℕ) (state : State) → Knows state → (built : Bool) → S.builds verb ≡ built → IsKept state.setup state.cells.xobj state.cells.xrhs card (if_built S built (verb_move S verb card state))
+  if_built_kept card verb state knows true is = verb_kept verb card state knows is
+  if_built_kept card verb state knows false is = does state.setup state.cells.xobj state.cells.xrhs card _ tt
+
+  pub statement_kept : (verb : Verb ℕ) (card : ℕ) (state : State) → Knows state → IsKept state.setup state.cells.xobj state.cells.xrhs card (statement_move S verb card state)
+  statement_kept verb card state knows = if_built_kept card verb state knows (S.builds verb) refl
