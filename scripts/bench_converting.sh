@@ -19,17 +19,4 @@ awk 'BEGIN {
     for (row = 1; row < 1000; row++) printf "    %-8s  %-8s  %-12s\n", "LIMIT", "R" row, row
     print "ENDATA"
 }' >"$job"
-python3 - "$job" "$program" <<'PYTHON'
-import resource, subprocess, sys
-
-job, program = sys.argv[1:]
-least, before = None, 0.0
-for _ in range(5):
-    with open(job, "rb") as file:
-        ended = subprocess.run([program], stdin=file, stdout=subprocess.PIPE)
-    used = resource.getrusage(resource.RUSAGE_CHILDREN)
-    spent = used.ru_utime + used.ru_stime
-    least = spent - before if least is None else min(least, spent - before)
-    before = spent
-print(f"{ended.stdout.decode().splitlines()[-1]}: {least:.3f} s, {used.ru_maxrss / 1024:.1f} MB")
-PYTHON
+python3 "$(dirname "$0")/timed.py" "$job" "$program"
