@@ -1,5 +1,5 @@
 -- Which turn the path makes at a basis, from the point, the rates of a row, the prices and a direction.
-use Rattle.std.proofs.Common.{◌≡◌, ◌≢◌, ℕ, ◌<◌, List, length, Bool, true, false, refl, sym, ap, ap₂, ◌∙◌, subst, pos}
+use Rattle.std.proofs.Common.{◌≡◌, ◌≢◌, ℕ, ◌<◌, List, length, Bool, true, false, refl, sym, ap, ap₂, ◌∙◌, subst, pos, arith}
 use Rattle.std.specs.Prelude.{Option, Some, None, IsSome, IsTrue, not, ◌&&◌, ◌||◌, option_map, unwrap_or, if◌then◌else◌, nat_eq}
 use Rattle.exact_values.specs.Rational.{ℚ, zero_ℚ, one_ℚ, neg_ℚ, ◌-ℚ◌, ◌/ℚ◌, ◌<ℚ◌}
 use Rattle.exact_values.specs.Tests.{lt_ℚ}
@@ -297,3 +297,18 @@ module _ (p : LinearProgram) (s : List Status) (z : Vector) (basis : IsBasis p s
 -- the prices count the objective as the sense does
 pub worth_signed : (p : LinearProgram) (s : List Status) (y : Vector) (min : Bool) → ((v : ℚ) → for_min p.sense v ≡ signed min v) → (motion y min) ≡ worth_by p y
 worth_signed p s y min is = λ i k. sym (is (y k)) i
+
+-- what is found to lower a quantity is a variable
+pub entering_within : (p : LinearProgram) (s : List Status) (f : Vector) (q : ℕ) → Some q ≡ entering p s f → IsVariable p.matrix q
+entering_within p s f q e = let found = find_some (lowers p s f) (size p.matrix) 1 q (sym e) in (found.low, omega (arith, found.high))
+
+abbrev mover_from : Vector → ℕ → Mover
+mover_from f q = record { q = q; up = lt_ℚ (f q) zero_ℚ }
+
+pub some_betters : (p : LinearProgram) (s : List Status) (y : Vector) (min up : Bool) (q : ℕ) → ((v : ℚ) → for_min p.sense v ≡ signed min v) → Some q ≡ entering p s (motion y min) → up ≡ lt_ℚ (motion y min q) zero_ℚ →
+    Some (record { q = q; up = up }) ≡ mover_by p s y
+some_betters p s y min up q is found up_is =
+    ap (λ (b : Bool). Some (record { q = q; up = b })) up_is ∙ ap (option_map (mover_from (motion y min))) found ∙ ap (λ (f : Vector). option_map (mover_from f) (entering p s f)) (worth_signed p s y min is)
+
+pub none_betters : (p : LinearProgram) (s : List Status) (y : Vector) (min : Bool) → ((v : ℚ) → for_min p.sense v ≡ signed min v) → None ≡ entering p s (motion y min) → None ≡ mover_by p s y
+none_betters p s y min is none = ap (option_map (mover_from (motion y min))) none ∙ ap (λ (f : Vector). option_map (mover_from f) (entering p s f)) (worth_signed p s y min is)
