@@ -5,9 +5,9 @@ use Rattle.exact_values.specs.Rational.{ℚ, zero_ℚ, one_ℚ, neg_ℚ, ◌-ℚ
 use Rattle.exact_values.specs.Tests.{lt_ℚ}
 use Rattle.exact_values.proofs.Order.{lt_irrefl, lt_not_le, le_of_lt}
 use Rattle.exact_values.proofs.Ring.{by_ring1, ◌≐◌, number, opposite}
-use Rattle.lp_definitions.specs.LinearProgram.{Matrix, LinearProgram, Vector, size, value_at, IsVariable, lower_of, upper_of, for_min}
+use Rattle.lp_definitions.specs.LinearProgram.{LinearProgram, Vector, size, value_at, IsVariable, lower_of, upper_of, for_min}
 use Rattle.lp_definitions.specs.Solutions.{IsFeasible}
-use Rattle.lp_definitions.specs.Basis.{Basics, basics_of, is_in, IsBasis, IsBasic, IsNonbasic, IsNonsingular, IsDirectionOf, AreRates, IsPointOf, ArePricesOf, Tableau, IsTableau, objective_rate, price_at}
+use Rattle.lp_definitions.specs.Basis.{basics_of, is_in, IsBasis, IsBasic, IsNonbasic, IsNonsingular, IsDirectionOf, AreRates, IsPointOf, ArePricesOf, Tableau, IsTableau, objective_rate, price_at}
 use Rattle.lp_definitions.specs.declared.Status.{Status}
 use Rattle.lp_definitions.specs.declared.Status.TheVariants.{Ll, Ul}
 use Rattle.lp_model.specs.RatesCalls.{IsRowOf}
@@ -15,8 +15,8 @@ use Rattle.lp_model.specs.declared.reports.Outcome.{Outcome}
 use Rattle.lp_model.specs.declared.reports.Outcome.TheVariants.{Optimal, Crossed, Infeasible, Unbounded}
 use Rattle.lp_algebra.proofs.Uniqueness.{one_direction}
 use Rattle.lp_algebra.proofs.Values.{clash}
-use Rattle.path_definitions.specs.Moves.{least, is_crossed, is_below, signed, goes_up, lowers, may_rise, may_fall, entering, limit_ahead, room, reached, stopper}
-use Rattle.path_definitions.specs.Path.{Move, Turn, Moves, Ends, EndsOptimal, EndsCrossed, EndsInfeasible, EndsUnbounded, listed, ray_of, excess_rate, speeds, crossed, outside, worth_rate, mover, bring_back, run_until, better, turn_for, turn}
+use Rattle.path_definitions.specs.Moves.{least, is_crossed, is_below, signed, goes_up, lowers, may_rise, may_fall, entering, limit_ahead, room, stopper}
+use Rattle.path_definitions.specs.Path.{Move, Moves, EndsOptimal, EndsCrossed, EndsInfeasible, EndsUnbounded, listed, ray_of, excess_rate, outside, worth_rate, mover, bring_back, run_until, better, turn_for, turn}
 use Rattle.path_laws.proofs.Tests.{lt_true}
 use Rattle.path_laws.proofs.Numbered.{find_some}
 use Rattle.path_laws.proofs.Stoppers.{stopper_some, reaches_limit}
@@ -85,7 +85,7 @@ module _ (p : LinearProgram) (s : List Status) (z : Vector) (basis : IsBasis p s
     -- nothing brings r back
     pub stuck_ends : (ray : List ℚ) (steps : ℕ) → None ≡ entering p s (motion xs (not below)) → length ray ≡ size p.matrix → ((k : ℕ) → IsVariable p.matrix k → value_at ray k ≡ ray_from xs r below k) → EndsHere p s steps (Infeasible steps ray)
     stuck_ends ray steps none counted values = record {
-        ending = EndsInfeasible (listed p.matrix (ray_of (basics_of s) row.rate r below));
+      ending = EndsInfeasible (listed p.matrix (ray_of (basics_of s) row.rate r below));
       ends = record { tableau = t; is_tableau = is_t; turns = first_turn None (mover_is ∙ sym none) };
       is_outcome = ap (Infeasible steps) (listed_is p.matrix ray (ray_of (basics_of s) row.rate r below) counted (λ k is. values k is ∙ ray_is k is));
     }
@@ -309,6 +309,3 @@ pub some_betters : (p : LinearProgram) (s : List Status) (y : Vector) (min up : 
     Some (record { q = q; up = up }) ≡ mover_by p s y
 some_betters p s y min up q is found up_is =
     ap (λ (b : Bool). Some (record { q = q; up = b })) up_is ∙ ap (option_map (mover_from (motion y min))) found ∙ ap (λ (f : Vector). option_map (mover_from f) (entering p s f)) (worth_signed p s y min is)
-
-pub none_betters : (p : LinearProgram) (s : List Status) (y : Vector) (min : Bool) → ((v : ℚ) → for_min p.sense v ≡ signed min v) → None ≡ entering p s (motion y min) → None ≡ mover_by p s y
-none_betters p s y min is none = ap (option_map (mover_from (motion y min))) none ∙ ap (λ (f : Vector). option_map (mover_from f) (entering p s f)) (worth_signed p s y min is)

@@ -1,4 +1,4 @@
-use Rattle.std.proofs.Common.{◌≡◌, sym, ap, ap₂, ◌∙◌, arith}
+use Rattle.std.proofs.Common.{sym, ap, ap₂, ◌∙◌, arith}
 use Rattle.exact_values.specs.Tests.{lt_ℚ}
 use Rattle.lp_definitions.specs.LinearProgram.{value_at}
 use Rattle.path_definitions.specs.Moves.{signed}

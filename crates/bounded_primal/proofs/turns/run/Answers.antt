@@ -1,7 +1,6 @@
-use Rattle.std.proofs.Common.{◌≡◌, ◌-◌, refl, sym, ◌∙◌, arith}
+use Rattle.std.proofs.Common.{◌-◌, refl, sym, ◌∙◌, arith}
 use Rattle.std.proofs.lemmas.Result.{err_from_is_err_and}
 use Rattle.lp_definitions.specs.LinearProgram.{value_at}
-use Rattle.lp_definitions.specs.Basis.{basics_of}
 use Rattle.bounded_primal.proofs.TurnCases.{run_feasible, run_nonbasic, run_may, run_stops, run_ends, run_at_limit, run_moves}
 use Rattle.bounded_primal.proofs.turns.run.Goals as goal
 
