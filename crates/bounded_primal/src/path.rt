@@ -38,9 +38,7 @@ fn walk<R: Rates>(
     point_of(alloc, lp, basis, rates, point)?;
     let mut steps = 0;
     loop {
-        match next_turn(
-            alloc, lp, basis, rates, point, row, direction, steps, limit,
-        )? {
+        match next_turn(alloc, lp, basis, rates, point, row, direction, steps, limit)? {
             Turn::Ends(outcome) => return Ok(outcome),
             Turn::Moves { q, by } => take_step(lp, basis, rates, point, direction, q, &by)?,
         }
