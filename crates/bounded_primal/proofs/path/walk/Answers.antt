@@ -2,7 +2,8 @@ use Rattle.std.proofs.Common.{◌≡◌, ◌+◌, ◌-◌, ◌≤◌, ◌∙◌,
 use Rattle.std.proofs.lemmas.Result.{err_from_is_err_and}
 use Rattle.lp_definitions.specs.LinearProgram.{value_at}
 use Rattle.lp_definitions.specs.Basis.{basics_of}
-use Rattle.bounded_primal.proofs.PathWalk.{begins_at, ends_there, stops_there}
+use Rattle.lp_algebra.proofs.WaypointLaws.{keeps_then}
+use Rattle.bounded_primal.proofs.PathWalk.{begins_at, ends_there, stops_there, follows, follows_later}
 use Rattle.bounded_primal.proofs.WalkCases.{stops_at_once, walk_more, walk_stops}
 use Rattle.bounded_primal.proofs.path.walk.Goals as goal
 
@@ -49,3 +50,25 @@ loop-outcome-preserved g c =
       within = omega (arith, moves.was_left);
       reached = walk_more c.args.lp.now c.loop-outcome.basis (value_at c.loop-outcome.point) (value_at c.next_turn.new.direction) c.in-Moves.q c.in-Moves.by c.loop-outcome.steps c.args.limit moves c.args.basis.now (g.R.Rates.waypoints c.args.rates.now) (g.R.Rates.waypoints c.loop-outcome.rates) c.loop-outcome.invariant.reached c.take_step.new.basis (g.R.Rates.waypoints c.next_turn.new.rates) (g.R.Rates.waypoints c.take_step.new.rates) c.in_ok-take_step-in-Moves.ensures.basis c.in_ok-outcome.ensures.waypoints c.in_ok-take_step-in-Moves.ensures.waypoints;
     }
+
+pub returns-in_err-point_of-clause-waypoints : goal.returns-in_err-point_of-clause-waypoints
+returns-in_err-point_of-clause-waypoints g c =
+    follows c.args.lp.now c.args.basis.now (g.R.Rates.waypoints c.args.rates.now) c.args.basis.now (g.R.Rates.waypoints c.point_of.new.rates) 0
+    (begins_at c.args.lp.now c.args.basis.now (g.R.Rates.waypoints c.args.rates.now) (g.R.Rates.waypoints c.point_of.new.rates) c.in_err-point_of.ensures.waypoints)
+
+pub returns-in_err-outcome-clause-waypoints : goal.returns-in_err-outcome-clause-waypoints
+returns-in_err-outcome-clause-waypoints g c =
+    follows_later c.args.lp.now c.args.basis.now (g.R.Rates.waypoints c.args.rates.now) c.loop-outcome.basis (g.R.Rates.waypoints c.loop-outcome.rates) c.loop-outcome.steps c.loop-outcome.invariant.reached
+    (g.R.Rates.waypoints c.next_turn.new.rates) c.in_err-outcome.ensures.waypoints
+
+pub returns-in-Ends-clause-waypoints : goal.returns-in-Ends-clause-waypoints
+returns-in-Ends-clause-waypoints g c =
+    follows_later c.args.lp.now c.args.basis.now (g.R.Rates.waypoints c.args.rates.now) c.loop-outcome.basis (g.R.Rates.waypoints c.loop-outcome.rates) c.loop-outcome.steps c.loop-outcome.invariant.reached
+    (g.R.Rates.waypoints c.next_turn.new.rates) c.in_ok-outcome.ensures.waypoints
+
+pub returns-in_err-take_step-in-Moves-clause-waypoints : goal.returns-in_err-take_step-in-Moves-clause-waypoints
+returns-in_err-take_step-in-Moves-clause-waypoints g c =
+    rw c.in_err-take_step-in-Moves.ensures.unchanged (follows_later c.args.lp.now c.args.basis.now (g.R.Rates.waypoints c.args.rates.now) c.loop-outcome.basis (g.R.Rates.waypoints c.loop-outcome.rates) c.loop-outcome.steps c.loop-outcome.invariant.reached
+    (g.R.Rates.waypoints c.take_step.new.rates)
+    (keeps_then c.args.lp.now.matrix (basics_of c.loop-outcome.basis) (g.R.Rates.waypoints c.loop-outcome.rates) (basics_of c.loop-outcome.basis) (g.R.Rates.waypoints c.next_turn.new.rates) (g.R.Rates.waypoints c.take_step.new.rates)
+    c.in_ok-outcome.ensures.waypoints (rw (c.in_err-take_step-in-Moves.ensures.unchanged) at c.in_err-take_step-in-Moves.ensures.waypoints)))
