@@ -1,6 +1,6 @@
 -- What an outcome of the path says of the linear program is true.
-use Rattle.std.proofs.Common.{◌≡◌, ℕ, ◌≤◌, List, [], length, sym, subst, arith}
-use Rattle.std.specs.Prelude.{Option, Some, Result, Ok, Err, IfOk}
+use Rattle.std.proofs.Common.{◌≡◌, ℕ, List, length, sym, subst, arith}
+use Rattle.std.specs.Prelude.{Some, Result, Ok, Err, IfOk}
 use Rattle.lp_definitions.specs.LinearProgram.{Matrix, LinearProgram, value_at, IsLinearProgram}
 use Rattle.lp_definitions.specs.Solutions.{IsCrossed}
 use Rattle.lp_definitions.specs.Basis.{Basics}
