@@ -3,6 +3,7 @@
 ghost use Rattle.std.specs.Prelude.{◌≡◌, length, IfOk, IfErr};
 ghost use Rattle.lp_definitions.specs.LinearProgram.{size};
 ghost use Rattle.bounded_primal.specs.Calls.{HasRates, CallEnds, WaypointsFollow};
+ghost use Rattle.bounded_primal.specs.Outcomes.{IsTrueOutcome};
 ghost use Rattle.bounded_primal.specs.Stops.{PrimalStops};
 ghost use Rattle.bounded_primal.specs.Turns.{IsUncrossed};
 
@@ -63,6 +64,7 @@ pub fn primal<R: Rates>(
     ensures stops { IfErr result (PrimalStops lp.now basis.old basis.new limit (R.waypoints rates.old) (R.waypoints rates.new)) }
     ensures rates { HasRates (R.matrix rates.new) (R.basics rates.new) lp.now basis.new }
     ensures waypoints { WaypointsFollow lp.now basis.old basis.new (R.waypoints rates.old) (R.waypoints rates.new) }
+    ensures truth { IfOk result (IsTrueOutcome lp.now) }
 {
     if let Some(k) = crossed(lp) {
         return Ok(Outcome::Crossed { k });
