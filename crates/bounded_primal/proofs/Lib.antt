@@ -12,3 +12,11 @@ mod TermLaws
 mod Returns
 mod StepFacts
 mod StepRefusals
+mod TurnEvidence
+mod SameChoices
+mod TurnChoices
+mod PathWalk
+mod TurnCalls
+mod TurnCases
+mod WalkCases
+mod TrueOutcomes

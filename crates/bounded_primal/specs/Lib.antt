@@ -6,3 +6,5 @@ pub mod Stops
 pub mod Points
 pub mod Prices
 pub mod Steps
+pub mod Turns
+pub mod Outcomes

@@ -4,11 +4,17 @@ use Rattle.lp_definitions.specs.LinearProgram.{LinearProgram}
 use Rattle.lp_definitions.specs.Basis.{Basics}
 use Rattle.lp_definitions.specs.declared.Status.{Status}
 use Rattle.lp_model.specs.declared.Stop.{Stop}
+use Rattle.lp_model.specs.declared.Stop.TheVariants as stop
 use Rattle.lp_model.specs.RatesCalls.{IfOverflow}
 use Rattle.path_definitions.specs.Path.{IsPath, last_of}
 use Rattle.bounded_primal.specs.Calls.{PathGoesOn, StopsOnPath, PointRefused, RangeRefused}
 use Rattle.bounded_primal.specs.declared.moves.PrimalStop.{PrimalStop}
 use Rattle.bounded_primal.specs.declared.moves.PrimalStop.TheVariants.{Limit, Overflow, NoMemory}
+
+-- a stop of one call as that of the path
+abbrev pub primal_stop_of : Stop → PrimalStop
+primal_stop_of (stop.Overflow e) = Overflow e
+primal_stop_of stop.NoMemory = NoMemory
 
 -- the bases after s, of which the last is now
 abbrev pub PathFrom : LinearProgram → List Status → List Status → List (List Status) → Type 0

@@ -5,13 +5,16 @@
 mod choices;
 mod formula;
 mod moves;
+mod path;
 mod point;
 mod prices;
 mod reach;
 mod step;
 mod stopping;
+mod turns;
 
 pub use moves::{PrimalStop, Stopper};
+pub use path::primal;
 pub use point::point_of;
 pub use prices::prices_of;
 pub use step::take_step;

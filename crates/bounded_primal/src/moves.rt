@@ -1,7 +1,7 @@
 //! What the solving calls answer.
 
 use frac128::Frac;
-use lp_model::{Evidence, Status};
+use lp_model::{Evidence, NoMemory, Status, Stop};
 
 /// Why a solving call stopped: its limit of steps, a number that was too large, as the evidence shows, or no memory.
 #[derive(Clone, Copy, Debug, PartialEq, Eq)]
@@ -9,6 +9,31 @@ pub enum PrimalStop {
     Limit,
     Overflow(Evidence),
     NoMemory,
+}
+
+impl From<NoMemory> for PrimalStop {
+    ghost use Rattle.std.specs.Prelude.{◌≡◌};
+    ghost use Rattle.bounded_primal.specs.declared.moves.PrimalStop.TheVariants as stops;
+
+    ghost from_gives = { λ _ stop. stop ≡ stops.NoMemory };
+
+    fn from(_refused: NoMemory) -> PrimalStop {
+        PrimalStop::NoMemory
+    }
+}
+
+impl From<Stop> for PrimalStop {
+    ghost use Rattle.std.specs.Prelude.{◌≡◌};
+    ghost use Rattle.bounded_primal.specs.Stops.{primal_stop_of};
+
+    ghost from_gives = { λ stop primal. primal ≡ primal_stop_of stop };
+
+    fn from(stop: Stop) -> PrimalStop {
+        match stop {
+            Stop::Overflow(evidence) => PrimalStop::Overflow(evidence),
+            Stop::NoMemory => PrimalStop::NoMemory,
+        }
+    }
 }
 
 /// The variable that stops a move. `step` is the change of what moves, negative where it moves down, and `to` is where `p` comes

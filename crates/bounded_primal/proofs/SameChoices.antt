@@ -1,0 +1,63 @@
+-- The path's choices depend on rates at the nonbasics and on speeds at the variables alone.
+use Rattle.std.proofs.Common.{◌≡◌, ℕ, zero, suc, ◌+◌, ◌-◌, ◌<◌, Bool, true, false, List, length, get_or, map, refl, sym, ap, ap₂, ◌∙◌, arith}
+use Rattle.std.specs.Prelude.{None, not, ◌&&◌, ◌||◌, option_map, if◌then◌else◌}
+use Rattle.exact_values.specs.Rational.{ℚ, zero_ℚ, ◌-ℚ◌, ◌/ℚ◌}
+use Rattle.exact_values.specs.Tests.{lt_ℚ}
+use Rattle.lp_definitions.specs.LinearProgram.{Matrix, LinearProgram, Vector, size, numbers_from, IsVariable, lower_of, upper_of, value_at}
+use Rattle.lp_definitions.specs.Basis.{is_in, basics_of, status_of, is_basic, IsBasis, IsNonbasic}
+use Rattle.lp_definitions.specs.declared.Status.{Status}
+use Rattle.lp_definitions.specs.declared.Status.TheVariants.{Bs, Ll, Ul, Fr}
+use Rattle.lp_algebra.proofs.Uniqueness.{is_in-basics_of}
+use Rattle.path_definitions.specs.Moves.{is_fixed, rises_from, falls_from, lowers, entering, room, is_no_later, reaches_first, stopper}
+use Rattle.path_definitions.specs.Path.{listed}
+use Rattle.path_laws.proofs.Numbered.{find_same, list_all_same, get_or-listed}
+use Rattle.std.proofs.lemmas.List.{ext_get_or}
+
+-- a basic variable lowers nothing
+idle : (a b c : Bool) → ((a && (false && c)) || (b && (false && c))) ≡ false
+idle true true c = refl
+idle true false c = refl
+idle false true c = refl
+idle false false c = refl
+
+idle_basic : (st : Status) (a b c : Bool) → is_basic st ≡ true → ((a && (rises_from st && c)) || (b && (falls_from st && c))) ≡ false
+idle_basic Bs a b c e = idle a b c
+idle_basic Ll a b c e = cc
+idle_basic Ul a b c e = cc
+idle_basic Fr a b c e = cc
+
+-- quantities with the same rates at the nonbasics are lowered by the same variable
+pub entering_same : (p : LinearProgram) (s : List Status) → IsBasis p s → (f g : Vector) → ((k : ℕ) → IsNonbasic p.matrix (basics_of s) k → f k ≡ g k) → entering p s f ≡ entering p s g
+entering_same p s basis f g same = find_same (lowers p s f) (lowers p s g) (size p.matrix) 1 (λ k low high. at k (low, omega (arith, high)) (is_in (basics_of s) k) refl)
+  where
+    at : (k : ℕ) → IsVariable p.matrix k → (mark : Bool) → is_in (basics_of s) k ≡ mark → lowers p s f k ≡ lowers p s g k
+    at k is true mark =
+        let basic : is_basic (status_of s k) ≡ true = sym (is_in-basics_of s k is.0 (omega (arith, is.1, basis.counted))) ∙ mark in
+        idle_basic (status_of s k) (lt_ℚ (f k) zero_ℚ) (lt_ℚ zero_ℚ (f k)) (not (is_fixed p k)) basic
+        ∙ sym (idle_basic (status_of s k) (lt_ℚ (g k) zero_ℚ) (lt_ℚ zero_ℚ (g k)) (not (is_fixed p k)) basic)
+    at k is false mark =
+        ap (λ v. (lt_ℚ v zero_ℚ && (rises_from (status_of s k) && not (is_fixed p k))) || (lt_ℚ zero_ℚ v && (falls_from (status_of s k) && not (is_fixed p k)))) (same k (is, mark))
+
+room_same : (p : LinearProgram) (z v w : Vector) (k : ℕ) → v k ≡ w k → room p z v k ≡ room p z w k
+room_same p z v w k e = ap (λ v. option_map (λ l. (l -ℚ z k) /ℚ v) (if lt_ℚ zero_ℚ v then upper_of p k else (if lt_ℚ v zero_ℚ then lower_of p k else None))) e
+
+-- motions with the same speeds at the variables are stopped by the same variable
+pub stopper_same : (p : LinearProgram) (z v w : Vector) → ((k : ℕ) → IsVariable p.matrix k → v k ≡ w k) → stopper p z v ≡ stopper p z w
+stopper_same p z v w same =
+    find_same (reaches_first p z v) (reaches_first p z w) (size p.matrix) 1 (λ k low high.
+    list_all_same (λ i. is_no_later (room p z v k) (room p z v i)) (λ i. is_no_later (room p z w k) (room p z w i)) (size p.matrix) 1 (λ i from to.
+    ap₂ is_no_later (room_same p z v w k (same k (low, omega (arith, high)))) (room_same p z v w i (same i (from, omega (arith, to))))))
+
+length_listed : (f : Vector) (n first : ℕ) → length (map f (numbers_from first n)) ≡ n
+length_listed f zero first = refl
+length_listed f (suc n) first = let rest = length_listed f n (suc first) in omega (arith, rest)
+
+-- a list that has a vector's values in their places
+pub listed_is : (a : Matrix) (xs : List ℚ) (f : Vector) → length xs ≡ size a → ((k : ℕ) → IsVariable a k → value_at xs k ≡ f k) → xs ≡ listed a f
+listed_is a xs f counted h = ext_get_or zero_ℚ xs (listed a f) (counted ∙ sym (length_listed f (size a) 1)) same
+  where
+    same : (i : ℕ) → i < length xs → get_or xs i zero_ℚ ≡ get_or (listed a f) i zero_ℚ
+    same i below =
+        let place : i + 1 - 1 ≡ i = omega arith in
+        let next : i + 1 ≡ 1 + i = omega arith in
+        ap (λ j. get_or xs j zero_ℚ) (sym place) ∙ h (i + 1) (omega arith, omega (arith, below, counted)) ∙ ap f next ∙ sym (get_or-listed f (size a) 1 i zero_ℚ (omega (arith, below, counted)))

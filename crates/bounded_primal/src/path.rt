@@ -1,0 +1,86 @@
+//! The path of the bounded simplex method.
+
+ghost use Rattle.std.specs.Prelude.{◌≡◌, length, IfOk, IfErr};
+ghost use Rattle.lp_definitions.specs.LinearProgram.{size};
+ghost use Rattle.bounded_primal.specs.Calls.{HasRates, CallEnds, WaypointsFollow};
+ghost use Rattle.bounded_primal.specs.Outcomes.{IsTrueOutcome};
+ghost use Rattle.bounded_primal.specs.Stops.{PrimalStops};
+ghost use Rattle.bounded_primal.specs.Turns.{IsUncrossed};
+
+use crate::choices::crossed;
+use crate::moves::PrimalStop;
+use crate::point::point_of;
+use crate::step::take_step;
+use crate::turns::{Turn, next_turn};
+use frac128::Frac;
+use lp_model::{Basis, Lp, NoMemory, Outcome, Rates};
+use std::alloc::Global;
+
+/// Makes the basis's point, and goes from basis to basis with it. `point`, `row` and `direction` are room.
+fn walk<R: Rates>(
+    alloc: Global,
+    lp: &Lp,
+    basis: &mut Basis,
+    rates: &mut R,
+    point: &mut [Frac],
+    row: &mut [Frac],
+    direction: &mut [Frac],
+    limit: u32,
+) -> Result<Outcome, PrimalStop>
+    requires rates { HasRates (R.matrix rates.old) (R.basics rates.old) lp.now basis.old }
+    requires point_places { length point.old ≡ size lp.now.matrix }
+    requires row_places { length row.old ≡ size lp.now.matrix }
+    requires direction_places { length direction.old ≡ size lp.now.matrix }
+    requires uncrossed { IsUncrossed lp.now }
+    ensures ends { IfOk result (CallEnds lp.now basis.old basis.new limit) }
+    ensures stops { IfErr result (PrimalStops lp.now basis.old basis.new limit (R.waypoints rates.old) (R.waypoints rates.new)) }
+    ensures rates { HasRates (R.matrix rates.new) (R.basics rates.new) lp.now basis.new }
+    ensures waypoints { WaypointsFollow lp.now basis.old basis.new (R.waypoints rates.old) (R.waypoints rates.new) }
+{
+    point_of(alloc, lp, basis, rates, point)?;
+    let mut steps = 0;
+    loop {
+        match next_turn(alloc, lp, basis, rates, point, row, direction, steps, limit)? {
+            Turn::Ends(outcome) => return Ok(outcome),
+            Turn::Moves { q, by } => take_step(lp, basis, rates, point, direction, q, &by)?,
+        }
+        steps += 1;
+    }
+}
+
+/// Follows the path from the basis until it ends, for at most `limit` steps: the bounded simplex method with the least-index rule.
+/// A crossed variable ends it; else the least-numbered basic outside its limits is brought back to the limit that it broke; else
+/// the least-numbered nonbasic that betters the objective moves until something stops it. `Limit` comes exactly where the path has
+/// not ended after so many steps. The basis and the rates are those that the path has reached, after a stop too.
+pub fn primal<R: Rates>(
+    alloc: Global,
+    lp: &Lp,
+    basis: &mut Basis,
+    rates: &mut R,
+    limit: u32,
+) -> Result<Outcome, PrimalStop>
+    requires { HasRates (R.matrix rates.old) (R.basics rates.old) lp.now basis.old }
+    ensures ends { IfOk result (CallEnds lp.now basis.old basis.new limit) }
+    ensures stops { IfErr result (PrimalStops lp.now basis.old basis.new limit (R.waypoints rates.old) (R.waypoints rates.new)) }
+    ensures rates { HasRates (R.matrix rates.new) (R.basics rates.new) lp.now basis.new }
+    ensures waypoints { WaypointsFollow lp.now basis.old basis.new (R.waypoints rates.old) (R.waypoints rates.new) }
+    ensures truth { IfOk result (IsTrueOutcome lp.now) }
+{
+    if let Some(k) = crossed(lp) {
+        return Ok(Outcome::Crossed { k });
+    }
+    let size = lp.number_of_variables() as usize;
+    let mut point = vec![in alloc; Frac::whole(0); size].map_err(|_| NoMemory)?;
+    let mut row = vec![in alloc; Frac::whole(0); size].map_err(|_| NoMemory)?;
+    let mut direction = vec![in alloc; Frac::whole(0); size].map_err(|_| NoMemory)?;
+    walk(
+        alloc,
+        lp,
+        basis,
+        rates,
+        &mut point,
+        &mut row,
+        &mut direction,
+        limit,
+    )
+}

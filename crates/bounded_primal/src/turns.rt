@@ -1,0 +1,398 @@
+//! What the path does at a basis: it ends there, or a variable moves.
+
+ghost use Rattle.std.specs.Prelude.{◌≡◌, ◌≢◌, ◌≤◌, ℕ, None, Some, not, if◌then◌else◌, length, OnOk, IfOk, IfErr, IsSome, IsTrue};
+ghost use Rattle.exact_values.specs.Rational.{ℚ, zero_ℚ};
+ghost use Rattle.lp_definitions.specs.LinearProgram.{size, value_at, for_min, IsVariable};
+ghost use Rattle.lp_definitions.specs.Solutions.{IsFeasible};
+ghost use Rattle.lp_definitions.specs.Basis.{basics_of, IsBasic, IsNonbasic, IsDirectionOf, IsPointOf};
+ghost use Rattle.lp_definitions.specs.Waypoints.{KeepsWaypoints};
+ghost use Rattle.lp_model.specs.RatesCalls.{IsRowOf, IfOverflow};
+ghost use Rattle.path_definitions.specs.Moves.{signed, entering};
+ghost use Rattle.overflow_definitions.specs.Formulas.{limit_numbered, number_of_limit};
+ghost use Rattle.bounded_primal.specs.Calls.{HasRates, PointRefused};
+ghost use Rattle.bounded_primal.specs.Moves.{may_move, motion, return_by, stopper_of as stopper_by};
+ghost use Rattle.bounded_primal.specs.Turns.{IsUncrossed, least_outside, ray_from, mover_by, Betters, IsEndless, ReturnStops, RunStops, TurnFound};
+
+use crate::choices::{counted, enterer, is_less, lies_below, outside};
+use crate::moves::{PrimalStop, Stopper};
+use crate::prices::prices_of;
+use crate::step::returning;
+use crate::stopping::stopper;
+use frac128::Frac;
+use lp_model::{
+    Basis, Direction, Lp, NoMemory, Outcome, Point, Prices, Rates, Ray, Sense, Status, Stop,
+};
+use std::alloc::Global;
+
+/// The multiplier of `k` in what shows that `r` can't come back, from the rates of `r`.
+fn multiplier(lp: &Lp, rates: &[Frac], r: u32, below: bool, k: u32) -> Frac
+    requires variable { IsVariable lp.now.matrix k }
+    requires places { length rates.now ≡ size lp.now.matrix }
+    ensures { result ≡ ray_from (value_at rates.now) r below k }
+{
+    if k == r {
+        counted(Frac::whole(1).neg(), below)
+    } else {
+        counted(rates[k as usize - 1], below)
+    }
+}
+
+/// The multipliers that show that `r` can't come back.
+fn ray_of(alloc: Global, lp: &Lp, rates: &[Frac], r: u32, below: bool) -> Result<Ray, NoMemory>
+    requires { length rates.now ≡ size lp.now.matrix }
+    ensures places { IfOk result (λ ray. length ray ≡ size lp.now.matrix) }
+    ensures ray { IfOk result (λ ray. (k : ℕ) → IsVariable lp.now.matrix k → value_at ray k ≡ ray_from (value_at rates.now) r below k) }
+{
+    let mut values = Vec::new(alloc);
+    for k in 0..lp.number_of_variables() {
+        values
+            .push(multiplier(lp, rates, r, below, k + 1))
+            .map_err(|_| NoMemory)?;
+    }
+    Ok(Ray::new(values))
+}
+
+/// The speed of `k`, where what has this direction moves up or down.
+fn speed(lp: &Lp, direction: &[Frac], up: bool, k: u32) -> Frac
+    requires variable { IsVariable lp.now.matrix k }
+    requires places { length direction.now ≡ size lp.now.matrix }
+    ensures { result ≡ motion (value_at direction.now) up k }
+{
+    counted(direction[k as usize - 1], up)
+}
+
+/// The direction, or its opposite.
+fn signed_direction(
+    alloc: Global,
+    lp: &Lp,
+    direction: &[Frac],
+    up: bool,
+) -> Result<Direction, NoMemory>
+    requires { length direction.now ≡ size lp.now.matrix }
+    ensures places { IfOk result (λ copy. length copy ≡ size lp.now.matrix) }
+    ensures signed { IfOk result (λ copy. (k : ℕ) → IsVariable lp.now.matrix k → value_at copy k ≡ motion (value_at direction.now) up k) }
+{
+    let mut values = Vec::new(alloc);
+    for k in 0..lp.number_of_variables() {
+        values
+            .push(speed(lp, direction, up, k + 1))
+            .map_err(|_| NoMemory)?;
+    }
+    Ok(Direction::new(values))
+}
+
+/// A copy.
+fn copied(alloc: Global, values: &[Frac]) -> Result<Vec<Frac>, NoMemory>
+    ensures { IfOk result (λ copy. copy.items ≡ values.now) }
+{
+    let copy = Vec::from_slice(alloc, values)?;
+    Ok(copy)
+}
+
+/// Whether a smaller objective is better.
+fn is_minimized(lp: &Lp) -> bool
+    ensures { (v : ℚ) → for_min lp.now.sense v ≡ signed result v }
+{
+    match lp.sense {
+        Sense::Min => true,
+        Sense::Max => false,
+    }
+}
+
+/// The limit that was broken, as a status.
+fn limit_broken(below: bool) -> Status
+    ensures { result ≡ (if below then Status.Ll else Status.Ul) }
+{
+    if below { Status::Ll } else { Status::Ul }
+}
+
+/// The nonbasic that brings the basic `r` back, if there is one. `row` takes the rates of `r`.
+fn returner<R: Rates>(
+    lp: &Lp,
+    basis: &Basis,
+    rates: &mut R,
+    row: &mut [Frac],
+    r: u32,
+    below: bool,
+) -> Result<Option<u32>, Stop>
+    requires rates { HasRates (R.matrix rates.old) (R.basics rates.old) lp.now basis.now }
+    requires places { length row.old ≡ size lp.now.matrix }
+    requires basic { IsBasic lp.now.matrix (basics_of basis.now) r }
+    ensures row { OnOk result (IsRowOf lp.now.matrix (basics_of basis.now) r (value_at row.new)) }
+    ensures found { IfOk result (λ found. found ≡ entering lp.now basis.now (motion (value_at row.new) (not below))) }
+    ensures rates { HasRates (R.matrix rates.new) (R.basics rates.new) lp.now basis.now }
+    ensures waypoints { KeepsWaypoints lp.now.matrix (basics_of basis.now) (R.waypoints rates.old) (basics_of basis.now) (R.waypoints rates.new) }
+    ensures overflow { IfErr result (λ stop. IfOverflow stop (PointRefused lp.now (R.waypoints rates.old) basis.now (R.waypoints rates.new))) }
+{
+    rates.row(r, row)?;
+    Ok(enterer(lp, basis, row, !below))
+}
+
+/// What brings `p` to the limit of the status `to` by a move of `q`. `direction` takes the direction of `q`.
+fn return_of<R: Rates>(
+    lp: &Lp,
+    basis: &Basis,
+    rates: &mut R,
+    point: &[Frac],
+    direction: &mut [Frac],
+    q: u32,
+    p: u32,
+    to: Status,
+) -> Result<Stopper, Stop>
+    requires rates { HasRates (R.matrix rates.old) (R.basics rates.old) lp.now basis.now }
+    requires point_places { length point.now ≡ size lp.now.matrix }
+    requires direction_places { length direction.old ≡ size lp.now.matrix }
+    requires nonbasic { IsNonbasic lp.now.matrix (basics_of basis.now) q }
+    requires basic { IsBasic lp.now.matrix (basics_of basis.now) p }
+    requires limit { IsSome (limit_numbered lp.now p (number_of_limit to)) }
+    requires pivot { (d : ℕ → ℚ) → IsDirectionOf lp.now.matrix (basics_of basis.now) q d → d p ≢ zero_ℚ }
+    ensures direction { OnOk result (IsDirectionOf lp.now.matrix (basics_of basis.now) q (value_at direction.new)) }
+    ensures stopper { IfOk result (λ by. by ≡ return_by lp.now (value_at point.now) (value_at direction.new) p to) }
+    ensures rates { HasRates (R.matrix rates.new) (R.basics rates.new) lp.now basis.now }
+    ensures waypoints { KeepsWaypoints lp.now.matrix (basics_of basis.now) (R.waypoints rates.old) (basics_of basis.now) (R.waypoints rates.new) }
+    ensures overflow { IfErr result (λ stop. IfOverflow stop (ReturnStops lp.now basis.now (value_at point.now) q p to (R.waypoints rates.old) (R.waypoints rates.new))) }
+{
+    rates.column(q, direction)?;
+    match returning(lp, point, direction, q, p, to) {
+        Ok(by) => Ok(by),
+        Err(evidence) => Err(Stop::Overflow(evidence)),
+    }
+}
+
+/// What stops `q`. `direction` takes the direction of `q`.
+fn stopper_of<R: Rates>(
+    lp: &Lp,
+    basis: &Basis,
+    rates: &mut R,
+    point: &[Frac],
+    direction: &mut [Frac],
+    q: u32,
+    up: bool,
+) -> Result<Option<Stopper>, Stop>
+    requires rates { HasRates (R.matrix rates.old) (R.basics rates.old) lp.now basis.now }
+    requires point_places { length point.now ≡ size lp.now.matrix }
+    requires direction_places { length direction.old ≡ size lp.now.matrix }
+    requires point { IsPointOf lp.now basis.now (value_at point.now) }
+    requires feasible { IsFeasible lp.now (value_at point.now) }
+    requires nonbasic { IsNonbasic lp.now.matrix (basics_of basis.now) q }
+    requires may { IsTrue (may_move lp.now basis.now up q) }
+    ensures direction { OnOk result (IsDirectionOf lp.now.matrix (basics_of basis.now) q (value_at direction.new)) }
+    ensures stopper { IfOk result (λ found. found ≡ stopper_by lp.now (value_at point.now) (value_at direction.new) up) }
+    ensures rates { HasRates (R.matrix rates.new) (R.basics rates.new) lp.now basis.now }
+    ensures waypoints { KeepsWaypoints lp.now.matrix (basics_of basis.now) (R.waypoints rates.old) (basics_of basis.now) (R.waypoints rates.new) }
+    ensures overflow { IfErr result (λ stop. IfOverflow stop (RunStops lp.now basis.now (value_at point.now) q up (R.waypoints rates.old) (R.waypoints rates.new))) }
+{
+    rates.column(q, direction)?;
+    match stopper(lp, basis, point, direction, q, up) {
+        Ok(found) => Ok(found),
+        Err(evidence) => Err(Stop::Overflow(evidence)),
+    }
+}
+
+/// The variable that betters the objective, and whether it rises.
+#[derive(Clone, Copy)]
+struct Mover {
+    q: u32,
+    up: bool,
+}
+
+/// The variable that betters the objective with these prices, if there is one.
+fn bettering(lp: &Lp, basis: &Basis, prices: &[Frac]) -> Option<Mover>
+    requires counted { length basis.now ≡ size lp.now.matrix }
+    requires places { length prices.now ≡ size lp.now.matrix }
+    ensures { result ≡ mover_by lp.now basis.now (value_at prices.now) }
+{
+    let minimized = is_minimized(lp);
+    let q = enterer(lp, basis, prices, minimized)?;
+    let price = prices[q as usize - 1];
+    let up = is_less(counted(price, minimized), Frac::whole(0));
+    Some(Mover { q, up })
+}
+
+/// What the path does at a basis: it ends, or `q` moves by `by`, and its direction is at hand.
+pub enum Turn {
+    Ends(Outcome),
+    Moves { q: u32, by: Stopper },
+}
+
+/// The first phase: brings the basic `r` back to the limit that it broke, or answers why nothing does. `row` and `direction` are
+/// room.
+fn first_phase<R: Rates>(
+    alloc: Global,
+    lp: &Lp,
+    basis: &Basis,
+    rates: &mut R,
+    point: &[Frac],
+    row: &mut [Frac],
+    direction: &mut [Frac],
+    r: u32,
+    steps: u32,
+    limit: u32,
+) -> Result<Turn, PrimalStop>
+    requires rates { HasRates (R.matrix rates.old) (R.basics rates.old) lp.now basis.now }
+    requires point_places { length point.now ≡ size lp.now.matrix }
+    requires row_places { length row.old ≡ size lp.now.matrix }
+    requires direction_places { length direction.old ≡ size lp.now.matrix }
+    requires point { IsPointOf lp.now basis.now (value_at point.now) }
+    requires uncrossed { IsUncrossed lp.now }
+    requires outside { least_outside lp.now basis.now (value_at point.now) ≡ Some r }
+    requires within { steps ≤ limit }
+    ensures turn { TurnFound result lp.now basis.now steps limit (value_at point.now) (value_at direction.new) (R.waypoints rates.old) (R.waypoints rates.new) }
+    ensures rates { HasRates (R.matrix rates.new) (R.basics rates.new) lp.now basis.now }
+    ensures waypoints { KeepsWaypoints lp.now.matrix (basics_of basis.now) (R.waypoints rates.old) (basics_of basis.now) (R.waypoints rates.new) }
+{
+    let below = lies_below(lp, point, r);
+    let Some(q) = returner(lp, basis, rates, row, r, below)? else {
+        let ray = ray_of(alloc, lp, row, r, below)?;
+        return Ok(Turn::Ends(Outcome::Infeasible { steps, ray }));
+    };
+    if steps == limit {
+        return Err(PrimalStop::Limit);
+    }
+    let by = return_of(
+        lp,
+        basis,
+        rates,
+        point,
+        direction,
+        q,
+        r,
+        limit_broken(below),
+    )?;
+    Ok(Turn::Moves { q, by })
+}
+
+/// The optimal end.
+fn best(alloc: Global, point: &[Frac], prices: &[Frac], steps: u32) -> Result<Outcome, NoMemory>
+    ensures { IfOk result (λ outcome. outcome ≡ Outcome.Optimal steps point.now prices.now) }
+{
+    let point = Point::new(copied(alloc, point)?);
+    let prices = Prices::new(copied(alloc, prices)?);
+    Ok(Outcome::Optimal {
+        steps,
+        point,
+        prices,
+    })
+}
+
+/// The end without a bound.
+fn endless(
+    alloc: Global,
+    lp: &Lp,
+    point: &[Frac],
+    direction: &[Frac],
+    up: bool,
+    steps: u32,
+) -> Result<Outcome, NoMemory>
+    requires { length direction.now ≡ size lp.now.matrix }
+    ensures { IfOk result (IsEndless lp.now point.now (value_at direction.now) up steps) }
+{
+    let point = Point::new(copied(alloc, point)?);
+    let direction = signed_direction(alloc, lp, direction, up)?;
+    Ok(Outcome::Unbounded {
+        steps,
+        point,
+        direction,
+    })
+}
+
+/// Moves `q` up or down until something stops it, or answers that nothing does. `direction` is room.
+fn run<R: Rates>(
+    alloc: Global,
+    lp: &Lp,
+    basis: &Basis,
+    rates: &mut R,
+    point: &[Frac],
+    direction: &mut [Frac],
+    moved: Mover,
+    steps: u32,
+    limit: u32,
+) -> Result<Turn, PrimalStop>
+    requires rates { HasRates (R.matrix rates.old) (R.basics rates.old) lp.now basis.now }
+    requires point_places { length point.now ≡ size lp.now.matrix }
+    requires direction_places { length direction.old ≡ size lp.now.matrix }
+    requires point { IsPointOf lp.now basis.now (value_at point.now) }
+    requires uncrossed { IsUncrossed lp.now }
+    requires inside { least_outside lp.now basis.now (value_at point.now) ≡ None }
+    requires within { steps ≤ limit }
+    requires moves { Betters lp.now basis.now moved }
+    ensures turn { TurnFound result lp.now basis.now steps limit (value_at point.now) (value_at direction.new) (R.waypoints rates.old) (R.waypoints rates.new) }
+    ensures rates { HasRates (R.matrix rates.new) (R.basics rates.new) lp.now basis.now }
+    ensures waypoints { KeepsWaypoints lp.now.matrix (basics_of basis.now) (R.waypoints rates.old) (basics_of basis.now) (R.waypoints rates.new) }
+{
+    match stopper_of(lp, basis, rates, point, direction, moved.q, moved.up)? {
+        None => Ok(Turn::Ends(endless(alloc, lp, point, direction, moved.up, steps)?)),
+        Some(by) => {
+            if steps < limit {
+                Ok(Turn::Moves { q: moved.q, by })
+            } else {
+                Err(PrimalStop::Limit)
+            }
+        }
+    }
+}
+
+/// The second phase: moves the least-numbered variable that betters the objective, or answers that none does or that nothing stops
+/// it. `row` and `direction` are room.
+fn second_phase<R: Rates>(
+    alloc: Global,
+    lp: &Lp,
+    basis: &Basis,
+    rates: &mut R,
+    point: &[Frac],
+    row: &mut [Frac],
+    direction: &mut [Frac],
+    steps: u32,
+    limit: u32,
+) -> Result<Turn, PrimalStop>
+    requires rates { HasRates (R.matrix rates.old) (R.basics rates.old) lp.now basis.now }
+    requires point_places { length point.now ≡ size lp.now.matrix }
+    requires row_places { length row.old ≡ size lp.now.matrix }
+    requires direction_places { length direction.old ≡ size lp.now.matrix }
+    requires point { IsPointOf lp.now basis.now (value_at point.now) }
+    requires uncrossed { IsUncrossed lp.now }
+    requires inside { least_outside lp.now basis.now (value_at point.now) ≡ None }
+    requires within { steps ≤ limit }
+    ensures turn { TurnFound result lp.now basis.now steps limit (value_at point.now) (value_at direction.new) (R.waypoints rates.old) (R.waypoints rates.new) }
+    ensures rates { HasRates (R.matrix rates.new) (R.basics rates.new) lp.now basis.now }
+    ensures waypoints { KeepsWaypoints lp.now.matrix (basics_of basis.now) (R.waypoints rates.old) (basics_of basis.now) (R.waypoints rates.new) }
+{
+    prices_of(alloc, lp, basis, rates, row)?;
+    match bettering(lp, basis, row) {
+        None => Ok(Turn::Ends(best(alloc, point, row, steps)?)),
+        Some(moved) => run(
+            alloc, lp, basis, rates, point, direction, moved, steps, limit,
+        ),
+    }
+}
+
+/// What the path does at the basis. `row` and `direction` are room.
+pub fn next_turn<R: Rates>(
+    alloc: Global,
+    lp: &Lp,
+    basis: &Basis,
+    rates: &mut R,
+    point: &[Frac],
+    row: &mut [Frac],
+    direction: &mut [Frac],
+    steps: u32,
+    limit: u32,
+) -> Result<Turn, PrimalStop>
+    requires rates { HasRates (R.matrix rates.old) (R.basics rates.old) lp.now basis.now }
+    requires point_places { length point.now ≡ size lp.now.matrix }
+    requires row_places { length row.old ≡ size lp.now.matrix }
+    requires direction_places { length direction.old ≡ size lp.now.matrix }
+    requires point { IsPointOf lp.now basis.now (value_at point.now) }
+    requires uncrossed { IsUncrossed lp.now }
+    requires within { steps ≤ limit }
+    ensures turn { TurnFound result lp.now basis.now steps limit (value_at point.now) (value_at direction.new) (R.waypoints rates.old) (R.waypoints rates.new) }
+    ensures rates { HasRates (R.matrix rates.new) (R.basics rates.new) lp.now basis.now }
+    ensures waypoints { KeepsWaypoints lp.now.matrix (basics_of basis.now) (R.waypoints rates.old) (basics_of basis.now) (R.waypoints rates.new) }
+{
+    match outside(lp, basis, point) {
+        Some(r) => first_phase(
+            alloc, lp, basis, rates, point, row, direction, r, steps, limit,
+        ),
+        None => second_phase(alloc, lp, basis, rates, point, row, direction, steps, limit),
+    }
+}
