@@ -1,12 +1,11 @@
 -- What each exit of a turn gives, from what the calls before it gave.
 use Rattle.std.proofs.Common.{◌≡◌, ◌≢◌, ℕ, ◌<◌, List, length, Bool, sym, ap, subst, ◌∙◌}
-use Rattle.std.specs.Prelude.{Option, Some, None, IsSome, IsTrue, not, if◌then◌else◌}
+use Rattle.std.specs.Prelude.{Some, None, IsSome, IsTrue, not, if◌then◌else◌}
 use Rattle.exact_values.specs.Rational.{ℚ, zero_ℚ}
 use Rattle.lp_definitions.specs.LinearProgram.{Matrix, LinearProgram, Vector, size, value_at, IsVariable}
 use Rattle.lp_definitions.specs.Solutions.{IsFeasible}
-use Rattle.lp_definitions.specs.Basis.{Basics, basics_of, IsBasic, IsNonbasic, IsDirectionOf, IsPointOf, ArePricesOf}
+use Rattle.lp_definitions.specs.Basis.{Basics, basics_of, IsNonbasic, IsDirectionOf, IsPointOf, ArePricesOf}
 use Rattle.lp_definitions.specs.Waypoints.{KeepsWaypoints}
-use Rattle.lp_definitions.specs.declared.Evidence.{Evidence}
 use Rattle.lp_definitions.specs.declared.Status.{Status}
 use Rattle.lp_definitions.specs.declared.Status.TheVariants.{Ll, Ul}
 use Rattle.lp_model.specs.RatesCalls.{IsRowOf, IfOverflow}
@@ -14,7 +13,6 @@ use Rattle.lp_model.specs.declared.Stop.{Stop}
 use Rattle.lp_model.specs.declared.reports.Outcome.{Outcome}
 use Rattle.lp_model.specs.declared.reports.Outcome.TheVariants.{Optimal, Infeasible}
 use Rattle.path_definitions.specs.Moves.{is_below, entering}
-use Rattle.path_definitions.specs.Path.{Move}
 use Rattle.overflow_definitions.specs.Formulas.{limit_numbered, number_of_limit}
 use Rattle.bounded_primal.specs.Calls.{HasRates, PointRefused}
 use Rattle.bounded_primal.specs.Moves.{may_move, motion, stopper_of, return_by, move_by}

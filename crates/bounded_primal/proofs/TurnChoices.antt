@@ -1,13 +1,13 @@
 -- Which turn the path makes at a basis, from the point, the rates of a row, the prices and a direction.
-use Rattle.std.proofs.Common.{◌≡◌, ◌≢◌, ℕ, ◌<◌, List, length, Bool, true, false, refl, sym, ap, ap₂, ◌∙◌, subst, pos}
+use Rattle.std.proofs.Common.{◌≡◌, ◌≢◌, ℕ, ◌<◌, List, length, Bool, true, false, refl, sym, ap, ap₂, ◌∙◌, subst, pos, arith}
 use Rattle.std.specs.Prelude.{Option, Some, None, IsSome, IsTrue, not, ◌&&◌, ◌||◌, option_map, unwrap_or, if◌then◌else◌, nat_eq}
 use Rattle.exact_values.specs.Rational.{ℚ, zero_ℚ, one_ℚ, neg_ℚ, ◌-ℚ◌, ◌/ℚ◌, ◌<ℚ◌}
 use Rattle.exact_values.specs.Tests.{lt_ℚ}
 use Rattle.exact_values.proofs.Order.{lt_irrefl, lt_not_le, le_of_lt}
 use Rattle.exact_values.proofs.Ring.{by_ring1, ◌≐◌, number, opposite}
-use Rattle.lp_definitions.specs.LinearProgram.{Matrix, LinearProgram, Vector, size, value_at, IsVariable, lower_of, upper_of, for_min}
+use Rattle.lp_definitions.specs.LinearProgram.{LinearProgram, Vector, size, value_at, IsVariable, lower_of, upper_of, for_min}
 use Rattle.lp_definitions.specs.Solutions.{IsFeasible}
-use Rattle.lp_definitions.specs.Basis.{Basics, basics_of, is_in, IsBasis, IsBasic, IsNonbasic, IsNonsingular, IsDirectionOf, AreRates, IsPointOf, ArePricesOf, Tableau, IsTableau, objective_rate, price_at}
+use Rattle.lp_definitions.specs.Basis.{basics_of, is_in, IsBasis, IsBasic, IsNonbasic, IsNonsingular, IsDirectionOf, AreRates, IsPointOf, ArePricesOf, Tableau, IsTableau, objective_rate, price_at}
 use Rattle.lp_definitions.specs.declared.Status.{Status}
 use Rattle.lp_definitions.specs.declared.Status.TheVariants.{Ll, Ul}
 use Rattle.lp_model.specs.RatesCalls.{IsRowOf}
@@ -15,8 +15,8 @@ use Rattle.lp_model.specs.declared.reports.Outcome.{Outcome}
 use Rattle.lp_model.specs.declared.reports.Outcome.TheVariants.{Optimal, Crossed, Infeasible, Unbounded}
 use Rattle.lp_algebra.proofs.Uniqueness.{one_direction}
 use Rattle.lp_algebra.proofs.Values.{clash}
-use Rattle.path_definitions.specs.Moves.{least, is_crossed, is_below, signed, goes_up, lowers, may_rise, may_fall, entering, limit_ahead, room, reached, stopper}
-use Rattle.path_definitions.specs.Path.{Move, Turn, Moves, Ends, EndsOptimal, EndsCrossed, EndsInfeasible, EndsUnbounded, listed, ray_of, excess_rate, speeds, crossed, outside, worth_rate, mover, bring_back, run_until, better, turn_for, turn}
+use Rattle.path_definitions.specs.Moves.{least, is_crossed, is_below, signed, goes_up, lowers, may_rise, may_fall, entering, limit_ahead, room, stopper}
+use Rattle.path_definitions.specs.Path.{Move, Moves, EndsOptimal, EndsCrossed, EndsInfeasible, EndsUnbounded, listed, ray_of, excess_rate, outside, worth_rate, mover, bring_back, run_until, better, turn_for, turn}
 use Rattle.path_laws.proofs.Tests.{lt_true}
 use Rattle.path_laws.proofs.Numbered.{find_some}
 use Rattle.path_laws.proofs.Stoppers.{stopper_some, reaches_limit}
@@ -85,7 +85,7 @@ module _ (p : LinearProgram) (s : List Status) (z : Vector) (basis : IsBasis p s
     -- nothing brings r back
     pub stuck_ends : (ray : List ℚ) (steps : ℕ) → None ≡ entering p s (motion xs (not below)) → length ray ≡ size p.matrix → ((k : ℕ) → IsVariable p.matrix k → value_at ray k ≡ ray_from xs r below k) → EndsHere p s steps (Infeasible steps ray)
     stuck_ends ray steps none counted values = record {
-        ending = EndsInfeasible (listed p.matrix (ray_of (basics_of s) row.rate r below));
+      ending = EndsInfeasible (listed p.matrix (ray_of (basics_of s) row.rate r below));
       ends = record { tableau = t; is_tableau = is_t; turns = first_turn None (mover_is ∙ sym none) };
       is_outcome = ap (Infeasible steps) (listed_is p.matrix ray (ray_of (basics_of s) row.rate r below) counted (λ k is. values k is ∙ ray_is k is));
     }
@@ -297,3 +297,15 @@ module _ (p : LinearProgram) (s : List Status) (z : Vector) (basis : IsBasis p s
 -- the prices count the objective as the sense does
 pub worth_signed : (p : LinearProgram) (s : List Status) (y : Vector) (min : Bool) → ((v : ℚ) → for_min p.sense v ≡ signed min v) → (motion y min) ≡ worth_by p y
 worth_signed p s y min is = λ i k. sym (is (y k)) i
+
+-- what is found to lower a quantity is a variable
+pub entering_within : (p : LinearProgram) (s : List Status) (f : Vector) (q : ℕ) → Some q ≡ entering p s f → IsVariable p.matrix q
+entering_within p s f q e = let found = find_some (lowers p s f) (size p.matrix) 1 q (sym e) in (found.low, omega (arith, found.high))
+
+abbrev mover_from : Vector → ℕ → Mover
+mover_from f q = record { q = q; up = lt_ℚ (f q) zero_ℚ }
+
+pub some_betters : (p : LinearProgram) (s : List Status) (y : Vector) (min up : Bool) (q : ℕ) → ((v : ℚ) → for_min p.sense v ≡ signed min v) → Some q ≡ entering p s (motion y min) → up ≡ lt_ℚ (motion y min q) zero_ℚ →
+    Some (record { q = q; up = up }) ≡ mover_by p s y
+some_betters p s y min up q is found up_is =
+    ap (λ (b : Bool). Some (record { q = q; up = b })) up_is ∙ ap (option_map (mover_from (motion y min))) found ∙ ap (λ (f : Vector). option_map (mover_from f) (entering p s f)) (worth_signed p s y min is)

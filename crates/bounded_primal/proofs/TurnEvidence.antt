@@ -149,7 +149,7 @@ apart n k other = at (eqb_tells n k)
   where
     at : (((eqb n k ≡ true) × (n ≡ k)) ⊎ ((eqb n k ≡ false) × (n ≢ k))) → nat_eq n k ≡ false
     at (inl same) = absurd (other same.1)
-    at (inr no) = no.0
+    at (inr other_number) = other_number.0
 
 module _ (n : ℕ) where
   primal_number : is_between 1 12 n ≡ true → (is_between 1 13 n || is_between 16 17 n) ≡ true
@@ -171,7 +171,7 @@ module _ (n : ℕ) where
     where
       at : (((eqb n 17 ≡ true) × (n ≡ 17)) ⊎ ((eqb n 17 ≡ false) × (n ≢ 17))) → (is_between 7 9 n ≡ false) × (nat_eq n 6 ≡ false) × (nat_eq n 14 ≡ false) × ((is_between 1 13 n || is_between 16 17 n) ≡ true)
       at (inl same) = (ap (is_between 7 9) same.1, ap (λ m. nat_eq m 6) same.1, ap (λ m. nat_eq m 14) same.1, ap (λ m. is_between 1 13 m || is_between 16 17 m) same.1)
-      at (inr no) = absurd (clash (sym h ∙ no.0))
+      at (inr other_number) = absurd (clash (sym h ∙ other_number.0))
 
 pub belongs_job : (p : LinearProgram) (e : Evidence) → IsTrue (belongs (Primal p) e) → IsTrue (belongs (job_of p p.change) e)
 belongs_job p e h = at p.change
@@ -249,8 +249,10 @@ module _ (p : LinearProgram) (s : List Status) (left : ℕ) (before now : List B
     shows = λ earlier lie.
         let cover : Covers p.matrix (basics_of s ∷ exchanged (basics_of s) m.leaves m.enters ∷ before) (map basics_of ((earlier ++ s ∷ []) ++ after s m ∷ [])) = (
           within_more p.matrix (basics_of s) (earlier ++ s ∷ []) (after s m ∷ []) (within_last p.matrix earlier s),
-          (subst (λ (b : Basics). IsWithinOne p.matrix b (map basics_of ((earlier ++ s ∷ []) ++ after s m ∷ []))) leads (within_last p.matrix (earlier ++ s ∷ []) (after s m)),
-          covers_more p.matrix before (earlier ++ s ∷ []) (after s m ∷ []) (Covers-all p.matrix before (map basics_of (earlier ++ s ∷ [])) lie)),
+          (
+            subst (λ (b : Basics). IsWithinOne p.matrix b (map basics_of ((earlier ++ s ∷ []) ++ after s m ∷ []))) leads (within_last p.matrix (earlier ++ s ∷ []) (after s m)),
+            covers_more p.matrix before (earlier ++ s ∷ []) (after s m ∷ []) (Covers-all p.matrix before (map basics_of (earlier ++ s ∷ [])) lie),
+          ),
         ) in
         record {
           before = earlier;

@@ -249,7 +249,16 @@ fn first_phase<R: Rates>(
     if steps == limit {
         return Err(PrimalStop::Limit);
     }
-    let by = return_of(lp, basis, rates, point, direction, q, r, limit_broken(below))?;
+    let by = return_of(
+        lp,
+        basis,
+        rates,
+        point,
+        direction,
+        q,
+        r,
+        limit_broken(below),
+    )?;
     Ok(Turn::Moves { q, by })
 }
 
@@ -259,7 +268,11 @@ fn best(alloc: Global, point: &[Frac], prices: &[Frac], steps: u32) -> Result<Ou
 {
     let point = Point::new(copied(alloc, point)?);
     let prices = Prices::new(copied(alloc, prices)?);
-    Ok(Outcome::Optimal { steps, point, prices })
+    Ok(Outcome::Optimal {
+        steps,
+        point,
+        prices,
+    })
 }
 
 /// The end without a bound.
@@ -276,7 +289,11 @@ fn endless(
 {
     let point = Point::new(copied(alloc, point)?);
     let direction = signed_direction(alloc, lp, direction, up)?;
-    Ok(Outcome::Unbounded { steps, point, direction })
+    Ok(Outcome::Unbounded {
+        steps,
+        point,
+        direction,
+    })
 }
 
 /// Moves `q` up or down until something stops it, or answers that nothing does. `direction` is room.
@@ -343,7 +360,9 @@ fn second_phase<R: Rates>(
     prices_of(alloc, lp, basis, rates, row)?;
     match bettering(lp, basis, row) {
         None => Ok(Turn::Ends(best(alloc, point, row, steps)?)),
-        Some(moved) => run(alloc, lp, basis, rates, point, direction, moved, steps, limit),
+        Some(moved) => run(
+            alloc, lp, basis, rates, point, direction, moved, steps, limit,
+        ),
     }
 }
 
@@ -371,7 +390,9 @@ pub fn next_turn<R: Rates>(
     ensures waypoints { KeepsWaypoints lp.now.matrix (basics_of basis.now) (R.waypoints rates.old) (basics_of basis.now) (R.waypoints rates.new) }
 {
     match outside(lp, basis, point) {
-        Some(r) => first_phase(alloc, lp, basis, rates, point, row, direction, r, steps, limit),
+        Some(r) => first_phase(
+            alloc, lp, basis, rates, point, row, direction, r, steps, limit,
+        ),
         None => second_phase(alloc, lp, basis, rates, point, row, direction, steps, limit),
     }
 }

@@ -1,45 +1,51 @@
-use Rattle.std.proofs.Common.{◌≡◌, ◌-◌, refl, ap, ◌∙◌, arith}
-use Rattle.std.specs.Prelude.{if◌then◌else◌, not, Some, None}
+use Rattle.std.proofs.Common.{◌-◌, sym, ◌∙◌, arith}
 use Rattle.std.proofs.lemmas.Result.{err_from_is_err_and}
 use Rattle.lp_definitions.specs.LinearProgram.{value_at}
 use Rattle.lp_definitions.specs.Basis.{basics_of}
+use Rattle.lp_algebra.proofs.WaypointLaws.{keeps_then}
 use Rattle.bounded_primal.proofs.TurnCalls.{outside_basic}
 use Rattle.bounded_primal.proofs.TurnCases.{point_stops, first_ends, first_nonbasic, first_pivot, first_at_limit, first_limit, first_stops, first_moves}
 use Rattle.bounded_primal.proofs.turns.first_phase.Goals as goal
 
-pub lies_below-requires-clause-variable : goal.lies_below-requires-clause-variable
-lies_below-requires-clause-variable g c = (outside_basic c.args.lp.now c.args.basis.now (value_at c.args.point.now) c.args.r c.requires.outside).0
+pub lies_below-below-requires-clause-variable : goal.lies_below-below-requires-clause-variable
+lies_below-below-requires-clause-variable g c = (outside_basic c.args.lp.now c.args.basis.now (value_at c.args.point.now) c.args.r c.requires.outside).0
 
 pub returner-requires-clause-basic : goal.returner-requires-clause-basic
 returner-requires-clause-basic g c = outside_basic c.args.lp.now c.args.basis.now (value_at c.args.point.now) c.args.r c.requires.outside
 
-pub returns-in_err-returner-clause-turn : goal.returns-in_err-returner-clause-turn
-returns-in_err-returner-clause-turn g c =
+pub returns-in_err-q-clause-turn : goal.returns-in_err-q-clause-turn
+returns-in_err-q-clause-turn g c =
     let p = err_from_is_err_and c.from_residual.result c.from_residual.ensures.1 in
-    rw (p.1, p.2) (point_stops c.args.lp.now c.args.basis.now (c.args.limit - c.args.steps) (g.R.Rates.waypoints c.args.rates.now) (g.R.Rates.waypoints c.returner.new.rates) c.in_err-returner.field-0.0 c.in_err-returner.ensures.overflow)
+    rw (p.1, p.2) (point_stops c.args.lp.now c.args.basis.now (c.args.limit - c.args.steps) (g.R.Rates.waypoints c.args.rates.now) (g.R.Rates.waypoints c.returner.new.rates) c.in_err-q.field-0.0 c.in_err-q.ensures.overflow)
 
-pub returns-in-None-clause-turn : goal.returns-in-None-clause-turn
-returns-in-None-clause-turn g c = first_ends c.args.lp.now c.args.basis.now (value_at c.args.point.now) (g.R.Rates.matrix c.args.rates.now) (g.R.Rates.basics c.args.rates.now) c.requires.rates c.requires.point c.requires.uncrossed c.args.r c.requires.outside (value_at c.returner.new.row) c.in_ok-returner.ensures.row c.lies_below.result c.lies_below.ensures c.in_ok-ray.ray c.args.steps c.in_ok-returner.ensures.found c.in_ok-ray.ensures.places c.in_ok-ray.ensures.ray
+pub returns-in_default-clause-turn : goal.returns-in_default-clause-turn
+returns-in_default-clause-turn g c = first_ends c.args.lp.now c.args.basis.now (value_at c.args.point.now) (g.R.Rates.matrix c.args.rates.now) (g.R.Rates.basics c.args.rates.now) c.requires.rates c.requires.point c.requires.uncrossed c.args.r c.requires.outside (value_at c.returner.new.row) c.in_ok-q.ensures.row c.lies_below-below.result c.lies_below-below.ensures c.in_ok-ray.ray c.args.steps (sym c.in_default.is ∙ c.in_ok-q.ensures.found) c.in_ok-ray.ensures.places c.in_ok-ray.ensures.ray
 
 pub returns-then-steps-limit-clause-turn : goal.returns-then-steps-limit-clause-turn
-returns-then-steps-limit-clause-turn g c = first_at_limit c.args.lp.now c.args.basis.now (value_at c.args.point.now) (g.R.Rates.matrix c.args.rates.now) (g.R.Rates.basics c.args.rates.now) c.requires.rates c.requires.point c.requires.uncrossed c.args.r c.requires.outside (value_at c.returner.new.row) c.in_ok-returner.ensures.row c.lies_below.result c.lies_below.ensures c.in-Some.field-0 c.in_ok-returner.ensures.found (c.args.limit - c.args.steps) (g.R.Rates.waypoints c.args.rates.now) (g.R.Rates.waypoints c.returner.new.rates) (omega (arith, c.if-steps-limit.true))
+returns-then-steps-limit-clause-turn g c = first_at_limit c.args.lp.now c.args.basis.now (value_at c.args.point.now) (g.R.Rates.matrix c.args.rates.now) (g.R.Rates.basics c.args.rates.now) c.requires.rates c.requires.point c.requires.uncrossed c.args.r c.requires.outside (value_at c.returner.new.row) c.in_ok-q.ensures.row c.lies_below-below.result c.lies_below-below.ensures c.in-Some.q (sym c.in-Some.is ∙ c.in_ok-q.ensures.found) (c.args.limit - c.args.steps) (g.R.Rates.waypoints c.args.rates.now) (g.R.Rates.waypoints c.returner.new.rates) (omega (arith, c.if-steps-limit.true))
 
 pub return_of-requires-clause-nonbasic : goal.return_of-requires-clause-nonbasic
-return_of-requires-clause-nonbasic g c = first_nonbasic c.args.lp.now c.args.basis.now (value_at c.args.point.now) (g.R.Rates.matrix c.args.rates.now) (g.R.Rates.basics c.args.rates.now) c.requires.rates c.requires.point c.requires.uncrossed c.args.r c.requires.outside (value_at c.returner.new.row) c.in_ok-returner.ensures.row c.lies_below.result c.lies_below.ensures c.in-Some.field-0 c.in_ok-returner.ensures.found
+return_of-requires-clause-nonbasic g c = first_nonbasic c.args.lp.now c.args.basis.now (value_at c.args.point.now) (g.R.Rates.matrix c.args.rates.now) (g.R.Rates.basics c.args.rates.now) c.requires.rates c.requires.point c.requires.uncrossed c.args.r c.requires.outside (value_at c.returner.new.row) c.in_ok-q.ensures.row c.lies_below-below.result c.lies_below-below.ensures c.in-Some.q (sym c.in-Some.is ∙ c.in_ok-q.ensures.found)
 
 pub return_of-requires-clause-basic : goal.return_of-requires-clause-basic
 return_of-requires-clause-basic g c = outside_basic c.args.lp.now c.args.basis.now (value_at c.args.point.now) c.args.r c.requires.outside
 
 pub return_of-requires-clause-limit : goal.return_of-requires-clause-limit
-return_of-requires-clause-limit g c = first_limit c.args.lp.now c.args.basis.now (value_at c.args.point.now) (g.R.Rates.matrix c.args.rates.now) (g.R.Rates.basics c.args.rates.now) c.requires.rates c.requires.point c.requires.uncrossed c.args.r c.requires.outside (value_at c.returner.new.row) c.in_ok-returner.ensures.row c.lies_below.result c.lies_below.ensures c.in-Some.field-0 c.in_ok-returner.ensures.found c.limit_broken.result c.limit_broken.ensures
+return_of-requires-clause-limit g c = first_limit c.args.lp.now c.args.basis.now (value_at c.args.point.now) (g.R.Rates.matrix c.args.rates.now) (g.R.Rates.basics c.args.rates.now) c.requires.rates c.requires.point c.requires.uncrossed c.args.r c.requires.outside (value_at c.returner.new.row) c.in_ok-q.ensures.row c.lies_below-below.result c.lies_below-below.ensures c.in-Some.q (sym c.in-Some.is ∙ c.in_ok-q.ensures.found) c.limit_broken.result c.limit_broken.ensures
 
 pub return_of-requires-clause-pivot : goal.return_of-requires-clause-pivot
-return_of-requires-clause-pivot g c = first_pivot c.args.lp.now c.args.basis.now (value_at c.args.point.now) (g.R.Rates.matrix c.args.rates.now) (g.R.Rates.basics c.args.rates.now) c.requires.rates c.requires.point c.requires.uncrossed c.args.r c.requires.outside (value_at c.returner.new.row) c.in_ok-returner.ensures.row c.lies_below.result c.lies_below.ensures c.in-Some.field-0 c.in_ok-returner.ensures.found
+return_of-requires-clause-pivot g c = first_pivot c.args.lp.now c.args.basis.now (value_at c.args.point.now) (g.R.Rates.matrix c.args.rates.now) (g.R.Rates.basics c.args.rates.now) c.requires.rates c.requires.point c.requires.uncrossed c.args.r c.requires.outside (value_at c.returner.new.row) c.in_ok-q.ensures.row c.lies_below-below.result c.lies_below-below.ensures c.in-Some.q (sym c.in-Some.is ∙ c.in_ok-q.ensures.found)
 
 pub returns-in_err-by-clause-turn : goal.returns-in_err-by-clause-turn
 returns-in_err-by-clause-turn g c =
     let p = err_from_is_err_and c.from_residual-in_err-by.result c.from_residual-in_err-by.ensures.1 in
-    rw (p.1, p.2) (first_stops c.args.lp.now c.args.basis.now (value_at c.args.point.now) (g.R.Rates.matrix c.args.rates.now) (g.R.Rates.basics c.args.rates.now) c.requires.rates c.requires.point c.requires.uncrossed c.args.r c.requires.outside (value_at c.returner.new.row) c.in_ok-returner.ensures.row c.lies_below.result c.lies_below.ensures c.in-Some.field-0 c.in_ok-returner.ensures.found c.limit_broken.result c.limit_broken.ensures (c.args.limit - c.args.steps) (g.R.Rates.waypoints c.args.rates.now) (g.R.Rates.waypoints c.returner.new.rates) (g.R.Rates.waypoints c.return_of.new.rates) c.in_err-by.field-0.0 c.returner.ensures.waypoints c.in_err-by.ensures.overflow)
+    rw (p.1, p.2) (first_stops c.args.lp.now c.args.basis.now (value_at c.args.point.now) (g.R.Rates.matrix c.args.rates.now) (g.R.Rates.basics c.args.rates.now) c.requires.rates c.requires.point c.requires.uncrossed c.args.r c.requires.outside (value_at c.returner.new.row) c.in_ok-q.ensures.row c.lies_below-below.result c.lies_below-below.ensures c.in-Some.q (sym c.in-Some.is ∙ c.in_ok-q.ensures.found) c.limit_broken.result c.limit_broken.ensures (c.args.limit - c.args.steps) (g.R.Rates.waypoints c.args.rates.now) (g.R.Rates.waypoints c.returner.new.rates) (g.R.Rates.waypoints c.return_of.new.rates) c.in_err-by.field-0.0 c.returner.ensures.waypoints c.in_err-by.ensures.overflow)
 
 pub returns-clause-turn : goal.returns-clause-turn
-returns-clause-turn g c = first_moves c.args.lp.now c.args.basis.now (value_at c.args.point.now) (g.R.Rates.matrix c.args.rates.now) (g.R.Rates.basics c.args.rates.now) c.requires.rates c.requires.point c.requires.uncrossed c.args.r c.requires.outside (value_at c.returner.new.row) c.in_ok-returner.ensures.row c.lies_below.result c.lies_below.ensures c.in-Some.field-0 c.in_ok-returner.ensures.found c.limit_broken.result c.limit_broken.ensures (value_at c.return_of.new.direction) c.in_ok-by.ensures.direction c.in_ok-by.by c.in_ok-by.ensures.stopper c.args.steps c.args.limit (omega (arith, c.requires.within, c.if-steps-limit.false))
+returns-clause-turn g c = first_moves c.args.lp.now c.args.basis.now (value_at c.args.point.now) (g.R.Rates.matrix c.args.rates.now) (g.R.Rates.basics c.args.rates.now) c.requires.rates c.requires.point c.requires.uncrossed c.args.r c.requires.outside (value_at c.returner.new.row) c.in_ok-q.ensures.row c.lies_below-below.result c.lies_below-below.ensures c.in-Some.q (sym c.in-Some.is ∙ c.in_ok-q.ensures.found) c.limit_broken.result c.limit_broken.ensures (value_at c.return_of.new.direction) c.in_ok-by.ensures.direction c.in_ok-by.by c.in_ok-by.ensures.stopper c.args.steps c.args.limit (omega (arith, c.requires.within, c.if-steps-limit.false))
+
+pub returns-in_err-by-clause-waypoints : goal.returns-in_err-by-clause-waypoints
+returns-in_err-by-clause-waypoints g c = keeps_then c.args.lp.now.matrix (basics_of c.args.basis.now) (g.R.Rates.waypoints c.args.rates.now) (basics_of c.args.basis.now) (g.R.Rates.waypoints c.returner.new.rates) (g.R.Rates.waypoints c.return_of.new.rates) c.returner.ensures.waypoints c.return_of.ensures.waypoints
+
+pub returns-clause-waypoints : goal.returns-clause-waypoints
+returns-clause-waypoints g c = keeps_then c.args.lp.now.matrix (basics_of c.args.basis.now) (g.R.Rates.waypoints c.args.rates.now) (basics_of c.args.basis.now) (g.R.Rates.waypoints c.returner.new.rates) (g.R.Rates.waypoints c.return_of.new.rates) c.returner.ensures.waypoints c.return_of.ensures.waypoints

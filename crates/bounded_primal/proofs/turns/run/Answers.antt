@@ -1,8 +1,6 @@
-use Rattle.std.proofs.Common.{◌≡◌, ◌-◌, refl, ap, ◌∙◌, arith}
-use Rattle.std.specs.Prelude.{if◌then◌else◌, not, Some, None}
+use Rattle.std.proofs.Common.{◌-◌, refl, sym, ◌∙◌, arith}
 use Rattle.std.proofs.lemmas.Result.{err_from_is_err_and}
 use Rattle.lp_definitions.specs.LinearProgram.{value_at}
-use Rattle.lp_definitions.specs.Basis.{basics_of}
 use Rattle.bounded_primal.proofs.TurnCases.{run_feasible, run_nonbasic, run_may, run_stops, run_ends, run_at_limit, run_moves}
 use Rattle.bounded_primal.proofs.turns.run.Goals as goal
 
@@ -20,11 +18,11 @@ returns-in_err-stopper_of-clause-turn g c =
     let p = err_from_is_err_and c.from_residual.result c.from_residual.ensures.1 in
     rw (p.1, p.2) (run_stops c.args.lp.now c.args.basis.now (value_at c.args.point.now) (g.R.Rates.matrix c.args.rates.now) (g.R.Rates.basics c.args.rates.now) c.requires.rates c.requires.point c.requires.uncrossed c.requires.inside c.args.moved c.requires.moves (c.args.limit - c.args.steps) (g.R.Rates.waypoints c.args.rates.now) (g.R.Rates.waypoints c.stopper_of.new.rates) c.in_err-stopper_of.field-0.0 c.in_err-stopper_of.ensures.overflow)
 
-pub returns-in-None-clause-turn : goal.returns-in-None-clause-turn
-returns-in-None-clause-turn g c = run_ends c.args.lp.now c.args.basis.now (value_at c.args.point.now) (g.R.Rates.matrix c.args.rates.now) (g.R.Rates.basics c.args.rates.now) c.requires.rates c.requires.point c.requires.uncrossed c.requires.inside c.args.moved c.requires.moves (value_at c.stopper_of.new.direction) c.in_ok-stopper_of.ensures.direction c.args.point.now c.args.steps c.in_ok-endless.field-0.0 c.in_ok-stopper_of.ensures.stopper c.requires.point_places (λ k is. refl) c.in_ok-endless.ensures
+pub returns-in_ok-endless-in-None-clause-turn : goal.returns-in_ok-endless-in-None-clause-turn
+returns-in_ok-endless-in-None-clause-turn g c = run_ends c.args.lp.now c.args.basis.now (value_at c.args.point.now) (g.R.Rates.matrix c.args.rates.now) (g.R.Rates.basics c.args.rates.now) c.requires.rates c.requires.point c.requires.uncrossed c.requires.inside c.args.moved c.requires.moves (value_at c.stopper_of.new.direction) c.in_ok-stopper_of.ensures.direction c.args.point.now c.args.steps c.in_ok-endless-in-None.field-0 (sym c.in-None.is ∙ c.in_ok-stopper_of.ensures.stopper) c.requires.point_places (λ k is. refl) c.in_ok-endless-in-None.ensures
 
-pub returns-then-steps-lt-limit-clause-turn : goal.returns-then-steps-lt-limit-clause-turn
-returns-then-steps-lt-limit-clause-turn g c = run_moves c.args.lp.now c.args.basis.now (value_at c.args.point.now) (g.R.Rates.matrix c.args.rates.now) (g.R.Rates.basics c.args.rates.now) c.requires.rates c.requires.point c.requires.uncrossed c.requires.inside c.args.moved c.requires.moves (value_at c.stopper_of.new.direction) c.in_ok-stopper_of.ensures.direction c.in-Some.field-0 c.args.steps c.args.limit c.in_ok-stopper_of.ensures.stopper c.if-steps-lt-limit.true
+pub returns-then-steps-limit-clause-turn : goal.returns-then-steps-limit-clause-turn
+returns-then-steps-limit-clause-turn g c = run_moves c.args.lp.now c.args.basis.now (value_at c.args.point.now) (g.R.Rates.matrix c.args.rates.now) (g.R.Rates.basics c.args.rates.now) c.requires.rates c.requires.point c.requires.uncrossed c.requires.inside c.args.moved c.requires.moves (value_at c.stopper_of.new.direction) c.in_ok-stopper_of.ensures.direction c.in-Some.by c.args.steps c.args.limit (sym c.in-Some.is ∙ c.in_ok-stopper_of.ensures.stopper) c.if-steps-limit.true
 
-pub returns-else-steps-lt-limit-clause-turn : goal.returns-else-steps-lt-limit-clause-turn
-returns-else-steps-lt-limit-clause-turn g c = run_at_limit c.args.lp.now c.args.basis.now (value_at c.args.point.now) (g.R.Rates.matrix c.args.rates.now) (g.R.Rates.basics c.args.rates.now) c.requires.rates c.requires.point c.requires.uncrossed c.requires.inside c.args.moved c.requires.moves (value_at c.stopper_of.new.direction) c.in_ok-stopper_of.ensures.direction (c.args.limit - c.args.steps) (g.R.Rates.waypoints c.args.rates.now) (g.R.Rates.waypoints c.stopper_of.new.rates) c.in-Some.field-0 c.in_ok-stopper_of.ensures.stopper (omega (arith, c.requires.within, c.if-steps-lt-limit.false))
+pub returns-else-steps-limit-clause-turn : goal.returns-else-steps-limit-clause-turn
+returns-else-steps-limit-clause-turn g c = run_at_limit c.args.lp.now c.args.basis.now (value_at c.args.point.now) (g.R.Rates.matrix c.args.rates.now) (g.R.Rates.basics c.args.rates.now) c.requires.rates c.requires.point c.requires.uncrossed c.requires.inside c.args.moved c.requires.moves (value_at c.stopper_of.new.direction) c.in_ok-stopper_of.ensures.direction (c.args.limit - c.args.steps) (g.R.Rates.waypoints c.args.rates.now) (g.R.Rates.waypoints c.stopper_of.new.rates) c.in-Some.by (sym c.in-Some.is ∙ c.in_ok-stopper_of.ensures.stopper) (omega (arith, c.requires.within, c.if-steps-limit.false))

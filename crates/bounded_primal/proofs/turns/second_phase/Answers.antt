@@ -1,5 +1,4 @@
-use Rattle.std.proofs.Common.{◌≡◌, ◌-◌, refl, ap, ◌∙◌, arith}
-use Rattle.std.specs.Prelude.{if◌then◌else◌, not, Some, None}
+use Rattle.std.proofs.Common.{◌-◌, refl, sym, ◌∙◌, arith}
 use Rattle.std.proofs.lemmas.Result.{err_from_is_err_and}
 use Rattle.lp_definitions.specs.LinearProgram.{value_at}
 use Rattle.lp_definitions.specs.Basis.{basics_of}
@@ -16,14 +15,14 @@ returns-in_err-prices_of-clause-turn g c =
 pub returns-in_err-prices_of-clause-rates : goal.returns-in_err-prices_of-clause-rates
 returns-in_err-prices_of-clause-rates g c = has_same c.args.lp.now c.args.basis.now (g.R.Rates.matrix c.args.rates.now) (g.R.Rates.matrix c.prices_of.new.rates) (g.R.Rates.basics c.args.rates.now) (g.R.Rates.basics c.prices_of.new.rates) c.requires.rates c.prices_of.ensures.matrix c.prices_of.ensures.basics
 
-pub returns-in-None-clause-turn : goal.returns-in-None-clause-turn
-returns-in-None-clause-turn g c = second_ends c.args.lp.now c.args.basis.now (value_at c.args.point.now) (g.R.Rates.matrix c.args.rates.now) (g.R.Rates.basics c.args.rates.now) c.requires.rates c.requires.point c.requires.uncrossed c.requires.inside (value_at c.prices_of.new.out) c.in_ok-prices_of.ensures.prices c.args.point.now c.prices_of.new.out c.args.steps c.bettering.ensures c.requires.point_places (λ k is. refl) c.requires.row_places (λ k is. refl) c.in_ok-best.field-0.0 c.in_ok-best.ensures
+pub returns-in_ok-best-in-None-clause-turn : goal.returns-in_ok-best-in-None-clause-turn
+returns-in_ok-best-in-None-clause-turn g c = second_ends c.args.lp.now c.args.basis.now (value_at c.args.point.now) (g.R.Rates.matrix c.args.rates.now) (g.R.Rates.basics c.args.rates.now) c.requires.rates c.requires.point c.requires.uncrossed c.requires.inside (value_at c.prices_of.new.out) c.in_ok-prices_of.ensures.prices c.args.point.now c.prices_of.new.out c.args.steps (sym c.in-None.is ∙ c.bettering.ensures) c.requires.point_places (λ k is. refl) (omega arith) (λ k is. refl) c.in_ok-best-in-None.field-0 c.in_ok-best-in-None.ensures
 
 pub run-requires-clause-rates : goal.run-requires-clause-rates
 run-requires-clause-rates g c = has_same c.args.lp.now c.args.basis.now (g.R.Rates.matrix c.args.rates.now) (g.R.Rates.matrix c.prices_of.new.rates) (g.R.Rates.basics c.args.rates.now) (g.R.Rates.basics c.prices_of.new.rates) c.requires.rates c.prices_of.ensures.matrix c.prices_of.ensures.basics
 
 pub run-requires-clause-moves : goal.run-requires-clause-moves
-run-requires-clause-moves g c = record { price = (value_at c.prices_of.new.out); prices = c.in_ok-prices_of.ensures.prices; chosen = c.bettering.ensures }
+run-requires-clause-moves g c = record { price = (value_at c.prices_of.new.out); prices = c.in_ok-prices_of.ensures.prices; chosen = sym c.in-Some.is ∙ c.bettering.ensures }
 
 pub returns-in-Some-clause-turn : goal.returns-in-Some-clause-turn
 returns-in-Some-clause-turn g c = found_later c.args.lp.now c.args.basis.now (g.R.Rates.waypoints c.args.rates.now) (g.R.Rates.waypoints c.prices_of.new.rates) (g.R.Rates.waypoints c.run.new.rates) c.prices_of.ensures.waypoints c.run.result c.args.steps c.args.limit (value_at c.args.point.now) (value_at c.run.new.direction) c.run.ensures.turn
