@@ -19,3 +19,4 @@ mod PathWalk
 mod TurnCalls
 mod TurnCases
 mod WalkCases
+mod TrueOutcomes

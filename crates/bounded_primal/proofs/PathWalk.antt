@@ -1,20 +1,19 @@
 -- From turn to turn: the bases that the path has passed, and the waypoints in them.
-use Rattle.std.proofs.Common.{◌≡◌, ℕ, ◌+◌, ◌-◌, ◌<◌, ◌≤◌, ◌⊎◌, inl, inr, List, [], ◌∷◌, ◌++◌, map, length, get_or, All, Contains, refl, sym, ◌∙◌, ap, subst, arith}
-use Rattle.std.specs.Prelude.{Option, None, Result, Ok, Err}
+use Rattle.std.proofs.Common.{◌≡◌, ℕ, ◌+◌, ◌-◌, ◌≤◌, inl, inr, List, [], ◌∷◌, ◌++◌, map, length, get_or, refl, sym, ◌∙◌, ap, subst, arith}
+use Rattle.std.specs.Prelude.{None}
 use Rattle.std.proofs.lemmas.List.{append_assoc}
 use Rattle.std.proofs.lemmas.List.Elements.{All-contains}
-use Rattle.lp_definitions.specs.LinearProgram.{Matrix, LinearProgram, Vector, value_at}
-use Rattle.lp_definitions.specs.Basis.{Basics, basics_of, IsPointOf}
-use Rattle.lp_definitions.specs.Waypoints.{HasColumnsWithin, IsWithinOne, IsKept, KeepsWaypoints, waypoint}
-use Rattle.lp_definitions.specs.declared.Evidence.{Evidence}
+use Rattle.lp_definitions.specs.LinearProgram.{Matrix, LinearProgram}
+use Rattle.lp_definitions.specs.Basis.{Basics, basics_of}
+use Rattle.lp_definitions.specs.Waypoints.{IsWithinOne, IsKept, KeepsWaypoints, waypoint}
 use Rattle.lp_definitions.specs.declared.Status.{Status}
 use Rattle.lp_model.specs.declared.reports.Outcome.{Outcome}
 use Rattle.lp_algebra.proofs.WaypointLaws.{within_itself, within_by}
-use Rattle.path_definitions.specs.Path.{Ending, IsStep, EndsAt, IsPath, PathEnds, GoesOnFor, last_of}
+use Rattle.path_definitions.specs.Path.{IsStep, EndsAt, IsPath, last_of}
 use Rattle.overflow_definitions.specs.Evidence.{EvidenceHolds}
-use Rattle.bounded_primal.specs.Calls.{CallEnds, PathGoesOn, LieIn, StopsOnPath, job_of, outcome_of}
+use Rattle.bounded_primal.specs.Calls.{CallEnds, LieIn, WaypointsFollow, job_of, outcome_of}
 use Rattle.bounded_primal.specs.Stops.{PathFrom, PrimalStops}
-use Rattle.bounded_primal.specs.Turns.{EndsHere, EvidenceAt, TurnStops}
+use Rattle.bounded_primal.specs.Turns.{EndsHere, TurnStops}
 use Rattle.bounded_primal.specs.declared.moves.PrimalStop.{PrimalStop}
 use Rattle.bounded_primal.specs.declared.moves.PrimalStop.TheVariants.{Limit, Overflow, NoMemory}
 
@@ -77,9 +76,25 @@ module _ (p : LinearProgram) (s : List Status) (before : List Basics) where
       place earlier lie w (inr (inl within)) = within_by p.matrix w (basics_of s) (map basics_of (earlier ++ s ∷ [])) within (own earlier)
       place earlier lie w (inr (inr within)) = within_by p.matrix w (basics_of s) (map basics_of (earlier ++ s ∷ [])) within (own earlier)
 
+  -- where nothing is done
+  pub stays : WaypointsFollow p s s before before
+  stays = record { bases = begins.bases; is_path = begins.path.0; reaches = begins.path.1; lie = begins.lie }
+
+  pub follows : (now : List Status) (ways : List Basics) (steps : ℕ) → HasReached p s before now ways steps → WaypointsFollow p s now before ways
+  follows now ways steps h = record { bases = h.bases; is_path = h.path.0; reaches = h.path.1; lie = h.lie }
+
   module _ (now : List Status) (ways : List Basics) (steps : ℕ) (h : HasReached p s before now ways steps) where
     reached_within : (earlier : List (List Status)) → IsWithinOne p.matrix (basics_of now) (map basics_of (earlier ++ s ∷ h.bases))
     reached_within earlier = subst (λ (x : List Status). IsWithinOne p.matrix (basics_of x) (map basics_of (earlier ++ s ∷ h.bases))) h.path.1 (within_suffix p.matrix (basics_of (last_of s h.bases)) earlier (s ∷ h.bases) (within_reached p.matrix s h.bases))
+
+    -- the waypoints, also after calls at the basis that is reached
+    pub follows_later : (more : List Basics) → KeepsWaypoints p.matrix (basics_of now) ways (basics_of now) more → WaypointsFollow p s now before more
+    follows_later more keeps = record { bases = h.bases; is_path = h.path.0; reaches = h.path.1; lie = λ earlier lie k d below. place earlier lie (get_or more k d) (keeps.each k d below) }
+      where
+        place : (earlier : List (List Status)) → LieIn p.matrix before earlier → (w : Basics) → IsKept p.matrix (basics_of now) ways (basics_of now) w → IsWithinOne p.matrix w (map basics_of (earlier ++ s ∷ h.bases))
+        place earlier lie w (inl old) = All-contains (λ w. IsWithinOne p.matrix w (map basics_of (earlier ++ s ∷ h.bases))) ways w (h.lie earlier lie) old
+        place earlier lie w (inr (inl within)) = within_by p.matrix w (basics_of now) (map basics_of (earlier ++ s ∷ h.bases)) within (reached_within earlier)
+        place earlier lie w (inr (inr within)) = within_by p.matrix w (basics_of now) (map basics_of (earlier ++ s ∷ h.bases)) within (reached_within earlier)
 
     -- a step more
     pub goes_over : (next : List Status) (more : List Basics) → IsStep p now next → KeepsWaypoints p.matrix (basics_of now) ways (basics_of next) more → HasReached p s before next more (steps + 1)

@@ -2,6 +2,7 @@
 --     HasRates a b p s             the rates have the basics of the basis, for the matrix of the program
 --     PathEnds, PathGoesOn         the path of a call, ended within the limit or still going on there
 --     LieIn a ways bases           every waypoint lies in one of the bases
+--     WaypointsFollow              where the waypoints lie after the path of a call
 --     job_of p change              the statement that a call on a program counts as
 --     StopsOnPath                  the path of a call up to an overflow, and its evidence
 --     StopsAt                      the evidence of a call that stays at one basis
@@ -49,6 +50,14 @@ pub record PathGoesOn (p : LinearProgram) (s now : List Status) (limit : ℕ) : 
 
 abbrev pub LieIn : Matrix → List Basics → List (List Status) → Type 0
 LieIn a ways bases = All (λ w. IsWithinOne a w (map basics_of bases)) ways
+
+-- the path from s to now; and for every list of bases in which the waypoints lay before, they lie after in that list followed by
+-- this path
+pub record WaypointsFollow (p : LinearProgram) (s now : List Status) (before after : List Basics) : Type 0 where
+  pub bases : List (List Status)
+  pub is_path : IsPath p s bases
+  pub reaches : last_of s bases ≡ now
+  pub lie : (earlier : List (List Status)) → LieIn p.matrix before earlier → LieIn p.matrix after (earlier ++ s ∷ bases)
 
 -- what a call on a program counts as: with a change row it is the opening path of a run of the objective from that theta
 abbrev pub job_of : LinearProgram → Option Change → SolvingStatement

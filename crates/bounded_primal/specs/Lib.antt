@@ -7,3 +7,4 @@ pub mod Points
 pub mod Prices
 pub mod Steps
 pub mod Turns
+pub mod Outcomes

@@ -2,7 +2,8 @@
 
 ghost use Rattle.std.specs.Prelude.{◌≡◌, length, IfOk, IfErr};
 ghost use Rattle.lp_definitions.specs.LinearProgram.{size};
-ghost use Rattle.bounded_primal.specs.Calls.{HasRates, CallEnds};
+ghost use Rattle.bounded_primal.specs.Calls.{HasRates, CallEnds, WaypointsFollow};
+ghost use Rattle.bounded_primal.specs.Outcomes.{IsTrueOutcome};
 ghost use Rattle.bounded_primal.specs.Stops.{PrimalStops};
 ghost use Rattle.bounded_primal.specs.Turns.{IsUncrossed};
 
@@ -34,13 +35,12 @@ fn walk<R: Rates>(
     ensures ends { IfOk result (CallEnds lp.now basis.old basis.new limit) }
     ensures stops { IfErr result (PrimalStops lp.now basis.old basis.new limit (R.waypoints rates.old) (R.waypoints rates.new)) }
     ensures rates { HasRates (R.matrix rates.new) (R.basics rates.new) lp.now basis.new }
+    ensures waypoints { WaypointsFollow lp.now basis.old basis.new (R.waypoints rates.old) (R.waypoints rates.new) }
 {
     point_of(alloc, lp, basis, rates, point)?;
     let mut steps = 0;
     loop {
-        match next_turn(
-            alloc, lp, basis, rates, point, row, direction, steps, limit,
-        )? {
+        match next_turn(alloc, lp, basis, rates, point, row, direction, steps, limit)? {
             Turn::Ends(outcome) => return Ok(outcome),
             Turn::Moves { q, by } => take_step(lp, basis, rates, point, direction, q, &by)?,
         }
@@ -63,6 +63,8 @@ pub fn primal<R: Rates>(
     ensures ends { IfOk result (CallEnds lp.now basis.old basis.new limit) }
     ensures stops { IfErr result (PrimalStops lp.now basis.old basis.new limit (R.waypoints rates.old) (R.waypoints rates.new)) }
     ensures rates { HasRates (R.matrix rates.new) (R.basics rates.new) lp.now basis.new }
+    ensures waypoints { WaypointsFollow lp.now basis.old basis.new (R.waypoints rates.old) (R.waypoints rates.new) }
+    ensures truth { IfOk result (IsTrueOutcome lp.now) }
 {
     if let Some(k) = crossed(lp) {
         return Ok(Outcome::Crossed { k });

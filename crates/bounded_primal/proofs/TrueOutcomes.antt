@@ -1,0 +1,63 @@
+-- What an outcome of the path says of the linear program is true.
+use Rattle.std.proofs.Common.{◌≡◌, ℕ, List, length, sym, subst, arith}
+use Rattle.std.specs.Prelude.{Some, Result, Ok, Err, IfOk}
+use Rattle.lp_definitions.specs.LinearProgram.{Matrix, LinearProgram, value_at, IsLinearProgram}
+use Rattle.lp_definitions.specs.Solutions.{IsCrossed}
+use Rattle.lp_definitions.specs.Basis.{Basics}
+use Rattle.lp_definitions.specs.declared.Status.{Status}
+use Rattle.lp_algebra.proofs.Duality.{infeasible_by_crossed, infeasible_by_ray, unbounded_by_direction}
+use Rattle.lp_model.specs.declared.reports.Outcome.{Outcome}
+use Rattle.lp_model.specs.declared.reports.Outcome.TheVariants.{Crossed}
+use Rattle.path_definitions.specs.Moves.{least, is_crossed}
+use Rattle.path_definitions.specs.Path.{Ending, EndsOptimal, EndsCrossed, EndsInfeasible, EndsUnbounded, EndsAt, last_of}
+use Rattle.path_laws.specs.Laws.{IsNonsingularBasis}
+use Rattle.path_laws.proofs.Ends.{optimal_end}
+use Rattle.path_laws.proofs.Endless.{crossed_end, unbounded_end}
+use Rattle.path_laws.proofs.Rays.{infeasible_end}
+use Rattle.path_laws.proofs.OnePath.{path_leads}
+use Rattle.bounded_primal.specs.Calls.{HasRates, CallEnds, outcome_of}
+use Rattle.bounded_primal.specs.Outcomes.{IsTrueOutcome}
+use Rattle.bounded_primal.specs.Turns.{EndsHere}
+use Rattle.bounded_primal.specs.declared.moves.PrimalStop.{PrimalStop}
+use Rattle.bounded_primal.proofs.PathWalk.{begins, ends_there}
+use Rattle.bounded_primal.proofs.TurnChoices.{crossed_ends}
+
+module _ (p : LinearProgram) (lawful : IsLinearProgram p) where
+  true_end : (s : List Status) → IsNonsingularBasis p s → (steps : ℕ) (ending : Ending) → EndsAt p s ending → IsTrueOutcome p (outcome_of steps ending)
+  true_end s at steps (EndsOptimal z y) ends = let proved = optimal_end p s z y lawful at ends in record { best = proved.best; proving = proved.proving }
+  true_end s at steps (EndsCrossed k) ends = let crossed = crossed_end p s k ends in record { crossed = crossed; infeasible = infeasible_by_crossed p k crossed }
+  true_end s at steps (EndsInfeasible w) ends = let ray = infeasible_end p s w at.is_basis at.nonsingular ends in record { ray = ray; infeasible = infeasible_by_ray p (value_at w) ray }
+  true_end s at steps (EndsUnbounded z d) ends = let proving = unbounded_end p s z d lawful at.is_basis ends in record { proving = proving; unbounded = unbounded_by_direction p (value_at z) (value_at d) proving }
+
+  module _ (matrix : Matrix) (basics : Basics) (s : List Status) (has : HasRates matrix basics p s) where
+    begun : IsNonsingularBasis p s
+    begun = record { is_basis = has.is_basis; nonsingular = has.nonsingular }
+
+    pub true_outcome : (now : List Status) (limit : ℕ) (outcome : Outcome) → CallEnds p s now limit outcome → IsTrueOutcome p outcome
+    true_outcome now limit outcome h =
+        subst (IsTrueOutcome p) (sym h.is_outcome) (true_end (last_of s h.bases) (path_leads p s h.bases begun h.ends.is_path) (length h.bases) h.ending h.ends.ends)
+
+    -- of a call that may have stopped
+    pub true_result : (now : List Status) (limit : ℕ) (result : Result Outcome PrimalStop) → IfOk result (CallEnds p s now limit) → IfOk result (IsTrueOutcome p)
+    true_result now limit (Ok outcome) h = true_outcome now limit outcome h
+    true_result now limit (Err stop) h = tt
+
+-- the call that finds a crossed variable
+module _ (p : LinearProgram) (matrix : Matrix) (basics : Basics) (s : List Status) (k : ℕ) (has : HasRates matrix basics p s) (found : Some k ≡ least p (is_crossed p)) where
+  ended : EndsHere p s 0 (Crossed k)
+  ended = crossed_ends p s k 0 has.is_basis has.nonsingular found
+
+  pub crossed_call : (limit : ℕ) (before : List Basics) → CallEnds p s s limit (Crossed k)
+  crossed_call limit before = ends_there p s before s before 0 (begins p s before) limit (Crossed k) (omega arith) ended
+
+  pub crossed_truth : IsTrueOutcome p (Crossed k)
+  crossed_truth = record { crossed = crossing; infeasible = infeasible_by_crossed p k crossing }
+    where
+      crossing_of : (ending : Ending) → EndsAt p s ending → Crossed k ≡ outcome_of 0 ending → IsCrossed p k
+      crossing_of (EndsOptimal z y) ends e = cc
+      crossing_of (EndsCrossed j) ends e = let same : k ≡ j = cc in subst (IsCrossed p) (sym same) (crossed_end p s j ends)
+      crossing_of (EndsInfeasible w) ends e = cc
+      crossing_of (EndsUnbounded z d) ends e = cc
+
+      crossing : IsCrossed p k
+      crossing = crossing_of ended.ending ended.ends ended.is_outcome

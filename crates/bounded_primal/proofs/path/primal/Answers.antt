@@ -1,0 +1,28 @@
+use Rattle.std.proofs.Common.{rules}
+use Rattle.lp_definitions.specs.LinearProgram.{IsLinearProgram}
+use Rattle.bounded_primal.proofs.TrueOutcomes.{true_result, crossed_call, crossed_truth}
+use Rattle.bounded_primal.proofs.PathWalk.{stays}
+use Rattle.bounded_primal.proofs.path.primal.Goals as goal
+
+pub returns-in-Some-clause-ends : goal.returns-in-Some-clause-ends
+returns-in-Some-clause-ends g c = crossed_call c.args.lp.now (g.R.Rates.matrix c.args.rates.now) (g.R.Rates.basics c.args.rates.now) c.args.basis.now c.in-Some.k c.requires c.in-Some.ensures c.args.limit (g.R.Rates.waypoints c.args.rates.now)
+
+pub returns-in-Some-clause-truth : goal.returns-in-Some-clause-truth
+returns-in-Some-clause-truth g c = crossed_truth c.args.lp.now (g.R.Rates.matrix c.args.rates.now) (g.R.Rates.basics c.args.rates.now) c.args.basis.now c.in-Some.k c.requires c.in-Some.ensures
+
+pub returns-clause-truth : goal.returns-clause-truth
+returns-clause-truth g c =
+    let lawful : IsLinearProgram c.args.lp.now = search rules in
+    true_result c.args.lp.now lawful (g.R.Rates.matrix c.args.rates.now) (g.R.Rates.basics c.args.rates.now) c.args.basis.now c.requires c.walk.new.basis c.args.limit c.walk.result c.walk.ensures.ends
+
+pub returns-in-Some-clause-waypoints : goal.returns-in-Some-clause-waypoints
+returns-in-Some-clause-waypoints g c = stays c.args.lp.now c.args.basis.now (g.R.Rates.waypoints c.args.rates.now)
+
+pub returns-in_err-point-clause-waypoints : goal.returns-in_err-point-clause-waypoints
+returns-in_err-point-clause-waypoints g c = stays c.args.lp.now c.args.basis.now (g.R.Rates.waypoints c.args.rates.now)
+
+pub returns-in_err-row-clause-waypoints : goal.returns-in_err-row-clause-waypoints
+returns-in_err-row-clause-waypoints g c = stays c.args.lp.now c.args.basis.now (g.R.Rates.waypoints c.args.rates.now)
+
+pub returns-in_err-direction-clause-waypoints : goal.returns-in_err-direction-clause-waypoints
+returns-in_err-direction-clause-waypoints g c = stays c.args.lp.now c.args.basis.now (g.R.Rates.waypoints c.args.rates.now)

@@ -1,0 +1,74 @@
+use Rattle.std.proofs.Common.{◌∙◌, arith}
+use Rattle.std.proofs.lemmas.Result.{err_from_is_err_and}
+use Rattle.lp_definitions.specs.LinearProgram.{value_at}
+use Rattle.lp_definitions.specs.Basis.{basics_of}
+use Rattle.lp_algebra.proofs.WaypointLaws.{keeps_then}
+use Rattle.bounded_primal.proofs.PathWalk.{begins_at, stops_there, follows, follows_later}
+use Rattle.bounded_primal.proofs.WalkCases.{stops_at_once, walk_more, walk_stops}
+use Rattle.bounded_primal.proofs.path.walk.Goals as goal
+
+pub returns-in_err-point_of-clause-stops : goal.returns-in_err-point_of-clause-stops
+returns-in_err-point_of-clause-stops g c =
+    let p = err_from_is_err_and c.from_residual.result c.from_residual.ensures.1 in
+    rw (p.1, p.2) (stops_at_once c.args.lp.now c.args.basis.now c.args.limit (g.R.Rates.waypoints c.args.rates.now) (g.R.Rates.waypoints c.point_of.new.rates) c.in_err-point_of.field-0.0 c.in_err-point_of.ensures.overflow)
+
+pub loop-outcome-init : goal.loop-outcome-init
+loop-outcome-init g c = record {
+  rates = record {
+    is_basis = c.requires.rates.is_basis;
+    nonsingular = c.requires.rates.nonsingular;
+    same_matrix = c.in_ok-point_of.ensures.matrix ∙ c.requires.rates.same_matrix;
+    same_basics = c.in_ok-point_of.ensures.basics ∙ c.requires.rates.same_basics;
+  };
+  point = c.in_ok-point_of.ensures.point;
+  within = omega arith;
+  reached = begins_at c.args.lp.now c.args.basis.now (g.R.Rates.waypoints c.args.rates.now) (g.R.Rates.waypoints c.point_of.new.rates) c.in_ok-point_of.ensures.waypoints;
+}
+
+pub returns-in_err-outcome-clause-stops : goal.returns-in_err-outcome-clause-stops
+returns-in_err-outcome-clause-stops g c =
+    let p = err_from_is_err_and c.from_residual-in_err-outcome.result c.from_residual-in_err-outcome.ensures.1 in
+    rw (p.1, p.2) (stops_there c.args.lp.now c.args.basis.now (g.R.Rates.waypoints c.args.rates.now) c.loop-outcome.basis (g.R.Rates.waypoints c.loop-outcome.rates) c.loop-outcome.steps c.loop-outcome.invariant.reached c.args.limit (g.R.Rates.waypoints c.next_turn.new.rates) c.in_err-outcome.field-0.0 c.loop-outcome.invariant.within c.in_err-outcome.ensures.turn)
+
+pub take_step-requires-clause-step : goal.take_step-requires-clause-step
+take_step-requires-clause-step g c =
+    let moves = rw c.in-Moves.is at c.in_ok-outcome.ensures.turn in
+    moves.step
+
+pub returns-in_err-take_step-in-Moves-clause-stops : goal.returns-in_err-take_step-in-Moves-clause-stops
+returns-in_err-take_step-in-Moves-clause-stops g c =
+    let p = err_from_is_err_and c.from_residual-in_err-take_step-in-Moves.result c.from_residual-in_err-take_step-in-Moves.ensures.1 in
+    let moves = rw c.in-Moves.is at c.in_ok-outcome.ensures.turn in
+    rw (p.1, p.2, c.in_err-take_step-in-Moves.ensures.unchanged) (walk_stops c.args.lp.now c.loop-outcome.basis (value_at c.loop-outcome.point) (value_at c.next_turn.new.direction) c.in-Moves.q c.in-Moves.by c.loop-outcome.steps c.args.limit moves c.args.basis.now (g.R.Rates.waypoints c.args.rates.now) (g.R.Rates.waypoints c.loop-outcome.rates) c.loop-outcome.invariant.reached (g.R.Rates.waypoints c.next_turn.new.rates) (g.R.Rates.waypoints c.take_step.new.rates) c.in_err-take_step-in-Moves.field-0.0 c.loop-outcome.invariant.within c.in_ok-outcome.ensures.waypoints c.in_err-take_step-in-Moves.ensures.overflow)
+
+pub loop-outcome-preserved : goal.loop-outcome-preserved
+loop-outcome-preserved g c =
+    let moves = rw c.in-Moves.is at c.in_ok-outcome.ensures.turn in
+    record {
+      rates = c.in_ok-take_step-in-Moves.ensures.rates;
+      point = c.in_ok-take_step-in-Moves.ensures.point;
+      within = omega (arith, moves.was_left);
+      reached = walk_more c.args.lp.now c.loop-outcome.basis (value_at c.loop-outcome.point) (value_at c.next_turn.new.direction) c.in-Moves.q c.in-Moves.by c.loop-outcome.steps c.args.limit moves c.args.basis.now (g.R.Rates.waypoints c.args.rates.now) (g.R.Rates.waypoints c.loop-outcome.rates) c.loop-outcome.invariant.reached c.take_step.new.basis (g.R.Rates.waypoints c.next_turn.new.rates) (g.R.Rates.waypoints c.take_step.new.rates) c.in_ok-take_step-in-Moves.ensures.basis c.in_ok-outcome.ensures.waypoints c.in_ok-take_step-in-Moves.ensures.waypoints;
+    }
+
+pub returns-in_err-point_of-clause-waypoints : goal.returns-in_err-point_of-clause-waypoints
+returns-in_err-point_of-clause-waypoints g c =
+    follows c.args.lp.now c.args.basis.now (g.R.Rates.waypoints c.args.rates.now) c.args.basis.now (g.R.Rates.waypoints c.point_of.new.rates) 0
+    (begins_at c.args.lp.now c.args.basis.now (g.R.Rates.waypoints c.args.rates.now) (g.R.Rates.waypoints c.point_of.new.rates) c.in_err-point_of.ensures.waypoints)
+
+pub returns-in_err-outcome-clause-waypoints : goal.returns-in_err-outcome-clause-waypoints
+returns-in_err-outcome-clause-waypoints g c =
+    follows_later c.args.lp.now c.args.basis.now (g.R.Rates.waypoints c.args.rates.now) c.loop-outcome.basis (g.R.Rates.waypoints c.loop-outcome.rates) c.loop-outcome.steps c.loop-outcome.invariant.reached
+    (g.R.Rates.waypoints c.next_turn.new.rates) c.in_err-outcome.ensures.waypoints
+
+pub returns-in-Ends-clause-waypoints : goal.returns-in-Ends-clause-waypoints
+returns-in-Ends-clause-waypoints g c =
+    follows_later c.args.lp.now c.args.basis.now (g.R.Rates.waypoints c.args.rates.now) c.loop-outcome.basis (g.R.Rates.waypoints c.loop-outcome.rates) c.loop-outcome.steps c.loop-outcome.invariant.reached
+    (g.R.Rates.waypoints c.next_turn.new.rates) c.in_ok-outcome.ensures.waypoints
+
+pub returns-in_err-take_step-in-Moves-clause-waypoints : goal.returns-in_err-take_step-in-Moves-clause-waypoints
+returns-in_err-take_step-in-Moves-clause-waypoints g c =
+    rw c.in_err-take_step-in-Moves.ensures.unchanged (follows_later c.args.lp.now c.args.basis.now (g.R.Rates.waypoints c.args.rates.now) c.loop-outcome.basis (g.R.Rates.waypoints c.loop-outcome.rates) c.loop-outcome.steps c.loop-outcome.invariant.reached
+    (g.R.Rates.waypoints c.take_step.new.rates)
+    (keeps_then c.args.lp.now.matrix (basics_of c.loop-outcome.basis) (g.R.Rates.waypoints c.loop-outcome.rates) (basics_of c.loop-outcome.basis) (g.R.Rates.waypoints c.next_turn.new.rates) (g.R.Rates.waypoints c.take_step.new.rates)
+    c.in_ok-outcome.ensures.waypoints (rw (c.in_err-take_step-in-Moves.ensures.unchanged) at c.in_err-take_step-in-Moves.ensures.waypoints)))
