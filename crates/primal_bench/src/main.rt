@@ -2,11 +2,11 @@
 //! ends, so that it can be timed. The objective is the first N row, and the right-hand sides are the first set.
 #![tactic(auto)]
 
-use bounded_primal::{PrimalStop, primal};
+use bounded_primal::{PrimalStop, opening, primal};
 use card_reader::{Cards, read_job};
 use frac128::Frac;
 use job_devices::StreamSource;
-use lp_model::{Basis, Engine, Lp, NoMemory, Outcome, Sense};
+use lp_model::{Lp, NoMemory, Outcome, Sense};
 use lp_setup::{Choice, SetupChoice, select};
 use mps_convert::convert;
 use rates_dense::Dense;
@@ -67,8 +67,7 @@ fn end_of(lp: &Lp, outcome: &Outcome) -> End {
 
 /// Where the path of a linear program ends.
 fn path_of(alloc: Global, lp: &Lp) -> Result<End, NoMemory> {
-    let mut basis = Basis::opening(alloc, lp)?;
-    let mut rates = Dense::start(alloc, lp)?;
+    let (mut basis, mut rates) = opening::<Dense>(alloc, lp)?;
     match primal(alloc, lp, &mut basis, &mut rates, STEPS) {
         Ok(outcome) => Ok(end_of(lp, &outcome)),
         Err(PrimalStop::Limit) => Ok(End::Limit),
@@ -88,7 +87,11 @@ fn solved(alloc: Global, cards: &Cards) -> End {
 fn report(rt: &impl Print, end: End) -> io::Result<()> {
     match end {
         End::Optimal { steps, objective } => {
-            println!(rt; "OPTIMAL STEPS {steps} OBJECTIVE {}/{}", objective.num(), objective.den())
+            println!(rt;
+                "OPTIMAL STEPS {steps} OBJECTIVE {}/{}",
+                objective.num(),
+                objective.den()
+            )
         }
         End::NoDeck => println!(rt; "NO DECK"),
         End::NoProgram => println!(rt; "NO LINEAR PROGRAM"),
