@@ -2,6 +2,7 @@
 //! Finite Pivoting Rules for the Simplex Method), over any rates. Variables are numbered from 1: the rows, and then the columns.
 #![tactic(auto)]
 
+mod beginning;
 mod choices;
 mod formula;
 mod moves;
@@ -13,6 +14,7 @@ mod step;
 mod stopping;
 mod turns;
 
+pub use beginning::opening;
 pub use moves::{PrimalStop, Stopper};
 pub use path::primal;
 pub use point::point_of;
