@@ -1,5 +1,6 @@
 ghost use Rattle.std.specs.Prelude.{◌≡◌, IfOk};
 ghost use Rattle.lp_definitions.specs.LinearProgram.{size};
+ghost use Rattle.bounded_primal.specs.Outcomes.{IsTrueOutcome};
 
 use bounded_primal::{PrimalStop, primal};
 use certificate_check::{Verdict, check_crossed, check_infeasible, check_optimal, check_unbounded};
@@ -287,7 +288,9 @@ fn two_rows(alloc: Global, cost: i32, first: Limits, second: Limits) -> Result<L
 }
 
 /// What the path from the opening basis answers, and the basis that it reaches.
-fn solve(alloc: Global, lp: &Lp, limit: u32) -> Result<(Result<Outcome, PrimalStop>, Basis), Fail> {
+fn solve(alloc: Global, lp: &Lp, limit: u32) -> Result<(Result<Outcome, PrimalStop>, Basis), Fail>
+    ensures { IfOk result (λ found. IfOk found.0 (IsTrueOutcome lp.now)) }
+{
     let mut basis = Basis::opening(alloc, lp)?;
     let mut rates = Dense::start(alloc, lp)?;
     let answer = primal(alloc, lp, &mut basis, &mut rates, limit);
@@ -314,10 +317,6 @@ fn is_optimal(
     else {
         return Ok(false);
     };
-    let size = lp.number_of_variables() as usize;
-    if point.values().len() != size || prices.values().len() != size {
-        return Ok(false);
-    }
     let verdict = check_optimal(lp, point.values(), prices.values());
     Ok(
         verdict == Verdict::Checked
