@@ -1,16 +1,20 @@
 -- What an outcome of the path says of the linear program is true.
-use Rattle.std.proofs.Common.{◌≡◌, ℕ, List, length, sym, subst, arith}
+use Rattle.std.proofs.Common.{◌≡◌, ℕ, List, length, sym, ◌∙◌, ap, subst, arith}
+use Rattle.std.proofs.lemmas.List.{length-map}
 use Rattle.std.specs.Prelude.{Some, Result, Ok, Err, IfOk}
-use Rattle.lp_definitions.specs.LinearProgram.{Matrix, LinearProgram, value_at, IsLinearProgram}
+use Rattle.lp_definitions.specs.LinearProgram.{Matrix, LinearProgram, Vector, size, variables, value_at, IsLinearProgram}
 use Rattle.lp_definitions.specs.Solutions.{IsCrossed}
-use Rattle.lp_definitions.specs.Basis.{Basics}
+use Rattle.lp_definitions.specs.Basis.{Basics, basics_of, price_at}
 use Rattle.lp_definitions.specs.declared.Status.{Status}
+use Rattle.exact_values.specs.Rational.{ℚ}
+use Rattle.lp_algebra.proofs.Opening.{length-numbers_from}
 use Rattle.lp_algebra.proofs.Duality.{infeasible_by_crossed, infeasible_by_ray, unbounded_by_direction}
 use Rattle.lp_model.specs.declared.reports.Outcome.{Outcome}
 use Rattle.lp_model.specs.declared.reports.Outcome.TheVariants.{Crossed}
-use Rattle.path_definitions.specs.Moves.{least, is_crossed}
-use Rattle.path_definitions.specs.Path.{Ending, EndsOptimal, EndsCrossed, EndsInfeasible, EndsUnbounded, EndsAt, last_of}
+use Rattle.path_definitions.specs.Moves.{least, is_crossed, is_below}
+use Rattle.path_definitions.specs.Path.{Ending, EndsOptimal, EndsCrossed, EndsInfeasible, EndsUnbounded, Ends, EndsAt, listed, ray_of, last_of}
 use Rattle.path_laws.specs.Laws.{IsNonsingularBasis}
+use Rattle.path_laws.proofs.Turns.{bettering, rule_of, optimal_turn, stuck_turn, endless_turn}
 use Rattle.path_laws.proofs.Ends.{optimal_end}
 use Rattle.path_laws.proofs.Endless.{crossed_end, unbounded_end}
 use Rattle.path_laws.proofs.Rays.{infeasible_end}
@@ -22,12 +26,50 @@ use Rattle.bounded_primal.specs.declared.moves.PrimalStop.{PrimalStop}
 use Rattle.bounded_primal.proofs.PathWalk.{begins, ends_there}
 use Rattle.bounded_primal.proofs.TurnChoices.{crossed_ends}
 
+-- a vector's list has a place for each variable
+has_places : (a : Matrix) (f : Vector) (xs : List ℚ) → xs ≡ listed a f → length xs ≡ size a
+has_places a f xs e = ap length e ∙ length-map (variables a) f ∙ length-numbers_from 1 (size a)
+
+-- the lists of an end
+module _ (p : LinearProgram) (s : List Status) where
+  optimal_places : (z y : List ℚ) → EndsAt p s (EndsOptimal z y) → (length z ≡ size p.matrix) × (length y ≡ size p.matrix)
+  optimal_places z y h =
+      let t = h.tableau in
+      let gives = (optimal_turn p s t z y (rule_of p s t (Ends (EndsOptimal z y)) h.turns)).gives in
+      let first : z ≡ listed p.matrix t.point = cc in
+      let second : y ≡ listed p.matrix (price_at p (basics_of s) t.rate) = cc in
+      (has_places p.matrix t.point z first, has_places p.matrix (price_at p (basics_of s) t.rate) y second)
+
+  ray_places : (w : List ℚ) → EndsAt p s (EndsInfeasible w) → length w ≡ size p.matrix
+  ray_places w h =
+      let t = h.tableau in
+      let stuck = stuck_turn p s t w (rule_of p s t (Ends (EndsInfeasible w)) h.turns) in
+      let gives = stuck.1.gives in
+      let first : w ≡ listed p.matrix (ray_of (basics_of s) t.rate stuck.0 (is_below p t.point stuck.0)) = cc in
+      has_places p.matrix (ray_of (basics_of s) t.rate stuck.0 (is_below p t.point stuck.0)) w first
+
+  endless_places : (z d : List ℚ) → EndsAt p s (EndsUnbounded z d) → (length z ≡ size p.matrix) × (length d ≡ size p.matrix)
+  endless_places z d h =
+      let t = h.tableau in
+      let endless = endless_turn p s t z d (rule_of p s t (Ends (EndsUnbounded z d)) h.turns) in
+      let gives = endless.1.gives in
+      let first : z ≡ listed p.matrix t.point = cc in
+      let second : d ≡ listed p.matrix (bettering p s t endless.0) = cc in
+      (has_places p.matrix t.point z first, has_places p.matrix (bettering p s t endless.0) d second)
+
 module _ (p : LinearProgram) (lawful : IsLinearProgram p) where
   true_end : (s : List Status) → IsNonsingularBasis p s → (steps : ℕ) (ending : Ending) → EndsAt p s ending → IsTrueOutcome p (outcome_of steps ending)
-  true_end s at steps (EndsOptimal z y) ends = let proved = optimal_end p s z y lawful at ends in record { best = proved.best; proving = proved.proving }
+  true_end s at steps (EndsOptimal z y) ends =
+      let proved = optimal_end p s z y lawful at ends in
+      let places = optimal_places p s z y ends in
+      record { point_places = places.0; price_places = places.1; best = proved.best; proving = proved.proving }
   true_end s at steps (EndsCrossed k) ends = let crossed = crossed_end p s k ends in record { crossed = crossed; infeasible = infeasible_by_crossed p k crossed }
-  true_end s at steps (EndsInfeasible w) ends = let ray = infeasible_end p s w at.is_basis at.nonsingular ends in record { ray = ray; infeasible = infeasible_by_ray p (value_at w) ray }
-  true_end s at steps (EndsUnbounded z d) ends = let proving = unbounded_end p s z d lawful at.is_basis ends in record { proving = proving; unbounded = unbounded_by_direction p (value_at z) (value_at d) proving }
+  true_end s at steps (EndsInfeasible w) ends =
+      let ray = infeasible_end p s w at.is_basis at.nonsingular ends in record { ray_places = ray_places p s w ends; proving = ray; infeasible = infeasible_by_ray p (value_at w) ray }
+  true_end s at steps (EndsUnbounded z d) ends =
+      let proving = unbounded_end p s z d lawful at.is_basis ends in
+      let places = endless_places p s z d ends in
+      record { point_places = places.0; direction_places = places.1; proving = proving; unbounded = unbounded_by_direction p (value_at z) (value_at d) proving }
 
   module _ (matrix : Matrix) (basics : Basics) (s : List Status) (has : HasRates matrix basics p s) where
     begun : IsNonsingularBasis p s
