@@ -2,14 +2,12 @@
 use Rattle.std.proofs.Common.{◌≡◌, ℕ, zero, suc, ◌-◌, Bool, true, false, cond, not, List, [], ◌∷◌, Option, Some, None, length, map, ltb, drop, filter, refl, subst}
 use Rattle.std.specs.List.{AllByRecursion, list_all, onto_first, prefix_len}
 use Rattle.std.proofs.lemmas.Option.{same_Some}
-use Rattle.card_definitions.specs.declared.CardFault.{CardFault}
 use Rattle.card_definitions.specs.declared.CardFault.TheVariants.{TooLong, NotPrintable, CardTooLong}
 use Rattle.card_definitions.specs.declared.TheConstants.{CARD_COLUMNS}
 use Rattle.card_definitions.specs.Words.{◌⟹◌, is_empty, without_leading}
 use Rattle.card_definitions.specs.Cards.{Card, cards_of, numbered_cards, is_skipped, is_printable, card_fault, is_too_long, job_fault}
 use Rattle.card_definitions.proofs.Behind.{passes, test_fails}
 use Rattle.problem_definitions.specs.Names.{Name}
-use Rattle.problem_definitions.proofs.Each.{each-mapped}
 use Rattle.deck_definitions.specs.declared.Section.TheVariants.{Endata}
 use Rattle.deck_definitions.specs.Sections.{begins}
 use Rattle.deck_definitions.specs.Decks.{parts_ended_by, decks_of, is_wanted, first_and_rest, deck_taken}

@@ -2,7 +2,7 @@
 --     AreLawful state              so they do, and the decks left and the cell XPBNAME give no other
 --     IsLed card move              every state to which a move goes on is such a one
 use Rattle.std.proofs.Common.{◌≡◌, ℕ, Bool, true, false, cond, List, [], ◌∷◌, refl, sym, subst, inl, inr}
-use Rattle.std.specs.Prelude.{Option, Some, None, Result, Ok, Err, All, option_and_then}
+use Rattle.std.specs.Prelude.{Option, Some, None, Result, Ok, Err, option_and_then}
 use Rattle.std.specs.List.{AllByRecursion, find}
 use Rattle.std.specs.Option.{IfSome}
 use Rattle.std.proofs.lemmas.Option.{same_Some}
@@ -38,7 +38,7 @@ use Rattle.solver_definitions.specs.Solving.{Solving}
 use Rattle.cell_definitions.specs.Cells.{Cells, move_name, move_number, set_demand}
 use Rattle.run_definitions.specs.State.{Present, present_basis, gone_through, State, problem_of, choice_of}
 use Rattle.run_definitions.specs.Moves.{Outcome, Goes, Ends, Move, Does, MayStop, Asks, Gives, or_fault}
-use Rattle.run_definitions.specs.Verbs.{or_deck_fault, or_selection_fault, files, selects, not_less, change_row, change_set, asks, demanded, by_verdict, after_path, after_sweep, shows_present, solves, shows, ranges, sweeps, converts, sets_up, punches, verb_move, if_built, statement_move}
+use Rattle.run_definitions.specs.Verbs.{or_deck_fault, or_selection_fault, files, selects, not_less, change_row, change_set, asks, demanded, by_verdict, if_optimal, after_path, after_sweep, shows_present, solves, shows, ranges, sweeps, converts, sets_up, punches, verb_move, if_built, statement_move}
 use Rattle.run_definitions.specs.Run.{counted, Step, Reaches, begun, stepped}
 use Rattle.run_definitions.specs.Answer.{IsSoFar}
 use Rattle.run_laws.specs.Laws.{FilesProblems}
@@ -201,14 +201,14 @@ module _ (S : Solving) where
   shows_led card state lawful =
       unless_fault card VerbFault.NoSetup state.setup _ (λ present e.
       unless_fault card VerbFault.NotSolved state.mark _ (λ mark m.
-      showing_led card state present OfSolution SolutionLines _ (Solution mark) lawful))
+      showing_led card state present OfSolution SolutionLines S.Shows (Solution mark) lawful))
 
   ranges_led : (card : ℕ) (state : State) → AreLawful state → IsLed card (ranges S card state)
   ranges_led card state lawful =
       unless_fault card VerbFault.NoSetup state.setup _ (λ present e.
       unless_fault card VerbFault.NotSolved state.mark _ (λ mark m.
-      unless_fault card VerbFault.NotOptimal _ _ (λ optimal o.
-      showing_led card state present OfRanges RangeLines _ Ranges lawful)))
+      unless_fault {X = Mark} card VerbFault.NotOptimal (if_optimal S mark) _ (λ optimal o.
+      showing_led card state present OfRanges RangeLines S.Ranges Ranges lawful)))
 
   asked_led : (card : ℕ) (present : Present) (state : State) (lp : LinearProgram) (sweep : Sweep) → AreLawful state → IsProblem present.problem →
       IsLed card (asks S (OfSweep sweep) (record { problem = present.problem; lp = lp }) present SweepEnd (S.Sweeps (record { problem = present.problem; lp = lp }) (present_basis present) sweep) (after_sweep S card sweep present state))

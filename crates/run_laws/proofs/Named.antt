@@ -1,5 +1,5 @@
 -- A program that cards compile to moves names alone to the cells of names.
-use Rattle.std.proofs.Common.{◌≡◌, ℕ, zero, suc, ◌≤◌, Bool, true, false, cond, ◌&&◌, List, [], ◌∷◌, Option, Some, None, Result, Ok, Err, length, refl, subst, arith, leb}
+use Rattle.std.proofs.Common.{◌≡◌, ℕ, zero, suc, ◌≤◌, Bool, true, false, cond, ◌&&◌, List, [], ◌∷◌, Option, Some, None, Ok, length, refl, subst, arith, leb}
 use Rattle.std.specs.List.{AllByRecursion, cons_option, filter_map, slice_get, find, list_all}
 use Rattle.std.specs.Option.{IfSome, option_map, option_and_then}
 use Rattle.std.specs.Prelude.{bytes_eq}
@@ -82,12 +82,12 @@ quoted argument = then_holds IsName (if_passes is_name) (quotation argument) (λ
     by text true e = passes_name text e
     by text false e = tt
 
+name_moved : (cell : NameCell) (o : Option (List ℕ)) → IfSome o IsName → IfSome {T = Verb (List ℕ)} (option_map (λ name. MoveName cell name) o) MovesName
+name_moved cell None holds = tt
+name_moved cell (Some name) holds = holds
+
 moved_named : (cell : Cell) (argument : List ℕ) → IfSome (moved cell argument) MovesName
-moved_named (OfName cell) argument = by (quoted_name argument) (quoted argument)
-  where
-    by : (o : Option (List ℕ)) → IfSome o IsName → IfSome (option_map (λ name. MoveName cell name) o) MovesName
-    by None holds = tt
-    by (Some name) holds = holds
+moved_named (OfName cell) argument = name_moved cell (quoted_name argument) (quoted argument)
 moved_named (OfNumber cell) argument = mapped MovesName (λ value. MoveNumber cell value) (number_argument argument) (λ value. tt)
 moved_named OfLimit argument = mapped MovesName (λ limit. MoveLimit limit) (limit_argument argument) (λ limit. tt)
 
