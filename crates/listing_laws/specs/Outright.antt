@@ -5,16 +5,19 @@
 --     HoldsOutrightIn setup ..     what holds of it where it is made
 --     TellsTruth S                 each report of every listing that a job may have holds
 --     HoldsThroughout S            and so does each report of every statement, and of a job however it ends
-use Rattle.std.specs.Prelude.{◌≡◌, ℕ, List, Option, All}
+--     HoldsAtStages                so it is while verbs and paths aren't built
+use Rattle.std.specs.Prelude.{◌≡◌, ℕ, Bool, false, IsTrue, List, Option, All}
 use Rattle.lp_definitions.specs.LinearProgram.{IsLinearProgram}
 use Rattle.problem_definitions.specs.Names.{Name}
 use Rattle.problem_definitions.specs.Valid.{IsProblem}
-use Rattle.control_definitions.specs.Program.{Program}
+use Rattle.control_definitions.specs.Program.{Verb, Revise, Paraobj, Pararhs, Program}
 use Rattle.listing_definitions.specs.declared.Mark.TheVariants.{Optimal}
 use Rattle.listing_definitions.specs.declared.Solver.TheVariants.{Primal as ByPrimal}
 use Rattle.listing_definitions.specs.Report.{SolutionLines, Verdict, Check, Report, Titled, Converted, Revised, SetUp, Punched, Solved, Solution, Ranges, Parametric}
 use Rattle.listing_definitions.specs.Ending.{Ending}
+use Rattle.solver_definitions.specs.Answers.{Basis, Sheet}
 use Rattle.solver_definitions.specs.Solving.{Solving}
+use Rattle.solving_definitions.specs.Real.{staged}
 use Rattle.run_definitions.specs.State.{Present, State}
 use Rattle.run_definitions.specs.Moves.{Prints, Goes, Ends}
 use Rattle.run_definitions.specs.Run.{Step}
@@ -71,3 +74,8 @@ pub record HoldsThroughout (S : Solving) : Type 0 where
       IsSoFar S bytes reports cards program state → Step S program state (Ends (Prints report) ending) → HoldsOutrightIn state.setup state.cells.xobj state.cells.xrhs report
   pub job : (job : Job) (reports : List Report) (cards : List (List ℕ)) (ending : Ending) → MayEnd S job reports cards ending → All HoldsOutright reports
   pub listing : TellsTruth S
+
+-- at every stage of the program that builds none of REVISE, PARAOBJ and PARARHS, whatever paths are missing
+abbrev pub HoldsAtStages : Type 0
+HoldsAtStages = (builds : Verb ℕ → Bool) (is_missing : Sheet → Basis → ℕ → Bool) → builds Revise ≡ false → builds Paraobj ≡ false → builds Pararhs ≡ false →
+    HoldsThroughout (staged builds (λ sheet s limit. IsTrue (is_missing sheet s limit)))
