@@ -17,8 +17,8 @@ use Rattle.listing_definitions.specs.Ending.{Ending}
 use Rattle.solver_definitions.specs.Solving.{Solving}
 use Rattle.run_definitions.specs.State.{Present, State}
 use Rattle.run_definitions.specs.Moves.{Gain, Nothing, Prints, Punches, printed_by, Goes, Ends}
-use Rattle.run_definitions.specs.Run.{Step, Reaches, begun, stepped, IsRun, is_over, is_ended}
-use Rattle.run_definitions.specs.Answer.{Job, IsProgramOf, job_decks, IsJobRun, card_fault, control_fault, run, IsSoFar, MayEnd, words_refused, read_fails, by_itself, memory_at_start, memory_in_run, memory_at_punch, punch_fails}
+use Rattle.run_definitions.specs.Run.{Reaches, begun, stepped, IsRun, is_over, is_ended}
+use Rattle.run_definitions.specs.Answer.{Job, IsProgramOf, job_decks, IsJobRun, card_fault, control_fault, run, MayEnd, words_refused, read_fails, by_itself, memory_at_start, memory_in_run, memory_at_punch, punch_fails}
 use Rattle.run_laws.specs.Truth.{IsBestShown, IsTrueVerdict, HoldsIn}
 use Rattle.run_laws.specs.Laws.{KnowsSolving}
 use Rattle.run_laws.proofs.Moves.{HoldsGain, Knows}
