@@ -6,6 +6,7 @@ ghost use Rattle.card_reader.specs.Reading.{ReadsFront, ReadsJob};
 ghost use Rattle.run_definitions.specs.Answer.{WithoutBytes, Read, IsAnswered};
 ghost use Rattle.control_run.specs.Stage.{stage};
 ghost use Rattle.control_run.specs.Ends.{code_of};
+ghost use Rattle.listing_laws.specs.Outright.{TellsTruth};
 ghost use Rattle.mps_cli.specs.Causes.{HasCause};
 
 use crate::end::end_job;
@@ -22,6 +23,10 @@ use std::alloc::Global;
 ///
 /// Behind a fault of the print, or where the print wants memory, nothing more is printed. Want of memory may end a job at
 /// any time.
+///
+/// What it prints of linear programs is true: in each listing that a job may have, and so in each of which an answer is made, SOLUTION
+/// with the mark OPTIMAL shows a feasible point that no feasible point betters, with prices that prove it, and each verdict of PRIMAL
+/// is true.
 pub fn run_job<S: Source, P: Sink, U: Sink>(
     alloc: Global,
     words: &[String],
@@ -33,6 +38,9 @@ pub fn run_job<S: Source, P: Sink, U: Sink>(
         IsAnswered stage WithoutBytes (Rose (P.refusals print.old) (P.refusals print.new)) (code_of result) (Appends (P.written print.old) (P.written print.new)) (Appends (U.written punch.old) (U.written punch.new)) }
     ensures answer { (bytes : List ℕ) → length words.now ≡ 0 → S.left job.old ≡ Some bytes →
         IsAnswered stage (Read bytes) (Rose (P.refusals print.old) (P.refusals print.new)) (code_of result) (Appends (P.written print.old) (P.written print.new)) (Appends (U.written punch.old) (U.written punch.new)) }
+
+    // What a listing is worth: each report of every listing that a job may have holds.
+    ensures truth { TellsTruth stage }
 
     // Why, also where the devices don't tell their bytes.
     ensures cause { HasCause (length words.now) (Rose (S.faults job.old) (S.faults job.new)) (ReadsJob (S.left job.old) (S.left job.new)) (Rose (P.faults print.old) (P.faults print.new)) result }

@@ -38,10 +38,10 @@ printed_holds setup objective rhs (Prints report) holds = All-cons HoldsOf repor
 printed_holds setup objective rhs (Punches report cards) holds = All-cons HoldsOf report [] (holds_of setup objective rhs report holds) (All-nil HoldsOf)
 
 module _ (S : Solving) (solving : KnowsSolving S) where
-  step_keeps : (program : Program) (state : State) (outcome : Outcome) → Knows state → Step S program state outcome → Keeps state.setup state.cells.xobj state.cells.xrhs outcome
+  pub step_keeps : (program : Program) (state : State) (outcome : Outcome) → Knows state → Step S program state outcome → Keeps state.setup state.cells.xobj state.cells.xrhs outcome
   step_keeps program state outcome knows step = (statement_kept S solving step.statement.verb step.statement.card (counted state) (record { marked = knows.marked; bases = knows.bases })).by outcome step.gives
 
-  reaching : (program : Program) (decks : List (List Card)) (reports : List Report) (cards : List (List ℕ)) (state : State) →
+  pub reaching : (program : Program) (decks : List (List Card)) (reports : List Report) (cards : List (List ℕ)) (state : State) →
       Reaches S program decks reports cards state → All HoldsOf reports × Knows state
   reaching program decks _ _ _ begun = (All-nil HoldsOf, record { marked = unmarked _ _ _; bases = without_setup })
   reaching program decks _ _ _ (stepped {reports} {cards} {state} gain after before step) =

@@ -1,0 +1,275 @@
+-- In the run of a job every problem that is filed keeps what `IsProblem` asks, and so does that of the setup.
+--     AreLawful state              so they do, and the decks left and the cell XPBNAME give no other
+--     IsLed card move              every state to which a move goes on is such a one
+use Rattle.std.proofs.Common.{◌≡◌, ℕ, Bool, true, false, cond, List, [], ◌∷◌, refl, sym, subst, inl, inr}
+use Rattle.std.specs.Prelude.{Option, Some, None, Result, Ok, Err, option_and_then}
+use Rattle.std.specs.List.{AllByRecursion, find}
+use Rattle.std.specs.Option.{IfSome}
+use Rattle.std.proofs.lemmas.Option.{same_Some}
+use Rattle.exact_values.specs.Rational.{ℚ}
+use Rattle.lp_definitions.specs.LinearProgram.{LinearProgram}
+use Rattle.lp_definitions.specs.declared.Evidence.{Evidence}
+use Rattle.card_definitions.specs.Cards.{Card}
+use Rattle.problem_definitions.specs.Names.{Name, same}
+use Rattle.problem_definitions.specs.Problem.{Problem}
+use Rattle.problem_definitions.specs.Valid.{IsName, IsProblem}
+use Rattle.problem_definitions.proofs.Each.{each-all}
+use Rattle.deck_definitions.specs.declared.DeckFault.{DeckFault}
+use Rattle.deck_definitions.specs.Conversion.{conversion}
+use Rattle.deck_definitions.specs.Decks.{deck_taken}
+use Rattle.deck_definitions.proofs.Converted.{ArePrintable, conversion-problem}
+use Rattle.control_definitions.specs.declared.NameCell.{NameCell}
+use Rattle.control_definitions.specs.declared.NameCell.TheVariants.{Xdata, Xpbname, Xobj, Xrhs, Xoldname, Xchrow, Xchcol}
+use Rattle.control_definitions.specs.declared.NumberCell.{NumberCell}
+use Rattle.control_definitions.specs.declared.NumberCell.TheVariants.{Xparam, Xparmax}
+use Rattle.control_definitions.specs.declared.Demand.{Demand}
+use Rattle.control_definitions.specs.declared.Demand.TheVariants.{Xdonfs, Xdounb}
+use Rattle.control_definitions.specs.Program.{SetupOptions, Verb, Initialz, Title, MoveName, MoveNumber, MoveLimit, Mvadr, Goto, Convert, Setup, Primal, Revise, Ranging, Paraobj, Pararhs, Solution as SolutionVerb, Bcdout, Exit, Program}
+use Rattle.selection_definitions.specs.declared.SelectionFault.{SelectionFault}
+use Rattle.selection_definitions.specs.Choice.{Choice}
+use Rattle.selection_definitions.specs.Selection.{selected}
+use Rattle.listing_definitions.specs.declared.Mark.{Mark}
+use Rattle.listing_definitions.specs.declared.Mark.TheVariants.{Optimal, Infeasible, Unbounded}
+use Rattle.listing_definitions.specs.declared.VerbFault.{VerbFault}
+use Rattle.listing_definitions.specs.Report.{SolutionLines, RangeLines, Report, Converted, Solution, Ranges}
+use Rattle.listing_definitions.specs.Ending.{Place}
+use Rattle.solver_definitions.specs.Answers.{Basis, Sheet, Changing, Sweep, Question, OfSolution, OfRanges, OfSweep, PathEnd, Reached, PathLimit, PathNotBuilt, SweepEnd, Opening, Chained, SweepLimit}
+use Rattle.solver_definitions.specs.Solving.{Solving}
+use Rattle.cell_definitions.specs.Cells.{Cells, move_name, move_number, set_demand}
+use Rattle.run_definitions.specs.State.{Present, present_basis, gone_through, State, problem_of, choice_of}
+use Rattle.run_definitions.specs.Moves.{Outcome, Goes, Ends, Move, Does, MayStop, Asks, Gives, or_fault}
+use Rattle.run_definitions.specs.Verbs.{or_deck_fault, or_selection_fault, files, selects, not_less, change_row, change_set, asks, demanded, by_verdict, if_optimal, after_path, after_sweep, shows_present, solves, shows, ranges, sweeps, converts, sets_up, punches, verb_move, if_built, statement_move}
+use Rattle.run_definitions.specs.Run.{counted, Step, Reaches, begun, stepped}
+use Rattle.run_definitions.specs.Answer.{IsSoFar}
+use Rattle.run_laws.specs.Laws.{FilesProblems}
+use Rattle.run_laws.proofs.Decks.{job_printable, taken_printable}
+use Rattle.run_laws.proofs.Named.{MovesName, HasNames, compiled_named, statement_at}
+
+-- the setup's problem, if there is a setup
+abbrev pub HasProblem : Option Present → Type 0
+HasProblem setup = (present : Present) → setup ≡ Some present → IsProblem present.problem
+
+pub record AreLawful (state : State) : Type 0 where
+  pub file : AllByRecursion IsProblem state.file
+  pub setup : HasProblem state.setup
+  pub decks : AllByRecursion ArePrintable state.decks
+  pub name : IfSome state.cells.xpbname IsName
+
+without_setup : HasProblem None
+without_setup present e = absurd (cc e)
+
+with_setup : (present : Present) → IsProblem present.problem → HasProblem (Some present)
+with_setup present is other e = subst (λ (p : Present). IsProblem p.problem) (same_Some present other e) is
+
+-- ---- moves
+
+abbrev Leads : Outcome → Type 0
+Leads (Goes gain after) = AreLawful after
+Leads (Ends gain ending) = Unit {0}
+
+record IsLed (card : ℕ) (move : Move) : Type 0 where
+  by : (outcome : Outcome) → Gives card move outcome → Leads outcome
+
+does : (card : ℕ) (outcome : Outcome) → Leads outcome → IsLed card (Does outcome)
+does card outcome leads = record { by = λ given e. subst Leads (sym e) leads }
+
+may_stop : (card : ℕ) (Holds : Evidence → Option Place → Type 0) (move : Move) → IsLed card move → IsLed card (MayStop Holds move)
+may_stop card Holds move led = record { by = at }
+  where
+    at : (given : Outcome) → Gives card (MayStop Holds move) given → Leads given
+    at given (inl gives) = led.by given gives
+    at given (inr stop) = subst Leads (sym stop.3) tt
+
+answered : (card : ℕ) (Answer : Type 0) (IsRight : Answer → Type 0) (go : Answer → Outcome) → ((answer : Answer) → Leads (go answer)) → IsLed card (Asks Answer IsRight go)
+answered card Answer IsRight go leads = record { by = λ given a. subst Leads (sym a.2) (leads a.0) }
+
+unless_fault : {X : Type 0} (card : ℕ) (fault : VerbFault) (o : Option X) (go : X → Move) → ((x : X) → o ≡ Some x → IsLed card (go x)) → IsLed card (or_fault card fault o go)
+unless_fault card fault None go led = does card _ tt
+unless_fault card fault (Some x) go led = led x refl
+
+unless_deck_fault : (card : ℕ) (r : Result (Problem ℕ) DeckFault) (go : Problem ℕ → Move) → ((problem : Problem ℕ) → r ≡ Ok problem → IsLed card (go problem)) → IsLed card (or_deck_fault r go)
+unless_deck_fault card (Err fault) go led = does card _ tt
+unless_deck_fault card (Ok problem) go led = led problem refl
+
+unless_selection_fault : (card : ℕ) (r : Result LinearProgram SelectionFault) (go : LinearProgram → Move) → ((lp : LinearProgram) → IsLed card (go lp)) → IsLed card (or_selection_fault card r go)
+unless_selection_fault card (Err fault) go led = does card _ tt
+unless_selection_fault card (Ok lp) go led = led lp
+
+selecting : (card : ℕ) (problem : Problem ℕ) (choice : Choice) (go : LinearProgram → Move) → ((lp : LinearProgram) → IsLed card (go lp)) → IsLed card (selects card problem choice go)
+selecting card problem choice go led = unless_selection_fault card (selected problem choice) _ (λ lp. may_stop card _ (go lp) (led lp))
+
+-- ---- states
+
+demanded_leads : (position : Option ℕ) (code : ℕ) (report : Report) (state : State) → AreLawful state → Leads (demanded position code report state)
+demanded_leads (Some position) code report state lawful = record { file = lawful.file; setup = lawful.setup; decks = lawful.decks; name = lawful.name }
+demanded_leads None code report state lawful = tt
+
+by_verdict_leads : (mark : Mark) (report : Report) (state : State) → AreLawful state → Leads (by_verdict mark report state)
+by_verdict_leads Optimal report state lawful = record { file = lawful.file; setup = lawful.setup; decks = lawful.decks; name = lawful.name }
+by_verdict_leads Infeasible report state lawful = demanded_leads state.cells.xdonfs 1 report state lawful
+by_verdict_leads Unbounded report state lawful = demanded_leads state.cells.xdounb 2 report state lawful
+
+found : (p : Problem ℕ → Bool) (file : List (Problem ℕ)) (problem : Problem ℕ) → AllByRecursion IsProblem file → find p file ≡ Some problem → IsProblem problem
+found p [] problem each e = absurd (cc e)
+found p (first ∷ file) problem each e = by (p first) e (found p file problem each.1)
+  where
+    by : (b : Bool) → cond b (Some first) (find p file) ≡ Some problem → (find p file ≡ Some problem → IsProblem problem) → IsProblem problem
+    by true e rest = subst IsProblem (same_Some first problem e) each.0
+    by false e rest = rest e
+
+filed : (name : Option Name) (file : List (Problem ℕ)) (problem : Problem ℕ) → AllByRecursion IsProblem file → problem_of name file ≡ Some problem → IsProblem problem
+filed (Some name) file problem each e = found (λ (other : Problem ℕ). same name other.name) file problem each e
+filed None [] problem each e = absurd (cc e)
+filed None (first ∷ file) problem each e = subst IsProblem (same_Some first problem e) each.0
+
+named : (cell : NameCell) (name : Name) (cells : Cells) → IsName name → IfSome cells.xpbname IsName → IfSome (move_name cell name cells).xpbname IsName
+named Xdata name cells is known = known
+named Xpbname name cells is known = is
+named Xobj name cells is known = known
+named Xrhs name cells is known = known
+named Xoldname name cells is known = known
+named Xchrow name cells is known = known
+named Xchcol name cells is known = known
+
+numbered : (cell : NumberCell) (value : ℚ) (cells : Cells) → IfSome cells.xpbname IsName → IfSome (move_number cell value cells).xpbname IsName
+numbered Xparam value cells known = known
+numbered Xparmax value cells known = known
+
+demanding : (demand : Demand) (position : ℕ) (cells : Cells) → IfSome cells.xpbname IsName → IfSome (set_demand demand position cells).xpbname IsName
+demanding Xdonfs position cells known = known
+demanding Xdounb position cells known = known
+
+-- ---- verbs
+
+converts_led : (card : ℕ) (state : State) → AreLawful state → IsLed card (converts card state)
+converts_led card state lawful =
+    unless_fault {X = List Card × List (List Card)} card VerbFault.DeckNotFound (deck_taken state.cells.xdata state.decks) _ (λ taken e.
+    unless_deck_fault card (conversion taken.0 state.cells.xpbname) (files Converted taken.1 state) (λ problem is. files_problem taken e problem is))
+  where
+    files_problem : (taken : List Card × List (List Card)) → deck_taken state.cells.xdata state.decks ≡ Some taken → (problem : Problem ℕ) → conversion taken.0 state.cells.xpbname ≡ Ok problem →
+        IsLed card (files Converted taken.1 state problem)
+    files_problem taken e problem is =
+        let printable = taken_printable state.cells.xdata state.decks taken lawful.decks e in
+        does card _ (record {
+          file = (conversion-problem taken.0 state.cells.xpbname problem printable.0 lawful.name is, lawful.file);
+          setup = without_setup;
+          decks = printable.1;
+          name = lawful.name;
+        })
+
+sets_up_led : (card : ℕ) (options : SetupOptions) (state : State) → AreLawful state → IsLed card (sets_up card options state)
+sets_up_led card options state lawful =
+    unless_fault card VerbFault.NoProblem (problem_of state.cells.xpbname state.file) _ (λ problem e.
+    selecting card problem (choice_of state.cells options) _ (λ lp. does card _ (record {
+      file = lawful.file;
+      setup = with_setup _ (filed state.cells.xpbname state.file problem lawful.file e);
+      decks = lawful.decks;
+      name = lawful.name;
+    })))
+
+punches_led : (card : ℕ) (state : State) → AreLawful state → IsLed card (punches card state)
+punches_led card state lawful =
+    unless_fault card VerbFault.NoProblem (problem_of state.cells.xpbname state.file) _ (λ problem e. does card _ (record { file = lawful.file; setup = lawful.setup; decks = lawful.decks; name = lawful.name }))
+
+module _ (S : Solving) where
+  pathed : (card : ℕ) (present : Present) (state : State) → AreLawful state → IsProblem present.problem → (end : PathEnd) → Leads (after_path S card present state end)
+  pathed card present state lawful is (Reached bases verdict check) =
+      by_verdict_leads _ _ _ (record { file = lawful.file; setup = with_setup (gone_through bases present) is; decks = lawful.decks; name = lawful.name })
+  pathed card present state lawful is PathLimit = tt
+  pathed card present state lawful is PathNotBuilt = tt
+
+  swept : (card : ℕ) (sweep : Sweep) (present : Present) (state : State) → AreLawful state → IsProblem present.problem → (end : SweepEnd) → Leads (after_sweep S card sweep present state end)
+  swept card sweep present state lawful is (Opening bases verdict check) =
+      by_verdict_leads _ _ _ (record { file = lawful.file; setup = with_setup (gone_through bases present) is; decks = lawful.decks; name = lawful.name })
+  swept card sweep present state lawful is (Chained bases intervals end) =
+      record { file = lawful.file; setup = with_setup (gone_through bases present) is; decks = lawful.decks; name = lawful.name }
+  swept card sweep present state lawful is SweepLimit = tt
+
+  solves_led : (card : ℕ) (state : State) → AreLawful state → IsLed card (solves S card state)
+  solves_led card state lawful =
+      unless_fault card VerbFault.NoSetup state.setup _ (λ present e.
+      selecting card present.problem _ _ (λ lp.
+      may_stop card _ _ (answered card PathEnd _ _ (pathed card present state lawful (lawful.setup present e)))))
+
+  showing_led : (card : ℕ) (state : State) (present : Present) (question : Question) (Answer : Type 0) (Shown : Sheet → Basis → Answer → Type 0) (report : Answer → Report) → AreLawful state →
+      IsLed card (shows_present S card state present question Answer Shown report)
+  showing_led card state present question Answer Shown report lawful =
+      unless_selection_fault card (selected present.problem (choice_of state.cells present.options)) _ (λ lp.
+      may_stop card _ _ (answered card Answer _ _ (λ lines. record { file = lawful.file; setup = lawful.setup; decks = lawful.decks; name = lawful.name })))
+
+  shows_led : (card : ℕ) (state : State) → AreLawful state → IsLed card (shows S card state)
+  shows_led card state lawful =
+      unless_fault card VerbFault.NoSetup state.setup _ (λ present e.
+      unless_fault card VerbFault.NotSolved state.mark _ (λ mark m.
+      showing_led card state present OfSolution SolutionLines S.Shows (Solution mark) lawful))
+
+  ranges_led : (card : ℕ) (state : State) → AreLawful state → IsLed card (ranges S card state)
+  ranges_led card state lawful =
+      unless_fault card VerbFault.NoSetup state.setup _ (λ present e.
+      unless_fault card VerbFault.NotSolved state.mark _ (λ mark m.
+      unless_fault {X = Mark} card VerbFault.NotOptimal (if_optimal S mark) _ (λ optimal o.
+      showing_led card state present OfRanges RangeLines S.Ranges Ranges lawful)))
+
+  asked_led : (card : ℕ) (present : Present) (state : State) (lp : LinearProgram) (sweep : Sweep) → AreLawful state → IsProblem present.problem →
+      IsLed card (asks S (OfSweep sweep) (record { problem = present.problem; lp = lp }) present SweepEnd (S.Sweeps (record { problem = present.problem; lp = lp }) (present_basis present) sweep) (after_sweep S card sweep present state))
+  asked_led card present state lp sweep lawful is = may_stop card _ _ (answered card SweepEnd _ _ (swept card sweep present state lawful is))
+
+  sweeps_led : (card : ℕ) (fault : VerbFault) (change : Problem ℕ → Name → Option Changing) (moved : Option Name) (state : State) → AreLawful state → IsLed card (sweeps S card fault change moved state)
+  sweeps_led card fault change moved state lawful =
+      unless_fault card VerbFault.NoSetup state.setup _ (λ present e.
+      selecting card present.problem _ _ (λ lp.
+      unless_fault {X = Changing} card fault (option_and_then (change present.problem) moved) _ (λ changing c.
+      unless_fault {X = ℚ} card VerbFault.NoParmax state.cells.xparmax _ (λ last l.
+      unless_fault {X = ℚ} card VerbFault.ParmaxBelow (not_less state.cells.xparam last) _ (λ to t.
+      asked_led card present state lp (record { changing = changing; from = state.cells.xparam; to = to; limit = state.cells.xiterlim }) lawful (lawful.setup present e))))))
+
+  module _ (no_revise : S.builds Revise ≡ false) where
+    verb_led : (verb : Verb ℕ) (card : ℕ) (state : State) → MovesName verb → AreLawful state → S.builds verb ≡ true → IsLed card (verb_move S verb card state)
+    unfolding verb_move
+    verb_led Initialz card state names lawful built = does card _ (record { file = lawful.file; setup = lawful.setup; decks = lawful.decks; name = tt })
+    verb_led (Title text) card state names lawful built = does card _ (record { file = lawful.file; setup = lawful.setup; decks = lawful.decks; name = lawful.name })
+    verb_led (MoveName cell name) card state names lawful built = does card _ (record { file = lawful.file; setup = lawful.setup; decks = lawful.decks; name = named cell name state.cells names lawful.name })
+    verb_led (MoveNumber cell value) card state names lawful built = does card _ (record { file = lawful.file; setup = lawful.setup; decks = lawful.decks; name = numbered cell value state.cells lawful.name })
+    verb_led (MoveLimit limit) card state names lawful built = does card _ (record { file = lawful.file; setup = lawful.setup; decks = lawful.decks; name = lawful.name })
+    verb_led (Mvadr demand position) card state names lawful built = does card _ (record { file = lawful.file; setup = lawful.setup; decks = lawful.decks; name = demanding demand position state.cells lawful.name })
+    verb_led (Goto position) card state names lawful built = does card _ (record { file = lawful.file; setup = lawful.setup; decks = lawful.decks; name = lawful.name })
+    verb_led Convert card state names lawful built = converts_led card state lawful
+    verb_led Revise card state names lawful built = absurd (cc (no_revise, built))
+    verb_led (Setup options) card state names lawful built = sets_up_led card options state lawful
+    verb_led Primal card state names lawful built = solves_led card state lawful
+    verb_led SolutionVerb card state names lawful built = shows_led card state lawful
+    verb_led Ranging card state names lawful built = ranges_led card state lawful
+    verb_led Paraobj card state names lawful built = sweeps_led card VerbFault.NoChangeRow change_row state.cells.xchrow state lawful
+    verb_led Pararhs card state names lawful built = sweeps_led card VerbFault.NoChangeSet change_set state.cells.xchcol state lawful
+    verb_led Bcdout card state names lawful built = punches_led card state lawful
+    verb_led Exit card state names lawful built = does card _ tt
+
+    statement_led : (verb : Verb ℕ) (card : ℕ) (state : State) → MovesName verb → AreLawful state → IsLed card (statement_move S verb card state)
+    statement_led verb card state names lawful = by (S.builds verb) refl
+      where
+        by : (built : Bool) → S.builds verb ≡ built → IsLed card (if_built S built (verb_move S verb card state))
+        by true is = verb_led verb card state names lawful is
+        by false is = does card _ tt
+
+    -- ---- runs
+
+    step_leads : (program : Program) (state : State) (outcome : Outcome) → HasNames program → AreLawful state → Step S program state outcome → Leads outcome
+    step_leads program state outcome names lawful step =
+        (statement_led step.statement.verb step.statement.card (counted state) (statement_at program _ step.statement names step.is_at_position)
+        (record { file = lawful.file; setup = lawful.setup; decks = lawful.decks; name = lawful.name })).by outcome step.gives
+
+    reaching : (program : Program) (decks : List (List Card)) (reports : List Report) (cards : List (List ℕ)) (state : State) → HasNames program → AllByRecursion ArePrintable decks →
+        Reaches S program decks reports cards state → AreLawful state
+    reaching program decks _ _ _ names printable begun = record { file = tt; setup = without_setup; decks = printable; name = tt }
+    reaching program decks _ _ _ names printable (stepped {reports} {cards} {state} gain after before step) =
+        step_leads program state (Goes gain after) names (reaching program decks reports cards state names printable before) step
+
+    pub job_reaching : (bytes : List ℕ) (program : Program) (reports : List Report) (cards : List (List ℕ)) (state : State) → IsSoFar S bytes reports cards program state → AreLawful state
+    job_reaching bytes program reports cards state so_far =
+        reaching program _ reports cards state (compiled_named _ program so_far.is_program.is_compiled) (job_printable bytes program so_far.is_program.is_read) so_far.reaches
+
+    pub files_problems : FilesProblems S
+    files_problems = record {
+      filed = λ bytes program reports cards state so_far. each-all IsProblem state.file (job_reaching bytes program reports cards state so_far).file;
+      set_up = λ bytes program reports cards state present so_far is. (job_reaching bytes program reports cards state so_far).setup present is;
+    }
