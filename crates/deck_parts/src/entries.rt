@@ -1,11 +1,15 @@
 // The entries of a column, or the items of a set, in the making.
-ghost use Rattle.std.specs.Prelude.{◌≡◌, ◌≤◌, ◌++◌, ◌∷◌, [], map, length, IsFalse, IfOk, OnOk, IfErr};
+ghost use Rattle.std.specs.Prelude.{◌≡◌, ◌≤◌, ◌++◌, ◌∷◌, [], map, length, false, IfOk, OnOk, IfErr};
+ghost use Rattle.card_definitions.specs.Words.{◌⟹◌};
 ghost use Rattle.problem_definitions.specs.Numbering.{entry_by};
 ghost use Rattle.problem_definitions.specs.Problem.{has_entry};
+ghost use Rattle.deck_parts.specs.Told.{Tells};
 ghost use Rattle.deck_parts.specs.Shown.{entry_at, row_number};
 
+use crate::additions::add_new;
 use crate::card_stop::CardStop;
 use crate::rows::Rows;
+use deck_definitions::DeckFaultKind;
 use deck_fields::Decimal;
 use indexmap::IndexMap;
 use name_table::Name;
@@ -56,13 +60,16 @@ impl Entries {
         numbered_entries(alloc, rows, &self.values)
     }
 
-    /// Adds a number on a row that has none.
+    /// Adds a number on a row, or refuses a row that has one.
     pub fn add(&mut self, row: Name, value: Decimal) -> Result<(), CardStop>
-        requires { IsFalse (has_entry self.old row) }
+        ensures is_new { OnOk result (has_entry self.old row ≡ false) }
         ensures added { OnOk result (self.new ≡ self.old ++ record { row = row; value = value } ∷ []) }
-        ensures stop { IfErr result (λ stop. stop ≡ CardStop.NoMemory) }
+        ensures stop { IfErr result (Tells (has_entry self.old row ⟹ DeckFaultKind.DuplicateEntry)) }
     {
-        self.values.insert(row, value)?;
+        let is_new = add_new(&mut self.values, row, value)?;
+        if !is_new {
+            return Err(CardStop::Refused(DeckFaultKind::DuplicateEntry));
+        }
         Ok(())
     }
 }

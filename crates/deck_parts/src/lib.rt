@@ -2,6 +2,7 @@
 //! data card adds to them, or its fault.
 #![tactic(auto)]
 
+mod additions;
 mod bound_sets;
 mod bounds;
 mod card_reading;
