@@ -3,12 +3,12 @@ use Rattle.std.proofs.Common.{◌≡◌, Bool, true, false, cond, not, ◌||◌,
 use Rattle.std.specs.List.{list_any, IsDistinct, AllByRecursion}
 use Rattle.std.specs.Map.{lookup, keys_of}
 use Rattle.std.specs.Option.{option_map_or}
-use Rattle.card_definitions.specs.Numbers.{Decimal}
 use Rattle.problem_definitions.specs.declared.RowKind.{RowKind}
 use Rattle.problem_definitions.specs.Kinds.{is_free_kind}
 use Rattle.problem_definitions.specs.Names.{Name, same}
 use Rattle.problem_definitions.specs.Problem.{has_row, has_free_row, has_entry}
 use Rattle.problem_definitions.proofs.Names.{same_eq}
+use Rattle.deck_parts.specs.declared.on_row.OnRow.{OnRow}
 use Rattle.deck_parts.specs.Shown.{row_at, entry_at}
 
 module _ {V X : Type 0} (f : Name × V → X) (name_of : X → Name) (own : (e : Name × V) → name_of (f e) ≡ e.0) where
@@ -29,7 +29,7 @@ names-rows (e ∷ es) = ap (λ names. e.0 ∷ names) (names-rows es)
 pub row_is_there : (name : Name) (es : List (Name × RowKind)) → is_some (lookup (same name) es) ≡ has_row (map row_at es) name
 row_is_there name es = there row_at (λ row. row.name) (λ e. refl) name es
 
-pub entry_is_there : (name : Name) (es : List (Name × Decimal)) → is_some (lookup (same name) es) ≡ has_entry (map entry_at es) name
+pub entry_is_there : (name : Name) (es : List (Name × OnRow)) → is_some (lookup (same name) es) ≡ has_entry (map entry_at es) name
 entry_is_there name es = there entry_at (λ entry. entry.row) (λ e. refl) name es
 
 no_row : (name : Name) (es : List (Name × RowKind)) → AllByRecursion (λ other. same name other ≡ false) (keys_of es) → has_row (map row_at es) name ≡ false

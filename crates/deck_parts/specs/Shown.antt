@@ -4,7 +4,6 @@ use Rattle.std.specs.List.{list_any}
 use Rattle.indexmap.specs.IndexSet.{insert_key}
 use Rattle.card_definitions.specs.Words.{is_empty, named, ◌⟹◌, first_fault}
 use Rattle.card_definitions.specs.Fields.{Reading}
-use Rattle.card_definitions.specs.Numbers.{Decimal}
 use Rattle.problem_definitions.specs.declared.TheConstants.{MAX_COLUMNS, MAX_ENTRIES}
 use Rattle.problem_definitions.specs.declared.RowKind.{RowKind}
 use Rattle.problem_definitions.specs.declared.BoundKind.{BoundKind}
@@ -16,6 +15,7 @@ use Rattle.deck_definitions.specs.declared.Section.{Section}
 use Rattle.deck_definitions.specs.declared.Section.TheVariants.{Columns}
 use Rattle.deck_definitions.specs.Sections.{is_section}
 use Rattle.deck_definitions.specs.DataCards.{Pair, row_kinds}
+use Rattle.deck_parts.specs.declared.on_row.OnRow.{OnRow}
 use Rattle.deck_definitions.specs.Tests.{combination_kinds, value_fault, all_but_last, is_bound_already, bound_value_fault, filled_from_5}
 
 -- the number of the row, or of the column, of a name, from 1; 0 where it isn't there
@@ -30,8 +30,8 @@ abbrev pub row_at : Name × RowKind → Row
 row_at e = record { kind = e.1; name = e.0 }
 
 -- the entry that a row's name with a number stands for
-abbrev pub entry_at : Name × Decimal → Entry Name
-entry_at e = record { row = e.0; value = e.1 }
+abbrev pub entry_at : Name × OnRow → Entry Name
+entry_at e = record { row = e.0; value = e.1.value }
 
 -- a problem of rows alone: tests of a row's name look at nothing else
 abbrev pub rows_alone : List Row → Problem Name

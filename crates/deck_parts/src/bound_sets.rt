@@ -74,8 +74,13 @@ fn has_second(card: &DataCard<'_>) -> bool
     !(is_blank(card.name3.bytes()) && is_blank(card.value2))
 }
 
-// Takes the bound on a card into the items of its set.
-fn take_bound(items: &mut Bounds, kind: BoundKind, card: &DataCard<'_>) -> Result<(), CardStop>
+// Takes the bound on a card, whose column has this place, into the items of its set.
+fn take_bound(
+    items: &mut Bounds,
+    place: usize,
+    kind: BoundKind,
+    card: &DataCard<'_>,
+) -> Result<(), CardStop>
     ensures no_fault { OnOk result (bound_rest_fault items.old (shown card.now) kind ≡ None) }
     ensures step { OnOk result (items.new ≡ items.old ++ bound_of (shown card.now) kind ∷ []) }
     ensures stop { IfErr result (Tells (bound_rest_fault items.old (shown card.now) kind)) }
@@ -85,6 +90,7 @@ fn take_bound(items: &mut Bounds, kind: BoundKind, card: &DataCard<'_>) -> Resul
         Ok(value) => items.add(NamedBound {
             kind,
             column,
+            place,
             value,
         }),
         Err(fault) => {
@@ -99,6 +105,7 @@ fn take_bound(items: &mut Bounds, kind: BoundKind, card: &DataCard<'_>) -> Resul
 fn take_bound_into(
     alloc: Global,
     sets: &mut IndexMap<Name, Bounds>,
+    place: usize,
     kind: BoundKind,
     card: &DataCard<'_>,
 ) -> Result<(), CardStop>
@@ -107,7 +114,7 @@ fn take_bound_into(
     ensures stop { IfErr result (Tells (bound_rest_fault (items_of card.now.name1 (map group_at sets.old.entries)) (shown card.now) kind)) }
 {
     let items = sets.entry(card.name1)?.or_insert(Bounds::new(alloc));
-    take_bound(items, kind, card)
+    take_bound(items, place, kind, card)
 }
 
 // Sets with the numbers of their columns.
@@ -164,10 +171,11 @@ impl BoundSets {
         numbered_sets(alloc, columns, &self.sets)
     }
 
-    /// Takes the bound on a card into the set in its field 2, which is added last if it isn't there.
-    pub fn take(
+    // Takes the bound on a card, whose column has this place, into the set in its field 2, which is added last if it isn't there.
+    fn take(
         &mut self,
         alloc: Global,
+        place: usize,
         kind: BoundKind,
         card: &DataCard<'_>,
     ) -> Result<(), CardStop>
@@ -175,7 +183,7 @@ impl BoundSets {
         ensures step { OnOk result (self.new ≡ in_set card.now.name1 (λ items. items ++ bound_of (shown card.now) kind ∷ []) self.old) }
         ensures stop { IfErr result (Tells (bound_rest_fault (items_of card.now.name1 self.old) (shown card.now) kind)) }
     {
-        take_bound_into(alloc, &mut self.sets, kind, card)
+        take_bound_into(alloc, &mut self.sets, place, kind, card)
     }
 }
 
@@ -196,8 +204,8 @@ pub fn take_bound_card(
     if is_blank(card.name2.bytes()) {
         return Err(CardStop::Refused(DeckFaultKind::EmptyName));
     }
-    if !columns.has(&card.name2) {
+    let Some(place) = columns.place_of(&card.name2) else {
         return Err(CardStop::Refused(DeckFaultKind::UnknownColumn));
-    }
-    sets.take(alloc, kind, card)
+    };
+    sets.take(alloc, place, kind, card)
 }

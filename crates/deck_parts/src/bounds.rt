@@ -20,11 +20,12 @@ use problem_file::{BoundItem, NoMemory};
 use std::alloc::Global;
 use std::marker::Model;
 
-/// A bound on the column of this name.
+/// A bound on the column of this name, with the place that the column had among the columns, from 0, when its name was looked up.
 #[derive(Drop)]
 pub struct NamedBound {
     pub kind: BoundKind,
     pub column: Name,
+    pub place: usize,
     pub value: Option<Decimal>,
 }
 
@@ -163,7 +164,7 @@ fn numbered_bounds(
     for bound in bounds {
         let item = BoundItem {
             kind: bound.kind,
-            column: columns.number_of(&bound.column),
+            column: columns.number_at(bound.place, &bound.column),
             value: bound.value,
         };
         items.push(item).map_err(|_| NoMemory)?;

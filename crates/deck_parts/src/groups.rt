@@ -1,5 +1,5 @@
 // Columns and sets in the making.
-ghost use Rattle.std.specs.Prelude.{◌≡◌, ◌≤◌, ◌+◌, ◌++◌, ◌&&◌, ◌∷◌, [], None, map, length, nat_lt, nat_le, nat_eq, IfOk, OnOk, IfErr};
+ghost use Rattle.std.specs.Prelude.{◌≡◌, ◌≤◌, ◌+◌, ◌++◌, ◌&&◌, ◌∷◌, [], None, map, length, nat_lt, nat_le, nat_eq, is_some, IfOk, OnOk, IfErr};
 ghost use Rattle.std.specs.List.{IsDistinct};
 ghost use Rattle.card_definitions.specs.Words.{◌⟹◌, first_fault};
 ghost use Rattle.problem_definitions.specs.Names.{same};
@@ -16,7 +16,7 @@ ghost use Rattle.deck_parts.specs.Fields_shown.{shown};
 use crate::card_stop::CardStop;
 use crate::data_card::DataCard;
 use crate::entries::Entries;
-use crate::numbers::number_among;
+use crate::numbers::number_from;
 use crate::pairs::take_pairs;
 use crate::rows::Rows;
 use deck_definitions::{DeckFaultKind, Section};
@@ -157,19 +157,20 @@ impl Groups {
         self.groups.len()
     }
 
-    /// Whether a group of this name is there.
-    pub fn has(&self, name: &Name) -> bool
-        ensures { result ≡ has_group self.now name.now }
+    /// The place of the group of this name, from 0.
+    pub fn place_of(&self, name: &Name) -> Option<usize>
+        ensures { is_some result ≡ has_group self.now name.now }
     {
-        self.groups.contains_key(name)
+        self.groups.get_index_of(name)
     }
 
-    /// The number of the group of this name, from 1, or 0 where it isn't there.
-    pub fn number_of(&self, name: &Name) -> u32
+    /// The number of the group of this name, from 1, or 0 where it isn't there. It is looked up only where it doesn't stand at this
+    /// place, from 0.
+    pub fn number_at(&self, place: usize, name: &Name) -> u32
         requires { length self.now ≤ MAX_COLUMNS }
         ensures { result ≡ column_number self.now name.now }
     {
-        number_among(&self.groups, name)
+        number_from(&self.groups, place, name)
     }
 
     /// The groups as columns with the numbers of their rows.

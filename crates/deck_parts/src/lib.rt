@@ -11,6 +11,7 @@ mod data_card;
 mod entries;
 mod groups;
 mod numbers;
+mod on_row;
 mod pairs;
 mod rows;
 mod sections;

@@ -12,6 +12,7 @@ use crate::card_reading::{first_pair, second_pair};
 use crate::card_stop::{CardStop, fault_behind};
 use crate::data_card::{DataCard, PairText};
 use crate::entries::Entries;
+use crate::on_row::OnRow;
 use crate::rows::{FoundRow, Rows, is_free};
 use crate::words::{is_blank, is_columns, is_ranges};
 use card_definitions::NumberFault;
@@ -94,9 +95,12 @@ pub fn take_pair(
     ensures step { OnOk result (items.new ≡ items.old ++ entry_of (pair_shown pair.now) ∷ []) }
     ensures stop { IfErr result (Tells (pair_fault (rows_alone rows.now) section items.old count (pair_shown pair.now))) }
 {
-    row_of(rows, section, &pair.row)?;
+    let found = row_of(rows, section, &pair.row)?;
     match value_of(section, count, pair) {
-        Ok(value) => items.add(pair.row, value),
+        Ok(value) => {
+            let place = found.place;
+            items.add(pair.row, OnRow { place, value })
+        }
         Err(kind) => {
             let is_taken = items.has(&pair.row);
             let fault = fault_behind(is_taken, DeckFaultKind::DuplicateEntry, kind);

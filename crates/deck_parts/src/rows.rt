@@ -8,7 +8,7 @@ ghost use Rattle.deck_parts.specs.Shown.{row_at, row_number};
 
 use crate::additions::add_new;
 use crate::card_stop::CardStop;
-use crate::numbers::number_among;
+use crate::numbers::number_from;
 use deck_definitions::DeckFaultKind;
 use indexmap::IndexMap;
 use name_table::Name;
@@ -80,12 +80,13 @@ impl Rows {
         }
     }
 
-    /// The number of the row of this name, from 1, or 0 where it isn't there.
-    pub fn number_of(&self, name: &Name) -> u32
+    /// The number of the row of this name, from 1, or 0 where it isn't there. It is looked up only where it doesn't stand at this
+    /// place, from 0.
+    pub fn number_at(&self, place: usize, name: &Name) -> u32
         requires { length self.now ≤ MAX_ROWS }
         ensures { result ≡ row_number self.now name.now }
     {
-        number_among(&self.kinds, name)
+        number_from(&self.kinds, place, name)
     }
 
     /// The rows as a problem has them.

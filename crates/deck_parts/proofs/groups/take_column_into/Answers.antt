@@ -1,4 +1,4 @@
-use Rattle.std.proofs.Common.{◌≡◌, ◌≤◌, ◌++◌, ◌∷◌, [], None, Some, ◌&&◌, map, nat_lt, nat_le, nat_eq, unwrap_or, length, OnOk, IfErr, sym, ap, ap₂, subst, ◌∙◌, arith}
+use Rattle.std.proofs.Common.{◌≡◌, ◌≤◌, ◌+◌, ◌++◌, ◌∷◌, [], None, Some, ◌&&◌, map, nat_lt, nat_le, nat_eq, unwrap_or, length, OnOk, IfErr, sym, ap, ap₂, subst, ◌∙◌, arith}
 use Rattle.std.proofs.lemmas.Result.{on_ok_weaker}
 use Rattle.indexmap.specs.IndexMap.{insert_entry}
 use Rattle.card_definitions.specs.Words.{◌⟹◌, first_fault}

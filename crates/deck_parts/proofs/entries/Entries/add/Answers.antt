@@ -16,4 +16,4 @@ returns-clause-is_new c =
 
 pub returns-clause-added : goal.returns-clause-added
 returns-clause-added c =
-    rw (← c.self.view_is) (ap (map entry_at) (c.in_ok-is_new.ensures.added c.if-not-is_new.false) ∙ map-append entry_at c.self.inside.values.entries ((c.args.row, c.args.value) ∷ []))
+    rw (← c.self.view_is) (ap (map entry_at) (c.in_ok-is_new.ensures.added c.if-not-is_new.false) ∙ map-append entry_at c.self.inside.values.entries ((c.args.row, c.args.number) ∷ []))
