@@ -88,9 +88,9 @@ pub place_tells : (name : Name) (es : List (Name × List (Entry Name)))
     ≡ column_fault (map group_at es) name None
 place_tells name es =
     let split : nat_lt (position_or_len (same name) (keys_of es) + 1) (length es) ≡ has_group (all_but_last (map group_at es)) name =
-        same_below (position_or_len (same name) (keys_of es)) (length es) ∙ sym (front name (length es - 1) es (omega arith)) ∙ ap (λ n. has_group (take (n - 1) (map group_at es)) name) (sym (length-groups name es)) in
+    same_below (position_or_len (same name) (keys_of es)) (length es) ∙ sym (front name (length es - 1) es (omega arith)) ∙ ap (λ n. has_group (take (n - 1) (map group_at es)) name) (sym (length-groups name es)) in
     let there : has_group (map group_at es) name ≡ nat_lt (position_or_len (same name) (keys_of es)) (length es) =
-        ap (λ groups. has_group groups name) (sym (take-length (map group_at es)) ∙ ap (λ n. take n (map group_at es)) (length-groups name es)) ∙ front name (length es) es (omega arith) in
+    ap (λ groups. has_group groups name) (sym (take-length (map group_at es)) ∙ ap (λ n. take n (map group_at es)) (length-groups name es)) ∙ front name (length es) es (omega arith) in
     let last : nat_eq (position_or_len (same name) (keys_of es)) (length es) ≡ not (has_group (map group_at es) name) = at_end (position_or_len (same name) (keys_of es)) (length es) (place_within name es) ∙ ap not (sym there) in
     ap₂ (λ a b. first_fault ((a ⟹ ColumnSplit) ∷ (b ⟹ TooManyColumns) ∷ [])) split (ap₂ (λ a n. a && nat_le MAX_COLUMNS n) last (sym (length-groups name es)))
 

@@ -1,10 +1,9 @@
-use Rattle.std.proofs.Common.{◌≡◌, ◌≤◌, ◌+◌, ◌++◌, ◌∷◌, [], None, Some, ◌&&◌, map, nat_lt, nat_le, nat_eq, unwrap_or, length, OnOk, IfErr, sym, ap, ap₂, subst, ◌∙◌, arith}
+use Rattle.std.proofs.Common.{◌≡◌, ◌+◌, ◌++◌, ◌∷◌, [], None, ◌&&◌, map, nat_lt, nat_le, nat_eq, unwrap_or, OnOk, IfErr, sym, ap, ap₂, subst, ◌∙◌, arith}
 use Rattle.std.proofs.lemmas.Result.{on_ok_weaker}
 use Rattle.indexmap.specs.IndexMap.{insert_entry}
 use Rattle.card_definitions.specs.Words.{◌⟹◌, first_fault}
 use Rattle.problem_definitions.specs.declared.TheConstants.{MAX_COLUMNS}
 use Rattle.problem_definitions.specs.Names.{same}
-use Rattle.problem_definitions.specs.Groups.{items_of}
 use Rattle.deck_definitions.specs.declared.DeckFaultKind.TheVariants.{ColumnSplit, TooManyColumns}
 use Rattle.deck_definitions.specs.declared.Section.TheVariants.{Columns}
 use Rattle.deck_definitions.specs.DataCards.{entries_of, pairs_of}
