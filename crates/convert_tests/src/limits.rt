@@ -28,8 +28,9 @@ fn add_full_column(alloc: Global, deck: &mut Vec<u8>, column: u32) -> Result<(),
     for card in 0..500 {
         let first = 1000 + 2 * card;
         let second = first + 1;
-        let card =
-            format!(in alloc; "    C{column}    R{first}     1              R{second}     1\n")?;
+        let card = format!(in alloc;
+            "    C{column}    R{first}     1              R{second}     1\n"
+        )?;
         deck.extend_from_slice(card.as_bytes())?;
     }
     Ok(())

@@ -29,7 +29,11 @@ fn converted(alloc: Global) -> Result<Option<Problem>, Fail> {
 
 // How many entries a problem has, and how many items its sets have.
 fn counts(problem: &Problem) -> (usize, usize, usize) {
-    let entries = problem.columns().iter().map(|column| column.entries.len()).sum();
+    let entries = problem
+        .columns()
+        .iter()
+        .map(|column| column.entries.len())
+        .sum();
     let sides = problem.rhs().iter().map(|set| set.items.len()).sum();
     let bounds = problem.bounds().iter().map(|set| set.items.len()).sum();
     (entries, sides, bounds)

@@ -78,7 +78,10 @@ fn faults_of_second_pairs(rt: HostRuntime) -> Result<(), Fail> {
         ),
     ];
     for (cards, card, kind) in decks {
-        assert_eq!(rt; fault_behind_a_column(rt.alloc(), cards)?, Some((card, kind)));
+        assert_eq!(rt;
+            fault_behind_a_column(rt.alloc(), cards)?,
+            Some((card, kind))
+        );
     }
     Ok(())
 }
@@ -119,7 +122,10 @@ fn the_first_test_decides(rt: HostRuntime) -> Result<(), Fail> {
         ),
     ];
     for (cards, card, kind) in decks {
-        assert_eq!(rt; fault_behind_a_column(rt.alloc(), cards)?, Some((card, kind)));
+        assert_eq!(rt;
+            fault_behind_a_column(rt.alloc(), cards)?,
+            Some((card, kind))
+        );
     }
     Ok(())
 }
@@ -127,11 +133,7 @@ fn the_first_test_decides(rt: HostRuntime) -> Result<(), Fail> {
 #[test]
 fn faults_of_bounds(rt: HostRuntime) -> Result<(), Fail> {
     let decks: [(&[u8], u32, DeckFaultKind); 5] = [
-        (
-            b"BOUNDS\n UP B\nENDATA\n",
-            8,
-            DeckFaultKind::EmptyName,
-        ),
+        (b"BOUNDS\n UP B\nENDATA\n", 8, DeckFaultKind::EmptyName),
         (
             b"BOUNDS\n LO           X\nENDATA\n",
             8,
@@ -154,7 +156,10 @@ fn faults_of_bounds(rt: HostRuntime) -> Result<(), Fail> {
         ),
     ];
     for (cards, card, kind) in decks {
-        assert_eq!(rt; fault_behind_a_column(rt.alloc(), cards)?, Some((card, kind)));
+        assert_eq!(rt;
+            fault_behind_a_column(rt.alloc(), cards)?,
+            Some((card, kind))
+        );
     }
     Ok(())
 }
