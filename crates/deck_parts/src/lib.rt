@@ -27,4 +27,4 @@ pub use deck_definitions::{DeckFaultKind, Section};
 pub use groups::Groups;
 pub use rows::Rows;
 pub use sections::{order_fault, take_column_card, take_row_card, take_set_card};
-pub use words::{is_blank, section_named};
+pub use words::{first_word, is_blank, section_named};
