@@ -1,3 +1,4 @@
+use crate::decks::TESTPROB;
 use card_reader::read_job;
 use frac128::Frac;
 use job_devices::SureSource;
@@ -6,9 +7,6 @@ use name_table::Name;
 use problem_file::Problem;
 use std::alloc::Global;
 use std::test::Fail;
-
-const TESTPROB: &[u8] =
-    b"NAME          TESTPROB\nROWS\n N  COST\n L  LIM1\n G  LIM2\n E  MYEQN\nCOLUMNS\n    XONE      COST      1              LIM1      1\n    XONE      LIM2      1\n    YTWO      COST      4              LIM1      1\n    YTWO      MYEQN     -1\n    ZTHREE    COST      9              LIM2      1\n    ZTHREE    MYEQN     1\nRHS\n    RHS       LIM1      5              LIM2      10\n    RHS       MYEQN     7\nBOUNDS\n UP BND1      XONE      4\n LO BND1      YTWO      -1\n UP BND1      YTWO      1\nENDATA\n";
 
 // The problem of a job that is one deck.
 fn problem_of(alloc: Global, deck: &[u8], name: Option<Name>) -> Result<Problem, Fail> {

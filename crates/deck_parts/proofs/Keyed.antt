@@ -1,15 +1,14 @@
 -- Lists of names with values, seen as rows or as entries.
-use Rattle.std.proofs.Common.{◌≡◌, Bool, true, false, cond, ◌||◌, ◌&&◌, List, [], ◌∷◌, ◌++◌, Some, map, is_some, refl, ap, sym, subst, ◌∙◌}
+use Rattle.std.proofs.Common.{◌≡◌, Bool, true, false, cond, not, ◌||◌, ◌&&◌, List, [], ◌∷◌, Some, map, is_some, refl, ap, sym, subst, ◌∙◌}
 use Rattle.std.specs.List.{list_any, IsDistinct, AllByRecursion}
 use Rattle.std.specs.Map.{lookup, keys_of}
 use Rattle.std.specs.Option.{option_map_or}
-use Rattle.indexmap.specs.IndexMap.{insert_entry}
-use Rattle.card_definitions.specs.Numbers.{Decimal}
 use Rattle.problem_definitions.specs.declared.RowKind.{RowKind}
 use Rattle.problem_definitions.specs.Kinds.{is_free_kind}
 use Rattle.problem_definitions.specs.Names.{Name, same}
 use Rattle.problem_definitions.specs.Problem.{has_row, has_free_row, has_entry}
 use Rattle.problem_definitions.proofs.Names.{same_eq}
+use Rattle.deck_parts.specs.declared.on_row.OnRow.{OnRow}
 use Rattle.deck_parts.specs.Shown.{row_at, entry_at}
 
 module _ {V X : Type 0} (f : Name × V → X) (name_of : X → Name) (own : (e : Name × V) → name_of (f e) ≡ e.0) where
@@ -22,16 +21,6 @@ module _ {V X : Type 0} (f : Name × V → X) (name_of : X → Name) (own : (e :
       by true rest = refl
       by false rest = rest
 
-  -- a new name goes to the end
-  added : (name : Name) (value : V) (es : List (Name × V)) → list_any (λ x. same name (name_of x)) (map f es) ≡ false → map f (insert_entry same es name value) ≡ map f es ++ f (name, value) ∷ []
-  added name value [] absent = refl
-  added name value (e ∷ es) absent = by (same name e.0) (ap (λ n. same name n || list_any (λ x. same name (name_of x)) (map f es)) (sym (own e)) ∙ absent) (added name value es)
-    where
-      by : (b : Bool) → (b || list_any (λ x. same name (name_of x)) (map f es)) ≡ false → (list_any (λ x. same name (name_of x)) (map f es) ≡ false → map f (insert_entry same es name value) ≡ map f es ++ f (name, value) ∷ [])
-          → map f (cond b ((e.0, value) ∷ es) (e ∷ insert_entry same es name value)) ≡ (f e ∷ map f es) ++ f (name, value) ∷ []
-      by true e' rest = absurd (cc e')
-      by false e' rest = ap (λ xs. f e ∷ xs) (rest e')
-
 -- the names of the rows
 pub names-rows : (es : List (Name × RowKind)) → map (λ row. row.name) (map row_at es) ≡ keys_of es
 names-rows [] = refl
@@ -40,14 +29,8 @@ names-rows (e ∷ es) = ap (λ names. e.0 ∷ names) (names-rows es)
 pub row_is_there : (name : Name) (es : List (Name × RowKind)) → is_some (lookup (same name) es) ≡ has_row (map row_at es) name
 row_is_there name es = there row_at (λ row. row.name) (λ e. refl) name es
 
-pub row_added : (name : Name) (kind : RowKind) (es : List (Name × RowKind)) → has_row (map row_at es) name ≡ false → map row_at (insert_entry same es name kind) ≡ map row_at es ++ record { kind = kind; name = name } ∷ []
-row_added name kind es absent = added row_at (λ row. row.name) (λ e. refl) name kind es absent
-
-pub entry_is_there : (name : Name) (es : List (Name × Decimal)) → is_some (lookup (same name) es) ≡ has_entry (map entry_at es) name
+pub entry_is_there : (name : Name) (es : List (Name × OnRow)) → is_some (lookup (same name) es) ≡ has_entry (map entry_at es) name
 entry_is_there name es = there entry_at (λ entry. entry.row) (λ e. refl) name es
-
-pub entry_added : (name : Name) (value : Decimal) (es : List (Name × Decimal)) → has_entry (map entry_at es) name ≡ false → map entry_at (insert_entry same es name value) ≡ map entry_at es ++ record { row = name; value = value } ∷ []
-entry_added name value es absent = added entry_at (λ entry. entry.row) (λ e. refl) name value es absent
 
 no_row : (name : Name) (es : List (Name × RowKind)) → AllByRecursion (λ other. same name other ≡ false) (keys_of es) → has_row (map row_at es) name ≡ false
 no_row name [] h = refl
@@ -77,3 +60,12 @@ free_by_name name (row ∷ es) distinct = by (same name row.0) refl (free_by_nam
     by true e rest = or_false (is_free_kind row.1) (has_free_row (map row_at es) name)
         (none_free name es (subst (λ n. has_row (map row_at es) n ≡ false) (sym (same_eq name row.0 e)) (no_row row.0 es distinct.0)))
     by false e rest = rest
+
+-- whether a name was there, by whether it is new
+pub was_there : (is_new there : Bool) → is_new ≡ not there → is_new ≡ false → there ≡ true
+was_there is_new true e h = refl
+was_there is_new false e h = absurd (cc (e, h))
+
+pub was_new : (is_new there : Bool) → is_new ≡ not there → is_new ≡ true → there ≡ false
+was_new is_new true e h = absurd (cc (e, h))
+was_new is_new false e h = refl

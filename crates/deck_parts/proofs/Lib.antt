@@ -4,4 +4,5 @@ mod NumbersTold
 mod Second
 mod Grouped
 mod Fronts
+mod FirstPlaces
 mod Touched

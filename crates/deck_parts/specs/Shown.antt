@@ -1,18 +1,22 @@
 -- What the reader's structures show, in the words of the definitions.
-use Rattle.std.specs.Prelude.{◌≡◌, ℕ, Bool, ◌&&◌, Option, List, [], ◌∷◌, ◌++◌, map, is_some, if◌then◌else◌}
+use Rattle.std.specs.Prelude.{◌≡◌, ℕ, Bool, not, ◌&&◌, Option, List, [], ◌∷◌, map, length, nat_le, is_none, if◌then◌else◌}
 use Rattle.std.specs.List.{list_any}
-use Rattle.std.specs.Map.{lookup}
 use Rattle.indexmap.specs.IndexSet.{insert_key}
-use Rattle.card_definitions.specs.Words.{◌⟹◌, first_fault}
+use Rattle.card_definitions.specs.Words.{is_empty, named, ◌⟹◌, first_fault}
 use Rattle.card_definitions.specs.Fields.{Reading}
-use Rattle.card_definitions.specs.Numbers.{Decimal}
+use Rattle.problem_definitions.specs.declared.TheConstants.{MAX_COLUMNS, MAX_ENTRIES}
 use Rattle.problem_definitions.specs.declared.RowKind.{RowKind}
 use Rattle.problem_definitions.specs.declared.BoundKind.{BoundKind}
-use Rattle.problem_definitions.specs.Names.{Name, same, number_in}
-use Rattle.problem_definitions.specs.Problem.{Row, Entry, Bound, Group, Problem, group_names}
+use Rattle.problem_definitions.specs.Names.{Name, same, has_name, number_in}
+use Rattle.problem_definitions.specs.Problem.{Row, Entry, Bound, Group, Problem, has_group, group_names}
 use Rattle.deck_definitions.specs.declared.DeckFaultKind.{DeckFaultKind}
-use Rattle.deck_definitions.specs.declared.DeckFaultKind.TheVariants.{BoundTwice}
-use Rattle.deck_definitions.specs.Tests.{is_bound_already, bound_value_fault, filled_from_5}
+use Rattle.deck_definitions.specs.declared.DeckFaultKind.TheVariants.{BadRowType, ColumnSplit, BoundTwice, EmptyName, TooManyColumns, TooManyEntries, CombinationRow}
+use Rattle.deck_definitions.specs.declared.Section.{Section}
+use Rattle.deck_definitions.specs.declared.Section.TheVariants.{Columns}
+use Rattle.deck_definitions.specs.Sections.{is_section}
+use Rattle.deck_definitions.specs.DataCards.{Pair, row_kinds}
+use Rattle.deck_parts.specs.declared.on_row.OnRow.{OnRow}
+use Rattle.deck_definitions.specs.Tests.{combination_kinds, value_fault, all_but_last, is_bound_already, bound_value_fault, filled_from_5}
 
 -- the number of the row, or of the column, of a name, from 1; 0 where it isn't there
 abbrev pub row_number : List Row → Name → ℕ
@@ -26,8 +30,8 @@ abbrev pub row_at : Name × RowKind → Row
 row_at e = record { kind = e.1; name = e.0 }
 
 -- the entry that a row's name with a number stands for
-abbrev pub entry_at : Name × Decimal → Entry Name
-entry_at e = record { row = e.0; value = e.1 }
+abbrev pub entry_at : Name × OnRow → Entry Name
+entry_at e = record { row = e.0; value = e.1.value }
 
 -- a problem of rows alone: tests of a row's name look at nothing else
 abbrev pub rows_alone : List Row → Problem Name
@@ -36,10 +40,6 @@ rows_alone rows = record { name = []; rows = rows; columns = []; rhs = []; range
 -- the column or set that a name with items stands for
 abbrev pub group_at : {X : Type 0} → Name × List X → Group X
 group_at e = record { name = e.0; items = e.1 }
-
--- the names with their values, with one for a name that isn't there added last
-abbrev pub opened : {V : Type 0} → Name → V → List (Name × V) → List (Name × V)
-opened name empty es = if is_some (lookup (same name) es) then es else es ++ (name, empty) ∷ []
 
 -- a problem of rows and columns alone: the tests of a card of COLUMNS look at nothing else
 abbrev pub columns_alone : List Row → List (Group (Entry Name)) → Problem Name
@@ -63,3 +63,27 @@ bound_rest_fault items card kind = first_fault (
     (is_bound_already items card.name2 kind ⟹ BoundTwice) ∷
     bound_value_fault card kind ∷
     filled_from_5 card ∷ [])
+
+-- the tests of a pair that come behind those of its row
+abbrev pub pair_value_fault : Section → ℕ → Pair → Option DeckFaultKind
+pair_value_fault section count pair = first_fault (
+    value_fault pair.column pair.value ∷
+    (is_section Columns section && nat_le MAX_ENTRIES count ⟹ TooManyEntries) ∷ [])
+
+-- the tests of a card's column, a name of none but the last column and room for one more, and then the rest
+abbrev pub column_fault : List (Group (Entry Name)) → Name → Option DeckFaultKind → Option DeckFaultKind
+column_fault columns name rest = first_fault (
+    (has_group (all_but_last columns) name ⟹ ColumnSplit) ∷
+    (not (has_group columns name) && nat_le MAX_COLUMNS (length columns) ⟹ TooManyColumns) ∷
+    rest ∷ [])
+
+-- the tests of a card of BOUNDS that come behind that of its bound
+abbrev pub bound_end_fault : Reading → BoundKind → Option DeckFaultKind
+bound_end_fault card kind = first_fault (bound_value_fault card kind ∷ filled_from_5 card ∷ [])
+
+-- the tests of a card of ROWS that come before that of a row of its name
+abbrev pub row_kind_fault : Reading → Option DeckFaultKind
+row_kind_fault card = first_fault (
+    (has_name combination_kinds card.kind ⟹ CombinationRow) ∷
+    (is_none (named row_kinds card.kind) ⟹ BadRowType) ∷
+    (is_empty card.name1 ⟹ EmptyName) ∷ [])

@@ -1,23 +1,21 @@
 // The sets of bounds in the making.
-ghost use Rattle.std.specs.Prelude.{◌≡◌, ◌≤◌, ◌++◌, ◌∷◌, [], None, Some, map, length, is_some, IsTrue, IfOk, OnOk, IfErr, not, if◌then◌else◌};
-ghost use Rattle.std.specs.Map.{lookup};
+ghost use Rattle.std.specs.Prelude.{◌≡◌, ◌≤◌, ◌++◌, ◌∷◌, [], None, Some, map, length, IfOk, OnOk, IfErr, not, if◌then◌else◌};
 ghost use Rattle.card_definitions.specs.Numbers.{decimal_of};
 ghost use Rattle.card_definitions.specs.Words.{is_empty};
 ghost use Rattle.problem_definitions.specs.Kinds.{takes_value};
-ghost use Rattle.problem_definitions.specs.Names.{same};
 ghost use Rattle.problem_definitions.specs.Numbering.{bound_by, group_by};
-ghost use Rattle.problem_definitions.specs.Groups.{items_of, in_group, in_set};
+ghost use Rattle.problem_definitions.specs.Groups.{items_of, in_set};
 ghost use Rattle.deck_definitions.specs.DataCards.{bound_of, bound_group};
 ghost use Rattle.deck_definitions.specs.Tests.{bound_value_fault, bounds_fault};
 ghost use Rattle.deck_definitions.proofs.Steps.{with_group};
 ghost use Rattle.deck_parts.specs.Told.{Tells};
-ghost use Rattle.deck_parts.specs.Shown.{group_at, bounds_alone, bound_rest_fault, column_number};
+ghost use Rattle.deck_parts.specs.Shown.{group_at, bounds_alone, bound_end_fault, bound_rest_fault, column_number};
 ghost use Rattle.deck_parts.specs.Fields_shown.{shown};
 
 use crate::bounds::{Bounds, NamedBound};
-use crate::card_stop::CardStop;
+use crate::card_stop::{CardStop, fault_behind};
 use crate::data_card::DataCard;
-use crate::groups::{Groups, open};
+use crate::groups::Groups;
 use crate::pairs::number_in;
 use crate::words::{bound_kind, is_blank};
 use deck_definitions::DeckFaultKind;
@@ -43,11 +41,24 @@ fn has_value(kind: BoundKind) -> bool
     }
 }
 
+// The value on a card of BOUNDS, where its type takes one, or the fault of its value or of what stands behind it.
+fn bound_value(kind: BoundKind, card: &DataCard<'_>) -> Result<Option<Decimal>, DeckFaultKind>
+    ensures value { IfOk result (λ v. v ≡ (if takes_value kind then Some (decimal_of card.now.value1.now) else None)) }
+    ensures no_fault { OnOk result (bound_end_fault (shown card.now) kind ≡ None) }
+    ensures fault { IfErr result (λ fault. bound_end_fault (shown card.now) kind ≡ Some fault) }
+{
+    let value = value_taken(kind, card)?;
+    if has_second(card) {
+        return Err(DeckFaultKind::ExtraField);
+    }
+    Ok(value)
+}
+
 // The value on a card of BOUNDS, where its type takes one.
-fn bound_value(kind: BoundKind, card: &DataCard<'_>) -> Result<Option<Decimal>, CardStop>
+fn value_taken(kind: BoundKind, card: &DataCard<'_>) -> Result<Option<Decimal>, DeckFaultKind>
     ensures value { IfOk result (λ v. v ≡ (if takes_value kind then Some (decimal_of card.now.value1.now) else None)) }
     ensures no_fault { OnOk result (bound_value_fault (shown card.now) kind ≡ None) }
-    ensures stop { IfErr result (Tells (bound_value_fault (shown card.now) kind)) }
+    ensures fault { IfErr result (λ fault. bound_value_fault (shown card.now) kind ≡ Some fault) }
 {
     if !has_value(kind) {
         return Ok(None);
@@ -63,41 +74,47 @@ fn has_second(card: &DataCard<'_>) -> bool
     !(is_blank(card.name3.bytes()) && is_blank(card.value2))
 }
 
-// Takes the bound on a card into the items of its set.
-fn take_bound(items: &mut Bounds, kind: BoundKind, card: &DataCard<'_>) -> Result<(), CardStop>
+// Takes the bound on a card, whose column has this place, into the items of its set.
+fn take_bound(
+    items: &mut Bounds,
+    place: usize,
+    kind: BoundKind,
+    card: &DataCard<'_>,
+) -> Result<(), CardStop>
     ensures no_fault { OnOk result (bound_rest_fault items.old (shown card.now) kind ≡ None) }
     ensures step { OnOk result (items.new ≡ items.old ++ bound_of (shown card.now) kind ∷ []) }
     ensures stop { IfErr result (Tells (bound_rest_fault items.old (shown card.now) kind)) }
 {
-    if items.has(&card.name2, kind) {
-        return Err(CardStop::Refused(DeckFaultKind::BoundTwice));
+    let column = card.name2;
+    match bound_value(kind, card) {
+        Ok(value) => items.add(NamedBound {
+            kind,
+            column,
+            place,
+            value,
+        }),
+        Err(fault) => {
+            let is_taken = items.has(&column, kind);
+            let fault = fault_behind(is_taken, DeckFaultKind::BoundTwice, fault);
+            Err(CardStop::Refused(fault))
+        }
     }
-    let value = bound_value(kind, card)?;
-    if has_second(card) {
-        return Err(CardStop::Refused(DeckFaultKind::ExtraField));
-    }
-    items.add(NamedBound {
-        kind,
-        column: card.name2,
-        value,
-    })
 }
 
-// Takes the bound on a card into a set that is there.
+// Takes the bound on a card into the set in its field 2, which is added last if it isn't there.
 fn take_bound_into(
+    alloc: Global,
     sets: &mut IndexMap<Name, Bounds>,
+    place: usize,
     kind: BoundKind,
     card: &DataCard<'_>,
 ) -> Result<(), CardStop>
-    requires { IsTrue (is_some (lookup (same card.now.name1) sets.old.entries)) }
     ensures no_fault { OnOk result (bound_rest_fault (items_of card.now.name1 (map group_at sets.old.entries)) (shown card.now) kind ≡ None) }
-    ensures step { OnOk result (map group_at sets.new.entries ≡ in_group card.now.name1 (λ items. items ++ bound_of (shown card.now) kind ∷ []) (map group_at sets.old.entries)) }
+    ensures step { OnOk result (map group_at sets.new.entries ≡ in_set card.now.name1 (λ items. items ++ bound_of (shown card.now) kind ∷ []) (map group_at sets.old.entries)) }
     ensures stop { IfErr result (Tells (bound_rest_fault (items_of card.now.name1 (map group_at sets.old.entries)) (shown card.now) kind)) }
 {
-    let Some(items) = sets.get_mut(&card.name1) else {
-        return Ok(());
-    };
-    take_bound(items, kind, card)
+    let items = sets.entry(card.name1)?.or_insert(Bounds::new(alloc));
+    take_bound(items, place, kind, card)
 }
 
 // Sets with the numbers of their columns.
@@ -154,10 +171,11 @@ impl BoundSets {
         numbered_sets(alloc, columns, &self.sets)
     }
 
-    /// Takes the bound on a card into the set in its field 2, which is added last if it isn't there.
-    pub fn take(
+    // Takes the bound on a card, whose column has this place, into the set in its field 2, which is added last if it isn't there.
+    fn take(
         &mut self,
         alloc: Global,
+        place: usize,
         kind: BoundKind,
         card: &DataCard<'_>,
     ) -> Result<(), CardStop>
@@ -165,8 +183,7 @@ impl BoundSets {
         ensures step { OnOk result (self.new ≡ in_set card.now.name1 (λ items. items ++ bound_of (shown card.now) kind ∷ []) self.old) }
         ensures stop { IfErr result (Tells (bound_rest_fault (items_of card.now.name1 self.old) (shown card.now) kind)) }
     {
-        open(&mut self.sets, card.name1, Bounds::new(alloc))?;
-        take_bound_into(&mut self.sets, kind, card)
+        take_bound_into(alloc, &mut self.sets, place, kind, card)
     }
 }
 
@@ -187,8 +204,8 @@ pub fn take_bound_card(
     if is_blank(card.name2.bytes()) {
         return Err(CardStop::Refused(DeckFaultKind::EmptyName));
     }
-    if !columns.has(&card.name2) {
+    let Some(place) = columns.place_of(&card.name2) else {
         return Err(CardStop::Refused(DeckFaultKind::UnknownColumn));
-    }
-    sets.take(alloc, kind, card)
+    };
+    sets.take(alloc, place, kind, card)
 }

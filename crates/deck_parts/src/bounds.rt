@@ -1,14 +1,17 @@
 // The bounds of a set in the making.
-ghost use Rattle.std.specs.Prelude.{◌≡◌, ◌≤◌, ◌++◌, ◌∷◌, [], ◌&&◌, ◌||◌, map, length, IfOk, OnOk, IfErr};
+ghost use Rattle.std.specs.Prelude.{◌≡◌, ◌≤◌, ◌++◌, ◌∷◌, [], ◌&&◌, ◌||◌, false, map, length, IfOk, OnOk, IfErr};
 ghost use Rattle.std.specs.List.{list_any};
+ghost use Rattle.card_definitions.specs.Words.{◌⟹◌};
 ghost use Rattle.problem_definitions.specs.Names.{same};
 ghost use Rattle.problem_definitions.specs.Numbering.{bound_by};
 ghost use Rattle.problem_definitions.specs.Kinds.{touches_upper, touches_lower};
 ghost use Rattle.deck_definitions.specs.Tests.{is_bound_already};
+ghost use Rattle.deck_parts.specs.Told.{Tells};
 ghost use Rattle.deck_parts.specs.Shown.{marked, column_number};
 
 use crate::card_stop::CardStop;
 use crate::groups::Groups;
+use deck_definitions::DeckFaultKind;
 use deck_fields::Decimal;
 use indexmap::IndexSet;
 use name_table::Name;
@@ -17,11 +20,12 @@ use problem_file::{BoundItem, NoMemory};
 use std::alloc::Global;
 use std::marker::Model;
 
-/// A bound on the column of this name.
+/// A bound on the column of this name, with the place that the column had among the columns, from 0, when its name was looked up.
 #[derive(Drop)]
 pub struct NamedBound {
     pub kind: BoundKind,
     pub column: Name,
+    pub place: usize,
     pub value: Option<Decimal>,
 }
 
@@ -97,32 +101,52 @@ fn either(first: bool, second: bool) -> bool
     first || second
 }
 
-// Marks a column whose end is touched.
-fn mark(columns: &mut IndexSet<Name>, column: Name, touches: bool) -> Result<(), CardStop>
+// Marks a column whose end is touched, and tells whether it was marked already.
+fn mark(columns: &mut IndexSet<Name>, column: Name, touches: bool) -> Result<bool, CardStop>
+    ensures was_marked { IfOk result (λ was_marked. was_marked ≡ (touches && list_any (same column) columns.old.keys)) }
     ensures marked { OnOk result (columns.new.keys ≡ marked touches column columns.old.keys) }
     ensures stop { IfErr result (λ stop. stop ≡ CardStop.NoMemory) }
 {
     if !touches {
-        return Ok(());
+        return Ok(false);
     }
-    columns.insert(column)?;
-    Ok(())
+    let is_new = columns.insert(column)?;
+    Ok(!is_new)
 }
 
-// Adds a bound to the parts.
+// Marks the ends of a column that a bound of this type touches, and tells whether one of them was marked already.
+fn mark_ends(
+    uppers: &mut IndexSet<Name>,
+    lowers: &mut IndexSet<Name>,
+    kind: BoundKind,
+    column: Name,
+) -> Result<bool, CardStop>
+    ensures was_marked { IfOk result (λ was_marked. was_marked ≡ (touches_upper kind && list_any (same column) uppers.old.keys || touches_lower kind && list_any (same column) lowers.old.keys)) }
+    ensures uppers { OnOk result (uppers.new.keys ≡ marked (touches_upper kind) column uppers.old.keys) }
+    ensures lowers { OnOk result (lowers.new.keys ≡ marked (touches_lower kind) column lowers.old.keys) }
+    ensures stop { IfErr result (λ stop. stop ≡ CardStop.NoMemory) }
+{
+    let upper = mark(uppers, column, touches_top(kind))?;
+    let lower = mark(lowers, column, touches_bottom(kind))?;
+    Ok(either(upper, lower))
+}
+
+// Adds a bound to the parts, or refuses one that touches an end that is touched.
 fn add_to(
     items: &mut Vec<NamedBound>,
     uppers: &mut IndexSet<Name>,
     lowers: &mut IndexSet<Name>,
     bound: NamedBound,
 ) -> Result<(), CardStop>
+    ensures is_new { OnOk result ((touches_upper bound.kind && list_any (same bound.column) uppers.old.keys || touches_lower bound.kind && list_any (same bound.column) lowers.old.keys) ≡ false) }
     ensures items { OnOk result (items.new.items ≡ items.old.items ++ bound ∷ []) }
     ensures uppers { OnOk result (uppers.new.keys ≡ marked (touches_upper bound.kind) bound.column uppers.old.keys) }
     ensures lowers { OnOk result (lowers.new.keys ≡ marked (touches_lower bound.kind) bound.column lowers.old.keys) }
-    ensures stop { IfErr result (λ stop. stop ≡ CardStop.NoMemory) }
+    ensures stop { IfErr result (Tells ((touches_upper bound.kind && list_any (same bound.column) uppers.old.keys || touches_lower bound.kind && list_any (same bound.column) lowers.old.keys) ⟹ DeckFaultKind.BoundTwice)) }
 {
-    mark(uppers, bound.column, touches_top(bound.kind))?;
-    mark(lowers, bound.column, touches_bottom(bound.kind))?;
+    if mark_ends(uppers, lowers, bound.kind, bound.column)? {
+        return Err(CardStop::Refused(DeckFaultKind::BoundTwice));
+    }
     items.push(bound)?;
     Ok(())
 }
@@ -140,7 +164,7 @@ fn numbered_bounds(
     for bound in bounds {
         let item = BoundItem {
             kind: bound.kind,
-            column: columns.number_of(&bound.column),
+            column: columns.number_at(bound.place, &bound.column),
             value: bound.value,
         };
         items.push(item).map_err(|_| NoMemory)?;
@@ -177,10 +201,11 @@ impl Bounds {
         numbered_bounds(alloc, columns, &self.items)
     }
 
-    /// Adds a bound at the end. An `Err` leaves no bounds.
+    /// Adds a bound at the end, or refuses one that touches an end that is touched. An `Err` leaves no bounds.
     pub fn add(&mut self, bound: NamedBound) -> Result<(), CardStop>
+        ensures is_new { OnOk result (is_bound_already self.old bound.column bound.kind ≡ false) }
         ensures added { OnOk result (self.new ≡ self.old ++ bound ∷ []) }
-        ensures stop { IfErr result (λ stop. stop ≡ CardStop.NoMemory) }
+        ensures stop { IfErr result (Tells (is_bound_already self.old bound.column bound.kind ⟹ DeckFaultKind.BoundTwice)) }
     {
         match add_to(&mut self.items, &mut self.uppers, &mut self.lowers, bound) {
             Ok(()) => Ok(()),

@@ -1,5 +1,6 @@
 // Why a card was not taken.
-ghost use Rattle.std.specs.Prelude.{◌≡◌};
+ghost use Rattle.std.specs.Prelude.{◌≡◌, ◌∷◌, [], Some};
+ghost use Rattle.card_definitions.specs.Words.{◌⟹◌, first_fault};
 
 use deck_definitions::DeckFaultKind;
 use std::alloc::{AllocError, AllocFailed};
@@ -32,4 +33,24 @@ impl<T: Drop> From<AllocFailed<T>> for CardStop {
     fn from(_: AllocFailed<T>) -> Self {
         CardStop::NoMemory
     }
+}
+
+impl From<DeckFaultKind> for CardStop {
+    ghost use Rattle.deck_parts.specs.declared.card_stop.CardStop.TheVariants.{Refused};
+
+    ghost from_gives = { λ kind stop. stop ≡ Refused kind };
+
+    fn from(kind: DeckFaultKind) -> Self {
+        CardStop::Refused(kind)
+    }
+}
+
+// The fault of a card that has this fault where an earlier test doesn't hold.
+pub fn fault_behind(is_earlier: bool, earlier: DeckFaultKind, fault: DeckFaultKind) -> DeckFaultKind
+    ensures { Some result ≡ first_fault ((is_earlier ⟹ earlier) ∷ Some fault ∷ []) }
+{
+    if is_earlier {
+        return earlier;
+    }
+    fault
 }

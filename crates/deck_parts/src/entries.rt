@@ -1,12 +1,16 @@
 // The entries of a column, or the items of a set, in the making.
-ghost use Rattle.std.specs.Prelude.{◌≡◌, ◌≤◌, ◌++◌, ◌∷◌, [], map, length, IsFalse, IfOk, OnOk, IfErr};
+ghost use Rattle.std.specs.Prelude.{◌≡◌, ◌≤◌, ◌++◌, ◌∷◌, [], map, length, false, IfOk, OnOk, IfErr};
+ghost use Rattle.card_definitions.specs.Words.{◌⟹◌};
 ghost use Rattle.problem_definitions.specs.Numbering.{entry_by};
 ghost use Rattle.problem_definitions.specs.Problem.{has_entry};
+ghost use Rattle.deck_parts.specs.Told.{Tells};
 ghost use Rattle.deck_parts.specs.Shown.{entry_at, row_number};
 
+use crate::additions::add_new;
 use crate::card_stop::CardStop;
+use crate::on_row::OnRow;
 use crate::rows::Rows;
-use deck_fields::Decimal;
+use deck_definitions::DeckFaultKind;
 use indexmap::IndexMap;
 use name_table::Name;
 use problem_definitions::MAX_ROWS;
@@ -17,7 +21,7 @@ use std::marker::Model;
 /// Numbers on rows, in deck order.
 #[derive(Drop)]
 pub struct Entries {
-    values: IndexMap<Name, Decimal>,
+    values: IndexMap<Name, OnRow>,
 }
 
 impl Model for Entries {
@@ -56,13 +60,16 @@ impl Entries {
         numbered_entries(alloc, rows, &self.values)
     }
 
-    /// Adds a number on a row that has none.
-    pub fn add(&mut self, row: Name, value: Decimal) -> Result<(), CardStop>
-        requires { IsFalse (has_entry self.old row) }
-        ensures added { OnOk result (self.new ≡ self.old ++ record { row = row; value = value } ∷ []) }
-        ensures stop { IfErr result (λ stop. stop ≡ CardStop.NoMemory) }
+    /// Adds a number on a row, or refuses a row that has one.
+    pub fn add(&mut self, row: Name, number: OnRow) -> Result<(), CardStop>
+        ensures is_new { OnOk result (has_entry self.old row ≡ false) }
+        ensures added { OnOk result (self.new ≡ self.old ++ record { row = row; value = number.value } ∷ []) }
+        ensures stop { IfErr result (Tells (has_entry self.old row ⟹ DeckFaultKind.DuplicateEntry)) }
     {
-        self.values.insert(row, value)?;
+        let is_new = add_new(&mut self.values, row, number)?;
+        if !is_new {
+            return Err(CardStop::Refused(DeckFaultKind::DuplicateEntry));
+        }
         Ok(())
     }
 }
@@ -71,16 +78,16 @@ impl Entries {
 fn numbered_entries(
     alloc: Global,
     rows: &Rows,
-    values: &IndexMap<Name, Decimal>,
+    values: &IndexMap<Name, OnRow>,
 ) -> Result<Vec<DeckEntry>, NoMemory>
     requires { length rows.now ≤ MAX_ROWS }
     ensures { IfOk result (λ entries. entries.items ≡ map (entry_by (row_number rows.now)) (map entry_at values.now.entries)) }
 {
     let mut entries = Vec::new(alloc);
-    for (row, value) in values {
+    for (row, number) in values {
         let entry = DeckEntry {
-            row: rows.number_of(row),
-            value: *value,
+            row: rows.number_at(number.place, row),
+            value: number.value,
         };
         entries.push(entry).map_err(|_| NoMemory)?;
     }

@@ -1,24 +1,25 @@
 // Columns and sets in the making.
-ghost use Rattle.std.specs.Prelude.{◌≡◌, ◌≤◌, ◌++◌, ◌∷◌, [], None, map, length, is_some, IsTrue, IfOk, OnOk, IfErr};
+ghost use Rattle.std.specs.Prelude.{◌≡◌, ◌≤◌, ◌+◌, ◌++◌, ◌&&◌, ◌∷◌, [], None, map, length, nat_lt, nat_le, nat_eq, is_some, IfOk, OnOk, IfErr};
 ghost use Rattle.std.specs.List.{IsDistinct};
-ghost use Rattle.std.specs.Map.{lookup};
+ghost use Rattle.card_definitions.specs.Words.{◌⟹◌, first_fault};
 ghost use Rattle.problem_definitions.specs.Names.{same};
 ghost use Rattle.problem_definitions.specs.Numbering.{entry_by, group_by};
 ghost use Rattle.problem_definitions.specs.Problem.{has_group, group_names};
-ghost use Rattle.problem_definitions.specs.Groups.{items_of, in_group, in_set};
+ghost use Rattle.problem_definitions.specs.Groups.{items_of, in_set};
 ghost use Rattle.deck_definitions.specs.DataCards.{entries_of, pairs_of};
-ghost use Rattle.deck_definitions.specs.Tests.{pairs_fault, all_but_last};
+ghost use Rattle.deck_definitions.specs.declared.Section.TheVariants.{Columns};
+ghost use Rattle.deck_definitions.specs.Tests.{pairs_fault};
 ghost use Rattle.deck_parts.specs.Told.{Tells};
-ghost use Rattle.deck_parts.specs.Shown.{rows_alone, group_at, opened, row_number, column_number};
+ghost use Rattle.deck_parts.specs.Shown.{rows_alone, group_at, column_fault, row_number, column_number};
 ghost use Rattle.deck_parts.specs.Fields_shown.{shown};
 
 use crate::card_stop::CardStop;
 use crate::data_card::DataCard;
 use crate::entries::Entries;
-use crate::numbers::number_among;
+use crate::numbers::number_from;
 use crate::pairs::take_pairs;
 use crate::rows::Rows;
-use deck_definitions::Section;
+use deck_definitions::{DeckFaultKind, Section};
 use indexmap::IndexMap;
 use name_table::Name;
 use problem_definitions::{MAX_COLUMNS, MAX_ROWS};
@@ -26,36 +27,59 @@ use problem_file::{ColumnDecl, NoMemory, ValueSet};
 use std::alloc::Global;
 use std::marker::Model;
 
-// Makes a place for a name, at the end where it has none.
-pub fn open<I: Drop>(groups: &mut IndexMap<Name, I>, name: Name, empty: I) -> Result<(), CardStop>
-    ensures opened { OnOk result (groups.new.entries ≡ opened name empty groups.old.entries) }
-    ensures stop { IfErr result (λ stop. stop ≡ CardStop.NoMemory) }
+// The fault of a card's column, where its name has this place among so many columns, or this many where it isn't among them.
+fn place_fault(place: usize, count: usize) -> Option<DeckFaultKind>
+    requires { place ≤ count }
+    ensures { result ≡ first_fault ((nat_lt (place + 1) count ⟹ DeckFaultKind.ColumnSplit) ∷ (nat_eq place count && nat_le MAX_COLUMNS count ⟹ DeckFaultKind.TooManyColumns) ∷ []) }
 {
-    if groups.contains_key(&name) {
-        return Ok(());
+    if 1 < count - place {
+        Some(DeckFaultKind::ColumnSplit)
+    } else if place == count && MAX_COLUMNS <= count {
+        Some(DeckFaultKind::TooManyColumns)
+    } else {
+        None
     }
-    groups.insert(name, empty)?;
-    Ok(())
 }
 
-// Takes the pairs of a card into a group that is there.
+// Takes the pairs of a card into the group in its field 2, which is added last if it isn't there.
 fn take_into(
+    alloc: Global,
     rows: &Rows,
     section: Section,
     groups: &mut IndexMap<Name, Entries>,
     count: u32,
     card: &DataCard<'_>,
 ) -> Result<(), CardStop>
-    requires few { count ≤ 100000 }
-    requires is_there { IsTrue (is_some (lookup (same card.now.name1) groups.old.entries)) }
+    requires { count ≤ 100000 }
     ensures no_fault { OnOk result (pairs_fault (rows_alone rows.now) section (items_of card.now.name1 (map group_at groups.old.entries)) count (pairs_of (shown card.now)) ≡ None) }
-    ensures step { OnOk result (map group_at groups.new.entries ≡ in_group card.now.name1 (λ items. items ++ entries_of (shown card.now)) (map group_at groups.old.entries)) }
+    ensures step { OnOk result (map group_at groups.new.entries ≡ in_set card.now.name1 (λ items. items ++ entries_of (shown card.now)) (map group_at groups.old.entries)) }
     ensures stop { IfErr result (Tells (pairs_fault (rows_alone rows.now) section (items_of card.now.name1 (map group_at groups.old.entries)) count (pairs_of (shown card.now)))) }
 {
-    let Some(items) = groups.get_mut(&card.name1) else {
-        return Ok(());
-    };
+    let items = groups.entry(card.name1)?.or_insert(Entries::new(alloc));
     take_pairs(rows, section, items, count, card)
+}
+
+// Takes the pairs of a card into its column, which is the last or is added last.
+fn take_column_into(
+    alloc: Global,
+    rows: &Rows,
+    columns: &mut IndexMap<Name, Entries>,
+    count: u32,
+    card: &DataCard<'_>,
+) -> Result<(), CardStop>
+    requires { count ≤ 100000 }
+    ensures no_fault { OnOk result (column_fault (map group_at columns.old.entries) card.now.name1 (pairs_fault (rows_alone rows.now) Columns (items_of card.now.name1 (map group_at columns.old.entries)) count (pairs_of (shown card.now))) ≡ None) }
+    ensures step { OnOk result (map group_at columns.new.entries ≡ in_set card.now.name1 (λ items. items ++ entries_of (shown card.now)) (map group_at columns.old.entries)) }
+    ensures stop { IfErr result (Tells (column_fault (map group_at columns.old.entries) card.now.name1 (pairs_fault (rows_alone rows.now) Columns (items_of card.now.name1 (map group_at columns.old.entries)) count (pairs_of (shown card.now))))) }
+{
+    let before = columns.len();
+    let entry = columns.entry(card.name1)?;
+    let place = entry.index();
+    if let Some(kind) = place_fault(place, before) {
+        return Err(CardStop::Refused(kind));
+    }
+    let items = entry.or_insert(Entries::new(alloc));
+    take_pairs(rows, Section::Columns, items, count, card)
 }
 
 // Columns with the numbers of their rows.
@@ -133,29 +157,20 @@ impl Groups {
         self.groups.len()
     }
 
-    /// Whether a group of this name is there.
-    pub fn has(&self, name: &Name) -> bool
-        ensures { result ≡ has_group self.now name.now }
+    /// The place of the group of this name, from 0.
+    pub fn place_of(&self, name: &Name) -> Option<usize>
+        ensures { is_some result ≡ has_group self.now name.now }
     {
-        self.groups.contains_key(name)
+        self.groups.get_index_of(name)
     }
 
-    /// Whether a group of this name is there that isn't the last.
-    pub fn has_before_last(&self, name: &Name) -> bool
-        ensures { result ≡ has_group (all_but_last self.now) name.now }
-    {
-        match self.groups.get_index_of(name) {
-            Some(place) => place < self.groups.len() - 1,
-            None => false,
-        }
-    }
-
-    /// The number of the group of this name, from 1, or 0 where it isn't there.
-    pub fn number_of(&self, name: &Name) -> u32
+    /// The number of the group of this name, from 1, or 0 where it isn't there. It is looked up only where it doesn't stand at this
+    /// place, from 0.
+    pub fn number_at(&self, place: usize, name: &Name) -> u32
         requires { length self.now ≤ MAX_COLUMNS }
         ensures { result ≡ column_number self.now name.now }
     {
-        number_among(&self.groups, name)
+        number_from(&self.groups, place, name)
     }
 
     /// The groups as columns with the numbers of their rows.
@@ -188,7 +203,22 @@ impl Groups {
         ensures step { OnOk result (self.new ≡ in_set card.now.name1 (λ items. items ++ entries_of (shown card.now)) self.old) }
         ensures stop { IfErr result (Tells (pairs_fault (rows_alone rows.now) section (items_of card.now.name1 self.old) count (pairs_of (shown card.now)))) }
     {
-        open(&mut self.groups, card.name1, Entries::new(alloc))?;
-        take_into(rows, section, &mut self.groups, count, card)
+        take_into(alloc, rows, section, &mut self.groups, count, card)
+    }
+
+    /// Takes the pairs of a card of COLUMNS into the column in its field 2, which is the last or is added last.
+    pub fn take_column(
+        &mut self,
+        alloc: Global,
+        rows: &Rows,
+        count: u32,
+        card: &DataCard<'_>,
+    ) -> Result<(), CardStop>
+        requires { count ≤ 100000 }
+        ensures no_fault { OnOk result (column_fault self.old card.now.name1 (pairs_fault (rows_alone rows.now) Columns (items_of card.now.name1 self.old) count (pairs_of (shown card.now))) ≡ None) }
+        ensures step { OnOk result (self.new ≡ in_set card.now.name1 (λ items. items ++ entries_of (shown card.now)) self.old) }
+        ensures stop { IfErr result (Tells (column_fault self.old card.now.name1 (pairs_fault (rows_alone rows.now) Columns (items_of card.now.name1 self.old) count (pairs_of (shown card.now))))) }
+    {
+        take_column_into(alloc, rows, &mut self.groups, count, card)
     }
 }

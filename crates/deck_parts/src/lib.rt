@@ -2,6 +2,7 @@
 //! data card adds to them, or its fault.
 #![tactic(auto)]
 
+mod additions;
 mod bound_sets;
 mod bounds;
 mod card_reading;
@@ -10,6 +11,7 @@ mod data_card;
 mod entries;
 mod groups;
 mod numbers;
+mod on_row;
 mod pairs;
 mod rows;
 mod sections;
@@ -25,4 +27,4 @@ pub use deck_definitions::{DeckFaultKind, Section};
 pub use groups::Groups;
 pub use rows::Rows;
 pub use sections::{order_fault, take_column_card, take_row_card, take_set_card};
-pub use words::{is_blank, section_named};
+pub use words::{first_word, is_blank, section_named};

@@ -5,14 +5,15 @@ ghost use Rattle.card_definitions.specs.declared.NumberFault.TheVariants.{BadCha
 ghost use Rattle.deck_definitions.specs.DataCards.{entry_of, entries_of, pairs_of};
 ghost use Rattle.deck_definitions.specs.Tests.{number_fault_from, value_fault, pair_row_fault, pair_fault, pairs_fault};
 ghost use Rattle.deck_parts.specs.Told.{Tells};
-ghost use Rattle.deck_parts.specs.Shown.{rows_alone};
+ghost use Rattle.deck_parts.specs.Shown.{rows_alone, pair_value_fault};
 ghost use Rattle.deck_parts.specs.Fields_shown.{shown, pair_shown};
 
 use crate::card_reading::{first_pair, second_pair};
-use crate::card_stop::CardStop;
+use crate::card_stop::{CardStop, fault_behind};
 use crate::data_card::{DataCard, PairText};
 use crate::entries::Entries;
-use crate::rows::Rows;
+use crate::on_row::OnRow;
+use crate::rows::{FoundRow, Rows, is_free};
 use crate::words::{is_blank, is_columns, is_ranges};
 use card_definitions::NumberFault;
 use deck_definitions::{DeckFaultKind, Section};
@@ -20,19 +21,21 @@ use deck_fields::{Decimal, number};
 use name_table::Name;
 use problem_definitions::MAX_ENTRIES;
 
-// The fault of the row in a pair.
-fn row_fault(rows: &Rows, section: Section, row: &Name) -> Option<DeckFaultKind>
-    ensures { result ≡ pair_row_fault (rows_alone rows.now) section row.now }
+// The row in a pair, or its fault.
+fn row_of(rows: &Rows, section: Section, row: &Name) -> Result<FoundRow, DeckFaultKind>
+    ensures no_fault { OnOk result (pair_row_fault (rows_alone rows.now) section row.now ≡ None) }
+    ensures fault { IfErr result (λ kind. pair_row_fault (rows_alone rows.now) section row.now ≡ Some kind) }
 {
     if is_blank(row.bytes()) {
-        Some(DeckFaultKind::EmptyName)
-    } else if !rows.has(row) {
-        Some(DeckFaultKind::UnknownRow)
-    } else if is_ranges(section) && rows.has_free(row) {
-        Some(DeckFaultKind::RangeOnFree)
-    } else {
-        None
+        return Err(DeckFaultKind::EmptyName);
     }
+    let Some(found) = rows.find(row) else {
+        return Err(DeckFaultKind::UnknownRow);
+    };
+    if is_ranges(section) && is_free(found.kind) {
+        return Err(DeckFaultKind::RangeOnFree);
+    }
+    Ok(found)
 }
 
 // The fault of a number in a field that begins in this column.
@@ -53,18 +56,31 @@ fn fault_from(column: u8, fault: NumberFault) -> DeckFaultKind
 }
 
 // The number in a field that begins in this column.
-pub fn number_in(column: u8, field: &[u8]) -> Result<Decimal, CardStop>
+pub fn number_in(column: u8, field: &[u8]) -> Result<Decimal, DeckFaultKind>
     requires short { length field.now ≤ 12 }
     requires from_one { 1 ≤ column }
     requires in_card { column ≤ 80 }
     ensures value { IfOk result (λ v. v ≡ decimal_of field.now) }
     ensures no_fault { OnOk result (value_fault column field.now ≡ None) }
-    ensures stop { IfErr result (Tells (value_fault column field.now)) }
+    ensures fault { IfErr result (λ kind. value_fault column field.now ≡ Some kind) }
 {
     match number(field) {
         Ok(value) => Ok(value),
-        Err(fault) => Err(CardStop::Refused(fault_from(column, fault))),
+        Err(fault) => Err(fault_from(column, fault)),
     }
+}
+
+// The number of a pair, where there is room for one more, or the fault.
+fn value_of(section: Section, count: u32, pair: &PairText<'_>) -> Result<Decimal, DeckFaultKind>
+    ensures value { IfOk result (λ v. v ≡ decimal_of pair.now.value.now) }
+    ensures no_fault { OnOk result (pair_value_fault section count (pair_shown pair.now) ≡ None) }
+    ensures fault { IfErr result (λ kind. pair_value_fault section count (pair_shown pair.now) ≡ Some kind) }
+{
+    let value = number_in(pair.column, pair.value)?;
+    if is_columns(section) && MAX_ENTRIES <= count as usize {
+        return Err(DeckFaultKind::TooManyEntries);
+    }
+    Ok(value)
 }
 
 // Takes a pair.
@@ -79,17 +95,18 @@ pub fn take_pair(
     ensures step { OnOk result (items.new ≡ items.old ++ entry_of (pair_shown pair.now) ∷ []) }
     ensures stop { IfErr result (Tells (pair_fault (rows_alone rows.now) section items.old count (pair_shown pair.now))) }
 {
-    if let Some(kind) = row_fault(rows, section, &pair.row) {
-        return Err(CardStop::Refused(kind));
+    let found = row_of(rows, section, &pair.row)?;
+    match value_of(section, count, pair) {
+        Ok(value) => {
+            let place = found.place;
+            items.add(pair.row, OnRow { place, value })
+        }
+        Err(kind) => {
+            let is_taken = items.has(&pair.row);
+            let fault = fault_behind(is_taken, DeckFaultKind::DuplicateEntry, kind);
+            Err(CardStop::Refused(fault))
+        }
     }
-    if items.has(&pair.row) {
-        return Err(CardStop::Refused(DeckFaultKind::DuplicateEntry));
-    }
-    let value = number_in(pair.column, pair.value)?;
-    if is_columns(section) && MAX_ENTRIES <= count as usize {
-        return Err(CardStop::Refused(DeckFaultKind::TooManyEntries));
-    }
-    items.add(pair.row, value)
 }
 
 // Takes the pairs of a card.

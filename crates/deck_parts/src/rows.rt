@@ -1,17 +1,28 @@
 // The rows of a problem in the making.
-ghost use Rattle.std.specs.Prelude.{◌≡◌, ◌≤◌, ◌++◌, ◌∷◌, [], map, length, IsFalse, IfOk, OnOk, IfErr};
+ghost use Rattle.std.specs.Prelude.{◌≡◌, ◌≤◌, ◌++◌, ◌∷◌, [], map, length, false, is_some, IfOk, OnOk, IfErr, IfSome};
+ghost use Rattle.card_definitions.specs.Words.{◌⟹◌};
 ghost use Rattle.problem_definitions.specs.Kinds.{is_free_kind};
 ghost use Rattle.problem_definitions.specs.Problem.{has_row, has_free_row};
+ghost use Rattle.deck_parts.specs.Told.{Tells};
 ghost use Rattle.deck_parts.specs.Shown.{row_at, row_number};
 
+use crate::additions::add_new;
 use crate::card_stop::CardStop;
-use crate::numbers::number_among;
+use crate::numbers::number_from;
+use deck_definitions::DeckFaultKind;
 use indexmap::IndexMap;
 use name_table::Name;
 use problem_definitions::{MAX_ROWS, RowKind};
 use problem_file::{NoMemory, RowDecl};
 use std::alloc::Global;
 use std::marker::Model;
+
+/// A row that is there: its place among the rows, from 0, and its type.
+#[derive(Clone, Copy)]
+pub struct FoundRow {
+    pub place: usize,
+    pub kind: RowKind,
+}
 
 /// Rows in deck order.
 #[derive(Drop)]
@@ -58,22 +69,24 @@ impl Rows {
         self.kinds.contains_key(name)
     }
 
-    /// Whether a free row of this name is there.
-    pub fn has_free(&self, name: &Name) -> bool
-        ensures { result ≡ has_free_row self.now name.now }
+    /// The row of this name.
+    pub fn find(&self, name: &Name) -> Option<FoundRow>
+        ensures found { is_some result ≡ has_row self.now name.now }
+        ensures free { IfSome result (λ row. has_free_row self.now name.now ≡ is_free_kind row.kind) }
     {
-        match self.kinds.get(name) {
-            Some(kind) => is_free(*kind),
-            None => false,
+        match self.kinds.get_full(name) {
+            Some((place, _, kind)) => Some(FoundRow { place, kind: *kind }),
+            None => None,
         }
     }
 
-    /// The number of the row of this name, from 1, or 0 where it isn't there.
-    pub fn number_of(&self, name: &Name) -> u32
+    /// The number of the row of this name, from 1, or 0 where it isn't there. It is looked up only where it doesn't stand at this
+    /// place, from 0.
+    pub fn number_at(&self, place: usize, name: &Name) -> u32
         requires { length self.now ≤ MAX_ROWS }
         ensures { result ≡ row_number self.now name.now }
     {
-        number_among(&self.kinds, name)
+        number_from(&self.kinds, place, name)
     }
 
     /// The rows as a problem has them.
@@ -83,13 +96,16 @@ impl Rows {
         row_decls(alloc, &self.kinds)
     }
 
-    /// Adds a new row at the end.
+    /// Adds a row at the end, or refuses a name that a row has.
     pub fn add(&mut self, kind: RowKind, name: Name) -> Result<(), CardStop>
-        requires { IsFalse (has_row self.old name) }
+        ensures is_new { OnOk result (has_row self.old name ≡ false) }
         ensures added { OnOk result (self.new ≡ self.old ++ record { kind = kind; name = name } ∷ []) }
-        ensures stop { IfErr result (λ stop. stop ≡ CardStop.NoMemory) }
+        ensures stop { IfErr result (Tells (has_row self.old name ⟹ DeckFaultKind.DuplicateRow)) }
     {
-        self.kinds.insert(name, kind)?;
+        let is_new = add_new(&mut self.kinds, name, kind)?;
+        if !is_new {
+            return Err(CardStop::Refused(DeckFaultKind::DuplicateRow));
+        }
         Ok(())
     }
 }
@@ -109,8 +125,8 @@ fn row_decls(alloc: Global, kinds: &IndexMap<Name, RowKind>) -> Result<Vec<RowDe
     Ok(decls)
 }
 
-// Whether a row of this type has no limits.
-fn is_free(kind: RowKind) -> bool
+/// Whether a row of this type has no limits.
+pub fn is_free(kind: RowKind) -> bool
     ensures { result ≡ is_free_kind kind }
 {
     match kind {

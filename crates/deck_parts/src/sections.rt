@@ -1,39 +1,49 @@
 // The cards of the sections: a section card, and the data cards of ROWS, COLUMNS, RHS and RANGES.
-ghost use Rattle.std.specs.Prelude.{◌≡◌, ◌≤◌, ◌++◌, None, OnOk, IfErr, not, ◌||◌};
-ghost use Rattle.card_definitions.specs.Words.{is_empty, ◌⟹◌};
+ghost use Rattle.std.specs.Prelude.{◌≡◌, ◌≤◌, ◌++◌, ◌∷◌, [], None, Some, IfOk, OnOk, IfErr, not, nat_le, ◌||◌};
+ghost use Rattle.card_definitions.specs.Words.{is_empty, named, ◌⟹◌, first_fault};
 ghost use Rattle.std.specs.Option.{option_to_list};
 ghost use Rattle.problem_definitions.specs.Names.{same, marker};
 ghost use Rattle.problem_definitions.specs.Problem.{entry_count};
 ghost use Rattle.problem_definitions.specs.Groups.{in_set};
-ghost use Rattle.deck_definitions.specs.DataCards.{entries_of, row_of};
+ghost use Rattle.deck_definitions.specs.DataCards.{entries_of, row_of, row_kinds};
 ghost use Rattle.deck_definitions.specs.Sections.{may_follow, rank, furthest_next};
-ghost use Rattle.deck_definitions.specs.Tests.{rows_fault, columns_fault, set_fault};
+ghost use Rattle.deck_definitions.specs.Tests.{filled_from_3, rows_fault, columns_fault, set_fault};
 ghost use Rattle.deck_parts.specs.Told.{Tells};
-ghost use Rattle.deck_parts.specs.Shown.{rows_alone, columns_alone};
+ghost use Rattle.deck_parts.specs.Shown.{rows_alone, columns_alone, row_kind_fault};
 ghost use Rattle.deck_parts.specs.Fields_shown.{shown};
 
-use crate::card_stop::CardStop;
+use crate::card_stop::{CardStop, fault_behind};
 use crate::data_card::DataCard;
 use crate::groups::Groups;
 use crate::rows::Rows;
 use crate::words::{is_blank, is_combination, is_word, row_kind};
 use deck_definitions::{DeckFaultKind, Section};
-use problem_definitions::{MAX_COLUMNS, MAX_ROWS};
+use problem_definitions::{MAX_ROWS, RowKind};
 use std::alloc::Global;
 
-// The fault of a card of ROWS.
-fn row_card_fault(rows: &Rows, card: &DataCard<'_>) -> Option<DeckFaultKind>
-    ensures { result ≡ rows_fault (rows_alone rows.now) (shown card.now) }
+// The type of the row on a card of ROWS that has a name, or the fault.
+fn row_kind_of(card: &DataCard<'_>) -> Result<RowKind, DeckFaultKind>
+    ensures kind { IfOk result (λ kind. named row_kinds card.now.kind.now ≡ Some kind) }
+    ensures no_fault { OnOk result (row_kind_fault (shown card.now) ≡ None) }
+    ensures fault { IfErr result (λ kind. row_kind_fault (shown card.now) ≡ Some kind) }
 {
     if is_combination(card.kind) {
-        Some(DeckFaultKind::CombinationRow)
-    } else if row_kind(card.kind).is_none() {
-        Some(DeckFaultKind::BadRowType)
-    } else if is_blank(card.name1.bytes()) {
-        Some(DeckFaultKind::EmptyName)
-    } else if rows.has(&card.name1) {
-        Some(DeckFaultKind::DuplicateRow)
-    } else if MAX_ROWS <= rows.len() {
+        return Err(DeckFaultKind::CombinationRow);
+    }
+    let Some(kind) = row_kind(card.kind) else {
+        return Err(DeckFaultKind::BadRowType);
+    };
+    if is_blank(card.name1.bytes()) {
+        return Err(DeckFaultKind::EmptyName);
+    }
+    Ok(kind)
+}
+
+// The fault of a card of ROWS with a new name, behind so many rows.
+fn new_row_fault(count: usize, card: &DataCard<'_>) -> Option<DeckFaultKind>
+    ensures { result ≡ first_fault ((nat_le MAX_ROWS count ⟹ DeckFaultKind.TooManyRows) ∷ filled_from_3 (shown card.now) ∷ []) }
+{
+    if MAX_ROWS <= count {
         Some(DeckFaultKind::TooManyRows)
     } else if has_more(card) {
         Some(DeckFaultKind::ExtraField)
@@ -58,12 +68,14 @@ pub fn take_row_card(rows: &mut Rows, card: &DataCard<'_>) -> Result<(), CardSto
     ensures step { OnOk result (rows.new ≡ rows.old ++ option_to_list (row_of (shown card.now))) }
     ensures stop { IfErr result (Tells (rows_fault (rows_alone rows.old) (shown card.now))) }
 {
-    if let Some(kind) = row_card_fault(rows, card) {
-        return Err(CardStop::Refused(kind));
-    }
-    match row_kind(card.kind) {
-        Some(kind) => rows.add(kind, card.name1),
-        None => Ok(()),
+    let kind = row_kind_of(card)?;
+    match new_row_fault(rows.len(), card) {
+        None => rows.add(kind, card.name1),
+        Some(fault) => {
+            let is_taken = rows.has(&card.name1);
+            let fault = fault_behind(is_taken, DeckFaultKind::DuplicateRow, fault);
+            Err(CardStop::Refused(fault))
+        }
     }
 }
 
@@ -97,13 +109,7 @@ pub fn take_column_card(
     if is_blank(card.name1.bytes()) {
         return Err(CardStop::Refused(DeckFaultKind::EmptyName));
     }
-    if columns.has_before_last(&card.name1) {
-        return Err(CardStop::Refused(DeckFaultKind::ColumnSplit));
-    }
-    if !columns.has(&card.name1) && MAX_COLUMNS <= columns.len() {
-        return Err(CardStop::Refused(DeckFaultKind::TooManyColumns));
-    }
-    columns.take(alloc, rows, Section::Columns, count, card)
+    columns.take_column(alloc, rows, count, card)
 }
 
 /// Takes a card of RHS or RANGES.

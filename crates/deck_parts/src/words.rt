@@ -1,9 +1,11 @@
 // Words on cards.
-ghost use Rattle.std.specs.Prelude.{◌≡◌, bytes_eq};
+ghost use Rattle.std.specs.Prelude.{◌≡◌, ◌≤◌, length, bytes_eq};
+ghost use Rattle.std.specs.List.{position_or_len};
+ghost use Rattle.card_definitions.specs.Cards.{is_blank as is_blank_byte};
 ghost use Rattle.card_definitions.specs.Words.{is_empty, named};
 ghost use Rattle.problem_definitions.specs.Names.{has_name};
 ghost use Rattle.deck_definitions.specs.DataCards.{row_kinds, bound_kinds};
-ghost use Rattle.deck_definitions.specs.Sections.{section_words, is_section};
+ghost use Rattle.deck_definitions.specs.Sections.{section_word, section_words, is_section};
 ghost use Rattle.deck_definitions.specs.Tests.{combination_kinds};
 ghost use Rattle.deck_definitions.specs.declared.Section.TheVariants.{Columns, Ranges};
 
@@ -22,6 +24,23 @@ pub fn is_blank(text: &[u8]) -> bool
     ensures { result ≡ is_empty text.now }
 {
     text.first().is_none()
+}
+
+// Where the first blank stands, or the card's length.
+fn first_blank(card: &[u8]) -> usize
+    ensures place { result ≡ position_or_len is_blank_byte card.now }
+    ensures bound { result ≤ length card.now }
+{
+    card.iter()
+        .take_while(|byte| !matches!(**byte, b' '))
+        .count()
+}
+
+/// The word of a section card: it goes from column 1 to the first blank.
+pub fn first_word(card: &[u8]) -> &[u8]
+    ensures { result.now ≡ section_word card.now }
+{
+    &card[..first_blank(card)]
 }
 
 // The type of a row that a word names.

@@ -1,31 +1,14 @@
 // The cards with which a deck begins and ends.
-ghost use Rattle.std.specs.Prelude.{◌≡◌, ◌≤◌, ◌∷◌, ◌&&◌, ℕ, List, length, bytes_eq};
-ghost use Rattle.std.specs.List.{position_or_len};
-ghost use Rattle.card_definitions.specs.Cards.{Card as Numbered, is_blank};
+ghost use Rattle.std.specs.Prelude.{◌≡◌, ◌∷◌, ◌&&◌, ℕ, List, bytes_eq};
+ghost use Rattle.card_definitions.specs.Cards.{Card as Numbered};
 ghost use Rattle.card_reader.specs.Card.{card_bytes};
 ghost use Rattle.deck_definitions.specs.Decks.{is_wanted};
 ghost use Rattle.deck_definitions.specs.Sections.{begins, header_name, section_word};
 ghost use Rattle.deck_definitions.specs.declared.Section.TheVariants.{Endata, Header};
 
 use card_reader::Card;
+use deck_parts::first_word;
 use name_table::Name;
-
-// Where the first blank stands, or the card's length.
-fn first_blank(card: &[u8]) -> usize
-    ensures place { result ≡ position_or_len is_blank card.now }
-    ensures bound { result ≤ length card.now }
-{
-    card.iter()
-        .take_while(|byte| !matches!(**byte, b' '))
-        .count()
-}
-
-// The word of a section card: it goes from column 1 to the first blank.
-fn first_word(card: &[u8]) -> &[u8]
-    ensures { result.now ≡ section_word card.now }
-{
-    &card[..first_blank(card)]
-}
 
 // Whether a card has this word.
 fn has_word(card: Card<'_>, word: &[u8]) -> bool

@@ -1,7 +1,5 @@
 // A problem in the making, card by card.
 ghost use Rattle.std.specs.Prelude.{◌≡◌, ◌≤◌, ◌++◌, None, Some, length, sum_by, IfOk, OnOk, IfErr};
-ghost use Rattle.std.specs.List.{position_or_len};
-ghost use Rattle.card_definitions.specs.Cards.{is_blank};
 ghost use Rattle.card_definitions.specs.Words.{named};
 ghost use Rattle.problem_definitions.specs.Groups.{in_set};
 ghost use Rattle.deck_definitions.specs.DataCards.{entries_of};
@@ -16,9 +14,9 @@ ghost use Rattle.deck_parts.specs.Fields_shown.{shown};
 use crate::reading::Draft;
 use card_reader::Card;
 use deck_parts::{
-    BoundSets, CardStop, DataCard, DeckFaultKind, Groups, Rows, Section, is_blank as is_empty_text,
-    order_fault, read_data_card, section_named, take_bound_card, take_column_card, take_row_card,
-    take_set_card,
+    BoundSets, CardStop, DataCard, DeckFaultKind, Groups, Rows, Section, first_word,
+    is_blank as is_empty_text, order_fault, read_data_card, section_named, take_bound_card,
+    take_column_card, take_row_card, take_set_card,
 };
 use name_table::Name;
 use problem_file::{NoMemory, Problem};
@@ -32,23 +30,6 @@ fn begins_section(card: &[u8]) -> bool
         Some(byte) => !(*byte == b' ' || *byte == b'*'),
         None => false,
     }
-}
-
-// Where the first blank stands, or the card's length.
-fn first_blank(card: &[u8]) -> usize
-    ensures place { result ≡ position_or_len is_blank card.now }
-    ensures bound { result ≤ length card.now }
-{
-    card.iter()
-        .take_while(|byte| !matches!(**byte, b' '))
-        .count()
-}
-
-// The word of a section card.
-fn section_word_of(card: &[u8]) -> &[u8]
-    ensures { result.now ≡ section_word card.now }
-{
-    &card[..first_blank(card)]
 }
 
 // Whether this is the section of the NAME card.
@@ -71,7 +52,7 @@ fn next_section(before: Option<Section>, card: &[u8]) -> Result<Section, CardSto
     ensures no_fault { OnOk result (section_card_fault may_follow before card.now ≡ None) }
     ensures stop { IfErr result (Tells (section_card_fault may_follow before card.now)) }
 {
-    let next = section_named(section_word_of(card));
+    let next = section_named(first_word(card));
     let Some(before) = before else {
         return match next {
             Some(Section::Header) => Ok(Section::Header),

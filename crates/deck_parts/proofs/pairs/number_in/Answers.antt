@@ -16,6 +16,6 @@ returns-in-Ok-clause-value c = (told_value c.args.field.now c.in-Ok.value (sym c
 pub returns-in-Ok-clause-no_fault : goal.returns-in-Ok-clause-no_fault
 returns-in-Ok-clause-no_fault c = ap (option_map (number_fault_from c.args.column)) (told_value c.args.field.now c.in-Ok.value (sym c.in-Ok.ensures)).0
 
-pub returns-in-Err-clause-stop : goal.returns-in-Err-clause-stop
-returns-in-Err-clause-stop c =
+pub returns-in-Err-clause-fault : goal.returns-in-Err-clause-fault
+returns-in-Err-clause-fault c =
     ap (option_map (number_fault_from c.args.column)) (told_fault c.args.field.now c.in-Err.fault (sym c.in-Err.ensures)) ∙ ap (λ kind. Some kind) (sym c.fault_from.ensures)

@@ -1,0 +1,36 @@
+use card_reader::read_job;
+use job_devices::SureSource;
+use mps_convert::{DeckFault, DeckFaultKind, DeckStop, convert};
+use std::alloc::Global;
+use std::test::Fail;
+
+pub const TESTPROB: &[u8] =
+    b"NAME          TESTPROB\nROWS\n N  COST\n L  LIM1\n G  LIM2\n E  MYEQN\nCOLUMNS\n    XONE      COST      1              LIM1      1\n    XONE      LIM2      1\n    YTWO      COST      4              LIM1      1\n    YTWO      MYEQN     -1\n    ZTHREE    COST      9              LIM2      1\n    ZTHREE    MYEQN     1\nRHS\n    RHS       LIM1      5              LIM2      10\n    RHS       MYEQN     7\nBOUNDS\n UP BND1      XONE      4\n LO BND1      YTWO      -1\n UP BND1      YTWO      1\nENDATA\n";
+
+// The fault with which the conversion of a job stops that is one deck.
+pub fn fault_of(alloc: Global, deck: &[u8]) -> Result<Option<(u32, DeckFaultKind)>, Fail> {
+    let mut source = SureSource::new(alloc, deck)?;
+    let cards = read_job(alloc, &mut source)?;
+    let last = cards.count();
+    if last == 0 {
+        return Ok(None);
+    }
+    match convert(alloc, &cards, 1, last, None) {
+        Ok(_) => Ok(None),
+        Err(DeckStop::Fault(DeckFault { card, kind })) => Ok(Some((card, kind))),
+        Err(DeckStop::NoMemory) => Err(Fail::from("memory")),
+    }
+}
+
+// The same of a deck with the rows COST and LIM and the column X on COST, whose cards from the seventh on are these.
+pub fn fault_behind_a_column(
+    alloc: Global,
+    cards: &[u8],
+) -> Result<Option<(u32, DeckFaultKind)>, Fail> {
+    let mut deck = Vec::from_slice(
+        alloc,
+        b"NAME          T\nROWS\n N  COST\n L  LIM\nCOLUMNS\n    X         COST      1\n",
+    )?;
+    deck.extend_from_slice(cards)?;
+    fault_of(alloc, &deck)
+}

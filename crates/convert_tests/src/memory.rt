@@ -1,0 +1,53 @@
+use crate::decks::TESTPROB;
+use card_reader::{ReadStop, read_job};
+use job_devices::SureSource;
+use mps_convert::{DeckStop, convert};
+use problem_file::Problem;
+use std::alloc::Global;
+use std::test::Fail;
+
+// The problem of TESTPROB, or none where memory is wanted on the way. Another stop fails.
+fn converted(alloc: Global) -> Result<Option<Problem>, Fail> {
+    let Ok(mut source) = SureSource::new(alloc, TESTPROB) else {
+        return Ok(None);
+    };
+    let cards = match read_job(alloc, &mut source) {
+        Ok(cards) => cards,
+        Err(ReadStop::NoMemory) => return Ok(None),
+        Err(_) => return Err(Fail::from("a fault of the job")),
+    };
+    let last = cards.count();
+    if last == 0 {
+        return Err(Fail::from("no card"));
+    }
+    match convert(alloc, &cards, 1, last, None) {
+        Ok(problem) => Ok(Some(problem)),
+        Err(DeckStop::NoMemory) => Ok(None),
+        Err(DeckStop::Fault(_)) => Err(Fail::from("a fault of the deck")),
+    }
+}
+
+// How many entries a problem has, and how many items its sets have.
+fn counts(problem: &Problem) -> (usize, usize, usize) {
+    let entries = problem
+        .columns()
+        .iter()
+        .map(|column| column.entries.len())
+        .sum();
+    let sides = problem.rhs().iter().map(|set| set.items.len()).sum();
+    let bounds = problem.bounds().iter().map(|set| set.items.len()).sum();
+    (entries, sides, bounds)
+}
+
+// With enough memory the whole problem, and otherwise want of memory: `scripts/try_memory.sh` has each allocation fail once.
+#[test]
+fn testprob_is_converted_or_memory_is_wanted(rt: HostRuntime) -> Result<(), Fail> {
+    let Some(problem) = converted(rt.alloc())? else {
+        println!(rt; "memory is wanted")?;
+        return Ok(());
+    };
+    println!(rt; "the whole problem")?;
+    assert_eq!(rt; (problem.row_count(), problem.column_count()), (4, 3));
+    assert_eq!(rt; counts(&problem), (9, 3, 3));
+    Ok(())
+}
