@@ -54,11 +54,11 @@ pub record HasReached (p : LinearProgram) (s : List Status) (before : List Basic
   pub bases : List (List Status)
   pub path : PathFrom p s now bases
   pub taken : length bases ≡ steps
-  pub lie : (earlier : List (List Status)) → LieIn p.matrix before earlier → LieIn p.matrix ways (earlier ++ s ∷ bases)
+  pub lie : (earlier : List (List Status)) → LieIn p.matrix before (earlier ++ s ∷ []) → LieIn p.matrix ways (earlier ++ s ∷ bases)
 
 module _ (p : LinearProgram) (s : List Status) (before : List Basics) where
   pub begins : HasReached p s before s before 0
-  begins = record { bases = []; path = (tt, refl); taken = refl; lie = λ earlier lie k d below. within_prefix p.matrix (get_or before k d) earlier (s ∷ []) (lie k d below) }
+  begins = record { bases = []; path = (tt, refl); taken = refl; lie = λ earlier lie. lie }
 
   pub begins_at : (ways : List Basics) → KeepsWaypoints p.matrix (basics_of s) before (basics_of s) ways → HasReached p s before s ways 0
   begins_at ways keeps = record {
@@ -71,8 +71,8 @@ module _ (p : LinearProgram) (s : List Status) (before : List Basics) where
       own : (earlier : List (List Status)) → IsWithinOne p.matrix (basics_of s) (map basics_of (earlier ++ s ∷ []))
       own earlier = within_suffix p.matrix (basics_of s) earlier (s ∷ []) (inl (within_itself p.matrix (basics_of s)))
 
-      place : (earlier : List (List Status)) → LieIn p.matrix before earlier → (w : Basics) → IsKept p.matrix (basics_of s) before (basics_of s) w → IsWithinOne p.matrix w (map basics_of (earlier ++ s ∷ []))
-      place earlier lie w (inl old) = within_prefix p.matrix w earlier (s ∷ []) (All-contains (λ w. IsWithinOne p.matrix w (map basics_of earlier)) before w lie old)
+      place : (earlier : List (List Status)) → LieIn p.matrix before (earlier ++ s ∷ []) → (w : Basics) → IsKept p.matrix (basics_of s) before (basics_of s) w → IsWithinOne p.matrix w (map basics_of (earlier ++ s ∷ []))
+      place earlier lie w (inl old) = All-contains (λ w. IsWithinOne p.matrix w (map basics_of (earlier ++ s ∷ []))) before w lie old
       place earlier lie w (inr (inl within)) = within_by p.matrix w (basics_of s) (map basics_of (earlier ++ s ∷ [])) within (own earlier)
       place earlier lie w (inr (inr within)) = within_by p.matrix w (basics_of s) (map basics_of (earlier ++ s ∷ [])) within (own earlier)
 
@@ -91,7 +91,7 @@ module _ (p : LinearProgram) (s : List Status) (before : List Basics) where
     pub follows_later : (more : List Basics) → KeepsWaypoints p.matrix (basics_of now) ways (basics_of now) more → WaypointsFollow p s now before more
     follows_later more keeps = record { bases = h.bases; is_path = h.path.0; reaches = h.path.1; lie = λ earlier lie k d below. place earlier lie (get_or more k d) (keeps.each k d below) }
       where
-        place : (earlier : List (List Status)) → LieIn p.matrix before earlier → (w : Basics) → IsKept p.matrix (basics_of now) ways (basics_of now) w → IsWithinOne p.matrix w (map basics_of (earlier ++ s ∷ h.bases))
+        place : (earlier : List (List Status)) → LieIn p.matrix before (earlier ++ s ∷ []) → (w : Basics) → IsKept p.matrix (basics_of now) ways (basics_of now) w → IsWithinOne p.matrix w (map basics_of (earlier ++ s ∷ h.bases))
         place earlier lie w (inl old) = All-contains (λ w. IsWithinOne p.matrix w (map basics_of (earlier ++ s ∷ h.bases))) ways w (h.lie earlier lie) old
         place earlier lie w (inr (inl within)) = within_by p.matrix w (basics_of now) (map basics_of (earlier ++ s ∷ h.bases)) within (reached_within earlier)
         place earlier lie w (inr (inr within)) = within_by p.matrix w (basics_of now) (map basics_of (earlier ++ s ∷ h.bases)) within (reached_within earlier)
@@ -106,7 +106,7 @@ module _ (p : LinearProgram) (s : List Status) (before : List Basics) where
           (place earlier lie (get_or more k d) (keeps.each k d below));
     }
       where
-        place : (earlier : List (List Status)) → LieIn p.matrix before earlier → (w : Basics) → IsKept p.matrix (basics_of now) ways (basics_of next) w → IsWithinOne p.matrix w (map basics_of ((earlier ++ s ∷ h.bases) ++ next ∷ []))
+        place : (earlier : List (List Status)) → LieIn p.matrix before (earlier ++ s ∷ []) → (w : Basics) → IsKept p.matrix (basics_of now) ways (basics_of next) w → IsWithinOne p.matrix w (map basics_of ((earlier ++ s ∷ h.bases) ++ next ∷ []))
         place earlier lie w (inl old) =
             within_prefix p.matrix w (earlier ++ s ∷ h.bases) (next ∷ []) (All-contains (λ w. IsWithinOne p.matrix w (map basics_of (earlier ++ s ∷ h.bases))) ways w (h.lie earlier lie) old)
         place earlier lie w (inr (inl within)) =

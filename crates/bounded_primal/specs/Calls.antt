@@ -51,28 +51,28 @@ pub record PathGoesOn (p : LinearProgram) (s now : List Status) (limit : ℕ) : 
 abbrev pub LieIn : Matrix → List Basics → List (List Status) → Type 0
 LieIn a ways bases = All (λ w. IsWithinOne a w (map basics_of bases)) ways
 
--- the path from s to now; and for every list of bases in which the waypoints lay before, they lie after in that list followed by
--- this path
+-- the path from s to now; and for every list of bases that ends with s, in which the waypoints lay before, they lie after in that
+-- list followed by this path
 pub record WaypointsFollow (p : LinearProgram) (s now : List Status) (before after : List Basics) : Type 0 where
   pub bases : List (List Status)
   pub is_path : IsPath p s bases
   pub reaches : last_of s bases ≡ now
-  pub lie : (earlier : List (List Status)) → LieIn p.matrix before earlier → LieIn p.matrix after (earlier ++ s ∷ bases)
+  pub lie : (earlier : List (List Status)) → LieIn p.matrix before (earlier ++ s ∷ []) → LieIn p.matrix after (earlier ++ s ∷ bases)
 
 -- what a call on a program counts as: with a change row it is the opening path of a run of the objective from that theta
 abbrev pub job_of : LinearProgram → Option Change → SolvingStatement
 job_of p None = Primal p
 job_of p (Some c) = Paraobj p c.row c.theta
 
--- the path from s to now, within the limit; and for every list of bases in which the waypoints lay before the call, the
--- evidence holds on that list followed by this path
+-- the path from s to now, within the limit; and for every list of bases that ends with s, in which the waypoints lay before the
+-- call, the evidence holds on that list followed by this path
 pub record StopsOnPath (p : LinearProgram) (s now : List Status) (limit : ℕ) (before after : List Basics) (e : Evidence) : Type 0 where
   pub bases : List (List Status)
   pub is_path : IsPath p s bases
   pub reaches : last_of s bases ≡ now
   pub within : length bases ≤ limit
   pub is_way : e.way ≤ length after
-  pub shows : (earlier : List (List Status)) → LieIn p.matrix before earlier →
+  pub shows : (earlier : List (List Status)) → LieIn p.matrix before (earlier ++ s ∷ []) →
       EvidenceHolds (job_of p p.change) None (limit - length bases) (earlier ++ s ∷ bases) [] now (waypoint (basics_of now) after e.way) e
 
 -- an overflow of a call at the one basis s: the operands are those of the formula there, and at a waypoint that the rates have
