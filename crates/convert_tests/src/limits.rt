@@ -3,10 +3,10 @@ use mps_convert::DeckFaultKind;
 use std::alloc::Global;
 use std::test::Fail;
 
-// Adds cards of ROWS: so many rows, named from R1000 on.
-fn add_rows(alloc: Global, deck: &mut Vec<u8>, count: u32) -> Result<(), Fail> {
+// Adds cards of ROWS, with rows from R1000 to that before this number.
+fn add_rows(alloc: Global, deck: &mut Vec<u8>, end: u32) -> Result<(), Fail> {
     deck.extend_from_slice(b"NAME          T\nROWS\n")?;
-    for row in 1000..1000 + count {
+    for row in 1000..end {
         let card = format!(in alloc; " L  R{row}\n")?;
         deck.extend_from_slice(card.as_bytes())?;
     }
@@ -14,9 +14,9 @@ fn add_rows(alloc: Global, deck: &mut Vec<u8>, count: u32) -> Result<(), Fail> {
     Ok(())
 }
 
-// Adds cards of COLUMNS: so many columns with one entry, named from C10000 on.
-fn add_columns(alloc: Global, deck: &mut Vec<u8>, count: u32) -> Result<(), Fail> {
-    for column in 10000..10000 + count {
+// Adds cards of COLUMNS, with columns of one entry from C10000 to that before this number.
+fn add_columns(alloc: Global, deck: &mut Vec<u8>, end: u32) -> Result<(), Fail> {
+    for column in 10000..end {
         let card = format!(in alloc; "    C{column}    R1000     1\n")?;
         deck.extend_from_slice(card.as_bytes())?;
     }
@@ -25,61 +25,63 @@ fn add_columns(alloc: Global, deck: &mut Vec<u8>, count: u32) -> Result<(), Fail
 
 // Adds the cards of a column with an entry on each of the rows from R1000 to R1999, two on a card.
 fn add_full_column(alloc: Global, deck: &mut Vec<u8>, column: u32) -> Result<(), Fail> {
-    for card in 0..500 {
-        let first = 1000 + 2 * card;
-        let second = first + 1;
-        let card = format!(in alloc;
-            "    C{column}    R{first}     1              R{second}     1\n"
-        )?;
-        deck.extend_from_slice(card.as_bytes())?;
+    for tens in 100..200 {
+        for (first, second) in [(0, 1), (2, 3), (4, 5), (6, 7), (8, 9)] {
+            let card = format!(in alloc;
+                "    C{column}    R{tens}{first}     1              R{tens}{second}     1\n"
+            )?;
+            deck.extend_from_slice(card.as_bytes())?;
+        }
     }
     Ok(())
 }
 
-// A deck of as many rows.
-fn deck_of_rows(alloc: Global, count: u32) -> Result<Vec<u8>, Fail> {
+// A deck with rows from R1000 to that before this number.
+fn deck_of_rows(alloc: Global, end: u32) -> Result<Vec<u8>, Fail> {
     let mut deck = Vec::new(alloc);
-    add_rows(alloc, &mut deck, count)?;
+    add_rows(alloc, &mut deck, end)?;
     deck.extend_from_slice(b"ENDATA\n")?;
     Ok(deck)
 }
 
-// A deck of one row and as many columns.
-fn deck_of_columns(alloc: Global, count: u32) -> Result<Vec<u8>, Fail> {
+// A deck with one row and columns from C10000 to that before this number.
+fn deck_of_columns(alloc: Global, end: u32) -> Result<Vec<u8>, Fail> {
     let mut deck = Vec::new(alloc);
-    add_rows(alloc, &mut deck, 1)?;
-    add_columns(alloc, &mut deck, count)?;
+    add_rows(alloc, &mut deck, 1001)?;
+    add_columns(alloc, &mut deck, end)?;
     deck.extend_from_slice(b"ENDATA\n")?;
     Ok(deck)
 }
 
-// A deck of 1,000 rows and as many columns that have an entry on each.
-fn deck_of_full_columns(alloc: Global, count: u32) -> Result<Vec<u8>, Fail> {
+// A deck with 1,000 rows and columns from C10000 to that before this number, each with an entry on each row.
+fn deck_of_full_columns(alloc: Global, end: u32) -> Result<Vec<u8>, Fail> {
     let mut deck = Vec::new(alloc);
-    add_rows(alloc, &mut deck, 1000)?;
-    for column in 10000..10000 + count {
+    add_rows(alloc, &mut deck, 2000)?;
+    for column in 10000..end {
         add_full_column(alloc, &mut deck, column)?;
     }
     Ok(deck)
 }
 
+// 1,000 rows may be, and their cards are those up to 1,002.
 #[test]
 fn a_row_too_many(rt: HostRuntime) -> Result<(), Fail> {
     let alloc = rt.alloc();
-    assert_eq!(rt; fault_of(alloc, &deck_of_rows(alloc, 1000)?)?, None);
+    assert_eq!(rt; fault_of(alloc, &deck_of_rows(alloc, 2000)?)?, None);
     assert_eq!(rt;
-        fault_of(alloc, &deck_of_rows(alloc, 1001)?)?,
+        fault_of(alloc, &deck_of_rows(alloc, 2001)?)?,
         Some((1003, DeckFaultKind::TooManyRows))
     );
     Ok(())
 }
 
+// 5,000 columns may be, and their cards are those up to 5,004.
 #[test]
 fn a_column_too_many(rt: HostRuntime) -> Result<(), Fail> {
     let alloc = rt.alloc();
-    assert_eq!(rt; fault_of(alloc, &deck_of_columns(alloc, 5000)?)?, None);
+    assert_eq!(rt; fault_of(alloc, &deck_of_columns(alloc, 15000)?)?, None);
     assert_eq!(rt;
-        fault_of(alloc, &deck_of_columns(alloc, 5001)?)?,
+        fault_of(alloc, &deck_of_columns(alloc, 15001)?)?,
         Some((5005, DeckFaultKind::TooManyColumns))
     );
     Ok(())
@@ -89,7 +91,7 @@ fn a_column_too_many(rt: HostRuntime) -> Result<(), Fail> {
 #[test]
 fn an_entry_too_many(rt: HostRuntime) -> Result<(), Fail> {
     let alloc = rt.alloc();
-    let mut deck = deck_of_full_columns(alloc, 50)?;
+    let mut deck = deck_of_full_columns(alloc, 10050)?;
     deck.extend_from_slice(b"    LAST      R1000     1\n")?;
     assert_eq!(rt;
         fault_of(alloc, &deck)?,
@@ -101,7 +103,7 @@ fn an_entry_too_many(rt: HostRuntime) -> Result<(), Fail> {
 #[test]
 fn as_many_entries_as_may_be(rt: HostRuntime) -> Result<(), Fail> {
     let alloc = rt.alloc();
-    let mut deck = deck_of_full_columns(alloc, 50)?;
+    let mut deck = deck_of_full_columns(alloc, 10050)?;
     deck.extend_from_slice(b"ENDATA\n")?;
     assert_eq!(rt; fault_of(alloc, &deck)?, None);
     Ok(())

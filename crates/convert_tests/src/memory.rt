@@ -29,14 +29,17 @@ fn converted(alloc: Global) -> Result<Option<Problem>, Fail> {
 
 // How many entries a problem has, and how many items its sets have.
 fn counts(problem: &Problem) -> (usize, usize, usize) {
-    let entries = problem
-        .columns()
-        .iter()
-        .map(|column| column.entries.len())
-        .sum();
-    let sides = problem.rhs().iter().map(|set| set.items.len()).sum();
-    let bounds = problem.bounds().iter().map(|set| set.items.len()).sum();
-    (entries, sides, bounds)
+    let columns = problem.columns().iter();
+    let sides = problem.rhs().iter();
+    let bounds = problem.bounds().iter();
+    (
+        columns.fold(
+            0usize,
+            |count, column| count.saturating_add(column.entries.len()),
+        ),
+        sides.fold(0usize, |count, set| count.saturating_add(set.items.len())),
+        bounds.fold(0usize, |count, set| count.saturating_add(set.items.len())),
+    )
 }
 
 // With enough memory the whole problem, and otherwise want of memory: `scripts/try_memory.sh` has each allocation fail once.
