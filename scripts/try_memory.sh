@@ -1,7 +1,7 @@
 #!/usr/bin/env bash
 # Converts TESTPROB with its 1st, 2nd, .. allocation refused, up to the first run that has them all: each of those before must
 # end with want of memory, and that one with the whole problem. With arguments only these allocations are refused.
-# A run takes half a minute.
+# There were 56 of them when this was written, and a run takes half a minute.
 set -u
 cd "$(dirname "$0")/../crates/convert_tests" || exit 1
 
