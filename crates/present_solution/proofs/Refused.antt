@@ -1,7 +1,7 @@
 -- From the evidence of a point, of prices and of a slack to evidence of SOLUTION on every path that led to the basis.
-use Rattle.std.proofs.Common.{◌≡◌, ◌≤◌, ◌⊎◌, ℕ, inl, inr, List, [], ◌∷◌, ◌++◌, map, Bool, true, false, refl, sym, ◌∙◌, ap, subst, arith}
-use Rattle.std.specs.Prelude.{Option, Some, None, IsTrue, not, ◌&&◌, ◌||◌, nat_eq, Contains}
-use Rattle.exact_values.specs.Rational.{ℚ, zero_ℚ}
+use Rattle.std.proofs.Common.{◌≡◌, ℕ, inl, inr, List, [], ◌∷◌, ◌++◌, map, true, false, refl, sym, ◌∙◌, ap, subst, arith}
+use Rattle.std.specs.Prelude.{Option, None, IsTrue, not, ◌&&◌, ◌||◌, nat_eq, Contains}
+use Rattle.exact_values.specs.Rational.{ℚ}
 use Rattle.lp_definitions.specs.LinearProgram.{Matrix, LinearProgram, Vector}
 use Rattle.lp_definitions.specs.Basis.{Basics, basics_of, exchanged, AreRates, IsPointOf, ArePricesOf, IsNonsingular, Tableau}
 use Rattle.lp_definitions.specs.Waypoints.{IsWithinOne, waypoint, KeepsWaypoints}
@@ -14,11 +14,10 @@ use Rattle.lp_model.specs.RatesCalls.{IfOverflow}
 use Rattle.lp_model.specs.declared.Stop.{Stop}
 use Rattle.lp_model.proofs.Stops.{IfOverflow-map}
 use Rattle.overflow_definitions.specs.Formulas.{f6_slack}
-use Rattle.overflow_definitions.specs.Statements.{SolvingStatement, Primal, Solution, is_between, belongs, thetas_of}
-use Rattle.overflow_definitions.specs.Evidence.{Formula, by_exchange, by_entry, by_carried, by_point, by_slack, by_move, by_ratio, by_range, by_objective, by_slope, ShowsRefusal, EvidenceHolds, GoesTo, names_waypoint}
-use Rattle.solving_definitions.specs.Evidence.{IsEvidence}
-use Rattle.bounded_primal.specs.Calls.{LieIn, StopsAt, job_of, is_of_point, HasRates, PointRefused}
-use Rattle.present_solution.specs.Slack.{SlackRefused, SomeSlackRefused}
+use Rattle.overflow_definitions.specs.Statements.{Primal, Solution, is_between, belongs, thetas_of}
+use Rattle.overflow_definitions.specs.Evidence.{Formula, by_exchange, by_entry, by_carried, by_point, by_slack, by_move, by_ratio, by_range, by_objective, by_slope, ShowsRefusal, GoesTo, names_waypoint}
+use Rattle.bounded_primal.specs.Calls.{job_of, is_of_point, PointRefused}
+use Rattle.present_solution.specs.Slack.{SomeSlackRefused}
 use Rattle.present_solution.specs.Stops.{SolutionRefused}
 
 -- ---- the numbers of the formulas of a point

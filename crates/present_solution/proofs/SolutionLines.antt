@@ -3,7 +3,7 @@ use Rattle.std.proofs.Common.{◌≡◌, ℕ, ◌+◌, ◌-◌, List, [], ◌∷
 use Rattle.std.specs.Prelude.{if◌then◌else◌}
 use Rattle.exact_values.specs.Rational.{ℚ}
 use Rattle.lp_definitions.specs.LinearProgram.{LinearProgram, Vector, value_at, IsRow, IsVariable, lower_of, upper_of, cost}
-use Rattle.lp_definitions.specs.Basis.{status_of, basics_of, price_at, IsPointOf, ArePricesOf, Tableau}
+use Rattle.lp_definitions.specs.Basis.{status_of, IsPointOf, ArePricesOf, Tableau}
 use Rattle.lp_definitions.specs.declared.Status.{Status}
 use Rattle.lp_definitions.specs.declared.Status.TheVariants.{Bs, Ll, Ul, Fr}
 use Rattle.path_definitions.specs.Moves.{is_fixed}
