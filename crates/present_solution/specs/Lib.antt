@@ -1,0 +1,3 @@
+pub mod Slack
+pub mod Answers
+pub mod Stops
