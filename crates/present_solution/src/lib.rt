@@ -9,7 +9,6 @@ ghost use Rattle.lp_model.specs.RatesCalls.{IfOverflow};
 ghost use Rattle.bounded_primal.specs.Calls.{HasRates, PointRefused};
 ghost use Rattle.solving_definitions.specs.Sections.{IsShown};
 ghost use Rattle.report_text.specs.Lines.{solution_lines};
-ghost use Rattle.report_text.specs.Sheets.{IsSheet};
 ghost use Rattle.present_solution.specs.Answers.{sheet_shown, AreShown};
 ghost use Rattle.present_solution.specs.Stops.{SolutionRefused};
 
@@ -77,7 +76,6 @@ pub fn solution_of<R: Rates>(
     basis: &Basis,
     rates: &mut R,
 ) -> Result<Shown, Stop>
-    requires sheet { IsSheet sheet }
     requires no_change { sheet.lp.now.change ≡ None }
     requires rates { HasRates (R.matrix rates.old) (R.basics rates.old) sheet.lp.now basis.now }
     ensures listed { IfOk result (AreShown sheet.entry.lp.now basis.now) }
