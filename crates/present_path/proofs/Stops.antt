@@ -55,4 +55,4 @@ module _ (sheet : Sheet) (no_change : sheet.lp.now.change ≡ None) (s now : Bas
   pub stops : (stop : PrimalStop) → PrimalStops sheet.lp.now s now limit before after stop → PathStops sheet s now limit before after stop
   stops Limit h = h
   stops (Overflow e) h = overflows e h
-  stops NoMemory h = (h.0, h.1.0)
+  stops NoMemory h = (h.0, h.1)
