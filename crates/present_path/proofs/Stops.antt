@@ -1,5 +1,5 @@
 -- Where a call stops, PRIMAL stops.
-use Rattle.std.proofs.Common.{◌≡◌, ℕ, ◌+◌, ◌-◌, ◌≤◌, List, [], ◌∷◌, ◌++◌, Some, None, length, refl, sym, subst, arith}
+use Rattle.std.proofs.Common.{◌≡◌, ℕ, ◌-◌, List, [], ◌∷◌, ◌++◌, None, length, refl, sym, subst, arith}
 use Rattle.lp_definitions.specs.Basis.{Basics, basics_of}
 use Rattle.lp_definitions.specs.Waypoints.{waypoint}
 use Rattle.lp_definitions.specs.declared.Evidence.{Evidence}
@@ -7,13 +7,13 @@ use Rattle.path_definitions.specs.Path.{IsPath, last_of}
 use Rattle.overflow_definitions.specs.Statements.{Primal}
 use Rattle.overflow_definitions.specs.Evidence.{EvidenceHolds}
 use Rattle.solver_definitions.specs.Answers.{Basis}
-use Rattle.solving_definitions.specs.Evidence.{last_basis, OverflowsOnPath}
+use Rattle.solving_definitions.specs.Evidence.{last_basis}
 use Rattle.report_text.specs.declared.sheet.Sheet.{Sheet}
-use Rattle.bounded_primal.specs.Calls.{LieIn, StopsOnPath, job_of}
+use Rattle.bounded_primal.specs.Calls.{StopsOnPath, job_of}
 use Rattle.bounded_primal.specs.Stops.{PrimalStops}
 use Rattle.bounded_primal.specs.declared.moves.PrimalStop.{PrimalStop}
 use Rattle.bounded_primal.specs.declared.moves.PrimalStop.TheVariants.{Limit, Overflow, NoMemory}
-use Rattle.present_path.specs.Reports.{sheet_shown, OverflowsThere, PathStops}
+use Rattle.present_path.specs.Reports.{OverflowsThere, PathStops}
 
 -- the last of a list that ends with s
 last_after : (first : Basis) (earlier : List Basis) (s : Basis) → last_of first (earlier ++ s ∷ []) ≡ s

@@ -7,9 +7,7 @@ ghost use Rattle.report_text.specs.Verdicts.{check_shown};
 ghost use Rattle.solving_definitions.specs.Verdicts.{found};
 ghost use Rattle.present_path.specs.Reports.{IsCheckedSo};
 
-use certificate_check::{
-    Verdict, check_crossed, check_infeasible, check_optimal, check_unbounded,
-};
+use certificate_check::{Verdict, check_crossed, check_infeasible, check_optimal, check_unbounded};
 use frac128::Refused;
 use lp_model::{Lp, Outcome};
 
@@ -26,7 +24,9 @@ pub fn check_of(lp: &Lp, outcome: &Outcome) -> Verdict
         Outcome::Crossed { k } => check_crossed(lp, *k),
         Outcome::Infeasible { ray, .. } => check_infeasible(lp, ray.values()),
         Outcome::Unbounded {
-            point, direction, ..
+            point,
+            direction,
+            ..
         } => check_unbounded(lp, point.values(), direction.values()),
     }
 }
