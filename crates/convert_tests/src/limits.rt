@@ -3,7 +3,7 @@ use mps_convert::DeckFaultKind;
 use std::alloc::Global;
 use std::test::Fail;
 
-// Adds cards of ROWS, with rows from R1000 to that before this number.
+// Adds cards of ROWS, with the rows R1000, R1001 and on, up to that before this number.
 fn add_rows(alloc: Global, deck: &mut Vec<u8>, end: u32) -> Result<(), Fail> {
     deck.extend_from_slice(b"NAME          T\nROWS\n")?;
     for row in 1000..end {
@@ -23,7 +23,7 @@ fn add_columns(alloc: Global, deck: &mut Vec<u8>, end: u32) -> Result<(), Fail> 
     Ok(())
 }
 
-// Adds the cards of a column with an entry on each of the rows from R1000 to R1999, two on a card.
+// Adds the cards of a column with an entry on each of 1,000 rows, two on a card.
 fn add_full_column(alloc: Global, deck: &mut Vec<u8>, column: u32) -> Result<(), Fail> {
     for tens in 100..200 {
         for (first, second) in [(0, 1), (2, 3), (4, 5), (6, 7), (8, 9)] {
@@ -36,7 +36,7 @@ fn add_full_column(alloc: Global, deck: &mut Vec<u8>, column: u32) -> Result<(),
     Ok(())
 }
 
-// A deck with rows from R1000 to that before this number.
+// A deck with the rows R1000, R1001 and on, up to that before this number.
 fn deck_of_rows(alloc: Global, end: u32) -> Result<Vec<u8>, Fail> {
     let mut deck = Vec::new(alloc);
     add_rows(alloc, &mut deck, end)?;
