@@ -9,9 +9,9 @@ use Rattle.lp_definitions.specs.Waypoints.{KeepsWaypoints, waypoint}
 use Rattle.lp_definitions.specs.declared.Change.{Change}
 use Rattle.lp_definitions.specs.declared.Evidence.{Evidence}
 use Rattle.lp_definitions.specs.declared.Status.{Status}
-use Rattle.lp_algebra.proofs.WaypointLaws.{Covers, covered, kept_within, within_itself}
-use Rattle.overflow_definitions.specs.Statements.{SolvingStatement, program_at}
-use Rattle.overflow_definitions.specs.Evidence.{ShowsRefusal}
+use Rattle.lp_laws.proofs.WaypointLaws.{Covers, covered, kept_within, within_itself}
+use Rattle.evidence_definitions.specs.Statements.{SolvingStatement, program_at}
+use Rattle.evidence_definitions.specs.Evidence.{ShowsRefusal}
 use Rattle.bounded_primal.specs.Calls.{StopsAt, job_of, PointRefused}
 
 -- a change of the objective leaves the matrix

@@ -7,10 +7,10 @@ use Rattle.exact_values.specs.Rational.{ℚ, zero_ℚ}
 use Rattle.exact_values.proofs.Inverse.{zero_or_not, one_apart}
 use Rattle.lp_definitions.specs.LinearProgram.{Matrix, Vector, size, IsVariable}
 use Rattle.lp_definitions.specs.Basis.{Basics, is_in, IsBasic, IsNonbasic, IsNonsingular, IsDirectionOf, AreRates, exchanged, row_basics}
-use Rattle.lp_algebra.specs.Rates.{exchanged_rate, opening_rate}
-use Rattle.lp_algebra.proofs.Values.{clash}
-use Rattle.lp_algebra.proofs.Exchange.{marked, marked_is, IsNonsingular-exchanged, AreRates-exchanged}
-use Rattle.lp_algebra.proofs.Opening.{IsNonsingular-row_basics, AreRates-opening}
+use Rattle.lp_laws.specs.Rates.{exchanged_rate, opening_rate}
+use Rattle.lp_laws.proofs.Values.{clash}
+use Rattle.lp_laws.proofs.Exchange.{marked, marked_is, IsNonsingular-exchanged, AreRates-exchanged}
+use Rattle.lp_laws.proofs.Opening.{IsNonsingular-row_basics, AreRates-opening}
 
 -- how many of the first marks the second list lacks
 abbrev missing : List Bool → List Bool → ℕ

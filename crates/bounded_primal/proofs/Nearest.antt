@@ -9,7 +9,7 @@ use Rattle.lp_definitions.specs.LinearProgram.{LinearProgram, Vector, size}
 use Rattle.path_definitions.specs.Moves.{is_no_later, room, stopper, signed, reached}
 use Rattle.path_laws.proofs.Tests.{le_true, le_from, lt_true, lt_from}
 use Rattle.path_laws.proofs.Searches.{stopper_is, stopper_nothing}
-use Rattle.lp_algebra.proofs.Values.{clash}
+use Rattle.lp_laws.proofs.Values.{clash}
 use Rattle.bounded_primal.specs.Reach.{reach_of, sooner, IsFirst, IsNearest}
 use Rattle.lp_definitions.specs.declared.Status.{Status}
 use Rattle.bounded_primal.specs.Moves.{motion, stop_at, stopper_of}

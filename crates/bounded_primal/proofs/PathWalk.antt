@@ -8,9 +8,9 @@ use Rattle.lp_definitions.specs.Basis.{Basics, basics_of}
 use Rattle.lp_definitions.specs.Waypoints.{IsWithinOne, IsKept, KeepsWaypoints, waypoint}
 use Rattle.lp_definitions.specs.declared.Status.{Status}
 use Rattle.lp_model.specs.declared.reports.Outcome.{Outcome}
-use Rattle.lp_algebra.proofs.WaypointLaws.{within_itself, within_by}
+use Rattle.lp_laws.proofs.WaypointLaws.{within_itself, within_by}
 use Rattle.path_definitions.specs.Path.{IsStep, EndsAt, IsPath, last_of}
-use Rattle.overflow_definitions.specs.Evidence.{EvidenceHolds}
+use Rattle.evidence_definitions.specs.Evidence.{EvidenceHolds}
 use Rattle.bounded_primal.specs.Calls.{CallEnds, LieIn, WaypointsFollow, job_of, outcome_of}
 use Rattle.bounded_primal.specs.Stops.{PathFrom, PrimalStops}
 use Rattle.bounded_primal.specs.Turns.{EndsHere, TurnStops}

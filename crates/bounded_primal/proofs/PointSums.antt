@@ -9,16 +9,16 @@ use Rattle.lp_definitions.specs.Basis.{Basics, basics_of, is_in, status_of, IsBa
 use Rattle.lp_definitions.specs.RatesEvidence.{sum_from}
 use Rattle.lp_definitions.specs.declared.Evidence.{Evidence}
 use Rattle.lp_definitions.specs.declared.Status.{Status}
-use Rattle.lp_algebra.specs.Rates.{combination}
-use Rattle.lp_algebra.specs.Points.{place_of, standing}
-use Rattle.lp_algebra.proofs.Opening.{numbers_from-append}
-use Rattle.lp_algebra.proofs.Ordered.{combination_in_order}
-use Rattle.lp_algebra.proofs.Combination.{combination_at}
-use Rattle.lp_algebra.proofs.Equations.{KeepsEquations-same}
-use Rattle.lp_algebra.proofs.Points.{IsPointOf-combination}
-use Rattle.lp_algebra.proofs.Statuses.{basic_from}
-use Rattle.lp_algebra.proofs.Uniqueness.{is_in-basics_of, one_direction}
-use Rattle.overflow_definitions.specs.Formulas.{nonbasics, PointFormula, f10_product, f10_sum}
+use Rattle.lp_laws.specs.Rates.{combination}
+use Rattle.lp_laws.specs.Points.{place_of, standing}
+use Rattle.lp_laws.proofs.Opening.{numbers_from-append}
+use Rattle.lp_laws.proofs.Ordered.{combination_in_order}
+use Rattle.lp_laws.proofs.Combination.{combination_at}
+use Rattle.lp_laws.proofs.Equations.{KeepsEquations-same}
+use Rattle.lp_laws.proofs.Points.{IsPointOf-combination}
+use Rattle.lp_laws.proofs.Statuses.{basic_from}
+use Rattle.lp_laws.proofs.Uniqueness.{is_in-basics_of, one_direction}
+use Rattle.evidence_definitions.specs.Formulas.{nonbasics, PointFormula, f10_product, f10_sum}
 use Rattle.bounded_primal.specs.Calls.{PointRefused}
 use Rattle.bounded_primal.specs.Points.{nonbasics_to, with_term, sum_at, IsSoFar, AreAdded, TermRefused, of_product, of_sum, ColumnTermRefused}
 use Rattle.bounded_primal.proofs.Existence.{rates_exist}

@@ -10,12 +10,12 @@ use Rattle.lp_definitions.specs.declared.Change.{Change}
 use Rattle.lp_definitions.specs.declared.Evidence.{Evidence}
 use Rattle.lp_definitions.specs.declared.Status.{Status}
 use Rattle.lp_model.specs.RatesCalls.{IsRowOf}
-use Rattle.lp_algebra.proofs.Values.{clash}
-use Rattle.lp_algebra.proofs.WaypointLaws.{within_itself}
-use Rattle.lp_algebra.proofs.Uniqueness.{is_in-basics_of, one_table}
-use Rattle.overflow_definitions.specs.Formulas.{ObjectiveFormula, f17_product, f17_sum}
-use Rattle.overflow_definitions.specs.Statements.{thetas_of}
-use Rattle.overflow_definitions.specs.Evidence.{ShowsRefusal, by_objective, names_waypoint}
+use Rattle.lp_laws.proofs.Values.{clash}
+use Rattle.lp_laws.proofs.WaypointLaws.{within_itself}
+use Rattle.lp_laws.proofs.Uniqueness.{is_in-basics_of, one_table}
+use Rattle.evidence_definitions.specs.Formulas.{ObjectiveFormula, f17_product, f17_sum}
+use Rattle.evidence_definitions.specs.Statements.{thetas_of}
+use Rattle.evidence_definitions.specs.Evidence.{ShowsRefusal, by_objective, names_waypoint}
 use Rattle.bounded_primal.specs.Calls.{job_of, is_of_point, PointRefused}
 use Rattle.bounded_primal.specs.Prices.{AreChanged, ChangedRefused, of_product, of_sum, SomeChangedRefused}
 use Rattle.bounded_primal.proofs.Refusals.{IsTableau-changed}

@@ -8,14 +8,14 @@ use Rattle.lp_definitions.specs.Waypoints.{waypoint}
 use Rattle.lp_definitions.specs.declared.Change.{Change}
 use Rattle.lp_definitions.specs.declared.Evidence.{Evidence}
 use Rattle.lp_definitions.specs.declared.Status.{Status}
-use Rattle.lp_algebra.proofs.Values.{clash}
-use Rattle.lp_algebra.proofs.WaypointLaws.{within_itself}
-use Rattle.lp_algebra.proofs.Uniqueness.{one_direction}
+use Rattle.lp_laws.proofs.Values.{clash}
+use Rattle.lp_laws.proofs.WaypointLaws.{within_itself}
+use Rattle.lp_laws.proofs.Uniqueness.{one_direction}
 use Rattle.path_definitions.specs.Moves.{stopper, limit_ahead}
 use Rattle.path_laws.proofs.Stoppers.{stopper_none}
-use Rattle.overflow_definitions.specs.Formulas.{PointFormula, f6, f7, f10_product, f10_sum}
-use Rattle.overflow_definitions.specs.Statements.{thetas_of}
-use Rattle.overflow_definitions.specs.Evidence.{ShowsRefusal, by_point, names_waypoint}
+use Rattle.evidence_definitions.specs.Formulas.{PointFormula, f6, f7, f10_product, f10_sum}
+use Rattle.evidence_definitions.specs.Statements.{thetas_of}
+use Rattle.evidence_definitions.specs.Evidence.{ShowsRefusal, by_point, names_waypoint}
 use Rattle.bounded_primal.specs.Calls.{StopsAt, job_of}
 use Rattle.bounded_primal.specs.Moves.{motion, stopper_of, StopperRefused}
 use Rattle.bounded_primal.specs.Reach.{RoomRefused, of_distance, of_quotient}

@@ -11,15 +11,15 @@ use Rattle.lp_definitions.specs.LinearProgram.{Matrix, LinearProgram, Vector, Is
 use Rattle.lp_definitions.specs.Basis.{Basics, basics_of, is_in, is_basic, status_of, with_status, exchanged, IsBasis, IsBasic, IsNonbasic, IsNonsingular, IsDirectionOf, IsPointOf, IsAllowed, StandsAt}
 use Rattle.lp_definitions.specs.declared.Status.{Status}
 use Rattle.lp_definitions.specs.declared.Status.TheVariants.{Bs, Ll, Ul, Fr}
-use Rattle.lp_algebra.specs.Vectors.{along}
-use Rattle.lp_algebra.proofs.Values.{clash}
-use Rattle.lp_algebra.proofs.Equations.{KeepsEquations-same}
-use Rattle.lp_algebra.proofs.Exchange.{IsNonsingular-exchanged}
-use Rattle.lp_algebra.proofs.Statuses.{basics_of-replaced, basics_of-flipped, status_of_basic, status_of_nonbasic, IsBasis-replaced, IsBasis-flipped}
-use Rattle.lp_algebra.proofs.Points.{IsPointOf-replaced, IsPointOf-flipped}
+use Rattle.lp_laws.specs.Vectors.{along}
+use Rattle.lp_laws.proofs.Values.{clash}
+use Rattle.lp_laws.proofs.Equations.{KeepsEquations-same}
+use Rattle.lp_laws.proofs.Exchange.{IsNonsingular-exchanged}
+use Rattle.lp_laws.proofs.Statuses.{basics_of-replaced, basics_of-flipped, status_of_basic, status_of_nonbasic, IsBasis-replaced, IsBasis-flipped}
+use Rattle.lp_laws.proofs.Points.{IsPointOf-replaced, IsPointOf-flipped}
 use Rattle.path_definitions.specs.Moves.{signed, limit_ahead, room, stopper}
 use Rattle.path_laws.proofs.Stoppers.{stopper_some, reaches_limit}
-use Rattle.overflow_definitions.specs.Formulas.{limit_numbered, number_of_limit}
+use Rattle.evidence_definitions.specs.Formulas.{limit_numbered, number_of_limit}
 use Rattle.bounded_primal.specs.Calls.{HasRates}
 use Rattle.bounded_primal.specs.Moves.{motion, stop_at, IsStepBy, is_stopper, brings}
 use Rattle.bounded_primal.specs.declared.moves.Stopper.{Stopper}

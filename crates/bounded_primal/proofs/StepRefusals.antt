@@ -13,12 +13,12 @@ use Rattle.frac128.specs.declared.Op.TheVariants.{Mul, Add}
 use Rattle.lp_model.specs.RatesCalls.{IfOverflow}
 use Rattle.lp_model.specs.declared.Stop.{Stop}
 use Rattle.lp_model.proofs.Stops.{IfOverflow-map}
-use Rattle.lp_algebra.proofs.Values.{clash}
-use Rattle.lp_algebra.proofs.WaypointLaws.{Covers-insert, kept_within, within_itself}
-use Rattle.lp_algebra.proofs.Uniqueness.{one_direction}
-use Rattle.overflow_definitions.specs.Formulas.{MoveFormula, f8, f9, IsStepTo}
-use Rattle.overflow_definitions.specs.Statements.{Primal, belongs, is_between}
-use Rattle.overflow_definitions.specs.Evidence.{ShowsRefusal, by_move, names_waypoint}
+use Rattle.lp_laws.proofs.Values.{clash}
+use Rattle.lp_laws.proofs.WaypointLaws.{Covers-insert, kept_within, within_itself}
+use Rattle.lp_laws.proofs.Uniqueness.{one_direction}
+use Rattle.evidence_definitions.specs.Formulas.{MoveFormula, f8, f9, IsStepTo}
+use Rattle.evidence_definitions.specs.Statements.{Primal, belongs, is_between}
+use Rattle.evidence_definitions.specs.Evidence.{ShowsRefusal, by_move, names_waypoint}
 use Rattle.bounded_primal.specs.Calls.{HasRates, StopsAt, job_of}
 use Rattle.bounded_primal.specs.Moves.{IsStepBy, StepRefused}
 use Rattle.bounded_primal.specs.Steps.{MovedRefused, of_product, of_sum, SomeMovedRefused}

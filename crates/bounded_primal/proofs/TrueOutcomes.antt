@@ -7,8 +7,8 @@ use Rattle.lp_definitions.specs.Solutions.{IsCrossed}
 use Rattle.lp_definitions.specs.Basis.{Basics, basics_of, price_at}
 use Rattle.lp_definitions.specs.declared.Status.{Status}
 use Rattle.exact_values.specs.Rational.{ℚ}
-use Rattle.lp_algebra.proofs.Opening.{length-numbers_from}
-use Rattle.lp_algebra.proofs.Duality.{infeasible_by_crossed, infeasible_by_ray, unbounded_by_direction}
+use Rattle.lp_laws.proofs.Opening.{length-numbers_from}
+use Rattle.lp_laws.proofs.Duality.{infeasible_by_crossed, infeasible_by_ray, unbounded_by_direction}
 use Rattle.lp_model.specs.declared.reports.Outcome.{Outcome}
 use Rattle.lp_model.specs.declared.reports.Outcome.TheVariants.{Crossed}
 use Rattle.path_definitions.specs.Moves.{least, is_crossed, is_below}

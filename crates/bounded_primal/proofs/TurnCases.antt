@@ -13,7 +13,7 @@ use Rattle.lp_model.specs.declared.Stop.{Stop}
 use Rattle.lp_model.specs.declared.reports.Outcome.{Outcome}
 use Rattle.lp_model.specs.declared.reports.Outcome.TheVariants.{Optimal, Infeasible}
 use Rattle.path_definitions.specs.Moves.{is_below, entering}
-use Rattle.overflow_definitions.specs.Formulas.{limit_numbered, number_of_limit}
+use Rattle.evidence_definitions.specs.Formulas.{limit_numbered, number_of_limit}
 use Rattle.bounded_primal.specs.Calls.{HasRates, PointRefused}
 use Rattle.bounded_primal.specs.Moves.{may_move, motion, stopper_of, return_by, move_by}
 use Rattle.bounded_primal.specs.Stops.{primal_stop_of}

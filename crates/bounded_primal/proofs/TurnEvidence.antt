@@ -13,15 +13,15 @@ use Rattle.lp_definitions.specs.declared.Change.{Change}
 use Rattle.lp_definitions.specs.declared.Evidence.{Evidence}
 use Rattle.lp_definitions.specs.declared.Status.{Status}
 use Rattle.lp_definitions.specs.declared.Status.TheVariants.{Bs, Ll, Ul, Fr}
-use Rattle.lp_algebra.proofs.Values.{clash}
-use Rattle.lp_algebra.proofs.Statuses.{basics_of-replaced}
-use Rattle.lp_algebra.proofs.Uniqueness.{one_direction}
-use Rattle.lp_algebra.proofs.WaypointLaws.{Covers, Covers-all, Covers-insert, kept_within, within_itself}
+use Rattle.lp_laws.proofs.Values.{clash}
+use Rattle.lp_laws.proofs.Statuses.{basics_of-replaced}
+use Rattle.lp_laws.proofs.Uniqueness.{one_direction}
+use Rattle.lp_laws.proofs.WaypointLaws.{Covers, Covers-all, Covers-insert, kept_within, within_itself}
 use Rattle.path_definitions.specs.Path.{Move, after}
-use Rattle.parametric_definitions.specs.ObjectiveRun.{objective_family}
-use Rattle.overflow_definitions.specs.Formulas.{PointFormula, f6, f7, MoveFormula, f8, f9, limit_numbered, number_of_limit}
-use Rattle.overflow_definitions.specs.Statements.{SolvingStatement, Primal, is_between, belongs, program_at, PathMoves, PathEnters, MovesAt, EntersAt}
-use Rattle.overflow_definitions.specs.Evidence.{Formula, by_exchange, by_entry, by_carried, by_point, by_slack, by_move, by_ratio, by_range, by_objective, by_slope, ShowsRefusal, IsLeaver, GoesTo, TakesStep, IsOfMove}
+use Rattle.postoptimal_definitions.specs.ObjectiveRun.{objective_family}
+use Rattle.evidence_definitions.specs.Formulas.{PointFormula, f6, f7, MoveFormula, f8, f9, limit_numbered, number_of_limit}
+use Rattle.evidence_definitions.specs.Statements.{SolvingStatement, Primal, is_between, belongs, program_at, PathMoves, PathEnters, MovesAt, EntersAt}
+use Rattle.evidence_definitions.specs.Evidence.{Formula, by_exchange, by_entry, by_carried, by_point, by_slack, by_move, by_ratio, by_range, by_objective, by_slope, ShowsRefusal, IsLeaver, GoesTo, TakesStep, IsOfMove}
 use Rattle.bounded_primal.specs.Calls.{StopsAt, job_of, is_of_point, PointRefused}
 use Rattle.bounded_primal.specs.Moves.{StopperRefused, StepRefused, stopper_of, move_by}
 use Rattle.bounded_primal.specs.Steps.{ReturnRefused, of_distance, of_quotient}

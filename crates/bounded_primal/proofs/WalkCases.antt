@@ -6,7 +6,7 @@ use Rattle.lp_definitions.specs.Waypoints.{KeepsWaypoints}
 use Rattle.lp_definitions.specs.declared.Status.{Status}
 use Rattle.lp_model.specs.RatesCalls.{IfOverflow}
 use Rattle.lp_model.specs.declared.Stop.{Stop}
-use Rattle.lp_algebra.proofs.WaypointLaws.{keeps_then}
+use Rattle.lp_laws.proofs.WaypointLaws.{keeps_then}
 use Rattle.path_definitions.specs.Path.{after}
 use Rattle.bounded_primal.specs.Calls.{PointRefused}
 use Rattle.bounded_primal.specs.Moves.{move_by, StepRefused}

@@ -17,8 +17,8 @@ use Rattle.lp_model.specs.declared.reports.Outcome.{Outcome}
 use Rattle.lp_model.specs.declared.reports.Outcome.TheVariants.{Optimal, Crossed, Infeasible, Unbounded}
 use Rattle.path_definitions.specs.Path.{Ending, EndsOptimal, EndsCrossed, EndsInfeasible, EndsUnbounded, IsPath, PathEnds, GoesOnFor, last_of}
 use Rattle.lp_definitions.specs.declared.Change.{Change}
-use Rattle.overflow_definitions.specs.Statements.{SolvingStatement, Primal, Paraobj, Range, belongs, is_between, thetas_of}
-use Rattle.overflow_definitions.specs.Evidence.{ShowsRefusal, EvidenceHolds}
+use Rattle.evidence_definitions.specs.Statements.{SolvingStatement, Primal, Paraobj, Range, belongs, is_between, thetas_of}
+use Rattle.evidence_definitions.specs.Evidence.{ShowsRefusal, EvidenceHolds}
 
 -- a basis of the program, whose basics are nonsingular and are those of the rates
 pub record HasRates (a : Matrix) (b : Basics) (p : LinearProgram) (s : List Status) : Type 0 where

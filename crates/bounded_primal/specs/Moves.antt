@@ -17,8 +17,8 @@ use Rattle.lp_model.specs.declared.Stop.{Stop}
 use Rattle.lp_model.specs.RatesCalls.{IfOverflow}
 use Rattle.path_definitions.specs.Moves.{may_rise, may_fall, signed, room, stopper, reached}
 use Rattle.path_definitions.specs.Path.{Move}
-use Rattle.overflow_definitions.specs.Formulas.{limit_numbered, number_of_limit}
-use Rattle.overflow_definitions.specs.Statements.{Primal, belongs, is_between}
+use Rattle.evidence_definitions.specs.Formulas.{limit_numbered, number_of_limit}
+use Rattle.evidence_definitions.specs.Statements.{Primal, belongs, is_between}
 use Rattle.bounded_primal.specs.Calls.{StopsAt}
 use Rattle.bounded_primal.specs.declared.moves.Stopper.{Stopper}
 

@@ -8,7 +8,7 @@ use Rattle.frac128.specs.declared.Op.TheVariants.{Sub, Div}
 use Rattle.lp_definitions.specs.LinearProgram.{LinearProgram, Vector, IsVariable}
 use Rattle.lp_definitions.specs.declared.Evidence.{Evidence}
 use Rattle.path_definitions.specs.Moves.{limit_ahead, is_no_later}
-use Rattle.overflow_definitions.specs.Formulas.{limit_numbered}
+use Rattle.evidence_definitions.specs.Formulas.{limit_numbered}
 use Rattle.bounded_primal.specs.Formulas.{IsRefusal}
 use Rattle.bounded_primal.specs.Moves.{motion}
 use Rattle.bounded_primal.specs.declared.formula.Formula.{Formula}

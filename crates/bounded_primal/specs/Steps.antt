@@ -9,7 +9,7 @@ use Rattle.frac128.specs.declared.Op.TheVariants.{Add, Sub, Mul, Div}
 use Rattle.lp_definitions.specs.LinearProgram.{LinearProgram, Vector}
 use Rattle.lp_definitions.specs.declared.Evidence.{Evidence}
 use Rattle.lp_definitions.specs.declared.Status.{Status}
-use Rattle.overflow_definitions.specs.Formulas.{limit_numbered, number_of_limit}
+use Rattle.evidence_definitions.specs.Formulas.{limit_numbered, number_of_limit}
 use Rattle.bounded_primal.specs.Formulas.{IsRefusal}
 use Rattle.bounded_primal.specs.Reach.{reach_formula}
 use Rattle.bounded_primal.specs.declared.formula.Formula.{Formula}

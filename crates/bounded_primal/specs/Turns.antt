@@ -16,8 +16,8 @@ use Rattle.lp_model.specs.declared.reports.Outcome.{Outcome}
 use Rattle.lp_model.specs.declared.reports.Outcome.TheVariants.{Unbounded}
 use Rattle.path_definitions.specs.Moves.{least, is_crossed, is_outside, signed, goes_up, entering}
 use Rattle.path_definitions.specs.Path.{Ending, IsStep, EndsAt}
-use Rattle.overflow_definitions.specs.Statements.{PathMoves, PathEnters}
-use Rattle.overflow_definitions.specs.Evidence.{EvidenceHolds}
+use Rattle.evidence_definitions.specs.Statements.{PathMoves, PathEnters}
+use Rattle.evidence_definitions.specs.Evidence.{EvidenceHolds}
 use Rattle.bounded_primal.specs.Calls.{LieIn, job_of, outcome_of, PointRefused}
 use Rattle.bounded_primal.specs.Moves.{motion, IsStepBy, move_by, StopperRefused}
 use Rattle.bounded_primal.specs.Steps.{ReturnRefused}

@@ -5,7 +5,7 @@ ghost use Rattle.exact_values.specs.Rational.{◌+ℚ◌, ◌*ℚ◌};
 ghost use Rattle.lp_definitions.specs.LinearProgram.{size, value_at, IsVariable, IsLinearProgram};
 ghost use Rattle.lp_definitions.specs.Basis.{basics_of, is_in, IsBasis, IsPointOf};
 ghost use Rattle.lp_definitions.specs.Waypoints.{KeepsWaypoints};
-ghost use Rattle.lp_algebra.specs.Points.{standing};
+ghost use Rattle.lp_laws.specs.Points.{standing};
 ghost use Rattle.bounded_primal.specs.Calls.{HasRates};
 ghost use Rattle.bounded_primal.specs.Stops.{PointOverflow};
 ghost use Rattle.bounded_primal.specs.Points.{TermRefused, ColumnTermRefused, IsSoFar, AreAdded, nonbasics_to, term_of};

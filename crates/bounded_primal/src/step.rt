@@ -6,7 +6,7 @@ ghost use Rattle.lp_definitions.specs.LinearProgram.{size, value_at, IsVariable}
 ghost use Rattle.lp_definitions.specs.Basis.{basics_of, IsNonbasic, IsPointOf, IsDirectionOf};
 ghost use Rattle.lp_definitions.specs.Waypoints.{KeepsWaypoints};
 ghost use Rattle.path_definitions.specs.Path.{after};
-ghost use Rattle.overflow_definitions.specs.Formulas.{limit_numbered, number_of_limit};
+ghost use Rattle.evidence_definitions.specs.Formulas.{limit_numbered, number_of_limit};
 ghost use Rattle.bounded_primal.specs.Calls.{HasRates};
 ghost use Rattle.bounded_primal.specs.Moves.{IsStepBy, move_by, return_by, StepOverflow};
 ghost use Rattle.bounded_primal.specs.Steps.{IsMoved, MovedRefused, SomeMovedRefused, ReturnRefused, step_formula};

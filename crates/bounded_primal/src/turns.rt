@@ -8,7 +8,7 @@ ghost use Rattle.lp_definitions.specs.Basis.{basics_of, IsBasic, IsNonbasic, IsD
 ghost use Rattle.lp_definitions.specs.Waypoints.{KeepsWaypoints};
 ghost use Rattle.lp_model.specs.RatesCalls.{IsRowOf, IfOverflow};
 ghost use Rattle.path_definitions.specs.Moves.{signed, entering};
-ghost use Rattle.overflow_definitions.specs.Formulas.{limit_numbered, number_of_limit};
+ghost use Rattle.evidence_definitions.specs.Formulas.{limit_numbered, number_of_limit};
 ghost use Rattle.bounded_primal.specs.Calls.{HasRates, PointRefused};
 ghost use Rattle.bounded_primal.specs.Moves.{may_move, motion, return_by, stopper_of as stopper_by};
 ghost use Rattle.bounded_primal.specs.Turns.{IsUncrossed, least_outside, ray_from, mover_by, Betters, IsEndless, ReturnStops, RunStops, TurnFound};

@@ -19,9 +19,9 @@ use Rattle.check_definitions.specs.declared.Verdict.TheVariants.{Checked, Unchec
 use Rattle.check_definitions.specs.Steps.{Step, operation, comparison, verdict_of, product_of, sum_steps, sum_of}
 use Rattle.check_definitions.specs.Checks.{is_not_below, is_not_above, is_at, is_crossed, by_sign, row_products, equation, equations, within_limit, within_limits, feasible_point, column_products, combined_steps, reduced_cost, reduced_costs, standing_price, standing_prices, ray_column, ray_columns, multiplied, limit_product, ray_limits, ray_sum, free_to_move, free_direction, bettering, optimal_check, crossed_check, infeasible_check, unbounded_check}
 use Rattle.check_definitions.proofs.Passing.{checked-append, holds_if_checked, each_checked}
-use Rattle.lp_algebra.proofs.Entries.{sum_of_entries}
-use Rattle.lp_algebra.proofs.Duality.{below_of_test}
-use Rattle.lp_algebra.proofs.Rays.{limit_of_positive, limit_of_negative}
+use Rattle.lp_laws.proofs.Entries.{sum_of_entries}
+use Rattle.lp_laws.proofs.Duality.{below_of_test}
+use Rattle.lp_laws.proofs.Rays.{limit_of_positive, limit_of_negative}
 use Rattle.certificate_check.proofs.Products.{sum_of-all, sum_of-filtered, sum_of-entries}
 
 -- ---- tests

@@ -15,8 +15,8 @@ use Rattle.exact_values.proofs.Ring_laws.{zero-add}
 use Rattle.lp_definitions.specs.declared.Change.{Change}
 use Rattle.lp_definitions.specs.LinearProgram.{LinearProgram, Vector, IsMatrix, IsColumn, IsVariable, KeepsEquations, numbers_from, entry, lower_of, upper_of, cost, for_min, size}
 use Rattle.lp_definitions.specs.Solutions.{IsWithinLimits, IsFeasible, AreProvingPrices, IsCrossed, IsRay, ProvesUnbounded, limit_against}
-use Rattle.lp_algebra.proofs.Duality.{test_of_below}
-use Rattle.lp_algebra.proofs.Rays.{limit_of_positive, limit_of_negative}
+use Rattle.lp_laws.proofs.Duality.{test_of_below}
+use Rattle.lp_laws.proofs.Rays.{limit_of_positive, limit_of_negative}
 use Rattle.check_definitions.specs.declared.Verdict.{Verdict}
 use Rattle.check_definitions.specs.declared.Verdict.TheVariants.{Checked, Failed, Unchecked}
 use Rattle.check_definitions.specs.Steps.{Step, operation, comparison, verdict_of, Product, product_of, sum_steps, sum_of}

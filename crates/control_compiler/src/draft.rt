@@ -10,7 +10,7 @@ ghost use Rattle.card_definitions.specs.Cards.{Card};
 use crate::labels::Labels;
 use crate::stop::CompileStop;
 use control_definitions::ControlFault;
-use control_text::label;
+use control_verbs::label;
 use control_verbs::{Statement, card_fault, is_pend, label_in, verb_of};
 use name_table::Name;
 

@@ -7,7 +7,7 @@ use crate::labels::Labels;
 use crate::stop::CompileStop;
 use card_reader::Cards;
 use control_definitions::ControlFault;
-use control_text::label;
+use control_verbs::label;
 use control_verbs::{head_fault, label_in};
 use std::alloc::Global;
 

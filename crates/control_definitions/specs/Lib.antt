@@ -3,3 +3,4 @@ pub mod Statements
 pub mod Arguments
 pub mod Verbs
 pub mod Compiled
+pub mod Cells

@@ -12,7 +12,7 @@ use Rattle.listing_definitions.specs.Report.{Report}
 use Rattle.listing_definitions.specs.Ending.{Ending, status_of}
 use Rattle.listing_definitions.specs.Ending as endings
 use Rattle.listing_definitions.specs.Listing.{listing, ending_text}
-use Rattle.solver_definitions.specs.Solving.{Solving}
+use Rattle.question_definitions.specs.Solving.{Solving}
 use Rattle.run_definitions.specs.Answer.{Job, bytes_of, Gains, IsProgramOf, run, MayEnd, by_itself as ends_by_itself, memory_in_run, IsPossibleListing, IsCutShort, IsAnswered}
 use Rattle.run_definitions.specs.Answer as answers
 use Rattle.control_run.specs.declared.end.End.{End}

@@ -9,7 +9,7 @@ use Rattle.control_definitions.specs.declared.Demand.{Demand}
 use Rattle.control_definitions.specs.declared.Demand.TheVariants.{Xdonfs, Xdounb}
 use Rattle.control_definitions.specs.Program.{Initialz, MoveName, MoveNumber, MoveLimit, Mvadr, Goto, Exit}
 use Rattle.listing_definitions.specs.declared.Mark.{Mark}
-use Rattle.cell_definitions.specs.Cells.{Cells, default_cells, move_name, move_number, move_limit, set_demand}
+use Rattle.control_definitions.specs.Cells.{Cells, default_cells, move_name, move_number, move_limit, set_demand}
 use Rattle.run_definitions.specs.State.{State}
 use Rattle.run_definitions.specs.Verbs.{mark_after, verb_move}
 use Rattle.control_run.specs.declared.act.Act.TheVariants.{Next, Jump, Ends}

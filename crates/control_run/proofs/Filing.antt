@@ -19,7 +19,7 @@ use Rattle.control_definitions.specs.Program.{Convert}
 use Rattle.listing_definitions.specs.declared.VerbFault.TheVariants.{DeckNotFound}
 use Rattle.listing_definitions.specs.Report.{Converted}
 use Rattle.listing_definitions.specs.Text.{report_text}
-use Rattle.cell_definitions.specs.Cells.{Cells}
+use Rattle.control_definitions.specs.Cells.{Cells}
 use Rattle.run_definitions.specs.State.{State, problem_of}
 use Rattle.run_definitions.specs.Moves.{Nothing, Prints, Outcome, next, stops, Move, Gives}
 use Rattle.run_definitions.specs.Verbs.{deck_stop, or_deck_fault, size_of, verb_move}

@@ -15,9 +15,9 @@ use Rattle.listing_definitions.specs.declared.VerbFault.TheVariants as verb_faul
 use Rattle.listing_definitions.specs.Report.{SetUp}
 use Rattle.listing_definitions.specs.Ending.{VerbStop}
 use Rattle.listing_definitions.specs.Text.{report_text}
-use Rattle.solver_definitions.specs.Answers.{Basis}
+use Rattle.question_definitions.specs.Answers.{Basis}
 use Rattle.opening_path.specs.Laws.{SelectionLaws}
-use Rattle.cell_definitions.specs.Cells.{Cells}
+use Rattle.control_definitions.specs.Cells.{Cells}
 use Rattle.run_definitions.specs.State.{Present, State, problem_of, choice_of}
 use Rattle.run_definitions.specs.Moves.{Prints, Outcome, next, stops, Move, Does, MayStop, Gives}
 use Rattle.run_definitions.specs.Verbs.{or_selection_fault, RangeOverflows, verb_move, statement_move}

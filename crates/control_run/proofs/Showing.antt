@@ -15,9 +15,9 @@ use Rattle.listing_definitions.specs.declared.VerbFault.{VerbFault}
 use Rattle.listing_definitions.specs.declared.VerbFault.TheVariants as verb_fault
 use Rattle.listing_definitions.specs.Report.{SolutionLines, Solution}
 use Rattle.listing_definitions.specs.Ending.{VerbStop}
-use Rattle.solver_definitions.specs.Answers.{Basis, Sheet, OfSolution}
-use Rattle.cell_definitions.specs.Cells.{Cells}
-use Rattle.solving_definitions.specs.Sections.{IsShown}
+use Rattle.question_definitions.specs.Answers.{Basis, Sheet, OfSolution}
+use Rattle.control_definitions.specs.Cells.{Cells}
+use Rattle.answer_definitions.specs.Sections.{IsShown}
 use Rattle.run_definitions.specs.State.{Present, State, choice_of, present_basis}
 use Rattle.run_definitions.specs.Moves.{Prints, Outcome, next, stops, Move, Gives, or_fault}
 use Rattle.run_definitions.specs.Verbs.{asks, shows_present, verb_move, statement_move}

@@ -8,7 +8,7 @@ use Rattle.lp_definitions.specs.LinearProgram.{Matrix, LinearProgram}
 use Rattle.problem_definitions.specs.Problem.{Problem}
 use Rattle.problem_file.specs.Filed.{Filed, filed_under}
 use Rattle.control_definitions.specs.Program.{Primal}
-use Rattle.cell_definitions.specs.Cells.{Cells}
+use Rattle.control_definitions.specs.Cells.{Cells}
 use Rattle.selection_definitions.specs.Choice.{Choice}
 use Rattle.selection_definitions.specs.Selection.{selected}
 use Rattle.listing_definitions.specs.declared.Mark.{Mark}
@@ -19,8 +19,8 @@ use Rattle.listing_definitions.specs.declared.VerbFault.TheVariants.{NoSetup}
 use Rattle.listing_definitions.specs.Report.{Verdict, Check, Report, Solved}
 use Rattle.listing_definitions.specs.Text.{report_text}
 use Rattle.listing_definitions.specs.Ending as endings
-use Rattle.solver_definitions.specs.Answers.{Basis, Sheet, OfPath, PathEnd, Reached, PathLimit, PathNotBuilt}
-use Rattle.solving_definitions.specs.Real.{IsSolvedUnless}
+use Rattle.question_definitions.specs.Answers.{Basis, Sheet, OfPath, PathEnd, Reached, PathLimit, PathNotBuilt}
+use Rattle.answer_definitions.specs.Real.{IsSolvedUnless}
 use Rattle.opening_path.specs.Missing.{IsMissing}
 use Rattle.run_definitions.specs.State.{Present, present_basis, path_of, State, choice_of, gone_through}
 use Rattle.run_definitions.specs.Moves.{Gain, Nothing, Prints, punched_by, Outcome, Ends as EndsRun, next, jump, stops, Move, MayStop, Asks, Gives, or_fault}

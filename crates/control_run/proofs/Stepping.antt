@@ -2,7 +2,7 @@
 use Rattle.std.proofs.Common.{◌≡◌, ℕ, ◌+◌, ◌-◌, ◌<◌, List, Option, Some, Ok, Err, slice_get, refl, sym, ap, subst, arith}
 use Rattle.job_devices.specs.declared.device.WriteStop.{WriteStop}
 use Rattle.control_definitions.specs.Program.{Statement, Program}
-use Rattle.solver_definitions.specs.Solving.{Solving}
+use Rattle.question_definitions.specs.Solving.{Solving}
 use Rattle.run_definitions.specs.State.{State}
 use Rattle.run_definitions.specs.Moves.{Gain, Outcome, Gives}
 use Rattle.run_definitions.specs.Verbs.{statement_move}

@@ -21,9 +21,9 @@ use Rattle.listing_definitions.specs.declared.VerbFault.{VerbFault}
 use Rattle.listing_definitions.specs.declared.VerbFault.TheVariants as faults
 use Rattle.listing_definitions.specs.Report.{SolutionLines, Solution}
 use Rattle.listing_definitions.specs.Text.{report_text}
-use Rattle.solver_definitions.specs.Answers.{Basis, Sheet}
-use Rattle.solving_definitions.specs.Sections.{IsShown}
-use Rattle.cell_definitions.specs.Cells.{Cells}
+use Rattle.question_definitions.specs.Answers.{Basis, Sheet}
+use Rattle.answer_definitions.specs.Sections.{IsShown}
+use Rattle.control_definitions.specs.Cells.{Cells}
 use Rattle.run_definitions.specs.State.{choice_of}
 use Rattle.run_definitions.specs.Verbs.{selection_verb_fault}
 use Rattle.control_run.specs.declared.act.Act.{Act}

@@ -15,9 +15,9 @@ use Rattle.listing_definitions.specs.declared.Mark.TheVariants.{Optimal, Infeasi
 use Rattle.listing_definitions.specs.declared.Solver.TheVariants.{Primal as ByPrimal}
 use Rattle.listing_definitions.specs.declared.VerbFault.TheVariants.{NoSetup}
 use Rattle.listing_definitions.specs.Report.{Verdict, Check, Solved}
-use Rattle.cell_definitions.specs.Cells.{Cells}
-use Rattle.solver_definitions.specs.Answers.{Basis, Sheet, Reached, PathLimit, PathNotBuilt}
-use Rattle.solving_definitions.specs.Real.{IsSolvedUnless}
+use Rattle.control_definitions.specs.Cells.{Cells}
+use Rattle.question_definitions.specs.Answers.{Basis, Sheet, Reached, PathLimit, PathNotBuilt}
+use Rattle.answer_definitions.specs.Real.{IsSolvedUnless}
 use Rattle.opening_path.specs.Missing.{IsMissing}
 use Rattle.run_definitions.specs.State.{Present, present_basis, choice_of}
 use Rattle.run_definitions.specs.Moves.{Gain, Nothing, Prints}

@@ -14,7 +14,7 @@ use Rattle.control_definitions.specs.Program.{Program}
 use Rattle.listing_definitions.specs.Report.{Report}
 use Rattle.listing_definitions.specs.Ending.{Ending, PrintFault, Memory, status_of}
 use Rattle.listing_definitions.specs.Listing.{reports_text, listing}
-use Rattle.solver_definitions.specs.Solving.{Solving}
+use Rattle.question_definitions.specs.Solving.{Solving}
 use Rattle.run_definitions.specs.State.{State}
 use Rattle.run_definitions.specs.Moves.{Gain, punched_by, Outcome, Goes as GoesOn, Ends as EndsRun}
 use Rattle.run_definitions.specs.Run.{max_executed, Step, Reaches, IsRun}

@@ -8,7 +8,7 @@ use Rattle.job_devices.specs.declared.device.WriteStop.{WriteStop}
 use Rattle.job_devices.specs.Text.{Writes}
 use Rattle.control_definitions.specs.Program.{Verb, MoveLimit, Mvadr, Goto}
 use Rattle.listing_definitions.specs.Text.{report_text}
-use Rattle.solver_definitions.specs.Solving.{Solving}
+use Rattle.question_definitions.specs.Solving.{Solving}
 use Rattle.run_definitions.specs.State.{State}
 use Rattle.run_definitions.specs.Moves.{Gain, Nothing, Prints, Punches, punched_by, Outcome, Goes, Ends, next, jump, Move, Gives}
 use Rattle.run_definitions.specs.Verbs.{statement_move}

@@ -2,8 +2,8 @@
 ghost use Rattle.std.specs.Prelude.{◌≡◌, ℕ, List, [], None, IfSome};
 ghost use Rattle.control_definitions.specs.Program as program;
 ghost use Rattle.lp_definitions.specs.Basis.{opening_statuses};
-ghost use Rattle.solver_definitions.specs.Answers as answers;
-ghost use Rattle.solving_definitions.specs.Real.{IsSolvedUnless};
+ghost use Rattle.question_definitions.specs.Answers as answers;
+ghost use Rattle.answer_definitions.specs.Real.{IsSolvedUnless};
 ghost use Rattle.report_text.specs.declared.sheet.Sheet as sheets;
 ghost use Rattle.report_text.specs.Sheets.{IsSheet};
 ghost use Rattle.report_text.specs.Verdicts.{IsOutcome, verdict_shown, check_shown};

@@ -9,11 +9,10 @@ ghost use Rattle.control_definitions.specs.Compiled.{has_bad_label, has_label_tw
 use crate::given::is_label;
 use crate::reading::verb_of;
 use crate::tables::{cell_of, demand_of, verb_word_of};
+use crate::columns::{has_open_quote, label, statement};
+use crate::parts::{one_argument, quotation};
+use crate::words::{Arguments, arguments_of, first_argument, verb_word};
 use control_definitions::MAX_STATEMENTS;
-use control_text::{
-    Arguments, arguments_of, first_argument, has_open_quote, label, one_argument, quotation,
-    statement, verb_word,
-};
 
 const NO_PROGRAM: u8 = 1;
 

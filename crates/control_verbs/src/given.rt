@@ -6,7 +6,7 @@ ghost use Rattle.control_definitions.specs.Arguments.{title_argument, quoted_nam
 
 use crate::text::Text;
 use control_definitions::MAX_STEPS;
-use control_text::quotation;
+use crate::parts::quotation;
 use deck_fields::number;
 use frac128::Frac;
 use name_table::Name;

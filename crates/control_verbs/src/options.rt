@@ -4,13 +4,13 @@ ghost use Rattle.control_definitions.specs.Statements.{split_outside, is_comma};
 ghost use Rattle.control_definitions.specs.Arguments.{set_words, sense_choice, set_choice, quotation, choices, setup_arguments};
 ghost use Rattle.control_definitions.specs.Arguments.{Direction as TheDirection};
 ghost use Rattle.card_definitions.specs.Words.{named};
-ghost use Rattle.control_text.specs.Pieces.{parts_behind};
+ghost use Rattle.control_verbs.specs.Pieces.{parts_behind};
 ghost use Rattle.control_verbs.specs.Shown.{options_shown};
 ghost use Rattle.control_verbs.specs.Chosen.{set_shown, choice_shown, first_choice, behind_first, added, all_added, nothing_chosen, chosen_options};
 
 use crate::given::name_in;
 use crate::verb::SetupOptions;
-use control_text::{quotation, split_argument};
+use crate::parts::{quotation, split_argument};
 use lp_definitions::Sense;
 use name_table::Name;
 

@@ -8,3 +8,4 @@ pub mod CardTexts
 pub mod Accepted
 pub mod Validity
 pub mod Converted
+mod MadeJobs

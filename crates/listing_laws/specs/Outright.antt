@@ -15,9 +15,9 @@ use Rattle.listing_definitions.specs.declared.Mark.TheVariants.{Optimal}
 use Rattle.listing_definitions.specs.declared.Solver.TheVariants.{Primal as ByPrimal}
 use Rattle.listing_definitions.specs.Report.{SolutionLines, Verdict, Check, Report, Titled, Converted, Revised, SetUp, Punched, Solved, Solution, Ranges, Parametric}
 use Rattle.listing_definitions.specs.Ending.{Ending}
-use Rattle.solver_definitions.specs.Answers.{Basis, Sheet}
-use Rattle.solver_definitions.specs.Solving.{Solving}
-use Rattle.solving_definitions.specs.Real.{staged}
+use Rattle.question_definitions.specs.Answers.{Basis, Sheet}
+use Rattle.question_definitions.specs.Solving.{Solving}
+use Rattle.answer_definitions.specs.Real.{staged}
 use Rattle.run_definitions.specs.State.{Present, State}
 use Rattle.run_definitions.specs.Moves.{Prints, Goes, Ends}
 use Rattle.run_definitions.specs.Run.{Step}

@@ -9,7 +9,7 @@ use Rattle.job_devices.specs.declared.device.WriteStop.TheVariants.{Failed, NoMe
 use Rattle.deck_definitions.specs.Written.{card_text}
 use Rattle.listing_definitions.specs.Ending.{Ending, status_of}
 use Rattle.listing_definitions.specs.Listing.{listing, ending_text}
-use Rattle.solver_definitions.specs.Solving.{Solving}
+use Rattle.question_definitions.specs.Solving.{Solving}
 use Rattle.run_definitions.specs.Answer.{Job, Gains, MayEnd, IsCutShort, IsAnswered, whole, print_fails, print_wants_memory}
 use Rattle.control_run.specs.declared.status.Status.{Status}
 use Rattle.control_run.specs.Ends.{code_of}

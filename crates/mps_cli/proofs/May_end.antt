@@ -1,6 +1,6 @@
 -- A job may end with what stops it.
 use Rattle.std.proofs.Common.{◌≡◌, ℕ, List, [], Option, Some, refl, subst}
-use Rattle.solver_definitions.specs.Solving.{Solving}
+use Rattle.question_definitions.specs.Solving.{Solving}
 use Rattle.run_definitions.specs.Answer.{Read, MayEnd, read_fails, by_itself, card_fault, control_fault, memory_at_start}
 use Rattle.mps_cli.specs.declared.prepare.Prepared.{Prepared}
 use Rattle.mps_cli.specs.declared.stop.Stop.{Stop}

@@ -7,8 +7,8 @@ use Rattle.lp_definitions.specs.LinearProgram.{LinearProgram, Vector, value_at, 
 use Rattle.lp_definitions.specs.Basis.{status_of, basics_of, opening_statuses, price_at}
 use Rattle.lp_definitions.specs.declared.Status.{Status}
 use Rattle.lp_definitions.specs.declared.Status.TheVariants.{Bs, Ll, Ul, Fr}
-use Rattle.lp_algebra.specs.Rates.{opening_rate}
-use Rattle.lp_algebra.proofs.Values.{sub-zero}
+use Rattle.lp_laws.specs.Rates.{opening_rate}
+use Rattle.lp_laws.proofs.Values.{sub-zero}
 use Rattle.path_definitions.specs.Moves.{on_limit, is_fixed}
 use Rattle.path_laws.proofs.Ends.{value_at-listed}
 use Rattle.path_laws.proofs.Numbered.{map_same}
@@ -16,9 +16,9 @@ use Rattle.problem_definitions.specs.Problem.{Problem}
 use Rattle.listing_definitions.specs.Report.{Value, Code, Number, limit_value}
 use Rattle.listing_definitions.specs.declared.At.TheVariants.{Equal, Lower, Upper, Free}
 use Rattle.report_text.specs.Lines as printed
-use Rattle.solving_definitions.specs.Lines as asked
-use Rattle.solver_definitions.specs.Answers.{Sheet}
-use Rattle.solving_definitions.specs.Sections.{IsShown, solution_row, solution_column, solution_lines}
+use Rattle.answer_definitions.specs.Lines as asked
+use Rattle.question_definitions.specs.Answers.{Sheet}
+use Rattle.answer_definitions.specs.Sections.{IsShown, solution_row, solution_column, solution_lines}
 use Rattle.opening_turn.specs.Opening.{AreAtZero, zero_vector, opening_tableau, opening_point, opening_prices}
 use Rattle.opening_turn.proofs.Tableaus.{is_tableau}
 use Rattle.opening_turn.proofs.Turning.{prices_same}

@@ -15,9 +15,9 @@ use Rattle.path_laws.proofs.Steps.{opening_is}
 use Rattle.path_laws.proofs.OnePath.{one_end, step_or_end}
 use Rattle.path_laws.proofs.Ends.{optimal_end}
 use Rattle.path_laws.proofs.Endless.{crossed_end}
-use Rattle.solver_definitions.specs.Answers.{Basis, Sheet, Reached, PathLimit}
-use Rattle.solving_definitions.specs.Verdicts.{IsVerdict, found}
-use Rattle.solving_definitions.specs.Real.{IsSolvedUnless}
+use Rattle.question_definitions.specs.Answers.{Basis, Sheet, Reached, PathLimit}
+use Rattle.answer_definitions.specs.Verdicts.{IsVerdict, found}
+use Rattle.answer_definitions.specs.Real.{IsSolvedUnless}
 use Rattle.report_text.specs.declared.sheet.Sheet.{Sheet as Shown}
 use Rattle.opening_turn.specs.Opening.{opening_point, opening_prices}
 use Rattle.opening_path.specs.Missing.{IsMissing, infeasible_there, unbounded_there, goes_on_there}

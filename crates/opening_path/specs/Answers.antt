@@ -5,7 +5,7 @@
 --     AreShown p s shown       the lists of SOLUTION have their lengths
 use Rattle.std.specs.Prelude.{◌≡◌, [], length}
 use Rattle.lp_definitions.specs.LinearProgram.{LinearProgram, size}
-use Rattle.solver_definitions.specs.Answers as answers
+use Rattle.question_definitions.specs.Answers as answers
 use Rattle.report_text.specs.declared.sheet.Sheet.{Sheet}
 use Rattle.report_text.specs.Verdicts.{IsOutcome, verdict_shown, check_shown}
 use Rattle.opening_path.specs.declared.PathAnswer.{PathAnswer}

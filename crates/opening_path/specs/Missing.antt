@@ -2,7 +2,7 @@
 use Rattle.std.specs.Prelude.{ℕ, ◌≤◌, List}
 use Rattle.exact_values.specs.Rational.{ℚ}
 use Rattle.path_definitions.specs.Path.{EndsInfeasible, EndsUnbounded, IsStep, EndsAt}
-use Rattle.solver_definitions.specs.Answers.{Basis, Sheet}
+use Rattle.question_definitions.specs.Answers.{Basis, Sheet}
 
 -- A path that may take no step stops at the limit, which is built: so a step counts only where the limit allows it.
 pub data IsMissing (sheet : Sheet) (s : Basis) (limit : ℕ) : Type 0 where

@@ -3,7 +3,7 @@
 ghost use Rattle.std.specs.Prelude.{◌≡◌};
 ghost use Rattle.certificate_check.specs.Results.{IsNotFailed};
 ghost use Rattle.report_text.specs.Verdicts.{check_shown};
-ghost use Rattle.solving_definitions.specs.Verdicts.{found};
+ghost use Rattle.answer_definitions.specs.Verdicts.{found};
 
 use certificate_check::Verdict;
 use frac128::Refused;

@@ -5,8 +5,8 @@
 ghost use Rattle.std.specs.Prelude.{◌≡◌, ◌≤◌, ℕ, None, IfOk};
 ghost use Rattle.lp_definitions.specs.LinearProgram.{IsLinearProgram};
 ghost use Rattle.lp_definitions.specs.Basis.{opening_statuses};
-ghost use Rattle.solving_definitions.specs.Real.{IsSolvedUnless};
-ghost use Rattle.solving_definitions.specs.Sections.{IsShown};
+ghost use Rattle.answer_definitions.specs.Real.{IsSolvedUnless};
+ghost use Rattle.answer_definitions.specs.Sections.{IsShown};
 ghost use Rattle.path_definitions.specs.Path.{EndsOptimal, EndsCrossed, EndsAt};
 ghost use Rattle.report_text.specs.Lines.{solution_lines};
 ghost use Rattle.report_text.specs.Sheets.{IsSheet};

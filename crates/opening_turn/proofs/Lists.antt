@@ -4,7 +4,7 @@ use Rattle.std.proofs.lemmas.List.{map-append, length-map}
 use Rattle.exact_values.specs.Rational.{ℚ}
 use Rattle.lp_definitions.specs.LinearProgram.{Matrix, Vector, numbers_from, size}
 use Rattle.path_definitions.specs.Path.{listed}
-use Rattle.lp_algebra.proofs.Opening.{length-numbers_from, numbers_from-append}
+use Rattle.lp_laws.proofs.Opening.{length-numbers_from, numbers_from-append}
 
 -- one element more
 pub one_value_more : (f : Vector) (items : List ℚ) (k : ℕ) (x : ℚ) → items ≡ map f (numbers_from 1 k) → x ≡ f (k + 1) → items ++ (x ∷ []) ≡ map f (numbers_from 1 (k + 1))

@@ -6,10 +6,10 @@ use Rattle.exact_values.specs.Tests.{lt_ℚ, eq_ℚ}
 use Rattle.lp_definitions.specs.LinearProgram.{Matrix, LinearProgram, Vector, IsRow, IsColumn, IsVariable, IsLinearProgram, lower_of, upper_of, entry, cost, for_min, objective_value}
 use Rattle.lp_definitions.specs.Basis.{opening_statuses, objective_rate}
 use Rattle.lp_definitions.specs.declared.Status.{Status}
-use Rattle.lp_algebra.specs.Rates.{opening_rate}
-use Rattle.lp_algebra.specs.Vectors.{unit}
-use Rattle.lp_algebra.proofs.Functionals.{objective_of_unit}
-use Rattle.lp_algebra.proofs.Values.{clash}
+use Rattle.lp_laws.specs.Rates.{opening_rate}
+use Rattle.lp_laws.specs.Vectors.{unit}
+use Rattle.lp_laws.proofs.Functionals.{objective_of_unit}
+use Rattle.lp_laws.proofs.Values.{clash}
 use Rattle.path_definitions.specs.Moves.{on_limits, is_fixed, rises_from, falls_from, lowers, signed}
 use Rattle.path_definitions.specs.Path.{excess_rate, worth_rate}
 use Rattle.opening_turn.specs.Opening.{AreAtZero, opening_tableau}

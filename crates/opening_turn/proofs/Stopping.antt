@@ -5,8 +5,8 @@ use Rattle.exact_values.specs.Rational.{ℚ, zero_ℚ, one_ℚ, ◌-ℚ◌, ◌/
 use Rattle.exact_values.specs.Rational as rational
 use Rattle.exact_values.specs.Tests.{lt_ℚ}
 use Rattle.lp_definitions.specs.LinearProgram.{LinearProgram, Vector, IsRow, IsVariable, lower_of, upper_of, entry}
-use Rattle.lp_algebra.specs.Rates.{opening_rate}
-use Rattle.lp_algebra.proofs.Values.{clash}
+use Rattle.lp_laws.specs.Rates.{opening_rate}
+use Rattle.lp_laws.proofs.Values.{clash}
 use Rattle.path_definitions.specs.Moves.{limit_ahead, stopper}
 use Rattle.path_definitions.specs.Path.{speeds}
 use Rattle.path_laws.proofs.Searches.{stopper_nothing}

@@ -7,11 +7,11 @@ use Rattle.exact_values.proofs.Sums.{sum_to-zero}
 use Rattle.lp_definitions.specs.LinearProgram.{Matrix, LinearProgram, IsRow, IsColumn, IsVariable, KeepsEquations, lower_of, upper_of, entry}
 use Rattle.lp_definitions.specs.Basis.{StandsAt, status_of, basics_of, is_in, AreRates, opening_status_of, opening_statuses, IsTableau}
 use Rattle.lp_definitions.specs.declared.Status.TheVariants.{Bs, Ll}
-use Rattle.lp_algebra.specs.Rates.{opening_rate}
-use Rattle.lp_algebra.specs.Vectors.{unit}
-use Rattle.lp_algebra.proofs.Functionals.{unit_row}
-use Rattle.lp_algebra.proofs.Opening.{AreRates-opening, is_in-row_basics}
-use Rattle.lp_algebra.proofs.Statuses.{status_of-opening, basics_of-opening}
+use Rattle.lp_laws.specs.Rates.{opening_rate}
+use Rattle.lp_laws.specs.Vectors.{unit}
+use Rattle.lp_laws.proofs.Functionals.{unit_row}
+use Rattle.lp_laws.proofs.Opening.{AreRates-opening, is_in-row_basics}
+use Rattle.lp_laws.proofs.Statuses.{status_of-opening, basics_of-opening}
 use Rattle.opening_turn.specs.Opening.{AreAtZero, zero_vector, opening_tableau}
 
 -- ---- columns, by the numbers of their variables

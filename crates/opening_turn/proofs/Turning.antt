@@ -4,7 +4,7 @@ use Rattle.std.specs.Prelude.{is_some, nat_le, if◌then◌else◌}
 use Rattle.exact_values.specs.Rational.{zero_ℚ}
 use Rattle.lp_definitions.specs.LinearProgram.{LinearProgram, size, IsVariable, IsLinearProgram, cost}
 use Rattle.lp_definitions.specs.Basis.{basics_of, opening_statuses, price_at, objective_rate}
-use Rattle.lp_algebra.specs.Rates.{opening_rate}
+use Rattle.lp_laws.specs.Rates.{opening_rate}
 use Rattle.path_definitions.specs.Moves.{stopper}
 use Rattle.path_definitions.specs.Path.{Turn, Moves, Ends, Ending, EndsOptimal, EndsCrossed, after, EndsAt, crossed, outside, mover, worth_rate, speeds, bring_back, run_until, better, turn_for, turn, listed}
 use Rattle.path_laws.proofs.Numbered.{map_same}

@@ -6,7 +6,7 @@ use Rattle.lp_definitions.specs.LinearProgram.{LinearProgram, size, IsRow}
 use Rattle.lp_definitions.specs.Basis.{is_in, basics_of, opening_statuses}
 use Rattle.path_definitions.specs.Moves.{least, is_outside}
 use Rattle.path_laws.proofs.Searches.{least_is, least_none, found_passes}
-use Rattle.lp_algebra.proofs.Values.{clash}
+use Rattle.lp_laws.proofs.Values.{clash}
 use Rattle.opening_turn.specs.Opening.{zero_vector}
 use Rattle.opening_turn.proofs.Tableaus.{is_in-opening}
 

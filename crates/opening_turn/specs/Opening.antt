@@ -7,7 +7,7 @@ use Rattle.std.specs.Prelude.{◌≡◌, ℕ, ◌+◌, ◌-◌, List, Some, None
 use Rattle.exact_values.specs.Rational.{ℚ, zero_ℚ}
 use Rattle.lp_definitions.specs.LinearProgram.{LinearProgram, Vector, IsColumn, lower_of, upper_of, cost}
 use Rattle.lp_definitions.specs.Basis.{Tableau}
-use Rattle.lp_algebra.specs.Rates.{opening_rate}
+use Rattle.lp_laws.specs.Rates.{opening_rate}
 use Rattle.path_definitions.specs.Path.{listed}
 
 -- as columns without bounds lie

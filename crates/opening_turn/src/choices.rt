@@ -3,7 +3,7 @@
 ghost use Rattle.std.specs.Prelude.{◌≡◌, ◌+◌, true, Some, None, is_some};
 ghost use Rattle.lp_definitions.specs.LinearProgram.{IsVariable, IsRow, IsColumn};
 ghost use Rattle.lp_definitions.specs.Basis.{opening_statuses};
-ghost use Rattle.lp_algebra.specs.Rates.{opening_rate};
+ghost use Rattle.lp_laws.specs.Rates.{opening_rate};
 ghost use Rattle.path_definitions.specs.Moves.{is_crossed, is_below, is_above, is_outside, entering, limit_ahead, stopper};
 ghost use Rattle.path_definitions.specs.Path as path;
 ghost use Rattle.opening_turn.specs.Opening.{AreAtZero, zero_vector, opening_tableau};

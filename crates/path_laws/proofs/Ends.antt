@@ -9,10 +9,10 @@ use Rattle.lp_definitions.specs.Solutions.{IsWithinLimits, IsFeasible, AreProvin
 use Rattle.lp_definitions.specs.Basis.{is_in, basics_of, status_of, is_basic, IsBasis, IsAllowed, StandsAt, IsPointOf, Tableau, IsTableau, IsFixed, IsRightAt, price_at, objective_rate}
 use Rattle.lp_definitions.specs.declared.Status.{Status}
 use Rattle.lp_definitions.specs.declared.Status.TheVariants.{Bs, Ll, Ul, Fr}
-use Rattle.lp_algebra.proofs.Equations.{KeepsEquations-same}
-use Rattle.lp_algebra.proofs.Uniqueness.{is_in-basics_of}
-use Rattle.lp_algebra.proofs.Optimal.{prices_prove}
-use Rattle.lp_algebra.proofs.Duality.{best_by_prices}
+use Rattle.lp_laws.proofs.Equations.{KeepsEquations-same}
+use Rattle.lp_laws.proofs.Uniqueness.{is_in-basics_of}
+use Rattle.lp_laws.proofs.Optimal.{prices_prove}
+use Rattle.lp_laws.proofs.Duality.{best_by_prices}
 use Rattle.path_definitions.specs.Moves.{on_limit, on_limits, is_crossed, is_outside, is_fixed, rises_from, falls_from, lowers}
 use Rattle.path_definitions.specs.Path.{EndsOptimal, Ends, EndsAt, listed, worth_rate, mover}
 use Rattle.path_laws.specs.Laws.{IsNonsingularBasis, ProvedOptimal}

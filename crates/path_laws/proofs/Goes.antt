@@ -4,11 +4,11 @@ use Rattle.exact_values.specs.Rational.{ℚ}
 use Rattle.lp_definitions.specs.LinearProgram.{LinearProgram}
 use Rattle.lp_definitions.specs.Basis.{basics_of, opening_statuses, AreRates, Tableau, IsTableau}
 use Rattle.lp_definitions.specs.declared.Status.{Status}
-use Rattle.lp_algebra.specs.Rates.{opening_rate, combination}
-use Rattle.lp_algebra.specs.Points.{standing}
-use Rattle.lp_algebra.proofs.Opening.{AreRates-opening}
-use Rattle.lp_algebra.proofs.Points.{IsPointOf-combination}
-use Rattle.lp_algebra.proofs.Statuses.{basics_of-opening}
+use Rattle.lp_laws.specs.Rates.{opening_rate, combination}
+use Rattle.lp_laws.specs.Points.{standing}
+use Rattle.lp_laws.proofs.Opening.{AreRates-opening}
+use Rattle.lp_laws.proofs.Points.{IsPointOf-combination}
+use Rattle.lp_laws.proofs.Statuses.{basics_of-opening}
 use Rattle.path_definitions.specs.Path.{Turn, Moves, Ends, Ending, turn, after, IsStep, EndsAt, GoesOnFor}
 use Rattle.path_laws.specs.Laws.{IsNonsingularBasis, HasTableau, EndsWithin}
 use Rattle.path_laws.proofs.Steps.{step_leads_to, opening_is}

@@ -3,7 +3,7 @@ use Rattle.std.proofs.Common.{◌≡◌, ℕ, ◌≤◌, List, [], ◌∷◌, le
 use Rattle.lp_definitions.specs.LinearProgram.{LinearProgram, IsLinearProgram}
 use Rattle.lp_definitions.specs.Basis.{basics_of, Tableau, IsTableau}
 use Rattle.lp_definitions.specs.declared.Status.{Status}
-use Rattle.lp_algebra.proofs.Uniqueness.{one_point, one_table}
+use Rattle.lp_laws.proofs.Uniqueness.{one_point, one_table}
 use Rattle.path_definitions.specs.Path.{Ending, turn, after, IsStep, EndsAt, IsPath, last_of, PathEnds, GoesOnFor}
 use Rattle.path_laws.specs.Laws.{IsNonsingularBasis, SameEnds, EndsWithin}
 use Rattle.path_laws.proofs.OneTurn.{SameTableau, turn_same}

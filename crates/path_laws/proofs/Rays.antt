@@ -15,12 +15,12 @@ use Rattle.lp_definitions.specs.Basis.{IsNonsingular, is_in, basics_of, status_o
 use Rattle.lp_definitions.specs.RatesEvidence.{multiplier}
 use Rattle.lp_definitions.specs.declared.Status.{Status}
 use Rattle.lp_definitions.specs.declared.Status.TheVariants.{Bs, Ll, Ul, Fr}
-use Rattle.lp_algebra.specs.Vectors.{functional, unit, column_value}
-use Rattle.lp_algebra.proofs.Values.{clash}
-use Rattle.lp_algebra.proofs.Functionals.{functional_at_unit, KeepsEquations-unit}
-use Rattle.lp_algebra.proofs.Uniqueness.{is_in-basics_of}
-use Rattle.lp_algebra.proofs.Combination.{multiplier_vanishes}
-use Rattle.lp_algebra.proofs.Rays.{ray_above, ray_below}
+use Rattle.lp_laws.specs.Vectors.{functional, unit, column_value}
+use Rattle.lp_laws.proofs.Values.{clash}
+use Rattle.lp_laws.proofs.Functionals.{functional_at_unit, KeepsEquations-unit}
+use Rattle.lp_laws.proofs.Uniqueness.{is_in-basics_of}
+use Rattle.lp_laws.proofs.Combination.{multiplier_vanishes}
+use Rattle.lp_laws.proofs.Rays.{ray_above, ray_below}
 use Rattle.path_definitions.specs.Moves.{is_below, is_outside, is_fixed, lowers, signed, on_limit}
 use Rattle.path_definitions.specs.Path.{EndsInfeasible, Ends, EndsAt, listed, ray_of, excess_rate, mover}
 use Rattle.path_laws.proofs.Tests.{lt_true, neg_below, neg_above}

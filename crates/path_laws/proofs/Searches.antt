@@ -1,7 +1,7 @@
 -- What a search over the variables finds, and when: the path's choices, as a walk over the variables makes them.
 use Rattle.std.proofs.Common.{◌≡◌, ℕ, ◌≤◌, ◌<◌, Bool, true, false, refl, sym, ◌∙◌, arith}
 use Rattle.std.specs.Prelude.{Some, None}
-use Rattle.lp_algebra.proofs.Values.{clash}
+use Rattle.lp_laws.proofs.Values.{clash}
 use Rattle.lp_definitions.specs.LinearProgram.{LinearProgram, Vector, size, IsVariable}
 use Rattle.path_definitions.specs.Moves.{least, is_no_later, room, reaches_first, stopper}
 use Rattle.path_laws.specs.Laws.{IsLeast}

@@ -11,11 +11,11 @@ use Rattle.lp_definitions.specs.Solutions.{IsFeasible}
 use Rattle.lp_definitions.specs.Basis.{with_status, StandsAt, IsPointOf, Tableau, IsTableau}
 use Rattle.lp_definitions.specs.declared.Status.{Status}
 use Rattle.lp_definitions.specs.declared.Status.TheVariants.{Bs, Ll, Ul}
-use Rattle.lp_algebra.specs.Vectors.{along}
-use Rattle.lp_algebra.proofs.Equations.{KeepsEquations-along}
-use Rattle.lp_algebra.proofs.Duality.{for_min-along}
-use Rattle.lp_algebra.proofs.Points.{IsPointOf-replaced}
-use Rattle.lp_algebra.proofs.Uniqueness.{one_point}
+use Rattle.lp_laws.specs.Vectors.{along}
+use Rattle.lp_laws.proofs.Equations.{KeepsEquations-along}
+use Rattle.lp_laws.proofs.Duality.{for_min-along}
+use Rattle.lp_laws.proofs.Points.{IsPointOf-replaced}
+use Rattle.lp_laws.proofs.Uniqueness.{one_point}
 use Rattle.path_definitions.specs.Moves.{is_no_later, is_below, signed, goes_up, room, reached}
 use Rattle.path_definitions.specs.Path.{Move, Moves, after, IsStep, IsPath, last_of, worth_rate}
 use Rattle.path_laws.specs.Laws.{IsNonsingularBasis, IsNoWorse}

@@ -11,11 +11,11 @@ use Rattle.lp_definitions.specs.LinearProgram.{LinearProgram, Vector, IsVariable
 use Rattle.lp_definitions.specs.Basis.{AreRates, is_in, basics_of, status_of, with_status, is_basic, IsBasis, IsBasic, IsNonbasic, IsAllowed, IsNonsingular, opening_statuses, Tableau, IsTableau}
 use Rattle.lp_definitions.specs.declared.Status.{Status}
 use Rattle.lp_definitions.specs.declared.Status.TheVariants.{Bs, Ll, Ul, Fr}
-use Rattle.lp_algebra.specs.Rates.{exchanged_rate}
-use Rattle.lp_algebra.proofs.Values.{clash}
-use Rattle.lp_algebra.proofs.Exchange.{IsNonsingular-exchanged, AreRates-exchanged}
-use Rattle.lp_algebra.proofs.Statuses.{basics_of-replaced, basics_of-flipped, status_of_basic, status_of_nonbasic, IsBasis-replaced, IsBasis-flipped, IsBasis-opening, basics_of-opening}
-use Rattle.lp_algebra.proofs.Opening.{IsNonsingular-row_basics}
+use Rattle.lp_laws.specs.Rates.{exchanged_rate}
+use Rattle.lp_laws.proofs.Values.{clash}
+use Rattle.lp_laws.proofs.Exchange.{IsNonsingular-exchanged, AreRates-exchanged}
+use Rattle.lp_laws.proofs.Statuses.{basics_of-replaced, basics_of-flipped, status_of_basic, status_of_nonbasic, IsBasis-replaced, IsBasis-flipped, IsBasis-opening, basics_of-opening}
+use Rattle.lp_laws.proofs.Opening.{IsNonsingular-row_basics}
 use Rattle.path_definitions.specs.Moves.{is_below, signed, goes_up, limit_ahead, room, reached, stopper}
 use Rattle.path_definitions.specs.Path.{Move, Moves, after, IsStep, excess_rate, worth_rate}
 use Rattle.path_laws.specs.Laws.{IsNonsingularBasis}

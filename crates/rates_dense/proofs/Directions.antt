@@ -5,8 +5,8 @@ use Rattle.lp_definitions.specs.LinearProgram.{Matrix, Vector, IsVariable, value
 use Rattle.lp_definitions.specs.Basis.{Basics, IsNonbasic, IsNonsingular, IsDirectionOf, AreRates}
 use Rattle.rates_dense.specs.declared.line.Line.{Line}
 use Rattle.rates_dense.specs.Table.{IsLine}
-use Rattle.lp_algebra.proofs.Uniqueness.{one_direction}
-use Rattle.lp_algebra.proofs.Equations.{KeepsEquations-same}
+use Rattle.lp_laws.proofs.Uniqueness.{one_direction}
+use Rattle.lp_laws.proofs.Equations.{KeepsEquations-same}
 
 -- a vector with the same values is a direction too
 pub direction_same : (a : Matrix) (b : Basics) (j : ℕ) (d e : Vector) → IsVariable a j → ((k : ℕ) → IsVariable a k → e k ≡ d k) → IsDirectionOf a b j d → IsDirectionOf a b j e

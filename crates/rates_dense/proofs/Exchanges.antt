@@ -13,9 +13,9 @@ use Rattle.rates_dense.specs.Lines.{IsFilled, quotient_at, AreQuotients, enterin
 use Rattle.rates_dense.specs.Placed.{IsPlaced}
 use Rattle.rates_dense.specs.Table.{IsLine, IsTableOf}
 use Rattle.rates_dense.proofs.Fills.{filled_at}
-use Rattle.lp_algebra.specs.Rates.{exchanged_rate}
-use Rattle.lp_algebra.proofs.Uniqueness.{one_direction}
-use Rattle.lp_algebra.proofs.Exchange.{IsNonsingular-exchanged, AreRates-exchanged}
+use Rattle.lp_laws.specs.Rates.{exchanged_rate}
+use Rattle.lp_laws.proofs.Uniqueness.{one_direction}
+use Rattle.lp_laws.proofs.Exchange.{IsNonsingular-exchanged, AreRates-exchanged}
 use Rattle.rates_dense.proofs.NewLines.{line_entry, untouched_entry, basic_stays, enterer_basic, basic_before, staying_new, entering_new}
 
 -- a line whose rates are the same

@@ -6,9 +6,9 @@ use Rattle.exact_values.specs.Rational.{ℚ, zero_ℚ, one_ℚ, neg_ℚ, inverse
 use Rattle.exact_values.proofs.Ring_laws.{mul-one, mul-zero, zero-mul, zero-add, add-zero}
 use Rattle.lp_definitions.specs.LinearProgram.{Matrix, Vector, size, IsVariable}
 use Rattle.lp_definitions.specs.Basis.{Basics, is_in, IsBasic, IsNonbasic, AreRates, exchanged}
-use Rattle.lp_algebra.specs.Rates.{exchanged_rate}
-use Rattle.lp_algebra.proofs.Exchange.{others_stay, enterer_in, leaver_out}
-use Rattle.lp_algebra.proofs.Values.{clash}
+use Rattle.lp_laws.specs.Rates.{exchanged_rate}
+use Rattle.lp_laws.proofs.Exchange.{others_stay, enterer_in, leaver_out}
+use Rattle.lp_laws.proofs.Values.{clash}
 use Rattle.rates_dense.proofs.Values.{neg_zero}
 
 -- the entry of the line of i at k

@@ -4,9 +4,9 @@ use Rattle.std.proofs.lemmas.List.{map-append}
 use Rattle.exact_values.specs.Rational.{ℚ, zero_ℚ}
 use Rattle.lp_definitions.specs.LinearProgram.{Matrix, size, numbers_from, IsVariable}
 use Rattle.lp_definitions.specs.Basis.{is_in, IsBasic, row_basics}
-use Rattle.lp_algebra.specs.Rates.{opening_rate}
-use Rattle.lp_algebra.proofs.Opening.{numbers_from-append, IsNonsingular-row_basics, AreRates-opening, is_in-row_basics}
-use Rattle.lp_algebra.proofs.Values.{clash}
+use Rattle.lp_laws.specs.Rates.{opening_rate}
+use Rattle.lp_laws.proofs.Opening.{numbers_from-append, IsNonsingular-row_basics, AreRates-opening, is_in-row_basics}
+use Rattle.lp_laws.proofs.Values.{clash}
 use Rattle.rates_dense.specs.declared.line.Line.{Line}
 use Rattle.rates_dense.specs.Opening.{opening_entry, IsOpeningLine, AreOpeningLines, AreInOrder}
 use Rattle.rates_dense.specs.Table.{IsLine, IsTableOf}

@@ -1,6 +1,6 @@
 // The cells of a run and its demands.
 ghost use Rattle.std.specs.Prelude.{◌≡◌, ◌≤◌};
-ghost use Rattle.cell_definitions.specs.Cells.{default_cells, move_name, move_number, move_limit, set_demand, name_in, demand_in};
+ghost use Rattle.control_definitions.specs.Cells.{default_cells, move_name, move_number, move_limit, set_demand, name_in, demand_in};
 
 use control_definitions::{Demand, NameCell, NumberCell};
 use frac128::Frac;
@@ -26,7 +26,7 @@ pub struct Cells {
 
 impl Model for Cells {
     ghost use Rattle.std.specs.Prelude.{◌≤◌};
-    ghost use Rattle.cell_definitions.specs.Cells.{Cells as Values};
+    ghost use Rattle.control_definitions.specs.Cells.{Cells as Values};
 
     ghost Value = { Values };
 

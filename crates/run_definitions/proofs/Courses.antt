@@ -9,7 +9,7 @@ use Rattle.control_definitions.specs.Program.{Program, Statement}
 use Rattle.control_definitions.specs.Compiled.{compiled}
 use Rattle.listing_definitions.specs.Report.{Report}
 use Rattle.listing_definitions.specs.Ending.{Ending, Ended, ControlStop, CardStop}
-use Rattle.solver_definitions.specs.Solving.{Solving}
+use Rattle.question_definitions.specs.Solving.{Solving}
 use Rattle.run_definitions.specs.State.{State, start}
 use Rattle.run_definitions.specs.Moves.{Gain, Nothing, printed_by, punched_by, Outcome, Goes, Ends, Move, Does, MayStop, Asks, Gives}
 use Rattle.run_definitions.specs.Verbs.{statement_move}

@@ -17,7 +17,7 @@ use Rattle.listing_definitions.specs.Report.{Report}
 use Rattle.listing_definitions.specs.Ending.{Ending, WordsRefused, ControlStop, CardStop, ReadFault, PrintFault, PunchFault, Memory, status_of}
 use Rattle.job_devices.specs.Text.{IsFront}
 use Rattle.listing_definitions.specs.Listing.{listing}
-use Rattle.solver_definitions.specs.Solving.{Solving}
+use Rattle.question_definitions.specs.Solving.{Solving}
 use Rattle.run_definitions.specs.State.{State}
 use Rattle.run_definitions.specs.Moves.{Punches, Goes}
 use Rattle.run_definitions.specs.Run.{Step, Reaches, IsRun}

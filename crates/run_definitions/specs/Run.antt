@@ -7,7 +7,7 @@ use Rattle.card_definitions.specs.Cards.{Card}
 use Rattle.control_definitions.specs.Program.{Statement, Program}
 use Rattle.listing_definitions.specs.Report.{Report}
 use Rattle.listing_definitions.specs.Ending.{Ending, Ended, StatementLimit}
-use Rattle.solver_definitions.specs.Solving.{Solving}
+use Rattle.question_definitions.specs.Solving.{Solving}
 use Rattle.run_definitions.specs.State.{State, start}
 use Rattle.run_definitions.specs.Moves.{Gain, printed_by, punched_by, Outcome, Goes, Ends, Gives}
 use Rattle.run_definitions.specs.Verbs.{statement_move}

@@ -10,8 +10,8 @@ use Rattle.control_definitions.specs.Program.{SetupOptions}
 use Rattle.selection_definitions.specs.Choice.{Choice}
 use Rattle.listing_definitions.specs.declared.Mark.{Mark}
 use Rattle.path_definitions.specs.Path.{last_of}
-use Rattle.solver_definitions.specs.Answers.{Basis}
-use Rattle.cell_definitions.specs.Cells.{Cells, default_cells}
+use Rattle.question_definitions.specs.Answers.{Basis}
+use Rattle.control_definitions.specs.Cells.{Cells, default_cells}
 
 -- the problem and options that SETUP kept, the basis with which it opened, and the bases since then, one a step
 pub record Present : Type 0 where

@@ -31,9 +31,9 @@ use Rattle.listing_definitions.specs.declared.VerbFault.{VerbFault}
 use Rattle.listing_definitions.specs.declared.VerbFault.TheVariants.{DeckNotFound, NoProblem, NoSetup, NotSolved, NotOptimal, NoChangeRow, NoChangeSet, NoParmax, ParmaxBelow, NoObjective, ObjectiveNotFree, NoRhsSet, NoRangeSet, NoBoundSet}
 use Rattle.listing_definitions.specs.Report.{SolutionLines, RangeLines, Verdict, OptimalAt, CrossedAt, InfeasibleBy, UnboundedBy, Report, Titled, Filed, Converted, Revised, SetUp, Punched, Solved, Solution, Ranges, Parametric, ChainEnd, EndsAt, UnboundedPast, InfeasiblePast}
 use Rattle.listing_definitions.specs.Ending.{Place, Ending, Ended, VerbStop, DeckStop, LimitStop, NotBuilt}
-use Rattle.solver_definitions.specs.Answers.{Basis, Sheet, Changing, Row, Set, changing_name, sweeper, Sweep, Question, OfPath, OfSolution, OfRanges, OfSweep, PathEnd, Reached, PathLimit, PathNotBuilt, SweepEnd, Opening, Chained, SweepLimit}
-use Rattle.solver_definitions.specs.Solving.{Solving}
-use Rattle.cell_definitions.specs.Cells.{default_cells, move_name, move_number, move_limit, set_demand}
+use Rattle.question_definitions.specs.Answers.{Basis, Sheet, Changing, Row, Set, changing_name, sweeper, Sweep, Question, OfPath, OfSolution, OfRanges, OfSweep, PathEnd, Reached, PathLimit, PathNotBuilt, SweepEnd, Opening, Chained, SweepLimit}
+use Rattle.question_definitions.specs.Solving.{Solving}
+use Rattle.control_definitions.specs.Cells.{default_cells, move_name, move_number, move_limit, set_demand}
 use Rattle.run_definitions.specs.State.{Present, present_basis, path_of, gone_through, State, problem_of, choice_of}
 use Rattle.run_definitions.specs.Moves.{Nothing, Prints, Punches, Outcome, Ends, next, jump, stops, Move, Does, MayStop, Asks, or_fault}
 

@@ -4,9 +4,9 @@ use Rattle.exact_values.specs.Rational.{ℚ}
 use Rattle.lp_definitions.specs.LinearProgram.{LinearProgram, IsLinearProgram}
 use Rattle.lp_definitions.specs.Solutions.{by_crossed, by_ray}
 use Rattle.lp_definitions.specs.Basis.{basics_of, Tableau, IsTableau, IsOptimalBasis}
-use Rattle.lp_algebra.proofs.Uniqueness.{one_point, one_table}
-use Rattle.lp_algebra.proofs.Optimal.{prices_prove_optimal, best_by_basis}
-use Rattle.lp_algebra.proofs.Duality.{infeasible_by_proof, unbounded_by_direction}
+use Rattle.lp_laws.proofs.Uniqueness.{one_point, one_table}
+use Rattle.lp_laws.proofs.Optimal.{prices_prove_optimal, best_by_basis}
+use Rattle.lp_laws.proofs.Duality.{infeasible_by_proof, unbounded_by_direction}
 use Rattle.path_definitions.specs.Path.{Ending, Ends, EndsOptimal, EndsCrossed, EndsInfeasible, EndsUnbounded, EndsAt, PathEnds, turn, last_of}
 use Rattle.path_laws.specs.Laws.{IsNonsingularBasis}
 use Rattle.path_laws.proofs.Turns.{IsOptimalTurn, rule_of, optimal_turn}
@@ -15,7 +15,7 @@ use Rattle.path_laws.proofs.Endless.{crossed_end, unbounded_end}
 use Rattle.path_laws.proofs.Rays.{infeasible_end}
 use Rattle.path_laws.proofs.OneTurn.{SameTableau, turn_same}
 use Rattle.path_laws.proofs.OnePath.{path_leads}
-use Rattle.solver_definitions.specs.Answers.{Basis}
+use Rattle.question_definitions.specs.Answers.{Basis}
 use Rattle.run_laws.specs.Truth.{IsProvedBest, IsTrueEnd}
 
 ends_optimal : (p : LinearProgram) (s : Basis) (t : Tableau) (z y : List ℚ) → turn p s t ≡ Ends (EndsOptimal z y) → IsOptimalTurn p s t (Ends (EndsOptimal z y))

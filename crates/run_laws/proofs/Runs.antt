@@ -7,9 +7,9 @@ use Rattle.card_definitions.specs.Cards.{Card}
 use Rattle.control_definitions.specs.Program.{Program, Verb, Paraobj, Pararhs}
 use Rattle.listing_definitions.specs.Report.{Report, Titled, Converted, Revised, SetUp, Punched, Solved, Solution, Ranges, Parametric}
 use Rattle.listing_definitions.specs.Ending.{Ending}
-use Rattle.solver_definitions.specs.Answers.{Basis, Sheet}
-use Rattle.solver_definitions.specs.Solving.{Solving}
-use Rattle.solving_definitions.specs.Real.{linear_programming, staged}
+use Rattle.question_definitions.specs.Answers.{Basis, Sheet}
+use Rattle.question_definitions.specs.Solving.{Solving}
+use Rattle.answer_definitions.specs.Real.{linear_programming, staged}
 use Rattle.run_definitions.specs.State.{Present, State}
 use Rattle.run_definitions.specs.Moves.{Gain, Nothing, Prints, Punches, printed_by, Outcome, Goes, Ends}
 use Rattle.run_definitions.specs.Run.{counted, Step, Reaches, begun, stepped, IsRun, is_over, is_ended}

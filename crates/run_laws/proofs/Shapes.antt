@@ -21,7 +21,7 @@ use Rattle.selection_definitions.specs.declared.SelectionFault.{SelectionFault}
 use Rattle.selection_definitions.specs.Choice.{Choice, selection_fault}
 use Rattle.selection_definitions.specs.Limits.{Limits, row_limits, with_range}
 use Rattle.selection_definitions.specs.Selection.{program_of_choice, selected}
-use Rattle.solver_definitions.specs.Answers.{Basis}
+use Rattle.question_definitions.specs.Answers.{Basis}
 
 -- the same limits are there
 record AlikeLimits (a b : Limits) : Type 0 where

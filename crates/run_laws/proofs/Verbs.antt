@@ -24,11 +24,11 @@ use Rattle.listing_definitions.specs.declared.Mark.TheVariants.{Optimal, Infeasi
 use Rattle.listing_definitions.specs.declared.Solver.TheVariants.{Primal as ByPrimal}
 use Rattle.listing_definitions.specs.declared.VerbFault.{VerbFault}
 use Rattle.listing_definitions.specs.Report.{SolutionLines, RangeLines, Verdict, Filed, Report, Converted, Revised, SetUp, Punched, Solved, Solution, Ranges}
-use Rattle.solver_definitions.specs.Answers.{Basis, Sheet, Changing, Row, Set, sweeper, Sweep, Question, OfSolution, OfRanges, OfSweep, PathEnd, Reached, PathLimit, PathNotBuilt, SweepEnd, Opening, Chained, SweepLimit}
-use Rattle.solver_definitions.specs.Solving.{Solving}
-use Rattle.solving_definitions.specs.Verdicts.{verdict_of}
-use Rattle.solving_definitions.specs.Sections.{IsShown}
-use Rattle.cell_definitions.specs.Cells.{Cells, move_name, move_number, set_demand}
+use Rattle.question_definitions.specs.Answers.{Basis, Sheet, Changing, Row, Set, sweeper, Sweep, Question, OfSolution, OfRanges, OfSweep, PathEnd, Reached, PathLimit, PathNotBuilt, SweepEnd, Opening, Chained, SweepLimit}
+use Rattle.question_definitions.specs.Solving.{Solving}
+use Rattle.answer_definitions.specs.Verdicts.{verdict_of}
+use Rattle.answer_definitions.specs.Sections.{IsShown}
+use Rattle.control_definitions.specs.Cells.{Cells, move_name, move_number, set_demand}
 use Rattle.run_definitions.specs.State.{Present, present_basis, gone_through, State, problem_of, choice_of}
 use Rattle.run_definitions.specs.Moves.{Prints, Punches, next, Does}
 use Rattle.run_definitions.specs.Verbs.{size_of, files, not_less, change_row, change_set, asks, mark_of, mark_after, demanded, by_verdict, after_path, after_sweep, shows_present, solves, shows, ranges, sweeps, converts, revises, sets_up, punches, verb_move, if_built, statement_move}

@@ -10,11 +10,11 @@ use Rattle.path_definitions.specs.Path.{last_of}
 use Rattle.path_laws.specs.Laws.{IsNonsingularBasis}
 use Rattle.listing_definitions.specs.Report.{SolutionLines, Verdict, Check, Report}
 use Rattle.listing_definitions.specs.Ending.{Ending}
-use Rattle.solver_definitions.specs.Answers.{Basis, Sheet, Sweep, PathEnd, Reached, PathLimit, PathNotBuilt, SweepEnd, Opening, Chained, SweepLimit}
-use Rattle.solver_definitions.specs.Solving.{Solving}
-use Rattle.solving_definitions.specs.Verdicts.{ReachesVerdict, IsSolved}
-use Rattle.solving_definitions.specs.Sections.{IsShown}
-use Rattle.solving_definitions.specs.Real.{linear_programming, staged}
+use Rattle.question_definitions.specs.Answers.{Basis, Sheet, Sweep, PathEnd, Reached, PathLimit, PathNotBuilt, SweepEnd, Opening, Chained, SweepLimit}
+use Rattle.question_definitions.specs.Solving.{Solving}
+use Rattle.answer_definitions.specs.Verdicts.{ReachesVerdict, IsSolved}
+use Rattle.answer_definitions.specs.Sections.{IsShown}
+use Rattle.answer_definitions.specs.Real.{linear_programming, staged}
 use Rattle.run_definitions.specs.State.{Present, State}
 use Rattle.run_definitions.specs.Moves.{Prints, Goes, Ends}
 use Rattle.run_definitions.specs.Run.{Step, Reaches, IsRun}

@@ -15,11 +15,11 @@ use Rattle.selection_definitions.specs.Selection.{selected}
 use Rattle.listing_definitions.specs.declared.Mark.TheVariants.{Optimal}
 use Rattle.listing_definitions.specs.declared.Solver.TheVariants.{Primal as ByPrimal}
 use Rattle.listing_definitions.specs.Report.{SolutionLines, Verdict, Check, Report, Titled, Converted, Revised, SetUp, Punched, Solved, Solution, Ranges, Parametric}
-use Rattle.solver_definitions.specs.Answers.{Basis, Sheet}
+use Rattle.question_definitions.specs.Answers.{Basis, Sheet}
 use Rattle.problem_definitions.specs.Names.{Name}
 use Rattle.run_definitions.specs.State.{Present, present_basis}
-use Rattle.solving_definitions.specs.Verdicts.{IsVerdict}
-use Rattle.solving_definitions.specs.Sections.{solution_lines}
+use Rattle.answer_definitions.specs.Verdicts.{IsVerdict}
+use Rattle.answer_definitions.specs.Sections.{solution_lines}
 
 -- the point is feasible and no feasible one betters it, and the prices prove that
 pub record IsProvedBest (p : LinearProgram) (s : Basis) (t : Tableau) : Type 0 where

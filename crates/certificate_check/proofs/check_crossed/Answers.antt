@@ -1,6 +1,6 @@
 use Rattle.std.proofs.Common.{rules, ◌≡◌, ◌∙◌, sym}
 use Rattle.lp_definitions.specs.Solutions.{IsCrossed}
-use Rattle.lp_algebra.proofs.Duality.{infeasible_by_crossed}
+use Rattle.lp_laws.proofs.Duality.{infeasible_by_crossed}
 use Rattle.check_definitions.specs.declared.Verdict.TheVariants.{Checked}
 use Rattle.check_definitions.specs.Checks.{crossed_check}
 use Rattle.certificate_check.proofs.True_claims.{crossed_holds}

@@ -1,7 +1,7 @@
 use Rattle.std.proofs.Common.{◌≡◌, ◌∙◌, sym}
 use Rattle.lp_definitions.specs.LinearProgram.{value_at}
 use Rattle.lp_definitions.specs.Solutions.{IsFeasible, AreProvingPrices}
-use Rattle.lp_algebra.proofs.Duality.{best_by_prices}
+use Rattle.lp_laws.proofs.Duality.{best_by_prices}
 use Rattle.check_definitions.specs.declared.Verdict.TheVariants.{Checked}
 use Rattle.certificate_check.proofs.True_claims.{never_optimal}
 use Rattle.certificate_check.proofs.Meaning.{optimal_if_checked}

@@ -1,6 +1,6 @@
 use Rattle.std.proofs.Common.{sym, subst}
-use Rattle.solver_definitions.specs.Answers.{Basis}
-use Rattle.solving_definitions.specs.Real.{IsSolvedUnless}
+use Rattle.question_definitions.specs.Answers.{Basis}
+use Rattle.answer_definitions.specs.Real.{IsSolvedUnless}
 use Rattle.opening_path.specs.Missing.{IsMissing}
 use Rattle.opening_path.specs.Answers.{sheet_shown, end_shown}
 use Rattle.opening_path.proofs.Verdicts.{step_solved, infeasible_missing, unbounded_missing, IfOk-map}

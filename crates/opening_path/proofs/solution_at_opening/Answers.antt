@@ -1,9 +1,9 @@
 use Rattle.std.proofs.Common.{◌≡◌, rules, length, sym, ap, subst, ◌∙◌}
 use Rattle.lp_definitions.specs.LinearProgram.{IsLinearProgram}
-use Rattle.lp_algebra.proofs.Statuses.{IsBasis-opening}
+use Rattle.lp_laws.proofs.Statuses.{IsBasis-opening}
 use Rattle.report_text.specs.Lines.{solution_lines}
-use Rattle.solver_definitions.specs.Answers.{Basis}
-use Rattle.solving_definitions.specs.Sections.{IsShown}
+use Rattle.question_definitions.specs.Answers.{Basis}
+use Rattle.answer_definitions.specs.Sections.{IsShown}
 use Rattle.opening_turn.specs.Opening.{zero_vector, opening_price}
 use Rattle.opening_turn.proofs.Lists.{length-listed}
 use Rattle.opening_path.specs.Answers.{sheet_shown}

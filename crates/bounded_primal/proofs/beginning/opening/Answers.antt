@@ -1,7 +1,7 @@
 use Rattle.std.proofs.Common.{◌∙◌, sym, subst}
 use Rattle.lp_definitions.specs.Basis.{Basics}
-use Rattle.lp_algebra.proofs.Opening.{IsNonsingular-row_basics}
-use Rattle.lp_algebra.proofs.Statuses.{basics_of-opening, IsBasis-opening}
+use Rattle.lp_laws.proofs.Opening.{IsNonsingular-row_basics}
+use Rattle.lp_laws.proofs.Statuses.{basics_of-opening, IsBasis-opening}
 use Rattle.lp_definitions.specs.Basis.{IsNonsingular}
 use Rattle.bounded_primal.proofs.beginning.opening.Goals as goal
 

@@ -2,7 +2,7 @@ use Rattle.std.proofs.Common.{◌∙◌, arith}
 use Rattle.std.proofs.lemmas.Result.{err_from_is_err_and}
 use Rattle.lp_definitions.specs.LinearProgram.{value_at}
 use Rattle.lp_definitions.specs.Basis.{basics_of}
-use Rattle.lp_algebra.proofs.WaypointLaws.{keeps_then}
+use Rattle.lp_laws.proofs.WaypointLaws.{keeps_then}
 use Rattle.bounded_primal.proofs.PathWalk.{begins_at, stops_there, follows, follows_later}
 use Rattle.bounded_primal.proofs.WalkCases.{stops_at_once, walk_more, walk_stops}
 use Rattle.bounded_primal.proofs.path.walk.Goals as goal

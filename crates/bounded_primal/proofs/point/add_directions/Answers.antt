@@ -1,8 +1,8 @@
 use Rattle.std.proofs.Common.{◌≡◌, ℕ, Err, refl, rules, ◌∙◌, subst, arith}
 use Rattle.lp_definitions.specs.LinearProgram.{value_at, size}
 use Rattle.lp_definitions.specs.Basis.{basics_of}
-use Rattle.lp_algebra.specs.Points.{standing}
-use Rattle.lp_algebra.proofs.WaypointLaws.{keeps_then}
+use Rattle.lp_laws.specs.Points.{standing}
+use Rattle.lp_laws.proofs.WaypointLaws.{keeps_then}
 use Rattle.lp_model.proofs.Stops.{IfOverflow-map}
 use Rattle.bounded_primal.specs.Points.{IsSoFar}
 use Rattle.bounded_primal.proofs.PointSums.{so_far-begins, so_far-ends}

@@ -2,7 +2,7 @@ use Rattle.std.proofs.Common.{◌≡◌}
 use Rattle.lp_definitions.specs.LinearProgram.{value_at}
 use Rattle.lp_definitions.specs.Basis.{basics_of}
 use Rattle.lp_definitions.specs.Waypoints.{KeepsWaypoints}
-use Rattle.lp_algebra.specs.Points.{standing}
+use Rattle.lp_laws.specs.Points.{standing}
 use Rattle.bounded_primal.specs.Points.{IsSoFar}
 use Rattle.bounded_primal.proofs.point.add_directions.Given as goal
 

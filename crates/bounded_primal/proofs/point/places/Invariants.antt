@@ -1,6 +1,6 @@
 use Rattle.std.proofs.Common.{◌≡◌, ◌≤◌, ℕ, vec_len}
 use Rattle.lp_definitions.specs.LinearProgram.{value_at}
-use Rattle.lp_algebra.specs.Points.{standing}
+use Rattle.lp_laws.specs.Points.{standing}
 use Rattle.bounded_primal.proofs.point.places.Given as goal
 
 abbrev pub invariant-loop-k : goal.invariant-loop-k

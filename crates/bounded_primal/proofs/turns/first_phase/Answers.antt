@@ -2,7 +2,7 @@ use Rattle.std.proofs.Common.{◌-◌, sym, ◌∙◌, arith}
 use Rattle.std.proofs.lemmas.Result.{err_from_is_err_and}
 use Rattle.lp_definitions.specs.LinearProgram.{value_at}
 use Rattle.lp_definitions.specs.Basis.{basics_of}
-use Rattle.lp_algebra.proofs.WaypointLaws.{keeps_then}
+use Rattle.lp_laws.proofs.WaypointLaws.{keeps_then}
 use Rattle.bounded_primal.proofs.TurnCalls.{outside_basic}
 use Rattle.bounded_primal.proofs.TurnCases.{point_stops, first_ends, first_nonbasic, first_pivot, first_at_limit, first_limit, first_stops, first_moves}
 use Rattle.bounded_primal.proofs.turns.first_phase.Goals as goal

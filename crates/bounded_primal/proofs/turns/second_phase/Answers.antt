@@ -2,7 +2,7 @@ use Rattle.std.proofs.Common.{◌-◌, refl, sym, ◌∙◌, arith}
 use Rattle.std.proofs.lemmas.Result.{err_from_is_err_and}
 use Rattle.lp_definitions.specs.LinearProgram.{value_at}
 use Rattle.lp_definitions.specs.Basis.{basics_of}
-use Rattle.lp_algebra.proofs.WaypointLaws.{keeps_then}
+use Rattle.lp_laws.proofs.WaypointLaws.{keeps_then}
 use Rattle.bounded_primal.proofs.TurnCalls.{has_same, found_later}
 use Rattle.bounded_primal.proofs.TurnCases.{point_stops, second_ends}
 use Rattle.bounded_primal.proofs.turns.second_phase.Goals as goal

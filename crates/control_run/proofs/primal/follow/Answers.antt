@@ -1,6 +1,6 @@
 -- Each answer of the path.
 use Rattle.std.proofs.Common.{Ok, subst}
-use Rattle.solving_definitions.specs.Real.{IsSolvedUnless}
+use Rattle.answer_definitions.specs.Real.{IsSolvedUnless}
 use Rattle.opening_path.specs.declared.PathAnswer.{PathAnswer}
 use Rattle.opening_path.specs.Missing.{IsMissing}
 use Rattle.opening_path.specs.Answers.{sheet_shown, end_shown}

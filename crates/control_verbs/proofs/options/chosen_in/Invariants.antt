@@ -4,7 +4,7 @@ use Rattle.std.specs.Prelude.{option_and_then}
 use denote.Ref.{Bor}
 use Rattle.control_definitions.specs.Statements.{split_outside, is_comma}
 use Rattle.control_definitions.specs.Arguments.{choices}
-use Rattle.control_text.specs.Pieces.{parts_behind}
+use Rattle.control_verbs.specs.Pieces.{parts_behind}
 use Rattle.control_verbs.specs.Chosen.{all_added, nothing_chosen}
 use Rattle.control_verbs.proofs.options.chosen_in.Given as goal
 

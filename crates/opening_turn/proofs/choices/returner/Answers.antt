@@ -1,7 +1,7 @@
 use Rattle.std.proofs.Common.{◌≡◌, ◌+◌, Some, Bool, false, true, rules, sym, ap, ap₂, ◌∙◌, arith}
 use Rattle.lp_definitions.specs.Basis.{opening_statuses}
 use Rattle.exact_values.specs.Tests.{lt_ℚ}
-use Rattle.lp_algebra.specs.Rates.{opening_rate}
+use Rattle.lp_laws.specs.Rates.{opening_rate}
 use Rattle.path_definitions.specs.Moves.{lowers, entering}
 use Rattle.path_definitions.specs.Path.{excess_rate}
 use Rattle.opening_turn.proofs.Lowering.{row_idle, excess_next}

@@ -1,6 +1,6 @@
 use Rattle.std.proofs.Common.{◌+◌}
 use Rattle.lp_definitions.specs.Basis.{opening_statuses}
-use Rattle.lp_algebra.specs.Rates.{opening_rate}
+use Rattle.lp_laws.specs.Rates.{opening_rate}
 use Rattle.path_definitions.specs.Moves.{lowers}
 use Rattle.path_definitions.specs.Path.{excess_rate}
 use Rattle.opening_turn.proofs.Walks.{FailUpTo}

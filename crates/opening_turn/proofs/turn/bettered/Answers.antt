@@ -2,7 +2,7 @@ use Rattle.std.proofs.Common.{◌≡◌, ◌+◌, ◌-◌, Some, None, true, fal
 use Rattle.std.specs.Prelude.{is_some}
 use Rattle.lp_definitions.specs.LinearProgram.{IsLinearProgram}
 use Rattle.lp_definitions.specs.Basis.{opening_statuses}
-use Rattle.lp_algebra.specs.Rates.{opening_rate}
+use Rattle.lp_laws.specs.Rates.{opening_rate}
 use Rattle.path_definitions.specs.Moves.{stopper}
 use Rattle.path_definitions.specs.Path as path
 use Rattle.opening_turn.specs.Opening.{zero_vector, opening_tableau}

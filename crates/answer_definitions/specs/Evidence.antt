@@ -1,0 +1,60 @@
+-- When a solving statement may stop with an overflow.
+--     OverflowsAt question sheet bases e place     the evidence holds at a basis that the path in hand has reached, where these are the
+--                                                  bases of the path up to the statement
+use Rattle.std.specs.Prelude.{◌≡◌, ℕ, ◌+◌, Bool, List, [], ◌∷◌, ◌++◌, length, Option, Some, None}
+use Rattle.exact_values.specs.Rational.{ℚ}
+use Rattle.lp_definitions.specs.declared.Evidence.{Evidence}
+use Rattle.path_definitions.specs.Path.{IsPath, last_of}
+use Rattle.postoptimal_definitions.specs.Chain.{Place as Standing, break_of, Reaches}
+use Rattle.evidence_definitions.specs.Statements.{SolvingStatement, Primal, Solution, Range, Paraobj, Pararhs}
+use Rattle.evidence_definitions.specs.Evidence.{EvidenceHolds, ShiftHolds}
+use Rattle.listing_definitions.specs.Ending.{Place}
+use Rattle.question_definitions.specs.Answers.{Basis, Sheet, Changing, Row, Set, Sweep, Question, OfPath, OfSolution, OfRanges, OfSweep}
+use Rattle.answer_definitions.specs.Sweeps.{row_of, shifts_of, family_of, IsFace}
+
+-- the basis that a path has reached
+abbrev pub last_basis : List Basis → Basis
+last_basis [] = []
+last_basis (first ∷ bases) = last_of first bases
+
+-- evidence at a basis, which is printed with its basics and those of its waypoint
+pub record IsEvidence (statement : SolvingStatement) (break : Option ℚ) (left : ℕ) (bases : List Basis) (ends : List ℚ) (e : Evidence) (place : Option Place) : Type 0 where
+  pub basis : Basis
+  pub way : List Bool
+  pub holds : EvidenceHolds statement break left bases ends basis way e
+  pub is_place : place ≡ Some (record { basis = basis; way = way })
+
+-- PRIMAL has gone over these bases in this statement, and has so many steps left
+pub record OverflowsOnPath (sheet : Sheet) (bases : List Basis) (limit : ℕ) (e : Evidence) (place : Option Place) : Type 0 where
+  pub steps : List Basis
+  pub is_path : IsPath sheet.lp (last_basis bases) steps
+  pub left : ℕ
+  pub is_left : length steps + left ≡ limit
+  pub is_evidence : IsEvidence (Primal sheet.lp) None left (bases ++ steps) [] e place
+
+-- the statement of a parametric run
+abbrev pub sweep_statement : Sheet → Changing → ℚ → SolvingStatement
+sweep_statement sheet (Row name) from = Paraobj sheet.lp (row_of sheet.problem name) from
+sweep_statement sheet (Set name) from = Pararhs sheet.lp (shifts_of sheet.problem name) from
+
+-- a parametric run has gone over these bases, has so many steps left, and its intervals so far end at these values
+pub record StandsAt (sheet : Sheet) (bases : List Basis) (sweep : Sweep) : Type 0 where
+  pub standing : Standing
+  pub steps : List Basis
+  pub ends : List ℚ
+  pub reaches : Reaches (family_of sheet sweep.changing) (IsFace sheet sweep.changing) sweep.from sweep.to (last_basis bases) standing steps ends
+  pub left : ℕ
+  pub is_left : length steps + left ≡ sweep.limit
+
+-- evidence at a basis, or of a limit at a value, which has no place
+pub data OverflowsOnSweep (sheet : Sheet) (bases : List Basis) (sweep : Sweep) (e : Evidence) (place : Option Place) : Type 0 where
+  at_basis : (now : StandsAt sheet bases sweep) →
+      IsEvidence (sweep_statement sheet sweep.changing sweep.from) (break_of now.standing) now.left (bases ++ now.steps) now.ends e place → OverflowsOnSweep sheet bases sweep e place
+  of_limit : (now : StandsAt sheet bases sweep) →
+      ShiftHolds (sweep_statement sheet sweep.changing sweep.from) now.ends e → place ≡ None → OverflowsOnSweep sheet bases sweep e place
+
+abbrev pub OverflowsAt : Question → Sheet → List Basis → Evidence → Option Place → Type 0
+OverflowsAt (OfPath limit) sheet bases e place = OverflowsOnPath sheet bases limit e place
+OverflowsAt OfSolution sheet bases e place = IsEvidence (Solution sheet.lp) None 0 bases [] e place
+OverflowsAt OfRanges sheet bases e place = IsEvidence (Range sheet.lp) None 0 bases [] e place
+OverflowsAt (OfSweep sweep) sheet bases e place = OverflowsOnSweep sheet bases sweep e place

@@ -1,2 +1,0 @@
-//! The cells and demands of a run: definitions alone.
-#![tactic(auto)]

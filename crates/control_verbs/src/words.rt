@@ -1,0 +1,80 @@
+// The verb and the arguments of a statement.
+ghost use Rattle.std.specs.Prelude.{◌≡◌, ◌≤◌, length};
+ghost use Rattle.std.specs.List.{list_any};
+ghost use Rattle.std.specs.Option.{option_copied};
+ghost use Rattle.control_definitions.specs.Statements.{verb_word, behind_parenthesis, first_argument, arguments_of, without_close, is_open_parenthesis};
+ghost use Rattle.control_verbs.specs.Pieces.{arguments_shown};
+
+use crate::places::parenthesis_place;
+use crate::quotes::{before_outside, place_outside};
+
+/// What a statement has behind its verb.
+#[derive(Clone, Copy, Debug)]
+pub enum Arguments<'a> {
+    /// No parenthesis.
+    Without,
+    /// A parenthesis that isn't closed at the statement's end.
+    Malformed,
+    /// What stands between the parentheses.
+    With(&'a [u8]),
+}
+
+/// The text up to the first parenthesis, or the whole statement.
+pub fn verb_word(statement: &[u8]) -> &[u8]
+    ensures { result.now ≡ verb_word statement.now }
+{
+    &statement[..parenthesis_place(statement)]
+}
+
+// What stands behind the first parenthesis.
+fn behind_parenthesis(statement: &[u8]) -> &[u8]
+    ensures { result.now ≡ behind_parenthesis statement.now }
+{
+    statement
+        .get(parenthesis_place(statement) + 1..)
+        .unwrap_or(&[])
+}
+
+// Whether a statement has a parenthesis.
+fn has_parenthesis(statement: &[u8]) -> bool
+    ensures { result ≡ list_any is_open_parenthesis statement.now }
+{
+    statement.iter().any(|byte| *byte == b'(')
+}
+
+// The text without the parenthesis that ends it.
+fn without_close(text: &[u8]) -> Option<&[u8]>
+    ensures { option_copied result ≡ without_close text.now }
+{
+    match text.split_last() {
+        Some((b')', front)) => Some(front),
+        _ => None,
+    }
+}
+
+/// The arguments of a statement.
+pub fn arguments_of(statement: &[u8]) -> Arguments<'_>
+    ensures { arguments_shown result ≡ arguments_of statement.now }
+{
+    if !has_parenthesis(statement) {
+        return Arguments::Without;
+    }
+    match without_close(behind_parenthesis(statement)) {
+        Some(text) => Arguments::With(text),
+        None => Arguments::Malformed,
+    }
+}
+
+/// The text of the first argument, also where the statement isn't well formed.
+#[tactic(auto, using(crate::proofs::Outside::up_to_comma))]
+pub fn first_argument(statement: &[u8]) -> &[u8]
+    ensures { result.now ≡ first_argument statement.now }
+{
+    let text = behind_parenthesis(statement);
+    let comma = place_outside(text, b',');
+    if comma < text.len() {
+        &text[..comma]
+    } else {
+        before_outside(text, b')')
+    }
+}

@@ -1,5 +1,0 @@
-use Rattle.lp_algebra.proofs.WaypointLaws.{keeps_then}
-use Rattle.lp_algebra.proofs.waypoint_laws.Goals as goal
-
-pub returns : goal.returns
-returns c = record { two_calls = keeps_then }

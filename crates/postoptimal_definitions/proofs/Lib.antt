@@ -1,0 +1,2 @@
+mod RangeRows
+mod ParametricRows

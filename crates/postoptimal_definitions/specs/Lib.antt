@@ -1,0 +1,4 @@
+pub mod Ranges
+pub mod Chain
+pub mod ObjectiveRun
+pub mod RhsRun

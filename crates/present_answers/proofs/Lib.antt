@@ -1,0 +1,4 @@
+mod PathStopLaws
+mod Calls
+mod Refused
+mod SolutionLines

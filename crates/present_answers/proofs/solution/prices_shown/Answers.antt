@@ -1,0 +1,12 @@
+use Rattle.std.proofs.Common.{drop, length, arith}
+use Rattle.lp_definitions.specs.Basis.{basics_of}
+use Rattle.present_answers.proofs.Calls.{keeps_same, take_whole}
+use Rattle.present_answers.proofs.solution.prices_shown.Goals as goal
+
+pub returns-in_err-values-clause-waypoints : goal.returns-in_err-values-clause-waypoints
+returns-in_err-values-clause-waypoints g c = keeps_same c.args.lp.now.matrix (basics_of c.args.basis.now) (g.R.Rates.waypoints c.args.rates.now)
+
+pub returns-clause-prices : goal.returns-clause-prices
+returns-clause-prices g c =
+    rw (c.new.ensures, take_whole c.prices_of.new.out (drop (length c.prices_of.new.out) c.in_ok-values.values.items) c.in_ok-values.values.len (omega arith))
+    c.in_ok-prices_of.ensures.prices

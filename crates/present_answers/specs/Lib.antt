@@ -1,0 +1,4 @@
+pub mod Reports
+pub mod Slack
+pub mod Answers
+pub mod Stops

@@ -1,8 +1,0 @@
-use Rattle.std.proofs.lemmas.Result.{err_from_is_err_and}
-use Rattle.present_path.proofs.Stops.{stops}
-use Rattle.present_path.proofs.path.path_from.Goals as goal
-
-pub returns-in_err-outcome-clause-stops : goal.returns-in_err-outcome-clause-stops
-returns-in_err-outcome-clause-stops g c =
-    let p = err_from_is_err_and c.from_residual.result c.from_residual.ensures.1 in
-    rw (p.1, p.2) (stops c.args.sheet c.requires.no_change c.args.basis.now c.primal.new.basis c.args.limit (g.R.Rates.waypoints c.args.rates.now) (g.R.Rates.waypoints c.primal.new.rates) c.in_err-outcome.field-0.0 c.in_err-outcome.ensures.stops)

@@ -1,0 +1,25 @@
+-- What a run needs to know of linear programming: a record of relations, each of which has one answer at most.
+--
+-- The real ones are those of the linear program alone: Solves and Sweeps follow the path and the chain of bases, Shows and Ranges
+-- read off the point, the prices and the intervals of a basis, and Overflows is the evidence that holds. While a part of a run isn't
+-- built, its verbs are left out of `builds`, and a path may end with `PathNotBuilt`.
+use Rattle.std.specs.Prelude.{ℕ, Bool, List, Option}
+use Rattle.lp_definitions.specs.declared.Evidence.{Evidence}
+use Rattle.control_definitions.specs.Program.{Verb}
+use Rattle.listing_definitions.specs.Report.{SolutionLines, RangeLines}
+use Rattle.listing_definitions.specs.Ending.{Place}
+use Rattle.question_definitions.specs.Answers.{Basis, Sheet, Sweep, Question, PathEnd, SweepEnd}
+
+pub record Solving : Type 1 where
+  -- whether a verb with these arguments is built
+  pub builds : Verb ℕ → Bool
+  -- the path from a basis ends so, where it may take so many steps
+  pub Solves : Sheet → Basis → ℕ → PathEnd → Type 0
+  -- the parametric run from a basis ends so
+  pub Sweeps : Sheet → Basis → Sweep → SweepEnd → Type 0
+  -- SOLUTION prints these lines of a basis
+  pub Shows : Sheet → Basis → SolutionLines → Type 0
+  -- RANGE prints these lines of a basis
+  pub Ranges : Sheet → Basis → RangeLines → Type 0
+  -- a statement that asks this may stop with this evidence, where the path in hand went through these bases up to now
+  pub Overflows : Question → Sheet → List Basis → Evidence → Option Place → Type 0
