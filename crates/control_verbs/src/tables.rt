@@ -139,7 +139,7 @@ fn argument_word_of(word: &[u8]) -> Option<VerbWord>
 }
 
 /// What the word of a verb asks for.
-#[tactic(auto, using(crate::proofs::Words::words_in_two_tables))]
+#[tactic(auto, using(crate::proofs::WordTests::words_in_two_tables))]
 pub fn verb_word_of(word: &[u8]) -> Option<VerbWord>
     ensures { option_map word_shown result ≡ named verb_words word.now }
 {
