@@ -8,7 +8,7 @@ use Rattle.check_definitions.specs.declared.Verdict.{Verdict as CheckVerdict}
 use Rattle.check_definitions.specs.Checks.{optimal_check, crossed_check, infeasible_check, unbounded_check}
 use Rattle.path_definitions.specs.Path.{Ending, EndsOptimal, EndsCrossed, EndsInfeasible, EndsUnbounded, PathEnds, GoesOnFor}
 use Rattle.listing_definitions.specs.Report.{Verdict, OptimalAt, CrossedAt, InfeasibleBy, UnboundedBy, Check, Checked, Unchecked}
-use Rattle.question_definitions.specs.Answers.{Basis, Sheet, PathEnd, Reached, PathLimit, PathNotBuilt}
+use Rattle.question_definitions.specs.Answers.{Basis, Sheet, PathEnd, Reached, PathLimit}
 use Rattle.answer_definitions.specs.Lines.{pair_lines, ray_lines}
 
 -- the objective is the activity of the objective row
@@ -44,4 +44,3 @@ pub record ReachesVerdict (sheet : Sheet) (s : Basis) (limit : ℕ) (bases : Lis
 abbrev pub IsSolved : Sheet → Basis → ℕ → PathEnd → Type 0
 IsSolved sheet s limit (Reached bases verdict check) = ReachesVerdict sheet s limit bases verdict check
 IsSolved sheet s limit PathLimit = GoesOnFor sheet.lp s limit
-IsSolved sheet s limit PathNotBuilt = ⊥

@@ -47,10 +47,10 @@ pub data Question : Type 0 where
   OfSweep : Sweep → Question
 
 -- Where a path ends: it went through these bases, one a step, and its verdict and the check of it are these; or it hasn't ended
--- within its limit; or it meets what isn't built yet.
+-- within its limit.
 pub data PathEnd : Type 0 where
   Reached : List Basis → Verdict → Check → PathEnd
-  PathLimit PathNotBuilt : PathEnd
+  PathLimit : PathEnd
 
 -- Where a parametric run ends: its opening path isn't optimal; or it went on, through all these bases, with these intervals; or it
 -- hasn't ended within its limit.

@@ -2,7 +2,7 @@
 --
 -- The real ones are those of the linear program alone: Solves and Sweeps follow the path and the chain of bases, Shows and Ranges
 -- read off the point, the prices and the intervals of a basis, and Overflows is the evidence that holds. While a part of a run isn't
--- built, its verbs are left out of `builds`, and a path may end with `PathNotBuilt`.
+-- built, its verbs are left out of `builds`.
 use Rattle.std.specs.Prelude.{ℕ, Bool, List, Option}
 use Rattle.lp_definitions.specs.declared.Evidence.{Evidence}
 use Rattle.control_definitions.specs.Program.{Verb}

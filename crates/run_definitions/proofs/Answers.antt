@@ -12,16 +12,27 @@ use Rattle.listing_definitions.specs.Ending.{Ended, WordsRefused, ControlStop, R
 use Rattle.run_definitions.specs.Moves.{Prints}
 use Rattle.run_definitions.specs.Verbs.{verb_move}
 use Rattle.run_definitions.specs.Run.{begun, stepped, is_over, at_end, IsRun}
-use Rattle.run_definitions.specs.Answer.{WithoutBytes, Read, Made, job_decks, control_fault as by_control_fault, run, IsJobRun, words_refused, read_fails, by_itself, memory_at_start, whole, print_fails, IsAnswer}
+use Rattle.run_definitions.specs.Answer.{Failures, WithoutBytes, Read, Made, job_decks, control_fault as by_control_fault, run, IsJobRun, words_refused, read_fails, by_itself, memory_at_start, whole, print_fails, IsAnswer}
 use Rattle.run_definitions.proofs.Courses.{silent}
 
-words : IsAnswer silent WithoutBytes ⊥ (record { status = 4; printed = codes "STOP 4 WORDS\n"; punched = [] })
+-- nothing fails; a read fails; a write to the print fails
+none_fails : Failures
+none_fails = record { read = ⊥; print = ⊥; punch = ⊥; memory = ⊥ }
+
+read_fault : Failures
+read_fault = record { read = Unit {0}; print = ⊥; punch = ⊥; memory = ⊥ }
+
+print_fault : Failures
+print_fault = record { read = ⊥; print = Unit {0}; punch = ⊥; memory = ⊥ }
+
+words : IsAnswer silent WithoutBytes none_fails (record { status = 4; printed = codes "STOP 4 WORDS\n"; punched = [] })
 words = whole WordsRefused (words_refused refl) refl refl refl
 
-unread : IsAnswer silent (Read (codes "EXIT\n")) ⊥ (record { status = 24; printed = codes "STOP 24 READ FAULT\n"; punched = [] })
-unread = whole ReadFault (read_fails _ refl) refl refl refl
+unread : IsAnswer silent (Read (codes "EXIT\n")) read_fault (record { status = 24; printed = codes "STOP 24 READ FAULT\n"; punched = [] })
+unfolding read_fault
+unread = whole ReadFault (read_fails _ refl tt) refl refl refl
 
-empty_job : IsAnswer silent (Read []) ⊥ (record { status = 8; printed = codes "STOP 8 CONTROL FAULT 1 CARD 0\n"; punched = [] })
+empty_job : IsAnswer silent (Read []) none_fails (record { status = 8; printed = codes "STOP 8 CONTROL FAULT 1 CARD 0\n"; punched = [] })
 unfolding job_fault cards_of compiled control_fault control_card_fault verb_of label_of statement_of digits
 empty_job = whole (ControlStop (record { number = 1; card = 0 })) (by_itself [] refl (by_control_fault _ refl refl)) refl refl refl
 
@@ -48,14 +59,14 @@ title_run = is_over (stepped (Prints (Titled (codes "A B"))) _ begun (record { s
 title_job : IsJobRun silent title_bytes (Titled (codes "A B") ∷ []) [] (Ended 0)
 title_job = run title_program (record { is_read = title_read; is_compiled = title_compiled }) title_run
 
-title_answer : IsAnswer silent (Read title_bytes) ⊥ (record { status = 0; printed = codes "TITLE A B\nEND 0\n"; punched = [] })
+title_answer : IsAnswer silent (Read title_bytes) none_fails (record { status = 0; printed = codes "TITLE A B\nEND 0\n"; punched = [] })
 unfolding digits
 title_answer = whole (Ended 0) (by_itself title_bytes refl title_job) refl refl refl
 
 -- the print fails in the middle of the title, and the job was made
-title_cut : IsAnswer silent (Made title_bytes) ⊥ (record { status = 25; printed = codes "TITLE"; punched = [] })
-unfolding digits
-title_cut = print_fails refl (record {
+title_cut : IsAnswer silent (Made title_bytes) print_fault (record { status = 25; printed = codes "TITLE"; punched = [] })
+unfolding digits print_fault
+title_cut = print_fails tt refl (record {
   text = codes "TITLE A B\nEND 0\n";
   deck_text = [];
   is_possible = record { reports = _; cards = _; ending = Ended 0; may_end = by_itself title_bytes refl title_job; is_listing = refl; is_deck_text = refl };
@@ -64,5 +75,5 @@ title_cut = print_fails refl (record {
 })
 
 -- memory is wanted before there is a report
-title_memory : IsAnswer silent (Read title_bytes) ⊥ (record { status = 28; printed = codes "STOP 28 MEMORY\n"; punched = [] })
+title_memory : IsAnswer silent (Read title_bytes) none_fails (record { status = 28; printed = codes "STOP 28 MEMORY\n"; punched = [] })
 title_memory = whole Memory memory_at_start refl refl ([], refl)

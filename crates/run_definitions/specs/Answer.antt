@@ -3,8 +3,8 @@
 --     IsJobRun bytes ..            what a job reports and punches and how it ends, where nothing fails
 --     IsSoFar bytes ..             how far a job has come
 --     MayEnd job ..                how a job may end, where devices and memory may fail
---     IsAnswer job wanted answer   the status, and the bytes that the print and the punch gain
---     IsAnswered job wanted ..     the clause of the top call
+--     IsAnswer job .. answer       the status, and the bytes that the print and the punch gain
+--     IsAnswered job ..            the clause of the top call
 use Rattle.std.specs.Prelude.{ℕ, ◌≡◌, ◌-◌, List, [], ◌++◌, Option, None, Some, Ok, Err, drop}
 use Rattle.card_definitions.specs.declared.CardFault.{CardFault}
 use Rattle.card_definitions.specs.Cards.{Card, cards_of, numbered_cards, job_fault}
@@ -37,6 +37,13 @@ pub record Answer : Type 0 where
   pub status : ℕ
   pub printed : List ℕ
   pub punched : List ℕ
+
+-- what has failed in a call: a read of the job, a write to the print, a write to the punch; or the print has wanted memory
+pub record Failures : Type 1 where
+  pub read : Type 0
+  pub print : Type 0
+  pub punch : Type 0
+  pub memory : Type 0
 
 -- what the punch has gained by an end: all of a text, or a front of it where its deck may be broken off
 abbrev pub Gains : Ending → List ℕ → List ℕ → Type 0
@@ -72,48 +79,49 @@ module _ (S : Solving) where
     pub after : State
     pub step : Step S program state (Goes (Punches report deck) after)
 
-  -- How a job may end: as it does by itself; or since the words are refused, a device fails or memory is wanted, and then the reports
-  -- are those so far. The cards are all that is punched by then, with the deck of the statement in hand.
-  pub data MayEnd (job : Job) : List Report → List (List ℕ) → Ending → Type 0 where
-    words_refused : job ≡ WithoutBytes → MayEnd job [] [] WordsRefused
-    read_fails : (bytes : List ℕ) → job ≡ Read bytes → MayEnd job [] [] ReadFault
+  -- How a job may end: as it does by itself; or since the words are refused, a read of the job or a write to the punch has failed, or
+  -- memory is wanted, and then the reports are those so far. The cards are all that is punched by then, with the deck of the statement
+  -- in hand.
+  pub data MayEnd (job : Job) (failures : Failures) : List Report → List (List ℕ) → Ending → Type 0 where
+    words_refused : job ≡ WithoutBytes → MayEnd job failures [] [] WordsRefused
+    read_fails : (bytes : List ℕ) → job ≡ Read bytes → failures.read → MayEnd job failures [] [] ReadFault
     by_itself : (bytes : List ℕ) {reports : List Report} {cards : List (List ℕ)} {ending : Ending} →
-        bytes_of job ≡ Some bytes → IsJobRun bytes reports cards ending → MayEnd job reports cards ending
-    memory_at_start : MayEnd job [] [] Memory
+        bytes_of job ≡ Some bytes → IsJobRun bytes reports cards ending → MayEnd job failures reports cards ending
+    memory_at_start : MayEnd job failures [] [] Memory
     memory_in_run : (bytes : List ℕ) (program : Program) (state : State) {reports : List Report} {cards : List (List ℕ)} →
-        bytes_of job ≡ Some bytes → IsSoFar bytes reports cards program state → MayEnd job reports cards Memory
+        bytes_of job ≡ Some bytes → IsSoFar bytes reports cards program state → MayEnd job failures reports cards Memory
     memory_at_punch : (bytes : List ℕ) (program : Program) (state : State) {reports : List Report} {cards : List (List ℕ)} (deck : List (List ℕ)) →
-        bytes_of job ≡ Some bytes → IsSoFar bytes reports cards program state → IsPunching program state deck → MayEnd job reports (cards ++ deck) Memory
+        bytes_of job ≡ Some bytes → IsSoFar bytes reports cards program state → IsPunching program state deck → MayEnd job failures reports (cards ++ deck) Memory
     punch_fails : (bytes : List ℕ) (program : Program) (state : State) {reports : List Report} {cards : List (List ℕ)} (deck : List (List ℕ)) →
-        bytes_of job ≡ Some bytes → IsSoFar bytes reports cards program state → IsPunching program state deck → MayEnd job reports (cards ++ deck) PunchFault
+        failures.punch → bytes_of job ≡ Some bytes → IsSoFar bytes reports cards program state → IsPunching program state deck → MayEnd job failures reports (cards ++ deck) PunchFault
 
   -- a listing that a job may have, and all that is punched by its end
-  pub record IsPossibleListing (job : Job) (text deck_text : List ℕ) : Type 0 where
+  pub record IsPossibleListing (job : Job) (failures : Failures) (text deck_text : List ℕ) : Type 0 where
     pub reports : List Report
     pub cards : List (List ℕ)
     pub ending : Ending
-    pub may_end : MayEnd job reports cards ending
+    pub may_end : MayEnd job failures reports cards ending
     pub is_listing : text ≡ listing reports ending
     pub is_deck_text : deck_text ≡ card_text cards
 
   -- the print and the punch have gained fronts of these
-  pub record IsCutShort (job : Job) (answer : Answer) : Type 0 where
+  pub record IsCutShort (job : Job) (failures : Failures) (answer : Answer) : Type 0 where
     pub text : List ℕ
     pub deck_text : List ℕ
-    pub is_possible : IsPossibleListing job text deck_text
+    pub is_possible : IsPossibleListing job failures text deck_text
     pub print_front : IsFront answer.printed text
     pub punch_front : IsFront answer.punched deck_text
 
   -- What a job may be answered: the status of an end, with the whole listing, and with all that is punched by then, or a front of it
   -- where the deck in hand isn't whole; or the print has failed, or wanted memory itself, and all is cut short.
-  pub data IsAnswer (job : Job) (wanted : Type 0) (answer : Answer) : Type 0 where
-    whole : {reports : List Report} {cards : List (List ℕ)} (ending : Ending) → MayEnd job reports cards ending →
-        answer.status ≡ status_of ending → answer.printed ≡ listing reports ending → Gains ending answer.punched (card_text cards) → IsAnswer job wanted answer
-    print_fails : answer.status ≡ status_of PrintFault → IsCutShort job answer → IsAnswer job wanted answer
-    print_wants_memory : wanted → answer.status ≡ status_of Memory → IsCutShort job answer → IsAnswer job wanted answer
+  pub data IsAnswer (job : Job) (failures : Failures) (answer : Answer) : Type 0 where
+    whole : {reports : List Report} {cards : List (List ℕ)} (ending : Ending) → MayEnd job failures reports cards ending →
+        answer.status ≡ status_of ending → answer.printed ≡ listing reports ending → Gains ending answer.punched (card_text cards) → IsAnswer job failures answer
+    print_fails : failures.print → answer.status ≡ status_of PrintFault → IsCutShort job failures answer → IsAnswer job failures answer
+    print_wants_memory : failures.memory → answer.status ≡ status_of Memory → IsCutShort job failures answer → IsAnswer job failures answer
 
   -- The clause of the top call, where the words are refused, or make a job, or the source tells its bytes: the print gains some bytes and
-  -- the punch gains some, each so far as it tells them, and with the status they are an answer to the job.
-  abbrev pub IsAnswered : Job → Type 0 → ℕ → (List ℕ → Type 0) → (List ℕ → Type 0) → Type 0
-  IsAnswered job wanted status PrintGains PunchGains =
-      (printed : List ℕ) × (punched : List ℕ) × PrintGains printed × PunchGains punched × IsAnswer job wanted (record { status = status; printed = printed; punched = punched })
+  -- the punch gains some, each so far as it tells them, and with the status they are an answer to the job in view of what has failed.
+  abbrev pub IsAnswered : Job → Failures → ℕ → (List ℕ → Type 0) → (List ℕ → Type 0) → Type 0
+  IsAnswered job failures status PrintGains PunchGains =
+      (printed : List ℕ) × (punched : List ℕ) × PrintGains printed × PunchGains punched × IsAnswer job failures (record { status = status; printed = printed; punched = punched })
