@@ -1,22 +1,22 @@
-mod Covered
-mod Existence
-mod Lengths
-mod Nearest
-mod PointSums
-mod PriceLaws
-mod RatesStops
-mod Refusals
-mod Skips
-mod Writes
-mod TermLaws
-mod Returns
-mod StepFacts
-mod StepRefusals
-mod TurnEvidence
-mod SameChoices
-mod TurnChoices
-mod PathWalk
-mod TurnCalls
-mod TurnCases
-mod WalkCases
-mod TrueOutcomes
+pub mod Covered
+pub mod Existence
+pub mod Lengths
+pub mod Nearest
+pub mod PointSums
+pub mod PriceLaws
+pub mod RatesStops
+pub mod Refusals
+pub mod Skips
+pub mod Writes
+pub mod TermLaws
+pub mod Returns
+pub mod StepFacts
+pub mod StepRefusals
+pub mod TurnEvidence
+pub mod SameChoices
+pub mod TurnChoices
+pub mod PathWalk
+pub mod TurnCalls
+pub mod TurnCases
+pub mod WalkCases
+pub mod TrueOutcomes

@@ -13,4 +13,4 @@ pub mod Optimal
 pub mod Rays
 pub mod Entries
 pub mod Ordered
-mod Examples
+pub mod Examples

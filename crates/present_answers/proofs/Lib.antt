@@ -1,4 +1,4 @@
-mod PathStopLaws
-mod Calls
-mod Refused
-mod SolutionLines
+pub mod PathStopLaws
+pub mod Calls
+pub mod Refused
+pub mod SolutionLines
