@@ -1,7 +1,7 @@
 -- What a statement asks of linear programming, and the answers to it.
 --     Sheet                 a problem, which has the names, and the linear program that is selected from it
---     Question              what a statement asks
 --     PathEnd, SweepEnd     where a path or a parametric run ends
+--     Question, Answer      what a statement asks, and what an answer to it is
 use Rattle.std.specs.Prelude.{ℕ, List}
 use Rattle.exact_values.specs.Rational.{ℚ}
 use Rattle.lp_definitions.specs.declared.Status.{Status}
@@ -10,7 +10,7 @@ use Rattle.problem_definitions.specs.Names.{Name}
 use Rattle.problem_definitions.specs.Problem.{Problem}
 use Rattle.listing_definitions.specs.declared.Solver.{Solver}
 use Rattle.listing_definitions.specs.declared.Solver.TheVariants.{Paraobj, Pararhs}
-use Rattle.listing_definitions.specs.Report.{Verdict, Check, Interval, ChainEnd}
+use Rattle.listing_definitions.specs.Report.{SolutionLines, RangeLines, Verdict, Check, Interval, ChainEnd}
 
 -- a basis says where each variable stands
 abbrev pub Basis : Type 0
@@ -40,12 +40,6 @@ pub record Sweep : Type 0 where
   pub to : ℚ
   pub limit : ℕ
 
--- a path in at most so many steps, the lines of SOLUTION or of RANGE, or a parametric run
-pub data Question : Type 0 where
-  OfPath : ℕ → Question
-  OfSolution OfRanges : Question
-  OfSweep : Sweep → Question
-
 -- Where a path ends: it went through these bases, one a step, and its verdict and the check of it are these; or it hasn't ended
 -- within its limit.
 pub data PathEnd : Type 0 where
@@ -58,3 +52,15 @@ pub data SweepEnd : Type 0 where
   Opening : List Basis → Verdict → Check → SweepEnd
   Chained : List Basis → List Interval → ChainEnd → SweepEnd
   SweepLimit : SweepEnd
+
+-- a statement asks for a path in at most so many steps, for the lines of SOLUTION or of RANGE, or for a parametric run
+pub data Question : Type 0 where
+  OfPath : ℕ → Question
+  OfSolution OfRanges : Question
+  OfSweep : Sweep → Question
+
+abbrev pub Answer : Question → Type 0
+Answer (OfPath limit) = PathEnd
+Answer OfSolution = SolutionLines
+Answer OfRanges = RangeLines
+Answer (OfSweep sweep) = SweepEnd

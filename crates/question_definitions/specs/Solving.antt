@@ -8,7 +8,7 @@ use Rattle.lp_definitions.specs.declared.Evidence.{Evidence}
 use Rattle.control_definitions.specs.Program.{Verb}
 use Rattle.listing_definitions.specs.Report.{SolutionLines, RangeLines}
 use Rattle.listing_definitions.specs.Ending.{Place}
-use Rattle.question_definitions.specs.Answers.{Basis, Sheet, Sweep, Question, PathEnd, SweepEnd}
+use Rattle.question_definitions.specs.Answers.{Basis, Sheet, Sweep, Question, OfPath, OfSolution, OfRanges, OfSweep, Answer, PathEnd, SweepEnd}
 
 pub record Solving : Type 1 where
   -- whether a verb with these arguments is built
@@ -23,3 +23,10 @@ pub record Solving : Type 1 where
   pub Ranges : Sheet → Basis → RangeLines → Type 0
   -- a statement that asks this may stop with this evidence, where the path in hand went through these bases up to now
   pub Overflows : Question → Sheet → List Basis → Evidence → Option Place → Type 0
+
+-- the answer to a question about a linear program at a basis is right
+abbrev pub IsRight : Solving → (question : Question) → Sheet → Basis → Answer question → Type 0
+IsRight S (OfPath limit) sheet s = S.Solves sheet s limit
+IsRight S OfSolution sheet s = S.Shows sheet s
+IsRight S OfRanges sheet s = S.Ranges sheet s
+IsRight S (OfSweep sweep) sheet s = S.Sweeps sheet s sweep

@@ -36,8 +36,8 @@ pub record Course : Type 0 where
 -- the outcome of a move that doesn't ask, and doesn't stop freely
 abbrev pub settled : Move → Option Outcome
 settled (Does outcome) = Some outcome
-settled (MayStop Holds move) = settled move
-settled (Asks Answer IsRight go) = None
+settled (MayStop refusals move) = settled move
+settled (Asks question sheet s go) = None
 
 abbrev pub behind : Gain → Course → Course
 behind gain course = record { reports = printed_by gain ++ course.reports; cards = punched_by gain ++ course.cards; ending = course.ending }
@@ -95,10 +95,10 @@ some_apart e = subst IsNothing e tt
 from_some : {X : Type 0} {x y : X} → Some x ≡ Some y → x ≡ y
 from_some {x = x} e = ap (λ o. unwrap_or o x) e
 
-settled_gives : (card : ℕ) (move : Move) (outcome : Outcome) → settled move ≡ Some outcome → Gives card move outcome
+settled_gives : (card : ℕ) (move : Move) (outcome : Outcome) → settled move ≡ Some outcome → Gives silent card move outcome
 settled_gives card (Does found) outcome e = sym (from_some e)
-settled_gives card (MayStop Holds move) outcome e = inl (settled_gives card move outcome e)
-settled_gives card (Asks Answer IsRight go) outcome e = absurd (some_apart e)
+settled_gives card (MayStop refusals move) outcome e = inl (settled_gives card move outcome e)
+settled_gives card (Asks question sheet s go) outcome e = absurd (some_apart e)
 
 module _ (program : Program) (decks : List (List Card)) where
   -- what a course adds to a run that has come to a state is the rest of that run

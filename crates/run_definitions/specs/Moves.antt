@@ -1,10 +1,16 @@
 -- What a statement may do, and how it comes to it.
 --     Gain                  what is added to the print and the punch
 --     Outcome               a statement goes on, or it ends the run
+--     Refusals              where an operation may be refused
 --     Move                  an outcome, a place where the run may stop for an overflow, or a question
---     Gives card move outcome      the statement of a card comes to this
+--     Gives S card move outcome    the statement of a card comes to this
 use Rattle.std.specs.Prelude.{◌≡◌, ◌⊎◌, ◌+◌, ℕ, List, [], ◌∷◌, Option, Some, None}
 use Rattle.lp_definitions.specs.declared.Evidence.{Evidence}
+use Rattle.problem_definitions.specs.Problem.{Problem}
+use Rattle.selection_definitions.specs.Choice.{Choice}
+use Rattle.selection_definitions.specs.RangeSums.{IsRangeRefusal}
+use Rattle.question_definitions.specs.Answers.{Basis, Sheet, Question, Answer}
+use Rattle.question_definitions.specs.Solving.{Solving, IsRight}
 use Rattle.listing_definitions.specs.declared.VerbFault.{VerbFault}
 use Rattle.listing_definitions.specs.Report.{Report}
 use Rattle.listing_definitions.specs.Ending.{Place, Ending, VerbStop, OverflowStop}
@@ -42,22 +48,37 @@ jump gain position state = Goes gain (record state { position = position })
 abbrev pub stops : Ending → Outcome
 stops ending = Ends Nothing ending
 
--- A statement does something; or it may stop with an overflow for which this evidence holds, and else moves on; or it asks, and goes
--- on by an answer that is right.
-pub data Move : Type 1 where
+-- An operation may be refused in a selection; or in an answer to a question about a linear program, after these bases since SETUP.
+pub data Refusals : Type 0 where
+  InSelection : Problem ℕ → Choice → Refusals
+  InAnswer : Question → Sheet → List Basis → Refusals
+
+-- A statement does something; or it may stop with an overflow where an operation is refused, and else moves on; or it asks about a
+-- linear program at a basis, and goes on by the answer. A move is plain data: what is right of linear programming comes in with its
+-- meaning, below.
+pub data Move : Type 0 where
   Does : Outcome → Move
-  MayStop : (Evidence → Option Place → Type 0) → Move → Move
-  Asks : (Answer : Type 0) → (Answer → Type 0) → (Answer → Outcome) → Move
+  MayStop : Refusals → Move → Move
+  Asks : (question : Question) → Sheet → Basis → (Answer question → Outcome) → Move
+
+-- a range sum of the selection that doesn't fit; it is made before there is a basis
+abbrev pub RangeOverflows : Problem ℕ → Choice → Evidence → Option Place → Type 0
+RangeOverflows problem choice evidence place = IsRangeRefusal problem choice evidence × (place ≡ None)
+
+-- the evidence that shows a refusal
+abbrev pub Shows : Solving → Refusals → Evidence → Option Place → Type 0
+Shows S (InSelection problem choice) = RangeOverflows problem choice
+Shows S (InAnswer question sheet bases) = S.Overflows question sheet bases
 
 abbrev pub StopsBy : ℕ → (Evidence → Option Place → Type 0) → Outcome → Type 0
 StopsBy card Holds outcome =
     (evidence : Evidence) × (place : Option Place) × Holds evidence place × (outcome ≡ stops (OverflowStop (record { evidence = evidence; place = place; card = card })))
 
--- the outcomes of a move; whether to stop for an overflow is the one free choice
-abbrev pub Gives : ℕ → Move → Outcome → Type 0
-Gives card (Does outcome) given = given ≡ outcome
-Gives card (MayStop Holds move) given = Gives card move given ⊎ StopsBy card Holds given
-Gives card (Asks Answer IsRight go) given = (answer : Answer) × IsRight answer × (given ≡ go answer)
+-- The outcomes of a move, by what is right of linear programming. Whether to stop for an overflow is the one free choice.
+abbrev pub Gives : Solving → ℕ → Move → Outcome → Type 0
+Gives S card (Does outcome) given = given ≡ outcome
+Gives S card (MayStop refusals move) given = Gives S card move given ⊎ StopsBy card (Shows S refusals) given
+Gives S card (Asks question sheet s go) given = (answer : Answer question) × IsRight S question sheet s answer × (given ≡ go answer)
 
 -- a verb fault on a card, or else what is done with the value
 abbrev pub or_fault : {X : Type 0} → ℕ → VerbFault → Option X → (X → Move) → Move

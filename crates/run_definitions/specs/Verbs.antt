@@ -14,7 +14,6 @@ use Rattle.deck_definitions.specs.Conversion.{conversion}
 use Rattle.deck_definitions.specs.Written.{written}
 use Rattle.deck_definitions.specs.Decks.{deck_taken}
 use Rattle.revise_definitions.specs.Revision.{revision}
-use Rattle.lp_definitions.specs.declared.Evidence.{Evidence}
 use Rattle.lp_definitions.specs.LinearProgram.{LinearProgram}
 use Rattle.lp_definitions.specs.Basis.{opening_statuses}
 use Rattle.control_definitions.specs.declared.NameCell.{NameCell}
@@ -23,7 +22,6 @@ use Rattle.control_definitions.specs.Program.{SetupOptions, Verb, Initialz, Titl
 use Rattle.selection_definitions.specs.declared.SelectionFault.{SelectionFault}
 use Rattle.selection_definitions.specs.Choice.{Choice}
 use Rattle.selection_definitions.specs.Selection.{selected}
-use Rattle.selection_definitions.specs.RangeSums.{IsRangeRefusal}
 use Rattle.listing_definitions.specs.declared.Mark.{Mark}
 use Rattle.listing_definitions.specs.declared.Mark.TheVariants.{Optimal, Infeasible, Unbounded}
 use Rattle.listing_definitions.specs.declared.Solver.TheVariants.{Primal as ByPrimal}
@@ -31,11 +29,11 @@ use Rattle.listing_definitions.specs.declared.VerbFault.{VerbFault}
 use Rattle.listing_definitions.specs.declared.VerbFault.TheVariants.{DeckNotFound, NoProblem, NoSetup, NotSolved, NotOptimal, NoChangeRow, NoChangeSet, NoParmax, ParmaxBelow, NoObjective, ObjectiveNotFree, NoRhsSet, NoRangeSet, NoBoundSet}
 use Rattle.listing_definitions.specs.Report.{SolutionLines, RangeLines, Verdict, OptimalAt, CrossedAt, InfeasibleBy, UnboundedBy, Report, Titled, Filed, Converted, Revised, SetUp, Punched, Solved, Solution, Ranges, Parametric, ChainEnd, EndsAt, UnboundedPast, InfeasiblePast}
 use Rattle.listing_definitions.specs.Ending.{Place, Ending, Ended, VerbStop, DeckStop, LimitStop, NotBuilt}
-use Rattle.question_definitions.specs.Answers.{Basis, Sheet, Changing, Row, Set, changing_name, sweeper, Sweep, Question, OfPath, OfSolution, OfRanges, OfSweep, PathEnd, Reached, PathLimit, SweepEnd, Opening, Chained, SweepLimit}
+use Rattle.question_definitions.specs.Answers.{Basis, Sheet, Changing, Row, Set, changing_name, sweeper, Sweep, Question, Answer, OfPath, OfSolution, OfRanges, OfSweep, PathEnd, Reached, PathLimit, SweepEnd, Opening, Chained, SweepLimit}
 use Rattle.question_definitions.specs.Solving.{Solving}
 use Rattle.control_definitions.specs.Cells.{default_cells, move_name, move_number, move_limit, set_demand}
 use Rattle.run_definitions.specs.State.{Present, present_basis, path_of, gone_through, State, problem_of, choice_of}
-use Rattle.run_definitions.specs.Moves.{Nothing, Prints, Punches, Outcome, Ends, next, jump, stops, Move, Does, MayStop, Asks, or_fault}
+use Rattle.run_definitions.specs.Moves.{Nothing, Prints, Punches, Outcome, Ends, next, jump, stops, InSelection, InAnswer, Move, Does, MayStop, Asks, or_fault}
 
 -- ---- decks
 
@@ -132,13 +130,9 @@ abbrev pub or_selection_fault : ℕ → Result LinearProgram SelectionFault → 
 or_selection_fault card (Err fault) go = Does (stops (VerbStop (record { fault = selection_verb_fault fault; card = card })))
 or_selection_fault card (Ok lp) go = go lp
 
--- a range sum of the selection that doesn't fit; it is made before there is a basis
-abbrev pub RangeOverflows : Problem ℕ → Choice → Evidence → Option Place → Type 0
-RangeOverflows problem choice evidence place = IsRangeRefusal problem choice evidence × (place ≡ None)
-
 -- a selection: its faults come first, and then a range sum may not fit
 abbrev pub selects : ℕ → Problem ℕ → Choice → (LinearProgram → Move) → Move
-selects card problem choice go = or_selection_fault card (selected problem choice) (λ lp. MayStop (RangeOverflows problem choice) (go lp))
+selects card problem choice go = or_selection_fault card (selected problem choice) (λ lp. MayStop (InSelection problem choice) (go lp))
 
 -- SETUP gets the problem named by XPBNAME if moved, else filed last; it selects, keeps problem and options, makes the opening basis,
 -- and clears the mark.
@@ -199,101 +193,98 @@ mark_after Xobj mark = None
 mark_after Xrhs mark = None
 mark_after _ mark = mark
 
-module _ (S : Solving) where
-  open S use {builds, Solves, Sweeps, Shows, Ranges as RangesShown, Overflows}
+-- a question at the present basis: the statement may stop with an overflow of its own formulas, or goes on by the answer
+abbrev pub asks : (question : Question) → Sheet → Present → (Answer question → Outcome) → Move
+asks question sheet present go = MayStop (InAnswer question sheet (path_of present)) (Asks question sheet (present_basis present) go)
 
-  -- a question: the statement may stop with an overflow of its own formulas, or goes on by the answer
-  abbrev pub asks : Question → Sheet → Present → (Answer : Type 0) → (Answer → Type 0) → (Answer → Outcome) → Move
-  asks question sheet present Answer IsRight go = MayStop (Overflows question sheet (path_of present)) (Asks Answer IsRight go)
+-- the basis where the path ends becomes the present one, and the verdict is printed and leaves a mark
+abbrev pub after_path : ℕ → Present → State → PathEnd → Outcome
+after_path card present state (Reached bases verdict check) =
+    by_verdict (mark_of verdict) (Solved ByPrimal verdict check) (record state { setup = Some (gone_through bases present); mark = Some (mark_of verdict) })
+after_path card present state PathLimit = limit_stop card state
 
-  -- the basis where the path ends becomes the present one, and the verdict is printed and leaves a mark
-  abbrev pub after_path : ℕ → Present → State → PathEnd → Outcome
-  after_path card present state (Reached bases verdict check) =
-      by_verdict (mark_of verdict) (Solved ByPrimal verdict check) (record state { setup = Some (gone_through bases present); mark = Some (mark_of verdict) })
-  after_path card present state PathLimit = limit_stop card state
+-- PRIMAL needs a setup; it selects, and follows the path from the present basis.
+abbrev pub solves : ℕ → State → Move
+solves card state =
+    or_fault card NoSetup state.setup (λ present.
+    selects_present card state present (λ lp.
+    let sheet : Sheet = record { problem = present.problem; lp = lp } in
+    asks (OfPath state.cells.xiterlim) sheet present (after_path card present state)))
 
-  -- PRIMAL needs a setup; it selects, and follows the path from the present basis.
-  abbrev pub solves : ℕ → State → Move
-  solves card state =
-      or_fault card NoSetup state.setup (λ present.
-      selects_present card state present (λ lp.
-      let sheet : Sheet = record { problem = present.problem; lp = lp } in
-      asks (OfPath state.cells.xiterlim) sheet present PathEnd (Solves sheet (present_basis present) state.cells.xiterlim) (after_path card present state)))
+-- SOLUTION and RANGE speak of the linear program that PRIMAL solved: since then the mark stands, so that the present cells select
+-- it again, without a fault.
+abbrev pub shows_present : ℕ → State → Present → (question : Question) → (Answer question → Report) → Move
+shows_present card state present question report =
+    or_selection_fault card (selected present.problem (choice_of state.cells present.options)) (λ lp.
+    let sheet : Sheet = record { problem = present.problem; lp = lp } in
+    asks question sheet present (λ lines. next (Prints (report lines)) state))
 
-  -- SOLUTION and RANGE speak of the linear program that PRIMAL solved: since then the mark stands, so that the present cells select
-  -- it again, without a fault.
-  abbrev pub shows_present : ℕ → State → Present → Question → (Answer : Type 0) → (Sheet → Basis → Answer → Type 0) → (Answer → Report) → Move
-  shows_present card state present question Answer IsShown report =
-      or_selection_fault card (selected present.problem (choice_of state.cells present.options)) (λ lp.
-      let sheet : Sheet = record { problem = present.problem; lp = lp } in
-      asks question sheet present Answer (IsShown sheet (present_basis present)) (λ lines. next (Prints (report lines)) state))
+-- SOLUTION needs a setup and a mark; it prints the basis's point and prices.
+abbrev pub shows : ℕ → State → Move
+shows card state =
+    or_fault card NoSetup state.setup (λ present.
+    or_fault card NotSolved state.mark (λ mark.
+    shows_present card state present OfSolution (Solution mark)))
 
-  -- SOLUTION needs a setup and a mark; it prints the basis's point and prices.
-  abbrev pub shows : ℕ → State → Move
-  shows card state =
-      or_fault card NoSetup state.setup (λ present.
-      or_fault card NotSolved state.mark (λ mark.
-      shows_present card state present OfSolution SolutionLines Shows (Solution mark)))
+abbrev pub if_optimal : Mark → Option Mark
+if_optimal Optimal = Some Optimal
+if_optimal Infeasible = None
+if_optimal Unbounded = None
 
-  abbrev pub if_optimal : Mark → Option Mark
-  if_optimal Optimal = Some Optimal
-  if_optimal Infeasible = None
-  if_optimal Unbounded = None
+-- RANGE needs a setup, a mark, and the mark OPTIMAL; it prints the intervals.
+abbrev pub ranges : ℕ → State → Move
+ranges card state =
+    or_fault card NoSetup state.setup (λ present.
+    or_fault card NotSolved state.mark (λ mark.
+    or_fault card NotOptimal (if_optimal mark) (λ optimal.
+    shows_present card state present OfRanges Ranges)))
 
-  -- RANGE needs a setup, a mark, and the mark OPTIMAL; it prints the intervals.
-  abbrev pub ranges : ℕ → State → Move
-  ranges card state =
-      or_fault card NoSetup state.setup (λ present.
-      or_fault card NotSolved state.mark (λ mark.
-      or_fault card NotOptimal (if_optimal mark) (λ optimal.
-      shows_present card state present OfRanges RangeLines RangesShown Ranges)))
+-- A run along the parameter leaves XPARAM at its last end, and one whose opening isn't optimal leaves it where it was and goes on as
+-- PRIMAL does. The basis reached last becomes the present one, and neither leaves a mark.
+abbrev pub after_sweep : ℕ → Sweep → Present → State → SweepEnd → Outcome
+after_sweep card sweep present state (Opening bases verdict check) =
+    by_verdict (mark_of verdict) (Solved (sweeper sweep.changing) verdict check) (record state { setup = Some (gone_through bases present); mark = None })
+after_sweep card sweep present state (Chained bases intervals end) =
+    next (Prints (Parametric (sweeper sweep.changing) (record { from = sweep.from; change = changing_name sweep.changing; intervals = intervals; end = end })))
+    (record state { setup = Some (gone_through bases present); mark = None; cells = record (state.cells) { xparam = last_value end } })
+after_sweep card sweep present state SweepLimit = limit_stop card state
 
-  -- A run along the parameter leaves XPARAM at its last end, and one whose opening isn't optimal leaves it where it was and goes on as
-  -- PRIMAL does. The basis reached last becomes the present one, and neither leaves a mark.
-  abbrev pub after_sweep : ℕ → Sweep → Present → State → SweepEnd → Outcome
-  after_sweep card sweep present state (Opening bases verdict check) =
-      by_verdict (mark_of verdict) (Solved (sweeper sweep.changing) verdict check) (record state { setup = Some (gone_through bases present); mark = None })
-  after_sweep card sweep present state (Chained bases intervals end) =
-      next (Prints (Parametric (sweeper sweep.changing) (record { from = sweep.from; change = changing_name sweep.changing; intervals = intervals; end = end })))
-      (record state { setup = Some (gone_through bases present); mark = None; cells = record (state.cells) { xparam = last_value end } })
-  after_sweep card sweep present state SweepLimit = limit_stop card state
+-- PARAOBJ and PARARHS need a setup; they select; and they need what changes, a last value, and one that isn't less than the first.
+abbrev pub sweeps : ℕ → VerbFault → (Problem ℕ → Name → Option Changing) → Option Name → State → Move
+sweeps card fault change moved state =
+    or_fault card NoSetup state.setup (λ present.
+    selects_present card state present (λ lp.
+    or_fault card fault (option_and_then (change present.problem) moved) (λ changing.
+    or_fault card NoParmax state.cells.xparmax (λ last.
+    or_fault card ParmaxBelow (not_less state.cells.xparam last) (λ to.
+    let sheet : Sheet = record { problem = present.problem; lp = lp } in
+    let sweep : Sweep = record { changing = changing; from = state.cells.xparam; to = to; limit = state.cells.xiterlim } in
+    asks (OfSweep sweep) sheet present (after_sweep card sweep present state))))))
 
-  -- PARAOBJ and PARARHS need a setup; they select; and they need what changes, a last value, and one that isn't less than the first.
-  abbrev pub sweeps : ℕ → VerbFault → (Problem ℕ → Name → Option Changing) → Option Name → State → Move
-  sweeps card fault change moved state =
-      or_fault card NoSetup state.setup (λ present.
-      selects_present card state present (λ lp.
-      or_fault card fault (option_and_then (change present.problem) moved) (λ changing.
-      or_fault card NoParmax state.cells.xparmax (λ last.
-      or_fault card ParmaxBelow (not_less state.cells.xparam last) (λ to.
-      let sheet : Sheet = record { problem = present.problem; lp = lp } in
-      let sweep : Sweep = record { changing = changing; from = state.cells.xparam; to = to; limit = state.cells.xiterlim } in
-      asks (OfSweep sweep) sheet present SweepEnd (Sweeps sheet (present_basis present) sweep) (after_sweep card sweep present state))))))
+-- What the statement of a verb on a card does.
+unfoldable pub verb_move : Verb ℕ → ℕ → State → Move
+verb_move Initialz card state = Does (next Nothing (record state { cells = default_cells; mark = None }))
+verb_move (Title text) card state = Does (next (Prints (Titled text)) state)
+verb_move (MoveName cell name) card state = Does (next Nothing (record state { cells = move_name cell name state.cells; mark = mark_after cell state.mark }))
+verb_move (MoveNumber cell value) card state = Does (next Nothing (record state { cells = move_number cell value state.cells }))
+verb_move (MoveLimit limit) card state = Does (next Nothing (record state { cells = move_limit limit state.cells }))
+verb_move (Mvadr demand position) card state = Does (next Nothing (record state { cells = set_demand demand position state.cells }))
+verb_move (Goto position) card state = Does (jump Nothing position state)
+verb_move Convert card state = converts card state
+verb_move Revise card state = revises card state
+verb_move (Setup options) card state = sets_up card options state
+verb_move Primal card state = solves card state
+verb_move SolutionVerb card state = shows card state
+verb_move Ranging card state = ranges card state
+verb_move Paraobj card state = sweeps card NoChangeRow change_row state.cells.xchrow state
+verb_move Pararhs card state = sweeps card NoChangeSet change_set state.cells.xchcol state
+verb_move Bcdout card state = punches card state
+verb_move Exit card state = Does (stops (Ended 0))
 
-  -- What the statement of a verb on a card does.
-  unfoldable pub verb_move : Verb ℕ → ℕ → State → Move
-  verb_move Initialz card state = Does (next Nothing (record state { cells = default_cells; mark = None }))
-  verb_move (Title text) card state = Does (next (Prints (Titled text)) state)
-  verb_move (MoveName cell name) card state = Does (next Nothing (record state { cells = move_name cell name state.cells; mark = mark_after cell state.mark }))
-  verb_move (MoveNumber cell value) card state = Does (next Nothing (record state { cells = move_number cell value state.cells }))
-  verb_move (MoveLimit limit) card state = Does (next Nothing (record state { cells = move_limit limit state.cells }))
-  verb_move (Mvadr demand position) card state = Does (next Nothing (record state { cells = set_demand demand position state.cells }))
-  verb_move (Goto position) card state = Does (jump Nothing position state)
-  verb_move Convert card state = converts card state
-  verb_move Revise card state = revises card state
-  verb_move (Setup options) card state = sets_up card options state
-  verb_move Primal card state = solves card state
-  verb_move SolutionVerb card state = shows card state
-  verb_move Ranging card state = ranges card state
-  verb_move Paraobj card state = sweeps card NoChangeRow change_row state.cells.xchrow state
-  verb_move Pararhs card state = sweeps card NoChangeSet change_set state.cells.xchcol state
-  verb_move Bcdout card state = punches card state
-  verb_move Exit card state = Does (stops (Ended 0))
+abbrev pub if_built : Bool → Move → Move
+if_built true move = move
+if_built false move = Does (stops NotBuilt)
 
-  abbrev pub if_built : Bool → Move → Move
-  if_built true move = move
-  if_built false move = Does (stops NotBuilt)
-
-  -- a verb that isn't built ends the run, before its own tests
-  abbrev pub statement_move : Verb ℕ → ℕ → State → Move
-  statement_move verb card state = if_built (builds verb) (verb_move verb card state)
+-- a verb that isn't built ends the run, before its own tests
+abbrev pub statement_move : Solving → Verb ℕ → ℕ → State → Move
+statement_move S verb card state = if_built (S.builds verb) (verb_move verb card state)
