@@ -14,7 +14,8 @@ use Rattle.lp_definitions.specs.declared.Status.{Status}
 use Rattle.path_definitions.specs.Path.{Move, Moves, turn, crossed, outside, mover}
 use Rattle.postoptimal_definitions.specs.Chain.{FaceMoves}
 use Rattle.postoptimal_definitions.specs.ObjectiveRun.{objective_family, face_mover, IsObjectiveFace}
-use Rattle.postoptimal_definitions.specs.RhsRun.{rhs_family, shift_of, IsRhsFace, IsSlope, leaving, leaves_below, brings_back}
+use Rattle.path_definitions.specs.DualRatio.{brings_back}
+use Rattle.postoptimal_definitions.specs.RhsRun.{rhs_family, shift_of, IsRhsFace, IsSlope, leaving, leaves_below}
 
 pub data SolvingStatement : Type 0 where
   Primal : LinearProgram → SolvingStatement
@@ -100,5 +101,5 @@ BringsAt (Range p) break s i j = Unit {0}
 BringsAt (Pararhs p shift from) (Some theta) s i j =
     let at_theta : LinearProgram = rhs_family p shift theta in
     (t : Tableau) × (v : Vector) × IsTableau at_theta s t × IsSlope at_theta s shift v × (leaving at_theta shift theta s t v ≡ Some i)
-    × IsTrue (brings_back at_theta shift theta s t v i (leaves_below at_theta shift theta s t v i) j)
+    × IsTrue (brings_back at_theta s t i (leaves_below at_theta shift theta s t v i) j)
 BringsAt _ break s i j = ⊥

@@ -3,16 +3,16 @@
 --     IsSlope p s shift v          how fast the basis's point moves with theta
 --     rhs_face                     what is done at a break
 --     IsRhsFace                    the same as a relation, by the tableau and the slope of the basis
-use Rattle.std.specs.Prelude.{◌≡◌, ℕ, Bool, not, ◌&&◌, ◌||◌, List, map, Option, Some, None, if◌then◌else◌, nat_le, option_map}
-use Rattle.std.specs.List.{list_all}
-use Rattle.exact_values.specs.Rational.{ℚ, zero_ℚ, neg_ℚ, ◌+ℚ◌, ◌*ℚ◌, ◌/ℚ◌}
-use Rattle.exact_values.specs.Tests.{eq_ℚ, lt_ℚ, le_ℚ, magnitude}
+use Rattle.std.specs.Prelude.{◌≡◌, ℕ, Bool, ◌&&◌, ◌||◌, List, map, Option, Some, None, if◌then◌else◌, nat_le, option_map}
+use Rattle.exact_values.specs.Rational.{ℚ, zero_ℚ, neg_ℚ, ◌+ℚ◌, ◌*ℚ◌}
+use Rattle.exact_values.specs.Tests.{eq_ℚ, lt_ℚ}
 use Rattle.lp_definitions.specs.LinearProgram.{Matrix, LinearProgram, Vector, value_at, variables, lower_of, upper_of, KeepsEquations, with_limits}
 use Rattle.lp_definitions.specs.Basis.{basics_of, is_in, IsNonbasic, Tableau, IsTableau}
 use Rattle.lp_definitions.specs.declared.Status.{Status}
 use Rattle.lp_definitions.specs.declared.Status.TheVariants.{Ll, Ul}
-use Rattle.path_definitions.specs.Moves.{least, lowers, on_limit}
-use Rattle.path_definitions.specs.Path.{listed, ray_of, excess_rate}
+use Rattle.path_definitions.specs.Moves.{least, on_limit}
+use Rattle.path_definitions.specs.Path.{listed, ray_of}
+use Rattle.path_definitions.specs.DualRatio.{cheapest}
 use Rattle.postoptimal_definitions.specs.Chain.{FaceTurn, FaceMoves, FaceDone, FaceEnds, InfeasiblePast}
 
 -- a row has its value in the change set, and a column 0
@@ -43,28 +43,13 @@ module _ (p : LinearProgram) (shift : List ℚ) (theta : ℚ) (s : List Status) 
   abbrev pub leaving : Option ℕ
   leaving = least p (λ k. is_in (basics_of s) k && (leaves_below k || leaves_above k))
 
-  -- q may move so as to bring r back
-  abbrev pub brings_back : ℕ → Bool → ℕ → Bool
-  brings_back r below q = lowers p s (excess_rate t.rate r below) q
-
-  -- what the objective loses for each unit by which q brings r back
-  abbrev pub ratio : ℕ → ℕ → ℚ
-  ratio r q = magnitude (t.rate p.objective q /ℚ t.rate r q)
-
-  abbrev pub is_cheapest : ℕ → Bool → ℕ → Bool
-  is_cheapest r below q = list_all (λ j. not (brings_back r below j) || le_ℚ (ratio r q) (ratio r j)) (variables p.matrix)
-
-  -- the least-numbered of those with the least ratio that may bring r back
-  abbrev pub cheapest : ℕ → Bool → Option ℕ
-  cheapest r below = least p (λ q. brings_back r below q && is_cheapest r below q)
-
   -- r goes to the limit that it would break
   abbrev pub face_exchange : ℕ → Bool → Option ℕ → FaceTurn
   face_exchange r below (Some q) = FaceMoves (record { enters = q; leaves = r; to = if below then Ll else Ul })
   face_exchange r below None = FaceEnds (InfeasiblePast theta (listed p.matrix (ray_of (basics_of s) t.rate r below)))
 
   abbrev pub face_at : Option ℕ → FaceTurn
-  face_at (Some r) = face_exchange r (leaves_below r) (cheapest r (leaves_below r))
+  face_at (Some r) = face_exchange r (leaves_below r) (cheapest p s t r (leaves_below r))
   face_at None = FaceDone
 
   unfoldable pub rhs_face : FaceTurn

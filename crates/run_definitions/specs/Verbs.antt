@@ -79,9 +79,10 @@ column_of _ = None
 abbrev pub deck_stop : DeckFault → Ending
 deck_stop fault = DeckStop (record { fault = deck_fault_number fault.kind; card = fault.card; number = number_fault_of fault.kind; column = column_of fault.kind })
 
-abbrev pub or_deck_fault : Result (Problem ℕ) DeckFault → (Problem ℕ → Move) → Move
+-- a fault of a deck ends the run, or else it is done what is done with what the deck gives
+abbrev pub or_deck_fault : {X : Type 0} → Result X DeckFault → (X → Move) → Move
 or_deck_fault (Err fault) go = Does (stops (deck_stop fault))
-or_deck_fault (Ok problem) go = go problem
+or_deck_fault (Ok given) go = go given
 
 abbrev pub size_of : Problem ℕ → Filed
 size_of problem = record { name = problem.name; rows = length problem.rows; columns = length problem.columns; entries = entry_count problem }
