@@ -1,10 +1,11 @@
--- The end of a listing, and the status then.
+-- The end of a listing, and the status then; and what may fail in a run.
 use Rattle.std.specs.Prelude.{◌≡◌, ℕ, List, Option, Ok, Err}
 use Rattle.job_devices.specs.declared.device.WriteStop.{WriteStop}
 use Rattle.job_devices.specs.declared.device.WriteStop.TheVariants.{Failed, NoMemory}
 use Rattle.job_devices.specs.Text.{Writes}
 use Rattle.listing_definitions.specs.Ending.{Ending, status_of}
 use Rattle.listing_definitions.specs.Listing.{ending_text}
+use Rattle.run_definitions.specs.Answer.{Failures}
 use Rattle.control_run.specs.declared.status.Status.{Status}
 use Rattle.control_run.specs.declared.status.Status.TheVariants.{PrintFault, Memory}
 use Rattle.control_run.specs.Ends.{code_of}
@@ -18,3 +19,7 @@ cut_status NoMemory = Memory
 pub data Finishes {P : Type 0} (written : P → Option (List ℕ)) (faults refusals : P → ℕ) (old new : P) (ending : Ending) (status : Status) : Type 0 where
   printed : code_of status ≡ status_of ending → Writes {T = Unit {0}} written faults refusals old new (Ok tt) (ending_text ending) → Finishes written faults refusals old new ending status
   cut_off : (stop : WriteStop) → status ≡ cut_status stop → Writes {T = Unit {0}} written faults refusals old new (Err stop) (ending_text ending) → Finishes written faults refusals old new ending status
+
+-- The job is read before its program runs: no read fails in a run.
+abbrev pub failures_in_run : (print punch memory : Type 0) → Failures
+failures_in_run print punch memory = record { read = ⊥; print = print; punch = punch; memory = memory }

@@ -6,6 +6,7 @@ ghost use Rattle.job_devices.specs.Causes.{Rose};
 ghost use Rattle.run_definitions.specs.Answer.{Job, bytes_of, IsProgramOf, IsAnswered};
 ghost use Rattle.control_run.specs.Stage.{stage};
 ghost use Rattle.control_run.specs.Ends.{end_shown, code_of, IsStatusOfRun};
+ghost use Rattle.control_run.specs.Finishing.{failures_in_run};
 ghost use Rattle.control_run.specs.Turning.{end_of_halt};
 ghost use Rattle.control_run.specs.Running.{RunsTo, IsRunCut, IsRunAnswer};
 
@@ -72,7 +73,8 @@ fn run<P: Sink>(
 
 // Runs a program to its end, and prints that end too.
 fn run_to_end<P: Sink>(alloc: Global, program: &Program, cards: &Cards, print: &mut P) -> Status
-    ensures answer { IsRunAnswer stage program.now cards.now (Rose (P.refusals print.old) (P.refusals print.new)) (code_of result) (P.written print.old) (P.written print.new) }
+    ensures answer { IsRunAnswer stage program.now cards.now (Rose (P.faults print.old) (P.faults print.new)) (Rose (P.refusals print.old) (P.refusals print.new))
+        (code_of result) (P.written print.old) (P.written print.new) }
     ensures print_fault { result ≡ Status.PrintFault → Rose (P.faults print.old) (P.faults print.new) }
     ensures own { IsStatusOfRun result }
 {
@@ -84,7 +86,7 @@ fn run_to_end<P: Sink>(alloc: Global, program: &Program, cards: &Cards, print: &
 
 /// Runs a compiled program over the cards of its job: prints the listing, and answers how the run ended.
 ///
-/// A run ends by itself; where memory is wanted the listing ends with that, if it can. Behind a fault of the print, or where the
+/// A run ends by itself; where memory is wanted the listing ends with that, if it can. After a fault of the print, or where the
 /// print itself wants memory, nothing more is printed. Nothing is punched.
 pub fn run_program<P: Sink, U: Sink>(
     alloc: Global,
@@ -93,8 +95,14 @@ pub fn run_program<P: Sink, U: Sink>(
     print: &mut P,
     punch: &mut U,
 ) -> Status
+    // for any program and any cards
+    ensures run { IsRunAnswer stage program.now cards.now (Rose (P.faults print.old) (P.faults print.new)) (Rose (P.refusals print.old) (P.refusals print.new))
+        (code_of result) (P.written print.old) (P.written print.new) }
+    // for those of a job
     ensures answer { (job : Job) (bytes : List ℕ) → bytes_of job ≡ Some bytes → IsProgramOf bytes program.now → cards.now ≡ cards_of bytes →
-        IsAnswered stage job (Rose (P.refusals print.old) (P.refusals print.new)) (code_of result) (Appends (P.written print.old) (P.written print.new)) (Appends (U.written punch.old) (U.written punch.new)) }
+        IsAnswered stage job
+        (failures_in_run (Rose (P.faults print.old) (P.faults print.new)) (Rose (U.faults punch.old) (U.faults punch.new)) (Rose (P.refusals print.old) (P.refusals print.new)))
+        (code_of result) (Appends (P.written print.old) (P.written print.new)) (Appends (U.written punch.old) (U.written punch.new)) }
     ensures print_fault { result ≡ Status.PrintFault → Rose (P.faults print.old) (P.faults print.new) }
     ensures own { IsStatusOfRun result }
     ensures punch { punch.new ≡ punch.old }

@@ -1,9 +1,9 @@
 -- What the ends of paths prove of the linear program, and of the point and the prices that are shown.
-use Rattle.std.proofs.Common.{◌≡◌, List, ◌∙◌}
+use Rattle.std.proofs.Common.{◌≡◌, ℕ, List, refl, sym, subst, ◌∙◌}
 use Rattle.exact_values.specs.Rational.{ℚ}
-use Rattle.lp_definitions.specs.LinearProgram.{LinearProgram, IsLinearProgram}
-use Rattle.lp_definitions.specs.Solutions.{by_crossed, by_ray}
-use Rattle.lp_definitions.specs.Basis.{basics_of, Tableau, IsTableau, IsOptimalBasis}
+use Rattle.lp_definitions.specs.LinearProgram.{LinearProgram, Vector, value_at, objective_value, IsLinearProgram}
+use Rattle.lp_definitions.specs.Solutions.{IsBest, AreProvingPrices, by_crossed, by_ray}
+use Rattle.lp_definitions.specs.Basis.{basics_of, Tableau, IsTableau, IsOptimalBasis, price_at}
 use Rattle.lp_laws.proofs.Uniqueness.{one_point, one_table}
 use Rattle.lp_laws.proofs.Optimal.{prices_prove_optimal, best_by_basis}
 use Rattle.lp_laws.proofs.Duality.{infeasible_by_proof, unbounded_by_direction}
@@ -15,8 +15,15 @@ use Rattle.path_laws.proofs.Endless.{crossed_end, unbounded_end}
 use Rattle.path_laws.proofs.Rays.{infeasible_end}
 use Rattle.path_laws.proofs.OneTurn.{SameTableau, turn_same}
 use Rattle.path_laws.proofs.OnePath.{path_leads}
-use Rattle.question_definitions.specs.Answers.{Basis}
-use Rattle.run_laws.specs.Truth.{IsProvedBest, IsTrueEnd}
+use Rattle.listing_definitions.specs.Report.{Verdict}
+use Rattle.question_definitions.specs.Answers.{Basis, Sheet}
+use Rattle.answer_definitions.specs.Verdicts.{verdict_of}
+use Rattle.run_laws.specs.Truth.{IsTrueOf}
+
+-- the point is feasible and no feasible one betters it, and the prices prove that
+pub record IsProvedBest (p : LinearProgram) (s : Basis) (t : Tableau) : Type 0 where
+  pub best : IsBest p t.point
+  pub proving : AreProvingPrices p t.point (price_at p (basics_of s) t.rate)
 
 ends_optimal : (p : LinearProgram) (s : Basis) (t : Tableau) (z y : List ℚ) → turn p s t ≡ Ends (EndsOptimal z y) → IsOptimalTurn p s t (Ends (EndsOptimal z y))
 ends_optimal p s t z y turns = optimal_turn p s t z y (rule_of p s t (Ends (EndsOptimal z y)) turns)
@@ -48,12 +55,24 @@ shown_is_best p s t z y tab ends at lawful =
     let same = turn_same p s t ends.tableau lawful at.is_basis (same_tableau p s t ends.tableau at tab ends.is_tableau) in
     optimal_at p s t z y at tab (same ∙ ends.turns) lawful
 
--- what an end says is true
-end_is_true : (p : LinearProgram) (s : Basis) (ending : Ending) → IsLinearProgram p → IsNonsingularBasis p s → EndsAt p s ending → IsTrueEnd p ending
-end_is_true p s (EndsOptimal z y) lawful at ends = (optimal_end p s z y lawful at ends).best
-end_is_true p s (EndsCrossed k) lawful at ends = infeasible_by_proof p (by_crossed k (crossed_end p s k ends))
-end_is_true p s (EndsInfeasible w) lawful at ends = infeasible_by_proof p (by_ray _ (infeasible_end p s w at.is_basis at.nonsingular ends))
-end_is_true p s (EndsUnbounded z d) lawful at ends = unbounded_by_direction p _ _ (unbounded_end p s z d lawful at.is_basis ends)
+-- where the objective is that of the objective row alone
+abbrev pub HasNoChange : LinearProgram → Type 0
+HasNoChange p = (z : Vector) → z p.objective ≡ objective_value p z
 
-pub path_is_true : (p : LinearProgram) (s : Basis) (bases : List Basis) (ending : Ending) → PathEnds p s bases ending → IsNonsingularBasis p s → IsLinearProgram p → IsTrueEnd p ending
-path_is_true p s bases ending path at lawful = end_is_true p (last_of s bases) ending lawful (path_leads p s bases at path.is_path) path.ends
+-- what the verdict of an end says is true
+module _ (sheet : Sheet) (s : Basis) (steps : ℕ) (lawful : IsLinearProgram sheet.lp) (plain : HasNoChange sheet.lp) (at : IsNonsingularBasis sheet.lp s) where
+  end_is_true : (ending : Ending) → EndsAt sheet.lp s ending → IsTrueOf sheet (verdict_of sheet steps ending)
+  end_is_true (EndsOptimal z y) ends = record { point = z; best = (optimal_end sheet.lp s z y lawful at ends).best; is_objective = plain (value_at z) }
+  end_is_true (EndsCrossed k) ends = let crossed = crossed_end sheet.lp s k ends in (crossed, infeasible_by_proof sheet.lp (by_crossed k crossed))
+  end_is_true (EndsInfeasible w) ends =
+      let ray = infeasible_end sheet.lp s w at.is_basis at.nonsingular ends in
+      (record { ray = w; is_ray = ray; are_lines = refl }, infeasible_by_proof sheet.lp (by_ray _ ray))
+  end_is_true (EndsUnbounded z d) ends =
+      let proves = unbounded_end sheet.lp s z d lawful at.is_basis ends in
+      (record { point = z; direction = d; proves = proves; is_objective = plain (value_at z); are_lines = refl }, unbounded_by_direction sheet.lp _ _ proves)
+
+-- and so is the verdict of a path
+pub path_is_true : (sheet : Sheet) (s : Basis) (bases : List Basis) (ending : Ending) (steps : ℕ) (verdict : Verdict) → IsLinearProgram sheet.lp → HasNoChange sheet.lp → IsNonsingularBasis sheet.lp s →
+    PathEnds sheet.lp s bases ending → verdict ≡ verdict_of sheet steps ending → IsTrueOf sheet verdict
+path_is_true sheet s bases ending steps verdict lawful plain at path is =
+    subst (IsTrueOf sheet) (sym is) (end_is_true sheet (last_of s bases) steps lawful plain (path_leads sheet.lp s bases at path.is_path) ending path.ends)

@@ -33,7 +33,7 @@ use Rattle.listing_definitions.specs.declared.Mark.TheVariants.{Optimal, Infeasi
 use Rattle.listing_definitions.specs.declared.VerbFault.{VerbFault}
 use Rattle.listing_definitions.specs.Report.{SolutionLines, RangeLines, Report, Converted, Solution, Ranges}
 use Rattle.listing_definitions.specs.Ending.{Place}
-use Rattle.question_definitions.specs.Answers.{Basis, Sheet, Changing, Sweep, Question, OfSolution, OfRanges, OfSweep, PathEnd, Reached, PathLimit, PathNotBuilt, SweepEnd, Opening, Chained, SweepLimit}
+use Rattle.question_definitions.specs.Answers.{Basis, Sheet, Changing, Sweep, Question, OfSolution, OfRanges, OfSweep, PathEnd, Reached, PathLimit, SweepEnd, Opening, Chained, SweepLimit}
 use Rattle.question_definitions.specs.Solving.{Solving}
 use Rattle.control_definitions.specs.Cells.{Cells, move_name, move_number, set_demand}
 use Rattle.run_definitions.specs.State.{Present, present_basis, gone_through, State, problem_of, choice_of}
@@ -42,12 +42,9 @@ use Rattle.run_definitions.specs.Verbs.{or_deck_fault, or_selection_fault, files
 use Rattle.run_definitions.specs.Run.{counted, Step, Reaches, begun, stepped}
 use Rattle.run_definitions.specs.Answer.{IsSoFar}
 use Rattle.run_laws.specs.Laws.{FilesProblems}
+use Rattle.run_laws.proofs.Moves.{HasProblem}
 use Rattle.run_laws.proofs.Decks.{job_printable, taken_printable}
 use Rattle.run_laws.proofs.Named.{MovesName, HasNames, compiled_named, statement_at}
-
--- the setup's problem, if there is a setup
-abbrev pub HasProblem : Option Present → Type 0
-HasProblem setup = (present : Present) → setup ≡ Some present → IsProblem present.problem
 
 pub record AreLawful (state : State) : Type 0 where
   pub file : AllByRecursion IsProblem state.file
@@ -176,7 +173,6 @@ module _ (S : Solving) where
   pathed card present state lawful is (Reached bases verdict check) =
       by_verdict_leads _ _ _ (record { file = lawful.file; setup = with_setup (gone_through bases present) is; decks = lawful.decks; name = lawful.name })
   pathed card present state lawful is PathLimit = tt
-  pathed card present state lawful is PathNotBuilt = tt
 
   swept : (card : ℕ) (sweep : Sweep) (present : Present) (state : State) → AreLawful state → IsProblem present.problem → (end : SweepEnd) → Leads (after_sweep S card sweep present state end)
   swept card sweep present state lawful is (Opening bases verdict check) =

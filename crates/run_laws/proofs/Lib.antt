@@ -1,8 +1,9 @@
 pub mod Ends
+pub mod Selected
 pub mod Shapes
 pub mod Moves
 pub mod Verbs
-pub mod Runs
 pub mod Decks
 pub mod Named
 pub mod Filed
+pub mod Runs

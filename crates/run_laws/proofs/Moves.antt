@@ -1,7 +1,8 @@
 -- What a run knows at each state, and moves that keep it.
+--     HasProblem setup             the setup's problem is lawful
 --     Knows state                  where the mark is OPTIMAL, the present basis ends the path optimal, in what the present cells select
---     Keeps outcome                the outcome's report holds, and its state knows that
---     IsKept card move             every outcome of a move keeps it
+--     Keeps at outcome             the outcome's report holds of the state in which it is made, and the next state knows that
+--     IsKept at card move          every outcome of a move keeps it
 use Rattle.std.proofs.Common.{◌≡◌, ℕ, List, refl, sym, subst, inl, inr}
 use Rattle.std.specs.Prelude.{Option, Some, None, Result, Ok, Err}
 use Rattle.exact_values.specs.Rational.{ℚ}
@@ -9,6 +10,7 @@ use Rattle.lp_definitions.specs.LinearProgram.{LinearProgram}
 use Rattle.lp_definitions.specs.declared.Evidence.{Evidence}
 use Rattle.problem_definitions.specs.Names.{Name}
 use Rattle.problem_definitions.specs.Problem.{Problem}
+use Rattle.problem_definitions.specs.Valid.{IsProblem}
 use Rattle.deck_definitions.specs.declared.DeckFault.{DeckFault}
 use Rattle.path_definitions.specs.Path.{EndsOptimal, EndsAt}
 use Rattle.selection_definitions.specs.declared.SelectionFault.{SelectionFault}
@@ -22,7 +24,7 @@ use Rattle.run_definitions.specs.State.{Present, present_basis, State}
 use Rattle.run_definitions.specs.Moves.{Gain, Nothing, Prints, Punches, Outcome, Goes, Ends, Move, Does, MayStop, Asks, Gives, or_fault}
 use Rattle.run_definitions.specs.Verbs.{or_deck_fault, or_selection_fault, selects}
 use Rattle.path_laws.specs.Laws.{IsNonsingularBasis}
-use Rattle.run_laws.specs.Truth.{HoldsIn}
+use Rattle.run_laws.specs.Truth.{Holds}
 use Rattle.run_laws.proofs.Shapes.{basis_of_either}
 
 pub record EndsOptimally (setup : Option Present) (objective rhs : Option Name) : Type 0 where
@@ -57,6 +59,10 @@ unmarked setup objective rhs e = absurd (cc e)
 pub without_setup : KnowsBases None
 without_setup present e = absurd (cc e)
 
+-- the setup's problem is lawful, if there is a setup
+abbrev pub HasProblem : Option Present → Type 0
+HasProblem setup = (present : Present) → setup ≡ Some present → IsProblem present.problem
+
 -- a nonsingular basis of what is selected now is one of all that may be selected
 pub with_basis : (present : Present) (objective rhs : Option Name) (lp : LinearProgram) → selected present.problem (record { objective = objective; rhs = rhs; options = present.options }) ≡ Ok lp →
     IsNonsingularBasis lp (present_basis present) → KnowsBases (Some present)
@@ -67,45 +73,45 @@ with_basis present objective rhs lp is at other e = subst HasBases same (record 
     same : present ≡ other
     same = cc
 
-abbrev pub HoldsGain : Option Present → Option Name → Option Name → Gain → Type 0
-HoldsGain setup objective rhs Nothing = Unit {0}
-HoldsGain setup objective rhs (Prints report) = HoldsIn setup objective rhs report
-HoldsGain setup objective rhs (Punches report cards) = HoldsIn setup objective rhs report
+abbrev pub HoldsGain : State → Gain → Type 0
+HoldsGain at Nothing = Unit {0}
+HoldsGain at (Prints report) = Holds at report
+HoldsGain at (Punches report cards) = Holds at report
 
-abbrev pub Keeps : Option Present → Option Name → Option Name → Outcome → Type 0
-Keeps setup objective rhs (Goes gain after) = HoldsGain setup objective rhs gain × Knows after
-Keeps setup objective rhs (Ends gain ending) = HoldsGain setup objective rhs gain
+abbrev pub Keeps : State → Outcome → Type 0
+Keeps at (Goes gain after) = HoldsGain at gain × Knows after
+Keeps at (Ends gain ending) = HoldsGain at gain
 
-pub record IsKept (setup : Option Present) (objective rhs : Option Name) (card : ℕ) (move : Move) : Type 0 where
-  pub by : (outcome : Outcome) → Gives card move outcome → Keeps setup objective rhs outcome
+pub record IsKept (at : State) (card : ℕ) (move : Move) : Type 0 where
+  pub by : (outcome : Outcome) → Gives card move outcome → Keeps at outcome
 
-pub does : (setup : Option Present) (objective rhs : Option Name) (card : ℕ) (outcome : Outcome) → Keeps setup objective rhs outcome → IsKept setup objective rhs card (Does outcome)
-does setup objective rhs card outcome keeps = record { by = λ given e. subst (Keeps setup objective rhs) (sym e) keeps }
+pub does : (at : State) (card : ℕ) (outcome : Outcome) → Keeps at outcome → IsKept at card (Does outcome)
+does at card outcome keeps = record { by = λ given e. subst (Keeps at) (sym e) keeps }
 
-pub may_stop : (setup : Option Present) (objective rhs : Option Name) (card : ℕ) (Holds : Evidence → Option Place → Type 0) (move : Move) → IsKept setup objective rhs card move → IsKept setup objective rhs card (MayStop Holds move)
-may_stop setup objective rhs card Holds move kept = record { by = at }
+pub may_stop : (at : State) (card : ℕ) (MayRefuse : Evidence → Option Place → Type 0) (move : Move) → IsKept at card move → IsKept at card (MayStop MayRefuse move)
+may_stop at card MayRefuse move kept = record { by = gives_so }
   where
-    at : (given : Outcome) → Gives card (MayStop Holds move) given → Keeps setup objective rhs given
-    at given (inl gives) = kept.by given gives
-    at given (inr stop) = subst (Keeps setup objective rhs) (sym stop.3) tt
+    gives_so : (given : Outcome) → Gives card (MayStop MayRefuse move) given → Keeps at given
+    gives_so given (inl gives) = kept.by given gives
+    gives_so given (inr stop) = subst (Keeps at) (sym stop.3) tt
 
-pub answered : (setup : Option Present) (objective rhs : Option Name) (card : ℕ) (Answer : Type 0) (IsRight : Answer → Type 0) (go : Answer → Outcome) →
-    ((answer : Answer) → IsRight answer → Keeps setup objective rhs (go answer)) → IsKept setup objective rhs card (Asks Answer IsRight go)
-answered setup objective rhs card Answer IsRight go kept = record { by = λ given a. subst (Keeps setup objective rhs) (sym a.2) (kept a.0 a.1) }
+pub answered : (at : State) (card : ℕ) (Answer : Type 0) (IsRight : Answer → Type 0) (go : Answer → Outcome) →
+    ((answer : Answer) → IsRight answer → Keeps at (go answer)) → IsKept at card (Asks Answer IsRight go)
+answered at card Answer IsRight go kept = record { by = λ given a. subst (Keeps at) (sym a.2) (kept a.0 a.1) }
 
-pub unless_fault : {X : Type 0} (setup : Option Present) (objective rhs : Option Name) (card : ℕ) (fault : VerbFault) (o : Option X) (go : X → Move) → ((x : X) → o ≡ Some x → IsKept setup objective rhs card (go x)) → IsKept setup objective rhs card (or_fault card fault o go)
-unless_fault setup objective rhs card fault None go kept = does setup objective rhs card _ tt
-unless_fault setup objective rhs card fault (Some x) go kept = kept x refl
+pub unless_fault : {X : Type 0} (at : State) (card : ℕ) (fault : VerbFault) (o : Option X) (go : X → Move) → ((x : X) → o ≡ Some x → IsKept at card (go x)) → IsKept at card (or_fault card fault o go)
+unless_fault at card fault None go kept = does at card _ tt
+unless_fault at card fault (Some x) go kept = kept x refl
 
-pub unless_deck_fault : (setup : Option Present) (objective rhs : Option Name) (card : ℕ) (r : Result (Problem ℕ) DeckFault) (go : Problem ℕ → Move) → ((problem : Problem ℕ) → IsKept setup objective rhs card (go problem)) → IsKept setup objective rhs card (or_deck_fault r go)
-unless_deck_fault setup objective rhs card (Err fault) go kept = does setup objective rhs card _ tt
-unless_deck_fault setup objective rhs card (Ok problem) go kept = kept problem
+pub unless_deck_fault : (at : State) (card : ℕ) (r : Result (Problem ℕ) DeckFault) (go : Problem ℕ → Move) → ((problem : Problem ℕ) → IsKept at card (go problem)) → IsKept at card (or_deck_fault r go)
+unless_deck_fault at card (Err fault) go kept = does at card _ tt
+unless_deck_fault at card (Ok problem) go kept = kept problem
 
-pub unless_selection_fault : (setup : Option Present) (objective rhs : Option Name) (card : ℕ) (r : Result LinearProgram SelectionFault) (go : LinearProgram → Move) → ((lp : LinearProgram) → r ≡ Ok lp → IsKept setup objective rhs card (go lp)) →
-    IsKept setup objective rhs card (or_selection_fault card r go)
-unless_selection_fault setup objective rhs card (Err fault) go kept = does setup objective rhs card _ tt
-unless_selection_fault setup objective rhs card (Ok lp) go kept = kept lp refl
+pub unless_selection_fault : (at : State) (card : ℕ) (r : Result LinearProgram SelectionFault) (go : LinearProgram → Move) → ((lp : LinearProgram) → r ≡ Ok lp → IsKept at card (go lp)) →
+    IsKept at card (or_selection_fault card r go)
+unless_selection_fault at card (Err fault) go kept = does at card _ tt
+unless_selection_fault at card (Ok lp) go kept = kept lp refl
 
-pub selecting : (setup : Option Present) (objective rhs : Option Name) (card : ℕ) (problem : Problem ℕ) (choice : Choice) (go : LinearProgram → Move) → ((lp : LinearProgram) → selected problem choice ≡ Ok lp → IsKept setup objective rhs card (go lp)) →
-    IsKept setup objective rhs card (selects card problem choice go)
-selecting setup objective rhs card problem choice go kept = unless_selection_fault setup objective rhs card (selected problem choice) _ (λ lp e. may_stop setup objective rhs card _ (go lp) (kept lp e))
+pub selecting : (at : State) (card : ℕ) (problem : Problem ℕ) (choice : Choice) (go : LinearProgram → Move) → ((lp : LinearProgram) → selected problem choice ≡ Ok lp → IsKept at card (go lp)) →
+    IsKept at card (selects card problem choice go)
+selecting at card problem choice go kept = unless_selection_fault at card (selected problem choice) _ (λ lp e. may_stop at card _ (go lp) (kept lp e))

@@ -6,7 +6,6 @@ use Rattle.std.specs.List.{enumerate_from}
 use Rattle.exact_values.specs.Rational.{ℚ}
 use Rattle.frac128.specs.declared.Op.{Op}
 use Rattle.frac128.specs.declared.Op.TheVariants.{Add, Sub, Mul, Div}
-use Rattle.card_definitions.specs.Words.{unless}
 use Rattle.lp_definitions.specs.LinearProgram.{Matrix, LinearProgram, size, IsRow, IsVariable, lower_of, upper_of}
 use Rattle.lp_definitions.specs.Basis.{basics_of, status_of, is_basic, IsNonsingular, IsAllowed}
 use Rattle.lp_definitions.specs.declared.Status.{Status}
@@ -17,11 +16,10 @@ use Rattle.problem_definitions.specs.Names.{Name}
 use Rattle.problem_definitions.specs.Problem.{Problem}
 use Rattle.control_definitions.specs.Program.{SetupOptions}
 use Rattle.path_laws.specs.Laws.{IsNonsingularBasis}
-use Rattle.selection_definitions.specs.declared.SelectionFault.{SelectionFault}
-use Rattle.selection_definitions.specs.Choice.{Choice, selection_fault}
 use Rattle.selection_definitions.specs.Limits.{Limits, row_limits, with_range}
 use Rattle.selection_definitions.specs.Selection.{program_of_choice, selected}
 use Rattle.question_definitions.specs.Answers.{Basis}
+use Rattle.run_laws.proofs.Selected.{is_chosen}
 
 -- the same limits are there
 record AlikeLimits (a b : Limits) : Type 0 where
@@ -92,14 +90,6 @@ basis_of_shape p q s same at = record {
   nonsingular = subst (λ (a : Matrix). IsNonsingular a (basics_of s)) same.matrix at.nonsingular;
 }
 
-chosen : (o : Option SelectionFault) (value lp : LinearProgram) → unless o value ≡ Ok lp → value ≡ lp
-chosen None value lp e = cc
-chosen (Some fault) value lp e = cc
-
-is_chosen : (problem : Problem ℕ) (choice : Choice) (lp : LinearProgram) → selected problem choice ≡ Ok lp → program_of_choice problem choice ≡ lp
-unfolding selected
-is_chosen problem choice lp e = chosen (selection_fault problem choice) (program_of_choice problem choice) lp e
-
 same_shape : (problem : Problem ℕ) (options : SetupOptions) (objective rhs other_objective other_rhs : Option Name) →
     SameShape (program_of_choice problem (record { objective = objective; rhs = rhs; options = options })) (program_of_choice problem (record { objective = other_objective; rhs = other_rhs; options = options }))
 same_shape problem options objective rhs other_objective other_rhs = record {
@@ -112,5 +102,5 @@ pub basis_of_either : (problem : Problem ℕ) (options : SetupOptions) (objectiv
     selected problem (record { objective = objective; rhs = rhs; options = options }) ≡ Ok p →
     selected problem (record { objective = other_objective; rhs = other_rhs; options = options }) ≡ Ok q → IsNonsingularBasis p s → IsNonsingularBasis q s
 basis_of_either problem options objective rhs other_objective other_rhs p q s first second at =
-    subst (λ x. IsNonsingularBasis x s) (is_chosen problem _ q second)
-    (basis_of_shape _ _ s (same_shape problem options objective rhs other_objective other_rhs) (subst (λ x. IsNonsingularBasis x s) (sym (is_chosen problem _ p first)) at))
+    subst (λ x. IsNonsingularBasis x s) (is_chosen problem _ q second).1
+    (basis_of_shape _ _ s (same_shape problem options objective rhs other_objective other_rhs) (subst (λ x. IsNonsingularBasis x s) (sym (is_chosen problem _ p first).1) at))

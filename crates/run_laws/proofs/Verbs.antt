@@ -1,5 +1,5 @@
 -- Each verb keeps what a run knows, and what it reports holds.
-use Rattle.std.proofs.Common.{◌⊎◌, inl, inr, ◌≡◌, ℕ, Bool, true, false, List, [], ◌∷◌, ◌++◌, refl, sym, ap, subst, ◌∙◌}
+use Rattle.std.proofs.Common.{◌⊎◌, inl, inr, ◌≡◌, ℕ, Bool, true, false, List, [], ◌∷◌, ◌++◌, refl, sym, subst, ◌∙◌}
 use Rattle.std.specs.Prelude.{Option, Some, None, Ok, option_and_then}
 use Rattle.exact_values.specs.Rational.{ℚ}
 use Rattle.lp_definitions.specs.LinearProgram.{LinearProgram}
@@ -23,8 +23,8 @@ use Rattle.listing_definitions.specs.declared.Mark.{Mark}
 use Rattle.listing_definitions.specs.declared.Mark.TheVariants.{Optimal, Infeasible, Unbounded}
 use Rattle.listing_definitions.specs.declared.Solver.TheVariants.{Primal as ByPrimal}
 use Rattle.listing_definitions.specs.declared.VerbFault.{VerbFault}
-use Rattle.listing_definitions.specs.Report.{SolutionLines, RangeLines, Verdict, Filed, Report, Converted, Revised, SetUp, Punched, Solved, Solution, Ranges}
-use Rattle.question_definitions.specs.Answers.{Basis, Sheet, Changing, Row, Set, sweeper, Sweep, Question, OfSolution, OfRanges, OfSweep, PathEnd, Reached, PathLimit, PathNotBuilt, SweepEnd, Opening, Chained, SweepLimit}
+use Rattle.listing_definitions.specs.Report.{SolutionLines, RangeLines, Verdict, Check, Filed, Report, Converted, Revised, SetUp, Punched, Solved, Solution, Ranges}
+use Rattle.question_definitions.specs.Answers.{Basis, Sheet, Changing, Row, Set, sweeper, Sweep, Question, OfSolution, OfRanges, OfSweep, PathEnd, Reached, PathLimit, SweepEnd, Opening, Chained, SweepLimit}
 use Rattle.question_definitions.specs.Solving.{Solving}
 use Rattle.answer_definitions.specs.Verdicts.{verdict_of}
 use Rattle.answer_definitions.specs.Sections.{IsShown}
@@ -35,10 +35,11 @@ use Rattle.run_definitions.specs.Verbs.{size_of, files, not_less, change_row, ch
 use Rattle.path_laws.specs.Laws.{IsNonsingularBasis}
 use Rattle.path_laws.proofs.Steps.{opening_is}
 use Rattle.path_laws.proofs.OnePath.{path_leads}
-use Rattle.run_laws.specs.Truth.{IsPresentShown, IsPresentVerdict, HoldsIn}
+use Rattle.run_laws.specs.Truth.{PresentProgram, ShowsBest, Holds}
 use Rattle.run_laws.specs.Laws.{KnowsSolving, BuildsNoSweep, SweepsKeepBases, gone_over}
-use Rattle.run_laws.proofs.Ends.{shown_is_best, path_is_true}
-use Rattle.run_laws.proofs.Moves.{EndsOptimally, KnowsMark, Knows, Keeps, IsKept, unmarked, HasBases, KnowsBases, without_setup, with_basis, does, may_stop, answered, unless_fault, unless_deck_fault, unless_selection_fault, selecting}
+use Rattle.run_laws.proofs.Ends.{IsProvedBest, shown_is_best, path_is_true}
+use Rattle.run_laws.proofs.Selected.{selected_is_lawful, selected_has_no_change}
+use Rattle.run_laws.proofs.Moves.{HasProblem, EndsOptimally, KnowsMark, Knows, Keeps, IsKept, unmarked, HasBases, KnowsBases, without_setup, with_basis, does, may_stop, answered, unless_fault, unless_deck_fault, unless_selection_fault, selecting}
 
 -- ---- PRIMAL
 
@@ -72,50 +73,53 @@ goes_to : (present : Present) (objective rhs : Option Name) (lp : LinearProgram)
 goes_to present objective rhs lp bases is at =
     with_basis (gone_through bases present) objective rhs lp is (subst (IsNonsingularBasis lp) (sym (last_of-append present.opening present.steps bases)) at)
 
-module _ (setup : Option Present) (objective rhs : Option Name) where
-  demanded_keeps : (position : Option ℕ) (code : ℕ) (report : Report) (state : State) → HoldsIn setup objective rhs report → Knows state → Keeps setup objective rhs (demanded position code report state)
+module _ (at : State) where
+  demanded_keeps : (position : Option ℕ) (code : ℕ) (report : Report) (state : State) → Holds at report → Knows state → Keeps at (demanded position code report state)
   demanded_keeps (Some position) code report state holds knows = (holds, record { marked = knows.marked; bases = knows.bases })
   demanded_keeps None code report state holds knows = holds
 
-  by_verdict_keeps : (mark : Mark) (report : Report) (state : State) → HoldsIn setup objective rhs report → Knows state → Keeps setup objective rhs (by_verdict mark report state)
+  by_verdict_keeps : (mark : Mark) (report : Report) (state : State) → Holds at report → Knows state → Keeps at (by_verdict mark report state)
   by_verdict_keeps Optimal report state holds knows = (holds, record { marked = knows.marked; bases = knows.bases })
   by_verdict_keeps Infeasible report state holds knows = demanded_keeps state.cells.xdonfs 1 report state holds knows
   by_verdict_keeps Unbounded report state holds knows = demanded_keeps state.cells.xdounb 2 report state holds knows
 
+-- what the cells select of the setup is lawful
+abbrev present_program : (setup : Option Present) (cells : Cells) (present : Present) (lp : LinearProgram) → HasProblem setup → setup ≡ Some present → selected present.problem (choice_of cells present.options) ≡ Ok lp →
+    PresentProgram setup cells
+present_program setup cells present lp lawful is_setup is = record {
+  present = present;
+  is_setup = is_setup;
+  lp = lp;
+  is_selected = is;
+  is_problem = lawful present is_setup;
+  is_linear_program = selected_is_lawful present.problem (choice_of cells present.options) lp (lawful present is_setup) is;
+}
+
 -- ---- SOLUTION
 
 -- what is shown where the path ended optimal at the present basis is best
-best_shown : (present : Present) (lp : LinearProgram) (objective rhs : Option Name) (setup : Option Present) (lines : SolutionLines) →
-    EndsOptimally setup objective rhs → IsNonsingularBasis lp (present_basis present) → setup ≡ Some present → selected present.problem (record { objective = objective; rhs = rhs; options = present.options }) ≡ Ok lp →
-    IsShown (record { problem = present.problem; lp = lp }) (present_basis present) lines → IsPresentShown setup objective rhs lines
-best_shown present lp objective rhs setup lines known at is_setup is shown = record {
-  present = present;
-  is_setup = is_setup;
-  shown = record {
-    sheet = record { problem = present.problem; lp = lp };
-    choice = record { objective = objective; rhs = rhs; options = present.options };
-    is_selected = is;
-    basis = present_basis present;
-    tableau = shown.tableau;
-    is_tableau = shown.is_tableau;
-    are_lines = shown.are_lines;
-    point = known.point;
-    prices = known.prices;
-    nonsingular = at;
-    ends = ends;
-    proved = shown_is_best lp (present_basis present) shown.tableau known.point known.prices shown.is_tableau ends at;
-  };
-  same_problem = refl;
-  same_choice = refl;
-  same_basis = refl;
+best_shown : (present : Present) (lp : LinearProgram) (cells : Cells) (setup : Option Present) (lines : SolutionLines) → HasProblem setup →
+    EndsOptimally setup cells.xobj cells.xrhs → IsNonsingularBasis lp (present_basis present) → setup ≡ Some present → selected present.problem (choice_of cells present.options) ≡ Ok lp →
+    IsShown (record { problem = present.problem; lp = lp }) (present_basis present) lines → ShowsBest setup cells lines
+best_shown present lp cells setup lines lawful known at is_setup is shown = record {
+  program = program;
+  is_basis = at;
+  tableau = shown.tableau;
+  is_tableau = shown.is_tableau;
+  are_lines = shown.are_lines;
+  best = proved.best;
+  proving = proved.proving;
 }
   where
+    program : PresentProgram setup cells
+    program = present_program setup cells present lp lawful is_setup is
+
     same_present : known.present ≡ present
     same_present = let e = sym known.is_setup ∙ is_setup in cc
 
-    moved : (selected present.problem (record { objective = objective; rhs = rhs; options = present.options }) ≡ Ok known.lp) × EndsAt known.lp (present_basis present) (EndsOptimal known.point known.prices)
+    moved : (selected present.problem (choice_of cells present.options) ≡ Ok known.lp) × EndsAt known.lp (present_basis present) (EndsOptimal known.point known.prices)
     moved =
-        subst (λ (x : Present). (selected x.problem (record { objective = objective; rhs = rhs; options = x.options }) ≡ Ok known.lp) × EndsAt known.lp (present_basis x) (EndsOptimal known.point known.prices))
+        subst (λ (x : Present). (selected x.problem (choice_of cells x.options) ≡ Ok known.lp) × EndsAt known.lp (present_basis x) (EndsOptimal known.point known.prices))
         same_present (known.is_selected, known.ends)
 
     same_lp : known.lp ≡ lp
@@ -123,6 +127,9 @@ best_shown present lp objective rhs setup lines known at is_setup is shown = rec
 
     ends : EndsAt lp (present_basis present) (EndsOptimal known.point known.prices)
     ends = subst (λ p. EndsAt p (present_basis present) (EndsOptimal known.point known.prices)) same_lp moved.1
+
+    proved : IsProvedBest lp (present_basis present) shown.tableau
+    proved = shown_is_best lp (present_basis present) shown.tableau known.point known.prices shown.is_tableau ends at program.is_linear_program
 
 -- ---- cells
 
@@ -146,111 +153,102 @@ moved_demand : (demand : Demand) (position : ℕ) (cells : Cells) (mark : Option
 moved_demand Xdonfs position cells mark setup knows = knows
 moved_demand Xdounb position cells mark setup knows = knows
 
-not_by_primal : (changing : Changing) → sweeper changing ≡ ByPrimal → ⊥
-not_by_primal (Row name) e = cc e
-not_by_primal (Set name) e = cc e
+-- a verdict of another solver says nothing
+by_sweep : (state : State) (changing : Changing) (verdict : Verdict) (check : Check) → Holds state (Solved (sweeper changing) verdict check)
+by_sweep state (Row name) verdict check = tt
+by_sweep state (Set name) verdict check = tt
 
 module _ (S : Solving) (solving : KnowsSolving S) where
-  pathed : (card : ℕ) (present : Present) (state : State) (lp : LinearProgram) → selected present.problem (choice_of state.cells present.options) ≡ Ok lp → state.setup ≡ Some present → HasBases present → (end : PathEnd) →
-      S.Solves (record { problem = present.problem; lp = lp }) (present_basis present) state.cells.xiterlim end → Keeps state.setup state.cells.xobj state.cells.xrhs (after_path S card present state end)
-  pathed card present state lp is set has (Reached bases verdict check) solved =
+  pathed : (card : ℕ) (present : Present) (state : State) (lp : LinearProgram) → HasProblem state.setup → selected present.problem (choice_of state.cells present.options) ≡ Ok lp → state.setup ≡ Some present → HasBases present →
+      (end : PathEnd) → S.Solves (record { problem = present.problem; lp = lp }) (present_basis present) state.cells.xiterlim end → Keeps state (after_path S card present state end)
+  pathed card present state lp lawful is set has (Reached bases verdict check) solved =
       let reaches = solving.solves (record { problem = present.problem; lp = lp }) (present_basis present) state.cells.xiterlim bases verdict check solved in
       let at = has.in_each state.cells.xobj state.cells.xrhs lp is in
-      let truth : IsPresentVerdict state.setup state.cells.xobj state.cells.xrhs verdict check = record {
-        present = present;
-        is_setup = set;
-        truth = record {
-          sheet = record { problem = present.problem; lp = lp };
-          choice = choice_of state.cells present.options;
-          is_selected = is;
-          from = present_basis present;
-          bases = bases;
-          ending = reaches.ending;
-          ends = reaches.ends;
-          is_verdict = reaches.is_verdict;
-          is_true = path_is_true lp (present_basis present) bases reaches.ending reaches.ends at;
-        };
-        same_problem = refl;
-        same_choice = refl;
-        same_from = refl;
-      } in
-      by_verdict_keeps state.setup state.cells.xobj state.cells.xrhs (mark_of verdict) (Solved ByPrimal verdict check) _ (λ e. truth)
+      let program = present_program state.setup state.cells present lp lawful set is in
+      let plain = selected_has_no_change present.problem (choice_of state.cells present.options) lp is in
+      let holds = path_is_true (record { problem = present.problem; lp = lp }) (present_basis present) bases reaches.ending _ verdict program.is_linear_program plain at reaches.ends reaches.is_verdict.is_verdict in
+      by_verdict_keeps state (mark_of verdict) (Solved ByPrimal verdict check) _ (program, holds)
       (record {
         marked = marks present lp state.cells.xobj state.cells.xrhs bases verdict _ reaches.ending is reaches.ends.ends reaches.is_verdict.is_verdict;
         bases = goes_to present state.cells.xobj state.cells.xrhs lp bases is (path_leads lp (present_basis present) bases at reaches.ends.is_path);
       })
-  pathed card present state lp is set has PathLimit solved = tt
-  pathed card present state lp is set has PathNotBuilt solved = tt
+  pathed card present state lp lawful is set has PathLimit solved = tt
 
-  solving_kept : (card : ℕ) (state : State) → Knows state → IsKept state.setup state.cells.xobj state.cells.xrhs card (solves S card state)
-  solving_kept card state knows =
-      unless_fault state.setup state.cells.xobj state.cells.xrhs card VerbFault.NoSetup state.setup _ (λ present e.
-      selecting state.setup state.cells.xobj state.cells.xrhs card present.problem _ _ (λ lp is.
-      may_stop state.setup state.cells.xobj state.cells.xrhs card _ _ (answered state.setup state.cells.xobj state.cells.xrhs card PathEnd _ _ (pathed card present state lp is e (knows.bases present e)))))
+  solving_kept : (card : ℕ) (state : State) → HasProblem state.setup → Knows state → IsKept state card (solves S card state)
+  solving_kept card state lawful knows =
+      unless_fault state card VerbFault.NoSetup state.setup _ (λ present e.
+      selecting state card present.problem _ _ (λ lp is.
+      may_stop state card _ _ (answered state card PathEnd _ _ (pathed card present state lp lawful is e (knows.bases present e)))))
 
   showing : (card : ℕ) (state : State) (present : Present) (question : Question) (Answer : Type 0) (Shown : Sheet → Basis → Answer → Type 0) (report : Answer → Report) → Knows state →
       ((lp : LinearProgram) → selected present.problem (choice_of state.cells present.options) ≡ Ok lp → (lines : Answer) → Shown (record { problem = present.problem; lp = lp }) (present_basis present) lines →
-      HoldsIn state.setup state.cells.xobj state.cells.xrhs (report lines)) → IsKept state.setup state.cells.xobj state.cells.xrhs card (shows_present S card state present question Answer Shown report)
+      Holds state (report lines)) → IsKept state card (shows_present S card state present question Answer Shown report)
   showing card state present question Answer Shown report knows holds =
-      unless_selection_fault state.setup state.cells.xobj state.cells.xrhs card (selected present.problem (choice_of state.cells present.options)) _ (λ lp is.
-      may_stop state.setup state.cells.xobj state.cells.xrhs card _ _ (answered state.setup state.cells.xobj state.cells.xrhs card Answer _ _ (λ lines shown. (holds lp is lines shown, record { marked = knows.marked; bases = knows.bases }))))
+      unless_selection_fault state card (selected present.problem (choice_of state.cells present.options)) _ (λ lp is.
+      may_stop state card _ _ (answered state card Answer _ _ (λ lines shown. (holds lp is lines shown, record { marked = knows.marked; bases = knows.bases }))))
 
-  shows_kept : (card : ℕ) (state : State) → Knows state → IsKept state.setup state.cells.xobj state.cells.xrhs card (shows S card state)
-  shows_kept card state knows =
-      unless_fault state.setup state.cells.xobj state.cells.xrhs card VerbFault.NoSetup state.setup _ (λ present e.
-      unless_fault state.setup state.cells.xobj state.cells.xrhs card VerbFault.NotSolved state.mark _ (λ mark m.
-      showing card state present OfSolution SolutionLines S.Shows (Solution mark) knows (λ lp is lines shown optimal.
-      best_shown present lp state.cells.xobj state.cells.xrhs state.setup lines (knows.marked (m ∙ ap (λ x. Some x) optimal)) ((knows.bases present e).in_each state.cells.xobj state.cells.xrhs lp is) e is (solving.shows _ _ lines shown))))
+  solution_holds : (mark : Mark) (state : State) (present : Present) (lp : LinearProgram) (lines : SolutionLines) → HasProblem state.setup → Knows state → state.mark ≡ Some mark → state.setup ≡ Some present →
+      selected present.problem (choice_of state.cells present.options) ≡ Ok lp → IsShown (record { problem = present.problem; lp = lp }) (present_basis present) lines → Holds state (Solution mark lines)
+  solution_holds Optimal state present lp lines lawful knows m e is shown =
+      best_shown present lp state.cells state.setup lines lawful (knows.marked m) ((knows.bases present e).in_each state.cells.xobj state.cells.xrhs lp is) e is shown
+  solution_holds Infeasible state present lp lines lawful knows m e is shown = tt
+  solution_holds Unbounded state present lp lines lawful knows m e is shown = tt
 
-  ranges_kept : (card : ℕ) (state : State) → Knows state → IsKept state.setup state.cells.xobj state.cells.xrhs card (ranges S card state)
+  shows_kept : (card : ℕ) (state : State) → HasProblem state.setup → Knows state → IsKept state card (shows S card state)
+  shows_kept card state lawful knows =
+      unless_fault state card VerbFault.NoSetup state.setup _ (λ present e.
+      unless_fault state card VerbFault.NotSolved state.mark _ (λ mark m.
+      showing card state present OfSolution SolutionLines S.Shows (Solution mark) knows (λ lp is lines shown. solution_holds mark state present lp lines lawful knows m e is (solving.shows _ _ lines shown))))
+
+  ranges_kept : (card : ℕ) (state : State) → Knows state → IsKept state card (ranges S card state)
   ranges_kept card state knows =
-      unless_fault state.setup state.cells.xobj state.cells.xrhs card VerbFault.NoSetup state.setup _ (λ present e.
-      unless_fault state.setup state.cells.xobj state.cells.xrhs card VerbFault.NotSolved state.mark _ (λ mark m.
-      unless_fault state.setup state.cells.xobj state.cells.xrhs card VerbFault.NotOptimal _ _ (λ optimal o.
+      unless_fault state card VerbFault.NoSetup state.setup _ (λ present e.
+      unless_fault state card VerbFault.NotSolved state.mark _ (λ mark m.
+      unless_fault state card VerbFault.NotOptimal _ _ (λ optimal o.
       showing card state present OfRanges RangeLines S.Ranges Ranges knows (λ lp is lines shown. tt))))
 
   swept : (card : ℕ) (sweep : Sweep) (present : Present) (state : State) (lp : LinearProgram) → selected present.problem (choice_of state.cells present.options) ≡ Ok lp → (end : SweepEnd) →
-      IsNonsingularBasis lp (last_of (present_basis present) (gone_over end)) → Keeps state.setup state.cells.xobj state.cells.xrhs (after_sweep S card sweep present state end)
+      IsNonsingularBasis lp (last_of (present_basis present) (gone_over end)) → Keeps state (after_sweep S card sweep present state end)
   swept card sweep present state lp is (Opening bases verdict check) at =
-      by_verdict_keeps state.setup state.cells.xobj state.cells.xrhs (mark_of verdict) (Solved (sweeper sweep.changing) verdict check) _ (λ e. absurd (not_by_primal sweep.changing e))
+      by_verdict_keeps state (mark_of verdict) (Solved (sweeper sweep.changing) verdict check) _ (by_sweep state sweep.changing verdict check)
       (record { marked = unmarked _ _ _; bases = goes_to present state.cells.xobj state.cells.xrhs lp bases is at })
   swept card sweep present state lp is (Chained bases intervals end) at =
       (tt, record { marked = unmarked _ _ _; bases = goes_to present state.cells.xobj state.cells.xrhs lp bases is at })
   swept card sweep present state lp is SweepLimit at = tt
 
   asked_kept : (card : ℕ) (present : Present) (state : State) (lp : LinearProgram) (sweep : Sweep) → SweepsKeepBases S → HasBases present → selected present.problem (choice_of state.cells present.options) ≡ Ok lp →
-      IsKept state.setup state.cells.xobj state.cells.xrhs card (asks S (OfSweep sweep) (record { problem = present.problem; lp = lp }) present SweepEnd (S.Sweeps (record { problem = present.problem; lp = lp }) (present_basis present) sweep) (after_sweep S card sweep present state))
-  asked_kept card present state lp sweep keep has is = may_stop state.setup state.cells.xobj state.cells.xrhs card _ _ (answered state.setup state.cells.xobj state.cells.xrhs card SweepEnd _ _ (λ end right.
+      IsKept state card (asks S (OfSweep sweep) (record { problem = present.problem; lp = lp }) present SweepEnd (S.Sweeps (record { problem = present.problem; lp = lp }) (present_basis present) sweep) (after_sweep S card sweep present state))
+  asked_kept card present state lp sweep keep has is = may_stop state card _ _ (answered state card SweepEnd _ _ (λ end right.
       swept card sweep present state lp is end (keep (record { problem = present.problem; lp = lp }) (present_basis present) sweep end right (has.in_each state.cells.xobj state.cells.xrhs lp is))))
 
   sweeps_kept : (card : ℕ) (fault : VerbFault) (change : Problem ℕ → Name → Option Changing) (moved : Option Name) (state : State) → SweepsKeepBases S → Knows state →
-      IsKept state.setup state.cells.xobj state.cells.xrhs card (sweeps S card fault change moved state)
+      IsKept state card (sweeps S card fault change moved state)
   sweeps_kept card fault change moved state keep knows =
-      unless_fault state.setup state.cells.xobj state.cells.xrhs card VerbFault.NoSetup state.setup _ (λ present e.
-      selecting state.setup state.cells.xobj state.cells.xrhs card present.problem _ _ (λ lp is.
-      unless_fault {X = Changing} state.setup state.cells.xobj state.cells.xrhs card fault (option_and_then (change present.problem) moved) _ (λ changing c.
-      unless_fault {X = ℚ} state.setup state.cells.xobj state.cells.xrhs card VerbFault.NoParmax state.cells.xparmax _ (λ last l.
-      unless_fault {X = ℚ} state.setup state.cells.xobj state.cells.xrhs card VerbFault.ParmaxBelow (not_less state.cells.xparam last) _ (λ to t.
+      unless_fault state card VerbFault.NoSetup state.setup _ (λ present e.
+      selecting state card present.problem _ _ (λ lp is.
+      unless_fault {X = Changing} state card fault (option_and_then (change present.problem) moved) _ (λ changing c.
+      unless_fault {X = ℚ} state card VerbFault.NoParmax state.cells.xparmax _ (λ last l.
+      unless_fault {X = ℚ} state card VerbFault.ParmaxBelow (not_less state.cells.xparam last) _ (λ to t.
       asked_kept card present state lp (record { changing = changing; from = state.cells.xparam; to = to; limit = state.cells.xiterlim }) keep (knows.bases present e) is)))))
 
-  files_kept : (card : ℕ) (report : Filed → Report) (decks : List (List Card)) (state : State) → ((filed : Filed) → HoldsIn state.setup state.cells.xobj state.cells.xrhs (report filed)) → (problem : Problem ℕ) →
-      IsKept state.setup state.cells.xobj state.cells.xrhs card (files report decks state problem)
-  files_kept card report decks state holds problem = does state.setup state.cells.xobj state.cells.xrhs card _ (holds (size_of problem), record { marked = unmarked _ _ _; bases = without_setup })
+  files_kept : (card : ℕ) (report : Filed → Report) (decks : List (List Card)) (state : State) → ((filed : Filed) → Holds state (report filed)) → (problem : Problem ℕ) →
+      IsKept state card (files report decks state problem)
+  files_kept card report decks state holds problem = does state card _ (holds (size_of problem), record { marked = unmarked _ _ _; bases = without_setup })
 
-  converts_kept : (card : ℕ) (state : State) → IsKept state.setup state.cells.xobj state.cells.xrhs card (converts card state)
+  converts_kept : (card : ℕ) (state : State) → IsKept state card (converts card state)
   converts_kept card state =
-      unless_fault {X = List Card × List (List Card)} state.setup state.cells.xobj state.cells.xrhs card VerbFault.DeckNotFound (deck_taken state.cells.xdata state.decks) _ (λ taken e.
-      unless_deck_fault state.setup state.cells.xobj state.cells.xrhs card (conversion taken.0 state.cells.xpbname) (files Converted taken.1 state) (files_kept card Converted taken.1 state (λ filed. tt)))
+      unless_fault {X = List Card × List (List Card)} state card VerbFault.DeckNotFound (deck_taken state.cells.xdata state.decks) _ (λ taken e.
+      unless_deck_fault state card (conversion taken.0 state.cells.xpbname) (files Converted taken.1 state) (files_kept card Converted taken.1 state (λ filed. tt)))
 
-  revises_kept : (card : ℕ) (state : State) → IsKept state.setup state.cells.xobj state.cells.xrhs card (revises card state)
+  revises_kept : (card : ℕ) (state : State) → IsKept state card (revises card state)
   revises_kept card state =
-      unless_fault state.setup state.cells.xobj state.cells.xrhs card VerbFault.NoProblem (problem_of state.cells.xoldname state.file) _ (λ old e.
-      unless_fault {X = List Card × List (List Card)} state.setup state.cells.xobj state.cells.xrhs card VerbFault.DeckNotFound (deck_taken state.cells.xdata state.decks) _ (λ taken f.
-      unless_deck_fault state.setup state.cells.xobj state.cells.xrhs card (revision old taken.0 state.cells.xpbname) (files Revised taken.1 state) (files_kept card Revised taken.1 state (λ filed. tt))))
+      unless_fault state card VerbFault.NoProblem (problem_of state.cells.xoldname state.file) _ (λ old e.
+      unless_fault {X = List Card × List (List Card)} state card VerbFault.DeckNotFound (deck_taken state.cells.xdata state.decks) _ (λ taken f.
+      unless_deck_fault state card (revision old taken.0 state.cells.xpbname) (files Revised taken.1 state) (files_kept card Revised taken.1 state (λ filed. tt))))
 
   opened : (card : ℕ) (options : SetupOptions) (state : State) (problem : Problem ℕ) (lp : LinearProgram) → selected problem (choice_of state.cells options) ≡ Ok lp →
-      IsKept state.setup state.cells.xobj state.cells.xrhs card (Does (next (Prints (SetUp problem.name options.sense)) (record state { setup = Some (record { problem = problem; options = options; opening = opening_statuses lp; steps = [] }); mark = None })))
-  opened card options state problem lp is = does state.setup state.cells.xobj state.cells.xrhs card _ (
+      IsKept state card (Does (next (Prints (SetUp problem.name options.sense)) (record state { setup = Some (record { problem = problem; options = options; opening = opening_statuses lp; steps = [] }); mark = None })))
+  opened card options state problem lp is = does state card _ (
     tt,
     record {
       marked = unmarked _ _ _;
@@ -258,16 +256,16 @@ module _ (S : Solving) (solving : KnowsSolving S) where
     },
   )
 
-  sets_up_kept : (card : ℕ) (options : SetupOptions) (state : State) → IsKept state.setup state.cells.xobj state.cells.xrhs card (sets_up card options state)
+  sets_up_kept : (card : ℕ) (options : SetupOptions) (state : State) → IsKept state card (sets_up card options state)
   sets_up_kept card options state =
-      unless_fault state.setup state.cells.xobj state.cells.xrhs card VerbFault.NoProblem (problem_of state.cells.xpbname state.file) _ (λ problem e.
-      selecting state.setup state.cells.xobj state.cells.xrhs card problem (choice_of state.cells options) _ (λ lp is. opened card options state problem lp is))
+      unless_fault state card VerbFault.NoProblem (problem_of state.cells.xpbname state.file) _ (λ problem e.
+      selecting state card problem (choice_of state.cells options) _ (λ lp is. opened card options state problem lp is))
 
-  punched : (card : ℕ) (state : State) (name : Name) (count : ℕ) (cards : List (List ℕ)) → Knows state → IsKept state.setup state.cells.xobj state.cells.xrhs card (Does (next (Punches (Punched name count) cards) state))
-  punched card state name count cards knows = does state.setup state.cells.xobj state.cells.xrhs card _ (tt, record { marked = knows.marked; bases = knows.bases })
+  punched : (card : ℕ) (state : State) (name : Name) (count : ℕ) (cards : List (List ℕ)) → Knows state → IsKept state card (Does (next (Punches (Punched name count) cards) state))
+  punched card state name count cards knows = does state card _ (tt, record { marked = knows.marked; bases = knows.bases })
 
-  punches_kept : (card : ℕ) (state : State) → Knows state → IsKept state.setup state.cells.xobj state.cells.xrhs card (punches card state)
-  punches_kept card state knows = unless_fault state.setup state.cells.xobj state.cells.xrhs card VerbFault.NoProblem (problem_of state.cells.xpbname state.file) _ (λ problem e. punched card state problem.name _ _ knows)
+  punches_kept : (card : ℕ) (state : State) → Knows state → IsKept state card (punches card state)
+  punches_kept card state knows = unless_fault state card VerbFault.NoProblem (problem_of state.cells.xpbname state.file) _ (λ problem e. punched card state problem.name _ _ knows)
 
   -- a parametric verb that is built keeps to bases
   with_sweeps : {X : Type 0} (verb : Verb ℕ) → S.builds verb ≡ true → (BuildsNoSweep S → S.builds verb ≡ false) → (SweepsKeepBases S → X) → X
@@ -277,29 +275,29 @@ module _ (S : Solving) (solving : KnowsSolving S) where
       at (inl none) = let e = unbuilt none in absurd (cc e)
       at (inr keep) = by keep
 
-  verb_kept : (verb : Verb ℕ) (card : ℕ) (state : State) → Knows state → S.builds verb ≡ true → IsKept state.setup state.cells.xobj state.cells.xrhs card (verb_move S verb card state)
+  verb_kept : (verb : Verb ℕ) (card : ℕ) (state : State) → HasProblem state.setup → Knows state → S.builds verb ≡ true → IsKept state card (verb_move S verb card state)
   unfolding verb_move
-  verb_kept Initialz card state knows built = does state.setup state.cells.xobj state.cells.xrhs card _ (tt, record { marked = unmarked _ _ _; bases = knows.bases })
-  verb_kept (Title text) card state knows built = does state.setup state.cells.xobj state.cells.xrhs card _ (tt, record { marked = knows.marked; bases = knows.bases })
-  verb_kept (MoveName cell name) card state knows built = does state.setup state.cells.xobj state.cells.xrhs card _ (tt, record { marked = named cell name state.cells state.mark state.setup knows.marked; bases = knows.bases })
-  verb_kept (MoveNumber cell value) card state knows built = does state.setup state.cells.xobj state.cells.xrhs card _ (tt, record { marked = moved_number cell value state.cells state.mark state.setup knows.marked; bases = knows.bases })
-  verb_kept (MoveLimit limit) card state knows built = does state.setup state.cells.xobj state.cells.xrhs card _ (tt, record { marked = knows.marked; bases = knows.bases })
-  verb_kept (Mvadr demand position) card state knows built = does state.setup state.cells.xobj state.cells.xrhs card _ (tt, record { marked = moved_demand demand position state.cells state.mark state.setup knows.marked; bases = knows.bases })
-  verb_kept (Goto position) card state knows built = does state.setup state.cells.xobj state.cells.xrhs card _ (tt, record { marked = knows.marked; bases = knows.bases })
-  verb_kept Convert card state knows built = converts_kept card state
-  verb_kept Revise card state knows built = revises_kept card state
-  verb_kept (Setup options) card state knows built = sets_up_kept card options state
-  verb_kept Primal card state knows built = solving_kept card state knows
-  verb_kept SolutionVerb card state knows built = shows_kept card state knows
-  verb_kept Ranging card state knows built = ranges_kept card state knows
-  verb_kept Paraobj card state knows built = with_sweeps Paraobj built (λ none. none.paraobj) (λ keep. sweeps_kept card VerbFault.NoChangeRow change_row state.cells.xchrow state keep knows)
-  verb_kept Pararhs card state knows built = with_sweeps Pararhs built (λ none. none.pararhs) (λ keep. sweeps_kept card VerbFault.NoChangeSet change_set state.cells.xchcol state keep knows)
-  verb_kept Bcdout card state knows built = punches_kept card state knows
-  verb_kept Exit card state knows built = does state.setup state.cells.xobj state.cells.xrhs card _ tt
+  verb_kept Initialz card state lawful knows built = does state card _ (tt, record { marked = unmarked _ _ _; bases = knows.bases })
+  verb_kept (Title text) card state lawful knows built = does state card _ (tt, record { marked = knows.marked; bases = knows.bases })
+  verb_kept (MoveName cell name) card state lawful knows built = does state card _ (tt, record { marked = named cell name state.cells state.mark state.setup knows.marked; bases = knows.bases })
+  verb_kept (MoveNumber cell value) card state lawful knows built = does state card _ (tt, record { marked = moved_number cell value state.cells state.mark state.setup knows.marked; bases = knows.bases })
+  verb_kept (MoveLimit limit) card state lawful knows built = does state card _ (tt, record { marked = knows.marked; bases = knows.bases })
+  verb_kept (Mvadr demand position) card state lawful knows built = does state card _ (tt, record { marked = moved_demand demand position state.cells state.mark state.setup knows.marked; bases = knows.bases })
+  verb_kept (Goto position) card state lawful knows built = does state card _ (tt, record { marked = knows.marked; bases = knows.bases })
+  verb_kept Convert card state lawful knows built = converts_kept card state
+  verb_kept Revise card state lawful knows built = revises_kept card state
+  verb_kept (Setup options) card state lawful knows built = sets_up_kept card options state
+  verb_kept Primal card state lawful knows built = solving_kept card state lawful knows
+  verb_kept SolutionVerb card state lawful knows built = shows_kept card state lawful knows
+  verb_kept Ranging card state lawful knows built = ranges_kept card state knows
+  verb_kept Paraobj card state lawful knows built = with_sweeps Paraobj built (λ none. none.paraobj) (λ keep. sweeps_kept card VerbFault.NoChangeRow change_row state.cells.xchrow state keep knows)
+  verb_kept Pararhs card state lawful knows built = with_sweeps Pararhs built (λ none. none.pararhs) (λ keep. sweeps_kept card VerbFault.NoChangeSet change_set state.cells.xchcol state keep knows)
+  verb_kept Bcdout card state lawful knows built = punches_kept card state knows
+  verb_kept Exit card state lawful knows built = does state card _ tt
 
-  if_built_kept : (card : ℕ) (verb : Verb ℕ) (state : State) → Knows state → (built : Bool) → S.builds verb ≡ built → IsKept state.setup state.cells.xobj state.cells.xrhs card (if_built S built (verb_move S verb card state))
-  if_built_kept card verb state knows true is = verb_kept verb card state knows is
-  if_built_kept card verb state knows false is = does state.setup state.cells.xobj state.cells.xrhs card _ tt
+  if_built_kept : (card : ℕ) (verb : Verb ℕ) (state : State) → HasProblem state.setup → Knows state → (built : Bool) → S.builds verb ≡ built → IsKept state card (if_built S built (verb_move S verb card state))
+  if_built_kept card verb state lawful knows true is = verb_kept verb card state lawful knows is
+  if_built_kept card verb state lawful knows false is = does state card _ tt
 
-  pub statement_kept : (verb : Verb ℕ) (card : ℕ) (state : State) → Knows state → IsKept state.setup state.cells.xobj state.cells.xrhs card (statement_move S verb card state)
-  statement_kept verb card state knows = if_built_kept card verb state knows (S.builds verb) refl
+  pub statement_kept : (verb : Verb ℕ) (card : ℕ) (state : State) → HasProblem state.setup → Knows state → IsKept state card (statement_move S verb card state)
+  statement_kept verb card state lawful knows = if_built_kept card verb state lawful knows (S.builds verb) refl

@@ -1,106 +1,80 @@
--- What is true of the reports of a run.
---     IsBestShown lines            the lines show a basis at which the path has ended optimal: its point is best, and its prices prove it
---     IsTrueVerdict verdict check  the verdict is the end of a path, and what it says of the linear program holds
---     HoldsOf report               what holds of a report
---     HoldsIn setup ..             what holds of it where it is made
-use Rattle.std.specs.Prelude.{◌≡◌, List, Option, Some, length, Ok}
+-- What the reports of a run say of linear programs.
+--     PresentProgram setup cells   the linear program that is selected of the setup
+--     ShowsBest ..                 the lines of SOLUTION show what is best
+--     IsTrueOf sheet verdict       what a verdict says of a linear program
+--     Holds state report           a report that is made in a state holds of it
+use Rattle.std.specs.Prelude.{◌≡◌, List, Option, Some, Ok}
 use Rattle.exact_values.specs.Rational.{ℚ}
-use Rattle.lp_definitions.specs.LinearProgram.{LinearProgram, value_at, IsLinearProgram}
-use Rattle.lp_definitions.specs.Solutions.{IsBest, AreProvingPrices, IsInfeasible, IsUnbounded}
+use Rattle.lp_definitions.specs.LinearProgram.{LinearProgram, value_at, objective_value, IsLinearProgram}
+use Rattle.lp_definitions.specs.Solutions.{IsBest, AreProvingPrices, IsCrossed, IsRay, ProvesUnbounded, IsInfeasible, IsUnbounded}
 use Rattle.lp_definitions.specs.Basis.{basics_of, Tableau, IsTableau, price_at}
-use Rattle.path_definitions.specs.Path.{Ending, EndsOptimal, EndsCrossed, EndsInfeasible, EndsUnbounded, EndsAt, PathEnds}
 use Rattle.path_laws.specs.Laws.{IsNonsingularBasis}
-use Rattle.selection_definitions.specs.Choice.{Choice}
+use Rattle.problem_definitions.specs.Valid.{IsProblem}
+use Rattle.control_definitions.specs.Cells.{Cells}
 use Rattle.selection_definitions.specs.Selection.{selected}
 use Rattle.listing_definitions.specs.declared.Mark.TheVariants.{Optimal}
 use Rattle.listing_definitions.specs.declared.Solver.TheVariants.{Primal as ByPrimal}
-use Rattle.listing_definitions.specs.Report.{SolutionLines, Verdict, Check, Report, Titled, Converted, Revised, SetUp, Punched, Solved, Solution, Ranges, Parametric}
-use Rattle.question_definitions.specs.Answers.{Basis, Sheet}
-use Rattle.problem_definitions.specs.Names.{Name}
-use Rattle.run_definitions.specs.State.{Present, present_basis}
-use Rattle.answer_definitions.specs.Verdicts.{IsVerdict}
+use Rattle.listing_definitions.specs.Report.{Line, SolutionLines, Verdict, OptimalAt, CrossedAt, InfeasibleBy, UnboundedBy, Report, Solved, Solution}
+use Rattle.question_definitions.specs.Answers.{Sheet}
+use Rattle.answer_definitions.specs.Lines.{pair_lines, ray_lines}
 use Rattle.answer_definitions.specs.Sections.{solution_lines}
+use Rattle.run_definitions.specs.State.{Present, present_basis, State, choice_of}
 
--- the point is feasible and no feasible one betters it, and the prices prove that
-pub record IsProvedBest (p : LinearProgram) (s : Basis) (t : Tableau) : Type 0 where
-  pub best : IsBest p t.point
-  pub proving : AreProvingPrices p t.point (price_at p (basics_of s) t.rate)
+-- There is a setup; and the linear program is selected of its problem with its options and with these cells. Both are lawful.
+pub record PresentProgram (setup : Option Present) (cells : Cells) : Type 0 where
+  pub present : Present
+  pub is_setup : setup ≡ Some present
+  pub lp : LinearProgram
+  pub is_selected : selected present.problem (choice_of cells present.options) ≡ Ok lp
+  pub is_problem : IsProblem present.problem
+  pub is_linear_program : IsLinearProgram lp
 
--- The lines are those of a basis of a linear program that a choice selects of a problem; the path has ended optimal at this basis;
--- and its point and prices, which are printed, are proved best.
-pub record IsBestShown (lines : SolutionLines) : Type 0 where
-  pub sheet : Sheet
-  pub choice : Choice
-  pub is_selected : selected sheet.problem choice ≡ Ok sheet.lp
-  pub basis : Basis
+-- the problem, whose names are printed, and the linear program
+abbrev pub sheet_of : {setup : Option Present} {cells : Cells} → PresentProgram setup cells → Sheet
+sheet_of program = record { problem = program.present.problem; lp = program.lp }
+
+-- The lines are those of the present basis: its point is feasible, no feasible point betters it, and its prices, which are printed,
+-- prove that.
+pub record ShowsBest (setup : Option Present) (cells : Cells) (lines : SolutionLines) : Type 0 where
+  pub program : PresentProgram setup cells
+  pub is_basis : IsNonsingularBasis program.lp (present_basis program.present)
   pub tableau : Tableau
-  pub is_tableau : IsTableau sheet.lp basis tableau
-  pub are_lines : lines ≡ solution_lines sheet basis tableau
+  pub is_tableau : IsTableau program.lp (present_basis program.present) tableau
+  pub are_lines : lines ≡ solution_lines (sheet_of program) (present_basis program.present) tableau
+  pub best : IsBest program.lp tableau.point
+  pub proving : AreProvingPrices program.lp tableau.point (price_at program.lp (basics_of (present_basis program.present)) tableau.rate)
+
+-- the objective is that of a best point
+pub record IsBestObjective (p : LinearProgram) (objective : ℚ) : Type 0 where
   pub point : List ℚ
-  pub prices : List ℚ
-  pub nonsingular : IsNonsingularBasis sheet.lp basis
-  pub ends : EndsAt sheet.lp basis (EndsOptimal point prices)
-  pub proved : IsLinearProgram sheet.lp → IsProvedBest sheet.lp basis tableau
+  pub best : IsBest p (value_at point)
+  pub is_objective : objective ≡ objective_value p (value_at point)
 
--- what an end says of the linear program
-abbrev pub IsTrueEnd : LinearProgram → Ending → Type 0
-IsTrueEnd p (EndsOptimal point prices) = IsBest p (value_at point)
-IsTrueEnd p (EndsCrossed k) = IsInfeasible p
-IsTrueEnd p (EndsInfeasible ray) = IsInfeasible p
-IsTrueEnd p (EndsUnbounded point direction) = IsUnbounded p
+-- the lines are the multipliers of a ray that aren't 0
+pub record AreLinesOfRay (sheet : Sheet) (lines : List Line) : Type 0 where
+  pub ray : List ℚ
+  pub is_ray : IsRay sheet.lp (value_at ray)
+  pub are_lines : lines ≡ ray_lines sheet ray
 
--- The verdict is that of a path, from a basis of a linear program that a choice selects of a problem; and it is true.
-pub record IsTrueVerdict (verdict : Verdict) (check : Check) : Type 0 where
-  pub sheet : Sheet
-  pub choice : Choice
-  pub is_selected : selected sheet.problem choice ≡ Ok sheet.lp
-  pub from : Basis
-  pub bases : List Basis
-  pub ending : Ending
-  pub ends : PathEnds sheet.lp from bases ending
-  pub is_verdict : IsVerdict sheet (length bases) ending verdict check
-  pub is_true : IsLinearProgram sheet.lp → IsTrueEnd sheet.lp ending
+-- the lines are those of a feasible point, which has this objective, and of a direction that proves that there is no best one
+pub record AreLinesOfDirection (sheet : Sheet) (objective : ℚ) (lines : List Line) : Type 0 where
+  pub point : List ℚ
+  pub direction : List ℚ
+  pub proves : ProvesUnbounded sheet.lp (value_at point) (value_at direction)
+  pub is_objective : objective ≡ objective_value sheet.lp (value_at point)
+  pub are_lines : lines ≡ pair_lines sheet point direction
 
--- SOLUTION with the mark OPTIMAL shows what is best, and each verdict of PRIMAL is true. Of other reports nothing is said here.
-abbrev pub HoldsOf : Report → Type 0
-HoldsOf (Titled text) = Unit {0}
-HoldsOf (Converted filed) = Unit {0}
-HoldsOf (Revised filed) = Unit {0}
-HoldsOf (SetUp name sense) = Unit {0}
-HoldsOf (Punched name cards) = Unit {0}
-HoldsOf (Solved solver verdict check) = solver ≡ ByPrimal → IsTrueVerdict verdict check
-HoldsOf (Solution mark lines) = mark ≡ Optimal → IsBestShown lines
-HoldsOf (Ranges lines) = Unit {0}
-HoldsOf (Parametric solver chain) = Unit {0}
+-- An objective that is printed is that of a best point. A variable that is printed is crossed, or the lines are those of a ray, and so
+-- no point is feasible. Or the lines are those of a feasible point and a direction, and so there is no best point.
+abbrev pub IsTrueOf : Sheet → Verdict → Type 0
+IsTrueOf sheet (OptimalAt steps objective) = IsBestObjective sheet.lp objective
+IsTrueOf sheet (CrossedAt k) = IsCrossed sheet.lp k × IsInfeasible sheet.lp
+IsTrueOf sheet (InfeasibleBy steps lines) = AreLinesOfRay sheet lines × IsInfeasible sheet.lp
+IsTrueOf sheet (UnboundedBy steps objective lines) = AreLinesOfDirection sheet objective lines × IsUnbounded sheet.lp
 
--- ---- at a statement
-
--- what SOLUTION shows is the present basis, in the linear program that the present cells select of the setup's problem
-pub record IsPresentShown (setup : Option Present) (objective rhs : Option Name) (lines : SolutionLines) : Type 0 where
-  pub present : Present
-  pub is_setup : setup ≡ Some present
-  pub shown : IsBestShown lines
-  pub same_problem : shown.sheet.problem ≡ present.problem
-  pub same_choice : shown.choice ≡ record { objective = objective; rhs = rhs; options = present.options }
-  pub same_basis : shown.basis ≡ present_basis present
-
--- and PRIMAL's path begins at the present basis, in that linear program
-pub record IsPresentVerdict (setup : Option Present) (objective rhs : Option Name) (verdict : Verdict) (check : Check) : Type 0 where
-  pub present : Present
-  pub is_setup : setup ≡ Some present
-  pub truth : IsTrueVerdict verdict check
-  pub same_problem : truth.sheet.problem ≡ present.problem
-  pub same_choice : truth.choice ≡ record { objective = objective; rhs = rhs; options = present.options }
-  pub same_from : truth.from ≡ present_basis present
-
--- what holds of a report where it is made, with this setup and with these names in the cells
-abbrev pub HoldsIn : Option Present → Option Name → Option Name → Report → Type 0
-HoldsIn setup objective rhs (Solved solver verdict check) = solver ≡ ByPrimal → IsPresentVerdict setup objective rhs verdict check
-HoldsIn setup objective rhs (Solution mark lines) = mark ≡ Optimal → IsPresentShown setup objective rhs lines
-HoldsIn setup objective rhs (Titled text) = Unit {0}
-HoldsIn setup objective rhs (Converted filed) = Unit {0}
-HoldsIn setup objective rhs (Revised filed) = Unit {0}
-HoldsIn setup objective rhs (SetUp name sense) = Unit {0}
-HoldsIn setup objective rhs (Punched name cards) = Unit {0}
-HoldsIn setup objective rhs (Ranges lines) = Unit {0}
-HoldsIn setup objective rhs (Parametric solver chain) = Unit {0}
+-- What a report says of the linear program that is selected in the state in which it is made: SOLUTION OPTIMAL shows what is best in it,
+-- and a verdict of PRIMAL is true of it. The other reports say nothing of a linear program yet.
+abbrev pub Holds : State → Report → Type 0
+Holds state (Solution Optimal lines) = ShowsBest state.setup state.cells lines
+Holds state (Solved ByPrimal verdict check) = (program : PresentProgram state.setup state.cells) × IsTrueOf (sheet_of program) verdict
+Holds state report = Unit {0}

@@ -1,4 +1,4 @@
-//! The law of whole runs: what a listing says of linear programs is true.
+//! The law of whole runs: each report of the run of a job holds of the state in which it was made.
 //! The function here does nothing. It promises the law, so that the check proves it.
 #![tactic(auto)]
 

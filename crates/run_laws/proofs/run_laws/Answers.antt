@@ -1,11 +1,10 @@
-use Rattle.run_laws.proofs.Runs.{lists_truth, knows_linear, knows_built, knows_unfinished}
+use Rattle.run_laws.proofs.Runs.{knows_without_sweeps, knows_with_sweeps, tells_truth}
 use Rattle.run_laws.proofs.Filed.{files_problems}
 use Rattle.run_laws.proofs.run_laws.Goals as goal
 
 pub returns : goal.returns
 returns c = record {
-  built = λ builds is_missing paraobj pararhs. lists_truth _ (knows_built builds _ paraobj pararhs);
-  anywhere = λ builds paraobj pararhs. lists_truth _ (knows_unfinished builds paraobj pararhs);
-  linear = λ keep. lists_truth _ (knows_linear keep);
-  problems = λ builds is_missing no_revise. files_problems _ no_revise;
+  truth = λ builds no_revise paraobj pararhs. tells_truth _ (knows_without_sweeps builds paraobj pararhs) no_revise;
+  swept = λ builds no_revise keep. tells_truth _ (knows_with_sweeps builds keep) no_revise;
+  problems = λ builds no_revise. files_problems _ no_revise;
 }
