@@ -1,6 +1,6 @@
 -- In the run of a job every problem that is filed keeps what `IsProblem` asks, and so does that of the setup.
 --     AreLawful state              so they do, and the decks left and the cell XPBNAME give no other
---     IsLed card move              every state to which a move goes on is such a one
+--     IsLed S card move              every state to which a move goes on is such a one
 use Rattle.std.proofs.Common.{◌≡◌, ℕ, Bool, true, false, cond, List, [], ◌∷◌, refl, sym, subst, inl, inr}
 use Rattle.std.specs.Prelude.{Option, Some, None, Result, Ok, Err, option_and_then}
 use Rattle.std.specs.List.{AllByRecursion, find}
@@ -33,11 +33,11 @@ use Rattle.listing_definitions.specs.declared.Mark.TheVariants.{Optimal, Infeasi
 use Rattle.listing_definitions.specs.declared.VerbFault.{VerbFault}
 use Rattle.listing_definitions.specs.Report.{SolutionLines, RangeLines, Report, Converted, Solution, Ranges}
 use Rattle.listing_definitions.specs.Ending.{Place}
-use Rattle.question_definitions.specs.Answers.{Basis, Sheet, Changing, Sweep, Question, OfSolution, OfRanges, OfSweep, PathEnd, Reached, PathLimit, SweepEnd, Opening, Chained, SweepLimit}
-use Rattle.question_definitions.specs.Solving.{Solving}
+use Rattle.question_definitions.specs.Answers.{Basis, Sheet, Changing, Sweep, Question, Answer, OfPath, OfSolution, OfRanges, OfSweep, PathEnd, Reached, PathLimit, SweepEnd, Opening, Chained, SweepLimit}
+use Rattle.question_definitions.specs.Solving.{Solving, IsRight}
 use Rattle.control_definitions.specs.Cells.{Cells, move_name, move_number, set_demand}
 use Rattle.run_definitions.specs.State.{Present, present_basis, gone_through, State, problem_of, choice_of}
-use Rattle.run_definitions.specs.Moves.{Outcome, Goes, Ends, Move, Does, MayStop, Asks, Gives, or_fault}
+use Rattle.run_definitions.specs.Moves.{Outcome, Goes, Ends, Refusals, Move, Does, MayStop, Asks, Gives, or_fault}
 use Rattle.run_definitions.specs.Verbs.{or_deck_fault, or_selection_fault, files, selects, not_less, change_row, change_set, asks, demanded, by_verdict, if_optimal, after_path, after_sweep, shows_present, solves, shows, ranges, sweeps, converts, sets_up, punches, verb_move, if_built, statement_move}
 use Rattle.run_definitions.specs.Run.{counted, Step, Reaches, begun, stepped}
 use Rattle.run_definitions.specs.Answer.{IsSoFar}
@@ -64,36 +64,36 @@ abbrev Leads : Outcome → Type 0
 Leads (Goes gain after) = AreLawful after
 Leads (Ends gain ending) = Unit {0}
 
-record IsLed (card : ℕ) (move : Move) : Type 0 where
-  by : (outcome : Outcome) → Gives card move outcome → Leads outcome
+record IsLed (S : Solving) (card : ℕ) (move : Move) : Type 0 where
+  by : (outcome : Outcome) → Gives S card move outcome → Leads outcome
 
-does : (card : ℕ) (outcome : Outcome) → Leads outcome → IsLed card (Does outcome)
-does card outcome leads = record { by = λ given e. subst Leads (sym e) leads }
+does : (S : Solving) (card : ℕ) (outcome : Outcome) → Leads outcome → IsLed S card (Does outcome)
+does S card outcome leads = record { by = λ given e. subst Leads (sym e) leads }
 
-may_stop : (card : ℕ) (Holds : Evidence → Option Place → Type 0) (move : Move) → IsLed card move → IsLed card (MayStop Holds move)
-may_stop card Holds move led = record { by = at }
+may_stop : (S : Solving) (card : ℕ) (refusals : Refusals) (move : Move) → IsLed S card move → IsLed S card (MayStop refusals move)
+may_stop S card refusals move led = record { by = at }
   where
-    at : (given : Outcome) → Gives card (MayStop Holds move) given → Leads given
+    at : (given : Outcome) → Gives S card (MayStop refusals move) given → Leads given
     at given (inl gives) = led.by given gives
     at given (inr stop) = subst Leads (sym stop.3) tt
 
-answered : (card : ℕ) (Answer : Type 0) (IsRight : Answer → Type 0) (go : Answer → Outcome) → ((answer : Answer) → Leads (go answer)) → IsLed card (Asks Answer IsRight go)
-answered card Answer IsRight go leads = record { by = λ given a. subst Leads (sym a.2) (leads a.0) }
+answered : (S : Solving) (card : ℕ) (question : Question) (sheet : Sheet) (s : Basis) (go : Answer question → Outcome) → ((answer : Answer question) → Leads (go answer)) → IsLed S card (Asks question sheet s go)
+answered S card question sheet s go leads = record { by = λ given a. subst Leads (sym a.2) (leads a.0) }
 
-unless_fault : {X : Type 0} (card : ℕ) (fault : VerbFault) (o : Option X) (go : X → Move) → ((x : X) → o ≡ Some x → IsLed card (go x)) → IsLed card (or_fault card fault o go)
-unless_fault card fault None go led = does card _ tt
-unless_fault card fault (Some x) go led = led x refl
+unless_fault : {X : Type 0} (S : Solving) (card : ℕ) (fault : VerbFault) (o : Option X) (go : X → Move) → ((x : X) → o ≡ Some x → IsLed S card (go x)) → IsLed S card (or_fault card fault o go)
+unless_fault S card fault None go led = does S card _ tt
+unless_fault S card fault (Some x) go led = led x refl
 
-unless_deck_fault : (card : ℕ) (r : Result (Problem ℕ) DeckFault) (go : Problem ℕ → Move) → ((problem : Problem ℕ) → r ≡ Ok problem → IsLed card (go problem)) → IsLed card (or_deck_fault r go)
-unless_deck_fault card (Err fault) go led = does card _ tt
-unless_deck_fault card (Ok problem) go led = led problem refl
+unless_deck_fault : (S : Solving) (card : ℕ) (r : Result (Problem ℕ) DeckFault) (go : Problem ℕ → Move) → ((problem : Problem ℕ) → r ≡ Ok problem → IsLed S card (go problem)) → IsLed S card (or_deck_fault r go)
+unless_deck_fault S card (Err fault) go led = does S card _ tt
+unless_deck_fault S card (Ok problem) go led = led problem refl
 
-unless_selection_fault : (card : ℕ) (r : Result LinearProgram SelectionFault) (go : LinearProgram → Move) → ((lp : LinearProgram) → IsLed card (go lp)) → IsLed card (or_selection_fault card r go)
-unless_selection_fault card (Err fault) go led = does card _ tt
-unless_selection_fault card (Ok lp) go led = led lp
+unless_selection_fault : (S : Solving) (card : ℕ) (r : Result LinearProgram SelectionFault) (go : LinearProgram → Move) → ((lp : LinearProgram) → IsLed S card (go lp)) → IsLed S card (or_selection_fault card r go)
+unless_selection_fault S card (Err fault) go led = does S card _ tt
+unless_selection_fault S card (Ok lp) go led = led lp
 
-selecting : (card : ℕ) (problem : Problem ℕ) (choice : Choice) (go : LinearProgram → Move) → ((lp : LinearProgram) → IsLed card (go lp)) → IsLed card (selects card problem choice go)
-selecting card problem choice go led = unless_selection_fault card (selected problem choice) _ (λ lp. may_stop card _ (go lp) (led lp))
+selecting : (S : Solving) (card : ℕ) (problem : Problem ℕ) (choice : Choice) (go : LinearProgram → Move) → ((lp : LinearProgram) → IsLed S card (go lp)) → IsLed S card (selects card problem choice go)
+selecting S card problem choice go led = unless_selection_fault S card (selected problem choice) _ (λ lp. may_stop S card _ (go lp) (led lp))
 
 -- ---- states
 
@@ -138,114 +138,114 @@ demanding Xdounb position cells known = known
 
 -- ---- verbs
 
-converts_led : (card : ℕ) (state : State) → AreLawful state → IsLed card (converts card state)
-converts_led card state lawful =
-    unless_fault {X = List Card × List (List Card)} card VerbFault.DeckNotFound (deck_taken state.cells.xdata state.decks) _ (λ taken e.
-    unless_deck_fault card (conversion taken.0 state.cells.xpbname) (files Converted taken.1 state) (λ problem is. files_problem taken e problem is))
+converts_led : (S : Solving) (card : ℕ) (state : State) → AreLawful state → IsLed S card (converts card state)
+converts_led S card state lawful =
+    unless_fault {X = List Card × List (List Card)} S card VerbFault.DeckNotFound (deck_taken state.cells.xdata state.decks) _ (λ taken e.
+    unless_deck_fault S card (conversion taken.0 state.cells.xpbname) (files Converted taken.1 state) (λ problem is. files_problem taken e problem is))
   where
     files_problem : (taken : List Card × List (List Card)) → deck_taken state.cells.xdata state.decks ≡ Some taken → (problem : Problem ℕ) → conversion taken.0 state.cells.xpbname ≡ Ok problem →
-        IsLed card (files Converted taken.1 state problem)
+        IsLed S card (files Converted taken.1 state problem)
     files_problem taken e problem is =
         let printable = taken_printable state.cells.xdata state.decks taken lawful.decks e in
-        does card _ (record {
+        does S card _ (record {
           file = (conversion-problem taken.0 state.cells.xpbname problem printable.0 lawful.name is, lawful.file);
           setup = without_setup;
           decks = printable.1;
           name = lawful.name;
         })
 
-sets_up_led : (card : ℕ) (options : SetupOptions) (state : State) → AreLawful state → IsLed card (sets_up card options state)
-sets_up_led card options state lawful =
-    unless_fault card VerbFault.NoProblem (problem_of state.cells.xpbname state.file) _ (λ problem e.
-    selecting card problem (choice_of state.cells options) _ (λ lp. does card _ (record {
+sets_up_led : (S : Solving) (card : ℕ) (options : SetupOptions) (state : State) → AreLawful state → IsLed S card (sets_up card options state)
+sets_up_led S card options state lawful =
+    unless_fault S card VerbFault.NoProblem (problem_of state.cells.xpbname state.file) _ (λ problem e.
+    selecting S card problem (choice_of state.cells options) _ (λ lp. does S card _ (record {
       file = lawful.file;
       setup = with_setup _ (filed state.cells.xpbname state.file problem lawful.file e);
       decks = lawful.decks;
       name = lawful.name;
     })))
 
-punches_led : (card : ℕ) (state : State) → AreLawful state → IsLed card (punches card state)
-punches_led card state lawful =
-    unless_fault card VerbFault.NoProblem (problem_of state.cells.xpbname state.file) _ (λ problem e. does card _ (record { file = lawful.file; setup = lawful.setup; decks = lawful.decks; name = lawful.name }))
+punches_led : (S : Solving) (card : ℕ) (state : State) → AreLawful state → IsLed S card (punches card state)
+punches_led S card state lawful =
+    unless_fault S card VerbFault.NoProblem (problem_of state.cells.xpbname state.file) _ (λ problem e. does S card _ (record { file = lawful.file; setup = lawful.setup; decks = lawful.decks; name = lawful.name }))
 
 module _ (S : Solving) where
-  pathed : (card : ℕ) (present : Present) (state : State) → AreLawful state → IsProblem present.problem → (end : PathEnd) → Leads (after_path S card present state end)
+  pathed : (card : ℕ) (present : Present) (state : State) → AreLawful state → IsProblem present.problem → (end : PathEnd) → Leads (after_path card present state end)
   pathed card present state lawful is (Reached bases verdict check) =
       by_verdict_leads _ _ _ (record { file = lawful.file; setup = with_setup (gone_through bases present) is; decks = lawful.decks; name = lawful.name })
   pathed card present state lawful is PathLimit = tt
 
-  swept : (card : ℕ) (sweep : Sweep) (present : Present) (state : State) → AreLawful state → IsProblem present.problem → (end : SweepEnd) → Leads (after_sweep S card sweep present state end)
+  swept : (card : ℕ) (sweep : Sweep) (present : Present) (state : State) → AreLawful state → IsProblem present.problem → (end : SweepEnd) → Leads (after_sweep card sweep present state end)
   swept card sweep present state lawful is (Opening bases verdict check) =
       by_verdict_leads _ _ _ (record { file = lawful.file; setup = with_setup (gone_through bases present) is; decks = lawful.decks; name = lawful.name })
   swept card sweep present state lawful is (Chained bases intervals end) =
       record { file = lawful.file; setup = with_setup (gone_through bases present) is; decks = lawful.decks; name = lawful.name }
   swept card sweep present state lawful is SweepLimit = tt
 
-  solves_led : (card : ℕ) (state : State) → AreLawful state → IsLed card (solves S card state)
+  solves_led : (card : ℕ) (state : State) → AreLawful state → IsLed S card (solves card state)
   solves_led card state lawful =
-      unless_fault card VerbFault.NoSetup state.setup _ (λ present e.
-      selecting card present.problem _ _ (λ lp.
-      may_stop card _ _ (answered card PathEnd _ _ (pathed card present state lawful (lawful.setup present e)))))
+      unless_fault S card VerbFault.NoSetup state.setup _ (λ present e.
+      selecting S card present.problem _ _ (λ lp.
+      may_stop S card _ _ (answered S card (OfPath state.cells.xiterlim) _ _ _ (pathed card present state lawful (lawful.setup present e)))))
 
-  showing_led : (card : ℕ) (state : State) (present : Present) (question : Question) (Answer : Type 0) (Shown : Sheet → Basis → Answer → Type 0) (report : Answer → Report) → AreLawful state →
-      IsLed card (shows_present S card state present question Answer Shown report)
-  showing_led card state present question Answer Shown report lawful =
-      unless_selection_fault card (selected present.problem (choice_of state.cells present.options)) _ (λ lp.
-      may_stop card _ _ (answered card Answer _ _ (λ lines. record { file = lawful.file; setup = lawful.setup; decks = lawful.decks; name = lawful.name })))
+  showing_led : (card : ℕ) (state : State) (present : Present) (question : Question) (report : Answer question → Report) → AreLawful state →
+      IsLed S card (shows_present card state present question report)
+  showing_led card state present question report lawful =
+      unless_selection_fault S card (selected present.problem (choice_of state.cells present.options)) _ (λ lp.
+      may_stop S card _ _ (answered S card question _ _ _ (λ lines. record { file = lawful.file; setup = lawful.setup; decks = lawful.decks; name = lawful.name })))
 
-  shows_led : (card : ℕ) (state : State) → AreLawful state → IsLed card (shows S card state)
+  shows_led : (card : ℕ) (state : State) → AreLawful state → IsLed S card (shows card state)
   shows_led card state lawful =
-      unless_fault card VerbFault.NoSetup state.setup _ (λ present e.
-      unless_fault card VerbFault.NotSolved state.mark _ (λ mark m.
-      showing_led card state present OfSolution SolutionLines S.Shows (Solution mark) lawful))
+      unless_fault S card VerbFault.NoSetup state.setup _ (λ present e.
+      unless_fault S card VerbFault.NotSolved state.mark _ (λ mark m.
+      showing_led card state present OfSolution (Solution mark) lawful))
 
-  ranges_led : (card : ℕ) (state : State) → AreLawful state → IsLed card (ranges S card state)
+  ranges_led : (card : ℕ) (state : State) → AreLawful state → IsLed S card (ranges card state)
   ranges_led card state lawful =
-      unless_fault card VerbFault.NoSetup state.setup _ (λ present e.
-      unless_fault card VerbFault.NotSolved state.mark _ (λ mark m.
-      unless_fault {X = Mark} card VerbFault.NotOptimal (if_optimal S mark) _ (λ optimal o.
-      showing_led card state present OfRanges RangeLines S.Ranges Ranges lawful)))
+      unless_fault S card VerbFault.NoSetup state.setup _ (λ present e.
+      unless_fault S card VerbFault.NotSolved state.mark _ (λ mark m.
+      unless_fault {X = Mark} S card VerbFault.NotOptimal (if_optimal mark) _ (λ optimal o.
+      showing_led card state present OfRanges Ranges lawful)))
 
   asked_led : (card : ℕ) (present : Present) (state : State) (lp : LinearProgram) (sweep : Sweep) → AreLawful state → IsProblem present.problem →
-      IsLed card (asks S (OfSweep sweep) (record { problem = present.problem; lp = lp }) present SweepEnd (S.Sweeps (record { problem = present.problem; lp = lp }) (present_basis present) sweep) (after_sweep S card sweep present state))
-  asked_led card present state lp sweep lawful is = may_stop card _ _ (answered card SweepEnd _ _ (swept card sweep present state lawful is))
+      IsLed S card (asks (OfSweep sweep) (record { problem = present.problem; lp = lp }) present (after_sweep card sweep present state))
+  asked_led card present state lp sweep lawful is = may_stop S card _ _ (answered S card (OfSweep sweep) _ _ _ (swept card sweep present state lawful is))
 
-  sweeps_led : (card : ℕ) (fault : VerbFault) (change : Problem ℕ → Name → Option Changing) (moved : Option Name) (state : State) → AreLawful state → IsLed card (sweeps S card fault change moved state)
+  sweeps_led : (card : ℕ) (fault : VerbFault) (change : Problem ℕ → Name → Option Changing) (moved : Option Name) (state : State) → AreLawful state → IsLed S card (sweeps card fault change moved state)
   sweeps_led card fault change moved state lawful =
-      unless_fault card VerbFault.NoSetup state.setup _ (λ present e.
-      selecting card present.problem _ _ (λ lp.
-      unless_fault {X = Changing} card fault (option_and_then (change present.problem) moved) _ (λ changing c.
-      unless_fault {X = ℚ} card VerbFault.NoParmax state.cells.xparmax _ (λ last l.
-      unless_fault {X = ℚ} card VerbFault.ParmaxBelow (not_less state.cells.xparam last) _ (λ to t.
+      unless_fault S card VerbFault.NoSetup state.setup _ (λ present e.
+      selecting S card present.problem _ _ (λ lp.
+      unless_fault {X = Changing} S card fault (option_and_then (change present.problem) moved) _ (λ changing c.
+      unless_fault {X = ℚ} S card VerbFault.NoParmax state.cells.xparmax _ (λ last l.
+      unless_fault {X = ℚ} S card VerbFault.ParmaxBelow (not_less state.cells.xparam last) _ (λ to t.
       asked_led card present state lp (record { changing = changing; from = state.cells.xparam; to = to; limit = state.cells.xiterlim }) lawful (lawful.setup present e))))))
 
   module _ (no_revise : S.builds Revise ≡ false) where
-    verb_led : (verb : Verb ℕ) (card : ℕ) (state : State) → MovesName verb → AreLawful state → S.builds verb ≡ true → IsLed card (verb_move S verb card state)
+    verb_led : (verb : Verb ℕ) (card : ℕ) (state : State) → MovesName verb → AreLawful state → S.builds verb ≡ true → IsLed S card (verb_move verb card state)
     unfolding verb_move
-    verb_led Initialz card state names lawful built = does card _ (record { file = lawful.file; setup = lawful.setup; decks = lawful.decks; name = tt })
-    verb_led (Title text) card state names lawful built = does card _ (record { file = lawful.file; setup = lawful.setup; decks = lawful.decks; name = lawful.name })
-    verb_led (MoveName cell name) card state names lawful built = does card _ (record { file = lawful.file; setup = lawful.setup; decks = lawful.decks; name = named cell name state.cells names lawful.name })
-    verb_led (MoveNumber cell value) card state names lawful built = does card _ (record { file = lawful.file; setup = lawful.setup; decks = lawful.decks; name = numbered cell value state.cells lawful.name })
-    verb_led (MoveLimit limit) card state names lawful built = does card _ (record { file = lawful.file; setup = lawful.setup; decks = lawful.decks; name = lawful.name })
-    verb_led (Mvadr demand position) card state names lawful built = does card _ (record { file = lawful.file; setup = lawful.setup; decks = lawful.decks; name = demanding demand position state.cells lawful.name })
-    verb_led (Goto position) card state names lawful built = does card _ (record { file = lawful.file; setup = lawful.setup; decks = lawful.decks; name = lawful.name })
-    verb_led Convert card state names lawful built = converts_led card state lawful
+    verb_led Initialz card state names lawful built = does S card _ (record { file = lawful.file; setup = lawful.setup; decks = lawful.decks; name = tt })
+    verb_led (Title text) card state names lawful built = does S card _ (record { file = lawful.file; setup = lawful.setup; decks = lawful.decks; name = lawful.name })
+    verb_led (MoveName cell name) card state names lawful built = does S card _ (record { file = lawful.file; setup = lawful.setup; decks = lawful.decks; name = named cell name state.cells names lawful.name })
+    verb_led (MoveNumber cell value) card state names lawful built = does S card _ (record { file = lawful.file; setup = lawful.setup; decks = lawful.decks; name = numbered cell value state.cells lawful.name })
+    verb_led (MoveLimit limit) card state names lawful built = does S card _ (record { file = lawful.file; setup = lawful.setup; decks = lawful.decks; name = lawful.name })
+    verb_led (Mvadr demand position) card state names lawful built = does S card _ (record { file = lawful.file; setup = lawful.setup; decks = lawful.decks; name = demanding demand position state.cells lawful.name })
+    verb_led (Goto position) card state names lawful built = does S card _ (record { file = lawful.file; setup = lawful.setup; decks = lawful.decks; name = lawful.name })
+    verb_led Convert card state names lawful built = converts_led S card state lawful
     verb_led Revise card state names lawful built = absurd (cc (no_revise, built))
-    verb_led (Setup options) card state names lawful built = sets_up_led card options state lawful
+    verb_led (Setup options) card state names lawful built = sets_up_led S card options state lawful
     verb_led Primal card state names lawful built = solves_led card state lawful
     verb_led SolutionVerb card state names lawful built = shows_led card state lawful
     verb_led Ranging card state names lawful built = ranges_led card state lawful
     verb_led Paraobj card state names lawful built = sweeps_led card VerbFault.NoChangeRow change_row state.cells.xchrow state lawful
     verb_led Pararhs card state names lawful built = sweeps_led card VerbFault.NoChangeSet change_set state.cells.xchcol state lawful
-    verb_led Bcdout card state names lawful built = punches_led card state lawful
-    verb_led Exit card state names lawful built = does card _ tt
+    verb_led Bcdout card state names lawful built = punches_led S card state lawful
+    verb_led Exit card state names lawful built = does S card _ tt
 
-    statement_led : (verb : Verb ℕ) (card : ℕ) (state : State) → MovesName verb → AreLawful state → IsLed card (statement_move S verb card state)
+    statement_led : (verb : Verb ℕ) (card : ℕ) (state : State) → MovesName verb → AreLawful state → IsLed S card (statement_move S verb card state)
     statement_led verb card state names lawful = by (S.builds verb) refl
       where
-        by : (built : Bool) → S.builds verb ≡ built → IsLed card (if_built S built (verb_move S verb card state))
+        by : (built : Bool) → S.builds verb ≡ built → IsLed S card (if_built built (verb_move verb card state))
         by true is = verb_led verb card state names lawful is
-        by false is = does card _ tt
+        by false is = does S card _ tt
 
     -- ---- runs
 

@@ -2,7 +2,7 @@
 --     HasProblem setup             the setup's problem is lawful
 --     Knows state                  where the mark is OPTIMAL, the present basis ends the path optimal, in what the present cells select
 --     Keeps at outcome             the outcome's report holds of the state in which it is made, and the next state knows that
---     IsKept at card move          every outcome of a move keeps it
+--     IsKept S at card move          every outcome of a move keeps it
 use Rattle.std.proofs.Common.{◌≡◌, ℕ, List, refl, sym, subst, inl, inr}
 use Rattle.std.specs.Prelude.{Option, Some, None, Result, Ok, Err}
 use Rattle.exact_values.specs.Rational.{ℚ}
@@ -20,8 +20,10 @@ use Rattle.listing_definitions.specs.declared.Mark.{Mark}
 use Rattle.listing_definitions.specs.declared.Mark.TheVariants.{Optimal}
 use Rattle.listing_definitions.specs.declared.VerbFault.{VerbFault}
 use Rattle.listing_definitions.specs.Ending.{Place}
+use Rattle.question_definitions.specs.Answers.{Basis, Sheet, Question, Answer}
+use Rattle.question_definitions.specs.Solving.{Solving, IsRight}
 use Rattle.run_definitions.specs.State.{Present, present_basis, State}
-use Rattle.run_definitions.specs.Moves.{Gain, Nothing, Prints, Punches, Outcome, Goes, Ends, Move, Does, MayStop, Asks, Gives, or_fault}
+use Rattle.run_definitions.specs.Moves.{Gain, Nothing, Prints, Punches, Outcome, Goes, Ends, Refusals, Move, Does, MayStop, Asks, Gives, or_fault}
 use Rattle.run_definitions.specs.Verbs.{or_deck_fault, or_selection_fault, selects}
 use Rattle.path_laws.specs.Laws.{IsNonsingularBasis}
 use Rattle.run_laws.specs.Truth.{Holds}
@@ -82,36 +84,36 @@ abbrev pub Keeps : State → Outcome → Type 0
 Keeps at (Goes gain after) = HoldsGain at gain × Knows after
 Keeps at (Ends gain ending) = HoldsGain at gain
 
-pub record IsKept (at : State) (card : ℕ) (move : Move) : Type 0 where
-  pub by : (outcome : Outcome) → Gives card move outcome → Keeps at outcome
+pub record IsKept (S : Solving) (at : State) (card : ℕ) (move : Move) : Type 0 where
+  pub by : (outcome : Outcome) → Gives S card move outcome → Keeps at outcome
 
-pub does : (at : State) (card : ℕ) (outcome : Outcome) → Keeps at outcome → IsKept at card (Does outcome)
-does at card outcome keeps = record { by = λ given e. subst (Keeps at) (sym e) keeps }
+pub does : (S : Solving) (at : State) (card : ℕ) (outcome : Outcome) → Keeps at outcome → IsKept S at card (Does outcome)
+does S at card outcome keeps = record { by = λ given e. subst (Keeps at) (sym e) keeps }
 
-pub may_stop : (at : State) (card : ℕ) (MayRefuse : Evidence → Option Place → Type 0) (move : Move) → IsKept at card move → IsKept at card (MayStop MayRefuse move)
-may_stop at card MayRefuse move kept = record { by = gives_so }
+pub may_stop : (S : Solving) (at : State) (card : ℕ) (refusals : Refusals) (move : Move) → IsKept S at card move → IsKept S at card (MayStop refusals move)
+may_stop S at card refusals move kept = record { by = gives_so }
   where
-    gives_so : (given : Outcome) → Gives card (MayStop MayRefuse move) given → Keeps at given
+    gives_so : (given : Outcome) → Gives S card (MayStop refusals move) given → Keeps at given
     gives_so given (inl gives) = kept.by given gives
     gives_so given (inr stop) = subst (Keeps at) (sym stop.3) tt
 
-pub answered : (at : State) (card : ℕ) (Answer : Type 0) (IsRight : Answer → Type 0) (go : Answer → Outcome) →
-    ((answer : Answer) → IsRight answer → Keeps at (go answer)) → IsKept at card (Asks Answer IsRight go)
-answered at card Answer IsRight go kept = record { by = λ given a. subst (Keeps at) (sym a.2) (kept a.0 a.1) }
+pub answered : (S : Solving) (at : State) (card : ℕ) (question : Question) (sheet : Sheet) (s : Basis) (go : Answer question → Outcome) →
+    ((answer : Answer question) → IsRight S question sheet s answer → Keeps at (go answer)) → IsKept S at card (Asks question sheet s go)
+answered S at card question sheet s go kept = record { by = λ given a. subst (Keeps at) (sym a.2) (kept a.0 a.1) }
 
-pub unless_fault : {X : Type 0} (at : State) (card : ℕ) (fault : VerbFault) (o : Option X) (go : X → Move) → ((x : X) → o ≡ Some x → IsKept at card (go x)) → IsKept at card (or_fault card fault o go)
-unless_fault at card fault None go kept = does at card _ tt
-unless_fault at card fault (Some x) go kept = kept x refl
+pub unless_fault : {X : Type 0} (S : Solving) (at : State) (card : ℕ) (fault : VerbFault) (o : Option X) (go : X → Move) → ((x : X) → o ≡ Some x → IsKept S at card (go x)) → IsKept S at card (or_fault card fault o go)
+unless_fault S at card fault None go kept = does S at card _ tt
+unless_fault S at card fault (Some x) go kept = kept x refl
 
-pub unless_deck_fault : (at : State) (card : ℕ) (r : Result (Problem ℕ) DeckFault) (go : Problem ℕ → Move) → ((problem : Problem ℕ) → IsKept at card (go problem)) → IsKept at card (or_deck_fault r go)
-unless_deck_fault at card (Err fault) go kept = does at card _ tt
-unless_deck_fault at card (Ok problem) go kept = kept problem
+pub unless_deck_fault : (S : Solving) (at : State) (card : ℕ) (r : Result (Problem ℕ) DeckFault) (go : Problem ℕ → Move) → ((problem : Problem ℕ) → IsKept S at card (go problem)) → IsKept S at card (or_deck_fault r go)
+unless_deck_fault S at card (Err fault) go kept = does S at card _ tt
+unless_deck_fault S at card (Ok problem) go kept = kept problem
 
-pub unless_selection_fault : (at : State) (card : ℕ) (r : Result LinearProgram SelectionFault) (go : LinearProgram → Move) → ((lp : LinearProgram) → r ≡ Ok lp → IsKept at card (go lp)) →
-    IsKept at card (or_selection_fault card r go)
-unless_selection_fault at card (Err fault) go kept = does at card _ tt
-unless_selection_fault at card (Ok lp) go kept = kept lp refl
+pub unless_selection_fault : (S : Solving) (at : State) (card : ℕ) (r : Result LinearProgram SelectionFault) (go : LinearProgram → Move) → ((lp : LinearProgram) → r ≡ Ok lp → IsKept S at card (go lp)) →
+    IsKept S at card (or_selection_fault card r go)
+unless_selection_fault S at card (Err fault) go kept = does S at card _ tt
+unless_selection_fault S at card (Ok lp) go kept = kept lp refl
 
-pub selecting : (at : State) (card : ℕ) (problem : Problem ℕ) (choice : Choice) (go : LinearProgram → Move) → ((lp : LinearProgram) → selected problem choice ≡ Ok lp → IsKept at card (go lp)) →
-    IsKept at card (selects card problem choice go)
-selecting at card problem choice go kept = unless_selection_fault at card (selected problem choice) _ (λ lp e. may_stop at card _ (go lp) (kept lp e))
+pub selecting : (S : Solving) (at : State) (card : ℕ) (problem : Problem ℕ) (choice : Choice) (go : LinearProgram → Move) → ((lp : LinearProgram) → selected problem choice ≡ Ok lp → IsKept S at card (go lp)) →
+    IsKept S at card (selects card problem choice go)
+selecting S at card problem choice go kept = unless_selection_fault S at card (selected problem choice) _ (λ lp e. may_stop S at card _ (go lp) (kept lp e))

@@ -24,8 +24,8 @@ use Rattle.listing_definitions.specs.declared.Mark.TheVariants.{Optimal, Infeasi
 use Rattle.listing_definitions.specs.declared.Solver.TheVariants.{Primal as ByPrimal}
 use Rattle.listing_definitions.specs.declared.VerbFault.{VerbFault}
 use Rattle.listing_definitions.specs.Report.{SolutionLines, RangeLines, Verdict, Check, Filed, Report, Converted, Revised, SetUp, Punched, Solved, Solution, Ranges}
-use Rattle.question_definitions.specs.Answers.{Basis, Sheet, Changing, Row, Set, sweeper, Sweep, Question, OfSolution, OfRanges, OfSweep, PathEnd, Reached, PathLimit, SweepEnd, Opening, Chained, SweepLimit}
-use Rattle.question_definitions.specs.Solving.{Solving}
+use Rattle.question_definitions.specs.Answers.{Basis, Sheet, Changing, Row, Set, sweeper, Sweep, Question, Answer, OfPath, OfSolution, OfRanges, OfSweep, PathEnd, Reached, PathLimit, SweepEnd, Opening, Chained, SweepLimit}
+use Rattle.question_definitions.specs.Solving.{Solving, IsRight}
 use Rattle.answer_definitions.specs.Verdicts.{verdict_of}
 use Rattle.answer_definitions.specs.Sections.{IsShown}
 use Rattle.control_definitions.specs.Cells.{Cells, move_name, move_number, set_demand}
@@ -160,7 +160,7 @@ by_sweep state (Set name) verdict check = tt
 
 module _ (S : Solving) (solving : KnowsSolving S) where
   pathed : (card : ℕ) (present : Present) (state : State) (lp : LinearProgram) → HasProblem state.setup → selected present.problem (choice_of state.cells present.options) ≡ Ok lp → state.setup ≡ Some present → HasBases present →
-      (end : PathEnd) → S.Solves (record { problem = present.problem; lp = lp }) (present_basis present) state.cells.xiterlim end → Keeps state (after_path S card present state end)
+      (end : PathEnd) → S.Solves (record { problem = present.problem; lp = lp }) (present_basis present) state.cells.xiterlim end → Keeps state (after_path card present state end)
   pathed card present state lp lawful is set has (Reached bases verdict check) solved =
       let reaches = solving.solves (record { problem = present.problem; lp = lp }) (present_basis present) state.cells.xiterlim bases verdict check solved in
       let at = has.in_each state.cells.xobj state.cells.xrhs lp is in
@@ -174,18 +174,18 @@ module _ (S : Solving) (solving : KnowsSolving S) where
       })
   pathed card present state lp lawful is set has PathLimit solved = tt
 
-  solving_kept : (card : ℕ) (state : State) → HasProblem state.setup → Knows state → IsKept state card (solves S card state)
+  solving_kept : (card : ℕ) (state : State) → HasProblem state.setup → Knows state → IsKept S state card (solves card state)
   solving_kept card state lawful knows =
-      unless_fault state card VerbFault.NoSetup state.setup _ (λ present e.
-      selecting state card present.problem _ _ (λ lp is.
-      may_stop state card _ _ (answered state card PathEnd _ _ (pathed card present state lp lawful is e (knows.bases present e)))))
+      unless_fault S state card VerbFault.NoSetup state.setup _ (λ present e.
+      selecting S state card present.problem _ _ (λ lp is.
+      may_stop S state card _ _ (answered S state card (OfPath state.cells.xiterlim) _ _ _ (pathed card present state lp lawful is e (knows.bases present e)))))
 
-  showing : (card : ℕ) (state : State) (present : Present) (question : Question) (Answer : Type 0) (Shown : Sheet → Basis → Answer → Type 0) (report : Answer → Report) → Knows state →
-      ((lp : LinearProgram) → selected present.problem (choice_of state.cells present.options) ≡ Ok lp → (lines : Answer) → Shown (record { problem = present.problem; lp = lp }) (present_basis present) lines →
-      Holds state (report lines)) → IsKept state card (shows_present S card state present question Answer Shown report)
-  showing card state present question Answer Shown report knows holds =
-      unless_selection_fault state card (selected present.problem (choice_of state.cells present.options)) _ (λ lp is.
-      may_stop state card _ _ (answered state card Answer _ _ (λ lines shown. (holds lp is lines shown, record { marked = knows.marked; bases = knows.bases }))))
+  showing : (card : ℕ) (state : State) (present : Present) (question : Question) (report : Answer question → Report) → Knows state →
+      ((lp : LinearProgram) → selected present.problem (choice_of state.cells present.options) ≡ Ok lp → (lines : Answer question) → IsRight S question (record { problem = present.problem; lp = lp }) (present_basis present) lines →
+      Holds state (report lines)) → IsKept S state card (shows_present card state present question report)
+  showing card state present question report knows holds =
+      unless_selection_fault S state card (selected present.problem (choice_of state.cells present.options)) _ (λ lp is.
+      may_stop S state card _ _ (answered S state card question _ _ _ (λ lines shown. (holds lp is lines shown, record { marked = knows.marked; bases = knows.bases }))))
 
   solution_holds : (mark : Mark) (state : State) (present : Present) (lp : LinearProgram) (lines : SolutionLines) → HasProblem state.setup → Knows state → state.mark ≡ Some mark → state.setup ≡ Some present →
       selected present.problem (choice_of state.cells present.options) ≡ Ok lp → IsShown (record { problem = present.problem; lp = lp }) (present_basis present) lines → Holds state (Solution mark lines)
@@ -194,21 +194,21 @@ module _ (S : Solving) (solving : KnowsSolving S) where
   solution_holds Infeasible state present lp lines lawful knows m e is shown = tt
   solution_holds Unbounded state present lp lines lawful knows m e is shown = tt
 
-  shows_kept : (card : ℕ) (state : State) → HasProblem state.setup → Knows state → IsKept state card (shows S card state)
+  shows_kept : (card : ℕ) (state : State) → HasProblem state.setup → Knows state → IsKept S state card (shows card state)
   shows_kept card state lawful knows =
-      unless_fault state card VerbFault.NoSetup state.setup _ (λ present e.
-      unless_fault state card VerbFault.NotSolved state.mark _ (λ mark m.
-      showing card state present OfSolution SolutionLines S.Shows (Solution mark) knows (λ lp is lines shown. solution_holds mark state present lp lines lawful knows m e is (solving.shows _ _ lines shown))))
+      unless_fault S state card VerbFault.NoSetup state.setup _ (λ present e.
+      unless_fault S state card VerbFault.NotSolved state.mark _ (λ mark m.
+      showing card state present OfSolution (Solution mark) knows (λ lp is lines shown. solution_holds mark state present lp lines lawful knows m e is (solving.shows _ _ lines shown))))
 
-  ranges_kept : (card : ℕ) (state : State) → Knows state → IsKept state card (ranges S card state)
+  ranges_kept : (card : ℕ) (state : State) → Knows state → IsKept S state card (ranges card state)
   ranges_kept card state knows =
-      unless_fault state card VerbFault.NoSetup state.setup _ (λ present e.
-      unless_fault state card VerbFault.NotSolved state.mark _ (λ mark m.
-      unless_fault state card VerbFault.NotOptimal _ _ (λ optimal o.
-      showing card state present OfRanges RangeLines S.Ranges Ranges knows (λ lp is lines shown. tt))))
+      unless_fault S state card VerbFault.NoSetup state.setup _ (λ present e.
+      unless_fault S state card VerbFault.NotSolved state.mark _ (λ mark m.
+      unless_fault S state card VerbFault.NotOptimal _ _ (λ optimal o.
+      showing card state present OfRanges Ranges knows (λ lp is lines shown. tt))))
 
   swept : (card : ℕ) (sweep : Sweep) (present : Present) (state : State) (lp : LinearProgram) → selected present.problem (choice_of state.cells present.options) ≡ Ok lp → (end : SweepEnd) →
-      IsNonsingularBasis lp (last_of (present_basis present) (gone_over end)) → Keeps state (after_sweep S card sweep present state end)
+      IsNonsingularBasis lp (last_of (present_basis present) (gone_over end)) → Keeps state (after_sweep card sweep present state end)
   swept card sweep present state lp is (Opening bases verdict check) at =
       by_verdict_keeps state (mark_of verdict) (Solved (sweeper sweep.changing) verdict check) _ (by_sweep state sweep.changing verdict check)
       (record { marked = unmarked _ _ _; bases = goes_to present state.cells.xobj state.cells.xrhs lp bases is at })
@@ -217,38 +217,38 @@ module _ (S : Solving) (solving : KnowsSolving S) where
   swept card sweep present state lp is SweepLimit at = tt
 
   asked_kept : (card : ℕ) (present : Present) (state : State) (lp : LinearProgram) (sweep : Sweep) → SweepsKeepBases S → HasBases present → selected present.problem (choice_of state.cells present.options) ≡ Ok lp →
-      IsKept state card (asks S (OfSweep sweep) (record { problem = present.problem; lp = lp }) present SweepEnd (S.Sweeps (record { problem = present.problem; lp = lp }) (present_basis present) sweep) (after_sweep S card sweep present state))
-  asked_kept card present state lp sweep keep has is = may_stop state card _ _ (answered state card SweepEnd _ _ (λ end right.
+      IsKept S state card (asks (OfSweep sweep) (record { problem = present.problem; lp = lp }) present (after_sweep card sweep present state))
+  asked_kept card present state lp sweep keep has is = may_stop S state card _ _ (answered S state card (OfSweep sweep) _ _ _ (λ end right.
       swept card sweep present state lp is end (keep (record { problem = present.problem; lp = lp }) (present_basis present) sweep end right (has.in_each state.cells.xobj state.cells.xrhs lp is))))
 
   sweeps_kept : (card : ℕ) (fault : VerbFault) (change : Problem ℕ → Name → Option Changing) (moved : Option Name) (state : State) → SweepsKeepBases S → Knows state →
-      IsKept state card (sweeps S card fault change moved state)
+      IsKept S state card (sweeps card fault change moved state)
   sweeps_kept card fault change moved state keep knows =
-      unless_fault state card VerbFault.NoSetup state.setup _ (λ present e.
-      selecting state card present.problem _ _ (λ lp is.
-      unless_fault {X = Changing} state card fault (option_and_then (change present.problem) moved) _ (λ changing c.
-      unless_fault {X = ℚ} state card VerbFault.NoParmax state.cells.xparmax _ (λ last l.
-      unless_fault {X = ℚ} state card VerbFault.ParmaxBelow (not_less state.cells.xparam last) _ (λ to t.
+      unless_fault S state card VerbFault.NoSetup state.setup _ (λ present e.
+      selecting S state card present.problem _ _ (λ lp is.
+      unless_fault {X = Changing} S state card fault (option_and_then (change present.problem) moved) _ (λ changing c.
+      unless_fault {X = ℚ} S state card VerbFault.NoParmax state.cells.xparmax _ (λ last l.
+      unless_fault {X = ℚ} S state card VerbFault.ParmaxBelow (not_less state.cells.xparam last) _ (λ to t.
       asked_kept card present state lp (record { changing = changing; from = state.cells.xparam; to = to; limit = state.cells.xiterlim }) keep (knows.bases present e) is)))))
 
   files_kept : (card : ℕ) (report : Filed → Report) (decks : List (List Card)) (state : State) → ((filed : Filed) → Holds state (report filed)) → (problem : Problem ℕ) →
-      IsKept state card (files report decks state problem)
-  files_kept card report decks state holds problem = does state card _ (holds (size_of problem), record { marked = unmarked _ _ _; bases = without_setup })
+      IsKept S state card (files report decks state problem)
+  files_kept card report decks state holds problem = does S state card _ (holds (size_of problem), record { marked = unmarked _ _ _; bases = without_setup })
 
-  converts_kept : (card : ℕ) (state : State) → IsKept state card (converts card state)
+  converts_kept : (card : ℕ) (state : State) → IsKept S state card (converts card state)
   converts_kept card state =
-      unless_fault {X = List Card × List (List Card)} state card VerbFault.DeckNotFound (deck_taken state.cells.xdata state.decks) _ (λ taken e.
-      unless_deck_fault state card (conversion taken.0 state.cells.xpbname) (files Converted taken.1 state) (files_kept card Converted taken.1 state (λ filed. tt)))
+      unless_fault {X = List Card × List (List Card)} S state card VerbFault.DeckNotFound (deck_taken state.cells.xdata state.decks) _ (λ taken e.
+      unless_deck_fault S state card (conversion taken.0 state.cells.xpbname) (files Converted taken.1 state) (files_kept card Converted taken.1 state (λ filed. tt)))
 
-  revises_kept : (card : ℕ) (state : State) → IsKept state card (revises card state)
+  revises_kept : (card : ℕ) (state : State) → IsKept S state card (revises card state)
   revises_kept card state =
-      unless_fault state card VerbFault.NoProblem (problem_of state.cells.xoldname state.file) _ (λ old e.
-      unless_fault {X = List Card × List (List Card)} state card VerbFault.DeckNotFound (deck_taken state.cells.xdata state.decks) _ (λ taken f.
-      unless_deck_fault state card (revision old taken.0 state.cells.xpbname) (files Revised taken.1 state) (files_kept card Revised taken.1 state (λ filed. tt))))
+      unless_fault S state card VerbFault.NoProblem (problem_of state.cells.xoldname state.file) _ (λ old e.
+      unless_fault {X = List Card × List (List Card)} S state card VerbFault.DeckNotFound (deck_taken state.cells.xdata state.decks) _ (λ taken f.
+      unless_deck_fault S state card (revision old taken.0 state.cells.xpbname) (files Revised taken.1 state) (files_kept card Revised taken.1 state (λ filed. tt))))
 
   opened : (card : ℕ) (options : SetupOptions) (state : State) (problem : Problem ℕ) (lp : LinearProgram) → selected problem (choice_of state.cells options) ≡ Ok lp →
-      IsKept state card (Does (next (Prints (SetUp problem.name options.sense)) (record state { setup = Some (record { problem = problem; options = options; opening = opening_statuses lp; steps = [] }); mark = None })))
-  opened card options state problem lp is = does state card _ (
+      IsKept S state card (Does (next (Prints (SetUp problem.name options.sense)) (record state { setup = Some (record { problem = problem; options = options; opening = opening_statuses lp; steps = [] }); mark = None })))
+  opened card options state problem lp is = does S state card _ (
     tt,
     record {
       marked = unmarked _ _ _;
@@ -256,16 +256,16 @@ module _ (S : Solving) (solving : KnowsSolving S) where
     },
   )
 
-  sets_up_kept : (card : ℕ) (options : SetupOptions) (state : State) → IsKept state card (sets_up card options state)
+  sets_up_kept : (card : ℕ) (options : SetupOptions) (state : State) → IsKept S state card (sets_up card options state)
   sets_up_kept card options state =
-      unless_fault state card VerbFault.NoProblem (problem_of state.cells.xpbname state.file) _ (λ problem e.
-      selecting state card problem (choice_of state.cells options) _ (λ lp is. opened card options state problem lp is))
+      unless_fault S state card VerbFault.NoProblem (problem_of state.cells.xpbname state.file) _ (λ problem e.
+      selecting S state card problem (choice_of state.cells options) _ (λ lp is. opened card options state problem lp is))
 
-  punched : (card : ℕ) (state : State) (name : Name) (count : ℕ) (cards : List (List ℕ)) → Knows state → IsKept state card (Does (next (Punches (Punched name count) cards) state))
-  punched card state name count cards knows = does state card _ (tt, record { marked = knows.marked; bases = knows.bases })
+  punched : (card : ℕ) (state : State) (name : Name) (count : ℕ) (cards : List (List ℕ)) → Knows state → IsKept S state card (Does (next (Punches (Punched name count) cards) state))
+  punched card state name count cards knows = does S state card _ (tt, record { marked = knows.marked; bases = knows.bases })
 
-  punches_kept : (card : ℕ) (state : State) → Knows state → IsKept state card (punches card state)
-  punches_kept card state knows = unless_fault state card VerbFault.NoProblem (problem_of state.cells.xpbname state.file) _ (λ problem e. punched card state problem.name _ _ knows)
+  punches_kept : (card : ℕ) (state : State) → Knows state → IsKept S state card (punches card state)
+  punches_kept card state knows = unless_fault S state card VerbFault.NoProblem (problem_of state.cells.xpbname state.file) _ (λ problem e. punched card state problem.name _ _ knows)
 
   -- a parametric verb that is built keeps to bases
   with_sweeps : {X : Type 0} (verb : Verb ℕ) → S.builds verb ≡ true → (BuildsNoSweep S → S.builds verb ≡ false) → (SweepsKeepBases S → X) → X
@@ -275,15 +275,15 @@ module _ (S : Solving) (solving : KnowsSolving S) where
       at (inl none) = let e = unbuilt none in absurd (cc e)
       at (inr keep) = by keep
 
-  verb_kept : (verb : Verb ℕ) (card : ℕ) (state : State) → HasProblem state.setup → Knows state → S.builds verb ≡ true → IsKept state card (verb_move S verb card state)
+  verb_kept : (verb : Verb ℕ) (card : ℕ) (state : State) → HasProblem state.setup → Knows state → S.builds verb ≡ true → IsKept S state card (verb_move verb card state)
   unfolding verb_move
-  verb_kept Initialz card state lawful knows built = does state card _ (tt, record { marked = unmarked _ _ _; bases = knows.bases })
-  verb_kept (Title text) card state lawful knows built = does state card _ (tt, record { marked = knows.marked; bases = knows.bases })
-  verb_kept (MoveName cell name) card state lawful knows built = does state card _ (tt, record { marked = named cell name state.cells state.mark state.setup knows.marked; bases = knows.bases })
-  verb_kept (MoveNumber cell value) card state lawful knows built = does state card _ (tt, record { marked = moved_number cell value state.cells state.mark state.setup knows.marked; bases = knows.bases })
-  verb_kept (MoveLimit limit) card state lawful knows built = does state card _ (tt, record { marked = knows.marked; bases = knows.bases })
-  verb_kept (Mvadr demand position) card state lawful knows built = does state card _ (tt, record { marked = moved_demand demand position state.cells state.mark state.setup knows.marked; bases = knows.bases })
-  verb_kept (Goto position) card state lawful knows built = does state card _ (tt, record { marked = knows.marked; bases = knows.bases })
+  verb_kept Initialz card state lawful knows built = does S state card _ (tt, record { marked = unmarked _ _ _; bases = knows.bases })
+  verb_kept (Title text) card state lawful knows built = does S state card _ (tt, record { marked = knows.marked; bases = knows.bases })
+  verb_kept (MoveName cell name) card state lawful knows built = does S state card _ (tt, record { marked = named cell name state.cells state.mark state.setup knows.marked; bases = knows.bases })
+  verb_kept (MoveNumber cell value) card state lawful knows built = does S state card _ (tt, record { marked = moved_number cell value state.cells state.mark state.setup knows.marked; bases = knows.bases })
+  verb_kept (MoveLimit limit) card state lawful knows built = does S state card _ (tt, record { marked = knows.marked; bases = knows.bases })
+  verb_kept (Mvadr demand position) card state lawful knows built = does S state card _ (tt, record { marked = moved_demand demand position state.cells state.mark state.setup knows.marked; bases = knows.bases })
+  verb_kept (Goto position) card state lawful knows built = does S state card _ (tt, record { marked = knows.marked; bases = knows.bases })
   verb_kept Convert card state lawful knows built = converts_kept card state
   verb_kept Revise card state lawful knows built = revises_kept card state
   verb_kept (Setup options) card state lawful knows built = sets_up_kept card options state
@@ -293,11 +293,11 @@ module _ (S : Solving) (solving : KnowsSolving S) where
   verb_kept Paraobj card state lawful knows built = with_sweeps Paraobj built (λ none. none.paraobj) (λ keep. sweeps_kept card VerbFault.NoChangeRow change_row state.cells.xchrow state keep knows)
   verb_kept Pararhs card state lawful knows built = with_sweeps Pararhs built (λ none. none.pararhs) (λ keep. sweeps_kept card VerbFault.NoChangeSet change_set state.cells.xchcol state keep knows)
   verb_kept Bcdout card state lawful knows built = punches_kept card state knows
-  verb_kept Exit card state lawful knows built = does state card _ tt
+  verb_kept Exit card state lawful knows built = does S state card _ tt
 
-  if_built_kept : (card : ℕ) (verb : Verb ℕ) (state : State) → HasProblem state.setup → Knows state → (built : Bool) → S.builds verb ≡ built → IsKept state card (if_built S built (verb_move S verb card state))
+  if_built_kept : (card : ℕ) (verb : Verb ℕ) (state : State) → HasProblem state.setup → Knows state → (built : Bool) → S.builds verb ≡ built → IsKept S state card (if_built built (verb_move verb card state))
   if_built_kept card verb state lawful knows true is = verb_kept verb card state lawful knows is
-  if_built_kept card verb state lawful knows false is = does state card _ tt
+  if_built_kept card verb state lawful knows false is = does S state card _ tt
 
-  pub statement_kept : (verb : Verb ℕ) (card : ℕ) (state : State) → HasProblem state.setup → Knows state → IsKept state card (statement_move S verb card state)
+  pub statement_kept : (verb : Verb ℕ) (card : ℕ) (state : State) → HasProblem state.setup → Knows state → IsKept S state card (statement_move S verb card state)
   statement_kept verb card state lawful knows = if_built_kept card verb state lawful knows (S.builds verb) refl
