@@ -55,6 +55,6 @@ pub data OverflowsOnSweep (sheet : Sheet) (bases : List Basis) (sweep : Sweep) (
 
 abbrev pub OverflowsAt : Question → Sheet → List Basis → Evidence → Option Place → Type 0
 OverflowsAt (OfPath limit) sheet bases e place = OverflowsOnPath sheet bases limit e place
-OverflowsAt OfSolution sheet bases e place = IsEvidence (Solution sheet.lp) None 0 bases [] e place
+OverflowsAt (OfSolution mark) sheet bases e place = IsEvidence (Solution sheet.lp) None 0 bases [] e place
 OverflowsAt OfRanges sheet bases e place = IsEvidence (Range sheet.lp) None 0 bases [] e place
 OverflowsAt (OfSweep sweep) sheet bases e place = OverflowsOnSweep sheet bases sweep e place

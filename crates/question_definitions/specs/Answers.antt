@@ -8,6 +8,7 @@ use Rattle.lp_definitions.specs.declared.Status.{Status}
 use Rattle.lp_definitions.specs.LinearProgram.{LinearProgram}
 use Rattle.problem_definitions.specs.Names.{Name}
 use Rattle.problem_definitions.specs.Problem.{Problem}
+use Rattle.listing_definitions.specs.declared.Mark.{Mark}
 use Rattle.listing_definitions.specs.declared.Solver.{Solver}
 use Rattle.listing_definitions.specs.declared.Solver.TheVariants.{Paraobj, Pararhs}
 use Rattle.listing_definitions.specs.Report.{SolutionLines, RangeLines, Verdict, Check, Interval, ChainEnd}
@@ -53,14 +54,15 @@ pub data SweepEnd : Type 0 where
   Chained : List Basis → List Interval → ChainEnd → SweepEnd
   SweepLimit : SweepEnd
 
--- a statement asks for a path in at most so many steps, for the lines of SOLUTION or of RANGE, or for a parametric run
+-- a statement asks for a path in at most so many steps, for the lines of SOLUTION after a verdict with this mark or of RANGE, or for a parametric run
 pub data Question : Type 0 where
   OfPath : ℕ → Question
-  OfSolution OfRanges : Question
+  OfSolution : Mark → Question
+  OfRanges : Question
   OfSweep : Sweep → Question
 
 abbrev pub Answer : Question → Type 0
 Answer (OfPath limit) = PathEnd
-Answer OfSolution = SolutionLines
+Answer (OfSolution mark) = SolutionLines
 Answer OfRanges = RangeLines
 Answer (OfSweep sweep) = SweepEnd

@@ -27,6 +27,6 @@ pub record Solving : Type 1 where
 -- the answer to a question about a linear program at a basis is right
 abbrev pub IsRight : Solving → (question : Question) → Sheet → Basis → Answer question → Type 0
 IsRight S (OfPath limit) sheet s = S.Solves sheet s limit
-IsRight S OfSolution sheet s = S.Shows sheet s
+IsRight S (OfSolution mark) sheet s = S.Shows sheet s
 IsRight S OfRanges sheet s = S.Ranges sheet s
 IsRight S (OfSweep sweep) sheet s = S.Sweeps sheet s sweep

@@ -225,7 +225,7 @@ abbrev pub shows : ℕ → State → Move
 shows card state =
     or_fault card NoSetup state.setup (λ present.
     or_fault card NotSolved state.mark (λ mark.
-    shows_present card state present OfSolution (Solution mark)))
+    shows_present card state present (OfSolution mark) (Solution mark)))
 
 abbrev pub if_optimal : Mark → Option Mark
 if_optimal Optimal = Some Optimal

@@ -197,7 +197,7 @@ module _ (S : Solving) where
   shows_led card state lawful =
       unless_fault S card VerbFault.NoSetup state.setup _ (λ present e.
       unless_fault S card VerbFault.NotSolved state.mark _ (λ mark m.
-      showing_led card state present OfSolution (Solution mark) lawful))
+      showing_led card state present (OfSolution mark) (Solution mark) lawful))
 
   ranges_led : (card : ℕ) (state : State) → AreLawful state → IsLed S card (ranges card state)
   ranges_led card state lawful =
