@@ -1,5 +1,5 @@
--- What a job is answered whose listing is an end alone.
-use Rattle.std.proofs.Common.{◌≡◌, ℕ, List, [], ◌++◌, Option, None, Some, Ok, Err, refl, ap, subst, ◌∙◌}
+-- What a job is answered, and why, whose listing is an end alone.
+use Rattle.std.proofs.Common.{◌≡◌, ℕ, ◌<◌, List, [], ◌++◌, Option, None, Some, Ok, Err, refl, sym, ap, subst, ◌∙◌}
 use Rattle.std.specs.Io.KnownBytes.{Appends}
 use Rattle.job_devices.proofs.TextLemmas.{Appends-nothing}
 use Rattle.job_devices.specs.Causes.{Rose}
@@ -10,13 +10,25 @@ use Rattle.deck_definitions.specs.Written.{card_text}
 use Rattle.listing_definitions.specs.Ending.{Ending, status_of}
 use Rattle.listing_definitions.specs.Listing.{listing, ending_text}
 use Rattle.question_definitions.specs.Solving.{Solving}
-use Rattle.run_definitions.specs.Answer.{Job, Gains, MayEnd, IsCutShort, IsAnswered, whole, print_fails, print_wants_memory}
+use Rattle.run_definitions.specs.Answer.{Job, Failures, Gains, MayEnd, IsCutShort, IsAnswered, whole, print_fails, print_wants_memory}
 use Rattle.control_run.specs.declared.status.Status.{Status}
 use Rattle.control_run.specs.Ends.{code_of}
 use Rattle.control_run.specs.Finishing.{cut_status}
 use Rattle.mps_cli.specs.declared.stop.Stop.{Stop}
 use Rattle.mps_cli.specs.declared.stop.Stop.TheVariants.{Words, ReadFault, Card, Control, Memory}
 use Rattle.mps_cli.specs.Stops.{stop_shown, status_at}
+use Rattle.mps_cli.specs.Endings.{EndsWith, printed, cut_off}
+
+-- ---- the end is printed, or cut off
+
+module _ {P : Type 0} (written : P → Option (List ℕ)) (faults refusals : P → ℕ) {old new : P} (shown : Ending) (stop : Stop) (same : shown ≡ stop_shown stop) where
+  pub end_printed : (status : Status) → status ≡ status_at stop → Writes {T = Unit {0}} written faults refusals old new (Ok tt) (ending_text shown) →
+      EndsWith written faults refusals old new stop status
+  end_printed status is writes = printed is (subst (λ (e : Ending). Writes {T = Unit {0}} written faults refusals old new (Ok tt) (ending_text e)) same writes)
+
+  pub end_cut : (cause : WriteStop) (status : Status) → status ≡ cut_status cause → Writes {T = Unit {0}} written faults refusals old new (Err cause) (ending_text shown) →
+      EndsWith written faults refusals old new stop status
+  end_cut cause status is writes = cut_off cause is (subst (λ (e : Ending). Writes {T = Unit {0}} written faults refusals old new (Err cause) (ending_text e)) same writes)
 
 -- ---- nothing is punched
 
@@ -42,8 +54,8 @@ code_is Memory = refl
 
 -- ---- the answer
 
-module _ (S : Solving) (job : Job) (stop : Stop) (may_end : MayEnd S job [] [] (stop_shown stop)) where
-  cut : (status : ℕ) (front back : List ℕ) → front ++ back ≡ ending_text (stop_shown stop) → IsCutShort S job (record { status = status; printed = front; punched = [] })
+module _ (S : Solving) (job : Job) (failures : Failures) (stop : Stop) (may_end : MayEnd S job failures [] [] (stop_shown stop)) where
+  cut : (status : ℕ) (front back : List ℕ) → front ++ back ≡ ending_text (stop_shown stop) → IsCutShort S job failures (record { status = status; printed = front; punched = [] })
   cut status front back e = record {
     text = listing [] (stop_shown stop);
     deck_text = card_text [];
@@ -52,33 +64,20 @@ module _ (S : Solving) (job : Job) (stop : Stop) (may_end : MayEnd S job [] [] (
     punch_front = (card_text [], refl);
   }
 
-  -- the end is printed
-  ended : {wanted : Type 0} (old new : Option (List ℕ)) (status : ℕ) → status ≡ status_of (stop_shown stop) → (punch : Option (List ℕ)) → Appends old new (ending_text (stop_shown stop)) →
-      IsAnswered S job wanted status (Appends old new) (Appends punch punch)
-  ended old new status is punch text = (ending_text (stop_shown stop), [], text, keeps punch, whole (stop_shown stop) may_end is refl (gains_nothing stop))
+  module _ (old new punch : Option (List ℕ)) (status : Status) where
+    -- the end is printed
+    ended : status ≡ status_at stop → Appends old new (ending_text (stop_shown stop)) → IsAnswered S job failures (code_of status) (Appends old new) (Appends punch punch)
+    ended is text = (ending_text (stop_shown stop), [], text, keeps punch, whole (stop_shown stop) may_end (ap code_of is ∙ code_is stop) refl (gains_nothing stop))
 
-  -- the print fails
-  ended_by_fault : {wanted : Type 0} (old new : Option (List ℕ)) (status : ℕ) → status ≡ 25 → (punch : Option (List ℕ)) → AppendsFront old new (ending_text (stop_shown stop)) →
-      IsAnswered S job wanted status (Appends old new) (Appends punch punch)
-  ended_by_fault old new status is punch front = (front.0, [], front.2, keeps punch, print_fails is (cut status front.0 front.1.0 front.1.1))
+    -- the print fails, or wants memory
+    ended_early : (cause : WriteStop) → status ≡ cut_status cause → (cause ≡ Failed → failures.print) → (cause ≡ NoMemory → failures.memory) → AppendsFront old new (ending_text (stop_shown stop)) →
+        IsAnswered S job failures (code_of status) (Appends old new) (Appends punch punch)
+    ended_early Failed is failed wanted front = (front.0, [], front.2, keeps punch, print_fails (failed refl) (ap code_of is) (cut (code_of status) front.0 front.1.0 front.1.1))
+    ended_early NoMemory is failed wanted front = (front.0, [], front.2, keeps punch, print_wants_memory (wanted refl) (ap code_of is) (cut (code_of status) front.0 front.1.0 front.1.1))
 
-  -- the print wants memory
-  ended_for_memory : {wanted : Type 0} (old new : Option (List ℕ)) (status : ℕ) → status ≡ 28 → (punch : Option (List ℕ)) → wanted → AppendsFront old new (ending_text (stop_shown stop)) →
-      IsAnswered S job wanted status (Appends old new) (Appends punch punch)
-  ended_for_memory old new status is punch wants front = (front.0, [], front.2, keeps punch, print_wants_memory wants is (cut status front.0 front.1.0 front.1.1))
-
-module _ (S : Solving) {P : Type 0} (written : P → Option (List ℕ)) (faults refusals : P → ℕ) {old new : P} (shown : Ending) (stop : Stop) (same : shown ≡ stop_shown stop) (status : Status) where
-  pub end_printed : {T : Type 0} {done : T} → status ≡ status_at stop → Writes written faults refusals old new (Ok done) (ending_text shown) →
-      (job : Job) (punch : Option (List ℕ)) → MayEnd S job [] [] (stop_shown stop) →
-      IsAnswered S job (Rose (refusals old) (refusals new)) (code_of status) (Appends (written old) (written new)) (Appends punch punch)
-  end_printed is writes job punch may_end =
-      ended S job stop may_end (written old) (written new) (code_of status) (ap code_of is ∙ code_is stop) punch (subst (λ (e : Ending). Appends (written old) (written new) (ending_text e)) same writes.bytes)
-
-  pub end_cut : {T : Type 0} (cause : WriteStop) → status ≡ cut_status cause → Writes {T = T} written faults refusals old new (Err cause) (ending_text shown) →
-      (job : Job) (punch : Option (List ℕ)) → MayEnd S job [] [] (stop_shown stop) →
-      IsAnswered S job (Rose (refusals old) (refusals new)) (code_of status) (Appends (written old) (written new)) (Appends punch punch)
-  end_cut Failed is writes job punch may_end =
-      ended_by_fault S job stop may_end (written old) (written new) (code_of status) (ap code_of is) punch (subst (λ (e : Ending). AppendsFront (written old) (written new) (ending_text e)) same writes.bytes)
-  end_cut NoMemory is writes job punch may_end =
-      ended_for_memory S job stop may_end (written old) (written new) (code_of status) (ap code_of is) punch (writes.cause.no_memory refl)
-      (subst (λ (e : Ending). AppendsFront (written old) (written new) (ending_text e)) same writes.bytes)
+  pub ending_answer : {P : Type 0} (written : P → Option (List ℕ)) (faults refusals : P → ℕ) {old new : P} (punch : Option (List ℕ)) (status : Status) →
+      (Rose (faults old) (faults new) → failures.print) → (Rose (refusals old) (refusals new) → failures.memory) → EndsWith written faults refusals old new stop status →
+      IsAnswered S job failures (code_of status) (Appends (written old) (written new)) (Appends punch punch)
+  ending_answer written faults refusals {old} {new} punch status failed wanted (printed is writes) = ended (written old) (written new) punch status is writes.bytes
+  ending_answer written faults refusals {old} {new} punch status failed wanted (cut_off cause is writes) =
+      ended_early (written old) (written new) punch status cause is (λ e. failed (writes.cause.failed (ap (λ s. Err s) e))) (λ e. wanted (writes.cause.no_memory (ap (λ s. Err s) e))) writes.bytes

@@ -1,2 +1,4 @@
 pub mod Ending_answers
 pub mod May_end
+pub mod Why
+pub mod Truth

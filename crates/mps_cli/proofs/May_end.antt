@@ -1,22 +1,65 @@
--- A job may end with what stops it.
+-- How a job may end, whatever fails.
 use Rattle.std.proofs.Common.{◌≡◌, ℕ, List, [], Option, Some, refl, subst}
+use Rattle.listing_definitions.specs.Report.{Report}
+use Rattle.listing_definitions.specs.Ending.{Ending}
 use Rattle.question_definitions.specs.Solving.{Solving}
-use Rattle.run_definitions.specs.Answer.{Read, MayEnd, read_fails, by_itself, card_fault, control_fault, memory_at_start}
+use Rattle.run_definitions.specs.Answer.{Job, Read, Failures, Answer, MayEnd, words_refused, read_fails, by_itself, memory_at_start, memory_in_run, memory_at_punch, punch_fails, IsPossibleListing, IsCutShort, IsAnswer, IsAnswered, whole, print_fails, print_wants_memory, card_fault, control_fault}
 use Rattle.mps_cli.specs.declared.prepare.Prepared.{Prepared}
 use Rattle.mps_cli.specs.declared.stop.Stop.{Stop}
 use Rattle.mps_cli.specs.declared.stop.Stop.TheVariants.{Words, ReadFault, Card, Control, Memory}
 use Rattle.mps_cli.specs.Stops.{stop_shown, Tells, ArePrepared}
+use Rattle.mps_cli.specs.Causes.{HasStopCause}
 
-module _ (S : Solving) (bytes : List ℕ) where
-  told : (stop : Stop) → Tells (Some bytes) stop → MayEnd S (Read bytes) [] [] (stop_shown stop)
-  told Words tells = absurd tells
-  told ReadFault tells = read_fails bytes refl
-  told (Card fault) tells = by_itself bytes refl (card_fault fault tells)
-  told (Control fault) tells = by_itself bytes refl (control_fault fault tells.0 tells.1)
-  told Memory tells = memory_at_start
+-- ---- a job may end with what stops it
 
-  pub may_stop : {known : Option (List ℕ)} (stop : Stop) → known ≡ Some bytes → Tells known stop → MayEnd S (Read bytes) [] [] (stop_shown stop)
-  may_stop stop is tells = told stop (subst (λ (k : Option (List ℕ)). Tells k stop) is tells)
+module _ (S : Solving) (bytes : List ℕ) (failures : Failures) (is_read : Type 0) where
+  told : (stop : Stop) → Tells (Some bytes) stop → HasStopCause failures.read is_read stop → MayEnd S (Read bytes) failures [] [] (stop_shown stop)
+  told Words tells cause = absurd tells
+  told ReadFault tells cause = read_fails bytes refl cause
+  told (Card fault) tells cause = by_itself bytes refl (card_fault fault tells)
+  told (Control fault) tells cause = by_itself bytes refl (control_fault fault tells.0 tells.1)
+  told Memory tells cause = memory_at_start
+
+  pub may_stop : {known : Option (List ℕ)} (stop : Stop) → known ≡ Some bytes → Tells known stop → HasStopCause failures.read is_read stop → MayEnd S (Read bytes) failures [] [] (stop_shown stop)
+  may_stop stop is tells cause = told stop (subst (λ (k : Option (List ℕ)). Tells k stop) is tells) cause
 
 pub prepared_of : (bytes : List ℕ) {known : Option (List ℕ)} (prepared : Prepared) → known ≡ Some bytes → ArePrepared known prepared → ArePrepared (Some bytes) prepared
 prepared_of bytes prepared is are = subst (λ (k : Option (List ℕ)). ArePrepared k prepared) is are
+
+-- ---- what is an answer where some things have failed is one where others have failed too
+
+module _ (S : Solving) (job : Job) (some others : Failures) (read : some.read → others.read) (print : some.print → others.print) (punch : some.punch → others.punch) (memory : some.memory → others.memory) where
+  ends : (reports : List Report) (cards : List (List ℕ)) (ending : Ending) → MayEnd S job some reports cards ending → MayEnd S job others reports cards ending
+  ends _ _ _ (words_refused is) = words_refused is
+  ends _ _ _ (read_fails bytes is failed) = read_fails bytes is (read failed)
+  ends _ _ _ (by_itself bytes is runs) = by_itself bytes is runs
+  ends _ _ _ memory_at_start = memory_at_start
+  ends _ _ _ (memory_in_run bytes program state is so_far) = memory_in_run bytes program state is so_far
+  ends _ _ _ (memory_at_punch bytes program state deck is so_far punching) = memory_at_punch bytes program state deck is so_far punching
+  ends _ _ _ (punch_fails bytes program state deck failed is so_far punching) = punch_fails bytes program state deck (punch failed) is so_far punching
+
+  cut_short : (answer : Answer) → IsCutShort S job some answer → IsCutShort S job others answer
+  cut_short answer cut =
+      let possible = cut.is_possible in
+      record {
+        text = cut.text;
+        deck_text = cut.deck_text;
+        is_possible = record {
+          reports = possible.reports;
+          cards = possible.cards;
+          ending = possible.ending;
+          may_end = ends possible.reports possible.cards possible.ending possible.may_end;
+          is_listing = possible.is_listing;
+          is_deck_text = possible.is_deck_text;
+        };
+        print_front = cut.print_front;
+        punch_front = cut.punch_front;
+      }
+
+  answers : (answer : Answer) → IsAnswer S job some answer → IsAnswer S job others answer
+  answers answer (whole {reports} {cards} ending may_end status printed punched) = whole ending (ends reports cards ending may_end) status printed punched
+  answers answer (print_fails failed status cut) = print_fails (print failed) status (cut_short answer cut)
+  answers answer (print_wants_memory wanted status cut) = print_wants_memory (memory wanted) status (cut_short answer cut)
+
+  pub answered_too : (status : ℕ) (PrintGains PunchGains : List ℕ → Type 0) → IsAnswered S job some status PrintGains PunchGains → IsAnswered S job others status PrintGains PunchGains
+  answered_too status PrintGains PunchGains is = (is.0, is.1, is.2, is.3, answers (record { status = status; printed = is.0; punched = is.1 }) is.4)

@@ -1,19 +1,32 @@
--- Why a job ends with a status, told by the words and by the counts of the devices alone.
-use Rattle.std.specs.Prelude.{◌≡◌, ℕ, ◌<◌}
+-- Why a job ends with a status, told by the words and by what the devices count and gain.
+--     HasCause words .. status     why a job ends with a status
+--     HasStopCause .. stop         why the program of a job isn't run
+use Rattle.std.specs.Prelude.{◌≡◌, ◌⊎◌, ℕ, ◌<◌, List}
+use Rattle.listing_definitions.specs.Ending.{Ending, WordsRefused}
+use Rattle.listing_definitions.specs.Ending as endings
+use Rattle.listing_definitions.specs.Listing.{ending_text}
 use Rattle.control_run.specs.declared.status.Status.{Status}
 use Rattle.control_run.specs.declared.status.Status.TheVariants.{Words, ReadFault, PrintFault, PunchFault, Memory}
 use Rattle.mps_cli.specs.declared.stop.Stop.{Stop}
 use Rattle.mps_cli.specs.declared.stop.Stop.TheVariants as stop
 
+-- Where a write to the print fails, the job is read before; unless what was being printed is that the words are refused, that a read
+-- has failed, or that there is no memory: then all that the print has gained is a front of that line.
+pub data IsPrintedAfter (words : ℕ) (read_failed is_read : Type 0) (GainsFrontOf : List ℕ → Type 0) : Type 0 where
+  reading : words ≡ 0 → is_read → IsPrintedAfter words read_failed is_read GainsFrontOf
+  refused_words : 0 < words → GainsFrontOf (ending_text WordsRefused) → IsPrintedAfter words read_failed is_read GainsFrontOf
+  a_read_fault : words ≡ 0 → read_failed → GainsFrontOf (ending_text endings.ReadFault) → IsPrintedAfter words read_failed is_read GainsFrontOf
+  no_memory : words ≡ 0 → GainsFrontOf (ending_text endings.Memory) → IsPrintedAfter words read_failed is_read GainsFrontOf
+
 -- The words are refused where there are any. Without words the job is read, and a read may fail; whatever else ends the job comes
--- behind the reading of the whole job. A write to the print may fail, and memory may be wanted, at any time. Nothing is punched.
-abbrev pub HasCause : ℕ → Type 0 → Type 0 → Type 0 → Status → Type 0
-HasCause words read_failed is_read print_failed Words = 0 < words
-HasCause words read_failed is_read print_failed ReadFault = (words ≡ 0) × read_failed
-HasCause words read_failed is_read print_failed PrintFault = print_failed
-HasCause words read_failed is_read print_failed PunchFault = ⊥
-HasCause words read_failed is_read print_failed Memory = Unit {0}
-HasCause words read_failed is_read print_failed status = (words ≡ 0) × is_read
+-- after the reading of the whole job. A write to the print may fail, and memory may be wanted, at any time. Nothing is punched.
+abbrev pub HasCause : ℕ → Type 0 → Type 0 → Type 0 → (List ℕ → Type 0) → Status → Type 0
+HasCause words read_failed is_read print_failed GainsFrontOf Words = 0 < words
+HasCause words read_failed is_read print_failed GainsFrontOf ReadFault = (words ≡ 0) × read_failed
+HasCause words read_failed is_read print_failed GainsFrontOf PrintFault = print_failed × IsPrintedAfter words read_failed is_read GainsFrontOf
+HasCause words read_failed is_read print_failed GainsFrontOf PunchFault = ⊥
+HasCause words read_failed is_read print_failed GainsFrontOf Memory = Unit {0}
+HasCause words read_failed is_read print_failed GainsFrontOf status = (words ≡ 0) × is_read
 
 -- why the program of a job that is read isn't run
 abbrev pub HasStopCause : Type 0 → Type 0 → Stop → Type 0
@@ -22,9 +35,3 @@ HasStopCause read_failed is_read stop.ReadFault = read_failed
 HasStopCause read_failed is_read (stop.Card fault) = is_read
 HasStopCause read_failed is_read (stop.Control fault) = is_read
 HasStopCause read_failed is_read stop.Memory = Unit {0}
-
--- A job that is to end with a status ends so, unless the print fails or wants memory.
-abbrev pub IsStatusAt : Status → Type 0 → Status → Type 0
-IsStatusAt status print_failed PrintFault = print_failed
-IsStatusAt status print_failed Memory = Unit {0}
-IsStatusAt status print_failed end = end ≡ status

@@ -1,2 +1,4 @@
 pub mod Stops
+pub mod Endings
 pub mod Causes
+pub mod Asked

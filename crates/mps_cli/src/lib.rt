@@ -5,8 +5,6 @@ mod end;
 mod prepare;
 mod run;
 mod stop;
-#[cfg(test)]
-mod tests;
 
 pub use control_run::Status;
 pub use run::run_job;

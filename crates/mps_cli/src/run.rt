@@ -1,12 +1,14 @@
 // The top call.
-ghost use Rattle.std.specs.Prelude.{◌≡◌, ◌<◌, ℕ, List, Some, length};
+ghost use Rattle.std.specs.Prelude.{◌≡◌, ◌<◌, length};
 ghost use Rattle.std.specs.Io.KnownBytes.{Appends};
 ghost use Rattle.job_devices.specs.Causes.{Rose};
+ghost use Rattle.job_devices.specs.Text.{AppendsFront};
 ghost use Rattle.card_reader.specs.Reading.{ReadsFront, ReadsJob};
-ghost use Rattle.run_definitions.specs.Answer.{WithoutBytes, Read, IsAnswered};
+ghost use Rattle.run_definitions.specs.Answer.{Job};
+ghost use Rattle.run_laws.specs.Headline.{IsTrueAnswer};
 ghost use Rattle.control_run.specs.Stage.{stage};
 ghost use Rattle.control_run.specs.Ends.{code_of};
-ghost use Rattle.listing_laws.specs.Outright.{TellsTruth};
+ghost use Rattle.mps_cli.specs.Asked.{IsAsked};
 ghost use Rattle.mps_cli.specs.Causes.{HasCause};
 
 use crate::end::end_job;
@@ -18,15 +20,11 @@ use std::alloc::Global;
 
 /// Runs a job: reads it, compiles its control program, runs it and prints the listing, and answers how the job ended.
 ///
-/// The words are those behind the program's name; none is accepted yet, and where there are any the job isn't read. The job
+/// The words are those after the program's name; none is accepted yet, and where there are any the job isn't read. The job
 /// is read to its end, or as far as byte 16,400,001.
 ///
-/// Behind a fault of the print, or where the print wants memory, nothing more is printed. Want of memory may end a job at
+/// After a fault of the print, or where the print wants memory, nothing more is printed. Want of memory may end a job at
 /// any time.
-///
-/// What it prints of linear programs is true: in each listing that a job may have, and so in each of which an answer is made, SOLUTION
-/// with the mark OPTIMAL shows a feasible point that no feasible point betters, with prices that prove it, and each verdict of PRIMAL
-/// is true.
 pub fn run_job<S: Source, P: Sink, U: Sink>(
     alloc: Global,
     words: &[String],
@@ -34,16 +32,30 @@ pub fn run_job<S: Source, P: Sink, U: Sink>(
     print: &mut P,
     punch: &mut U,
 ) -> Status
-    ensures words { 0 < length words.now →
-        IsAnswered stage WithoutBytes (Rose (P.refusals print.old) (P.refusals print.new)) (code_of result) (Appends (P.written print.old) (P.written print.new)) (Appends (U.written punch.old) (U.written punch.new)) }
-    ensures answer { (bytes : List ℕ) → length words.now ≡ 0 → S.left job.old ≡ Some bytes →
-        IsAnswered stage (Read bytes) (Rose (P.refusals print.old) (P.refusals print.new)) (code_of result) (Appends (P.written print.old) (P.written print.new)) (Appends (U.written punch.old) (U.written punch.new)) }
-
-    // What a listing is worth: each report of every listing that a job may have holds.
-    ensures truth { TellsTruth stage }
+    // The headline. The printed bytes are the listing of a run of this job's control program, or of its early stop, or a front
+    // of that listing, as the status says; and each report of this run holds of the state in which it was made: a SOLUTION
+    // OPTIMAL is a feasible point that no feasible point betters, with prices that prove it; a verdict OPTIMAL has the
+    // objective of such a point; a verdict of infeasibility prints a crossed variable or a ray, and one of unboundedness a
+    // feasible point with a direction, and these prove it. So it is wherever the words, or the source, tell the job.
+    ensures headline { (asked : Job) → IsAsked (length words.now) (S.left job.old) asked →
+        IsTrueAnswer stage asked
+        (record {
+          read = Rose (S.faults job.old) (S.faults job.new);
+          print = Rose (P.faults print.old) (P.faults print.new);
+          punch = Rose (U.faults punch.old) (U.faults punch.new);
+          memory = Rose (P.refusals print.old) (P.refusals print.new);
+        })
+        (code_of result)
+        (Appends (P.written print.old) (P.written print.new))
+        (Appends (U.written punch.old) (U.written punch.new)) }
 
     // Why, also where the devices don't tell their bytes.
-    ensures cause { HasCause (length words.now) (Rose (S.faults job.old) (S.faults job.new)) (ReadsJob (S.left job.old) (S.left job.new)) (Rose (P.faults print.old) (P.faults print.new)) result }
+    ensures cause { HasCause (length words.now)
+        (Rose (S.faults job.old) (S.faults job.new))
+        (ReadsJob (S.left job.old) (S.left job.new))
+        (Rose (P.faults print.old) (P.faults print.new))
+        (AppendsFront (P.written print.old) (P.written print.new))
+        result }
 
     // How far the job is read, and what stays the same.
     ensures no_further { ReadsFront (S.left job.old) (S.left job.new) }

@@ -1,12 +1,11 @@
-use Rattle.control_run.specs.Stage.{stage}
 use Rattle.report_text.specs.Shown.{ending_shown}
 use Rattle.mps_cli.proofs.Ending_answers.{end_printed, end_cut}
 use Rattle.mps_cli.proofs.end.end_job.Goals as goal
 
-pub returns-in-Ok-clause-answer : goal.returns-in-Ok-clause-answer
-returns-in-Ok-clause-answer g c =
-    end_printed stage g.P.Sink.written g.P.Sink.faults g.P.Sink.refusals (ending_shown c.ending.result) c.args.stop c.ending.ensures.shown c.status.result c.status.ensures c.in-Ok.ensures
+pub returns-in-Ok : goal.returns-in-Ok
+returns-in-Ok g c =
+    end_printed g.P.Sink.written g.P.Sink.faults g.P.Sink.refusals (ending_shown c.ending.result) c.args.stop c.ending.ensures.shown c.status.result c.status.ensures c.in-Ok.ensures
 
-pub returns-in-Err-clause-answer : goal.returns-in-Err-clause-answer
-returns-in-Err-clause-answer g c =
-    end_cut stage g.P.Sink.written g.P.Sink.faults g.P.Sink.refusals (ending_shown c.ending.result) c.args.stop c.ending.ensures.shown c.status_of_cut.result c.in-Err.cut c.status_of_cut.ensures c.in-Err.ensures
+pub returns-in-Err : goal.returns-in-Err
+returns-in-Err g c =
+    end_cut g.P.Sink.written g.P.Sink.faults g.P.Sink.refusals (ending_shown c.ending.result) c.args.stop c.ending.ensures.shown c.in-Err.cut c.status_of_cut.result c.status_of_cut.ensures c.in-Err.ensures

@@ -1,27 +1,43 @@
-use Rattle.std.proofs.Common.{refl}
-use Rattle.run_definitions.specs.Answer.{WithoutBytes, Read, words_refused}
-use Rattle.control_run.specs.Stage.{stage}
-use Rattle.listing_laws.proofs.Outright.{stage_tells_truth}
-use Rattle.mps_cli.proofs.May_end.{may_stop, prepared_of}
+use Rattle.std.proofs.Common.{rules, refl, length}
+use Rattle.job_devices.specs.Causes.{Rose}
+use Rattle.job_devices.specs.Text.{AppendsFront}
+use Rattle.card_reader.specs.Reading.{ReadsJob}
+use Rattle.run_definitions.specs.Answer.{Read}
+use Rattle.mps_cli.specs.declared.stop.Stop.TheVariants.{Words}
+use Rattle.mps_cli.proofs.May_end.{prepared_of}
+use Rattle.mps_cli.proofs.Why.{why, ending_cause, run_cause}
+use Rattle.mps_cli.proofs.Truth.{words_headline, stop_headline, run_headline}
 use Rattle.mps_cli.proofs.run.run_job.Goals as goal
 
-pub returns-then-not-is_empty-clause-words : goal.returns-then-not-is_empty-clause-words
-returns-then-not-is_empty-clause-words g c some = c.end_job.ensures.answer WithoutBytes (g.U.Sink.written c.args.punch.now) (words_refused refl)
+-- ---- the words are refused
 
-pub returns-in-Ok-clause-answer : goal.returns-in-Ok-clause-answer
-returns-in-Ok-clause-answer g c bytes none known =
+pub returns-then-not-is_empty-clause-headline : goal.returns-then-not-is_empty-clause-headline
+returns-then-not-is_empty-clause-headline g c =
+    words_headline (length c.args.words.now) _ c.end_job.result g.P.Sink.written g.P.Sink.faults g.P.Sink.refusals _ _ (g.U.Sink.written c.args.punch.now) (search rules) c.end_job.ensures
+
+-- ---- the program is run
+
+pub returns-in-Ok-clause-headline : goal.returns-in-Ok-clause-headline
+returns-in-Ok-clause-headline g c =
+    run_headline (length c.args.words.now) _ c.run_program.result _ _ _ _ _ _ (search rules) (λ bytes known.
     let are = prepared_of bytes c.in-Ok.prepared known c.in-Ok.ensures.prepared in
-    c.run_program.ensures.answer (Read bytes) bytes refl are.1 are.0
+    c.run_program.ensures.answer (Read bytes) bytes refl are.1 are.0)
 
-pub returns-in-Err-clause-answer : goal.returns-in-Err-clause-answer
-returns-in-Err-clause-answer g c bytes none known =
-    c.end_job-in-Err.ensures.answer (Read bytes) (g.U.Sink.written c.args.punch.now) (may_stop stage bytes c.in-Err.stop known c.in-Err.ensures.stop)
+pub returns-in-Ok-clause-cause : goal.returns-in-Ok-clause-cause
+returns-in-Ok-clause-cause g c =
+    run_cause (length c.args.words.now) _ _ _ _ c.run_program.result (search rules) c.in-Ok.ensures.read c.run_program.ensures.own c.run_program.ensures.print_fault
 
-pub returns-then-not-is_empty-clause-truth : goal.returns-then-not-is_empty-clause-truth
-returns-then-not-is_empty-clause-truth g c = stage_tells_truth
+-- ---- the job isn't read, or its program isn't compiled
 
-pub returns-in-Ok-clause-truth : goal.returns-in-Ok-clause-truth
-returns-in-Ok-clause-truth g c = stage_tells_truth
+pub returns-in-Err-clause-headline : goal.returns-in-Err-clause-headline
+returns-in-Err-clause-headline g c =
+    stop_headline (length c.args.words.now) _ c.end_job-in-Err.result g.P.Sink.written g.P.Sink.faults g.P.Sink.refusals _ _ (g.U.Sink.written c.args.punch.now) _ c.in-Err.stop (search rules) c.in-Err.ensures.stop c.in-Err.ensures.cause c.end_job-in-Err.ensures
 
-pub returns-in-Err-clause-truth : goal.returns-in-Err-clause-truth
-returns-in-Err-clause-truth g c = stage_tells_truth
+pub returns-in-Err-clause-cause : goal.returns-in-Err-clause-cause
+returns-in-Err-clause-cause g c =
+    ending_cause (length c.args.words.now) _ _ g.P.Sink.written g.P.Sink.faults g.P.Sink.refusals c.in-Err.stop c.end_job-in-Err.result
+    (why (length c.args.words.now) _ _ c.in-Err.stop (search rules) c.in-Err.ensures.cause) c.end_job-in-Err.ensures
+
+pub returns-then-not-is_empty-clause-cause : goal.returns-then-not-is_empty-clause-cause
+returns-then-not-is_empty-clause-cause g c =
+    ending_cause (length c.args.words.now) _ _ g.P.Sink.written g.P.Sink.faults g.P.Sink.refusals Words c.end_job.result (search rules) c.end_job.ensures
