@@ -1,6 +1,8 @@
 ghost use Rattle.std.specs.Prelude.{◌≡◌, IfOk, None};
 
-use super::*;
+use frac128::Frac;
+use lp_model::{Basis, Change, Entry, Evidence, Lp, NoMemory, Sense, Status, Stop};
+use std::alloc::{AllocError, Global};
 use std::test::Fail;
 
 /// The least x where x is at least 1: a row of costs, a row with the lower limit 1, and the column of x.

@@ -1,9 +1,9 @@
 ghost use Rattle.std.specs.Prelude.{◌≡◌, IfOk};
 ghost use Rattle.lp_definitions.specs.LinearProgram.{size};
 
-use super::*;
-use frac128::{Op, Refused};
-use lp_model::{Entry, Sense};
+use certificate_check::{Verdict, check_crossed, check_infeasible, check_optimal, check_unbounded};
+use frac128::{Frac, Op, Refused};
+use lp_model::{Entry, Lp, Sense};
 use std::alloc::{AllocError, Global};
 use std::test::Fail;
 
