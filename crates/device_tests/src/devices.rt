@@ -1,4 +1,7 @@
-use super::*;
+use job_devices::{
+    Failed, MemorySink, MemorySource, Sink, Source, StreamSink, StreamSource, SureSink, WriteStop,
+    put_all, put_each,
+};
 use std::io::{self, ErrorKind, Read, Write};
 use std::test::Fail;
 
@@ -9,7 +12,7 @@ enum Step {
     Fail(ErrorKind),
 }
 
-// Gives so many letters at each step, or fails, and is at its end behind the last.
+// Gives so many letters at each step, or fails, and is at its end after the last.
 #[derive(Drop)]
 struct FakeReader<'a> {
     steps: &'a [Step],
@@ -34,7 +37,7 @@ impl Read for FakeReader<'_> {
     }
 }
 
-// Takes as many bytes at each step as it says, or fails. Behind the last step it takes all.
+// Takes as many bytes at each step as it says, or fails. After the last step it takes all.
 #[derive(Drop)]
 struct FakeWriter<'a> {
     writes: &'a [Step],
@@ -80,7 +83,7 @@ fn a_listed_read_fails_and_the_next_goes_on(rt: HostRuntime) -> Result<(), Fail>
 }
 
 #[test]
-fn pieces_stand_behind_each_other(rt: HostRuntime) -> Result<(), Fail> {
+fn pieces_stand_one_after_another(rt: HostRuntime) -> Result<(), Fail> {
     let mut sink = SureSink::new(rt.alloc())?;
     put_each(&mut sink, &[b"END ", b"0", b"\n"])?;
     assert_eq!(rt; sink.bytes(), b"END 0\n".as_slice());
