@@ -1,3 +1,4 @@
 pub mod Single
 pub mod Lists
+pub mod Bounds
 pub mod Examples
