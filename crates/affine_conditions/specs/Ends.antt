@@ -4,11 +4,15 @@
 --     end_of b                     that end
 --     IsOnSide high end x          x is at most the end, or at least
 --     IsBetweenEnds ends x         x lies between the ends that are there
+--     IsRefused b refused          the quotient of the bound is refused
 --     IsTightened ends b now       between the ends now lie those between the earlier ones that meet b, and each end is an earlier one
 --                                  or that of b
-use Rattle.std.specs.Prelude.{◌≡◌, ◌↔◌, ◌⊎◌, Bool, true, false, not, Option, Some, IfSome, if◌then◌else◌}
+use Rattle.std.specs.Prelude.{◌≡◌, ◌↔◌, ◌⊎◌, Bool, true, false, not, Option, Some, IfSome, if◌then◌else◌, IsTrue}
 use Rattle.exact_values.specs.Rational.{ℚ, zero_ℚ, ◌*ℚ◌, ◌/ℚ◌, ◌≤ℚ◌}
 use Rattle.exact_values.specs.Tests.{lt_ℚ}
+use Rattle.frac128.specs.Operations.{refuses}
+use Rattle.frac128.specs.declared.Op.TheVariants.{Div}
+use Rattle.frac128.specs.declared.Refused.{Refused}
 use Rattle.affine_conditions.specs.declared.tightening.Bound.{Bound}
 use Rattle.affine_conditions.specs.declared.tightening.End.{End}
 use Rattle.affine_conditions.specs.declared.tightening.Ends.{Ends}
@@ -50,3 +54,7 @@ pub record IsTightened (ends : Ends) (b : Bound) (now : Ends) : Type 0 where
   pub exact : (x : ℚ) → IsBetweenEnds now x ↔ (IsBetweenEnds ends x × Meets b x)
   pub low : IsEither b ends.low now.low
   pub high : IsEither b ends.high now.high
+
+pub record IsRefused (b : Bound) (refused : Refused) : Type 0 where
+  pub is_quotient : refused ≡ record { op = Div; left = b.number; right = b.slope }
+  pub decided : IsTrue (refuses Div b.number b.slope)

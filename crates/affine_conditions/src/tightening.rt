@@ -2,9 +2,9 @@
 
 ghost use Rattle.std.specs.Prelude.{◌≡◌, ◌≢◌, ◌↔◌, IsTrue, IfOk, IfErr};
 ghost use Rattle.exact_values.specs.Rational.{zero_ℚ, ◌≤ℚ◌};
-ghost use Rattle.affine_conditions.specs.Ends.{Meets, MeetsBy, is_high, end_of, IsOnSide, IsNearer, IsTightened};
+ghost use Rattle.affine_conditions.specs.Ends.{Meets, MeetsBy, is_high, end_of, IsOnSide, IsNearer, IsRefused, IsTightened};
 
-use frac128::{Frac, Op, Refused};
+use frac128::{Frac, Refused};
 
 /// An end of an interval, and the numbers of the bound that it comes from.
 #[derive(Clone, Copy, Debug)]
@@ -73,7 +73,7 @@ fn keeps_below(bound: &Bound) -> bool
 fn made_by(bound: &Bound) -> Result<End, Refused>
     requires { bound.now.slope ≢ zero_ℚ }
     ensures value { IfOk result (λ made. made ≡ end_of bound.now) }
-    ensures refused { IfErr result (λ refused. refused ≡ record { op = Op.Div; left = bound.now.number; right = bound.now.slope }) }
+    ensures refused { IfErr result (IsRefused bound.now) }
 {
     let value = bound.number.div(bound.slope)?;
     Ok(End {
@@ -98,7 +98,7 @@ fn nearer(kept: Option<End>, high: bool, bound: &Bound) -> Result<Option<End>, R
     requires slope { bound.now.slope ≢ zero_ℚ }
     requires side { high ≡ is_high bound.now }
     ensures nearer { IfOk result (IsNearer high bound.now kept) }
-    ensures refused { IfErr result (λ refused. refused ≡ record { op = Op.Div; left = bound.now.number; right = bound.now.slope }) }
+    ensures refused { IfErr result (IsRefused bound.now) }
 {
     let Some(present) = kept else {
         let made = made_by(bound)?;
@@ -118,7 +118,7 @@ fn nearer(kept: Option<End>, high: bool, bound: &Bound) -> Result<Option<End>, R
 pub fn tightened(ends: Ends, bound: &Bound) -> Result<Ends, Refused>
     requires { bound.now.slope ≢ zero_ℚ }
     ensures tightened { IfOk result (IsTightened ends bound.now) }
-    ensures refused { IfErr result (λ refused. refused ≡ record { op = Op.Div; left = bound.now.number; right = bound.now.slope }) }
+    ensures refused { IfErr result (IsRefused bound.now) }
 {
     if keeps_below(bound) {
         let high = nearer(ends.high, true, bound)?;
