@@ -31,18 +31,20 @@ use Rattle.selection_definitions.specs.Selection.{selected}
 use Rattle.listing_definitions.specs.declared.Mark.{Mark}
 use Rattle.listing_definitions.specs.declared.Mark.TheVariants.{Optimal, Infeasible, Unbounded}
 use Rattle.listing_definitions.specs.declared.VerbFault.{VerbFault}
-use Rattle.listing_definitions.specs.Report.{SolutionLines, RangeLines, Report, Converted, Solution, Ranges}
+use Rattle.listing_definitions.specs.Report.{SolutionLines, RangeLines, Report, Converted, Revised, Solution, Ranges}
 use Rattle.listing_definitions.specs.Ending.{Place}
 use Rattle.question_definitions.specs.Answers.{Basis, Sheet, Changing, Sweep, Question, Answer, OfPath, OfSolution, OfRanges, OfSweep, PathEnd, Reached, PathLimit, SweepEnd, Opening, Chained, SweepLimit}
 use Rattle.question_definitions.specs.Solving.{Solving, IsRight}
 use Rattle.control_definitions.specs.Cells.{Cells, move_name, move_number, set_demand}
 use Rattle.run_definitions.specs.State.{Present, present_basis, gone_through, State, problem_of, choice_of}
 use Rattle.run_definitions.specs.Moves.{Outcome, Goes, Ends, Refusals, Move, Does, MayStop, Asks, Gives, or_fault}
-use Rattle.run_definitions.specs.Verbs.{or_deck_fault, or_selection_fault, files, selects, not_less, change_row, change_set, asks, demanded, by_verdict, if_optimal, after_path, after_sweep, shows_present, solves, shows, ranges, sweeps, converts, sets_up, punches, verb_move, if_built, statement_move}
+use Rattle.run_definitions.specs.Verbs.{revises, or_deck_fault, or_selection_fault, files, selects, not_less, change_row, change_set, asks, demanded, by_verdict, if_optimal, after_path, after_sweep, shows_present, solves, shows, ranges, sweeps, converts, sets_up, punches, verb_move, if_built, statement_move}
 use Rattle.run_definitions.specs.Run.{counted, Step, Reaches, begun, stepped}
 use Rattle.run_definitions.specs.Answer.{IsSoFar}
 use Rattle.run_laws.specs.Laws.{FilesProblems}
 use Rattle.run_laws.proofs.Moves.{HasProblem}
+use Rattle.revise_definitions.specs.Revision.{revision}
+use Rattle.revise_laws.proofs.Revisions.{revision-problem}
 use Rattle.run_laws.proofs.Decks.{job_printable, taken_printable}
 use Rattle.run_laws.proofs.Named.{MovesName, HasNames, compiled_named, statement_at}
 
@@ -154,6 +156,24 @@ converts_led S card state lawful =
           name = lawful.name;
         })
 
+revises_led : (S : Solving) (card : ℕ) (state : State) → AreLawful state → IsLed S card (revises card state)
+revises_led S card state lawful =
+    unless_fault S card VerbFault.NoProblem (problem_of state.cells.xoldname state.file) _ (λ old o.
+    unless_fault {X = List Card × List (List Card)} S card VerbFault.DeckNotFound (deck_taken state.cells.xdata state.decks) _ (λ taken e.
+    unless_deck_fault S card (revision old taken.0 state.cells.xpbname) (files Revised taken.1 state) (λ problem is.
+    files_revised old (filed state.cells.xoldname state.file old lawful.file o) taken e problem is)))
+  where
+    files_revised : (old : Problem ℕ) → IsProblem old → (taken : List Card × List (List Card)) → deck_taken state.cells.xdata state.decks ≡ Some taken → (problem : Problem ℕ) →
+        revision old taken.0 state.cells.xpbname ≡ Ok problem → IsLed S card (files Revised taken.1 state problem)
+    files_revised old was taken e problem is =
+        let printable = taken_printable state.cells.xdata state.decks taken lawful.decks e in
+        does S card _ (record {
+          file = (revision-problem old taken.0 state.cells.xpbname problem was printable.0 lawful.name is, lawful.file);
+          setup = without_setup;
+          decks = printable.1;
+          name = lawful.name;
+        })
+
 sets_up_led : (S : Solving) (card : ℕ) (options : SetupOptions) (state : State) → AreLawful state → IsLed S card (sets_up card options state)
 sets_up_led S card options state lawful =
     unless_fault S card VerbFault.NoProblem (problem_of state.cells.xpbname state.file) _ (λ problem e.
@@ -219,53 +239,52 @@ module _ (S : Solving) where
       unless_fault {X = ℚ} S card VerbFault.ParmaxBelow (not_less state.cells.xparam last) _ (λ to t.
       asked_led card present state lp (record { changing = changing; from = state.cells.xparam; to = to; limit = state.cells.xiterlim }) lawful (lawful.setup present e))))))
 
-  module _ (no_revise : S.builds Revise ≡ false) where
-    verb_led : (verb : Verb ℕ) (card : ℕ) (state : State) → MovesName verb → AreLawful state → S.builds verb ≡ true → IsLed S card (verb_move verb card state)
-    unfolding verb_move
-    verb_led Initialz card state names lawful built = does S card _ (record { file = lawful.file; setup = lawful.setup; decks = lawful.decks; name = tt })
-    verb_led (Title text) card state names lawful built = does S card _ (record { file = lawful.file; setup = lawful.setup; decks = lawful.decks; name = lawful.name })
-    verb_led (MoveName cell name) card state names lawful built = does S card _ (record { file = lawful.file; setup = lawful.setup; decks = lawful.decks; name = named cell name state.cells names lawful.name })
-    verb_led (MoveNumber cell value) card state names lawful built = does S card _ (record { file = lawful.file; setup = lawful.setup; decks = lawful.decks; name = numbered cell value state.cells lawful.name })
-    verb_led (MoveLimit limit) card state names lawful built = does S card _ (record { file = lawful.file; setup = lawful.setup; decks = lawful.decks; name = lawful.name })
-    verb_led (Mvadr demand position) card state names lawful built = does S card _ (record { file = lawful.file; setup = lawful.setup; decks = lawful.decks; name = demanding demand position state.cells lawful.name })
-    verb_led (Goto position) card state names lawful built = does S card _ (record { file = lawful.file; setup = lawful.setup; decks = lawful.decks; name = lawful.name })
-    verb_led Convert card state names lawful built = converts_led S card state lawful
-    verb_led Revise card state names lawful built = absurd (cc (no_revise, built))
-    verb_led (Setup options) card state names lawful built = sets_up_led S card options state lawful
-    verb_led Primal card state names lawful built = solves_led card state lawful
-    verb_led SolutionVerb card state names lawful built = shows_led card state lawful
-    verb_led Ranging card state names lawful built = ranges_led card state lawful
-    verb_led Paraobj card state names lawful built = sweeps_led card VerbFault.NoChangeRow change_row state.cells.xchrow state lawful
-    verb_led Pararhs card state names lawful built = sweeps_led card VerbFault.NoChangeSet change_set state.cells.xchcol state lawful
-    verb_led Bcdout card state names lawful built = punches_led S card state lawful
-    verb_led Exit card state names lawful built = does S card _ tt
+  verb_led : (verb : Verb ℕ) (card : ℕ) (state : State) → MovesName verb → AreLawful state → S.builds verb ≡ true → IsLed S card (verb_move verb card state)
+  unfolding verb_move
+  verb_led Initialz card state names lawful built = does S card _ (record { file = lawful.file; setup = lawful.setup; decks = lawful.decks; name = tt })
+  verb_led (Title text) card state names lawful built = does S card _ (record { file = lawful.file; setup = lawful.setup; decks = lawful.decks; name = lawful.name })
+  verb_led (MoveName cell name) card state names lawful built = does S card _ (record { file = lawful.file; setup = lawful.setup; decks = lawful.decks; name = named cell name state.cells names lawful.name })
+  verb_led (MoveNumber cell value) card state names lawful built = does S card _ (record { file = lawful.file; setup = lawful.setup; decks = lawful.decks; name = numbered cell value state.cells lawful.name })
+  verb_led (MoveLimit limit) card state names lawful built = does S card _ (record { file = lawful.file; setup = lawful.setup; decks = lawful.decks; name = lawful.name })
+  verb_led (Mvadr demand position) card state names lawful built = does S card _ (record { file = lawful.file; setup = lawful.setup; decks = lawful.decks; name = demanding demand position state.cells lawful.name })
+  verb_led (Goto position) card state names lawful built = does S card _ (record { file = lawful.file; setup = lawful.setup; decks = lawful.decks; name = lawful.name })
+  verb_led Convert card state names lawful built = converts_led S card state lawful
+  verb_led Revise card state names lawful built = revises_led S card state lawful
+  verb_led (Setup options) card state names lawful built = sets_up_led S card options state lawful
+  verb_led Primal card state names lawful built = solves_led card state lawful
+  verb_led SolutionVerb card state names lawful built = shows_led card state lawful
+  verb_led Ranging card state names lawful built = ranges_led card state lawful
+  verb_led Paraobj card state names lawful built = sweeps_led card VerbFault.NoChangeRow change_row state.cells.xchrow state lawful
+  verb_led Pararhs card state names lawful built = sweeps_led card VerbFault.NoChangeSet change_set state.cells.xchcol state lawful
+  verb_led Bcdout card state names lawful built = punches_led S card state lawful
+  verb_led Exit card state names lawful built = does S card _ tt
 
-    statement_led : (verb : Verb ℕ) (card : ℕ) (state : State) → MovesName verb → AreLawful state → IsLed S card (statement_move S verb card state)
-    statement_led verb card state names lawful = by (S.builds verb) refl
-      where
-        by : (built : Bool) → S.builds verb ≡ built → IsLed S card (if_built built (verb_move verb card state))
-        by true is = verb_led verb card state names lawful is
-        by false is = does S card _ tt
+  statement_led : (verb : Verb ℕ) (card : ℕ) (state : State) → MovesName verb → AreLawful state → IsLed S card (statement_move S verb card state)
+  statement_led verb card state names lawful = by (S.builds verb) refl
+    where
+      by : (built : Bool) → S.builds verb ≡ built → IsLed S card (if_built built (verb_move verb card state))
+      by true is = verb_led verb card state names lawful is
+      by false is = does S card _ tt
 
-    -- ---- runs
+  -- ---- runs
 
-    step_leads : (program : Program) (state : State) (outcome : Outcome) → HasNames program → AreLawful state → Step S program state outcome → Leads outcome
-    step_leads program state outcome names lawful step =
-        (statement_led step.statement.verb step.statement.card (counted state) (statement_at program _ step.statement names step.is_at_position)
-        (record { file = lawful.file; setup = lawful.setup; decks = lawful.decks; name = lawful.name })).by outcome step.gives
+  step_leads : (program : Program) (state : State) (outcome : Outcome) → HasNames program → AreLawful state → Step S program state outcome → Leads outcome
+  step_leads program state outcome names lawful step =
+      (statement_led step.statement.verb step.statement.card (counted state) (statement_at program _ step.statement names step.is_at_position)
+      (record { file = lawful.file; setup = lawful.setup; decks = lawful.decks; name = lawful.name })).by outcome step.gives
 
-    reaching : (program : Program) (decks : List (List Card)) (reports : List Report) (cards : List (List ℕ)) (state : State) → HasNames program → AllByRecursion ArePrintable decks →
-        Reaches S program decks reports cards state → AreLawful state
-    reaching program decks _ _ _ names printable begun = record { file = tt; setup = without_setup; decks = printable; name = tt }
-    reaching program decks _ _ _ names printable (stepped {reports} {cards} {state} gain after before step) =
-        step_leads program state (Goes gain after) names (reaching program decks reports cards state names printable before) step
+  reaching : (program : Program) (decks : List (List Card)) (reports : List Report) (cards : List (List ℕ)) (state : State) → HasNames program → AllByRecursion ArePrintable decks →
+      Reaches S program decks reports cards state → AreLawful state
+  reaching program decks _ _ _ names printable begun = record { file = tt; setup = without_setup; decks = printable; name = tt }
+  reaching program decks _ _ _ names printable (stepped {reports} {cards} {state} gain after before step) =
+      step_leads program state (Goes gain after) names (reaching program decks reports cards state names printable before) step
 
-    pub job_reaching : (bytes : List ℕ) (program : Program) (reports : List Report) (cards : List (List ℕ)) (state : State) → IsSoFar S bytes reports cards program state → AreLawful state
-    job_reaching bytes program reports cards state so_far =
-        reaching program _ reports cards state (compiled_named _ program so_far.is_program.is_compiled) (job_printable bytes program so_far.is_program.is_read) so_far.reaches
+  pub job_reaching : (bytes : List ℕ) (program : Program) (reports : List Report) (cards : List (List ℕ)) (state : State) → IsSoFar S bytes reports cards program state → AreLawful state
+  job_reaching bytes program reports cards state so_far =
+      reaching program _ reports cards state (compiled_named _ program so_far.is_program.is_compiled) (job_printable bytes program so_far.is_program.is_read) so_far.reaches
 
-    pub files_problems : FilesProblems S
-    files_problems = record {
-      filed = λ bytes program reports cards state so_far. each-all IsProblem state.file (job_reaching bytes program reports cards state so_far).file;
-      set_up = λ bytes program reports cards state present so_far is. (job_reaching bytes program reports cards state so_far).setup present is;
-    }
+  pub files_problems : FilesProblems S
+  files_problems = record {
+    filed = λ bytes program reports cards state so_far. each-all IsProblem state.file (job_reaching bytes program reports cards state so_far).file;
+    set_up = λ bytes program reports cards state present so_far is. (job_reaching bytes program reports cards state so_far).setup present is;
+  }

@@ -46,14 +46,14 @@ outcome_holds : (state : State) (outcome : Outcome) → Keeps (counted state) ou
 outcome_holds state (Goes gain after) keeps = printed_holds state gain keeps.0
 outcome_holds state (Ends gain ending) keeps = printed_holds state gain keeps
 
-module _ (S : Solving) (solving : KnowsSolving S) (no_revise : S.builds Revise ≡ false) where
+module _ (S : Solving) (solving : KnowsSolving S) where
   step_keeps : (program : Program) (state : State) (outcome : Outcome) → HasProblem state.setup → Knows state → Step S program state outcome → Keeps (counted state) outcome
   step_keeps program state outcome lawful knows step =
       (statement_kept S solving step.statement.verb step.statement.card (counted state) lawful (record { marked = knows.marked; bases = knows.bases })).by outcome step.gives
 
   module _ (bytes : List ℕ) (program : Program) (is_program : IsProgramOf bytes program) where
     has_problem : (reports : List Report) (cards : List (List ℕ)) (state : State) → Reaches S program (job_decks program bytes) reports cards state → HasProblem state.setup
-    has_problem reports cards state reaches = (job_reaching S no_revise bytes program reports cards state (record { is_program = is_program; reaches = reaches })).setup
+    has_problem reports cards state reaches = (job_reaching S bytes program reports cards state (record { is_program = is_program; reaches = reaches })).setup
 
     known : (reports : List Report) (cards : List (List ℕ)) (state : State) → Reaches S program (job_decks program bytes) reports cards state → Knows state
     known _ _ _ begun = record { marked = unmarked _ _ _; bases = without_setup }

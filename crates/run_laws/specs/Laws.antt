@@ -64,8 +64,8 @@ pub record FilesProblems (S : Solving) : Type 0 where
   pub set_up : (bytes : List ℕ) (program : Program) (reports : List Report) (cards : List (List ℕ)) (state : State) (present : Present) →
       IsSoFar S bytes reports cards program state → state.setup ≡ Some present → IsProblem present.problem
 
--- where only some verbs are built, and REVISE isn't: where there are no parametric runs, or where these keep to bases
+-- whichever verbs are built: where there are no parametric runs, or where these keep to bases
 pub record RunLaws : Type 0 where
-  pub truth : (builds : Verb ℕ → Bool) → builds Revise ≡ false → builds Paraobj ≡ false → builds Pararhs ≡ false → TellsTruth (staged builds)
-  pub swept : (builds : Verb ℕ → Bool) → builds Revise ≡ false → SweepsKeepBases (staged builds) → TellsTruth (staged builds)
-  pub problems : (builds : Verb ℕ → Bool) → builds Revise ≡ false → FilesProblems (staged builds)
+  pub truth : (builds : Verb ℕ → Bool) → builds Paraobj ≡ false → builds Pararhs ≡ false → TellsTruth (staged builds)
+  pub swept : (builds : Verb ℕ → Bool) → SweepsKeepBases (staged builds) → TellsTruth (staged builds)
+  pub problems : (builds : Verb ℕ → Bool) → FilesProblems (staged builds)
