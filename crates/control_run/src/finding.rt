@@ -1,5 +1,5 @@
 // What PRIMAL and SOLUTION find, and what follows.
-ghost use Rattle.std.specs.Prelude.{◌≡◌, ◌≤◌, length, IfOk, OnErr};
+ghost use Rattle.std.specs.Prelude.{◌≡◌, ◌≤◌, length, IfOk};
 ghost use Rattle.lp_definitions.specs.Basis.{basics_of};
 ghost use Rattle.lp_definitions.specs.Waypoints.{waypoint};
 ghost use Rattle.bounded_primal.specs.Calls.{HasRates};

@@ -1,4 +1,19 @@
 // PRIMAL.
+ghost use Rattle.std.specs.Prelude.{◌≡◌, ℕ, List, None, IfSome, IfOk};
+ghost use Rattle.control_definitions.specs.Program as program;
+ghost use Rattle.lp_definitions.specs.Basis.{Basics};
+ghost use Rattle.question_definitions.specs.Answers as answers;
+ghost use Rattle.bounded_primal.specs.Calls.{HasRates};
+ghost use Rattle.report_text.specs.declared.sheet.Sheet as sheets;
+ghost use Rattle.report_text.specs.Sheets.{IsSheet};
+ghost use Rattle.report_text.specs.Verdicts.{IsOutcome, verdict_shown, check_shown};
+ghost use Rattle.present_answers.specs.Reports.{sheet_shown};
+ghost use Rattle.run_definitions.specs.Verbs.{mark_of};
+ghost use Rattle.control_run.specs.Stage.{stage};
+ghost use Rattle.control_run.specs.Standing.{AreDemands, IsReady, IsSelected, IsSound};
+ghost use Rattle.control_run.specs.Statements.{Executes};
+ghost use Rattle.control_run.specs.Findings.{PathReaches, PathFinds, Finds, Tells, refused_finding, IfEnded};
+
 use crate::act::{Act, Halt};
 use crate::finding::{Finding, act_of, mark_left, overflow_at};
 use crate::machine::{Machine, Setup};
@@ -6,7 +21,7 @@ use crate::selecting::{Refusal, select_present};
 use bounded_primal::PrimalStop;
 use job_devices::Sink;
 use listing_definitions::{Mark, Solver, VerbFault};
-use lp_model::{Basis, Lp, Outcome, Rates};
+use lp_model::{Basis, Outcome, Rates};
 use present_answers::{PathReport, path_from};
 use problem_file::ProblemFile;
 use report_text::{Report, Sheet, text_of};
@@ -15,6 +30,7 @@ use std::alloc::Global;
 
 // The mark that the verdict of an outcome leaves.
 fn mark_of(outcome: &Outcome) -> Mark
+    ensures { (sheet : sheets.Sheet) → result ≡ mark_of (verdict_shown sheet outcome.now) }
 {
     match outcome {
         Outcome::Optimal { .. } => Mark::Optimal,
@@ -25,6 +41,7 @@ fn mark_of(outcome: &Outcome) -> Mark
 
 // What a refusal comes to.
 fn refused(refusal: Refusal) -> Result<Finding, Halt>
+    ensures { result ≡ refused_finding refusal }
 {
     match refusal {
         Refusal::Fault(fault) => Ok(Finding::Refused(fault)),
@@ -42,6 +59,10 @@ fn print_verdict<P: Sink>(
     report: &PathReport,
     print: &mut P,
 ) -> Result<Finding, Halt>
+    requires { IsOutcome sheet report.now.outcome }
+    ensures { (s reached : answers.Basis) (limit : ℕ) (before after : List Basics) (bases : List answers.Basis) →
+        PathReaches (sheet_shown sheet.entry) s reached limit before after bases (verdict_shown sheet.entry report.now.outcome) (check_shown report.now.refused) →
+        Tells (PathFinds (sheet_shown sheet.entry) s reached limit before after) P.written P.faults P.refusals print.old print.new result }
 {
     let verdict = Report::Solved {
         by: Solver::Primal,
@@ -53,22 +74,6 @@ fn print_verdict<P: Sink>(
     Ok(Finding::Ended(mark_of(&report.outcome)))
 }
 
-// What stops a path.
-fn stopped<R: Rates>(
-    alloc: Global,
-    lp: &Lp,
-    basis: &Basis,
-    rates: &R,
-    stop: PrimalStop,
-) -> Result<Finding, Halt>
-{
-    match stop {
-        PrimalStop::Limit => Ok(Finding::Limit),
-        PrimalStop::Overflow(evidence) => overflow_at(alloc, lp, basis, rates, evidence),
-        PrimalStop::NoMemory => Err(Halt::NoMemory),
-    }
-}
-
 // Follows the path from a basis, and prints its verdict.
 fn follow<P: Sink, R: Rates>(
     alloc: Global,
@@ -78,10 +83,20 @@ fn follow<P: Sink, R: Rates>(
     limit: u32,
     print: &mut P,
 ) -> Result<Finding, Halt>
+    requires sheet { IsSheet sheet }
+    requires no_change { sheet.lp.now.change ≡ None }
+    requires rates { HasRates (R.matrix rates.old) (R.basics rates.old) sheet.lp.now basis.old }
+    ensures tells { Tells (PathFinds (sheet_shown sheet.entry) basis.old basis.new limit (R.waypoints rates.old) (R.waypoints rates.new))
+        P.written P.faults P.refusals print.old print.new result }
+    ensures rates { HasRates (R.matrix rates.new) (R.basics rates.new) sheet.entry.lp.now basis.new }
 {
     match path_from(alloc, sheet, basis, rates, limit) {
         Ok(report) => print_verdict(sheet, &report, print),
-        Err(stop) => stopped(alloc, sheet.lp, basis, rates, stop),
+        Err(PrimalStop::Limit) => Ok(Finding::Limit),
+        Err(PrimalStop::Overflow(evidence)) => {
+            overflow_at(alloc, sheet.lp, basis, rates, evidence)
+        }
+        Err(PrimalStop::NoMemory) => Err(Halt::NoMemory),
     }
 }
 
@@ -93,6 +108,11 @@ fn find<P: Sink>(
     setup: &mut Setup,
     print: &mut P,
 ) -> Result<Finding, Halt>
+    requires { IsReady file.now setup.old }
+    ensures tells { Tells (Finds cells.now file.now setup.old setup.new) P.written P.faults P.refusals print.old print.new result }
+    ensures ready { IsReady file.now setup.new }
+    ensures solved { IfOk result (λ finding. IfEnded finding (IsSelected cells.now file.now setup.new)) }
+    ensures kept { IsSelected cells.now file.now setup.old → IsSelected cells.now file.now setup.new }
 {
     let Some(problem) = file.get(&setup.name) else {
         return Ok(Finding::Refused(VerbFault::NoSetup));
@@ -125,6 +145,10 @@ pub fn solve<P: Sink>(
     print: &mut P,
     card: u32,
 ) -> Result<Act, Halt>
+    requires demands { AreDemands machine.old.cells }
+    requires ready { IfSome machine.old.setup (IsReady machine.old.file) }
+    ensures acts { (cards : List (List ℕ)) → Executes stage program.Primal card P.written P.faults P.refusals print.old print.new cards machine.old machine.new result }
+    ensures sound { (cards : List (List ℕ)) → IsSound cards machine.old → IsSound cards machine.new }
 {
     let Some(setup) = &mut machine.setup else {
         return Refusal::Fault(VerbFault::NoSetup).act(card);

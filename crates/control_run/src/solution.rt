@@ -1,16 +1,18 @@
 // SOLUTION.
-ghost use Rattle.std.specs.Prelude.{◌≡◌, ℕ, None, List};
-ghost use Rattle.lp_definitions.specs.Basis.{basics_of};
+ghost use Rattle.std.specs.Prelude.{◌≡◌, ℕ, None, Some, IfSome, List};
+ghost use Rattle.lp_definitions.specs.Basis.{Basics, basics_of};
 ghost use Rattle.lp_definitions.specs.Waypoints.{KeepsWaypoints};
 ghost use Rattle.control_definitions.specs.Program as program;
+ghost use Rattle.report_text.specs.Lines.{solution_lines};
 ghost use Rattle.report_text.specs.Sheets.{IsSheet};
 ghost use Rattle.bounded_primal.specs.Calls.{HasRates};
-ghost use Rattle.present_answers.specs.Answers.{sheet_shown};
+ghost use Rattle.answer_definitions.specs.Sections.{IsShown};
+ghost use Rattle.present_answers.specs.Answers.{sheet_shown, AreShown};
 ghost use Rattle.control_run.specs.Engine.{ways};
 ghost use Rattle.control_run.specs.Stage.{stage};
-ghost use Rattle.control_run.specs.Standing.{IsReady, IsSound, IsSelected};
+ghost use Rattle.control_run.specs.Standing.{IsReady, IsSelected, IsSound};
 ghost use Rattle.control_run.specs.Statements.{Executes};
-ghost use Rattle.control_run.specs.Findings.{Tells, LinesFound, IsShownOf};
+ghost use Rattle.control_run.specs.Findings.{Tells, LinesFound, Shows};
 
 use crate::act::{Act, Halt};
 use crate::finding::{Finding, act_of, overflow_at};
@@ -18,26 +20,11 @@ use crate::machine::{Machine, Setup};
 use crate::selecting::Refusal;
 use job_devices::Sink;
 use listing_definitions::{Mark, VerbFault};
-use lp_model::{Basis, Lp, Rates, Stop};
+use lp_model::{Basis, Rates, Stop};
 use present_answers::{Shown, solution_of};
 use problem_file::ProblemFile;
 use report_text::{Report, Sheet, text_of};
 use std::alloc::Global;
-
-// What stops the making of the lines.
-fn stopped<R: Rates>(
-    alloc: Global,
-    lp: &Lp,
-    basis: &Basis,
-    rates: &R,
-    stop: Stop,
-) -> Result<Finding, Halt>
-{
-    match stop {
-        Stop::Overflow(evidence) => overflow_at(alloc, lp, basis, rates, evidence),
-        Stop::NoMemory => Err(Halt::NoMemory),
-    }
-}
 
 // Prints the point and the prices of a basis.
 fn print_lines<P: Sink>(
@@ -47,6 +34,10 @@ fn print_lines<P: Sink>(
     shown: &Shown,
     print: &mut P,
 ) -> Result<Finding, Halt>
+    requires sheet { IsSheet sheet }
+    requires listed { AreShown sheet.lp.now basis.now shown.now }
+    requires shown { IsShown (sheet_shown sheet) basis.now (solution_lines sheet.problem.now sheet.lp.now basis.now shown.now.point shown.now.prices shown.now.slack.items) }
+    ensures { (before : List Basics) → Tells (LinesFound (sheet_shown sheet.entry) basis.now before mark) P.written P.faults P.refusals print.old print.new result }
 {
     let report = Report::Solution {
         mark,
@@ -69,10 +60,17 @@ fn show_basis<P: Sink, R: Rates>(
     mark: Mark,
     print: &mut P,
 ) -> Result<Finding, Halt>
+    requires sheet { IsSheet sheet }
+    requires no_change { sheet.lp.now.change ≡ None }
+    requires rates { HasRates (R.matrix rates.old) (R.basics rates.old) sheet.lp.now basis.now }
+    ensures tells { Tells (LinesFound (sheet_shown sheet.entry) basis.now (R.waypoints rates.old) mark) P.written P.faults P.refusals print.old print.new result }
+    ensures rates { HasRates (R.matrix rates.new) (R.basics rates.new) sheet.entry.lp.now basis.now }
+    ensures waypoints { KeepsWaypoints sheet.entry.lp.now.matrix (basics_of basis.now) (R.waypoints rates.old) (basics_of basis.now) (R.waypoints rates.new) }
 {
     match solution_of(alloc, sheet, basis, rates) {
         Ok(shown) => print_lines(sheet, basis, mark, &shown, print),
-        Err(stop) => stopped(alloc, sheet.lp, basis, rates, stop),
+        Err(Stop::Overflow(evidence)) => overflow_at(alloc, sheet.lp, basis, rates, evidence),
+        Err(Stop::NoMemory) => Err(Halt::NoMemory),
     }
 }
 
@@ -84,6 +82,14 @@ fn show_setup<P: Sink>(
     mark: Mark,
     print: &mut P,
 ) -> Result<Finding, Halt>
+    requires { IsReady file.now setup.old }
+    ensures tells { Tells (Shows file.now setup.old mark) P.written P.faults P.refusals print.old print.new result }
+    ensures ready { IsReady file.now setup.new }
+    ensures name { setup.new.name ≡ setup.old.name }
+    ensures options { setup.new.options ≡ setup.old.options }
+    ensures lp { setup.new.lp ≡ setup.old.lp }
+    ensures basis { setup.new.basis ≡ setup.old.basis }
+    ensures waypoints { KeepsWaypoints setup.old.lp.matrix (basics_of setup.old.basis) (ways setup.old.engine) (basics_of setup.old.basis) (ways setup.new.engine) }
 {
     let Some(problem) = file.get(&setup.name) else {
         return Ok(Finding::Refused(VerbFault::NoSetup));
@@ -103,6 +109,10 @@ pub fn show_solution<P: Sink>(
     print: &mut P,
     card: u32,
 ) -> Result<Act, Halt>
+    requires ready { IfSome machine.old.setup (IsReady machine.old.file) }
+    requires solved { IfSome machine.old.mark (λ mark. IfSome machine.old.setup (IsSelected machine.old.cells machine.old.file)) }
+    ensures acts { (cards : List (List ℕ)) → Executes stage program.Solution card P.written P.faults P.refusals print.old print.new cards machine.old machine.new result }
+    ensures sound { (cards : List (List ℕ)) → IsSound cards machine.old → IsSound cards machine.new }
 {
     let Some(setup) = &mut machine.setup else {
         return Refusal::Fault(VerbFault::NoSetup).act(card);
