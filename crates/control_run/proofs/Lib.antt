@@ -8,8 +8,5 @@ pub mod Stepping
 pub mod Titling
 pub mod Ending_lines
 pub mod Sound
-pub mod Chosen
-pub mod Setting
-pub mod Showing
-pub mod Solving_steps
+pub mod Selected
 pub mod Filing
