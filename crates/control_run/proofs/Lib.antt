@@ -9,4 +9,5 @@ pub mod Titling
 pub mod Ending_lines
 pub mod Sound
 pub mod Selected
+pub mod Setting
 pub mod Filing
