@@ -11,3 +11,6 @@ pub mod Sound
 pub mod Selected
 pub mod Setting
 pub mod Filing
+pub mod Telling
+pub mod Present
+pub mod Solving_steps

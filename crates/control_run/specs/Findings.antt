@@ -16,7 +16,6 @@ use Rattle.lp_definitions.specs.declared.Evidence.{Evidence}
 use Rattle.path_definitions.specs.Path.{last_of, GoesOnFor}
 use Rattle.evidence_definitions.specs.Statements.{Solution as SolutionStatement}
 use Rattle.problem_definitions.specs.Problem.{Problem}
-use Rattle.problem_file.specs.Filed.{Filed, filed_under}
 use Rattle.selection_definitions.specs.Selection.{selected}
 use Rattle.listing_definitions.specs.declared.Mark.{Mark}
 use Rattle.listing_definitions.specs.declared.Mark.TheVariants.{Optimal, Infeasible, Unbounded}
@@ -80,15 +79,13 @@ module _ (sheet : Sheet) (s now : Basis) (limit : ℕ) (before after : List Basi
 
 -- With these cells the selection of a setup's problem is refused; or its path is followed from the present basis, and the setup keeps
 -- where it has come to.
-pub data Finds (cells : Cells) (file : Filed) (setup new : Setup) : Gain → Finding → Type 0 where
-  unselected : {problem : Problem ℕ} {fault : VerbFault} → filed_under setup.name file ≡ Some problem →
-      HasSelectionFault problem (choice_of cells setup.options) fault → Finds cells file setup new Nothing (Refused fault)
-  too_large : {problem : Problem ℕ} {e : Evidence} → filed_under setup.name file ≡ Some problem →
-      HasRangeOverflow problem (choice_of cells setup.options) e → Finds cells file setup new Nothing (Overflow e None)
-  solved : {problem : Problem ℕ} {lp : LinearProgram} {gain : Gain} {finding : Finding} → filed_under setup.name file ≡ Some problem →
-      selected problem (choice_of cells setup.options) ≡ Ok lp → new.name ≡ setup.name → new.options ≡ setup.options →
+pub data Finds (problem : Problem ℕ) (cells : Cells) (setup new : Setup) : Gain → Finding → Type 0 where
+  unselected : {fault : VerbFault} → HasSelectionFault problem (choice_of cells setup.options) fault → Finds problem cells setup new Nothing (Refused fault)
+  too_large : {e : Evidence} → HasRangeOverflow problem (choice_of cells setup.options) e → Finds problem cells setup new Nothing (Overflow e None)
+  solved : {lp : LinearProgram} {gain : Gain} {finding : Finding} → selected problem (choice_of cells setup.options) ≡ Ok lp →
+      new.name ≡ setup.name → new.options ≡ setup.options →
       PathFinds (record { problem = problem; lp = lp }) setup.basis new.basis cells.xiterlim (ways setup.engine) (ways new.engine) gain finding →
-      Finds cells file setup new gain finding
+      Finds problem cells setup new gain finding
 
 -- a refusal is found, or there is no memory
 abbrev pub refused_finding : Refusal → Result Finding Halt
@@ -110,9 +107,8 @@ module _ (sheet : Sheet) (s : Basis) (before : List Basics) where
     overflows : {e : Evidence} {place : Option OwnPlace} → LinesOverflow e (option_map place_shown place) → LinesFound mark Nothing (Overflow e place)
 
 -- those of a setup's present basis, in the linear program that it keeps
-pub data Shows (file : Filed) (setup : Setup) (mark : Mark) : Gain → Finding → Type 0 where
-  shows : {problem : Problem ℕ} {gain : Gain} {finding : Finding} → filed_under setup.name file ≡ Some problem →
-      LinesFound (record { problem = problem; lp = setup.lp }) setup.basis (ways setup.engine) mark gain finding → Shows file setup mark gain finding
+abbrev pub Shows : Problem ℕ → Setup → Mark → Gain → Finding → Type 0
+Shows problem setup mark = LinesFound (record { problem = problem; lp = setup.lp }) setup.basis (ways setup.engine) mark
 
 -- ---- with what is printed
 

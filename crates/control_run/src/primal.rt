@@ -1,6 +1,9 @@
 // PRIMAL.
-ghost use Rattle.std.specs.Prelude.{◌≡◌, ℕ, List, None, IfSome, IfOk};
+ghost use Rattle.std.specs.Prelude.{◌≡◌, ℕ, List, None, Some, IfSome, IfOk};
+ghost use Rattle.problem_definitions.specs.Problem.{Problem};
+ghost use Rattle.problem_file.specs.Filed.{filed_under};
 ghost use Rattle.control_definitions.specs.Program as program;
+ghost use Rattle.lp_definitions.specs.LinearProgram.{IsLinearProgram};
 ghost use Rattle.lp_definitions.specs.Basis.{Basics};
 ghost use Rattle.question_definitions.specs.Answers as answers;
 ghost use Rattle.bounded_primal.specs.Calls.{HasRates};
@@ -84,6 +87,7 @@ fn follow<P: Sink, R: Rates>(
     print: &mut P,
 ) -> Result<Finding, Halt>
     requires sheet { IsSheet sheet }
+    requires lawful { IsLinearProgram sheet.lp.now }
     requires no_change { sheet.lp.now.change ≡ None }
     requires rates { HasRates (R.matrix rates.old) (R.basics rates.old) sheet.lp.now basis.old }
     ensures tells { Tells (PathFinds (sheet_shown sheet.entry) basis.old basis.new limit (R.waypoints rates.old) (R.waypoints rates.new))
@@ -109,7 +113,8 @@ fn find<P: Sink>(
     print: &mut P,
 ) -> Result<Finding, Halt>
     requires { IsReady file.now setup.old }
-    ensures tells { Tells (Finds cells.now file.now setup.old setup.new) P.written P.faults P.refusals print.old print.new result }
+    ensures tells { (problem : Problem ℕ) → filed_under setup.old.name file.now ≡ Some problem →
+        Tells (Finds problem cells.now setup.old setup.new) P.written P.faults P.refusals print.old print.new result }
     ensures ready { IsReady file.now setup.new }
     ensures solved { IfOk result (λ finding. IfEnded finding (IsSelected cells.now file.now setup.new)) }
     ensures kept { IsSelected cells.now file.now setup.old → IsSelected cells.now file.now setup.new }

@@ -1,5 +1,7 @@
 // SOLUTION.
 ghost use Rattle.std.specs.Prelude.{◌≡◌, ℕ, None, Some, IfSome, List};
+ghost use Rattle.problem_definitions.specs.Problem.{Problem};
+ghost use Rattle.problem_file.specs.Filed.{filed_under};
 ghost use Rattle.lp_definitions.specs.Basis.{Basics, basics_of};
 ghost use Rattle.lp_definitions.specs.Waypoints.{KeepsWaypoints};
 ghost use Rattle.control_definitions.specs.Program as program;
@@ -83,7 +85,8 @@ fn show_setup<P: Sink>(
     print: &mut P,
 ) -> Result<Finding, Halt>
     requires { IsReady file.now setup.old }
-    ensures tells { Tells (Shows file.now setup.old mark) P.written P.faults P.refusals print.old print.new result }
+    ensures tells { (problem : Problem ℕ) → filed_under setup.old.name file.now ≡ Some problem →
+        Tells (Shows problem setup.old mark) P.written P.faults P.refusals print.old print.new result }
     ensures ready { IsReady file.now setup.new }
     ensures name { setup.new.name ≡ setup.old.name }
     ensures options { setup.new.options ≡ setup.old.options }
