@@ -77,3 +77,90 @@ pub path_overflows : (sheet : OwnSheet) (s now : Basis) (limit : ℕ) (before af
     (place : OwnPlace) → place_shown place ≡ record { basis = now; way = waypoint (basics_of now) after e.way } → PathFinds (sheet_shown sheet) s now limit before after Nothing (Overflow e (Some place))
 path_overflows sheet s now limit before after e o place is =
     overflows (λ earlier lie. subst (λ (p : endings.Place). OverflowsOnPath (sheet_shown sheet) (earlier ++ s ∷ []) limit e (Some p)) (sym is) (o.overflows earlier lie))
+
+-- ---- a setup
+
+-- the linear program has the rows and the columns of the problem
+pub as_many_rows : (problem : Problem ℕ) (choice : Choice) (p : LinearProgram) → selected problem choice ≡ Ok p → length problem.rows ≡ p.matrix.rows
+as_many_rows problem choice p e = ap (λ (a : Matrix). a.rows) (same_matrix problem choice p e)
+
+pub as_many_columns : (problem : Problem ℕ) (choice : Choice) (p : LinearProgram) → selected problem choice ≡ Ok p → length problem.columns ≡ p.matrix.cols
+as_many_columns problem choice p e = ap (λ (a : Matrix). a.cols) (same_matrix problem choice p e)
+
+module _ (file : Filed) (setup : Setup) (r : IsReady file setup) (problem : Problem ℕ) (on_file : filed_under setup.name file ≡ Some problem) where
+  own_selected : selected problem r.choice ≡ Ok setup.lp
+  own_selected = subst (λ (q : Problem ℕ). selected q r.choice ≡ Ok setup.lp) (one_problem file setup r.problem problem r.on_file on_file) r.is_selected
+
+  module _ (cells : Cells) (lp : LinearProgram) (ok : selected problem (choice_of cells setup.options) ≡ Ok lp) where
+    -- the setup's rates are those of what is selected now
+    pub ready_rates : HasRates (matrix setup.engine) (basics setup.engine) lp setup.basis
+    ready_rates = rates_carry problem r.choice (choice_of cells setup.options) setup.lp lp r.has_options own_selected ok (matrix setup.engine) (basics setup.engine) setup.basis r.rates
+
+    -- and the other way
+    pub ready_again : (new : Setup) → new.name ≡ setup.name → new.options ≡ setup.options → new.lp ≡ setup.lp → HasRates (matrix new.engine) (basics new.engine) lp new.basis → IsReady file new
+    ready_again new same_name same_options same_lp has = record {
+      problem = problem;
+      on_file = ap (λ name. filed_under name file) same_name ∙ on_file;
+      choice = r.choice;
+      has_options = r.has_options ∙ sym same_options;
+      is_selected = own_selected ∙ ap Ok (sym same_lp);
+      rates = subst (λ (p : LinearProgram). HasRates (matrix new.engine) (basics new.engine) p new.basis) (sym same_lp)
+          (rates_carry problem (choice_of cells setup.options) r.choice lp setup.lp (sym r.has_options) ok own_selected (matrix new.engine) (basics new.engine) new.basis has);
+    }
+
+    pub ready_solved : (new : Setup) → new.name ≡ setup.name → new.options ≡ setup.options → new.lp ≡ lp → HasRates (matrix new.engine) (basics new.engine) lp new.basis → IsReady file new
+    ready_solved new same_name same_options same_lp has = record {
+      problem = problem;
+      on_file = ap (λ name. filed_under name file) same_name ∙ on_file;
+      choice = choice_of cells setup.options;
+      has_options = sym same_options;
+      is_selected = ok ∙ ap Ok (sym same_lp);
+      rates = subst (λ (p : LinearProgram). HasRates (matrix new.engine) (basics new.engine) p new.basis) (sym same_lp) has;
+    }
+
+    pub now_selected : (new : Setup) → new.name ≡ setup.name → new.options ≡ setup.options → new.lp ≡ lp → IsSelected cells file new
+    now_selected new same_name same_options same_lp = λ other on.
+        let same : problem ≡ other = one_problem file setup problem other on_file (ap (λ name. filed_under name file) (sym same_name) ∙ on) in
+        ap (λ o. selected other (choice_of cells o)) same_options ∙ subst (λ (q : Problem ℕ). selected q (choice_of cells setup.options) ≡ Ok lp) same ok ∙ ap Ok (sym same_lp)
+
+-- ---- what is found with a setup
+
+-- a refusal of the selection
+refusal_found : (problem : Problem ℕ) (cells : Cells) (setup new : Setup) (refusal : Refusal) → IsUnselected problem (choice_of cells setup.options) refusal →
+    MatchResult (refused_finding refusal) (Finds problem cells setup new Nothing) (λ h. h ≡ halt.NoMemory)
+refusal_found problem cells setup new (Fault fault) u = unselected u
+refusal_found problem cells setup new (refusals.Overflow e) u = too_large u
+refusal_found problem cells setup new NoMemory u = refl
+
+pub refusal_ends : (refusal : Refusal) (Fact : Type 0) → IfOk (refused_finding refusal) (λ finding. IfEnded finding Fact)
+refusal_ends (Fault fault) Fact = tt
+refusal_ends (refusals.Overflow e) Fact = tt
+refusal_ends NoMemory Fact = tt
+
+pub always_ends : (finding : Finding) (Fact : Type 0) → Fact → IfEnded finding Fact
+always_ends (Refused fault) Fact h = tt
+always_ends (Overflow e place) Fact h = tt
+always_ends Limit Fact h = tt
+always_ends (Ended mark) Fact h = h
+always_ends Shown Fact h = tt
+
+module _ {P : Type 0} (written : P → Option (List ℕ)) (faults refusals : P → ℕ) (cells : Cells) (file : Filed) (setup new : Setup) (there : Problem ℕ) (is_there : filed_under setup.name file ≡ Some there) where
+  at_problem : (print_old print_new : P) (result : Result Finding Halt) → Tells (Finds there cells setup new) written faults refusals print_old print_new result →
+      (problem : Problem ℕ) → filed_under setup.name file ≡ Some problem → Tells (Finds problem cells setup new) written faults refusals print_old print_new result
+  at_problem print_old print_new result t problem on_file =
+      subst (λ (q : Problem ℕ). Tells (Finds q cells setup new) written faults refusals print_old print_new result) (one_problem file setup there problem is_there on_file) t
+
+  pub refusal_told : (print : P) (refusal : Refusal) → IsUnselected there (choice_of cells setup.options) refusal →
+      (problem : Problem ℕ) → filed_under setup.name file ≡ Some problem → Tells (Finds problem cells setup new) written faults refusals print print (refused_finding refusal)
+  refusal_told print refusal u =
+      at_problem print print (refused_finding refusal) (tells_quietly written faults refusals (Finds there cells setup new) print (refused_finding refusal) (refusal_found there cells setup new refusal u))
+
+  pub path_told : (lp : LinearProgram) (limit : ℕ) (print_old print_new : P) (result : Result Finding Halt) → limit ≡ cells.xiterlim → selected there (choice_of cells setup.options) ≡ Ok lp →
+      new.name ≡ setup.name → new.options ≡ setup.options →
+      Tells (PathFinds (record { problem = there; lp = lp }) setup.basis new.basis limit (ways setup.engine) (ways new.engine)) written faults refusals print_old print_new result →
+      (problem : Problem ℕ) → filed_under setup.name file ≡ Some problem → Tells (Finds problem cells setup new) written faults refusals print_old print_new result
+  path_told lp limit print_old print_new result within ok same_name same_options t =
+      at_problem print_old print_new result
+      (tells_more written faults refusals (PathFinds (record { problem = there; lp = lp }) setup.basis new.basis limit (ways setup.engine) (ways new.engine)) (Finds there cells setup new) print_old print_new
+      (λ gain finding f. solved ok same_name same_options
+      (subst (λ (n : ℕ). PathFinds (record { problem = there; lp = lp }) setup.basis new.basis n (ways setup.engine) (ways new.engine) gain finding) within f)) result t)
