@@ -14,3 +14,6 @@ pub mod Filing
 pub mod Telling
 pub mod Present
 pub mod Solving_steps
+pub mod Primal_comes
+pub mod Keeping
+pub mod Showing

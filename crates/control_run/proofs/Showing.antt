@@ -1,0 +1,210 @@
+-- What SOLUTION comes to.
+use Rattle.std.proofs.Common.{◌≡◌, ℕ, List, [], ◌∷◌, ◌++◌, Option, None, Some, Result, Ok, Err, option_map, refl, sym, ap, subst, inl, inr, ◌∙◌}
+use Rattle.job_devices.specs.declared.device.WriteStop.{WriteStop}
+use Rattle.job_devices.specs.Text.{Writes}
+use Rattle.exact_values.specs.Rational.{ℚ}
+use Rattle.lp_definitions.specs.LinearProgram.{Matrix, LinearProgram, size}
+use Rattle.lp_definitions.specs.Basis.{Basics, basics_of}
+use Rattle.lp_definitions.specs.Waypoints.{waypoint, KeepsWaypoints}
+use Rattle.lp_definitions.specs.declared.Evidence.{Evidence}
+use Rattle.evidence_definitions.specs.Statements.{Solution as SolutionStatement}
+use Rattle.problem_definitions.specs.Problem.{Problem}
+use Rattle.problem_file.specs.Filed.{Filed, filed_under}
+use Rattle.bounded_primal.specs.Calls.{LieIn}
+use Rattle.report_text.specs.Lines.{solution_lines}
+use Rattle.listing_definitions.specs.Text.{report_text}
+use Rattle.control_definitions.specs.Program.{SetupOptions, Solution as SolutionVerb}
+use Rattle.selection_definitions.specs.Selection.{matrix_of, selected}
+use Rattle.listing_definitions.specs.declared.Mark.{Mark}
+use Rattle.listing_definitions.specs.declared.VerbFault.{VerbFault}
+use Rattle.listing_definitions.specs.declared.VerbFault.TheVariants as verb_fault
+use Rattle.listing_definitions.specs.Report.{SolutionLines, Solution}
+use Rattle.listing_definitions.specs.Ending as endings
+use Rattle.question_definitions.specs.Answers.{Basis, Sheet, OfSolution}
+use Rattle.control_definitions.specs.Cells.{Cells}
+use Rattle.answer_definitions.specs.Sections.{IsShown}
+use Rattle.answer_definitions.specs.Evidence.{OverflowsAt, IsEvidence}
+use Rattle.report_text.specs.declared.sheet.Sheet.{Sheet as OwnSheet}
+use Rattle.present_answers.specs.Answers.{sheet_shown}
+use Rattle.present_answers.specs.Stops.{SolutionRefused}
+use Rattle.run_definitions.specs.State.{Present, State, choice_of, present_basis, path_of}
+use Rattle.run_definitions.specs.Moves.{Gain, Nothing, Prints, punched_by, Outcome, next, stops, Move, MayStop, Asks, Gives, or_fault}
+use Rattle.run_definitions.specs.Verbs.{or_selection_fault, verb_move, statement_move}
+use Rattle.control_run.specs.declared.act.Act.{Act}
+use Rattle.control_run.specs.declared.act.Halt.{Halt}
+use Rattle.control_run.specs.declared.act.Halt.TheVariants as halt
+use Rattle.control_run.specs.declared.end.Place.{Place as OwnPlace}
+use Rattle.control_run.specs.declared.finding.Finding.{Finding}
+use Rattle.control_run.specs.declared.finding.Finding.TheVariants.{Overflow, Shown}
+use Rattle.control_run.specs.declared.machine.Machine.{Machine}
+use Rattle.control_run.specs.declared.machine.Setup.{Setup}
+use Rattle.control_run.specs.declared.selecting.Refusal.TheVariants.{Fault}
+use Rattle.control_run.specs.Ends.{place_shown}
+use Rattle.control_run.specs.Engine.{ways}
+use Rattle.control_run.specs.Stage.{stage}
+use Rattle.control_run.specs.Standing.{IsReady, IsSelected, IsPresent, ShowsSetup, Stands}
+use Rattle.control_run.specs.Statements.{Comes, Executes}
+use Rattle.control_run.specs.Choosing.{refused_act}
+use Rattle.control_run.specs.Findings.{LinesOverflow, LinesFound, shown, overflows, Shows, Tells, act_of}
+use Rattle.control_run.proofs.Selected.{same_matrix}
+use Rattle.control_run.proofs.Giving.{gives_fault, gives_found, gives_selected, quietly}
+use Rattle.control_run.proofs.Telling.{told_executes, cut_executes}
+use Rattle.control_run.proofs.Present.{present_with, IsPresentOf, present_at, one_problem, lie_up_to, lie_later}
+
+-- ---- the lines of a basis
+
+-- they are printed or broken off
+module _ {P : Type 0} (written : P → Option (List ℕ)) (faults refusals : P → ℕ) {print_old print_new : P} (sheet : OwnSheet) (s : Basis) (before : List Basics) (mark : Mark) (point prices slack list : List ℚ) (same : list ≡ slack)
+    (is_shown : IsShown (sheet_shown sheet) s (solution_lines sheet.problem.now sheet.lp.now s point prices slack)) where
+  pub lines_told : Writes {T = Unit {0}} written faults refusals print_old print_new (Ok tt) (report_text (Solution mark (solution_lines sheet.problem.now sheet.lp.now s point prices list))) →
+      Tells (LinesFound (sheet_shown sheet) s before mark) written faults refusals print_old print_new (Ok Shown)
+  lines_told writes = record {
+    gain = Prints (Solution mark (solution_lines sheet.problem.now sheet.lp.now s point prices slack));
+    holds = shown is_shown;
+    writes = subst (λ (xs : List ℚ). Writes {T = Unit {0}} written faults refusals print_old print_new (Ok tt) (report_text (Solution mark (solution_lines sheet.problem.now sheet.lp.now s point prices xs)))) same writes;
+  }
+
+  pub lines_cut : (stop : WriteStop) → Writes {T = Unit {0}} written faults refusals print_old print_new (Err stop) (report_text (Solution mark (solution_lines sheet.problem.now sheet.lp.now s point prices list))) →
+      Tells (LinesFound (sheet_shown sheet) s before mark) written faults refusals print_old print_new (Err (halt.Print stop))
+  lines_cut stop writes = record {
+    gain = Prints (Solution mark (solution_lines sheet.problem.now sheet.lp.now s point prices slack));
+    finding = Shown;
+    holds = shown is_shown;
+    writes = subst (λ (xs : List ℚ). Writes {T = Unit {0}} written faults refusals print_old print_new (Err stop) (report_text (Solution mark (solution_lines sheet.problem.now sheet.lp.now s point prices xs)))) same writes;
+  }
+
+pub lines_overflow : (sheet : OwnSheet) (s : Basis) (before after : List Basics) (mark : Mark) (e : Evidence) → SolutionRefused sheet.lp.now before s after e →
+    (place : OwnPlace) → place_shown place ≡ record { basis = s; way = waypoint (basics_of s) after e.way } → LinesFound (sheet_shown sheet) s before mark Nothing (Overflow e (Some place))
+lines_overflow sheet s before after mark e o place is =
+    overflows (λ earlier lie. subst (λ (p : endings.Place). IsEvidence (SolutionStatement sheet.lp.now) None 0 (earlier ++ s ∷ []) [] e (Some p)) (sym is) (o.shows earlier lie))
+
+-- ---- a setup
+
+-- the setup keeps all but what its engine has passed through
+pub record IsSameSetup (setup new : Setup) : Type 0 where
+  pub name : new.name ≡ setup.name
+  pub options : new.options ≡ setup.options
+  pub lp : new.lp ≡ setup.lp
+  pub basis : new.basis ≡ setup.basis
+  pub keeps : KeepsWaypoints setup.lp.matrix (basics_of setup.basis) (ways setup.engine) (basics_of setup.basis) (ways new.engine)
+
+pub still_selected : (cells : Cells) (file : Filed) (setup new : Setup) → IsSameSetup setup new → IsSelected cells file setup → IsSelected cells file new
+still_selected cells file setup new k h = λ problem on_file.
+    ap (λ (o : SetupOptions). selected problem (choice_of cells o)) k.options ∙ h problem (ap (λ name. filed_under name file) (sym k.name) ∙ on_file) ∙ ap Ok (sym k.lp)
+
+module _ {P : Type 0} (written : P → Option (List ℕ)) (faults refusals : P → ℕ) (file : Filed) (setup : Setup) (mark : Mark) (there : Problem ℕ) (is_there : filed_under setup.name file ≡ Some there) where
+  pub lines_at : (print_old print_new : P) (result : Result Finding Halt) → Tells (Shows there setup mark) written faults refusals print_old print_new result →
+      (problem : Problem ℕ) → filed_under setup.name file ≡ Some problem → Tells (Shows problem setup mark) written faults refusals print_old print_new result
+  lines_at print_old print_new result t problem on_file =
+      subst (λ (q : Problem ℕ). Tells (Shows q setup mark) written faults refusals print_old print_new result) (one_problem file setup there problem is_there on_file) t
+
+-- ---- the statement
+
+no_cards_by : (problem : Problem ℕ) (setup : Setup) (mark : Mark) (gain : Gain) (finding : Finding) → Shows problem setup mark gain finding → punched_by gain ≡ []
+no_cards_by problem setup mark _ _ (shown h) = refl
+no_cards_by problem setup mark _ _ (overflows h) = refl
+
+abbrev sheet_of : Present → LinearProgram → Sheet
+sheet_of present lp = record { problem = present.problem; lp = lp }
+
+module _ (card : ℕ) (state : State) where
+  abbrev printed : Mark → SolutionLines → Outcome
+  printed mark lines = next (Prints (Solution mark lines)) state
+
+  abbrev go_shown : Present → Mark → LinearProgram → Move
+  go_shown present mark lp = MayStop (OverflowsAt OfSolution (sheet_of present lp) (path_of present)) (Asks SolutionLines (IsShown (sheet_of present lp) (present_basis present)) (printed mark))
+
+  abbrev go_marked : Present → Mark → Move
+  go_marked present mark = or_selection_fault card (selected present.problem (choice_of state.cells present.options)) (go_shown present mark)
+
+  abbrev go_set_up : Present → Move
+  go_set_up present = or_fault card verb_fault.NotSolved state.mark (go_marked present)
+
+  solution_gives : (outcome : Outcome) → Gives card (or_fault card verb_fault.NoSetup state.setup go_set_up) outcome → Gives card (statement_move stage SolutionVerb card state) outcome
+  unfolding stage verb_move
+  solution_gives outcome g = g
+
+  gives_no_setup : state.setup ≡ None → Gives card (statement_move stage SolutionVerb card state) (stops (endings.VerbStop (record { fault = verb_fault.NoSetup; card = card })))
+  gives_no_setup e = solution_gives (stops (endings.VerbStop (record { fault = verb_fault.NoSetup; card = card }))) (gives_fault card verb_fault.NoSetup state.setup go_set_up e)
+
+  gives_set_up : (present : Present) (outcome : Outcome) → state.setup ≡ Some present → Gives card (go_set_up present) outcome → Gives card (statement_move stage SolutionVerb card state) outcome
+  gives_set_up present outcome e given = solution_gives outcome (gives_found card verb_fault.NoSetup state.setup go_set_up present outcome e given)
+
+pub solution_no_setup : (card : ℕ) {P : Type 0} (written : P → Option (List ℕ)) (faults refusals : P → ℕ) (cards : List (List ℕ)) (machine : Machine) (print : P) → machine.setup ≡ None →
+    Executes stage SolutionVerb card written faults refusals print print cards machine machine (refused_act card (Fault verb_fault.NoSetup))
+solution_no_setup card written faults refusals cards machine print none =
+    quietly stage SolutionVerb card written faults refusals cards machine print (λ position executed state s.
+    gives_no_setup card state (subst (λ (kept : Option Setup). ShowsSetup machine.file kept state.setup) none s.setup))
+
+module _ (card : ℕ) (cards : List (List ℕ)) (old : Machine) (setup : Setup) (is_setup : old.setup ≡ Some setup) (problem : Problem ℕ) (on_file : filed_under setup.name old.file ≡ Some problem) where
+  module _ (position executed : ℕ) (state : State) (s : Stands cards old position executed state) where
+    p : IsPresentOf problem setup state.setup
+    p = present_at old.file setup state.setup problem on_file (subst (λ (kept : Option Setup). ShowsSetup old.file kept state.setup) is_setup s.setup)
+
+    abbrev present : Present
+    present = present_with problem setup.options p.opening p.steps
+
+    not_solved : old.mark ≡ None → Gives card (statement_move stage SolutionVerb card state) (stops (endings.VerbStop (record { fault = verb_fault.NotSolved; card = card })))
+    not_solved none =
+        gives_set_up card state present (stops (endings.VerbStop (record { fault = verb_fault.NotSolved; card = card }))) p.is_shown
+        (gives_fault card verb_fault.NotSolved state.mark (go_marked card state present) (s.mark ∙ none))
+
+    module _ (new : Setup) (mark : Mark) (is_mark : old.mark ≡ Some mark) (ok : selected problem (choice_of old.cells setup.options) ≡ Ok setup.lp) (k : IsSameSetup setup new) where
+      marked_gives : (outcome : Outcome) → Gives card (go_shown card state present mark setup.lp) outcome → Gives card (statement_move stage SolutionVerb card state) outcome
+      marked_gives outcome g =
+          gives_set_up card state present outcome p.is_shown
+          (gives_found card verb_fault.NotSolved state.mark (go_marked card state present) mark outcome (s.mark ∙ is_mark)
+          (gives_selected card (selected problem (choice_of state.cells setup.options)) (go_shown card state present mark) setup.lp outcome
+          (ap (λ (c : Cells). selected problem (choice_of c setup.options)) s.cells ∙ ok) g))
+
+      still_stands : Stands cards (record old { setup = Some new }) position executed state
+      still_stands =
+          let same : matrix_of problem ≡ setup.lp.matrix = same_matrix problem (choice_of old.cells setup.options) setup.lp ok in
+          let lie : LieIn setup.lp.matrix (ways new.engine) (p.initial ++ setup.basis ∷ []) =
+          lie_later setup.lp.matrix p.initial setup.basis (ways setup.engine) (ways new.engine) k.keeps (lie_up_to problem setup state.setup p setup.lp same) in
+          record {
+            is_position = s.is_position;
+            is_executed = s.is_executed;
+            cells = s.cells;
+            file = s.file;
+            decks = s.decks;
+            setup = record {
+              problem = problem;
+              on_file = ap (λ name. filed_under name old.file) k.name ∙ on_file;
+              opening = p.opening;
+              steps = p.steps;
+              is_shown = p.is_shown ∙ ap (λ (o : SetupOptions). Some (present_with problem o p.opening p.steps)) (sym k.options);
+              reached = p.reached ∙ sym k.basis;
+              lie = subst (λ (bs : List Basis). LieIn (matrix_of problem) (ways new.engine) bs) (sym p.ends) (subst (λ (a : Matrix). LieIn a (ways new.engine) (p.initial ++ setup.basis ∷ [])) (sym same) lie);
+            };
+            mark = s.mark;
+          }
+
+      pub shown_comes : (gain : Gain) (finding : Finding) → Shows problem setup mark gain finding →
+          Comes stage SolutionVerb card cards position executed state (record old { setup = Some new }) gain (act_of old.cells card finding)
+      shown_comes _ _ (shown {lines = lines} h) =
+          (state, marked_gives (printed card state mark lines) (inl (lines, subst (λ (b : Basis). IsShown (record { problem = problem; lp = setup.lp }) b lines) (sym p.reached) h, refl)), still_stands)
+      shown_comes _ _ (overflows {e = e} {place = place} h) =
+          let same : matrix_of problem ≡ setup.lp.matrix = same_matrix problem (choice_of old.cells setup.options) setup.lp ok in
+          marked_gives (stops (endings.OverflowStop (record { evidence = e; place = option_map place_shown place; card = card })))
+          (inr (e, option_map place_shown place,
+          subst (λ (bs : List Basis). IsEvidence (SolutionStatement setup.lp) None 0 bs [] e (option_map place_shown place)) (sym p.ends) (h p.initial (lie_up_to problem setup state.setup p setup.lp same)), refl))
+
+  module _ {P : Type 0} (written : P → Option (List ℕ)) (faults refusals : P → ℕ) where
+    pub solution_not_solved : (print : P) → old.mark ≡ None → Executes stage SolutionVerb card written faults refusals print print cards old old (refused_act card (Fault verb_fault.NotSolved))
+    solution_not_solved print none =
+        quietly stage SolutionVerb card written faults refusals cards old print (λ position executed state s. not_solved position executed state s none)
+
+    module _ (print_old print_new : P) (new : Setup) (mark : Mark) (is_mark : old.mark ≡ Some mark) (ok : selected problem (choice_of old.cells setup.options) ≡ Ok setup.lp) (k : IsSameSetup setup new) where
+      pub solution_found : (finding : Finding) (then : Act) → then ≡ act_of old.cells card finding → Tells (Shows problem setup mark) written faults refusals print_old print_new (Ok finding) →
+          Executes stage SolutionVerb card written faults refusals print_old print_new cards old (record old { setup = Some new }) (Ok then)
+      solution_found finding then e t =
+          subst (λ (a : Act). Executes stage SolutionVerb card written faults refusals print_old print_new cards old (record old { setup = Some new }) (Ok a)) (sym e)
+          (told_executes SolutionVerb card written faults refusals cards old (Shows problem setup mark) (λ found. record old { setup = Some new }) (act_of old.cells card) (no_cards_by problem setup mark)
+          (λ gain found h position executed state s. shown_comes position executed state s new mark is_mark ok k gain found h) print_old print_new finding t)
+
+      pub solution_cut : (any : Machine) (h : Halt) → Tells (Shows problem setup mark) written faults refusals print_old print_new (Err h) →
+          Executes stage SolutionVerb card written faults refusals print_old print_new cards old any (Err h)
+      solution_cut any h t =
+          cut_executes SolutionVerb card written faults refusals cards old (Shows problem setup mark) (λ found. record old { setup = Some new }) (act_of old.cells card) (no_cards_by problem setup mark)
+          (λ gain found h position executed state s. shown_comes position executed state s new mark is_mark ok k gain found h) print_old print_new any h t
