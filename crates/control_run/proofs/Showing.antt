@@ -191,9 +191,9 @@ module _ (card : ℕ) (cards : List (List ℕ)) (old : Machine) (setup : Setup) 
           subst (λ (bs : List Basis). IsEvidence (SolutionStatement setup.lp) None 0 bs [] e (option_map place_shown place)) (sym p.ends) (h p.initial (lie_up_to problem setup state.setup p setup.lp same)), refl))
 
   module _ {P : Type 0} (written : P → Option (List ℕ)) (faults refusals : P → ℕ) where
-    pub solution_not_solved : (print : P) → old.mark ≡ None → Executes stage SolutionVerb card written faults refusals print print cards old old (refused_act card (Fault verb_fault.NotSolved))
-    solution_not_solved print none =
-        quietly stage SolutionVerb card written faults refusals cards old print (λ position executed state s. not_solved position executed state s none)
+    pub solution_not_solved : (print : P) (any : Machine) → old.mark ≡ None → Executes stage SolutionVerb card written faults refusals print print cards old any (refused_act card (Fault verb_fault.NotSolved))
+    solution_not_solved print any none =
+        quietly stage SolutionVerb card written faults refusals cards old print {new = any} (λ position executed state s. not_solved position executed state s none)
 
     module _ (print_old print_new : P) (new : Setup) (mark : Mark) (is_mark : old.mark ≡ Some mark) (ok : selected problem (choice_of old.cells setup.options) ≡ Ok setup.lp) (k : IsSameSetup setup new) where
       pub solution_found : (finding : Finding) (then : Act) → then ≡ act_of old.cells card finding → Tells (Shows problem setup mark) written faults refusals print_old print_new (Ok finding) →

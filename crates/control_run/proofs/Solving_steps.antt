@@ -51,7 +51,7 @@ use Rattle.control_run.specs.Stage.{stage}
 use Rattle.control_run.specs.Standing.{AreDemands, IsReady, IsSelected, IsPresent, ShowsSetup, Stands}
 use Rattle.control_run.specs.Statements.{Comes, Executes, Follows, gain_of, gain_text}
 use Rattle.control_run.specs.Findings.{PathReaches, PathFinds, reached, at_limit, overflows, Finds, unselected, too_large, solved, Tells, refused_finding, IfEnded, demanded_act, act_of, mark_left}
-use Rattle.control_run.proofs.Selected.{same_matrix, rates_carry}
+use Rattle.control_run.proofs.Selected.{same_matrix, no_change, rates_carry}
 use Rattle.control_run.proofs.Giving.{gives_fault, gives_found, gives_unselected, gives_selected, quietly}
 use Rattle.control_run.proofs.Telling.{tells_more, tells_quietly}
 use Rattle.control_run.proofs.Present.{present_with, IsPresentOf, present_at, one_problem, lie_up_to, goes_through}
@@ -90,6 +90,16 @@ as_many_columns problem choice p e = ap (λ (a : Matrix). a.cols) (same_matrix p
 module _ (file : Filed) (setup : Setup) (r : IsReady file setup) (problem : Problem ℕ) (on_file : filed_under setup.name file ≡ Some problem) where
   own_selected : selected problem r.choice ≡ Ok setup.lp
   own_selected = subst (λ (q : Problem ℕ). selected q r.choice ≡ Ok setup.lp) (one_problem file setup r.problem problem r.on_file on_file) r.is_selected
+
+  -- the setup's linear program has the rows and the columns of the problem
+  pub ready_rows : length problem.rows ≡ setup.lp.matrix.rows
+  ready_rows = as_many_rows problem r.choice setup.lp own_selected
+
+  pub ready_columns : length problem.columns ≡ setup.lp.matrix.cols
+  ready_columns = as_many_columns problem r.choice setup.lp own_selected
+
+  pub ready_unchanged : setup.lp.change ≡ None
+  ready_unchanged = no_change problem r.choice setup.lp own_selected
 
   module _ (cells : Cells) (lp : LinearProgram) (ok : selected problem (choice_of cells setup.options) ≡ Ok lp) where
     -- the setup's rates are those of what is selected now

@@ -37,6 +37,7 @@ fn print_lines<P: Sink>(
     print: &mut P,
 ) -> Result<Finding, Halt>
     requires sheet { IsSheet sheet }
+    requires no_change { sheet.lp.now.change ≡ None }
     requires listed { AreShown sheet.lp.now basis.now shown.now }
     requires shown { IsShown (sheet_shown sheet) basis.now (solution_lines sheet.problem.now sheet.lp.now basis.now shown.now.point shown.now.prices shown.now.slack.items) }
     ensures { (before : List Basics) → Tells (LinesFound (sheet_shown sheet.entry) basis.now before mark) P.written P.faults P.refusals print.old print.new result }

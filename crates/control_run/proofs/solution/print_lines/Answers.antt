@@ -1,9 +1,19 @@
+use Rattle.std.proofs.Common.{length, ap, ◌∙◌}
 use Rattle.std.proofs.lemmas.Result.{err_from_is_err_and}
 use Rattle.control_run.proofs.Showing.{lines_told, lines_cut}
 use Rattle.control_run.proofs.solution.print_lines.Goals as goal
 
 pub text_of-requires : goal.text_of-requires
-text_of-requires g c = ?
+text_of-requires g c = record {
+  is_sheet = c.requires.sheet;
+  is_standing = record {
+    basis = c.requires.listed.basis;
+    point = c.requires.listed.point;
+    prices = c.requires.listed.prices;
+    slack = ap length c.deref.ensures.value ∙ c.requires.listed.slack;
+    no_change = c.requires.no_change;
+  };
+}
 
 pub returns-in_err-text_of : goal.returns-in_err-text_of
 returns-in_err-text_of g c = λ before.
