@@ -16,7 +16,7 @@ use Rattle.question_definitions.specs.Solving.{Solving}
 use Rattle.run_definitions.specs.Answer.{Job, Failures, bytes_of, Gains, IsProgramOf, run, MayEnd, by_itself as ends_by_itself, memory_in_run, IsPossibleListing, IsCutShort, IsAnswered}
 use Rattle.run_definitions.specs.Answer as answers
 use Rattle.control_run.specs.declared.end.End.{End}
-use Rattle.control_run.specs.declared.end.End.TheVariants.{Done, Infeasible, Unbounded, Verb, Deck, Limit, Statements, Memory, NotBuilt}
+use Rattle.control_run.specs.declared.end.End.TheVariants.{Done, Infeasible, Unbounded, Verb, Deck, Limit, Statements, Overflow, Memory, NotBuilt}
 use Rattle.control_run.specs.declared.status.Status.{Status}
 use Rattle.control_run.specs.declared.status.Status.TheVariants.{PrintFault}
 use Rattle.control_run.specs.Ends.{end_shown, code_of}
@@ -50,6 +50,7 @@ module _ (S : Solving) (program : Program) (cards : List (List ℕ)) {P : Type 0
   no_fault (Deck fault) e = omega arith
   no_fault (Limit limit card) e = omega arith
   no_fault Statements e = omega arith
+  no_fault (Overflow evidence place card) e = omega arith
   no_fault Memory e = omega arith
   no_fault NotBuilt e = omega arith
 

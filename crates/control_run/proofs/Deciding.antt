@@ -1,5 +1,7 @@
 -- What the statements come to that print nothing.
-use Rattle.std.proofs.Common.{◌≡◌, ℕ, ◌≤◌, List, Option, None, refl, sym, ap, ◌∙◌}
+use Rattle.std.proofs.Common.{◌≡◌, ℕ, ◌≤◌, List, Option, None, Some, IfSome, refl, sym, ap, subst, ◌∙◌}
+use Rattle.problem_file.specs.Filed.{Filed}
+use Rattle.selection_definitions.specs.Selection.{selected}
 use Rattle.exact_values.specs.Rational.{ℚ}
 use Rattle.control_definitions.specs.declared.NameCell.{NameCell}
 use Rattle.control_definitions.specs.declared.NameCell.TheVariants.{Xdata, Xpbname, Xobj, Xrhs, Xoldname, Xchrow, Xchcol}
@@ -7,16 +9,17 @@ use Rattle.control_definitions.specs.declared.NumberCell.{NumberCell}
 use Rattle.control_definitions.specs.declared.NumberCell.TheVariants.{Xparam, Xparmax}
 use Rattle.control_definitions.specs.declared.Demand.{Demand}
 use Rattle.control_definitions.specs.declared.Demand.TheVariants.{Xdonfs, Xdounb}
-use Rattle.control_definitions.specs.Program.{Initialz, MoveName, MoveNumber, MoveLimit, Mvadr, Goto, Exit}
+use Rattle.control_definitions.specs.Program.{SetupOptions, Initialz, MoveName, MoveNumber, MoveLimit, Mvadr, Goto, Exit}
 use Rattle.listing_definitions.specs.declared.Mark.{Mark}
 use Rattle.control_definitions.specs.Cells.{Cells, default_cells, move_name, move_number, move_limit, set_demand}
-use Rattle.run_definitions.specs.State.{State}
+use Rattle.run_definitions.specs.State.{State, choice_of}
 use Rattle.run_definitions.specs.Verbs.{mark_after, verb_move}
 use Rattle.control_run.specs.declared.act.Act.TheVariants.{Next, Jump, Ends}
 use Rattle.control_run.specs.declared.end.End.TheVariants.{Done}
 use Rattle.control_run.specs.declared.machine.Machine.{Machine}
+use Rattle.control_run.specs.declared.machine.Setup.{Setup}
 use Rattle.control_run.specs.Stage.{stage}
-use Rattle.control_run.specs.Standing.{AreDemands, IsSound, Stands}
+use Rattle.control_run.specs.Standing.{AreDemands, IsSelected, IsSound, Stands}
 use Rattle.control_run.specs.Statements.{Decides}
 
 -- cells and mark change in the state as they do in the machine
@@ -71,10 +74,29 @@ exit_decides card machine = λ cards position executed state s. refl
 
 -- ---- soundness
 
-pub sound_changed : {cards : List (List ℕ)} {old : Machine} → IsSound cards old → (cells : Cells) (mark : Option Mark) → AreDemands cells → IsSound cards (record old { cells = cells; mark = mark })
-sound_changed s cells mark d = record { first = s.first; last = s.last; demands = d; basis = s.basis }
+-- the cells still choose the same
+abbrev ChooseAlike : Cells → Cells → Type 0
+ChooseAlike a b = (options : SetupOptions) → choice_of a options ≡ choice_of b options
 
-pub demands_named : (cell : NameCell) (name : List ℕ) (c : Cells) → AreDemands c → AreDemands (move_name cell name c)
+selected_alike : (a b : Cells) (file : Filed) (setup : Setup) → ChooseAlike a b → IsSelected a file setup → IsSelected b file setup
+selected_alike a b file setup same h = λ problem on_file. ap (selected problem) (sym (same setup.options)) ∙ h problem on_file
+
+setup_alike : (a b : Cells) (file : Filed) (kept : Option Setup) → ChooseAlike a b → IfSome kept (IsSelected a file) → IfSome kept (IsSelected b file)
+setup_alike a b file None same h = tt
+setup_alike a b file (Some setup) same h = selected_alike a b file setup same h
+
+solved_alike : (a b : Cells) (file : Filed) (kept : Option Setup) (mark : Option Mark) → ChooseAlike a b → IfSome mark (λ m. IfSome kept (IsSelected a file)) → IfSome mark (λ m. IfSome kept (IsSelected b file))
+solved_alike a b file kept None same h = tt
+solved_alike a b file kept (Some mark) same h = setup_alike a b file kept same h
+
+sound_alike : {cards : List (List ℕ)} {old : Machine} → IsSound cards old → (cells : Cells) → AreDemands cells → ChooseAlike old.cells cells → IsSound cards (record old { cells = cells })
+sound_alike {old = old} s cells d same = record { first = s.first; last = s.last; demands = d; ready = s.ready; solved = solved_alike old.cells cells old.file old.setup old.mark same s.solved }
+
+-- without a mark nothing need be solved
+sound_unmarked : {cards : List (List ℕ)} {old : Machine} → IsSound cards old → (cells : Cells) → AreDemands cells → IsSound cards (record old { cells = cells; mark = None })
+sound_unmarked s cells d = record { first = s.first; last = s.last; demands = d; ready = s.ready; solved = tt }
+
+demands_named : (cell : NameCell) (name : List ℕ) (c : Cells) → AreDemands c → AreDemands (move_name cell name c)
 demands_named Xdata name c d = record { infeasible = d.infeasible; unbounded = d.unbounded }
 demands_named Xpbname name c d = record { infeasible = d.infeasible; unbounded = d.unbounded }
 demands_named Xobj name c d = record { infeasible = d.infeasible; unbounded = d.unbounded }
@@ -83,10 +105,54 @@ demands_named Xoldname name c d = record { infeasible = d.infeasible; unbounded 
 demands_named Xchrow name c d = record { infeasible = d.infeasible; unbounded = d.unbounded }
 demands_named Xchcol name c d = record { infeasible = d.infeasible; unbounded = d.unbounded }
 
-pub demands_numbered : (cell : NumberCell) (value : ℚ) (c : Cells) → AreDemands c → AreDemands (move_number cell value c)
+demands_numbered : (cell : NumberCell) (value : ℚ) (c : Cells) → AreDemands c → AreDemands (move_number cell value c)
 demands_numbered Xparam value c d = record { infeasible = d.infeasible; unbounded = d.unbounded }
 demands_numbered Xparmax value c d = record { infeasible = d.infeasible; unbounded = d.unbounded }
 
-pub demands_set : (demand : Demand) (to : ℕ) (c : Cells) → 1 ≤ to → AreDemands c → AreDemands (set_demand demand to c)
+demands_set : (demand : Demand) (to : ℕ) (c : Cells) → 1 ≤ to → AreDemands c → AreDemands (set_demand demand to c)
 demands_set Xdonfs to c h d = record { infeasible = h; unbounded = d.unbounded }
 demands_set Xdounb to c h d = record { infeasible = d.infeasible; unbounded = h }
+
+-- ---- each statement
+
+pub initialz_sound : {cards : List (List ℕ)} (old : Machine) (cells : Cells) → cells ≡ default_cells → IsSound cards old → IsSound cards (record old { cells = cells; mark = None })
+initialz_sound old cells e s = sound_unmarked s cells (subst AreDemands (sym e) (record { infeasible = tt; unbounded = tt }))
+
+-- another objective or right-hand side clears the mark, and any other cell leaves what is chosen
+name_sound_by : {cards : List (List ℕ)} (cell : NameCell) (name : List ℕ) (old : Machine) → IsSound cards old → IsSound cards (record old { cells = move_name cell name old.cells; mark = mark_after cell old.mark })
+name_sound_by Xobj name old s = sound_unmarked s (move_name Xobj name old.cells) (demands_named Xobj name old.cells s.demands)
+name_sound_by Xrhs name old s = sound_unmarked s (move_name Xrhs name old.cells) (demands_named Xrhs name old.cells s.demands)
+name_sound_by Xdata name old s = sound_alike s (move_name Xdata name old.cells) (demands_named Xdata name old.cells s.demands) (λ options. refl)
+name_sound_by Xpbname name old s = sound_alike s (move_name Xpbname name old.cells) (demands_named Xpbname name old.cells s.demands) (λ options. refl)
+name_sound_by Xoldname name old s = sound_alike s (move_name Xoldname name old.cells) (demands_named Xoldname name old.cells s.demands) (λ options. refl)
+name_sound_by Xchrow name old s = sound_alike s (move_name Xchrow name old.cells) (demands_named Xchrow name old.cells s.demands) (λ options. refl)
+name_sound_by Xchcol name old s = sound_alike s (move_name Xchcol name old.cells) (demands_named Xchcol name old.cells s.demands) (λ options. refl)
+
+pub name_sound : {cards : List (List ℕ)} (cell : NameCell) (name : List ℕ) (old : Machine) (cells : Cells) (mark : Option Mark) → cells ≡ move_name cell name old.cells → mark ≡ mark_after cell old.mark →
+    IsSound cards old → IsSound cards (record old { cells = cells; mark = mark })
+name_sound {cards = cards} cell name old cells mark e f s =
+    subst (λ (c : Cells). IsSound cards (record old { cells = c; mark = mark })) (sym e)
+    (subst (λ (m : Option Mark). IsSound cards (record old { cells = move_name cell name old.cells; mark = m })) (sym f) (name_sound_by cell name old s))
+
+number_alike : (cell : NumberCell) (value : ℚ) (c : Cells) → ChooseAlike c (move_number cell value c)
+number_alike Xparam value c options = refl
+number_alike Xparmax value c options = refl
+
+demand_alike : (demand : Demand) (to : ℕ) (c : Cells) → ChooseAlike c (set_demand demand to c)
+demand_alike Xdonfs to c options = refl
+demand_alike Xdounb to c options = refl
+
+pub number_sound : {cards : List (List ℕ)} (cell : NumberCell) (value : ℚ) (old : Machine) (cells : Cells) → cells ≡ move_number cell value old.cells → IsSound cards old → IsSound cards (record old { cells = cells })
+number_sound {cards = cards} cell value old cells e s =
+    subst (λ (c : Cells). IsSound cards (record old { cells = c })) (sym e)
+    (sound_alike s (move_number cell value old.cells) (demands_numbered cell value old.cells s.demands) (number_alike cell value old.cells))
+
+pub limit_sound : {cards : List (List ℕ)} (limit : ℕ) (old : Machine) (cells : Cells) → cells ≡ move_limit limit old.cells → IsSound cards old → IsSound cards (record old { cells = cells })
+limit_sound {cards = cards} limit old cells e s =
+    subst (λ (c : Cells). IsSound cards (record old { cells = c })) (sym e)
+    (sound_alike s (move_limit limit old.cells) (record { infeasible = s.demands.infeasible; unbounded = s.demands.unbounded }) (λ options. refl))
+
+pub demand_sound : {cards : List (List ℕ)} (demand : Demand) (to : ℕ) (old : Machine) (cells : Cells) → 1 ≤ to → cells ≡ set_demand demand to old.cells → IsSound cards old → IsSound cards (record old { cells = cells })
+demand_sound {cards = cards} demand to old cells first e s =
+    subst (λ (c : Cells). IsSound cards (record old { cells = c })) (sym e)
+    (sound_alike s (set_demand demand to old.cells) (demands_set demand to old.cells first s.demands) (demand_alike demand to old.cells))

@@ -8,8 +8,12 @@ pub mod Stepping
 pub mod Titling
 pub mod Ending_lines
 pub mod Sound
-pub mod Chosen
+pub mod Selected
 pub mod Setting
-pub mod Showing
-pub mod Solving_steps
 pub mod Filing
+pub mod Telling
+pub mod Present
+pub mod Solving_steps
+pub mod Primal_comes
+pub mod Keeping
+pub mod Showing

@@ -1,137 +1,210 @@
 -- What SOLUTION comes to.
-use Rattle.std.proofs.Common.{◌≡◌, ℕ, List, Option, None, Some, Result, Ok, Err, option_map, refl, sym, ap, subst, inl, ◌∙◌}
+use Rattle.std.proofs.Common.{◌≡◌, ℕ, List, [], ◌∷◌, ◌++◌, Option, None, Some, Result, Ok, Err, option_map, refl, sym, ap, subst, inl, inr, ◌∙◌}
 use Rattle.job_devices.specs.declared.device.WriteStop.{WriteStop}
 use Rattle.job_devices.specs.Text.{Writes}
 use Rattle.exact_values.specs.Rational.{ℚ}
-use Rattle.lp_definitions.specs.LinearProgram.{LinearProgram}
+use Rattle.lp_definitions.specs.LinearProgram.{Matrix, LinearProgram, size}
+use Rattle.lp_definitions.specs.Basis.{Basics, basics_of}
+use Rattle.lp_definitions.specs.Waypoints.{waypoint, KeepsWaypoints}
+use Rattle.lp_definitions.specs.declared.Evidence.{Evidence}
+use Rattle.evidence_definitions.specs.Statements.{Solution as SolutionStatement}
 use Rattle.problem_definitions.specs.Problem.{Problem}
 use Rattle.problem_file.specs.Filed.{Filed, filed_under}
+use Rattle.bounded_primal.specs.Calls.{LieIn}
 use Rattle.report_text.specs.Lines.{solution_lines}
 use Rattle.listing_definitions.specs.Text.{report_text}
-use Rattle.control_definitions.specs.Program.{Solution as SolutionVerb}
-use Rattle.selection_definitions.specs.Selection.{selected}
+use Rattle.control_definitions.specs.Program.{SetupOptions, Solution as SolutionVerb}
+use Rattle.selection_definitions.specs.Selection.{matrix_of, selected}
 use Rattle.listing_definitions.specs.declared.Mark.{Mark}
 use Rattle.listing_definitions.specs.declared.VerbFault.{VerbFault}
 use Rattle.listing_definitions.specs.declared.VerbFault.TheVariants as verb_fault
 use Rattle.listing_definitions.specs.Report.{SolutionLines, Solution}
-use Rattle.listing_definitions.specs.Ending.{VerbStop}
+use Rattle.listing_definitions.specs.Ending as endings
 use Rattle.question_definitions.specs.Answers.{Basis, Sheet, OfSolution}
 use Rattle.control_definitions.specs.Cells.{Cells}
 use Rattle.answer_definitions.specs.Sections.{IsShown}
-use Rattle.run_definitions.specs.State.{Present, State, choice_of, present_basis}
-use Rattle.run_definitions.specs.Moves.{Prints, Outcome, next, stops, Move, Gives, or_fault}
-use Rattle.run_definitions.specs.Verbs.{asks, shows_present, verb_move, statement_move}
-use Rattle.control_run.specs.declared.act.Act.TheVariants.{Next}
+use Rattle.answer_definitions.specs.Evidence.{OverflowsAt, IsEvidence}
+use Rattle.report_text.specs.declared.sheet.Sheet.{Sheet as OwnSheet}
+use Rattle.present_answers.specs.Answers.{sheet_shown}
+use Rattle.present_answers.specs.Stops.{SolutionRefused}
+use Rattle.run_definitions.specs.State.{Present, State, choice_of, present_basis, path_of}
+use Rattle.run_definitions.specs.Moves.{Gain, Nothing, Prints, punched_by, Outcome, next, stops, Move, MayStop, Asks, Gives, or_fault}
+use Rattle.run_definitions.specs.Verbs.{or_selection_fault, verb_move, statement_move}
+use Rattle.control_run.specs.declared.act.Act.{Act}
 use Rattle.control_run.specs.declared.act.Halt.{Halt}
 use Rattle.control_run.specs.declared.act.Halt.TheVariants as halt
+use Rattle.control_run.specs.declared.end.Place.{Place as OwnPlace}
+use Rattle.control_run.specs.declared.finding.Finding.{Finding}
+use Rattle.control_run.specs.declared.finding.Finding.TheVariants.{Overflow, Shown}
 use Rattle.control_run.specs.declared.machine.Machine.{Machine}
 use Rattle.control_run.specs.declared.machine.Setup.{Setup}
-use Rattle.control_run.specs.declared.selecting.Refusal.{Refusal}
-use Rattle.control_run.specs.declared.selecting.Refusal.TheVariants.{Fault, NoMemory}
+use Rattle.control_run.specs.declared.selecting.Refusal.TheVariants.{Fault}
+use Rattle.control_run.specs.Ends.{place_shown}
+use Rattle.control_run.specs.Engine.{ways}
 use Rattle.control_run.specs.Stage.{stage}
-use Rattle.control_run.specs.Standing.{Stands, present_of, setup_shown}
-use Rattle.control_run.specs.Statements.{Executes}
-use Rattle.control_run.specs.Choosing.{refused_act, HasSelectionFault, IsUnselected, WritesLines, PrintsLines}
-use Rattle.control_run.proofs.Giving.{gives_fault, gives_found, gives_selected, gives_unselected, quietly, loudly, cut_off}
+use Rattle.control_run.specs.Standing.{IsReady, IsSelected, IsPresent, ShowsSetup, Stands}
+use Rattle.control_run.specs.Statements.{Comes, Executes}
+use Rattle.control_run.specs.Choosing.{refused_act}
+use Rattle.control_run.specs.Findings.{LinesOverflow, LinesFound, shown, overflows, Shows, Tells, act_of}
+use Rattle.control_run.proofs.Selected.{same_matrix}
+use Rattle.control_run.proofs.Giving.{gives_fault, gives_found, gives_selected, quietly}
+use Rattle.control_run.proofs.Telling.{told_executes, cut_executes}
+use Rattle.control_run.proofs.Present.{present_with, IsPresentOf, present_at, one_problem, lie_up_to, lie_later}
 
--- the setup of the state, by what is on file under the setup's name
-pub shown_by : (file : Filed) (kept : Option Setup) (setup : Setup) (found : Option (Problem ℕ)) → kept ≡ Some setup → filed_under setup.name file ≡ found →
-    setup_shown file kept ≡ option_map (present_of setup) found
-shown_by file kept setup found is e = ap (λ (k : Option Setup). setup_shown file k) is ∙ ap (λ (o : Option (Problem ℕ)). option_map (present_of setup) o) e
+-- ---- the lines of a basis
 
-pub writes_lines : {P : Type 0} (written : P → Option (List ℕ)) (faults refusals : P → ℕ) (print_old print_new : P) (problem : Problem ℕ) (lp : LinearProgram) (s : Basis) (mark : Mark)
-    (point prices slack list : List ℚ) (result : Result (Unit {0}) WriteStop) → list ≡ slack →
-    IsShown (record { problem = problem; lp = lp }) s (solution_lines problem lp s point prices slack) →
-    Writes written faults refusals print_old print_new result (report_text (Solution mark (solution_lines problem lp s point prices list))) →
-    WritesLines written faults refusals print_old print_new (record { problem = problem; lp = lp }) s mark result
-writes_lines written faults refusals print_old print_new problem lp s mark point prices slack list result same shown writes = record {
-  lines = solution_lines problem lp s point prices slack;
-  are_shown = shown;
-  writes = subst (λ (xs : List ℚ). Writes written faults refusals print_old print_new result (report_text (Solution mark (solution_lines problem lp s point prices xs)))) same writes;
-}
+-- they are printed or broken off
+module _ {P : Type 0} (written : P → Option (List ℕ)) (faults refusals : P → ℕ) {print_old print_new : P} (sheet : OwnSheet) (s : Basis) (before : List Basics) (mark : Mark) (point prices slack list : List ℚ) (same : list ≡ slack)
+    (is_shown : IsShown (sheet_shown sheet) s (solution_lines sheet.problem.now sheet.lp.now s point prices slack)) where
+  pub lines_told : Writes {T = Unit {0}} written faults refusals print_old print_new (Ok tt) (report_text (Solution mark (solution_lines sheet.problem.now sheet.lp.now s point prices list))) →
+      Tells (LinesFound (sheet_shown sheet) s before mark) written faults refusals print_old print_new (Ok Shown)
+  lines_told writes = record {
+    gain = Prints (Solution mark (solution_lines sheet.problem.now sheet.lp.now s point prices slack));
+    holds = shown is_shown;
+    writes = subst (λ (xs : List ℚ). Writes {T = Unit {0}} written faults refusals print_old print_new (Ok tt) (report_text (Solution mark (solution_lines sheet.problem.now sheet.lp.now s point prices xs)))) same writes;
+  }
+
+  pub lines_cut : (stop : WriteStop) → Writes {T = Unit {0}} written faults refusals print_old print_new (Err stop) (report_text (Solution mark (solution_lines sheet.problem.now sheet.lp.now s point prices list))) →
+      Tells (LinesFound (sheet_shown sheet) s before mark) written faults refusals print_old print_new (Err (halt.Print stop))
+  lines_cut stop writes = record {
+    gain = Prints (Solution mark (solution_lines sheet.problem.now sheet.lp.now s point prices slack));
+    finding = Shown;
+    holds = shown is_shown;
+    writes = subst (λ (xs : List ℚ). Writes {T = Unit {0}} written faults refusals print_old print_new (Err stop) (report_text (Solution mark (solution_lines sheet.problem.now sheet.lp.now s point prices xs)))) same writes;
+  }
+
+pub lines_overflow : (sheet : OwnSheet) (s : Basis) (before after : List Basics) (mark : Mark) (e : Evidence) → SolutionRefused sheet.lp.now before s after e →
+    (place : OwnPlace) → place_shown place ≡ record { basis = s; way = waypoint (basics_of s) after e.way } → LinesFound (sheet_shown sheet) s before mark Nothing (Overflow e (Some place))
+lines_overflow sheet s before after mark e o place is =
+    overflows (λ earlier lie. subst (λ (p : endings.Place). IsEvidence (SolutionStatement sheet.lp.now) None 0 (earlier ++ s ∷ []) [] e (Some p)) (sym is) (o.shows earlier lie))
+
+-- ---- a setup
+
+-- the setup keeps all but what its engine has passed through
+pub record IsSameSetup (setup new : Setup) : Type 0 where
+  pub name : new.name ≡ setup.name
+  pub options : new.options ≡ setup.options
+  pub lp : new.lp ≡ setup.lp
+  pub basis : new.basis ≡ setup.basis
+  pub keeps : KeepsWaypoints setup.lp.matrix (basics_of setup.basis) (ways setup.engine) (basics_of setup.basis) (ways new.engine)
+
+pub still_selected : (cells : Cells) (file : Filed) (setup new : Setup) → IsSameSetup setup new → IsSelected cells file setup → IsSelected cells file new
+still_selected cells file setup new k h = λ problem on_file.
+    ap (λ (o : SetupOptions). selected problem (choice_of cells o)) k.options ∙ h problem (ap (λ name. filed_under name file) (sym k.name) ∙ on_file) ∙ ap Ok (sym k.lp)
+
+module _ {P : Type 0} (written : P → Option (List ℕ)) (faults refusals : P → ℕ) (file : Filed) (setup : Setup) (mark : Mark) (there : Problem ℕ) (is_there : filed_under setup.name file ≡ Some there) where
+  pub lines_at : (print_old print_new : P) (result : Result Finding Halt) → Tells (Shows there setup mark) written faults refusals print_old print_new result →
+      (problem : Problem ℕ) → filed_under setup.name file ≡ Some problem → Tells (Shows problem setup mark) written faults refusals print_old print_new result
+  lines_at print_old print_new result t problem on_file =
+      subst (λ (q : Problem ℕ). Tells (Shows q setup mark) written faults refusals print_old print_new result) (one_problem file setup there problem is_there on_file) t
+
+-- ---- the statement
+
+no_cards_by : (problem : Problem ℕ) (setup : Setup) (mark : Mark) (gain : Gain) (finding : Finding) → Shows problem setup mark gain finding → punched_by gain ≡ []
+no_cards_by problem setup mark _ _ (shown h) = refl
+no_cards_by problem setup mark _ _ (overflows h) = refl
+
+abbrev sheet_of : Present → LinearProgram → Sheet
+sheet_of present lp = record { problem = present.problem; lp = lp }
 
 module _ (card : ℕ) (state : State) where
-  abbrev sheet_of : Present → LinearProgram → Sheet
-  sheet_of present lp = record { problem = present.problem; lp = lp }
-
   abbrev printed : Mark → SolutionLines → Outcome
   printed mark lines = next (Prints (Solution mark lines)) state
 
   abbrev go_shown : Present → Mark → LinearProgram → Move
-  go_shown present mark lp = asks stage OfSolution (sheet_of present lp) present SolutionLines (stage.Shows (sheet_of present lp) (present_basis present)) (printed mark)
+  go_shown present mark lp = MayStop (OverflowsAt OfSolution (sheet_of present lp) (path_of present)) (Asks SolutionLines (IsShown (sheet_of present lp) (present_basis present)) (printed mark))
 
   abbrev go_marked : Present → Mark → Move
-  go_marked present mark = shows_present stage card state present OfSolution SolutionLines stage.Shows (Solution mark)
+  go_marked present mark = or_selection_fault card (selected present.problem (choice_of state.cells present.options)) (go_shown present mark)
 
   abbrev go_set_up : Present → Move
   go_set_up present = or_fault card verb_fault.NotSolved state.mark (go_marked present)
 
-  gives_no_setup : state.setup ≡ None → Gives card (statement_move stage SolutionVerb card state) (stops (VerbStop (record { fault = verb_fault.NoSetup; card = card })))
+  solution_gives : (outcome : Outcome) → Gives card (or_fault card verb_fault.NoSetup state.setup go_set_up) outcome → Gives card (statement_move stage SolutionVerb card state) outcome
   unfolding stage verb_move
-  gives_no_setup e = gives_fault card verb_fault.NoSetup state.setup go_set_up e
+  solution_gives outcome g = g
 
-  gives_marked : (present : Present) (outcome : Outcome) → state.setup ≡ Some present → Gives card (go_set_up present) outcome → Gives card (statement_move stage SolutionVerb card state) outcome
-  unfolding stage verb_move
-  gives_marked present outcome e given = gives_found card verb_fault.NoSetup state.setup go_set_up present outcome e given
+  gives_no_setup : state.setup ≡ None → Gives card (statement_move stage SolutionVerb card state) (stops (endings.VerbStop (record { fault = verb_fault.NoSetup; card = card })))
+  gives_no_setup e = solution_gives (stops (endings.VerbStop (record { fault = verb_fault.NoSetup; card = card }))) (gives_fault card verb_fault.NoSetup state.setup go_set_up e)
 
-  gives_not_solved : (present : Present) → state.setup ≡ Some present → state.mark ≡ None → Gives card (statement_move stage SolutionVerb card state) (stops (VerbStop (record { fault = verb_fault.NotSolved; card = card })))
-  gives_not_solved present e none =
-      gives_marked present (stops (VerbStop (record { fault = verb_fault.NotSolved; card = card }))) e (gives_fault card verb_fault.NotSolved state.mark (go_marked present) none)
+  gives_set_up : (present : Present) (outcome : Outcome) → state.setup ≡ Some present → Gives card (go_set_up present) outcome → Gives card (statement_move stage SolutionVerb card state) outcome
+  gives_set_up present outcome e given = solution_gives outcome (gives_found card verb_fault.NoSetup state.setup go_set_up present outcome e given)
 
-  gives_refused : (present : Present) (mark : Mark) (fault : VerbFault) → state.setup ≡ Some present → state.mark ≡ Some mark →
-      HasSelectionFault present.problem (choice_of state.cells present.options) fault → Gives card (statement_move stage SolutionVerb card state) (stops (VerbStop (record { fault = fault; card = card })))
-  gives_refused present mark fault e m h =
-      gives_marked present (stops (VerbStop (record { fault = fault; card = card }))) e
-      (gives_found card verb_fault.NotSolved state.mark (go_marked present) mark (stops (VerbStop (record { fault = fault; card = card }))) m
-      (gives_unselected card (selected present.problem (choice_of state.cells present.options)) (go_shown present mark) h.why fault h.is_refused h.is_fault))
+pub solution_no_setup : (card : ℕ) {P : Type 0} (written : P → Option (List ℕ)) (faults refusals : P → ℕ) (cards : List (List ℕ)) (machine : Machine) (print : P) → machine.setup ≡ None →
+    Executes stage SolutionVerb card written faults refusals print print cards machine machine (refused_act card (Fault verb_fault.NoSetup))
+solution_no_setup card written faults refusals cards machine print none =
+    quietly stage SolutionVerb card written faults refusals cards machine print (λ position executed state s.
+    gives_no_setup card state (subst (λ (kept : Option Setup). ShowsSetup machine.file kept state.setup) none s.setup))
 
-  gives_shown : (present : Present) (mark : Mark) (lp : LinearProgram) (lines : SolutionLines) → state.setup ≡ Some present → state.mark ≡ Some mark →
-      selected present.problem (choice_of state.cells present.options) ≡ Ok lp → IsShown (sheet_of present lp) (present_basis present) lines →
-      Gives card (statement_move stage SolutionVerb card state) (printed mark lines)
-  unfolding stage
-  gives_shown present mark lp lines e m s shown =
-      gives_marked present (printed mark lines) e
-      (gives_found card verb_fault.NotSolved state.mark (go_marked present) mark (printed mark lines) m
-      (gives_selected card (selected present.problem (choice_of state.cells present.options)) (go_shown present mark) lp (printed mark lines) s
-      (inl (lines, shown, refl))))
+module _ (card : ℕ) (cards : List (List ℕ)) (old : Machine) (setup : Setup) (is_setup : old.setup ≡ Some setup) (problem : Problem ℕ) (on_file : filed_under setup.name old.file ≡ Some problem) where
+  module _ (position executed : ℕ) (state : State) (s : Stands cards old position executed state) where
+    p : IsPresentOf problem setup state.setup
+    p = present_at old.file setup state.setup problem on_file (subst (λ (kept : Option Setup). ShowsSetup old.file kept state.setup) is_setup s.setup)
 
-module _ (card : ℕ) {P : Type 0} (written : P → Option (List ℕ)) (faults refusals : P → ℕ) (cards : List (List ℕ)) (machine : Machine) where
-  pub solution_no_setup : (print : P) → setup_shown machine.file machine.setup ≡ None →
-      Executes stage SolutionVerb card written faults refusals print print cards machine machine (refused_act card (Fault verb_fault.NoSetup))
-  solution_no_setup print none =
-      quietly stage SolutionVerb card written faults refusals cards machine print (λ position executed state s. gives_no_setup card state (s.setup ∙ none))
+    abbrev present : Present
+    present = present_with problem setup.options p.opening p.steps
 
-  module _ (present : Present) (is_present : setup_shown machine.file machine.setup ≡ Some present) where
-    pub solution_not_solved : (print : P) → machine.mark ≡ None → Executes stage SolutionVerb card written faults refusals print print cards machine machine (refused_act card (Fault verb_fault.NotSolved))
-    solution_not_solved print none =
-        quietly stage SolutionVerb card written faults refusals cards machine print (λ position executed state s. gives_not_solved card state present (s.setup ∙ is_present) (s.mark ∙ none))
+    not_solved : old.mark ≡ None → Gives card (statement_move stage SolutionVerb card state) (stops (endings.VerbStop (record { fault = verb_fault.NotSolved; card = card })))
+    not_solved none =
+        gives_set_up card state present (stops (endings.VerbStop (record { fault = verb_fault.NotSolved; card = card }))) p.is_shown
+        (gives_fault card verb_fault.NotSolved state.mark (go_marked card state present) (s.mark ∙ none))
 
-    module _ (mark : Mark) (is_mark : machine.mark ≡ Some mark) where
-      pub solution_refused : (print : P) (refusal : Refusal) → IsUnselected present.problem (choice_of machine.cells present.options) refusal →
-          Executes stage SolutionVerb card written faults refusals print print cards machine machine (refused_act card refusal)
-      solution_refused print (Fault fault) h =
-          quietly stage SolutionVerb card written faults refusals cards machine print (λ position executed state s.
-          gives_refused card state present mark fault (s.setup ∙ is_present) (s.mark ∙ is_mark)
-          (subst (λ (c : Cells). HasSelectionFault present.problem (choice_of c present.options) fault) (sym s.cells) h))
-      solution_refused print NoMemory h = refl
+    module _ (new : Setup) (mark : Mark) (is_mark : old.mark ≡ Some mark) (ok : selected problem (choice_of old.cells setup.options) ≡ Ok setup.lp) (k : IsSameSetup setup new) where
+      marked_gives : (outcome : Outcome) → Gives card (go_shown card state present mark setup.lp) outcome → Gives card (statement_move stage SolutionVerb card state) outcome
+      marked_gives outcome g =
+          gives_set_up card state present outcome p.is_shown
+          (gives_found card verb_fault.NotSolved state.mark (go_marked card state present) mark outcome (s.mark ∙ is_mark)
+          (gives_selected card (selected problem (choice_of state.cells setup.options)) (go_shown card state present mark) setup.lp outcome
+          (ap (λ (c : Cells). selected problem (choice_of c setup.options)) s.cells ∙ ok) g))
 
-      module _ (lp : LinearProgram) (is_selected : selected present.problem (choice_of machine.cells present.options) ≡ Ok lp) where
-        shows_lines : (lines : SolutionLines) → IsShown (record { problem = present.problem; lp = lp }) (present_basis present) lines →
-            {position executed : ℕ} {state : State} → Stands cards machine position executed state →
-            Gives card (statement_move stage SolutionVerb card state) (next (Prints (Solution mark lines)) state)
-        shows_lines lines shown {state = state} s =
-            gives_shown card state present mark lp lines (s.setup ∙ is_present) (s.mark ∙ is_mark)
-            (ap (λ (c : Cells). selected present.problem (choice_of c present.options)) s.cells ∙ is_selected) shown
+      still_stands : Stands cards (record old { setup = Some new }) position executed state
+      still_stands =
+          let same : matrix_of problem ≡ setup.lp.matrix = same_matrix problem (choice_of old.cells setup.options) setup.lp ok in
+          let lie : LieIn setup.lp.matrix (ways new.engine) (p.initial ++ setup.basis ∷ []) =
+          lie_later setup.lp.matrix p.initial setup.basis (ways setup.engine) (ways new.engine) k.keeps (lie_up_to problem setup state.setup p setup.lp same) in
+          record {
+            is_position = s.is_position;
+            is_executed = s.is_executed;
+            cells = s.cells;
+            file = s.file;
+            decks = s.decks;
+            setup = record {
+              problem = problem;
+              on_file = ap (λ name. filed_under name old.file) k.name ∙ on_file;
+              opening = p.opening;
+              steps = p.steps;
+              is_shown = p.is_shown ∙ ap (λ (o : SetupOptions). Some (present_with problem o p.opening p.steps)) (sym k.options);
+              reached = p.reached ∙ sym k.basis;
+              lie = subst (λ (bs : List Basis). LieIn (matrix_of problem) (ways new.engine) bs) (sym p.ends) (subst (λ (a : Matrix). LieIn a (ways new.engine) (p.initial ++ setup.basis ∷ [])) (sym same) lie);
+            };
+            mark = s.mark;
+          }
 
-        pub solution_printed : (print_old print_new : P) → PrintsLines written faults refusals print_old print_new (record { problem = present.problem; lp = lp }) (present_basis present) mark (Ok tt) →
-            Executes stage SolutionVerb card written faults refusals print_old print_new cards machine machine (Ok Next)
-        solution_printed print_old print_new w =
-            loudly stage SolutionVerb card written faults refusals cards machine (Solution mark w.lines)
-            (λ position executed state s. (state, shows_lines w.lines w.are_shown s, s)) w.writes
+      pub shown_comes : (gain : Gain) (finding : Finding) → Shows problem setup mark gain finding →
+          Comes stage SolutionVerb card cards position executed state (record old { setup = Some new }) gain (act_of old.cells card finding)
+      shown_comes _ _ (shown {lines = lines} h) =
+          (state, marked_gives (printed card state mark lines) (inl (lines, subst (λ (b : Basis). IsShown (record { problem = problem; lp = setup.lp }) b lines) (sym p.reached) h, refl)), still_stands)
+      shown_comes _ _ (overflows {e = e} {place = place} h) =
+          let same : matrix_of problem ≡ setup.lp.matrix = same_matrix problem (choice_of old.cells setup.options) setup.lp ok in
+          marked_gives (stops (endings.OverflowStop (record { evidence = e; place = option_map place_shown place; card = card })))
+          (inr (e, option_map place_shown place,
+          subst (λ (bs : List Basis). IsEvidence (SolutionStatement setup.lp) None 0 bs [] e (option_map place_shown place)) (sym p.ends) (h p.initial (lie_up_to problem setup state.setup p setup.lp same)), refl))
 
-        pub solution_stopped : (print_old print_new : P) (why : Halt) → PrintsLines written faults refusals print_old print_new (record { problem = present.problem; lp = lp }) (present_basis present) mark (Err why) →
-            Executes stage SolutionVerb card written faults refusals print_old print_new cards machine machine (Err why)
-        solution_stopped print_old print_new (halt.Print stop) w =
-            cut_off stage SolutionVerb card written faults refusals cards machine machine stop (Solution mark w.lines)
-            (λ position executed state s. (next (Prints (Solution mark w.lines)) state, shows_lines w.lines w.are_shown s, refl)) w.writes
-        solution_stopped print_old print_new halt.NoMemory w = w
+  module _ {P : Type 0} (written : P → Option (List ℕ)) (faults refusals : P → ℕ) where
+    pub solution_not_solved : (print : P) (any : Machine) → old.mark ≡ None → Executes stage SolutionVerb card written faults refusals print print cards old any (refused_act card (Fault verb_fault.NotSolved))
+    solution_not_solved print any none =
+        quietly stage SolutionVerb card written faults refusals cards old print {new = any} (λ position executed state s. not_solved position executed state s none)
+
+    module _ (print_old print_new : P) (new : Setup) (mark : Mark) (is_mark : old.mark ≡ Some mark) (ok : selected problem (choice_of old.cells setup.options) ≡ Ok setup.lp) (k : IsSameSetup setup new) where
+      pub solution_found : (finding : Finding) (then : Act) → then ≡ act_of old.cells card finding → Tells (Shows problem setup mark) written faults refusals print_old print_new (Ok finding) →
+          Executes stage SolutionVerb card written faults refusals print_old print_new cards old (record old { setup = Some new }) (Ok then)
+      solution_found finding then e t =
+          subst (λ (a : Act). Executes stage SolutionVerb card written faults refusals print_old print_new cards old (record old { setup = Some new }) (Ok a)) (sym e)
+          (told_executes SolutionVerb card written faults refusals cards old (Shows problem setup mark) (λ found. record old { setup = Some new }) (act_of old.cells card) (no_cards_by problem setup mark)
+          (λ gain found h position executed state s. shown_comes position executed state s new mark is_mark ok k gain found h) print_old print_new finding t)
+
+      pub solution_cut : (any : Machine) (h : Halt) → Tells (Shows problem setup mark) written faults refusals print_old print_new (Err h) →
+          Executes stage SolutionVerb card written faults refusals print_old print_new cards old any (Err h)
+      solution_cut any h t =
+          cut_executes SolutionVerb card written faults refusals cards old (Shows problem setup mark) (λ found. record old { setup = Some new }) (act_of old.cells card) (no_cards_by problem setup mark)
+          (λ gain found h position executed state s. shown_comes position executed state s new mark is_mark ok k gain found h) print_old print_new any h t

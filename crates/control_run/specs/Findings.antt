@@ -1,56 +1,114 @@
--- What PRIMAL finds with the cells and the setup that a machine has, and what follows.
---     PathFinds gain finding       the path from a basis ends so, without a step
---     Finds gain finding           PRIMAL finds this, and has this to print
+-- What PRIMAL and SOLUTION find, and what follows.
+--     PathFinds gain finding       the path from a basis ends so, or is stopped so
+--     Finds gain finding           PRIMAL finds this with a setup, and has this to print
+--     LinesFound gain finding      the lines of a basis are made, or their making is stopped so
+--     Shows gain finding           SOLUTION finds this with a setup, and has this to print
 --     refused_finding refusal      what a refusal comes to
 --     Tells result                 what is found is told, with its report printed; or it is cut off
 --     act_of cells card finding    what follows
-use Rattle.std.specs.Prelude.{◌≡◌, ℕ, List, [], Option, Some, None, Result, Ok, Err}
+use Rattle.std.specs.Prelude.{◌≡◌, ℕ, List, [], ◌∷◌, ◌++◌, Option, Some, None, Result, Ok, Err, option_map}
 use Rattle.job_devices.specs.declared.device.WriteStop.{WriteStop}
 use Rattle.job_devices.specs.Text.{Writes}
 use Rattle.lp_definitions.specs.LinearProgram.{LinearProgram}
-use Rattle.selection_definitions.specs.declared.SelectionFault.{SelectionFault}
+use Rattle.lp_definitions.specs.Basis.{Basics, basics_of}
+use Rattle.lp_definitions.specs.Waypoints.{waypoint}
+use Rattle.lp_definitions.specs.declared.Evidence.{Evidence}
+use Rattle.path_definitions.specs.Path.{last_of, GoesOnFor}
+use Rattle.evidence_definitions.specs.Statements.{Solution as SolutionStatement}
+use Rattle.problem_definitions.specs.Problem.{Problem}
 use Rattle.selection_definitions.specs.Selection.{selected}
 use Rattle.listing_definitions.specs.declared.Mark.{Mark}
 use Rattle.listing_definitions.specs.declared.Mark.TheVariants.{Optimal, Infeasible, Unbounded}
+use Rattle.listing_definitions.specs.declared.VerbFault.{VerbFault}
 use Rattle.listing_definitions.specs.declared.Solver.TheVariants.{Primal as ByPrimal}
-use Rattle.listing_definitions.specs.declared.VerbFault.TheVariants.{NoSetup}
-use Rattle.listing_definitions.specs.Report.{Verdict, Check, Solved}
+use Rattle.listing_definitions.specs.Report.{Verdict, Check, Solved, Solution, SolutionLines}
+use Rattle.listing_definitions.specs.Ending.{Place}
 use Rattle.control_definitions.specs.Cells.{Cells}
-use Rattle.question_definitions.specs.Answers.{Basis, Sheet, Reached, PathLimit, PathNotBuilt}
-use Rattle.answer_definitions.specs.Real.{IsSolvedUnless}
-use Rattle.opening_path.specs.Missing.{IsMissing}
-use Rattle.run_definitions.specs.State.{Present, present_basis, choice_of}
+use Rattle.question_definitions.specs.Answers.{Basis, Sheet}
+use Rattle.answer_definitions.specs.Verdicts.{ReachesVerdict}
+use Rattle.answer_definitions.specs.Sections.{IsShown}
+use Rattle.answer_definitions.specs.Evidence.{IsEvidence, OverflowsOnPath}
+use Rattle.bounded_primal.specs.Calls.{LieIn}
+use Rattle.run_definitions.specs.State.{choice_of}
 use Rattle.run_definitions.specs.Moves.{Gain, Nothing, Prints}
-use Rattle.run_definitions.specs.Verbs.{mark_of, selection_verb_fault}
+use Rattle.run_definitions.specs.Verbs.{mark_of}
 use Rattle.control_run.specs.declared.act.Act.{Act}
 use Rattle.control_run.specs.declared.act.Act.TheVariants.{Next, Jump, Ends}
 use Rattle.control_run.specs.declared.act.Halt.{Halt}
 use Rattle.control_run.specs.declared.act.Halt.TheVariants as halt
 use Rattle.control_run.specs.declared.end.End.{End}
 use Rattle.control_run.specs.declared.end.End.TheVariants as end
-use Rattle.control_run.specs.declared.primal.Finding.{Finding}
-use Rattle.control_run.specs.declared.primal.Finding.TheVariants.{Refused, Ended, Limit, NotBuilt}
+use Rattle.control_run.specs.declared.end.Place.{Place as OwnPlace}
+use Rattle.control_run.specs.declared.finding.Finding.{Finding}
+use Rattle.control_run.specs.declared.finding.Finding.TheVariants.{Refused, Overflow, Limit, Ended, Shown}
+use Rattle.control_run.specs.declared.machine.Setup.{Setup}
 use Rattle.control_run.specs.declared.selecting.Refusal.{Refusal}
 use Rattle.control_run.specs.declared.selecting.Refusal.TheVariants.{Fault, NoMemory}
+use Rattle.control_run.specs.declared.selecting.Refusal.TheVariants as refusals
+use Rattle.control_run.specs.Choosing.{HasSelectionFault, HasRangeOverflow}
+use Rattle.control_run.specs.Ends.{place_shown}
+use Rattle.control_run.specs.Engine.{ways}
 use Rattle.control_run.specs.Statements.{gain_text}
 
--- The path from a basis ends at it, and its verdict is printed; or it goes on past the limit; or it does what isn't built.
-pub data PathFinds (sheet : Sheet) (s : Basis) (limit : ℕ) : Gain → Finding → Type 0 where
-  reached : {verdict : Verdict} {check : Check} → IsSolvedUnless IsMissing sheet s limit (Reached [] verdict check) → PathFinds sheet s limit (Prints (Solved ByPrimal verdict check)) (Ended (mark_of verdict))
-  at_limit : IsSolvedUnless IsMissing sheet s limit PathLimit → PathFinds sheet s limit Nothing Limit
-  not_built : IsSolvedUnless IsMissing sheet s limit PathNotBuilt → PathFinds sheet s limit Nothing NotBuilt
+-- ---- what stops a call
 
--- With these cells there is no setup; or its selection is refused; or it is solved from the present basis.
-pub data Finds (cells : Cells) : Option Present → Gain → Finding → Type 0 where
-  without_setup : Finds cells None Nothing (Refused NoSetup)
-  unselected : {present : Present} {fault : SelectionFault} → selected present.problem (choice_of cells present.options) ≡ Err fault → Finds cells (Some present) Nothing (Refused (selection_verb_fault fault))
-  solved : {present : Present} {lp : LinearProgram} {gain : Gain} {finding : Finding} → selected present.problem (choice_of cells present.options) ≡ Ok lp →
-      PathFinds (record { problem = present.problem; lp = lp }) (present_basis present) cells.xiterlim gain finding → Finds cells (Some present) gain finding
+-- an operation is refused, at this basis and this waypoint; or there is no memory
+pub data IsOverflowAt (s : Basis) (after : List Basics) (e : Evidence) : Result Finding Halt → Type 0 where
+  told : (place : OwnPlace) → place_shown place ≡ record { basis = s; way = waypoint (basics_of s) after e.way } → IsOverflowAt s after e (Ok (Overflow e (Some place)))
+  no_memory : IsOverflowAt s after e (Err halt.NoMemory)
+
+-- ---- the path
+
+module _ (sheet : Sheet) (s now : Basis) (limit : ℕ) (before after : List Basics) where
+  -- The path from s goes over these bases to now, and ends there with this verdict. For every list of bases that ends with s, in which
+  -- the waypoints lay before, they lie after in that list followed by these bases.
+  pub record PathReaches (bases : List Basis) (verdict : Verdict) (check : Check) : Type 0 where
+    pub reaches : ReachesVerdict sheet s limit bases verdict check
+    pub leads : last_of s bases ≡ now
+    pub lie : (earlier : List Basis) → LieIn sheet.lp.matrix before (earlier ++ s ∷ []) → LieIn sheet.lp.matrix after (earlier ++ s ∷ bases)
+
+  -- for every list of bases that ends with s, in which the waypoints lay before, the path from there may stop with this evidence
+  abbrev pub PathOverflows : Evidence → Option Place → Type 0
+  PathOverflows e place = (earlier : List Basis) → LieIn sheet.lp.matrix before (earlier ++ s ∷ []) → OverflowsOnPath sheet (earlier ++ s ∷ []) limit e place
+
+  -- its verdict is printed; or it goes on past the limit; or an operation is refused
+  pub data PathFinds : Gain → Finding → Type 0 where
+    reached : {bases : List Basis} {verdict : Verdict} {check : Check} → PathReaches bases verdict check → PathFinds (Prints (Solved ByPrimal verdict check)) (Ended (mark_of verdict))
+    at_limit : GoesOnFor sheet.lp s limit → PathFinds Nothing Limit
+    overflows : {e : Evidence} {place : Option OwnPlace} → PathOverflows e (option_map place_shown place) → PathFinds Nothing (Overflow e place)
+
+-- With these cells the selection of a setup's problem is refused; or its path is followed from the present basis, and the setup keeps
+-- where it has come to.
+pub data Finds (problem : Problem ℕ) (cells : Cells) (setup new : Setup) : Gain → Finding → Type 0 where
+  unselected : {fault : VerbFault} → HasSelectionFault problem (choice_of cells setup.options) fault → Finds problem cells setup new Nothing (Refused fault)
+  too_large : {e : Evidence} → HasRangeOverflow problem (choice_of cells setup.options) e → Finds problem cells setup new Nothing (Overflow e None)
+  solved : {lp : LinearProgram} {gain : Gain} {finding : Finding} → selected problem (choice_of cells setup.options) ≡ Ok lp →
+      new.name ≡ setup.name → new.options ≡ setup.options →
+      PathFinds (record { problem = problem; lp = lp }) setup.basis new.basis cells.xiterlim (ways setup.engine) (ways new.engine) gain finding →
+      Finds problem cells setup new gain finding
 
 -- a refusal is found, or there is no memory
 abbrev pub refused_finding : Refusal → Result Finding Halt
 refused_finding (Fault fault) = Ok (Refused fault)
+refused_finding (refusals.Overflow e) = Ok (Overflow e None)
 refused_finding NoMemory = Err halt.NoMemory
+
+-- ---- the lines of a basis
+
+module _ (sheet : Sheet) (s : Basis) (before : List Basics) where
+  -- for every list of bases that ends with s, in which the waypoints lay before, SOLUTION may stop with this evidence
+  abbrev pub LinesOverflow : Evidence → Option Place → Type 0
+  LinesOverflow e place = (earlier : List Basis) → LieIn sheet.lp.matrix before (earlier ++ s ∷ []) →
+      IsEvidence (SolutionStatement sheet.lp) None 0 (earlier ++ s ∷ []) [] e place
+
+  -- its lines are printed with the mark; or an operation is refused
+  pub data LinesFound (mark : Mark) : Gain → Finding → Type 0 where
+    shown : {lines : SolutionLines} → IsShown sheet s lines → LinesFound mark (Prints (Solution mark lines)) Shown
+    overflows : {e : Evidence} {place : Option OwnPlace} → LinesOverflow e (option_map place_shown place) → LinesFound mark Nothing (Overflow e place)
+
+-- those of a setup's present basis, in the linear program that it keeps
+abbrev pub Shows : Problem ℕ → Setup → Mark → Gain → Finding → Type 0
+Shows problem setup mark = LinesFound (record { problem = problem; lp = setup.lp }) setup.basis (ways setup.engine) mark
 
 -- ---- with what is printed
 
@@ -81,16 +139,23 @@ abbrev pub demanded_act : Option ℕ → End → Act
 demanded_act (Some position) end = Jump position
 demanded_act None end = Ends end
 
--- an optimal verdict goes on with the next statement; any other verdict goes by its demand, and what is no verdict ends the run
+-- an optimal verdict and the lines of a basis go on with the next statement; any other verdict goes by its demand, and what is neither
+-- ends the run
 abbrev pub act_of : Cells → ℕ → Finding → Act
 act_of cells card (Refused fault) = Ends (end.Verb fault card)
+act_of cells card (Overflow e place) = Ends (end.Overflow e place card)
+act_of cells card Limit = Ends (end.Limit cells.xiterlim card)
 act_of cells card (Ended Optimal) = Next
 act_of cells card (Ended Infeasible) = demanded_act cells.xdonfs end.Infeasible
 act_of cells card (Ended Unbounded) = demanded_act cells.xdounb end.Unbounded
-act_of cells card Limit = Ends (end.Limit cells.xiterlim card)
-act_of cells card NotBuilt = Ends end.NotBuilt
+act_of cells card Shown = Next
 
 -- a verdict leaves its mark
 abbrev pub mark_left : Finding → Option Mark → Option Mark
 mark_left (Ended mark) old = Some mark
 mark_left _ old = old
+
+-- this holds after a verdict
+abbrev pub IfEnded : Finding → Type 0 → Type 0
+IfEnded (Ended mark) Fact = Fact
+IfEnded _ Fact = Unit {0}

@@ -1,10 +1,11 @@
 pub mod Stage
+pub mod Engine
 pub mod Ends
 pub mod Standing
 pub mod Statements
-pub mod Running
 pub mod Turning
-pub mod Finishing
+pub mod Converting
 pub mod Choosing
 pub mod Findings
-pub mod Converting
+pub mod Finishing
+pub mod Running

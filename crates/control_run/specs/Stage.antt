@@ -1,13 +1,11 @@
 -- What is built of the verbs, and what a run knows of linear programming while not all is.
-use Rattle.std.specs.Prelude.{ℕ, Bool, true, false, ◌&&◌, is_none}
-use Rattle.control_definitions.specs.Program.{Verb, Setup, Revise, Ranging, Paraobj, Pararhs, Bcdout}
+use Rattle.std.specs.Prelude.{ℕ, Bool, true, false}
+use Rattle.control_definitions.specs.Program.{Verb, Revise, Ranging, Paraobj, Pararhs, Bcdout}
 use Rattle.question_definitions.specs.Solving.{Solving}
 use Rattle.answer_definitions.specs.Real.{staged}
-use Rattle.opening_path.specs.Missing.{IsMissing}
 
--- Nothing is built of REVISE, RANGE, PARAOBJ, PARARHS and BCDOUT, nor of a SETUP that names a bound set or a range set.
+-- Nothing is built of REVISE, RANGE, PARAOBJ, PARARHS and BCDOUT.
 abbrev pub builds : Verb ℕ → Bool
-builds (Setup options) = is_none options.bound && is_none options.range
 builds Revise = false
 builds Ranging = false
 builds Paraobj = false
@@ -16,4 +14,4 @@ builds Bcdout = false
 builds _ = true
 
 unfoldable pub stage : Solving
-stage = staged builds IsMissing
+stage = staged builds

@@ -1,41 +1,56 @@
 -- Where a machine stands in a run.
---     IsSound cards machine        its numbers are those of cards and of statements
+--     IsReady file setup           the setup's basis and rates are those of a selection of its problem
+--     IsSelected cells file setup  the present cells select the setup's linear program
+--     IsSound cards machine        its numbers are those of cards and of statements, and its setup is ready
 --     named, filed wanted file     the name that is wanted and its problem on file, or those put last
 --     Stands cards machine ..      the machine shows this state of a run over these cards
-use Rattle.std.specs.Prelude.{◌≡◌, ℕ, ◌+◌, ◌-◌, ◌≤◌, List, [], Option, Some, None, IfSome, Ok, length, drop, option_map, option_and_then}
+use Rattle.std.specs.Prelude.{◌≡◌, ℕ, ◌+◌, ◌-◌, ◌≤◌, List, ◌∷◌, Option, Some, None, IfSome, Ok, length, drop, option_and_then}
 use Rattle.card_definitions.specs.Cards.{numbered_cards}
 use Rattle.deck_definitions.specs.Decks.{decks_of}
 use Rattle.problem_definitions.specs.Names.{Name}
 use Rattle.problem_definitions.specs.Problem.{Problem}
 use Rattle.problem_file.specs.Filed.{Filed, filed_under}
-use Rattle.lp_definitions.specs.declared.Sense.{Sense}
-use Rattle.lp_definitions.specs.LinearProgram.{LinearProgram}
-use Rattle.lp_definitions.specs.Basis.{opening_statuses}
-use Rattle.control_definitions.specs.Program.{SetupOptions}
+use Rattle.path_definitions.specs.Path.{last_of}
+use Rattle.bounded_primal.specs.Calls.{HasRates, LieIn}
 use Rattle.selection_definitions.specs.Choice.{Choice}
-use Rattle.selection_definitions.specs.Selection.{selected}
+use Rattle.selection_definitions.specs.Selection.{matrix_of, selected}
 use Rattle.control_definitions.specs.Cells.{Cells}
-use Rattle.run_definitions.specs.State.{Present, State, problem_of}
+use Rattle.question_definitions.specs.Answers.{Basis}
+use Rattle.run_definitions.specs.State.{Present, State, problem_of, choice_of}
 use Rattle.control_run.specs.declared.machine.Machine.{Machine}
 use Rattle.control_run.specs.declared.machine.Setup.{Setup}
+use Rattle.control_run.specs.Engine.{matrix, basics, ways}
+
+-- ---- what holds of each machine
 
 -- a demand that is set is the number of a statement
 pub record AreDemands (cells : Cells) : Type 0 where
   pub infeasible : IfSome cells.xdonfs (λ position. 1 ≤ position)
   pub unbounded : IfSome cells.xdounb (λ position. 1 ≤ position)
 
--- the basis of a setup is the opening one of whatever is selected of its problem without a bound set
-abbrev pub HasOpeningBasis : Filed → Setup → Type 0
-HasOpeningBasis file setup =
-    (problem : Problem ℕ) → filed_under setup.name file ≡ Some problem → (choice : Choice) → choice.options.bound ≡ None → (lp : LinearProgram) → selected problem choice ≡ Ok lp →
-    setup.basis ≡ opening_statuses lp
+-- The linear program was selected of the problem on file, with the setup's options; the basis is one of it, and the rates are those
+-- of this basis.
+pub record IsReady (file : Filed) (setup : Setup) : Type 0 where
+  pub problem : Problem ℕ
+  pub on_file : filed_under setup.name file ≡ Some problem
+  pub choice : Choice
+  pub has_options : choice.options ≡ setup.options
+  pub is_selected : selected problem choice ≡ Ok setup.lp
+  pub rates : HasRates (matrix setup.engine) (basics setup.engine) setup.lp setup.basis
 
--- the next deck begins with a card of the job, or behind the last
+-- the present cells select the linear program that the setup keeps
+abbrev pub IsSelected : Cells → Filed → Setup → Type 0
+IsSelected cells file setup = (problem : Problem ℕ) → filed_under setup.name file ≡ Some problem → selected problem (choice_of cells setup.options) ≡ Ok setup.lp
+
+-- the next deck begins with a card of the job, or after the last; and while the mark stands, the setup keeps what PRIMAL solved
 pub record IsSound (cards : List (List ℕ)) (machine : Machine) : Type 0 where
   pub first : 1 ≤ machine.decks_from
   pub last : machine.decks_from ≤ length cards + 1
   pub demands : AreDemands machine.cells
-  pub basis : IfSome machine.setup (HasOpeningBasis machine.file)
+  pub ready : IfSome machine.setup (IsReady machine.file)
+  pub solved : IfSome machine.mark (λ mark. IfSome machine.setup (IsSelected machine.cells machine.file))
+
+-- ---- the state that a machine shows
 
 -- the name that is wanted, or else the one put last
 abbrev pub named : Option Name → Filed → Option Name
@@ -46,17 +61,21 @@ named None file = file.last
 abbrev pub filed : Option Name → Filed → Option (Problem ℕ)
 filed wanted file = option_and_then (λ name. filed_under name file) (named wanted file)
 
--- the options of a setup that names no sets
-abbrev pub without_sets : Sense → SetupOptions
-without_sets sense = record { bound = None; range = None; sense = sense }
+-- The state has the setup's problem and options, and a path of bases since SETUP of which the last is the machine's; the sets that the
+-- inverse has passed through lie in the bases of this path.
+pub record IsPresent (file : Filed) (setup : Setup) (shown : Option Present) : Type 0 where
+  pub problem : Problem ℕ
+  pub on_file : filed_under setup.name file ≡ Some problem
+  pub opening : Basis
+  pub steps : List Basis
+  pub is_shown : shown ≡ Some (record { problem = problem; options = setup.options; opening = opening; steps = steps })
+  pub reached : last_of opening steps ≡ setup.basis
+  pub lie : LieIn (matrix_of problem) (ways setup.engine) (opening ∷ steps)
 
--- what a setup keeps of a problem; no path has left the basis with which it opened
-abbrev pub present_of : Setup → Problem ℕ → Present
-present_of setup problem = record { problem = problem; options = without_sets setup.sense; opening = setup.basis; steps = [] }
-
--- a setup keeps the problem on file under its name
-abbrev pub setup_shown : Filed → Option Setup → Option Present
-setup_shown file setup = option_and_then (λ setup. option_map (present_of setup) (filed_under setup.name file)) setup
+-- the state has a setup where the machine has one
+abbrev pub ShowsSetup : Filed → Option Setup → Option Present → Type 0
+ShowsSetup file None shown = shown ≡ None
+ShowsSetup file (Some setup) shown = IsPresent file setup shown
 
 -- The state of the run has the machine's cells, decks and mark, the problems that it has on file, and its setup.
 pub record Stands (cards : List (List ℕ)) (machine : Machine) (position executed : ℕ) (state : State) : Type 0 where
@@ -65,5 +84,5 @@ pub record Stands (cards : List (List ℕ)) (machine : Machine) (position execut
   pub cells : state.cells ≡ machine.cells
   pub file : (wanted : Option Name) → problem_of wanted state.file ≡ filed wanted machine.file
   pub decks : state.decks ≡ decks_of (drop (machine.decks_from - 1) (numbered_cards cards))
-  pub setup : state.setup ≡ setup_shown machine.file machine.setup
+  pub setup : ShowsSetup machine.file machine.setup state.setup
   pub mark : state.mark ≡ machine.mark

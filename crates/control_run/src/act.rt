@@ -4,7 +4,7 @@ use crate::end::End;
 use job_devices::{NoMemory, WriteStop};
 
 /// What follows a statement.
-#[derive(Clone, Copy)]
+#[derive(Drop)]
 pub enum Act {
     /// The next statement.
     Next,
@@ -15,7 +15,7 @@ pub enum Act {
 }
 
 /// Where a statement leads.
-#[derive(Clone, Copy)]
+#[derive(Drop)]
 pub enum Turn {
     /// To the statement with this number, from 1, or to the program's end.
     Goes(u32),

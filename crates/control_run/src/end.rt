@@ -1,9 +1,18 @@
 // How a run ends, where no device fails.
 use deck_definitions::DeckFault;
 use listing_definitions::VerbFault;
+use lp_definitions::Evidence;
+use lp_model::Basis;
+
+/// Where an operation is refused: the present basis, and a mark for each basic of the set that the evidence speaks of.
+#[derive(Drop)]
+pub struct Place {
+    pub basis: Basis,
+    pub way: Vec<bool>,
+}
 
 /// How a run ends, where no device fails.
-#[derive(Clone, Copy)]
+#[derive(Drop)]
 pub enum End {
     /// At the program's end, or with EXIT.
     Done,
@@ -19,6 +28,12 @@ pub enum End {
     Limit { limit: u32, card: u32 },
     /// The run has made as many statements as it may.
     Statements,
+    /// An operation is refused in the statement of this card. A range sum has no place.
+    Overflow {
+        evidence: Evidence,
+        place: Option<Place>,
+        card: u32,
+    },
     /// There is no memory.
     Memory,
     /// The run meets what isn't built yet.

@@ -4,16 +4,18 @@ ghost use Rattle.job_devices.specs.Causes.{Rose};
 ghost use Rattle.job_devices.specs.declared.device.WriteStop as stops;
 ghost use Rattle.report_text.specs.Shown.{IsEnding, ending_shown, verb_fault, IsVerbFault};
 ghost use Rattle.run_definitions.specs.Verbs.{deck_fault_number, number_fault_of, column_of};
+ghost use Rattle.control_run.specs.declared.end.End.TheVariants as ends;
 ghost use Rattle.control_run.specs.Ends.{end_shown, code_of, IsStatusOfRun};
 ghost use Rattle.control_run.specs.Finishing.{Finishes, cut_status};
 ghost use Rattle.listing_definitions.specs.Ending.{status_of};
 
-use crate::end::End;
+use crate::end::{End, Place};
 use crate::status::Status;
 use card_definitions::NumberFault;
 use deck_definitions::DeckFaultKind;
 use job_devices::{Sink, WriteStop};
 use listing_definitions::VerbFault;
+use lp_definitions::Evidence;
 use report_text::{Ending, Report, text_of};
 
 // The number of a verb fault.
@@ -94,9 +96,30 @@ fn column_of(kind: DeckFaultKind) -> Option<u8>
     }
 }
 
+// What is printed where an operation is refused.
+fn overflow_of<'a>(evidence: &'a Evidence, place: &'a Option<Place>, card: u32) -> Ending<'a>
+    ensures shown { ending_shown result ≡ end_shown (ends.Overflow evidence.now place.now card) }
+    ensures lawful { IsEnding result }
+{
+    match place {
+        Some(place) => Ending::Overflow {
+            evidence,
+            basis: Some(&place.basis),
+            way: &place.way,
+            card,
+        },
+        None => Ending::Overflow {
+            evidence,
+            basis: None,
+            way: &[],
+            card,
+        },
+    }
+}
+
 // What is printed of an end.
-fn ending_of(end: End) -> Ending<'static>
-    ensures shown { ending_shown result ≡ end_shown end }
+fn ending_of(end: &End) -> Ending<'_>
+    ensures shown { ending_shown result ≡ end_shown end.now }
     ensures lawful { IsEnding result }
 {
     match end {
@@ -104,8 +127,8 @@ fn ending_of(end: End) -> Ending<'static>
         End::Infeasible => Ending::Code(1),
         End::Unbounded => Ending::Code(2),
         End::Verb { fault, card } => Ending::Verb {
-            fault: verb_fault_number(fault),
-            card,
+            fault: verb_fault_number(*fault),
+            card: *card,
         },
         End::Deck(fault) => Ending::Deck {
             fault: deck_fault_number(fault.kind),
@@ -113,16 +136,24 @@ fn ending_of(end: End) -> Ending<'static>
             number: number_fault(fault.kind),
             column: column_of(fault.kind),
         },
-        End::Limit { limit, card } => Ending::Limit { limit, card },
+        End::Limit { limit, card } => Ending::Limit {
+            limit: *limit,
+            card: *card,
+        },
         End::Statements => Ending::Statements,
+        End::Overflow {
+            evidence,
+            place,
+            card,
+        } => overflow_of(evidence, place, *card),
         End::Memory => Ending::Memory,
         End::NotBuilt => Ending::NotBuilt,
     }
 }
 
 // The status of an end.
-fn status_of(end: End) -> Status
-    ensures code { code_of result ≡ status_of (end_shown end) }
+fn status_of(end: &End) -> Status
+    ensures code { code_of result ≡ status_of (end_shown end.now) }
     ensures own { IsStatusOfRun result }
 {
     match end {
@@ -133,6 +164,7 @@ fn status_of(end: End) -> Status
         End::Deck(_) => Status::Deck,
         End::Limit { .. } => Status::Limit,
         End::Statements => Status::Statements,
+        End::Overflow { .. } => Status::Overflow,
         End::Memory => Status::Memory,
         End::NotBuilt => Status::NotBuilt,
     }
@@ -150,8 +182,8 @@ pub fn status_of_cut(stop: WriteStop) -> Status
 }
 
 /// Ends the listing, and answers how the run ended.
-pub fn finish<P: Sink>(print: &mut P, end: End) -> Status
-    ensures finishes { Finishes P.written P.faults P.refusals print.old print.new (end_shown end) result }
+pub fn finish<P: Sink>(print: &mut P, end: &End) -> Status
+    ensures finishes { Finishes P.written P.faults P.refusals print.old print.new (end_shown end.now) result }
     ensures own { IsStatusOfRun result }
 {
     match text_of(&Report::End(ending_of(end)), print) {

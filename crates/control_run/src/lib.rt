@@ -6,6 +6,7 @@ mod cells;
 mod convert;
 mod end;
 mod execute;
+mod finding;
 mod finish;
 mod machine;
 mod primal;

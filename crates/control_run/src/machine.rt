@@ -7,20 +7,26 @@ ghost use Rattle.run_definitions.specs.State.{start};
 ghost use Rattle.control_run.specs.Standing.{IsSound, Stands};
 
 use listing_definitions::Mark;
-use lp_definitions::Sense;
-use lp_model::Basis;
+use lp_model::{Basis, Lp};
+use lp_setup::SetupChoice;
 use name_table::Name;
 use problem_file::ProblemFile;
+use rates_dense::Dense;
 use run_cells::Cells;
 use std::alloc::Global;
 
-/// What SETUP keeps: the name under which the problem is on file, whether the least or the greatest objective is wanted, and
-/// the basis with which a path begins. Neither a bound set nor a range set applies.
-#[derive(Debug, Drop)]
+/// What keeps the rates of a setup's basis. Contracts see it by `specs/Engine`.
+pub type RunEngine = Dense;
+
+/// What SETUP keeps, and PRIMAL goes on with: the name under which the problem is on file, the options, the linear program that was
+/// selected last, the present basis, and the engine with its rates.
+#[derive(Drop)]
 pub struct Setup {
     pub name: Name,
-    pub sense: Sense,
+    pub options: SetupChoice,
+    pub lp: Lp,
     pub basis: Basis,
+    pub engine: RunEngine,
 }
 
 /// All that statements see and change: the cells and demands, the problems on file, the number of the first card whose deck isn't

@@ -1,48 +1,35 @@
 // PRIMAL.
-ghost use Rattle.std.specs.Prelude.{◌≡◌, ℕ, List, [], None, IfSome};
+ghost use Rattle.std.specs.Prelude.{◌≡◌, ℕ, List, None, Some, IfSome, IfOk};
+ghost use Rattle.problem_definitions.specs.Problem.{Problem};
+ghost use Rattle.problem_file.specs.Filed.{filed_under};
 ghost use Rattle.control_definitions.specs.Program as program;
-ghost use Rattle.lp_definitions.specs.Basis.{opening_statuses};
+ghost use Rattle.lp_definitions.specs.LinearProgram.{IsLinearProgram};
+ghost use Rattle.lp_definitions.specs.Basis.{Basics};
 ghost use Rattle.question_definitions.specs.Answers as answers;
-ghost use Rattle.answer_definitions.specs.Real.{IsSolvedUnless};
+ghost use Rattle.bounded_primal.specs.Calls.{HasRates};
 ghost use Rattle.report_text.specs.declared.sheet.Sheet as sheets;
 ghost use Rattle.report_text.specs.Sheets.{IsSheet};
 ghost use Rattle.report_text.specs.Verdicts.{IsOutcome, verdict_shown, check_shown};
-ghost use Rattle.opening_turn.specs.Opening.{AreAtZero};
-ghost use Rattle.opening_path.specs.Missing.{IsMissing};
-ghost use Rattle.opening_path.specs.Answers.{sheet_shown};
+ghost use Rattle.present_answers.specs.Reports.{sheet_shown};
 ghost use Rattle.run_definitions.specs.Verbs.{mark_of};
 ghost use Rattle.control_run.specs.Stage.{stage};
-ghost use Rattle.control_run.specs.Standing.{AreDemands, HasOpeningBasis, IsSound, setup_shown};
+ghost use Rattle.control_run.specs.Standing.{AreDemands, IsReady, IsSelected, IsSound};
 ghost use Rattle.control_run.specs.Statements.{Executes};
-ghost use Rattle.control_run.specs.Findings.{PathFinds, Finds, Tells, refused_finding, demanded_act, act_of, mark_left};
+ghost use Rattle.control_run.specs.Findings.{PathReaches, PathFinds, Finds, Tells, refused_finding, IfEnded};
 
 use crate::act::{Act, Halt};
-use crate::end::End;
+use crate::finding::{Finding, act_of, mark_left, overflow_at};
 use crate::machine::{Machine, Setup};
-use crate::selecting::{Refusal, select_without_sets};
-use control_definitions::Demand;
-use frac128::Refused;
+use crate::selecting::{Refusal, select_present};
+use bounded_primal::PrimalStop;
 use job_devices::Sink;
 use listing_definitions::{Mark, Solver, VerbFault};
-use lp_model::{Basis, Outcome};
-use opening_path::{PathAnswer, path_at_opening, selection_laws};
+use lp_model::{Basis, Outcome, Rates};
+use present_answers::{PathReport, path_from};
 use problem_file::ProblemFile;
 use report_text::{Report, Sheet, text_of};
 use run_cells::Cells;
 use std::alloc::Global;
-
-/// What PRIMAL finds.
-#[derive(Clone, Copy)]
-pub enum Finding {
-    /// The statement is refused.
-    Refused(VerbFault),
-    /// The path ended, and its verdict leaves this mark.
-    Ended(Mark),
-    /// The path goes on past the limit.
-    Limit,
-    /// The path does what isn't built.
-    NotBuilt,
-}
 
 // The mark that the verdict of an outcome leaves.
 fn mark_of(outcome: &Outcome) -> Mark
@@ -61,130 +48,102 @@ fn refused(refusal: Refusal) -> Result<Finding, Halt>
 {
     match refusal {
         Refusal::Fault(fault) => Ok(Finding::Refused(fault)),
+        Refusal::Overflow(evidence) => Ok(Finding::Overflow {
+            evidence,
+            place: None,
+        }),
         Refusal::NoMemory => Err(Halt::NoMemory),
     }
 }
 
-// Prints the verdict of an outcome.
+// Prints the verdict of a path.
 fn print_verdict<P: Sink>(
-    print: &mut P,
     sheet: Sheet<'_>,
-    outcome: &Outcome,
-    refused: Option<Refused>,
+    report: &PathReport,
+    print: &mut P,
 ) -> Result<Finding, Halt>
-    requires { IsOutcome sheet outcome.now }
-    ensures { (s : answers.Basis) (limit : ℕ) → IsSolvedUnless IsMissing (sheet_shown sheet.entry) s limit (answers.Reached [] (verdict_shown sheet.entry outcome.now) (check_shown refused)) →
-        Tells (PathFinds (sheet_shown sheet.entry) s limit) P.written P.faults P.refusals print.old print.new result }
+    requires { IsOutcome sheet report.now.outcome }
+    ensures { (s reached : answers.Basis) (limit : ℕ) (before after : List Basics) (bases : List answers.Basis) →
+        PathReaches (sheet_shown sheet.entry) s reached limit before after bases (verdict_shown sheet.entry report.now.outcome) (check_shown report.now.refused) →
+        Tells (PathFinds (sheet_shown sheet.entry) s reached limit before after) P.written P.faults P.refusals print.old print.new result }
 {
     let verdict = Report::Solved {
         by: Solver::Primal,
         sheet,
-        outcome,
-        refused,
+        outcome: &report.outcome,
+        refused: report.refused,
     };
     text_of(&verdict, print)?;
-    Ok(Finding::Ended(mark_of(outcome)))
+    Ok(Finding::Ended(mark_of(&report.outcome)))
 }
 
-// Follows the path from the opening basis, and prints the verdict where it ends there.
-fn follow<P: Sink>(
+// Follows the path from a basis, and prints its verdict.
+fn follow<P: Sink, R: Rates>(
     alloc: Global,
     sheet: Sheet<'_>,
-    basis: &Basis,
+    basis: &mut Basis,
+    rates: &mut R,
     limit: u32,
     print: &mut P,
 ) -> Result<Finding, Halt>
     requires sheet { IsSheet sheet }
-    requires basis { basis.now ≡ opening_statuses sheet.lp.now }
-    requires at_zero { AreAtZero sheet.lp.now }
+    requires lawful { IsLinearProgram sheet.lp.now }
     requires no_change { sheet.lp.now.change ≡ None }
-    ensures { Tells (PathFinds (sheet_shown sheet.entry) basis.now limit) P.written P.faults P.refusals print.old print.new result }
+    requires rates { HasRates (R.matrix rates.old) (R.basics rates.old) sheet.lp.now basis.old }
+    ensures tells { Tells (PathFinds (sheet_shown sheet.entry) basis.old basis.new limit (R.waypoints rates.old) (R.waypoints rates.new))
+        P.written P.faults P.refusals print.old print.new result }
+    ensures rates { HasRates (R.matrix rates.new) (R.basics rates.new) sheet.entry.lp.now basis.new }
 {
-    match path_at_opening(alloc, sheet, basis, limit) {
-        Ok(PathAnswer::Reached { outcome, refused }) => {
-            print_verdict(print, sheet, &outcome, refused)
+    match path_from(alloc, sheet, basis, rates, limit) {
+        Ok(report) => print_verdict(sheet, &report, print),
+        Err(PrimalStop::Limit) => Ok(Finding::Limit),
+        Err(PrimalStop::Overflow(evidence)) => {
+            overflow_at(alloc, sheet.lp, basis, rates, evidence)
         }
-        Ok(PathAnswer::Limit) => Ok(Finding::Limit),
-        Ok(PathAnswer::NotBuilt) => Ok(Finding::NotBuilt),
-        Err(_) => Err(Halt::NoMemory),
+        Err(PrimalStop::NoMemory) => Err(Halt::NoMemory),
     }
 }
 
-// Selects by the cells as they stand, and follows the path from the setup's basis.
+// Selects by the cells as they stand, and follows the path from the present basis of a setup.
 fn find<P: Sink>(
     alloc: Global,
     cells: &Cells,
     file: &ProblemFile,
-    setup: &Option<Setup>,
+    setup: &mut Setup,
     print: &mut P,
 ) -> Result<Finding, Halt>
-    requires { IfSome setup.now (HasOpeningBasis file.now) }
-    ensures { Tells (Finds cells.now (setup_shown file.now setup.now)) P.written P.faults P.refusals print.old print.new result }
+    requires { IsReady file.now setup.old }
+    ensures tells { (problem : Problem ℕ) → filed_under setup.old.name file.now ≡ Some problem →
+        Tells (Finds problem cells.now setup.old setup.new) P.written P.faults P.refusals print.old print.new result }
+    ensures ready { IsReady file.now setup.new }
+    ensures solved { IfOk result (λ finding. IfEnded finding (IsSelected cells.now file.now setup.new)) }
+    ensures kept { IsSelected cells.now file.now setup.old → IsSelected cells.now file.now setup.new }
 {
-    // where no bound set is chosen the columns lie in 0 and upward
-    selection_laws();
-    let Some(kept) = setup else {
+    let Some(problem) = file.get(&setup.name) else {
         return Ok(Finding::Refused(VerbFault::NoSetup));
     };
-    let Some(problem) = file.get(&kept.name) else {
-        return Ok(Finding::Refused(VerbFault::NoSetup));
+    let lp = match select_present(alloc, problem, cells, setup.options) {
+        Ok(lp) => lp,
+        Err(refusal) => return refused(refusal),
     };
-    match select_without_sets(alloc, problem, cells, kept.sense) {
-        Ok(lp) => follow(
-            alloc,
-            Sheet { problem, lp: &lp },
-            &kept.basis,
-            cells.limit(),
-            print,
-        ),
-        Err(refusal) => refused(refusal),
-    }
+    let sheet = Sheet { problem, lp: &lp };
+    let finding = follow(
+        alloc,
+        sheet,
+        &mut setup.basis,
+        &mut setup.engine,
+        cells.limit(),
+        print,
+    )?;
+    setup.lp = lp;
+    Ok(finding)
 }
 
-// The position of a demand, or the end where it isn't set.
-fn demanded(position: Option<u32>, end: End) -> Act
-    ensures { result ≡ demanded_act position end }
-{
-    match position {
-        Some(position) => Act::Jump(position),
-        None => Act::Ends(end),
-    }
-}
-
-// What follows what was found by the statement of a card.
-fn act_of(cells: &Cells, card: u32, finding: Finding) -> Act
-    ensures { result ≡ act_of cells.now card finding }
-{
-    match finding {
-        Finding::Refused(fault) => Act::Ends(End::Verb { fault, card }),
-        Finding::Ended(Mark::Optimal) => Act::Next,
-        Finding::Ended(Mark::Infeasible) => {
-            demanded(cells.demand(Demand::Xdonfs), End::Infeasible)
-        }
-        Finding::Ended(Mark::Unbounded) => demanded(cells.demand(Demand::Xdounb), End::Unbounded),
-        Finding::Limit => Act::Ends(End::Limit {
-            limit: cells.limit(),
-            card,
-        }),
-        Finding::NotBuilt => Act::Ends(End::NotBuilt),
-    }
-}
-
-// The mark after a finding.
-fn mark_left(finding: Finding, mark: Option<Mark>) -> Option<Mark>
-    ensures { result ≡ mark_left finding mark }
-{
-    match finding {
-        Finding::Ended(left) => Some(left),
-        Finding::Refused(_) | Finding::Limit | Finding::NotBuilt => mark,
-    }
-}
-
-/// PRIMAL: selects again by the cells as they stand, follows the path from the setup's basis, and prints the verdict, which leaves
-/// its mark. An optimal verdict goes on with the next statement, and any other with the position of its demand, if that is set.
+/// PRIMAL: selects again by the cells as they stand, follows the path from the present basis to its end, and prints the verdict, which
+/// leaves its mark. An optimal verdict goes on with the next statement, and any other with the position of its demand, if that is set.
 ///
 /// The statement is refused where there is no setup, and where the cells select nothing. It ends the run where the path goes on past
-/// the limit of steps. Where there is no memory, nothing is printed.
+/// the limit of steps, and where an operation is refused. Where there is no memory, nothing is printed.
 pub fn solve<P: Sink>(
     alloc: Global,
     machine: &mut Machine,
@@ -192,11 +151,14 @@ pub fn solve<P: Sink>(
     card: u32,
 ) -> Result<Act, Halt>
     requires demands { AreDemands machine.old.cells }
-    requires basis { IfSome machine.old.setup (HasOpeningBasis machine.old.file) }
+    requires ready { IfSome machine.old.setup (IsReady machine.old.file) }
     ensures acts { (cards : List (List ℕ)) → Executes stage program.Primal card P.written P.faults P.refusals print.old print.new cards machine.old machine.new result }
     ensures sound { (cards : List (List ℕ)) → IsSound cards machine.old → IsSound cards machine.new }
 {
-    let finding = find(alloc, &machine.cells, &machine.file, &machine.setup, print)?;
-    machine.mark = mark_left(finding, machine.mark);
+    let Some(setup) = &mut machine.setup else {
+        return Refusal::Fault(VerbFault::NoSetup).act(card);
+    };
+    let finding = find(alloc, &machine.cells, &machine.file, setup, print)?;
+    machine.mark = mark_left(&finding, machine.mark);
     Ok(act_of(&machine.cells, card, finding))
 }

@@ -79,7 +79,7 @@ fn run_to_end<P: Sink>(alloc: Global, program: &Program, cards: &Cards, print: &
     ensures own { IsStatusOfRun result }
 {
     match run(alloc, program, cards, print) {
-        Ok(end) => finish(print, end),
+        Ok(end) => finish(print, &end),
         Err(stop) => status_of_cut(stop),
     }
 }

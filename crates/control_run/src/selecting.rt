@@ -1,15 +1,14 @@
 // What the present cells select of a problem.
 ghost use Rattle.std.specs.Prelude.{◌≡◌, Ok, IfOk, IfErr};
 ghost use Rattle.selection_definitions.specs.Selection.{selected};
-ghost use Rattle.lp_setup.specs.Stops.{fault_of};
+ghost use Rattle.lp_setup.specs.Stops.{fault_of, IsOverflowOf};
 ghost use Rattle.run_definitions.specs.State.{choice_of};
-ghost use Rattle.control_run.specs.Standing.{without_sets};
-ghost use Rattle.control_run.specs.Choosing.{refused_act, IsNoOverflow, IsRefusalOf, IsUnselected};
+ghost use Rattle.control_run.specs.Choosing.{refusal_of, IsUnselected};
 
 use crate::act::{Act, Halt};
 use crate::end::End;
 use listing_definitions::VerbFault;
-use lp_definitions::Sense;
+use lp_definitions::Evidence;
 use lp_model::Lp;
 use lp_setup::{Choice, SelectStop, SetupChoice, select};
 use problem_file::Problem;
@@ -21,6 +20,8 @@ use std::alloc::Global;
 pub enum Refusal {
     /// It is refused.
     Fault(VerbFault),
+    /// A range sum is refused.
+    Overflow(Evidence),
     /// There is no memory.
     NoMemory,
 }
@@ -35,15 +36,19 @@ impl Refusal {
     {
         match self {
             Refusal::Fault(fault) => Ok(Act::Ends(End::Verb { fault, card })),
+            Refusal::Overflow(evidence) => Ok(Act::Ends(End::Overflow {
+                evidence,
+                place: None,
+                card,
+            })),
             Refusal::NoMemory => Err(Halt::NoMemory),
         }
     }
 }
 
-// Why nothing is selected. Without a range set no sum overflows.
+// Why nothing is selected.
 fn refusal_of(stop: SelectStop) -> Refusal
-    requires { IsNoOverflow stop }
-    ensures { IsRefusalOf (fault_of stop) result }
+    ensures { result ≡ refusal_of stop }
 {
     match stop {
         SelectStop::NoObjective => Refusal::Fault(VerbFault::NoObjective),
@@ -51,36 +56,33 @@ fn refusal_of(stop: SelectStop) -> Refusal
         SelectStop::NoRhsSet => Refusal::Fault(VerbFault::NoRhsSet),
         SelectStop::NoRangeSet => Refusal::Fault(VerbFault::NoRangeSet),
         SelectStop::NoBoundSet => Refusal::Fault(VerbFault::NoBoundSet),
-        SelectStop::Overflow(_) | SelectStop::NoMemory => Refusal::NoMemory,
+        SelectStop::Overflow(evidence) => Refusal::Overflow(evidence),
+        SelectStop::NoMemory => Refusal::NoMemory,
     }
 }
 
-// What the present cells choose, without a bound set and without a range set.
-fn choice_without_sets(cells: &Cells, sense: Sense) -> Choice
-    ensures { result ≡ choice_of cells.now (without_sets sense) }
+// What the present cells choose with these options.
+fn present_choice(cells: &Cells, options: SetupChoice) -> Choice
+    ensures { result ≡ choice_of cells.now options }
 {
     Choice {
         objective: cells.name(NameCell::Xobj),
         rhs: cells.name(NameCell::Xrhs),
-        options: SetupChoice {
-            bound: None,
-            range: None,
-            sense,
-        },
+        options,
     }
 }
 
-/// The linear program that the present cells select of a problem, where no bound set and no range set is named.
-pub fn select_without_sets(
+/// The linear program that the present cells select of a problem, with these options.
+pub fn select_present(
     alloc: Global,
     problem: &Problem,
     cells: &Cells,
-    sense: Sense,
+    options: SetupChoice,
 ) -> Result<Lp, Refusal>
-    ensures selected { IfOk result (λ lp. selected problem.now (choice_of cells.now (without_sets sense)) ≡ Ok lp) }
-    ensures refused { IfErr result (IsUnselected problem.now (choice_of cells.now (without_sets sense))) }
+    ensures selected { IfOk result (λ lp. selected problem.now (choice_of cells.now options) ≡ Ok lp) }
+    ensures refused { IfErr result (IsUnselected problem.now (choice_of cells.now options)) }
 {
-    let choice = choice_without_sets(cells, sense);
+    let choice = present_choice(cells, options);
     match select(alloc, problem, &choice) {
         Ok(lp) => Ok(lp),
         Err(stop) => Err(refusal_of(stop)),

@@ -1,42 +1,47 @@
 // SOLUTION.
-ghost use Rattle.std.specs.Prelude.{◌≡◌, ℕ, None, List, IfSome};
-ghost use Rattle.lp_definitions.specs.Basis.{opening_statuses};
+ghost use Rattle.std.specs.Prelude.{◌≡◌, ℕ, None, Some, IfSome, List};
+ghost use Rattle.problem_definitions.specs.Problem.{Problem};
+ghost use Rattle.problem_file.specs.Filed.{filed_under};
+ghost use Rattle.lp_definitions.specs.Basis.{Basics, basics_of};
+ghost use Rattle.lp_definitions.specs.Waypoints.{KeepsWaypoints};
 ghost use Rattle.control_definitions.specs.Program as program;
+ghost use Rattle.report_text.specs.Lines.{solution_lines};
 ghost use Rattle.report_text.specs.Sheets.{IsSheet};
-ghost use Rattle.opening_turn.specs.Opening.{AreAtZero};
-ghost use Rattle.opening_path.specs.Answers.{sheet_shown};
+ghost use Rattle.bounded_primal.specs.Calls.{HasRates};
+ghost use Rattle.answer_definitions.specs.Sections.{IsShown};
+ghost use Rattle.present_answers.specs.Answers.{sheet_shown, AreShown};
+ghost use Rattle.control_run.specs.Engine.{ways};
 ghost use Rattle.control_run.specs.Stage.{stage};
-ghost use Rattle.control_run.specs.Standing.{HasOpeningBasis};
+ghost use Rattle.control_run.specs.Standing.{IsReady, IsSelected, IsSound};
 ghost use Rattle.control_run.specs.Statements.{Executes};
-ghost use Rattle.control_run.specs.Choosing.{PrintsLines};
+ghost use Rattle.control_run.specs.Findings.{Tells, LinesFound, Shows};
 
 use crate::act::{Act, Halt};
-use crate::machine::Machine;
-use crate::selecting::{Refusal, select_without_sets};
+use crate::finding::{Finding, act_of, overflow_at};
+use crate::machine::{Machine, Setup};
+use crate::selecting::Refusal;
 use job_devices::Sink;
 use listing_definitions::{Mark, VerbFault};
-use lp_model::Basis;
-use opening_path::{selection_laws, solution_at_opening};
+use lp_model::{Basis, Rates, Stop};
+use present_answers::{Shown, solution_of};
+use problem_file::ProblemFile;
 use report_text::{Report, Sheet, text_of};
 use std::alloc::Global;
 
-// Prints the point and the prices of the opening basis.
+// Prints the point and the prices of a basis.
 fn print_lines<P: Sink>(
-    alloc: Global,
     sheet: Sheet<'_>,
     basis: &Basis,
     mark: Mark,
+    shown: &Shown,
     print: &mut P,
-) -> Result<(), Halt>
+) -> Result<Finding, Halt>
     requires sheet { IsSheet sheet }
-    requires basis { basis.now ≡ opening_statuses sheet.lp.now }
-    requires at_zero { AreAtZero sheet.lp.now }
     requires no_change { sheet.lp.now.change ≡ None }
-    ensures { PrintsLines P.written P.faults P.refusals print.old print.new (sheet_shown sheet.entry) basis.now mark result }
+    requires listed { AreShown sheet.lp.now basis.now shown.now }
+    requires shown { IsShown (sheet_shown sheet) basis.now (solution_lines sheet.problem.now sheet.lp.now basis.now shown.now.point shown.now.prices shown.now.slack.items) }
+    ensures { (before : List Basics) → Tells (LinesFound (sheet_shown sheet.entry) basis.now before mark) P.written P.faults P.refusals print.old print.new result }
 {
-    let Ok(shown) = solution_at_opening(alloc, sheet, basis) else {
-        return Err(Halt::NoMemory);
-    };
     let report = Report::Solution {
         mark,
         sheet,
@@ -45,40 +50,80 @@ fn print_lines<P: Sink>(
         prices: &shown.prices,
         slack: &shown.slack,
     };
-    match text_of(&report, print) {
-        Ok(()) => Ok(()),
-        Err(stop) => Err(Halt::Print(stop)),
+    text_of(&report, print)?;
+    Ok(Finding::Shown)
+}
+
+// Makes the lines of a basis, and prints them.
+fn show_basis<P: Sink, R: Rates>(
+    alloc: Global,
+    sheet: Sheet<'_>,
+    basis: &Basis,
+    rates: &mut R,
+    mark: Mark,
+    print: &mut P,
+) -> Result<Finding, Halt>
+    requires sheet { IsSheet sheet }
+    requires no_change { sheet.lp.now.change ≡ None }
+    requires rates { HasRates (R.matrix rates.old) (R.basics rates.old) sheet.lp.now basis.now }
+    ensures tells { Tells (LinesFound (sheet_shown sheet.entry) basis.now (R.waypoints rates.old) mark) P.written P.faults P.refusals print.old print.new result }
+    ensures rates { HasRates (R.matrix rates.new) (R.basics rates.new) sheet.entry.lp.now basis.now }
+    ensures waypoints { KeepsWaypoints sheet.entry.lp.now.matrix (basics_of basis.now) (R.waypoints rates.old) (basics_of basis.now) (R.waypoints rates.new) }
+{
+    match solution_of(alloc, sheet, basis, rates) {
+        Ok(shown) => print_lines(sheet, basis, mark, &shown, print),
+        Err(Stop::Overflow(evidence)) => overflow_at(alloc, sheet.lp, basis, rates, evidence),
+        Err(Stop::NoMemory) => Err(Halt::NoMemory),
     }
 }
 
-/// SOLUTION: prints the point and the prices of the present basis. It needs a setup and a mark.
+// Shows the present basis of a setup.
+fn show_setup<P: Sink>(
+    alloc: Global,
+    file: &ProblemFile,
+    setup: &mut Setup,
+    mark: Mark,
+    print: &mut P,
+) -> Result<Finding, Halt>
+    requires { IsReady file.now setup.old }
+    ensures tells { (problem : Problem ℕ) → filed_under setup.old.name file.now ≡ Some problem →
+        Tells (Shows problem setup.old mark) P.written P.faults P.refusals print.old print.new result }
+    ensures ready { IsReady file.now setup.new }
+    ensures name { setup.new.name ≡ setup.old.name }
+    ensures options { setup.new.options ≡ setup.old.options }
+    ensures lp { setup.new.lp ≡ setup.old.lp }
+    ensures basis { setup.new.basis ≡ setup.old.basis }
+    ensures waypoints { KeepsWaypoints setup.old.lp.matrix (basics_of setup.old.basis) (ways setup.old.engine) (basics_of setup.old.basis) (ways setup.new.engine) }
+{
+    let Some(problem) = file.get(&setup.name) else {
+        return Ok(Finding::Refused(VerbFault::NoSetup));
+    };
+    let sheet = Sheet {
+        problem,
+        lp: &setup.lp,
+    };
+    show_basis(alloc, sheet, &setup.basis, &mut setup.engine, mark, print)
+}
+
+/// SOLUTION: prints the point and the prices of the present basis. It needs a setup and a mark, and speaks of the linear program that
+/// PRIMAL solved.
 pub fn show_solution<P: Sink>(
     alloc: Global,
-    machine: &Machine,
+    machine: &mut Machine,
     print: &mut P,
     card: u32,
 ) -> Result<Act, Halt>
-    requires { IfSome machine.now.setup (HasOpeningBasis machine.now.file) }
-    ensures { (cards : List (List ℕ)) → Executes stage program.Solution card P.written P.faults P.refusals print.old print.new cards machine.now machine.now result }
+    requires ready { IfSome machine.old.setup (IsReady machine.old.file) }
+    requires solved { IfSome machine.old.mark (λ mark. IfSome machine.old.setup (IsSelected machine.old.cells machine.old.file)) }
+    ensures acts { (cards : List (List ℕ)) → Executes stage program.Solution card P.written P.faults P.refusals print.old print.new cards machine.old machine.new result }
+    ensures sound { (cards : List (List ℕ)) → IsSound cards machine.old → IsSound cards machine.new }
 {
-    // where no bound set is chosen the columns lie in 0 and upward
-    selection_laws();
-    let Some(setup) = &machine.setup else {
-        return Refusal::Fault(VerbFault::NoSetup).act(card);
-    };
-    let Some(problem) = machine.file.get(&setup.name) else {
+    let Some(setup) = &mut machine.setup else {
         return Refusal::Fault(VerbFault::NoSetup).act(card);
     };
     let Some(mark) = machine.mark else {
         return Refusal::Fault(VerbFault::NotSolved).act(card);
     };
-    let lp = match select_without_sets(alloc, problem, &machine.cells, setup.sense) {
-        Ok(lp) => lp,
-        Err(refusal) => return refusal.act(card),
-    };
-    let sheet = Sheet { problem, lp: &lp };
-    match print_lines(alloc, sheet, &setup.basis, mark, print) {
-        Ok(()) => Ok(Act::Next),
-        Err(halt) => Err(halt),
-    }
+    let finding = show_setup(alloc, &machine.file, setup, mark, print)?;
+    Ok(act_of(&machine.cells, card, finding))
 }

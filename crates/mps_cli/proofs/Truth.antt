@@ -1,10 +1,9 @@
 -- The headline of a job: what it is answered, and that each report of this answer holds of the state in which it was made.
 use Rattle.std.proofs.Common.{◌≡◌, ◌<◌, ℕ, false, List, Option, Some, refl, arith}
 use Rattle.std.specs.Io.KnownBytes.{Appends}
-use Rattle.card_definitions.specs.Cards.{cards_of}
 use Rattle.control_definitions.specs.Program.{Revise}
 use Rattle.job_devices.specs.Causes.{Rose}
-use Rattle.run_definitions.specs.Answer.{Job, WithoutBytes, Read, Failures, MayEnd, words_refused, IsAnswered}
+use Rattle.run_definitions.specs.Answer.{Job, WithoutBytes, Read, Failures, words_refused, IsAnswered}
 use Rattle.run_laws.specs.Laws.{KnowsSolving}
 use Rattle.run_laws.specs.Headline.{IsTrueAnswer}
 use Rattle.run_laws.proofs.Runs.{knows_without_sweeps, answer_holds}
@@ -14,7 +13,7 @@ use Rattle.control_run.specs.Ends.{code_of}
 use Rattle.control_run.specs.Finishing.{failures_in_run}
 use Rattle.mps_cli.specs.declared.stop.Stop.{Stop}
 use Rattle.mps_cli.specs.declared.stop.Stop.TheVariants.{Words}
-use Rattle.mps_cli.specs.Stops.{Tells, stop_shown}
+use Rattle.mps_cli.specs.Stops.{Tells}
 use Rattle.mps_cli.specs.Causes.{HasStopCause}
 use Rattle.mps_cli.specs.Endings.{EndsWith}
 use Rattle.mps_cli.specs.Asked.{IsAsked, refused, from_source}

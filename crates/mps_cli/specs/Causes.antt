@@ -1,7 +1,7 @@
 -- Why a job ends with a status, told by the words and by what the devices count and gain.
 --     HasCause words .. status     why a job ends with a status
 --     HasStopCause .. stop         why the program of a job isn't run
-use Rattle.std.specs.Prelude.{◌≡◌, ◌⊎◌, ℕ, ◌<◌, List}
+use Rattle.std.specs.Prelude.{◌≡◌, ℕ, ◌<◌, List}
 use Rattle.listing_definitions.specs.Ending.{Ending, WordsRefused}
 use Rattle.listing_definitions.specs.Ending as endings
 use Rattle.listing_definitions.specs.Listing.{ending_text}

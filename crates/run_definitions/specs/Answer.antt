@@ -4,7 +4,7 @@
 --     IsSoFar bytes ..             how far a job has come
 --     MayEnd job ..                how a job may end, where devices and memory may fail
 --     IsAnswer job .. answer       the status, and the bytes that the print and the punch gain
---     IsAnswered job ..            the clause of the top call
+--     IsAnswered job ..            what a call answers to a job, so far as its print and its punch tell what they gain
 use Rattle.std.specs.Prelude.{ℕ, ◌≡◌, ◌-◌, List, [], ◌++◌, Option, None, Some, Ok, Err, drop}
 use Rattle.card_definitions.specs.declared.CardFault.{CardFault}
 use Rattle.card_definitions.specs.Cards.{Card, cards_of, numbered_cards, job_fault}
@@ -120,8 +120,8 @@ module _ (S : Solving) where
     print_fails : failures.print → answer.status ≡ status_of PrintFault → IsCutShort job failures answer → IsAnswer job failures answer
     print_wants_memory : failures.memory → answer.status ≡ status_of Memory → IsCutShort job failures answer → IsAnswer job failures answer
 
-  -- The clause of the top call, where the words are refused, or make a job, or the source tells its bytes: the print gains some bytes and
-  -- the punch gains some, each so far as it tells them, and with the status they are an answer to the job in view of what has failed.
+  -- The print gains some bytes and the punch gains some, each so far as it tells them, and with the status they are an answer to the job
+  -- in view of what has failed.
   abbrev pub IsAnswered : Job → Failures → ℕ → (List ℕ → Type 0) → (List ℕ → Type 0) → Type 0
   IsAnswered job failures status PrintGains PunchGains =
       (printed : List ℕ) × (punched : List ℕ) × PrintGains printed × PunchGains punched × IsAnswer job failures (record { status = status; printed = printed; punched = punched })

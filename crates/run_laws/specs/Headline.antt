@@ -1,4 +1,5 @@
--- The headline of a job: its answer is that of a run, and each report of this run holds of the state in which it was made.
+-- The headline of a job: its answer is that of a run, and each report of this run holds of the state in
+-- which it was made.
 --     HoldSoFar, HoldInRun ..      each report of a run holds of the state in which it was made
 --     HoldInEnd may_end            so does each report of a job, however it ends
 --     HoldInAnswer answer          and so of an answer to a job
@@ -18,22 +19,29 @@ use Rattle.run_laws.specs.Truth.{Holds}
 module _ (S : Solving) where
   module _ (program : Program) (decks : List (List Card)) where
     -- of a run so far: a report is made in the state before its statement
-    abbrev pub HoldSoFar : {reports : List Report} {cards : List (List ℕ)} {state : State} → Reaches S program decks reports cards state → Type 0
+    abbrev pub HoldSoFar : {reports : List Report} {cards : List (List ℕ)} {state : State} →
+        Reaches S program decks reports cards state → Type 0
     HoldSoFar begun = Unit {0}
-    HoldSoFar (stepped {reports} {cards} {state} gain after before step) = HoldSoFar before × All (Holds state) (printed_by gain)
+    HoldSoFar (stepped {reports} {cards} {state} gain after before step) =
+        HoldSoFar before × All (Holds state) (printed_by gain)
 
     -- of a whole run
-    abbrev pub HoldInRun : {reports : List Report} {cards : List (List ℕ)} {ending : Ending} → IsRun S program decks reports cards ending → Type 0
+    abbrev pub HoldInRun : {reports : List Report} {cards : List (List ℕ)} {ending : Ending} →
+        IsRun S program decks reports cards ending → Type 0
     HoldInRun (is_over before over) = HoldSoFar before
-    HoldInRun (is_ended {reports} {cards} {state} gain before step) = HoldSoFar before × All (Holds state) (printed_by gain)
+    HoldInRun (is_ended {reports} {cards} {state} gain before step) =
+        HoldSoFar before × All (Holds state) (printed_by gain)
 
   -- of a job where nothing fails: a fault of its cards or a control fault comes without a report
-  abbrev pub HoldInJob : {bytes : List ℕ} {reports : List Report} {cards : List (List ℕ)} {ending : Ending} → IsJobRun S bytes reports cards ending → Type 0
+  abbrev pub HoldInJob : {bytes : List ℕ} {reports : List Report} {cards : List (List ℕ)} {ending : Ending} →
+      IsJobRun S bytes reports cards ending → Type 0
   HoldInJob (run program is_program runs) = HoldInRun program _ runs
   HoldInJob _ = Unit {0}
 
-  -- of a job however it ends: where memory is wanted or the punch fails, the reports are those of the run so far
-  abbrev pub HoldInEnd : {job : Job} {failures : Failures} {reports : List Report} {cards : List (List ℕ)} {ending : Ending} → MayEnd S job failures reports cards ending → Type 0
+  -- of a job however it ends: where memory is wanted or the punch fails, the reports are those of the run
+  -- so far
+  abbrev pub HoldInEnd : {job : Job} {failures : Failures} {reports : List Report} {cards : List (List ℕ)}
+      {ending : Ending} → MayEnd S job failures reports cards ending → Type 0
   HoldInEnd (by_itself bytes is runs) = HoldInJob runs
   HoldInEnd (memory_in_run bytes program state is so_far) = HoldSoFar program _ so_far.reaches
   HoldInEnd (memory_at_punch bytes program state deck is so_far punching) = HoldSoFar program _ so_far.reaches
@@ -41,15 +49,18 @@ module _ (S : Solving) where
   HoldInEnd _ = Unit {0}
 
   -- of an answer: of the reports of its listing, or of the listing that is cut short
-  abbrev pub HoldInAnswer : {job : Job} {failures : Failures} {answer : Answer} → IsAnswer S job failures answer → Type 0
+  abbrev pub HoldInAnswer : {job : Job} {failures : Failures} {answer : Answer} →
+      IsAnswer S job failures answer → Type 0
   HoldInAnswer (whole ending may_end status printed punched) = HoldInEnd may_end
   HoldInAnswer (print_fails failed status cut) = HoldInEnd cut.is_possible.may_end
   HoldInAnswer (print_wants_memory wanted status cut) = HoldInEnd cut.is_possible.may_end
 
-  -- THE HEADLINE. The print and the punch gain some bytes. With the status they are an answer to this job: the printed bytes are the
-  -- listing of the reports and the end of a run of the job's program, or of its early stop, or a front of it as the status says. And
-  -- each report of this run holds of the state in which it was made.
-  pub record IsTrueAnswer (job : Job) (failures : Failures) (status : ℕ) (PrintGains PunchGains : List ℕ → Type 0) : Type 0 where
+  -- THE HEADLINE. The print and the punch gain some bytes. With the status they are an answer to this job:
+  -- the printed bytes are the listing of the reports and the end of a run of the job's program, or of its
+  -- early stop, or a front of it as the status says. And each report of this run holds of the state in
+  -- which it was made.
+  pub record IsTrueAnswer (job : Job) (failures : Failures) (status : ℕ) (PrintGains PunchGains : List ℕ → Type 0) :
+      Type 0 where
     pub printed : List ℕ
     pub punched : List ℕ
     pub print_gains : PrintGains printed

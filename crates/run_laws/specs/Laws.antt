@@ -4,7 +4,7 @@
 --     FilesProblems S              every problem that is filed in the run of a job is one
 use Rattle.std.specs.Prelude.{◌≡◌, ◌⊎◌, ℕ, Bool, false, List, [], All, Some}
 use Rattle.problem_definitions.specs.Valid.{IsProblem}
-use Rattle.control_definitions.specs.Program.{Verb, Revise, Paraobj, Pararhs, Program}
+use Rattle.control_definitions.specs.Program.{Verb, Paraobj, Pararhs, Program}
 use Rattle.path_definitions.specs.Path.{last_of}
 use Rattle.path_laws.specs.Laws.{IsNonsingularBasis}
 use Rattle.listing_definitions.specs.Report.{SolutionLines, Verdict, Check, Report}
@@ -49,23 +49,27 @@ abbrev pub reports_of : Outcome → List Report
 reports_of (Goes gain after) = printed_by gain
 reports_of (Ends gain ending) = printed_by gain
 
--- In the run of a job, each report of a statement holds of the state in which it is executed; and so each report of a job that ends by
--- itself holds of the state in which it was made.
+-- In the run of a job, each report of a statement holds of the state in which it is executed; and so each
+-- report of a job that ends by itself holds of the state in which it was made.
 pub record TellsTruth (S : Solving) : Type 0 where
-  pub step : (bytes : List ℕ) (program : Program) (reports : List Report) (cards : List (List ℕ)) (state : State) (outcome : Outcome) →
-      IsSoFar S bytes reports cards program state → Step S program state outcome → All (Holds state) (reports_of outcome)
+  pub step : (bytes : List ℕ) (program : Program) (reports : List Report) (cards : List (List ℕ)) (state : State)
+      (outcome : Outcome) → IsSoFar S bytes reports cards program state → Step S program state outcome →
+      All (Holds state) (reports_of outcome)
   pub job : (bytes : List ℕ) (reports : List Report) (cards : List (List ℕ)) (ending : Ending) →
       (runs : IsJobRun S bytes reports cards ending) → HoldInJob S runs
 
--- In the run of a job, every problem that is filed keeps what is asked of one, and so does that of the setup.
+-- In the run of a job, every problem that is filed keeps what is asked of one, and so does that of the
+-- setup.
 pub record FilesProblems (S : Solving) : Type 0 where
   pub filed : (bytes : List ℕ) (program : Program) (reports : List Report) (cards : List (List ℕ)) (state : State) →
       IsSoFar S bytes reports cards program state → All IsProblem state.file
-  pub set_up : (bytes : List ℕ) (program : Program) (reports : List Report) (cards : List (List ℕ)) (state : State) (present : Present) →
-      IsSoFar S bytes reports cards program state → state.setup ≡ Some present → IsProblem present.problem
+  pub set_up : (bytes : List ℕ) (program : Program) (reports : List Report) (cards : List (List ℕ)) (state : State)
+      (present : Present) → IsSoFar S bytes reports cards program state → state.setup ≡ Some present →
+      IsProblem present.problem
 
 -- whichever verbs are built: where there are no parametric runs, or where these keep to bases
 pub record RunLaws : Type 0 where
-  pub truth : (builds : Verb ℕ → Bool) → builds Paraobj ≡ false → builds Pararhs ≡ false → TellsTruth (staged builds)
+  pub truth : (builds : Verb ℕ → Bool) → builds Paraobj ≡ false → builds Pararhs ≡ false →
+      TellsTruth (staged builds)
   pub swept : (builds : Verb ℕ → Bool) → SweepsKeepBases (staged builds) → TellsTruth (staged builds)
   pub problems : (builds : Verb ℕ → Bool) → FilesProblems (staged builds)

@@ -20,7 +20,8 @@ use Rattle.answer_definitions.specs.Lines.{pair_lines, ray_lines}
 use Rattle.answer_definitions.specs.Sections.{solution_lines}
 use Rattle.run_definitions.specs.State.{Present, present_basis, State, choice_of}
 
--- There is a setup; and the linear program is selected of its problem with its options and with these cells. Both are lawful.
+-- There is a setup; and the linear program is selected of its problem with its options and with these
+-- cells. Both are lawful.
 pub record PresentProgram (setup : Option Present) (cells : Cells) : Type 0 where
   pub present : Present
   pub is_setup : setup ≡ Some present
@@ -33,8 +34,8 @@ pub record PresentProgram (setup : Option Present) (cells : Cells) : Type 0 wher
 abbrev pub sheet_of : {setup : Option Present} {cells : Cells} → PresentProgram setup cells → Sheet
 sheet_of program = record { problem = program.present.problem; lp = program.lp }
 
--- The lines are those of the present basis: its point is feasible, no feasible point betters it, and its prices, which are printed,
--- prove that.
+-- The lines are those of the present basis: its point is feasible, no feasible point betters it, and its
+-- prices, which are printed, prove that.
 pub record ShowsBest (setup : Option Present) (cells : Cells) (lines : SolutionLines) : Type 0 where
   pub program : PresentProgram setup cells
   pub is_basis : IsNonsingularBasis program.lp (present_basis program.present)
@@ -42,7 +43,8 @@ pub record ShowsBest (setup : Option Present) (cells : Cells) (lines : SolutionL
   pub is_tableau : IsTableau program.lp (present_basis program.present) tableau
   pub are_lines : lines ≡ solution_lines (sheet_of program) (present_basis program.present) tableau
   pub best : IsBest program.lp tableau.point
-  pub proving : AreProvingPrices program.lp tableau.point (price_at program.lp (basics_of (present_basis program.present)) tableau.rate)
+  pub proving : AreProvingPrices program.lp tableau.point
+      (price_at program.lp (basics_of (present_basis program.present)) tableau.rate)
 
 -- the objective is that of a best point
 pub record IsBestObjective (p : LinearProgram) (objective : ℚ) : Type 0 where
@@ -56,7 +58,8 @@ pub record AreLinesOfRay (sheet : Sheet) (lines : List Line) : Type 0 where
   pub is_ray : IsRay sheet.lp (value_at ray)
   pub are_lines : lines ≡ ray_lines sheet ray
 
--- the lines are those of a feasible point, which has this objective, and of a direction that proves that there is no best one
+-- the lines are those of a feasible point, which has this objective, and of a direction that proves that
+-- there is no best one
 pub record AreLinesOfDirection (sheet : Sheet) (objective : ℚ) (lines : List Line) : Type 0 where
   pub point : List ℚ
   pub direction : List ℚ
@@ -64,17 +67,20 @@ pub record AreLinesOfDirection (sheet : Sheet) (objective : ℚ) (lines : List L
   pub is_objective : objective ≡ objective_value sheet.lp (value_at point)
   pub are_lines : lines ≡ pair_lines sheet point direction
 
--- An objective that is printed is that of a best point. A variable that is printed is crossed, or the lines are those of a ray, and so
--- no point is feasible. Or the lines are those of a feasible point and a direction, and so there is no best point.
+-- An objective that is printed is that of a best point. A variable that is printed is crossed, or the
+-- lines are those of a ray, and so no point is feasible. Or the lines are those of a feasible point and a
+-- direction, and so there is no best point.
 abbrev pub IsTrueOf : Sheet → Verdict → Type 0
 IsTrueOf sheet (OptimalAt steps objective) = IsBestObjective sheet.lp objective
 IsTrueOf sheet (CrossedAt k) = IsCrossed sheet.lp k × IsInfeasible sheet.lp
 IsTrueOf sheet (InfeasibleBy steps lines) = AreLinesOfRay sheet lines × IsInfeasible sheet.lp
 IsTrueOf sheet (UnboundedBy steps objective lines) = AreLinesOfDirection sheet objective lines × IsUnbounded sheet.lp
 
--- What a report says of the linear program that is selected in the state in which it is made: SOLUTION OPTIMAL shows what is best in it,
--- and a verdict of PRIMAL is true of it. The other reports say nothing of a linear program yet.
+-- What a report says of the linear program that is selected in the state in which it is made: SOLUTION
+-- OPTIMAL shows what is best in it, and a verdict of PRIMAL is true of it. The other reports say nothing
+-- of a linear program yet.
 abbrev pub Holds : State → Report → Type 0
 Holds state (Solution Optimal lines) = ShowsBest state.setup state.cells lines
-Holds state (Solved ByPrimal verdict check) = (program : PresentProgram state.setup state.cells) × IsTrueOf (sheet_of program) verdict
+Holds state (Solved ByPrimal verdict check) =
+    (program : PresentProgram state.setup state.cells) × IsTrueOf (sheet_of program) verdict
 Holds state report = Unit {0}

@@ -62,4 +62,4 @@ pub returns-in-Primal-clause-acts : goal.returns-in-Primal-clause-acts
 returns-in-Primal-clause-acts g c = rw c.in-Primal.is (c.solve.ensures.acts c.args.cards.now)
 
 pub returns-in-Solution-clause-acts : goal.returns-in-Solution-clause-acts
-returns-in-Solution-clause-acts g c = rw c.in-Solution.is (c.show_solution.ensures c.args.cards.now)
+returns-in-Solution-clause-acts g c = rw c.in-Solution.is (c.show_solution.ensures.acts c.args.cards.now)

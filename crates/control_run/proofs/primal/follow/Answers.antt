@@ -1,25 +1,29 @@
 -- Each answer of the path.
 use Rattle.std.proofs.Common.{Ok, subst}
-use Rattle.answer_definitions.specs.Real.{IsSolvedUnless}
-use Rattle.opening_path.specs.declared.PathAnswer.{PathAnswer}
-use Rattle.opening_path.specs.Missing.{IsMissing}
-use Rattle.opening_path.specs.Answers.{sheet_shown, end_shown}
-use Rattle.control_run.specs.declared.primal.Finding.TheVariants.{Limit, NotBuilt}
-use Rattle.control_run.specs.Findings.{PathFinds, at_limit, not_built}
-use Rattle.control_run.proofs.Solving_steps.{tells_quietly}
+use Rattle.present_answers.specs.Reports.{sheet_shown, PathStops}
+use Rattle.control_run.specs.declared.finding.Finding.TheVariants.{Limit}
+use Rattle.control_run.specs.Findings.{PathFinds, at_limit}
+use Rattle.control_run.proofs.Telling.{tells_quietly, overflow_tells}
+use Rattle.control_run.proofs.Present.{path_reached}
+use Rattle.control_run.proofs.Solving_steps.{path_overflows}
 use Rattle.control_run.proofs.primal.follow.Goals as goal
 
-pub returns-in-Ok-Reached : goal.returns-in-Ok-Reached
-returns-in-Ok-Reached g c =
-    c.print_verdict.ensures c.args.basis.now c.args.limit
-    (subst (λ (answer : PathAnswer). IsSolvedUnless IsMissing (sheet_shown c.args.sheet) c.args.basis.now c.args.limit (end_shown c.args.sheet answer)) c.in-Ok-Reached.field-0-is c.in-Ok-Reached.ensures.solved)
+pub returns-in-Ok-clause-tells : goal.returns-in-Ok-clause-tells
+returns-in-Ok-clause-tells g c =
+    c.print_verdict.ensures c.args.basis.now c.path_from.new.basis c.args.limit (g.R.Rates.waypoints c.args.rates.now) (g.R.Rates.waypoints c.path_from.new.rates) c.in-Ok.ensures.reached.bases
+    (path_reached c.args.sheet c.args.basis.now c.path_from.new.basis c.args.limit (g.R.Rates.waypoints c.args.rates.now) (g.R.Rates.waypoints c.path_from.new.rates) c.in-Ok.report
+    (g.R.Rates.matrix c.args.rates.now) (g.R.Rates.basics c.args.rates.now) c.requires.lawful c.requires.rates c.in-Ok.ensures.reached c.path_from.ensures.waypoints)
 
-pub returns-in-Ok-Limit : goal.returns-in-Ok-Limit
-returns-in-Ok-Limit g c =
-    tells_quietly g.P.Sink.written g.P.Sink.faults g.P.Sink.refusals (PathFinds (sheet_shown c.args.sheet) c.args.basis.now c.args.limit) c.args.print.now (Ok Limit)
-    (at_limit (subst (λ (answer : PathAnswer). IsSolvedUnless IsMissing (sheet_shown c.args.sheet) c.args.basis.now c.args.limit (end_shown c.args.sheet answer)) c.in-Ok-Limit.field-0-is c.in-Ok-Limit.ensures.solved))
+pub returns-in-Err-Limit-clause-tells : goal.returns-in-Err-Limit-clause-tells
+returns-in-Err-Limit-clause-tells g c =
+    let t = subst (PathStops c.args.sheet c.args.basis.now c.path_from.new.basis c.args.limit (g.R.Rates.waypoints c.args.rates.now) (g.R.Rates.waypoints c.path_from.new.rates)) c.in-Err-Limit.field-0-is c.in-Err-Limit.ensures.stops in
+    tells_quietly g.P.Sink.written g.P.Sink.faults g.P.Sink.refusals
+    (PathFinds (sheet_shown c.args.sheet) c.args.basis.now c.path_from.new.basis c.args.limit (g.R.Rates.waypoints c.args.rates.now) (g.R.Rates.waypoints c.path_from.new.rates)) c.args.print.now (Ok Limit) (at_limit t.goes_on)
 
-pub returns-in-Ok-NotBuilt : goal.returns-in-Ok-NotBuilt
-returns-in-Ok-NotBuilt g c =
-    tells_quietly g.P.Sink.written g.P.Sink.faults g.P.Sink.refusals (PathFinds (sheet_shown c.args.sheet) c.args.basis.now c.args.limit) c.args.print.now (Ok NotBuilt)
-    (not_built (subst (λ (answer : PathAnswer). IsSolvedUnless IsMissing (sheet_shown c.args.sheet) c.args.basis.now c.args.limit (end_shown c.args.sheet answer)) c.in-Ok-NotBuilt.field-0-is c.in-Ok-NotBuilt.ensures.solved))
+pub returns-in-Err-Overflow-clause-tells : goal.returns-in-Err-Overflow-clause-tells
+returns-in-Err-Overflow-clause-tells g c =
+    let t = subst (PathStops c.args.sheet c.args.basis.now c.path_from.new.basis c.args.limit (g.R.Rates.waypoints c.args.rates.now) (g.R.Rates.waypoints c.path_from.new.rates)) c.in-Err-Overflow.field-0-is c.in-Err-Overflow.ensures.stops in
+    overflow_tells g.P.Sink.written g.P.Sink.faults g.P.Sink.refusals
+    (PathFinds (sheet_shown c.args.sheet) c.args.basis.now c.path_from.new.basis c.args.limit (g.R.Rates.waypoints c.args.rates.now) (g.R.Rates.waypoints c.path_from.new.rates)) c.args.print.now
+    c.path_from.new.basis (g.R.Rates.waypoints c.path_from.new.rates) c.in-Err-Overflow.evidence c.overflow_at.result c.overflow_at.ensures
+    (path_overflows c.args.sheet c.args.basis.now c.path_from.new.basis c.args.limit (g.R.Rates.waypoints c.args.rates.now) (g.R.Rates.waypoints c.path_from.new.rates) c.in-Err-Overflow.evidence t)

@@ -1,13 +1,28 @@
-use Rattle.std.proofs.Common.{Ok, Err}
-use Rattle.control_run.proofs.Showing.{writes_lines}
+use Rattle.std.proofs.Common.{length, ap, ◌∙◌}
+use Rattle.std.proofs.lemmas.Result.{err_from_is_err_and}
+use Rattle.control_run.proofs.Showing.{lines_told, lines_cut}
 use Rattle.control_run.proofs.solution.print_lines.Goals as goal
 
-pub returns-in-Ok-text_of : goal.returns-in-Ok-text_of
-returns-in-Ok-text_of g c =
-    writes_lines g.P.Sink.written g.P.Sink.faults g.P.Sink.refusals c.args.print.now c.text_of.new.print c.args.sheet.problem.now c.args.sheet.lp.now c.args.basis.now c.args.mark
-    c.in-Ok.shown.point c.in-Ok.shown.prices c.in-Ok.shown.slack.items c.deref.result.now (Ok tt) c.deref.ensures.value c.in-Ok.ensures.shown c.in-Ok-text_of.ensures
+pub text_of-requires : goal.text_of-requires
+text_of-requires g c = record {
+  is_sheet = c.requires.sheet;
+  is_standing = record {
+    basis = c.requires.listed.basis;
+    point = c.requires.listed.point;
+    prices = c.requires.listed.prices;
+    slack = ap length c.deref.ensures.value ∙ c.requires.listed.slack;
+    no_change = c.requires.no_change;
+  };
+}
+
+pub returns-in_err-text_of : goal.returns-in_err-text_of
+returns-in_err-text_of g c = λ before.
+    let p = err_from_is_err_and c.from_residual.result c.from_residual.ensures.1 in
+    rw (p.1, p.2)
+    (lines_cut g.P.Sink.written g.P.Sink.faults g.P.Sink.refusals c.args.sheet c.args.basis.now before c.args.mark c.args.shown.now.point c.args.shown.now.prices c.args.shown.now.slack.items c.deref.result.now c.deref.ensures.value
+    c.requires.shown _ c.in_err-text_of.ensures)
 
 pub returns : goal.returns
-returns g c =
-    writes_lines g.P.Sink.written g.P.Sink.faults g.P.Sink.refusals c.args.print.now c.text_of.new.print c.args.sheet.problem.now c.args.sheet.lp.now c.args.basis.now c.args.mark
-    c.in-Ok.shown.point c.in-Ok.shown.prices c.in-Ok.shown.slack.items c.deref.result.now (Err c.in-Err.stop) c.deref.ensures.value c.in-Ok.ensures.shown c.in-Err.ensures
+returns g c = λ before.
+    lines_told g.P.Sink.written g.P.Sink.faults g.P.Sink.refusals c.args.sheet c.args.basis.now before c.args.mark c.args.shown.now.point c.args.shown.now.prices c.args.shown.now.slack.items c.deref.result.now c.deref.ensures.value
+    c.requires.shown c.in_ok-text_of.ensures

@@ -1,57 +1,51 @@
-use Rattle.std.proofs.Common.{Option, Some, None, refl, sym, ap}
-use Rattle.lp_definitions.specs.LinearProgram.{Matrix}
-use Rattle.run_definitions.specs.State.{choice_of}
-use Rattle.control_run.specs.declared.machine.Setup.{Setup}
-use Rattle.control_run.specs.Standing.{without_sets, present_of, setup_shown}
-use Rattle.control_run.proofs.Chosen.{same_matrix}
-use Rattle.control_run.proofs.Showing.{shown_by, solution_no_setup, solution_not_solved, solution_refused, solution_printed, solution_stopped}
+-- What is shown decides what follows.
+use Rattle.std.proofs.Common.{Some}
+use Rattle.std.proofs.lemmas.Result.{err_from_is_err_and}
+use Rattle.control_run.proofs.Keeping.{ready_of, selected_of, sound_kept}
+use Rattle.control_run.proofs.Showing.{solution_no_setup, solution_not_solved, solution_found, solution_cut, IsSameSetup, still_selected}
 use Rattle.control_run.proofs.solution.show_solution.Goals as goal
 
-pub returns-in_default : goal.returns-in_default
-returns-in_default g c = λ cards.
-    rw c.act.ensures
-    (solution_no_setup c.args.card g.P.Sink.written g.P.Sink.faults g.P.Sink.refusals cards c.args.machine.now c.args.print.now
-    (ap (λ (k : Option Setup). setup_shown c.args.machine.now.file k) c.in_default.is))
+pub returns-in_default-clause-acts : goal.returns-in_default-clause-acts
+returns-in_default-clause-acts g c = λ cards. rw c.act.ensures (solution_no_setup c.args.card g.P.Sink.written g.P.Sink.faults g.P.Sink.refusals cards c.args.machine.now c.args.print.now c.in_default.is)
 
-pub returns-in_default-get : goal.returns-in_default-get
-returns-in_default-get g c = λ cards.
-    rw c.act-in_default-get.ensures
-    (solution_no_setup c.args.card g.P.Sink.written g.P.Sink.faults g.P.Sink.refusals cards c.args.machine.now c.args.print.now
-    (shown_by c.args.machine.now.file c.args.machine.now.setup c.in-Some.setup None c.in-Some.is (sym c.in_default-get.ensures)))
-
-pub returns-in_default-mark : goal.returns-in_default-mark
-returns-in_default-mark g c = λ cards.
+pub returns-in_default-mark-clause-acts : goal.returns-in_default-mark-clause-acts
+returns-in_default-mark-clause-acts g c = λ cards.
+    let ready = ready_of c.args.machine.now.file c.args.machine.now.setup c.in-Some.setup c.in-Some.is c.requires.ready in
     rw c.act-in_default-mark.ensures
-    (solution_not_solved c.args.card g.P.Sink.written g.P.Sink.faults g.P.Sink.refusals cards c.args.machine.now (present_of c.in-Some.setup c.in-Some-get.problem.now)
-    (shown_by c.args.machine.now.file c.args.machine.now.setup c.in-Some.setup (Some c.in-Some-get.problem.now) c.in-Some.is (sym c.in-Some-get.ensures))
-    c.args.print.now c.in_default-mark.is)
+    (solution_not_solved c.args.card cards c.args.machine.now c.in-Some.setup c.in-Some.is ready.problem ready.on_file g.P.Sink.written g.P.Sink.faults g.P.Sink.refusals c.args.print.now
+    (record (c.args.machine.now) { setup = Some c.in-Some.setup }) c.in_default-mark.is)
 
-pub returns-in-Err : goal.returns-in-Err
-returns-in-Err g c = λ cards.
-    rw c.act-in-Err.ensures
-    (solution_refused c.args.card g.P.Sink.written g.P.Sink.faults g.P.Sink.refusals cards c.args.machine.now (present_of c.in-Some.setup c.in-Some-get.problem.now)
-    (shown_by c.args.machine.now.file c.args.machine.now.setup c.in-Some.setup (Some c.in-Some-get.problem.now) c.in-Some.is (sym c.in-Some-get.ensures))
-    c.in-Some-mark.mark c.in-Some-mark.is c.args.print.now c.in-Err.refusal c.in-Err.ensures.refused)
+pub returns-in_err-finding-clause-acts : goal.returns-in_err-finding-clause-acts
+returns-in_err-finding-clause-acts g c = λ cards.
+    let p = err_from_is_err_and c.from_residual.result c.from_residual.ensures.1 in
+    let ready = ready_of c.args.machine.now.file c.args.machine.now.setup c.in-Some.setup c.in-Some.is c.requires.ready in
+    let same : IsSameSetup c.in-Some.setup c.show_setup.new.setup =
+    record { name = c.show_setup.ensures.name; options = c.show_setup.ensures.options; lp = c.show_setup.ensures.lp; basis = c.show_setup.ensures.basis; keeps = c.show_setup.ensures.waypoints } in
+    let selected = selected_of c.args.machine.now.cells c.args.machine.now.file c.args.machine.now.mark c.args.machine.now.setup c.in-Some-mark.mark c.in-Some.setup c.in-Some-mark.is c.in-Some.is c.requires.solved in
+    rw (p.1, p.2)
+    (solution_cut c.args.card cards c.args.machine.now c.in-Some.setup c.in-Some.is ready.problem ready.on_file g.P.Sink.written g.P.Sink.faults g.P.Sink.refusals c.args.print.now c.show_setup.new.print c.show_setup.new.setup
+    c.in-Some-mark.mark c.in-Some-mark.is (selected ready.problem ready.on_file) same (record (c.args.machine.now) { setup = Some c.show_setup.new.setup }) c.in_err-finding.field-0.0
+    (c.in_err-finding.ensures.tells ready.problem ready.on_file))
 
-pub print_lines-requires-clause-sheet : goal.print_lines-requires-clause-sheet
-print_lines-requires-clause-sheet g c =
-    let same = same_matrix c.in-Some-get.problem.now (choice_of c.args.machine.now.cells (without_sets c.in-Some.setup.sense)) c.in-Ok.lp c.in-Ok.ensures.selected in
-    record { rows = ap (λ (a : Matrix). a.rows) same; columns = ap (λ (a : Matrix). a.cols) same }
+pub returns-in_err-finding-clause-sound : goal.returns-in_err-finding-clause-sound
+returns-in_err-finding-clause-sound g c = λ cards sound.
+    let same : IsSameSetup c.in-Some.setup c.show_setup.new.setup =
+    record { name = c.show_setup.ensures.name; options = c.show_setup.ensures.options; lp = c.show_setup.ensures.lp; basis = c.show_setup.ensures.basis; keeps = c.show_setup.ensures.waypoints } in
+    sound_kept cards c.args.machine.now c.in-Some.setup c.show_setup.new.setup c.in-Some.is c.show_setup.ensures.ready
+    (still_selected c.args.machine.now.cells c.args.machine.now.file c.in-Some.setup c.show_setup.new.setup same) sound
 
-pub print_lines-requires-clause-at_zero : goal.print_lines-requires-clause-at_zero
-print_lines-requires-clause-at_zero g c = c.selection_laws.ensures.at_zero c.in-Some-get.problem.now (choice_of c.args.machine.now.cells (without_sets c.in-Some.setup.sense)) c.in-Ok.lp refl c.in-Ok.ensures.selected
+pub returns-clause-acts : goal.returns-clause-acts
+returns-clause-acts g c = λ cards.
+    let ready = ready_of c.args.machine.now.file c.args.machine.now.setup c.in-Some.setup c.in-Some.is c.requires.ready in
+    let same : IsSameSetup c.in-Some.setup c.show_setup.new.setup =
+    record { name = c.show_setup.ensures.name; options = c.show_setup.ensures.options; lp = c.show_setup.ensures.lp; basis = c.show_setup.ensures.basis; keeps = c.show_setup.ensures.waypoints } in
+    let selected = selected_of c.args.machine.now.cells c.args.machine.now.file c.args.machine.now.mark c.args.machine.now.setup c.in-Some-mark.mark c.in-Some.setup c.in-Some-mark.is c.in-Some.is c.requires.solved in
+    solution_found c.args.card cards c.args.machine.now c.in-Some.setup c.in-Some.is ready.problem ready.on_file g.P.Sink.written g.P.Sink.faults g.P.Sink.refusals c.args.print.now c.show_setup.new.print c.show_setup.new.setup
+    c.in-Some-mark.mark c.in-Some-mark.is (selected ready.problem ready.on_file) same c.in_ok-finding.finding c.act_of.result c.act_of.ensures (c.in_ok-finding.ensures.tells ready.problem ready.on_file)
 
-pub print_lines-requires-clause-no_change : goal.print_lines-requires-clause-no_change
-print_lines-requires-clause-no_change g c = c.selection_laws.ensures.no_change c.in-Some-get.problem.now (choice_of c.args.machine.now.cells (without_sets c.in-Some.setup.sense)) c.in-Ok.lp c.in-Ok.ensures.selected
-
-pub returns-in-Ok-print_lines : goal.returns-in-Ok-print_lines
-returns-in-Ok-print_lines g c = λ cards.
-    solution_printed c.args.card g.P.Sink.written g.P.Sink.faults g.P.Sink.refusals cards c.args.machine.now (present_of c.in-Some.setup c.in-Some-get.problem.now)
-    (shown_by c.args.machine.now.file c.args.machine.now.setup c.in-Some.setup (Some c.in-Some-get.problem.now) c.in-Some.is (sym c.in-Some-get.ensures))
-    c.in-Some-mark.mark c.in-Some-mark.is c.in-Ok.lp c.in-Ok.ensures.selected c.args.print.now c.print_lines.new.print c.in-Ok-print_lines.ensures
-
-pub returns : goal.returns
-returns g c = λ cards.
-    solution_stopped c.args.card g.P.Sink.written g.P.Sink.faults g.P.Sink.refusals cards c.args.machine.now (present_of c.in-Some.setup c.in-Some-get.problem.now)
-    (shown_by c.args.machine.now.file c.args.machine.now.setup c.in-Some.setup (Some c.in-Some-get.problem.now) c.in-Some.is (sym c.in-Some-get.ensures))
-    c.in-Some-mark.mark c.in-Some-mark.is c.in-Ok.lp c.in-Ok.ensures.selected c.args.print.now c.print_lines.new.print c.in-Err-print_lines.halt c.in-Err-print_lines.ensures
+pub returns-clause-sound : goal.returns-clause-sound
+returns-clause-sound g c = λ cards sound.
+    let same : IsSameSetup c.in-Some.setup c.show_setup.new.setup =
+    record { name = c.show_setup.ensures.name; options = c.show_setup.ensures.options; lp = c.show_setup.ensures.lp; basis = c.show_setup.ensures.basis; keeps = c.show_setup.ensures.waypoints } in
+    sound_kept cards c.args.machine.now c.in-Some.setup c.show_setup.new.setup c.in-Some.is c.show_setup.ensures.ready
+    (still_selected c.args.machine.now.cells c.args.machine.now.file c.in-Some.setup c.show_setup.new.setup same) sound

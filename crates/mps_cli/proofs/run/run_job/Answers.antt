@@ -1,7 +1,4 @@
 use Rattle.std.proofs.Common.{rules, refl, length}
-use Rattle.job_devices.specs.Causes.{Rose}
-use Rattle.job_devices.specs.Text.{AppendsFront}
-use Rattle.card_reader.specs.Reading.{ReadsJob}
 use Rattle.run_definitions.specs.Answer.{Read}
 use Rattle.mps_cli.specs.declared.stop.Stop.TheVariants.{Words}
 use Rattle.mps_cli.proofs.May_end.{prepared_of}

@@ -1,7 +1,15 @@
 -- The problem that was found is on file, and is reported.
 use Rattle.std.proofs.lemmas.Result.{err_from_is_err_and}
+use Rattle.control_definitions.specs.Program.{Convert}
+use Rattle.control_run.specs.Stage.{stage}
+use Rattle.control_run.proofs.Giving.{quietly}
 use Rattle.control_run.proofs.Filing.{converted_done, converted_cut}
 use Rattle.control_run.proofs.machine.Machine.convert.Goals as goal
+
+pub returns-in-Ends-clause-acts : goal.returns-in-Ends-clause-acts
+returns-in-Ends-clause-acts g c =
+    let d = rw c.in-Ends.is at c.in_ok-end.ensures in
+    quietly stage Convert c.args.card g.P.Sink.written g.P.Sink.faults g.P.Sink.refusals c.args.cards.now c.args.self.now c.args.print.now d
 
 pub returns-in_err-text_of-in-Filed-clause-acts : goal.returns-in_err-text_of-in-Filed-clause-acts
 returns-in_err-text_of-in-Filed-clause-acts g c =

@@ -1,0 +1,21 @@
+-- The engine of a run, as contracts see it: what it promises of rates, by the names of the trait `Rates`.
+--     Engine                       what keeps the rates
+--     matrix, basics               whose rates they are
+--     ways                         the sets that the inverse has passed through
+use Rattle.std.specs.Prelude.{List, []}
+use Rattle.lp_definitions.specs.LinearProgram.{Matrix}
+use Rattle.lp_definitions.specs.Basis.{Basics}
+use Rattle.rates_dense.specs.Inverse.{Inverse}
+
+abbrev pub Engine : Type 0
+Engine = Inverse
+
+abbrev pub matrix : Engine → Matrix
+matrix engine = engine.matrix
+
+abbrev pub basics : Engine → Basics
+basics engine = engine.basics
+
+-- a whole table passes through none
+abbrev pub ways : Engine → List Basics
+ways engine = []

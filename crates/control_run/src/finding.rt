@@ -1,0 +1,119 @@
+// What PRIMAL and SOLUTION find, and what follows.
+ghost use Rattle.std.specs.Prelude.{◌≡◌, ◌≤◌, length, IfOk};
+ghost use Rattle.lp_definitions.specs.Basis.{basics_of};
+ghost use Rattle.lp_definitions.specs.Waypoints.{waypoint};
+ghost use Rattle.bounded_primal.specs.Calls.{HasRates};
+ghost use Rattle.control_run.specs.Ends.{place_shown};
+ghost use Rattle.control_run.specs.Findings.{IsOverflowAt, demanded_act, act_of, mark_left};
+
+use crate::act::{Act, Halt};
+use crate::end::{End, Place};
+use control_definitions::Demand;
+use listing_definitions::{Mark, VerbFault};
+use lp_definitions::Evidence;
+use lp_model::{Basis, Lp, NoMemory, Rates};
+use run_cells::Cells;
+use std::alloc::Global;
+
+/// What PRIMAL and SOLUTION find.
+#[derive(Drop)]
+pub enum Finding {
+    /// The statement is refused.
+    Refused(VerbFault),
+    /// An operation is refused. A range sum has no place.
+    Overflow {
+        evidence: Evidence,
+        place: Option<Place>,
+    },
+    /// The path goes on past the limit.
+    Limit,
+    /// The path has ended, and its verdict leaves this mark.
+    Ended(Mark),
+    /// The point and the prices are printed.
+    Shown,
+}
+
+// The place of an evidence at a basis, with the set that has this number among the waypoints.
+fn place_at<R: Rates>(
+    alloc: Global,
+    lp: &Lp,
+    basis: &Basis,
+    rates: &R,
+    way: u32,
+) -> Result<Place, NoMemory>
+    requires rates { HasRates (R.matrix rates.now) (R.basics rates.now) lp.now basis.now }
+    requires way { way ≤ length (R.waypoints rates.now) }
+    ensures { IfOk result (λ place. place_shown place ≡ record { basis = basis.now; way = waypoint (basics_of basis.now) (R.waypoints rates.now) way }) }
+{
+    let size = lp.number_of_variables() as usize;
+    let mut marks = vec![in alloc; false; size].map_err(|_| NoMemory)?;
+    rates.way_basics(way, &mut marks);
+    Ok(Place {
+        basis: basis.copy(alloc)?,
+        way: marks,
+    })
+}
+
+/// An operation is refused at a basis.
+pub fn overflow_at<R: Rates>(
+    alloc: Global,
+    lp: &Lp,
+    basis: &Basis,
+    rates: &R,
+    evidence: Evidence,
+) -> Result<Finding, Halt>
+    requires rates { HasRates (R.matrix rates.now) (R.basics rates.now) lp.now basis.now }
+    requires way { evidence.way ≤ length (R.waypoints rates.now) }
+    ensures { IsOverflowAt basis.now (R.waypoints rates.now) evidence result }
+{
+    match place_at(alloc, lp, basis, rates, evidence.way) {
+        Ok(place) => Ok(Finding::Overflow {
+            evidence,
+            place: Some(place),
+        }),
+        Err(NoMemory) => Err(Halt::NoMemory),
+    }
+}
+
+// The position of a demand, or the end where it isn't set.
+fn demanded(position: Option<u32>, end: End) -> Act
+    ensures { result ≡ demanded_act position end }
+{
+    match position {
+        Some(position) => Act::Jump(position),
+        None => Act::Ends(end),
+    }
+}
+
+/// What follows what was found by the statement of a card.
+pub fn act_of(cells: &Cells, card: u32, finding: Finding) -> Act
+    ensures { result ≡ act_of cells.now card finding }
+{
+    match finding {
+        Finding::Refused(fault) => Act::Ends(End::Verb { fault, card }),
+        Finding::Overflow { evidence, place } => Act::Ends(End::Overflow {
+            evidence,
+            place,
+            card,
+        }),
+        Finding::Limit => Act::Ends(End::Limit {
+            limit: cells.limit(),
+            card,
+        }),
+        Finding::Ended(Mark::Optimal) | Finding::Shown => Act::Next,
+        Finding::Ended(Mark::Infeasible) => {
+            demanded(cells.demand(Demand::Xdonfs), End::Infeasible)
+        }
+        Finding::Ended(Mark::Unbounded) => demanded(cells.demand(Demand::Xdounb), End::Unbounded),
+    }
+}
+
+/// The mark after a finding.
+pub fn mark_left(finding: &Finding, mark: Option<Mark>) -> Option<Mark>
+    ensures { result ≡ mark_left finding.now mark }
+{
+    match finding {
+        Finding::Ended(left) => Some(*left),
+        Finding::Refused(_) | Finding::Overflow { .. } | Finding::Limit | Finding::Shown => mark,
+    }
+}

@@ -1,0 +1,49 @@
+use job_devices::{MemorySink, MemorySource, SureSink};
+use mps_cli::run_job;
+use std::alloc::Global;
+use std::test::Fail;
+
+/// A job with the words of its command line, and the numbers of the reads and writes that fail.
+#[derive(Clone, Copy)]
+pub struct Call<'a> {
+    pub words: &'a [String],
+    pub job: &'a [u8],
+    pub failing_reads: &'a [u64],
+    pub failing_writes: &'a [u64],
+}
+
+/// What a job is answered.
+#[derive(Drop)]
+pub struct Answer {
+    pub status: u8,
+    pub print: MemorySink,
+}
+
+impl Answer {
+    /// Whether a job has this status and this listing.
+    pub fn is(&self, status: u8, listing: &[u8]) -> bool {
+        self.status == status && self.print.bytes() == listing
+    }
+}
+
+/// Runs a job.
+pub fn answer_to(alloc: Global, call: &Call) -> Result<Answer, Fail> {
+    let mut job = MemorySource::new(alloc, call.job, call.failing_reads)?;
+    let mut print = MemorySink::new(alloc, call.failing_writes)?;
+    let mut punch = SureSink::new(alloc)?;
+    let status = run_job(alloc, call.words, &mut job, &mut print, &mut punch).code();
+    Ok(Answer { status, print })
+}
+
+/// Runs a job without words over devices that don't fail.
+pub fn answer_of(alloc: Global, job: &[u8]) -> Result<Answer, Fail> {
+    answer_to(
+        alloc,
+        &Call {
+            words: &[],
+            job,
+            failing_reads: &[],
+            failing_writes: &[],
+        },
+    )
+}

@@ -1,0 +1,11 @@
+//! Worked jobs, run from their bytes to the listing and the status. Nothing but tests.
+#![tactic(auto)]
+
+#[cfg(test)]
+mod devices;
+#[cfg(test)]
+mod jobs;
+#[cfg(test)]
+mod rows;
+#[cfg(test)]
+mod runs;

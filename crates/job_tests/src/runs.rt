@@ -1,0 +1,68 @@
+// Jobs without words over devices that don't fail.
+use crate::jobs::answer_of;
+use crate::rows::{CONTROL_FAULTS, DECK_FAULTS, OVERFLOWS, PLANS, Row, VERB_FAULTS, VERDICTS};
+use std::alloc::Global;
+use std::test::Fail;
+
+// Whether the job has this status and this listing.
+fn is_told(alloc: Global, row: &Row) -> Result<bool, Fail> {
+    Ok(answer_of(alloc, row.job)?.is(row.status, row.listing))
+}
+
+// Whether it has this status, and a listing that begins so.
+fn is_begun(alloc: Global, row: &Row) -> Result<bool, Fail> {
+    let answer = answer_of(alloc, row.job)?;
+    Ok(answer.status == row.status && answer.print.bytes().starts_with(row.listing))
+}
+
+// The name of the first of these jobs that has another status or listing.
+fn first_untold(alloc: Global, rows: &[Row]) -> Result<Option<&'static str>, Fail> {
+    for row in rows {
+        if !is_told(alloc, row)? {
+            return Ok(Some(row.name));
+        }
+    }
+    Ok(None)
+}
+
+#[test]
+fn plans_are_solved(rt: HostRuntime) -> Result<(), Fail> {
+    assert_eq!(rt; first_untold(rt.alloc(), &PLANS)?, None);
+    Ok(())
+}
+
+#[test]
+fn verdicts_and_limits_end_a_run(rt: HostRuntime) -> Result<(), Fail> {
+    assert_eq!(rt; first_untold(rt.alloc(), &VERDICTS)?, None);
+    Ok(())
+}
+
+#[test]
+fn faults_are_told_with_their_cards(rt: HostRuntime) -> Result<(), Fail> {
+    assert_eq!(rt; first_untold(rt.alloc(), &CONTROL_FAULTS)?, None);
+    assert_eq!(rt; first_untold(rt.alloc(), &VERB_FAULTS)?, None);
+    assert_eq!(rt; first_untold(rt.alloc(), &DECK_FAULTS)?, None);
+    Ok(())
+}
+
+#[test]
+fn numbers_that_grow_too_large_end_a_run(rt: HostRuntime) -> Result<(), Fail> {
+    for row in &OVERFLOWS {
+        assert!(rt; is_begun(rt.alloc(), row)?, "{}", row.name);
+    }
+    Ok(())
+}
+
+// A job of so many bytes of one kind.
+fn repeated(alloc: Global, byte: u8, count: usize) -> Result<Vec<u8>, Fail> {
+    Ok(vec![in alloc; byte; count]?)
+}
+
+#[test]
+fn long_jobs_are_refused(rt: HostRuntime) -> Result<(), Fail> {
+    for (byte, count) in [(b'\n', 200_001), (b'X', 16_400_001)] {
+        let job = repeated(rt.alloc(), byte, count)?;
+        assert!(rt; answer_of(rt.alloc(), &job)?.is(13, b"STOP 13 CARD FAULT 2\n"));
+    }
+    Ok(())
+}

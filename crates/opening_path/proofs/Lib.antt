@@ -1,3 +1,0 @@
-mod Verdicts
-mod SolutionLines
-mod Selecting

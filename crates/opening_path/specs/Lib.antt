@@ -1,3 +1,0 @@
-pub mod Missing
-pub mod Answers
-pub mod Laws

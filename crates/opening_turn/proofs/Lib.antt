@@ -1,6 +1,0 @@
-pub mod Tableaus
-mod Lowering
-mod Walks
-mod Stopping
-pub mod Lists
-pub mod Turning
