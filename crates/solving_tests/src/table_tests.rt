@@ -1,10 +1,10 @@
 ghost use Rattle.std.specs.Prelude.{◌≡◌, ◌≤◌, length, IfOk};
 ghost use Rattle.lp_definitions.specs.LinearProgram.{size};
 
-use super::*;
-use frac128::{Op, Refused};
-use lp_model::Sense;
-use std::alloc::AllocError;
+use frac128::{Frac, Op, Refused};
+use lp_model::{Engine, Entry, Evidence, Lp, Rates, Sense, Stop};
+use rates_dense::Dense;
+use std::alloc::{AllocError, Global};
 use std::test::Fail;
 
 /// Four rows and three columns.

@@ -1,6 +1,5 @@
-//! Follows the path of the linear program that the deck on standard input describes, from the basis of its rows, and prints where it
-//! ends, so that it can be timed. The objective is the first N row, and the right-hand sides are the first set.
-#![tactic(auto)]
+//! The path of the linear program that the deck on standard input describes, from the basis of its rows. The objective is the first
+//! N row, and the right-hand sides are the first set.
 
 use bounded_primal::{PrimalStop, opening, primal};
 use card_reader::{Cards, read_job};
@@ -103,11 +102,12 @@ fn report(rt: &impl Print, end: End) -> io::Result<()> {
     }
 }
 
-fn main(rt: HostRuntime) -> io::Result<()> {
+/// Prints where the path of the job on standard input ends.
+pub fn follow(rt: &HostRuntime) -> io::Result<()> {
     let mut source = StreamSource::new(rt.reader());
     let end = match read_job(rt.alloc(), &mut source) {
         Ok(cards) => solved(rt.alloc(), &cards),
         Err(_) => End::NoDeck,
     };
-    report(&rt, end)
+    report(rt, end)
 }

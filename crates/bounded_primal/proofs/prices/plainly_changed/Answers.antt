@@ -2,7 +2,7 @@ use Rattle.std.proofs.Common.{◌∙◌, ap}
 use Rattle.exact_values.specs.Rational.{ℚ, ◌*ℚ◌}
 use Rattle.exact_values.proofs.Ring_laws.{mul-zero}
 use Rattle.bounded_primal.proofs.TermLaws.{OnErr-map}
-use Rattle.bounded_primal.proofs.prices.changed.Goals as goal
+use Rattle.bounded_primal.proofs.prices.plainly_changed.Goals as goal
 
 pub returns-clause-needed : goal.returns-clause-needed
 returns-clause-needed c =

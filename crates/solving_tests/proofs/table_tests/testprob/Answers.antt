@@ -1,7 +1,7 @@
 -- The program that is written out is lawful, by the test that computes.
 use Rattle.std.proofs.Common.{refl}
 use Rattle.lp_definitions.proofs.Lawful.{tested}
-use Rattle.rates_dense.proofs.tests.testprob.Goals as goal
+use Rattle.solving_tests.proofs.table_tests.testprob.Goals as goal
 
 pub invariant_of-result : goal.invariant_of-result
 invariant_of-result c =

@@ -3,7 +3,7 @@ use Rattle.std.proofs.lemmas.List.{get_or_default}
 use Rattle.exact_values.specs.Rational.{zero_ℚ}
 use Rattle.lp_definitions.specs.LinearProgram.{value_at}
 use Rattle.lp_laws.proofs.Values.{clash}
-use Rattle.rates_dense.proofs.tests.enter.Goals as goal
+use Rattle.solving_tests.proofs.table_tests.enter.Goals as goal
 
 -- the rate was read in the direction, and is not 0
 pub exchange-requires-clause-pivot : goal.exchange-requires-clause-pivot

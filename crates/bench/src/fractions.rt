@@ -1,16 +1,19 @@
-//! Works the operations of `frac128` over fixed tables, so that they can be timed.
-//!
-//! With no words it prints what each operation comes to over each table. `frac_bench TABLE OPERATION TURNS` goes
-//! that many times over one table with one operation.
-#![tactic(auto)]
+//! The operations of `frac128` over fixed tables of fractions.
+
+ghost use Rattle.std.specs.Prelude.{pos, ◌≤ℤ◌};
 
 use divisors::gcd;
 use frac128::{Frac, Op};
 use std::cmp::Ordering;
-use std::{env, io};
+use std::io;
 
 /// How many fractions a table has.
 const ROWS: usize = 64;
+
+/// The greatest primes of 62 and of 120 bits.
+const PRIME_62: i128 = 4611686018427387847;
+
+const PRIME_120: i128 = 1329227995784915872903807060280344457;
 
 /// A factor of 80 bits that the related denominators share.
 const SHARED: i128 = 604462909807314587353111;
@@ -28,6 +31,10 @@ enum Table {
     Related,
     /// Parts of 126 bits.
     Wide,
+    /// 1 over a prime of 62 bits, and then 1 less that prime over others of 62 bits: what a pivot works on.
+    Pivot,
+    /// The same with 120 bits.
+    WidePivot,
     /// The ratios of neighbouring Fibonacci numbers, which only the last of many quotients tells apart.
     Close,
 }
@@ -37,6 +44,7 @@ enum Work {
     Operation(Op),
     Compare,
     Divisor,
+    SubProduct,
 }
 
 /// What a run over a table comes to.
@@ -63,8 +71,21 @@ fn fraction(table: Table, a: u64, b: u64, c: u64, d: u64) -> Frac {
             let low = (c >> 2) as i128 * 18446744073709551616;
             Frac::new(high + b as i128, low + d as i128 + 1)
         }
+        Table::Pivot => less_over(PRIME_62, (a >> 2) as i128 + 1),
+        Table::WidePivot => {
+            let high = (a >> 8) as i128 * 18446744073709551616;
+            less_over(PRIME_120, high + b as i128 + 1)
+        }
         Table::Close => Frac::ONE,
     }
+}
+
+/// 1 less a/b, where both have fewer than 126 bits.
+fn less_over(a: i128, b: i128) -> Frac
+    requires a_low { pos 0 ≤ℤ a }
+    requires b_low { pos 1 ≤ℤ b }
+{
+    Frac::new(b - a, b)
 }
 
 /// From F(120)/F(121) on.
@@ -83,6 +104,14 @@ fn neighbours() -> [Frac; ROWS] {
     rows
 }
 
+/// Whether its fractions are those of pivots, with their own signs.
+fn is_of_pivots(table: Table) -> bool {
+    match table {
+        Table::Pivot | Table::WidePivot => true,
+        _ => false,
+    }
+}
+
 fn fractions(table: Table) -> [Frac; ROWS] {
     if let Table::Close = table {
         return neighbours();
@@ -95,7 +124,16 @@ fn fractions(table: Table) -> [Frac; ROWS] {
         let c = next(b);
         seed = next(c);
         let x = fraction(table, a, b, c, seed);
-        *row = if seed & 4096 == 0 { x } else { x.neg() };
+        *row = if seed & 4096 == 0 || is_of_pivots(table) {
+            x
+        } else {
+            x.neg()
+        };
+    }
+    match table {
+        Table::Pivot => rows[0] = Frac::new(1, PRIME_62),
+        Table::WidePivot => rows[0] = Frac::new(1, PRIME_120),
+        _ => {}
     }
     rows
 }
@@ -104,20 +142,28 @@ fn digest_of(x: Frac) -> u128 {
     x.num().unsigned_abs() ^ x.den().unsigned_abs()
 }
 
-fn work_on(work: Work, x: Frac, y: Frac, so_far: Outcome) -> Outcome {
+/// The outcome with an answer or a refusal.
+fn with_answer(so_far: Outcome, answer: Option<Frac>) -> Outcome {
+    let Outcome { digest, refusals } = so_far;
+    match answer {
+        Some(z) => Outcome {
+            digest: digest ^ digest_of(z),
+            refusals,
+        },
+        None => Outcome {
+            digest,
+            refusals: refusals.wrapping_add(1),
+        },
+    }
+}
+
+/// The outcome with the work on `x` and `y`, or, where it takes three, on `first` less `x` times `first`.
+fn work_on(work: Work, x: Frac, y: Frac, first: Frac, so_far: Outcome) -> Outcome {
     let Outcome { digest, refusals } = so_far;
     match work {
         Work::Operation(Op::Div) if y.is_zero() => so_far,
-        Work::Operation(op) => match op.apply(x, y) {
-            Ok(z) => Outcome {
-                digest: digest ^ digest_of(z),
-                refusals,
-            },
-            Err(_) => Outcome {
-                digest,
-                refusals: refusals.wrapping_add(1),
-            },
-        },
+        Work::Operation(op) => with_answer(so_far, op.apply(x, y).ok()),
+        Work::SubProduct => with_answer(so_far, first.sub_product(x, first)),
         Work::Compare => Outcome {
             digest: digest ^ ((x.compare(y) == Ordering::Less) as u128),
             refusals,
@@ -137,7 +183,7 @@ fn run(table: Table, work: Work, turns: u32) -> Outcome {
     };
     for _ in 0..turns {
         for (k, x) in rows.iter().enumerate() {
-            outcome = work_on(work, *x, rows[(k + 1) % ROWS], outcome);
+            outcome = work_on(work, *x, rows[(k + 1) % ROWS], rows[0], outcome);
         }
     }
     outcome
@@ -151,6 +197,8 @@ fn table_named(word: &str) -> Option<Table> {
         "related" => Some(Table::Related),
         "wide" => Some(Table::Wide),
         "close" => Some(Table::Close),
+        "pivot" => Some(Table::Pivot),
+        "widepivot" => Some(Table::WidePivot),
         _ => None,
     }
 }
@@ -163,15 +211,18 @@ fn work_named(word: &str) -> Option<Work> {
         "div" => Some(Work::Operation(Op::Div)),
         "compare" => Some(Work::Compare),
         "gcd" => Some(Work::Divisor),
+        "subproduct" => Some(Work::SubProduct),
         _ => None,
     }
 }
 
 const TABLES: [&str; 6] = ["whole", "short", "word", "related", "wide", "close"];
 
+const PIVOTS: [&str; 2] = ["pivot", "widepivot"];
+
 const WORKS: [&str; 6] = ["add", "sub", "mul", "div", "compare", "gcd"];
 
-fn report(rt: &impl Print, table: &str, work: &str, turns: u32) -> io::Result<()> {
+pub fn report(rt: &impl Print, table: &str, work: &str, turns: u32) -> io::Result<()> {
     match (table_named(table), work_named(work)) {
         (Some(over), Some(kind)) => {
             let Outcome { digest, refusals } = run(over, kind, turns);
@@ -181,20 +232,15 @@ fn report(rt: &impl Print, table: &str, work: &str, turns: u32) -> io::Result<()
     }
 }
 
-fn main(rt: HostRuntime) -> io::Result<()> {
-    let mut words = env::args(&rt)?.skip(1);
-    if let (Some(table), Some(work), Some(turns)) = (words.next(), words.next(), words.next()) {
-        return report(
-            &rt,
-            table.as_str(),
-            work.as_str(),
-            turns.as_str().parse().unwrap_or(0),
-        );
-    }
+/// What each operation comes to over each table.
+pub fn report_all(rt: &impl Print) -> io::Result<()> {
     for table in TABLES {
         for work in WORKS {
-            report(&rt, table, work, 1)?;
+            report(rt, table, work, 1)?;
         }
+    }
+    for table in PIVOTS {
+        report(rt, table, "subproduct", 1)?;
     }
     Ok(())
 }
