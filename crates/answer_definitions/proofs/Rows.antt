@@ -1,7 +1,6 @@
 -- Worked problems, computed from their decks to what PRIMAL and SOLUTION print of them.
 use Rattle.std.specs.Prelude.{◌≡◌, refl, ℕ, Bool, true, false, List, [], ◌∷◌, codes, Option, Some, None, Result, Ok, Err, option_map}
 use Prim.Native.String.{String}
-use Rattle.std.specs.Fmt.{digits}
 use Rattle.divisors.specs.Gcd.{gcd}
 use Rattle.exact_values.specs.Rational.{fraction, whole, ◌+ℚ◌, ◌*ℚ◌, neg_ℚ, inverse_ℚ, reciprocal, compare_ℚ}
 use Rattle.exact_values.specs.Sums.{sum_to}
@@ -23,6 +22,7 @@ use Rattle.deck_definitions.specs.Written.{data_card}
 use Rattle.deck_definitions.specs.Transport.{deck_cards}
 use Rattle.selection_definitions.specs.Choice.{Choice}
 use Rattle.selection_definitions.specs.Selection.{program_of_choice}
+use Rattle.listing_definitions.specs.Numbers.{digits}
 use Rattle.listing_definitions.specs.declared.Mark.{Mark}
 use Rattle.listing_definitions.specs.declared.Mark.TheVariants.{Optimal, Infeasible, Unbounded}
 use Rattle.listing_definitions.specs.declared.Solver.TheVariants.{Primal}
