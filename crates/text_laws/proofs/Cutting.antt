@@ -1,7 +1,15 @@
 -- Texts that are cut at the first byte of a kind.
 use Rattle.std.proofs.Common.{◌≡◌, ℕ, suc, Bool, true, false, not, ◌&&◌, List, [], ◌∷◌, ◌++◌, length, refl, ap, ap₂, sym, ◌∙◌, arith}
+use Rattle.std.specs.Prelude.{bytes_eq}
 use Rattle.std.specs.List.{list_all}
+use Rattle.std.proofs.lemmas.Slice.Eq.{bytes_eq-Decides}
 use Rattle.std.proofs.lemmas.List.Folds.{list_all-append}
+
+-- two words that aren't the same
+pub differ : (a b : List ℕ) → bytes_eq a b ≡ false → a ≡ b → ⊥
+differ a b other e =
+    let same : bytes_eq a b ≡ true = (bytes_eq-Decides a b).1 e in
+    cc (other, same)
 
 pub both : (a b : Bool) → (a && b) ≡ true → (a ≡ true) × (b ≡ true)
 both true true e = (refl, refl)

@@ -57,8 +57,8 @@ pub line_tells : (x y : Line) (r s : List ℕ) → IsName x.name → IsName y.na
 line_tells x y r s x_named y_named e =
     let whole = sym (parted x r) ∙ e ∙ parted y s in
     let number = right_tells (5 - length (digits x.number)) (5 - length (digits y.number)) (digits x.number) (digits y.number)
-        (name8 x.name ++ (values_text x.values ++ 10 ∷ r)) (name8 y.name ++ (values_text y.values ++ 10 ∷ s))
-        (digits_are x.number) (digit_there x.number) (digits_are y.number) (digit_there y.number) whole in
+    (name8 x.name ++ (values_text x.values ++ 10 ∷ r)) (name8 y.name ++ (values_text y.values ++ 10 ∷ s))
+    (digits_are x.number) (digit_there x.number) (digits_are y.number) (digit_there y.number) whole in
     let name = name_tells x.name y.name (values_text x.values ++ 10 ∷ r) (values_text y.values ++ 10 ∷ s) x_named y_named number.1 in
     let values = values_tell x.values y.values r s name.1 in
     (same_line x y (digits_tell x.number y.number number.0) name.0 values.0, values.1)
@@ -96,6 +96,6 @@ table_tells (x ∷ xs) [] r s x_named y_named r_other s_other e =
 table_tells (x ∷ xs) (y ∷ ys) r s x_named y_named r_other s_other e =
     let whole : line_text x ++ (table_text xs ++ r) ≡ line_text y ++ (table_text ys ++ s) =
     sym (append_assoc (line_text x) (table_text xs) r) ∙ e ∙ append_assoc (line_text y) (table_text ys) s in
-    let first = line_tells x y (table_text xs ++ r) (table_text ys ++ s) (x_named 0 (omega arith)) (y_named 0 (omega arith)) whole in
-    let rest = table_tells xs ys r s (λ i below. x_named (suc i) (omega (arith, below))) (λ i below. y_named (suc i) (omega (arith, below))) r_other s_other first.1 in
+    let first = line_tells x y (table_text xs ++ r) (table_text ys ++ s) (x_named 0 x (omega arith)) (y_named 0 y (omega arith)) whole in
+    let rest = table_tells xs ys r s (λ i d below. x_named (suc i) d (omega (arith, below))) (λ i d below. y_named (suc i) d (omega (arith, below))) r_other s_other first.1 in
     (ap₂ (λ z zs. z ∷ zs) first.0 rest.0, rest.1)

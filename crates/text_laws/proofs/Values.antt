@@ -9,45 +9,45 @@ use Rattle.listing_definitions.specs.declared.At.TheVariants.{Basic, Outside, Eq
 use Rattle.listing_definitions.specs.Numbers.{rational_text}
 use Rattle.listing_definitions.specs.Report.{Value, Code, Number, Absent, Dash}
 use Rattle.listing_definitions.specs.Text.{at_text, value_text, values_text}
-use Rattle.text_laws.proofs.Cutting.{weaker, heads, cut}
+use Rattle.text_laws.proofs.Cutting.{differ, weaker, heads, cut}
 use Rattle.text_laws.proofs.Digits.{is_of_number, rational_of_number, rational_has_digit, rational_tells}
 
 at_tells : (x y : At) → at_text x ≡ at_text y → x ≡ y
 at_tells Basic Basic e = refl
-at_tells Basic Outside e = cc e
-at_tells Basic Equal e = cc e
-at_tells Basic Lower e = cc e
-at_tells Basic Upper e = cc e
-at_tells Basic Free e = cc e
-at_tells Outside Basic e = cc e
+at_tells Basic Outside e = absurd (differ (codes "BS") (codes "**") refl e)
+at_tells Basic Equal e = absurd (differ (codes "BS") (codes "EQ") refl e)
+at_tells Basic Lower e = absurd (differ (codes "BS") (codes "LL") refl e)
+at_tells Basic Upper e = absurd (differ (codes "BS") (codes "UL") refl e)
+at_tells Basic Free e = absurd (differ (codes "BS") (codes "FR") refl e)
+at_tells Outside Basic e = absurd (differ (codes "**") (codes "BS") refl e)
 at_tells Outside Outside e = refl
-at_tells Outside Equal e = cc e
-at_tells Outside Lower e = cc e
-at_tells Outside Upper e = cc e
-at_tells Outside Free e = cc e
-at_tells Equal Basic e = cc e
-at_tells Equal Outside e = cc e
+at_tells Outside Equal e = absurd (differ (codes "**") (codes "EQ") refl e)
+at_tells Outside Lower e = absurd (differ (codes "**") (codes "LL") refl e)
+at_tells Outside Upper e = absurd (differ (codes "**") (codes "UL") refl e)
+at_tells Outside Free e = absurd (differ (codes "**") (codes "FR") refl e)
+at_tells Equal Basic e = absurd (differ (codes "EQ") (codes "BS") refl e)
+at_tells Equal Outside e = absurd (differ (codes "EQ") (codes "**") refl e)
 at_tells Equal Equal e = refl
-at_tells Equal Lower e = cc e
-at_tells Equal Upper e = cc e
-at_tells Equal Free e = cc e
-at_tells Lower Basic e = cc e
-at_tells Lower Outside e = cc e
-at_tells Lower Equal e = cc e
+at_tells Equal Lower e = absurd (differ (codes "EQ") (codes "LL") refl e)
+at_tells Equal Upper e = absurd (differ (codes "EQ") (codes "UL") refl e)
+at_tells Equal Free e = absurd (differ (codes "EQ") (codes "FR") refl e)
+at_tells Lower Basic e = absurd (differ (codes "LL") (codes "BS") refl e)
+at_tells Lower Outside e = absurd (differ (codes "LL") (codes "**") refl e)
+at_tells Lower Equal e = absurd (differ (codes "LL") (codes "EQ") refl e)
 at_tells Lower Lower e = refl
-at_tells Lower Upper e = cc e
-at_tells Lower Free e = cc e
-at_tells Upper Basic e = cc e
-at_tells Upper Outside e = cc e
-at_tells Upper Equal e = cc e
-at_tells Upper Lower e = cc e
+at_tells Lower Upper e = absurd (differ (codes "LL") (codes "UL") refl e)
+at_tells Lower Free e = absurd (differ (codes "LL") (codes "FR") refl e)
+at_tells Upper Basic e = absurd (differ (codes "UL") (codes "BS") refl e)
+at_tells Upper Outside e = absurd (differ (codes "UL") (codes "**") refl e)
+at_tells Upper Equal e = absurd (differ (codes "UL") (codes "EQ") refl e)
+at_tells Upper Lower e = absurd (differ (codes "UL") (codes "LL") refl e)
 at_tells Upper Upper e = refl
-at_tells Upper Free e = cc e
-at_tells Free Basic e = cc e
-at_tells Free Outside e = cc e
-at_tells Free Equal e = cc e
-at_tells Free Lower e = cc e
-at_tells Free Upper e = cc e
+at_tells Upper Free e = absurd (differ (codes "UL") (codes "FR") refl e)
+at_tells Free Basic e = absurd (differ (codes "FR") (codes "BS") refl e)
+at_tells Free Outside e = absurd (differ (codes "FR") (codes "**") refl e)
+at_tells Free Equal e = absurd (differ (codes "FR") (codes "EQ") refl e)
+at_tells Free Lower e = absurd (differ (codes "FR") (codes "LL") refl e)
+at_tells Free Upper e = absurd (differ (codes "FR") (codes "UL") refl e)
 at_tells Free Free e = refl
 
 -- a word isn't the text of a number
@@ -72,39 +72,39 @@ no_dash x e =
 pub value_tells : (x y : Value) → value_text x ≡ value_text y → x ≡ y
 value_tells (Code x) (Code y) e = ap Code (at_tells x y e)
 value_tells (Code x) (Number y) e = absurd (no_word y (at_text x) (at_is_word x) e)
-value_tells (Code Basic) Absent e = cc e
-value_tells (Code Outside) Absent e = cc e
-value_tells (Code Equal) Absent e = cc e
-value_tells (Code Lower) Absent e = cc e
-value_tells (Code Upper) Absent e = cc e
-value_tells (Code Free) Absent e = cc e
-value_tells (Code Basic) Dash e = cc e
-value_tells (Code Outside) Dash e = cc e
-value_tells (Code Equal) Dash e = cc e
-value_tells (Code Lower) Dash e = cc e
-value_tells (Code Upper) Dash e = cc e
-value_tells (Code Free) Dash e = cc e
+value_tells (Code Basic) Absent e = absurd (differ (codes "BS") (codes "NONE") refl e)
+value_tells (Code Outside) Absent e = absurd (differ (codes "**") (codes "NONE") refl e)
+value_tells (Code Equal) Absent e = absurd (differ (codes "EQ") (codes "NONE") refl e)
+value_tells (Code Lower) Absent e = absurd (differ (codes "LL") (codes "NONE") refl e)
+value_tells (Code Upper) Absent e = absurd (differ (codes "UL") (codes "NONE") refl e)
+value_tells (Code Free) Absent e = absurd (differ (codes "FR") (codes "NONE") refl e)
+value_tells (Code Basic) Dash e = absurd (differ (codes "BS") (codes "-") refl e)
+value_tells (Code Outside) Dash e = absurd (differ (codes "**") (codes "-") refl e)
+value_tells (Code Equal) Dash e = absurd (differ (codes "EQ") (codes "-") refl e)
+value_tells (Code Lower) Dash e = absurd (differ (codes "LL") (codes "-") refl e)
+value_tells (Code Upper) Dash e = absurd (differ (codes "UL") (codes "-") refl e)
+value_tells (Code Free) Dash e = absurd (differ (codes "FR") (codes "-") refl e)
 value_tells (Number x) (Code y) e = absurd (no_word x (at_text y) (at_is_word y) (sym e))
 value_tells (Number x) (Number y) e = ap Number (rational_tells x y e)
 value_tells (Number x) Absent e = absurd (no_word x (codes "NONE") refl (sym e))
 value_tells (Number x) Dash e = absurd (no_dash x (sym e))
-value_tells Absent (Code Basic) e = cc e
-value_tells Absent (Code Outside) e = cc e
-value_tells Absent (Code Equal) e = cc e
-value_tells Absent (Code Lower) e = cc e
-value_tells Absent (Code Upper) e = cc e
-value_tells Absent (Code Free) e = cc e
+value_tells Absent (Code Basic) e = absurd (differ (codes "NONE") (codes "BS") refl e)
+value_tells Absent (Code Outside) e = absurd (differ (codes "NONE") (codes "**") refl e)
+value_tells Absent (Code Equal) e = absurd (differ (codes "NONE") (codes "EQ") refl e)
+value_tells Absent (Code Lower) e = absurd (differ (codes "NONE") (codes "LL") refl e)
+value_tells Absent (Code Upper) e = absurd (differ (codes "NONE") (codes "UL") refl e)
+value_tells Absent (Code Free) e = absurd (differ (codes "NONE") (codes "FR") refl e)
 value_tells Absent (Number y) e = absurd (no_word y (codes "NONE") refl e)
 value_tells Absent Absent e = refl
-value_tells Absent Dash e = cc e
-value_tells Dash (Code Basic) e = cc e
-value_tells Dash (Code Outside) e = cc e
-value_tells Dash (Code Equal) e = cc e
-value_tells Dash (Code Lower) e = cc e
-value_tells Dash (Code Upper) e = cc e
-value_tells Dash (Code Free) e = cc e
+value_tells Absent Dash e = absurd (differ (codes "NONE") (codes "-") refl e)
+value_tells Dash (Code Basic) e = absurd (differ (codes "-") (codes "BS") refl e)
+value_tells Dash (Code Outside) e = absurd (differ (codes "-") (codes "**") refl e)
+value_tells Dash (Code Equal) e = absurd (differ (codes "-") (codes "EQ") refl e)
+value_tells Dash (Code Lower) e = absurd (differ (codes "-") (codes "LL") refl e)
+value_tells Dash (Code Upper) e = absurd (differ (codes "-") (codes "UL") refl e)
+value_tells Dash (Code Free) e = absurd (differ (codes "-") (codes "FR") refl e)
 value_tells Dash (Number y) e = absurd (no_dash y e)
-value_tells Dash Absent e = cc e
+value_tells Dash Absent e = absurd (differ (codes "-") (codes "NONE") refl e)
 value_tells Dash Dash e = refl
 
 -- a value ends at a blank or at the end of its line
