@@ -2,3 +2,4 @@ pub mod Cutting
 pub mod Digits
 pub mod Values
 pub mod Lines
+pub mod Words
