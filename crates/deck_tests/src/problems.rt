@@ -9,7 +9,7 @@ use std::alloc::Global;
 use std::test::Fail;
 
 // The problem of a job that is one deck.
-fn problem_of(alloc: Global, deck: &[u8], name: Option<Name>) -> Result<Problem, Fail> {
+pub fn problem_of(alloc: Global, deck: &[u8], name: Option<Name>) -> Result<Problem, Fail> {
     let mut source = SureSource::new(alloc, deck)?;
     let cards = read_job(alloc, &mut source)?;
     let last = cards.count();

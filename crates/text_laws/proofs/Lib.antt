@@ -1,0 +1,5 @@
+pub mod Cutting
+pub mod Digits
+pub mod Values
+pub mod Lines
+pub mod Words
