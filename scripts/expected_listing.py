@@ -4,7 +4,8 @@ table of Python's exact fractions. The listings beside the jobs of examples/ are
 
 usage: expected_listing.py [FILE.job]      without a file the job is read from standard input; it ends with the run's status
 
-It knows TITLE, MOVE, MVADR, GOTO, INITIALZ, CONVERT, SETUP, PRIMAL, SOLUTION and EXIT, of jobs without a fault: it looks for no
+It knows TITLE, MOVE, MVADR, GOTO, INITIALZ, CONVERT, SETUP, PRIMAL, SOLUTION and EXIT, in jobs without a fault. It looks for few
+faults itself, and ends with 70 where it meets one, or another verb."""
 from fractions import Fraction
 import re
 import sys
