@@ -244,6 +244,8 @@ class Run:
         self.cards = [line.rstrip(" \r") for line in text.split("\n")]
         if self.cards and not self.cards[-1]:
             self.cards.pop()
+        if any(len(card) > 80 or re.search(r"[^ -~]", card) for card in self.cards):
+            raise Fault("a card of more than 80 bytes, or with a byte that isn't printable")
         self.statements, self.labels, self.place = [], {}, 0
         self.problems, self.last, self.setup, self.mark, self.lines = {}, None, None, None, []
         self.compile()
