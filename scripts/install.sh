@@ -1,6 +1,6 @@
 #!/usr/bin/env bash
-# Installs the proved program, the commands mps360, mps360-batch, mps2job, listing2json and explain, the manual page and bash completion.
-# usage: scripts/install.sh PREFIX     into PREFIX/bin, PREFIX/libexec/mps360 and PREFIX/share
+# Installs the proved program, the commands mps360, mps360-batch, mps360-explain, mps2job and listing2json, the manual page, completion.
+# usage: scripts/install.sh PREFIX     into PREFIX/libexec/mps360, with links in PREFIX/bin, and PREFIX/share
 # The program has to be built before (scripts/build.sh). Ends with 64 for wrong use, 70 where no proved program is there.
 set -eu
 case ${1:-} in
@@ -18,13 +18,21 @@ program=$("$scripts/program.sh" --fresh) || {
     echo "install.sh: no proved program is there; scripts/build.sh proves and builds it, in about 20 minutes" >&2
     exit 70
 }
+home=$1/libexec/mps360
+mkdir -p "$home/faults" "$1/bin" "$1/share/man/man1" "$1/share/bash-completion/completions"
+install -m 755 "$program" "$home/program"
+echo "mps360 $(git -C "$scripts" rev-parse --short HEAD 2>/dev/null || echo 'of unknown commit'), proved program" >"$home/version"
+install -m 755 "$scripts"/{mps360,mps360-batch,explain,mps2job.py,listing2json.py,expected_listing.py} "$home"
+install -m 644 "$scripts/../examples/faults/INDEX" "$home/faults"
+link() { ln -sf "../libexec/mps360/$1" "$prefix/bin/$2"; }
 prefix=$1
-mkdir -p "$prefix/bin" "$prefix/libexec/mps360" "$prefix/share/man/man1" "$prefix/share/bash-completion/completions"
-install -m 755 "$program" "$prefix/libexec/mps360/mps360"
-echo "mps360 $(git -C "$scripts" rev-parse --short HEAD 2>/dev/null || echo 'of unknown commit'), proved program" >"$prefix/libexec/mps360/version"
-install -m 755 "$scripts/mps360" "$scripts/mps360-batch" "$prefix/bin"
-for tool in mps2job listing2json; do install -m 755 "$scripts/$tool.py" "$prefix/bin/$tool"; done
-install -m 755 "$scripts/explain" "$prefix/bin/mps360-explain"
+link mps360 mps360
+link mps360-batch mps360-batch
+link explain mps360-explain
+link mps2job.py mps2job
+link listing2json.py listing2json
 install -m 644 "$scripts/share/mps360.1" "$prefix/share/man/man1"
-install -m 644 "$scripts/share/completion.bash" "$prefix/share/bash-completion/completions/mps360"
+for command in mps360 mps360-batch; do
+    install -m 644 "$scripts/share/completion.bash" "$prefix/share/bash-completion/completions/$command"
+done
 echo "installed in $prefix: bin/mps360 and what belongs to it"
