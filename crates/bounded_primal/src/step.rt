@@ -32,14 +32,36 @@ fn formula(number: u8, p: u32, q: u32, i: u32) -> Formula
     }
 }
 
-/// The value of `i` after the step.
-fn moved(value: Frac, step: Frac, rate: Frac, p: u32, q: u32, i: u32) -> Result<Frac, Evidence>
+/// The value of `i` after the step, by the plain operations.
+fn plainly_moved(
+    value: Frac,
+    step: Frac,
+    rate: Frac,
+    p: u32,
+    q: u32,
+    i: u32,
+) -> Result<Frac, Evidence>
     ensures value { IfOk result (λ moved. moved ≡ value +ℚ step *ℚ rate) }
     ensures refused { IfErr result (MovedRefused step rate value p q i) }
     ensures needed { OnErr result (rate ≢ zero_ℚ) }
 {
     let product = formula(8, p, q, i).product(step, rate)?;
     formula(9, p, q, i).sum(value, product)
+}
+
+/// The same, also where only the plain operations are refused.
+fn moved(value: Frac, step: Frac, rate: Frac, p: u32, q: u32, i: u32) -> Result<Frac, Evidence>
+    ensures value { IfOk result (λ moved. moved ≡ value +ℚ step *ℚ rate) }
+    ensures refused { IfErr result (MovedRefused step rate value p q i) }
+    ensures needed { OnErr result (rate ≢ zero_ℚ) }
+{
+    match plainly_moved(value, step, rate, p, q, i) {
+        Ok(moved) => Ok(moved),
+        Err(evidence) => match value.sub_product(step.neg(), rate) {
+            Some(moved) => Ok(moved),
+            None => Err(evidence),
+        },
+    }
 }
 
 /// Moves the point by the step.

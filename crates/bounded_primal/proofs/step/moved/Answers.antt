@@ -1,9 +1,9 @@
-use Rattle.std.proofs.Common.{◌∙◌, ap}
-use Rattle.exact_values.specs.Rational.{ℚ, ◌*ℚ◌}
-use Rattle.exact_values.proofs.Ring_laws.{mul-zero}
-use Rattle.bounded_primal.proofs.TermLaws.{OnErr-map}
+use Rattle.std.proofs.Common.{◌∙◌, ap, refl}
+use Rattle.exact_values.specs.Rational.{ℚ, ◌-ℚ◌, ◌*ℚ◌}
+use Rattle.exact_values.proofs.Ring.{by_ring3, ◌≐◌, ◌⊕◌, ◌⊗◌, ◌⊖◌, opposite}
 use Rattle.bounded_primal.proofs.step.moved.Goals as goal
 
-pub returns-clause-needed : goal.returns-clause-needed
-returns-clause-needed c =
-    OnErr-map c.sum.result (λ some vanishes. some (c.in_ok-product.ensures.value ∙ ap (λ (x : ℚ). c.args.step *ℚ x) vanishes ∙ mul-zero c.args.step)) c.sum.ensures.right
+pub returns-in-Some-clause-value : goal.returns-in-Some-clause-value
+returns-in-Some-clause-value c =
+    c.in-Some.ensures.exact.1 ∙ ap (λ (s : ℚ). c.args.value -ℚ s *ℚ c.args.rate) c.neg.ensures
+    ∙ by_ring3 c.args.value c.args.step c.args.rate (λ v s r. v ⊖ opposite s ⊗ r ≐ v ⊕ s ⊗ r) refl
