@@ -41,7 +41,7 @@ right_tells (suc j) zero a b r s a_all a_some b_all b_some e = absurd (no_blank_
 right_tells (suc j) (suc k) a b r s a_all a_some b_all b_some e =
     right_tells j k a b r s a_all a_some b_all b_some (heads 32 32 (replicate j 32 ++ (a ++ 32 ∷ r)) (replicate k 32 ++ (b ++ 32 ∷ s)) e).1
 
-name_tells : (x y r s : List ℕ) → IsName x → IsName y → name8 x ++ r ≡ name8 y ++ s → (x ≡ y) × (r ≡ s)
+pub name_tells : (x y r s : List ℕ) → IsName x → IsName y → name8 x ++ r ≡ name8 y ++ s → (x ≡ y) × (r ≡ s)
 name_tells x y r s x_named y_named e =
     let parts = same_front (padded 8 x) (padded 8 y) r s (length-padded 8 x x_named.short ∙ sym (length-padded 8 y y_named.short)) e in
     (sym (name_in_places x x_named) ∙ ap text_in parts.0 ∙ name_in_places y y_named, parts.1)
