@@ -51,12 +51,12 @@ put_in_front old new problem problems held put last (Some name) =
     ap by_test (same_either_way name problem.name) ∙ ap by_rest (held (Some name)) ∙ sym (put name)
 
 -- a deck fault
-gives_deck_fault : (card : ℕ) (found : Result (Problem ℕ) DeckFault) (go : Problem ℕ → Move) (fault : DeckFault) → found ≡ Err fault → Gives card (or_deck_fault found go) (stops (deck_stop fault))
-gives_deck_fault card found go fault err = subst (λ r. Gives card (or_deck_fault r go) (stops (deck_stop fault))) (sym err) refl
+gives_deck_fault : (card : ℕ) (found : Result (Problem ℕ) DeckFault) (go : Problem ℕ → Move) (fault : DeckFault) → found ≡ Err fault → Gives stage card (or_deck_fault found go) (stops (deck_stop fault))
+gives_deck_fault card found go fault err = subst (λ r. Gives stage card (or_deck_fault r go) (stops (deck_stop fault))) (sym err) refl
 
-gives_problem : (card : ℕ) (found : Result (Problem ℕ) DeckFault) (go : Problem ℕ → Move) (problem : Problem ℕ) (outcome : Outcome) → found ≡ Ok problem → Gives card (go problem) outcome →
-    Gives card (or_deck_fault found go) outcome
-gives_problem card found go problem outcome ok given = subst (λ r. Gives card (or_deck_fault r go) outcome) (sym ok) given
+gives_problem : (card : ℕ) (found : Result (Problem ℕ) DeckFault) (go : Problem ℕ → Move) (problem : Problem ℕ) (outcome : Outcome) → found ≡ Ok problem → Gives stage card (go problem) outcome →
+    Gives stage card (or_deck_fault found go) outcome
+gives_problem card found go problem outcome ok given = subst (λ r. Gives stage card (or_deck_fault r go) outcome) (sym ok) given
 
 module _ (card : ℕ) {cards : List (List ℕ)} {machine : Machine} {position executed : ℕ} {state : State} (s : Stands cards machine position executed state) where
   -- the deck that the machine takes is the one that the state gives

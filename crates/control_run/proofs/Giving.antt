@@ -22,24 +22,24 @@ use Rattle.control_run.specs.Statements.{Comes, Executes, gain_of, gain_text}
 
 -- a verb fault
 pub gives_fault : {X : Type 0} (card : ℕ) (fault : VerbFault) (found : Option X) (go : X → Move) → found ≡ None →
-    Gives card (or_fault card fault found go) (stops (VerbStop (record { fault = fault; card = card })))
-gives_fault card fault found go none = subst (λ o. Gives card (or_fault card fault o go) (stops (VerbStop (record { fault = fault; card = card })))) (sym none) refl
+    Gives stage card (or_fault card fault found go) (stops (VerbStop (record { fault = fault; card = card })))
+gives_fault card fault found go none = subst (λ o. Gives stage card (or_fault card fault o go) (stops (VerbStop (record { fault = fault; card = card })))) (sym none) refl
 
 -- no verb fault
-pub gives_found : {X : Type 0} (card : ℕ) (fault : VerbFault) (found : Option X) (go : X → Move) (x : X) (outcome : Outcome) → found ≡ Some x → Gives card (go x) outcome →
-    Gives card (or_fault card fault found go) outcome
-gives_found card fault found go x outcome some given = subst (λ o. Gives card (or_fault card fault o go) outcome) (sym some) given
+pub gives_found : {X : Type 0} (card : ℕ) (fault : VerbFault) (found : Option X) (go : X → Move) (x : X) (outcome : Outcome) → found ≡ Some x → Gives stage card (go x) outcome →
+    Gives stage card (or_fault card fault found go) outcome
+gives_found card fault found go x outcome some given = subst (λ o. Gives stage card (or_fault card fault o go) outcome) (sym some) given
 
 -- a selection's fault
 pub gives_unselected : (card : ℕ) (found : Result LinearProgram SelectionFault) (go : LinearProgram → Move) (why : SelectionFault) (fault : VerbFault) → found ≡ Err why → selection_verb_fault why ≡ fault →
-    Gives card (or_selection_fault card found go) (stops (VerbStop (record { fault = fault; card = card })))
+    Gives stage card (or_selection_fault card found go) (stops (VerbStop (record { fault = fault; card = card })))
 gives_unselected card found go why fault err is =
-    subst (λ r. Gives card (or_selection_fault card r go) (stops (VerbStop (record { fault = fault; card = card })))) (sym err)
+    subst (λ r. Gives stage card (or_selection_fault card r go) (stops (VerbStop (record { fault = fault; card = card })))) (sym err)
     (subst (λ f. stops (VerbStop (record { fault = fault; card = card })) ≡ stops (VerbStop (record { fault = f; card = card }))) (sym is) refl)
 
-pub gives_selected : (card : ℕ) (found : Result LinearProgram SelectionFault) (go : LinearProgram → Move) (lp : LinearProgram) (outcome : Outcome) → found ≡ Ok lp → Gives card (go lp) outcome →
-    Gives card (or_selection_fault card found go) outcome
-gives_selected card found go lp outcome ok given = subst (λ r. Gives card (or_selection_fault card r go) outcome) (sym ok) given
+pub gives_selected : (card : ℕ) (found : Result LinearProgram SelectionFault) (go : LinearProgram → Move) (lp : LinearProgram) (outcome : Outcome) → found ≡ Ok lp → Gives stage card (go lp) outcome →
+    Gives stage card (or_selection_fault card found go) outcome
+gives_selected card found go lp outcome ok given = subst (λ r. Gives stage card (or_selection_fault card r go) outcome) (sym ok) given
 
 -- ---- with what is printed
 
@@ -57,7 +57,7 @@ module _ (S : Solving) (verb : Verb ℕ) (card : ℕ) {P : Type 0} (written : P 
 
   -- the report is broken off
   pub cut_off : {print_old print_new : P} (new : Machine) (stop : WriteStop) (report : Report) →
-      ((position executed : ℕ) (state : State) → Stands cards old position executed state → (outcome : Outcome) × Gives card (statement_move S verb card state) outcome × (gain_of outcome ≡ Prints report)) →
+      ((position executed : ℕ) (state : State) → Stands cards old position executed state → (outcome : Outcome) × Gives S card (statement_move S verb card state) outcome × (gain_of outcome ≡ Prints report)) →
       Writes {T = Unit {0}} written faults refusals print_old print_new (Err stop) (report_text report) →
       Executes S verb card written faults refusals print_old print_new cards old new (Err (halt.Print stop))
   cut_off {print_old = print_old} {print_new = print_new} new stop report comes writes = λ position executed state s.

@@ -18,8 +18,8 @@ use Rattle.question_definitions.specs.Answers.{Basis, Sheet, OfPath, PathEnd, Re
 use Rattle.answer_definitions.specs.Verdicts.{IsSolved}
 use Rattle.answer_definitions.specs.Evidence.{OverflowsAt, OverflowsOnPath}
 use Rattle.run_definitions.specs.State.{Present, present_basis, path_of, State, choice_of, gone_through}
-use Rattle.run_definitions.specs.Moves.{Gain, Nothing, Prints, punched_by, Outcome, Ends as EndsRun, stops, Move, MayStop, Asks, Gives, or_fault}
-use Rattle.run_definitions.specs.Verbs.{mark_of, RangeOverflows, or_selection_fault, by_verdict, demanded, after_path, statement_move, verb_move}
+use Rattle.run_definitions.specs.Moves.{Gain, Nothing, Prints, punched_by, Outcome, Ends as EndsRun, stops, InSelection, InAnswer, RangeOverflows, Move, MayStop, Asks, Gives, or_fault}
+use Rattle.run_definitions.specs.Verbs.{mark_of, or_selection_fault, by_verdict, demanded, after_path, statement_move, verb_move}
 use Rattle.control_run.specs.declared.act.Act.{Act}
 use Rattle.control_run.specs.declared.act.Halt.{Halt}
 use Rattle.control_run.specs.declared.end.End.{End}
@@ -55,19 +55,19 @@ sheet_of present lp = record { problem = present.problem; lp = lp }
 -- the path from the present basis
 abbrev path_move : ℕ → State → Present → LinearProgram → Move
 path_move card state present lp =
-    MayStop (RangeOverflows present.problem (choice_of state.cells present.options))
-    (MayStop (OverflowsAt (OfPath state.cells.xiterlim) (sheet_of present lp) (path_of present))
-    (Asks PathEnd (IsSolved (sheet_of present lp) (present_basis present) state.cells.xiterlim) (after_path stage card present state)))
+    MayStop (InSelection present.problem (choice_of state.cells present.options))
+    (MayStop (InAnswer (OfPath state.cells.xiterlim) (sheet_of present lp) (path_of present))
+    (Asks (OfPath state.cells.xiterlim) (sheet_of present lp) (present_basis present) (after_path card present state)))
 
 -- what PRIMAL does with a setup
 abbrev with_setup : ℕ → State → Present → Move
 with_setup card state present = or_selection_fault card (selected present.problem (choice_of state.cells present.options)) (path_move card state present)
 
-primal_gives : (card : ℕ) (state : State) (outcome : Outcome) → Gives card (or_fault card NoSetup state.setup (with_setup card state)) outcome → Gives card (statement_move stage Primal card state) outcome
+primal_gives : (card : ℕ) (state : State) (outcome : Outcome) → Gives stage card (or_fault card NoSetup state.setup (with_setup card state)) outcome → Gives stage card (statement_move stage Primal card state) outcome
 unfolding stage verb_move
 primal_gives card state outcome g = g
 
-primal_without : (card : ℕ) (state : State) → state.setup ≡ None → Gives card (statement_move stage Primal card state) (stops (endings.VerbStop (record { fault = NoSetup; card = card })))
+primal_without : (card : ℕ) (state : State) → state.setup ≡ None → Gives stage card (statement_move stage Primal card state) (stops (endings.VerbStop (record { fault = NoSetup; card = card })))
 primal_without card state none =
     primal_gives card state (stops (endings.VerbStop (record { fault = NoSetup; card = card }))) (gives_fault card NoSetup state.setup (with_setup card state) none)
 
@@ -89,38 +89,38 @@ module _ (card : ℕ) (cards : List (List ℕ)) (old : Machine) (setup new : Set
   abbrev after : Option Mark → Machine
   after mark = record old { setup = Some new; mark = mark }
 
-  setup_gives : (outcome : Outcome) → Gives card (with_setup card state present) outcome → Gives card (statement_move stage Primal card state) outcome
+  setup_gives : (outcome : Outcome) → Gives stage card (with_setup card state present) outcome → Gives stage card (statement_move stage Primal card state) outcome
   setup_gives outcome g = primal_gives card state outcome (gives_found card NoSetup state.setup (with_setup card state) present outcome p.is_shown g)
 
-  selected_gives : (lp : LinearProgram) → selected problem (choice_of old.cells setup.options) ≡ Ok lp → (outcome : Outcome) → Gives card (path_move card state present lp) outcome →
-      Gives card (statement_move stage Primal card state) outcome
+  selected_gives : (lp : LinearProgram) → selected problem (choice_of old.cells setup.options) ≡ Ok lp → (outcome : Outcome) → Gives stage card (path_move card state present lp) outcome →
+      Gives stage card (statement_move stage Primal card state) outcome
   selected_gives lp ok outcome g =
       setup_gives outcome (gives_selected card (selected problem (choice_of state.cells setup.options)) (path_move card state present) lp outcome
       (ap (λ (c : Cells). selected problem (choice_of c setup.options)) s.cells ∙ ok) g)
 
   path_gives : (lp : LinearProgram) → selected problem (choice_of old.cells setup.options) ≡ Ok lp → (answer : PathEnd) →
-      IsSolved (record { problem = problem; lp = lp }) setup.basis old.cells.xiterlim answer → Gives card (statement_move stage Primal card state) (after_path stage card present state answer)
+      IsSolved (record { problem = problem; lp = lp }) setup.basis old.cells.xiterlim answer → Gives stage card (statement_move stage Primal card state) (after_path card present state answer)
   path_gives lp ok answer right =
-      selected_gives lp ok (after_path stage card present state answer)
+      selected_gives lp ok (after_path card present state answer)
       (inl (inl (answer, subst (λ (c : Cells). IsSolved (record { problem = problem; lp = lp }) (present_basis present) c.xiterlim answer) (sym s.cells)
       (subst (λ (b : Basis). IsSolved (record { problem = problem; lp = lp }) b old.cells.xiterlim answer) (sym p.reached) right), refl)))
 
   fault_gives : (fault : VerbFault) → HasSelectionFault problem (choice_of old.cells setup.options) fault →
-      Gives card (statement_move stage Primal card state) (stops (endings.VerbStop (record { fault = fault; card = card })))
+      Gives stage card (statement_move stage Primal card state) (stops (endings.VerbStop (record { fault = fault; card = card })))
   fault_gives fault h =
       setup_gives (stops (endings.VerbStop (record { fault = fault; card = card })))
       (gives_unselected card (selected problem (choice_of state.cells setup.options)) (path_move card state present) h.why fault
       (ap (λ (c : Cells). selected problem (choice_of c setup.options)) s.cells ∙ h.is_refused) h.is_fault)
 
   range_gives : (e : Evidence) → HasRangeOverflow problem (choice_of old.cells setup.options) e →
-      Gives card (statement_move stage Primal card state) (stops (endings.OverflowStop (record { evidence = e; place = None; card = card })))
+      Gives stage card (statement_move stage Primal card state) (stops (endings.OverflowStop (record { evidence = e; place = None; card = card })))
   range_gives e h =
       selected_gives h.lp h.is_selected (stops (endings.OverflowStop (record { evidence = e; place = None; card = card })))
       (inr (e, None, (subst (λ (c : Cells). RangeOverflows problem (choice_of c setup.options) e None) (sym s.cells) (h.is_refusal, refl)), refl))
 
   overflow_gives : (lp : LinearProgram) → selected problem (choice_of old.cells setup.options) ≡ Ok lp → (e : Evidence) (place : Option endings.Place) →
       PathOverflows (record { problem = problem; lp = lp }) setup.basis new.basis old.cells.xiterlim (ways setup.engine) (ways new.engine) e place →
-      Gives card (statement_move stage Primal card state) (stops (endings.OverflowStop (record { evidence = e; place = place; card = card })))
+      Gives stage card (statement_move stage Primal card state) (stops (endings.OverflowStop (record { evidence = e; place = place; card = card })))
   overflow_gives lp ok e place h =
       selected_gives lp ok (stops (endings.OverflowStop (record { evidence = e; place = place; card = card })))
       (inl (inr (e, place,
@@ -144,18 +144,18 @@ module _ (card : ℕ) (cards : List (List ℕ)) (old : Machine) (setup new : Set
       }
 
   demanded_comes : (move : Move) (mark : Mark) (report : Report) (then : State) → Stands cards (after (Some mark)) position executed then → (set : Option ℕ) → IfSome set (λ to. 1 ≤ to) →
-      (end : End) (code : ℕ) → endings.Ended code ≡ end_shown end → Gives card move (demanded set code report then) →
-      Follows card move cards (after (Some mark)) position executed (Prints report) (demanded_act set end)
+      (end : End) (code : ℕ) → endings.Ended code ≡ end_shown end → Gives stage card move (demanded set code report then) →
+      Follows stage card move cards (after (Some mark)) position executed (Prints report) (demanded_act set end)
   demanded_comes move mark report then t (Some to) first end code same g = (then, g, t, first)
-  demanded_comes move mark report then t None first end code same g = subst (λ (ending : endings.Ending). Gives card move (EndsRun (Prints report) ending)) same g
+  demanded_comes move mark report then t None first end code same g = subst (λ (ending : endings.Ending). Gives stage card move (EndsRun (Prints report) ending)) same g
 
   verdict_comes : (move : Move) (mark : Mark) (report : Report) (then : State) → Stands cards (after (Some mark)) position executed then →
-      Gives card move (by_verdict mark report then) → Follows card move cards (after (Some mark)) position executed (Prints report) (act_of old.cells card (Ended mark))
+      Gives stage card move (by_verdict mark report then) → Follows stage card move cards (after (Some mark)) position executed (Prints report) (act_of old.cells card (Ended mark))
   verdict_comes move Optimal report then t g = (then, g, t)
   verdict_comes move Infeasible report then t g =
-      demanded_comes move Infeasible report then t old.cells.xdonfs demands.infeasible end.Infeasible 1 refl (subst (λ (c : Cells). Gives card move (demanded c.xdonfs 1 report then)) t.cells g)
+      demanded_comes move Infeasible report then t old.cells.xdonfs demands.infeasible end.Infeasible 1 refl (subst (λ (c : Cells). Gives stage card move (demanded c.xdonfs 1 report then)) t.cells g)
   verdict_comes move Unbounded report then t g =
-      demanded_comes move Unbounded report then t old.cells.xdounb demands.unbounded end.Unbounded 2 refl (subst (λ (c : Cells). Gives card move (demanded c.xdounb 2 report then)) t.cells g)
+      demanded_comes move Unbounded report then t old.cells.xdounb demands.unbounded end.Unbounded 2 refl (subst (λ (c : Cells). Gives stage card move (demanded c.xdounb 2 report then)) t.cells g)
 
   pub found_comes : (gain : Gain) (finding : Finding) → Finds problem old.cells setup new gain finding →
       Comes stage Primal card cards position executed state (after (mark_left finding old.mark)) gain (act_of old.cells card finding)
@@ -165,7 +165,7 @@ module _ (card : ℕ) (cards : List (List ℕ)) (old : Machine) (setup new : Set
       verdict_comes (statement_move stage Primal card state) (mark_of verdict) (Solved ByPrimal verdict check) (record state { setup = Some (gone_through bases present); mark = Some (mark_of verdict) })
       (after_stands lp ok same_name same_options bases verdict check r (mark_of verdict)) (path_gives lp ok (Reached bases verdict check) r.reaches)
   found_comes _ _ (solved {lp = lp} ok same_name same_options (at_limit right)) =
-      subst (λ (c : Cells). Gives card (statement_move stage Primal card state) (stops (endings.LimitStop (record { limit = c.xiterlim; card = card })))) s.cells (path_gives lp ok PathLimit right)
+      subst (λ (c : Cells). Gives stage card (statement_move stage Primal card state) (stops (endings.LimitStop (record { limit = c.xiterlim; card = card })))) s.cells (path_gives lp ok PathLimit right)
   found_comes _ _ (solved {lp = lp} ok same_name same_options (overflows {e = e} {place = place} h)) = overflow_gives lp ok e (option_map place_shown place) h
 
 module _ (card : ℕ) {P : Type 0} (written : P → Option (List ℕ)) (faults refusals : P → ℕ) (print_old print_new : P) (cards : List (List ℕ)) (old : Machine) (setup new : Setup) (is_setup : old.setup ≡ Some setup)

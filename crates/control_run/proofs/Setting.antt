@@ -19,8 +19,8 @@ use Rattle.listing_definitions.specs.Text.{report_text}
 use Rattle.question_definitions.specs.Answers.{Basis}
 use Rattle.control_definitions.specs.Cells.{Cells}
 use Rattle.run_definitions.specs.State.{Present, State, problem_of, choice_of}
-use Rattle.run_definitions.specs.Moves.{Prints, Outcome, next, stops, Move, Does, MayStop, Gives}
-use Rattle.run_definitions.specs.Verbs.{or_selection_fault, RangeOverflows, verb_move, statement_move}
+use Rattle.run_definitions.specs.Moves.{Prints, Outcome, next, stops, InSelection, RangeOverflows, Move, Does, MayStop, Gives}
+use Rattle.run_definitions.specs.Verbs.{or_selection_fault, verb_move, statement_move}
 use Rattle.control_run.specs.declared.act.Act.TheVariants.{Next}
 use Rattle.control_run.specs.declared.act.Halt.TheVariants as halt
 use Rattle.control_run.specs.declared.machine.Machine.{Machine}
@@ -58,24 +58,24 @@ outcome_of problem options basis state = next (Prints (SetUp problem.name option
 
 module _ (card : ℕ) (options : SetupOptions) (state : State) where
   abbrev go_selected : Problem ℕ → LinearProgram → Move
-  go_selected problem lp = MayStop (RangeOverflows problem (choice_of state.cells options)) (Does (outcome_of problem options (opening_statuses lp) state))
+  go_selected problem lp = MayStop (InSelection problem (choice_of state.cells options)) (Does (outcome_of problem options (opening_statuses lp) state))
 
   abbrev go_found : Problem ℕ → Move
   go_found problem = or_selection_fault card (selected problem (choice_of state.cells options)) (go_selected problem)
 
-  gives_no_problem : problem_of state.cells.xpbname state.file ≡ None → Gives card (statement_move stage (SetupVerb options) card state) (stops (VerbStop (record { fault = verb_fault.NoProblem; card = card })))
+  gives_no_problem : problem_of state.cells.xpbname state.file ≡ None → Gives stage card (statement_move stage (SetupVerb options) card state) (stops (VerbStop (record { fault = verb_fault.NoProblem; card = card })))
   unfolding stage verb_move
   gives_no_problem e = gives_fault card verb_fault.NoProblem (problem_of state.cells.xpbname state.file) go_found e
 
   gives_refused : (problem : Problem ℕ) (fault : VerbFault) → problem_of state.cells.xpbname state.file ≡ Some problem → HasSelectionFault problem (choice_of state.cells options) fault →
-      Gives card (statement_move stage (SetupVerb options) card state) (stops (VerbStop (record { fault = fault; card = card })))
+      Gives stage card (statement_move stage (SetupVerb options) card state) (stops (VerbStop (record { fault = fault; card = card })))
   unfolding stage verb_move
   gives_refused problem fault e h =
       gives_found card verb_fault.NoProblem (problem_of state.cells.xpbname state.file) go_found problem (stops (VerbStop (record { fault = fault; card = card }))) e
       (gives_unselected card (selected problem (choice_of state.cells options)) (go_selected problem) h.why fault h.is_refused h.is_fault)
 
   gives_overflow : (problem : Problem ℕ) (evidence : Evidence) → problem_of state.cells.xpbname state.file ≡ Some problem → HasRangeOverflow problem (choice_of state.cells options) evidence →
-      Gives card (statement_move stage (SetupVerb options) card state) (stops (OverflowStop (record { evidence = evidence; place = None; card = card })))
+      Gives stage card (statement_move stage (SetupVerb options) card state) (stops (OverflowStop (record { evidence = evidence; place = None; card = card })))
   unfolding stage verb_move
   gives_overflow problem evidence e h =
       gives_found card verb_fault.NoProblem (problem_of state.cells.xpbname state.file) go_found problem (stops (OverflowStop (record { evidence = evidence; place = None; card = card }))) e
@@ -83,7 +83,7 @@ module _ (card : ℕ) (options : SetupOptions) (state : State) where
       (inr (evidence, None, (h.is_refusal, refl), refl)))
 
   gives_set_up : (problem : Problem ℕ) (lp : LinearProgram) → problem_of state.cells.xpbname state.file ≡ Some problem → selected problem (choice_of state.cells options) ≡ Ok lp →
-      Gives card (statement_move stage (SetupVerb options) card state) (outcome_of problem options (opening_statuses lp) state)
+      Gives stage card (statement_move stage (SetupVerb options) card state) (outcome_of problem options (opening_statuses lp) state)
   unfolding stage verb_move
   gives_set_up problem lp e s =
       gives_found card verb_fault.NoProblem (problem_of state.cells.xpbname state.file) go_found problem (outcome_of problem options (opening_statuses lp) state) e
@@ -96,17 +96,17 @@ module _ (card : ℕ) {P : Type 0} (written : P → Option (List ℕ)) (faults r
   on_file {state = state} s found e = s.file state.cells.xpbname ∙ ap (λ (c : Cells). filed c.xpbname machine.file) s.cells ∙ e
 
   fault_by : (fault : VerbFault) → IsSetupFault machine.cells machine.file options (Fault fault) → {position executed : ℕ} {state : State} → Stands cards machine position executed state →
-      Gives card (statement_move stage (SetupVerb options) card state) (stops (VerbStop (record { fault = fault; card = card })))
+      Gives stage card (statement_move stage (SetupVerb options) card state) (stops (VerbStop (record { fault = fault; card = card })))
   fault_by fault (no_problem is none) {state = state} s =
       let same : fault ≡ verb_fault.NoProblem = cc in
-      subst (λ (f : VerbFault). Gives card (statement_move stage (SetupVerb options) card state) (stops (VerbStop (record { fault = f; card = card })))) (sym same)
+      subst (λ (f : VerbFault). Gives stage card (statement_move stage (SetupVerb options) card state) (stops (VerbStop (record { fault = f; card = card })))) (sym same)
       (gives_no_problem card options state (on_file s None none))
   fault_by fault (not_selected problem some h) {state = state} s =
       gives_refused card options state problem fault (on_file s (Some problem) some)
       (subst (λ (c : Cells). HasSelectionFault problem (choice_of c options) fault) (sym s.cells) h)
 
   overflow_by : (e : Evidence) → IsSetupFault machine.cells machine.file options (Overflow e) → {position executed : ℕ} {state : State} → Stands cards machine position executed state →
-      Gives card (statement_move stage (SetupVerb options) card state) (stops (OverflowStop (record { evidence = e; place = None; card = card })))
+      Gives stage card (statement_move stage (SetupVerb options) card state) (stops (OverflowStop (record { evidence = e; place = None; card = card })))
   overflow_by e (no_problem is none) {state = state} s = cc
   overflow_by e (not_selected problem some h) {state = state} s =
       gives_overflow card options state problem e (on_file s (Some problem) some)
@@ -120,7 +120,7 @@ module _ (card : ℕ) {P : Type 0} (written : P → Option (List ℕ)) (faults r
 
   module _ (opened : Opened) (o : IsOpened machine.cells machine.file options opened) where
     gives_opened : {position executed : ℕ} {state : State} → Stands cards machine position executed state →
-        Gives card (statement_move stage (SetupVerb options) card state) (outcome_of o.problem options (opening_statuses opened.setup.lp) state)
+        Gives stage card (statement_move stage (SetupVerb options) card state) (outcome_of o.problem options (opening_statuses opened.setup.lp) state)
     gives_opened {state = state} s =
         gives_set_up card options state o.problem opened.setup.lp (on_file s (Some o.problem) (filed_by machine.cells.xpbname machine.file opened.setup.name (Some o.problem) o.is_named o.is_filed))
         (ap (λ (c : Cells). selected o.problem (choice_of c options)) s.cells ∙ o.is_selected)

@@ -28,7 +28,7 @@ use Rattle.report_text.specs.declared.sheet.Sheet.{Sheet as OwnSheet}
 use Rattle.present_answers.specs.Answers.{sheet_shown}
 use Rattle.present_answers.specs.Stops.{SolutionRefused}
 use Rattle.run_definitions.specs.State.{Present, State, choice_of, present_basis, path_of}
-use Rattle.run_definitions.specs.Moves.{Gain, Nothing, Prints, punched_by, Outcome, next, stops, Move, MayStop, Asks, Gives, or_fault}
+use Rattle.run_definitions.specs.Moves.{Gain, Nothing, Prints, punched_by, Outcome, next, stops, InAnswer, Move, MayStop, Asks, Gives, or_fault}
 use Rattle.run_definitions.specs.Verbs.{or_selection_fault, verb_move, statement_move}
 use Rattle.control_run.specs.declared.act.Act.{Act}
 use Rattle.control_run.specs.declared.act.Halt.{Halt}
@@ -112,7 +112,7 @@ module _ (card : ℕ) (state : State) where
   printed mark lines = next (Prints (Solution mark lines)) state
 
   abbrev go_shown : Present → Mark → LinearProgram → Move
-  go_shown present mark lp = MayStop (OverflowsAt OfSolution (sheet_of present lp) (path_of present)) (Asks SolutionLines (IsShown (sheet_of present lp) (present_basis present)) (printed mark))
+  go_shown present mark lp = MayStop (InAnswer (OfSolution mark) (sheet_of present lp) (path_of present)) (Asks (OfSolution mark) (sheet_of present lp) (present_basis present) (printed mark))
 
   abbrev go_marked : Present → Mark → Move
   go_marked present mark = or_selection_fault card (selected present.problem (choice_of state.cells present.options)) (go_shown present mark)
@@ -120,14 +120,14 @@ module _ (card : ℕ) (state : State) where
   abbrev go_set_up : Present → Move
   go_set_up present = or_fault card verb_fault.NotSolved state.mark (go_marked present)
 
-  solution_gives : (outcome : Outcome) → Gives card (or_fault card verb_fault.NoSetup state.setup go_set_up) outcome → Gives card (statement_move stage SolutionVerb card state) outcome
+  solution_gives : (outcome : Outcome) → Gives stage card (or_fault card verb_fault.NoSetup state.setup go_set_up) outcome → Gives stage card (statement_move stage SolutionVerb card state) outcome
   unfolding stage verb_move
   solution_gives outcome g = g
 
-  gives_no_setup : state.setup ≡ None → Gives card (statement_move stage SolutionVerb card state) (stops (endings.VerbStop (record { fault = verb_fault.NoSetup; card = card })))
+  gives_no_setup : state.setup ≡ None → Gives stage card (statement_move stage SolutionVerb card state) (stops (endings.VerbStop (record { fault = verb_fault.NoSetup; card = card })))
   gives_no_setup e = solution_gives (stops (endings.VerbStop (record { fault = verb_fault.NoSetup; card = card }))) (gives_fault card verb_fault.NoSetup state.setup go_set_up e)
 
-  gives_set_up : (present : Present) (outcome : Outcome) → state.setup ≡ Some present → Gives card (go_set_up present) outcome → Gives card (statement_move stage SolutionVerb card state) outcome
+  gives_set_up : (present : Present) (outcome : Outcome) → state.setup ≡ Some present → Gives stage card (go_set_up present) outcome → Gives stage card (statement_move stage SolutionVerb card state) outcome
   gives_set_up present outcome e given = solution_gives outcome (gives_found card verb_fault.NoSetup state.setup go_set_up present outcome e given)
 
 pub solution_no_setup : (card : ℕ) {P : Type 0} (written : P → Option (List ℕ)) (faults refusals : P → ℕ) (cards : List (List ℕ)) (machine : Machine) (print : P) → machine.setup ≡ None →
@@ -144,13 +144,13 @@ module _ (card : ℕ) (cards : List (List ℕ)) (old : Machine) (setup : Setup) 
     abbrev present : Present
     present = present_with problem setup.options p.opening p.steps
 
-    not_solved : old.mark ≡ None → Gives card (statement_move stage SolutionVerb card state) (stops (endings.VerbStop (record { fault = verb_fault.NotSolved; card = card })))
+    not_solved : old.mark ≡ None → Gives stage card (statement_move stage SolutionVerb card state) (stops (endings.VerbStop (record { fault = verb_fault.NotSolved; card = card })))
     not_solved none =
         gives_set_up card state present (stops (endings.VerbStop (record { fault = verb_fault.NotSolved; card = card }))) p.is_shown
         (gives_fault card verb_fault.NotSolved state.mark (go_marked card state present) (s.mark ∙ none))
 
     module _ (new : Setup) (mark : Mark) (is_mark : old.mark ≡ Some mark) (ok : selected problem (choice_of old.cells setup.options) ≡ Ok setup.lp) (k : IsSameSetup setup new) where
-      marked_gives : (outcome : Outcome) → Gives card (go_shown card state present mark setup.lp) outcome → Gives card (statement_move stage SolutionVerb card state) outcome
+      marked_gives : (outcome : Outcome) → Gives stage card (go_shown card state present mark setup.lp) outcome → Gives stage card (statement_move stage SolutionVerb card state) outcome
       marked_gives outcome g =
           gives_set_up card state present outcome p.is_shown
           (gives_found card verb_fault.NotSolved state.mark (go_marked card state present) mark outcome (s.mark ∙ is_mark)

@@ -28,8 +28,8 @@ use Rattle.answer_definitions.specs.Evidence.{OverflowsAt, OverflowsOnPath}
 use Rattle.report_text.specs.declared.sheet.Sheet.{Sheet as OwnSheet}
 use Rattle.present_answers.specs.Reports.{sheet_shown, OverflowsThere}
 use Rattle.run_definitions.specs.State.{Present, present_basis, path_of, State, choice_of, gone_through}
-use Rattle.run_definitions.specs.Moves.{Gain, Nothing, Prints, punched_by, Outcome, Ends as EndsRun, next, jump, stops, Move, MayStop, Asks, Gives, or_fault}
-use Rattle.run_definitions.specs.Verbs.{mark_of, RangeOverflows, selection_verb_fault, or_selection_fault, by_verdict, demanded, after_path, statement_move, verb_move}
+use Rattle.run_definitions.specs.Moves.{Gain, Nothing, Prints, punched_by, Outcome, Ends as EndsRun, next, jump, stops, InSelection, InAnswer, RangeOverflows, Move, MayStop, Asks, Gives, or_fault}
+use Rattle.run_definitions.specs.Verbs.{mark_of, selection_verb_fault, or_selection_fault, by_verdict, demanded, after_path, statement_move, verb_move}
 use Rattle.control_run.specs.declared.act.Act.{Act}
 use Rattle.control_run.specs.declared.act.Act.TheVariants as act
 use Rattle.control_run.specs.declared.act.Halt.{Halt}

@@ -49,8 +49,8 @@ module _ {P : Type 0} (written : P → Option (List ℕ)) (faults refusals : P �
   overflow_tells F print s after e _ no_memory holds = refl
 
 -- the outcome of a statement that comes to an act
-outcome_by : (card : ℕ) (move : Move) (cards : List (List ℕ)) (new : Machine) (position executed : ℕ) (gain : Gain) (then : Act) → Follows card move cards new position executed gain then →
-    (outcome : Outcome) × Gives card move outcome × (gain_of outcome ≡ gain)
+outcome_by : (card : ℕ) (move : Move) (cards : List (List ℕ)) (new : Machine) (position executed : ℕ) (gain : Gain) (then : Act) → Follows stage card move cards new position executed gain then →
+    (outcome : Outcome) × Gives stage card move outcome × (gain_of outcome ≡ gain)
 outcome_by card move cards new position executed gain act.Next f = (next gain f.0, f.1, refl)
 outcome_by card move cards new position executed gain (act.Jump to) f = (jump gain to f.0, f.1, refl)
 outcome_by card move cards new position executed gain (act.Ends end) f = (EndsRun gain (end_shown end), f, refl)

@@ -17,7 +17,7 @@ use Rattle.control_run.specs.Stage.{builds, stage}
 use Rattle.control_run.specs.Statements.{Executes}
 use Rattle.control_run.proofs.Giving.{quietly, loudly, cut_off}
 
-titles : (text : List ℕ) (card : ℕ) (state : State) → Gives card (statement_move stage (Title text) card state) (next (Prints (Titled text)) state)
+titles : (text : List ℕ) (card : ℕ) (state : State) → Gives stage card (statement_move stage (Title text) card state) (next (Prints (Titled text)) state)
 unfolding stage verb_move
 titles text card state = refl
 
@@ -36,9 +36,9 @@ module _ {P : Type 0} (written : P → Option (List ℕ)) (faults refusals : P �
 
 -- ---- what isn't built
 
-unbuilt : (verb : Verb ℕ) (card : ℕ) (state : State) → builds verb ≡ false → Gives card (statement_move stage verb card state) (stops endings.NotBuilt)
+unbuilt : (verb : Verb ℕ) (card : ℕ) (state : State) → builds verb ≡ false → Gives stage card (statement_move stage verb card state) (stops endings.NotBuilt)
 unfolding stage
-unbuilt verb card state is = subst (λ (b : Bool). Gives card (if_built stage b (verb_move stage verb card state)) (stops endings.NotBuilt)) (sym is) refl
+unbuilt verb card state is = subst (λ (b : Bool). Gives stage card (if_built b (verb_move verb card state)) (stops endings.NotBuilt)) (sym is) refl
 
 pub unbuilt_executes : {P : Type 0} (written : P → Option (List ℕ)) (faults refusals : P → ℕ) (print : P) (verb : Verb ℕ) (card : ℕ) (cards : List (List ℕ)) (machine : Machine) → builds verb ≡ false →
     Executes stage verb card written faults refusals print print cards machine machine (Ok (Ends NotBuilt))

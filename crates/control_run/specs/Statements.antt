@@ -1,5 +1,5 @@
 -- What a statement does with a machine.
---     Follows move gain act        the move comes to this act with this gain
+--     Follows S move gain act      the move comes to this act with this gain
 --     Comes state gain act         from this state the statement comes to this act with this gain
 --     Decides old new act          the statement prints nothing, and comes to this act
 --     Executes result              the statement comes to this act, with its report printed; or it is cut off
@@ -38,14 +38,14 @@ gain_of (Goes gain state) = gain
 gain_of (Ends gain ending) = gain
 
 -- the run goes on with a state that the machine shows, or it ends
-abbrev pub Follows : ℕ → Move → List (List ℕ) → Machine → ℕ → ℕ → Gain → Act → Type 0
-Follows card move cards new position executed gain act.Next = (after : State) × Gives card move (next gain after) × Stands cards new position executed after
-Follows card move cards new position executed gain (act.Jump to) = (after : State) × Gives card move (jump gain to after) × Stands cards new position executed after × (1 ≤ to)
-Follows card move cards new position executed gain (act.Ends end) = Gives card move (Ends gain (end_shown end))
+abbrev pub Follows : Solving → ℕ → Move → List (List ℕ) → Machine → ℕ → ℕ → Gain → Act → Type 0
+Follows S card move cards new position executed gain act.Next = (after : State) × Gives S card move (next gain after) × Stands cards new position executed after
+Follows S card move cards new position executed gain (act.Jump to) = (after : State) × Gives S card move (jump gain to after) × Stands cards new position executed after × (1 ≤ to)
+Follows S card move cards new position executed gain (act.Ends end) = Gives S card move (Ends gain (end_shown end))
 
 module _ (S : Solving) (verb : Verb ℕ) (card : ℕ) where
   abbrev pub Comes : List (List ℕ) → ℕ → ℕ → State → Machine → Gain → Act → Type 0
-  Comes cards position executed state new gain act = Follows card (statement_move S verb card state) cards new position executed gain act
+  Comes cards position executed state new gain act = Follows S card (statement_move S verb card state) cards new position executed gain act
 
   -- from each state that the machine showed, the statement comes to this act, and prints nothing
   abbrev pub Decides : Machine → Machine → Act → Type 0
@@ -64,7 +64,7 @@ module _ (S : Solving) (verb : Verb ℕ) (card : ℕ) where
     pub record IsCutOff (state : State) (stop : WriteStop) : Type 0 where
       pub outcome : Outcome
       pub no_cards : punched_by (gain_of outcome) ≡ []
-      pub gives : Gives card (statement_move S verb card state) outcome
+      pub gives : Gives S card (statement_move S verb card state) outcome
       pub writes : Writes {T = Unit {0}} written faults refusals print_old print_new (Err stop) (gain_text (gain_of outcome))
 
     -- What a statement does from each state that the machine showed. Where it finds no memory, nothing is printed.
