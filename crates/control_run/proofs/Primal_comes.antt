@@ -1,9 +1,9 @@
 -- What PRIMAL does by what it finds.
-use Rattle.std.proofs.Common.{◌≡◌, ℕ, ◌≤◌, inl, inr, List, [], ◌∷◌, ◌++◌, Option, None, Some, IfSome, Result, Ok, Err, refl, sym, ap, subst, ◌∙◌, option_map}
+use Rattle.std.proofs.Common.{◌≡◌, ℕ, ◌≤◌, inl, inr, List, [], Option, None, Some, IfSome, Ok, Err, refl, sym, ap, subst, ◌∙◌, option_map}
 use Rattle.lp_definitions.specs.LinearProgram.{LinearProgram}
 use Rattle.lp_definitions.specs.declared.Evidence.{Evidence}
 use Rattle.problem_definitions.specs.Problem.{Problem}
-use Rattle.problem_file.specs.Filed.{Filed, filed_under}
+use Rattle.problem_file.specs.Filed.{filed_under}
 use Rattle.control_definitions.specs.Program.{Primal}
 use Rattle.control_definitions.specs.Cells.{Cells}
 use Rattle.selection_definitions.specs.Selection.{selected}
@@ -18,13 +18,12 @@ use Rattle.question_definitions.specs.Answers.{Basis, Sheet, OfPath, PathEnd, Re
 use Rattle.answer_definitions.specs.Verdicts.{IsSolved}
 use Rattle.answer_definitions.specs.Evidence.{OverflowsAt, OverflowsOnPath}
 use Rattle.run_definitions.specs.State.{Present, present_basis, path_of, State, choice_of, gone_through}
-use Rattle.run_definitions.specs.Moves.{Gain, Nothing, Prints, punched_by, Outcome, Ends as EndsRun, stops, InSelection, InAnswer, RangeOverflows, Move, MayStop, Asks, Gives, or_fault}
+use Rattle.run_definitions.specs.Moves.{Gain, Prints, punched_by, Outcome, Ends as EndsRun, stops, Move, MayStop, Asks, Gives, or_fault, InSelection, InAnswer, RangeOverflows}
 use Rattle.run_definitions.specs.Verbs.{mark_of, or_selection_fault, by_verdict, demanded, after_path, statement_move, verb_move}
 use Rattle.control_run.specs.declared.act.Act.{Act}
 use Rattle.control_run.specs.declared.act.Halt.{Halt}
 use Rattle.control_run.specs.declared.end.End.{End}
 use Rattle.control_run.specs.declared.end.End.TheVariants as end
-use Rattle.control_run.specs.declared.end.Place.{Place as OwnPlace}
 use Rattle.control_run.specs.declared.finding.Finding.{Finding}
 use Rattle.control_run.specs.declared.finding.Finding.TheVariants.{Ended}
 use Rattle.control_run.specs.declared.machine.Machine.{Machine}
@@ -36,7 +35,7 @@ use Rattle.control_run.specs.Engine.{ways}
 use Rattle.control_run.specs.Stage.{stage}
 use Rattle.control_run.specs.Standing.{AreDemands, IsReady, ShowsSetup, Stands}
 use Rattle.control_run.specs.Statements.{Comes, Executes, Follows}
-use Rattle.control_run.specs.Findings.{PathReaches, PathOverflows, PathFinds, reached, at_limit, overflows, Finds, unselected, too_large, solved, Tells, demanded_act, act_of, mark_left}
+use Rattle.control_run.specs.Findings.{PathReaches, PathOverflows, reached, at_limit, overflows, Finds, unselected, too_large, solved, Tells, demanded_act, act_of, mark_left}
 use Rattle.control_run.proofs.Selected.{same_matrix}
 use Rattle.control_run.proofs.Giving.{gives_fault, gives_found, gives_unselected, gives_selected, quietly}
 use Rattle.control_run.proofs.Telling.{told_executes, cut_executes}
@@ -102,8 +101,12 @@ module _ (card : ℕ) (cards : List (List ℕ)) (old : Machine) (setup new : Set
       IsSolved (record { problem = problem; lp = lp }) setup.basis old.cells.xiterlim answer → Gives stage card (statement_move stage Primal card state) (after_path card present state answer)
   path_gives lp ok answer right =
       selected_gives lp ok (after_path card present state answer)
-      (inl (inl (answer, subst (λ (c : Cells). IsSolved (record { problem = problem; lp = lp }) (present_basis present) c.xiterlim answer) (sym s.cells)
-      (subst (λ (b : Basis). IsSolved (record { problem = problem; lp = lp }) b old.cells.xiterlim answer) (sym p.reached) right), refl)))
+      (inl (inl (
+        answer,
+        subst (λ (c : Cells). IsSolved (record { problem = problem; lp = lp }) (present_basis present) c.xiterlim answer) (sym s.cells)
+            (subst (λ (b : Basis). IsSolved (record { problem = problem; lp = lp }) b old.cells.xiterlim answer) (sym p.reached) right),
+        refl,
+      )))
 
   fault_gives : (fault : VerbFault) → HasSelectionFault problem (choice_of old.cells setup.options) fault →
       Gives stage card (statement_move stage Primal card state) (stops (endings.VerbStop (record { fault = fault; card = card })))
@@ -123,10 +126,14 @@ module _ (card : ℕ) (cards : List (List ℕ)) (old : Machine) (setup new : Set
       Gives stage card (statement_move stage Primal card state) (stops (endings.OverflowStop (record { evidence = e; place = place; card = card })))
   overflow_gives lp ok e place h =
       selected_gives lp ok (stops (endings.OverflowStop (record { evidence = e; place = place; card = card })))
-      (inl (inr (e, place,
-      subst (λ (c : Cells). OverflowsOnPath (record { problem = problem; lp = lp }) (path_of present) c.xiterlim e place) (sym s.cells)
-      (subst (λ (bs : List Basis). OverflowsOnPath (record { problem = problem; lp = lp }) bs old.cells.xiterlim e place) (sym p.ends)
-      (h p.initial (lie_up_to problem setup state.setup p lp (same_matrix problem (choice_of old.cells setup.options) lp ok)))), refl)))
+      (inl (inr (
+        e,
+        place,
+        subst (λ (c : Cells). OverflowsOnPath (record { problem = problem; lp = lp }) (path_of present) c.xiterlim e place) (sym s.cells)
+            (subst (λ (bs : List Basis). OverflowsOnPath (record { problem = problem; lp = lp }) bs old.cells.xiterlim e place) (sym p.ends)
+            (h p.initial (lie_up_to problem setup state.setup p lp (same_matrix problem (choice_of old.cells setup.options) lp ok)))),
+        refl,
+      )))
 
   after_stands : (lp : LinearProgram) → selected problem (choice_of old.cells setup.options) ≡ Ok lp → new.name ≡ setup.name → new.options ≡ setup.options →
       (bases : List Basis) (verdict : Verdict) (check : Check) → PathReaches (record { problem = problem; lp = lp }) setup.basis new.basis old.cells.xiterlim (ways setup.engine) (ways new.engine) bases verdict check →

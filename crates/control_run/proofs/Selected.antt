@@ -5,15 +5,15 @@ use Rattle.std.specs.List.{enumerate_from}
 use Rattle.exact_values.specs.Rational.{ℚ, zero_ℚ}
 use Rattle.exact_values.specs.Tests.{lt_ℚ, magnitude}
 use Rattle.frac128.specs.declared.Op.TheVariants.{Add, Sub}
-use Rattle.lp_definitions.specs.LinearProgram.{Matrix, LinearProgram, lower_of, upper_of, HasNoLimits}
-use Rattle.lp_definitions.specs.Basis.{Basics, basics_of, IsAllowed, IsBasis, IsNonsingular, is_basic}
+use Rattle.lp_definitions.specs.LinearProgram.{Matrix, LinearProgram, lower_of, upper_of}
+use Rattle.lp_definitions.specs.Basis.{Basics, basics_of, IsAllowed, IsNonsingular}
 use Rattle.lp_definitions.specs.declared.Status.{Status}
 use Rattle.lp_definitions.specs.declared.Status.TheVariants.{Bs, Ll, Ul, Fr}
 use Rattle.bounded_primal.specs.Calls.{HasRates}
 use Rattle.card_definitions.specs.Words.{unless}
 use Rattle.problem_definitions.specs.declared.RowKind.{RowKind}
 use Rattle.problem_definitions.specs.declared.RowKind.TheVariants.{N, G, L, E}
-use Rattle.problem_definitions.specs.Problem.{Row, Entry, Group, Problem}
+use Rattle.problem_definitions.specs.Problem.{Row, Problem}
 use Rattle.control_definitions.specs.Program.{SetupOptions}
 use Rattle.selection_definitions.specs.declared.SelectionFault.{SelectionFault}
 use Rattle.selection_definitions.specs.Choice.{Choice, set_items, selection_fault}

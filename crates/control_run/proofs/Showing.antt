@@ -3,7 +3,7 @@ use Rattle.std.proofs.Common.{◌≡◌, ℕ, List, [], ◌∷◌, ◌++◌, Opt
 use Rattle.job_devices.specs.declared.device.WriteStop.{WriteStop}
 use Rattle.job_devices.specs.Text.{Writes}
 use Rattle.exact_values.specs.Rational.{ℚ}
-use Rattle.lp_definitions.specs.LinearProgram.{Matrix, LinearProgram, size}
+use Rattle.lp_definitions.specs.LinearProgram.{Matrix, LinearProgram}
 use Rattle.lp_definitions.specs.Basis.{Basics, basics_of}
 use Rattle.lp_definitions.specs.Waypoints.{waypoint, KeepsWaypoints}
 use Rattle.lp_definitions.specs.declared.Evidence.{Evidence}
@@ -16,7 +16,6 @@ use Rattle.listing_definitions.specs.Text.{report_text}
 use Rattle.control_definitions.specs.Program.{SetupOptions, Solution as SolutionVerb}
 use Rattle.selection_definitions.specs.Selection.{matrix_of, selected}
 use Rattle.listing_definitions.specs.declared.Mark.{Mark}
-use Rattle.listing_definitions.specs.declared.VerbFault.{VerbFault}
 use Rattle.listing_definitions.specs.declared.VerbFault.TheVariants as verb_fault
 use Rattle.listing_definitions.specs.Report.{SolutionLines, Solution}
 use Rattle.listing_definitions.specs.Ending as endings
@@ -42,10 +41,10 @@ use Rattle.control_run.specs.declared.selecting.Refusal.TheVariants.{Fault}
 use Rattle.control_run.specs.Ends.{place_shown}
 use Rattle.control_run.specs.Engine.{ways}
 use Rattle.control_run.specs.Stage.{stage}
-use Rattle.control_run.specs.Standing.{IsReady, IsSelected, IsPresent, ShowsSetup, Stands}
+use Rattle.control_run.specs.Standing.{IsSelected, ShowsSetup, Stands}
 use Rattle.control_run.specs.Statements.{Comes, Executes}
 use Rattle.control_run.specs.Choosing.{refused_act}
-use Rattle.control_run.specs.Findings.{LinesOverflow, LinesFound, shown, overflows, Shows, Tells, act_of}
+use Rattle.control_run.specs.Findings.{LinesFound, shown, overflows, Shows, Tells, act_of}
 use Rattle.control_run.proofs.Selected.{same_matrix}
 use Rattle.control_run.proofs.Giving.{gives_fault, gives_found, gives_selected, quietly}
 use Rattle.control_run.proofs.Telling.{told_executes, cut_executes}
@@ -187,8 +186,12 @@ module _ (card : ℕ) (cards : List (List ℕ)) (old : Machine) (setup : Setup) 
       shown_comes _ _ (overflows {e = e} {place = place} h) =
           let same : matrix_of problem ≡ setup.lp.matrix = same_matrix problem (choice_of old.cells setup.options) setup.lp ok in
           marked_gives (stops (endings.OverflowStop (record { evidence = e; place = option_map place_shown place; card = card })))
-          (inr (e, option_map place_shown place,
-          subst (λ (bs : List Basis). IsEvidence (SolutionStatement setup.lp) None 0 bs [] e (option_map place_shown place)) (sym p.ends) (h p.initial (lie_up_to problem setup state.setup p setup.lp same)), refl))
+          (inr (
+            e,
+            option_map place_shown place,
+            subst (λ (bs : List Basis). IsEvidence (SolutionStatement setup.lp) None 0 bs [] e (option_map place_shown place)) (sym p.ends) (h p.initial (lie_up_to problem setup state.setup p setup.lp same)),
+            refl,
+          ))
 
   module _ {P : Type 0} (written : P → Option (List ℕ)) (faults refusals : P → ℕ) where
     pub solution_not_solved : (print : P) (any : Machine) → old.mark ≡ None → Executes stage SolutionVerb card written faults refusals print print cards old any (refused_act card (Fault verb_fault.NotSolved))

@@ -1,5 +1,5 @@
 -- What PRIMAL finds, and what it does then.
-use Rattle.std.proofs.Common.{◌≡◌, ℕ, ◌≤◌, inl, inr, List, [], ◌∷◌, ◌++◌, Option, None, Some, IfSome, Result, Ok, Err, length, refl, sym, ap, subst, ◌∙◌, option_map}
+use Rattle.std.proofs.Common.{◌≡◌, ℕ, List, [], ◌∷◌, ◌++◌, Option, None, Some, Result, Ok, Err, length, refl, sym, ap, subst, ◌∙◌}
 use Rattle.std.specs.Prelude.{MatchResult, IfOk}
 use Rattle.job_devices.specs.declared.device.WriteStop.{WriteStop}
 use Rattle.job_devices.specs.Text.{Writes}
@@ -10,51 +10,38 @@ use Rattle.lp_definitions.specs.declared.Evidence.{Evidence}
 use Rattle.bounded_primal.specs.Calls.{HasRates}
 use Rattle.problem_definitions.specs.Problem.{Problem}
 use Rattle.problem_file.specs.Filed.{Filed, filed_under}
-use Rattle.control_definitions.specs.Program.{Primal}
 use Rattle.control_definitions.specs.Cells.{Cells}
 use Rattle.selection_definitions.specs.Choice.{Choice}
-use Rattle.selection_definitions.specs.Selection.{matrix_of, selected}
+use Rattle.selection_definitions.specs.Selection.{selected}
 use Rattle.listing_definitions.specs.declared.Mark.{Mark}
-use Rattle.listing_definitions.specs.declared.Mark.TheVariants.{Optimal, Infeasible, Unbounded}
 use Rattle.listing_definitions.specs.declared.Solver.TheVariants.{Primal as ByPrimal}
-use Rattle.listing_definitions.specs.declared.VerbFault.{VerbFault}
-use Rattle.listing_definitions.specs.declared.VerbFault.TheVariants.{NoSetup}
-use Rattle.listing_definitions.specs.Report.{Verdict, Check, Report, Solved}
+use Rattle.listing_definitions.specs.Report.{Verdict, Check, Solved}
 use Rattle.listing_definitions.specs.Text.{report_text}
 use Rattle.listing_definitions.specs.Ending as endings
-use Rattle.question_definitions.specs.Answers.{Basis, Sheet, OfPath, PathEnd, Reached, PathLimit}
-use Rattle.answer_definitions.specs.Verdicts.{IsSolved}
-use Rattle.answer_definitions.specs.Evidence.{OverflowsAt, OverflowsOnPath}
+use Rattle.question_definitions.specs.Answers.{Basis, Sheet}
+use Rattle.answer_definitions.specs.Evidence.{OverflowsOnPath}
 use Rattle.report_text.specs.declared.sheet.Sheet.{Sheet as OwnSheet}
 use Rattle.present_answers.specs.Reports.{sheet_shown, OverflowsThere}
-use Rattle.run_definitions.specs.State.{Present, present_basis, path_of, State, choice_of, gone_through}
-use Rattle.run_definitions.specs.Moves.{Gain, Nothing, Prints, punched_by, Outcome, Ends as EndsRun, next, jump, stops, InSelection, InAnswer, RangeOverflows, Move, MayStop, Asks, Gives, or_fault}
-use Rattle.run_definitions.specs.Verbs.{mark_of, selection_verb_fault, or_selection_fault, by_verdict, demanded, after_path, statement_move, verb_move}
-use Rattle.control_run.specs.declared.act.Act.{Act}
-use Rattle.control_run.specs.declared.act.Act.TheVariants as act
+use Rattle.run_definitions.specs.State.{choice_of}
+use Rattle.run_definitions.specs.Moves.{Nothing, Prints}
+use Rattle.run_definitions.specs.Verbs.{mark_of}
 use Rattle.control_run.specs.declared.act.Halt.{Halt}
 use Rattle.control_run.specs.declared.act.Halt.TheVariants as halt
-use Rattle.control_run.specs.declared.end.End.{End}
-use Rattle.control_run.specs.declared.end.End.TheVariants as end
 use Rattle.control_run.specs.declared.end.Place.{Place as OwnPlace}
 use Rattle.control_run.specs.declared.finding.Finding.{Finding}
 use Rattle.control_run.specs.declared.finding.Finding.TheVariants.{Refused, Ended, Overflow, Limit, Shown}
-use Rattle.control_run.specs.declared.machine.Machine.{Machine}
 use Rattle.control_run.specs.declared.machine.Setup.{Setup}
 use Rattle.control_run.specs.declared.selecting.Refusal.{Refusal}
 use Rattle.control_run.specs.declared.selecting.Refusal.TheVariants.{Fault, NoMemory}
 use Rattle.control_run.specs.declared.selecting.Refusal.TheVariants as refusals
-use Rattle.control_run.specs.Choosing.{IsUnselected, refused_act}
-use Rattle.control_run.specs.Ends.{end_shown, place_shown}
+use Rattle.control_run.specs.Choosing.{IsUnselected}
+use Rattle.control_run.specs.Ends.{place_shown}
 use Rattle.control_run.specs.Engine.{matrix, basics, ways}
-use Rattle.control_run.specs.Stage.{stage}
-use Rattle.control_run.specs.Standing.{AreDemands, IsReady, IsSelected, IsPresent, ShowsSetup, Stands}
-use Rattle.control_run.specs.Statements.{Comes, Executes, Follows, gain_of, gain_text}
-use Rattle.control_run.specs.Findings.{PathReaches, PathFinds, reached, at_limit, overflows, Finds, unselected, too_large, solved, Tells, refused_finding, IfEnded, demanded_act, act_of, mark_left}
+use Rattle.control_run.specs.Standing.{IsReady, IsSelected}
+use Rattle.control_run.specs.Findings.{PathReaches, PathFinds, reached, overflows, Finds, unselected, too_large, solved, Tells, refused_finding, IfEnded}
 use Rattle.control_run.proofs.Selected.{same_matrix, no_change, rates_carry}
-use Rattle.control_run.proofs.Giving.{gives_fault, gives_found, gives_unselected, gives_selected, quietly}
 use Rattle.control_run.proofs.Telling.{tells_more, tells_quietly}
-use Rattle.control_run.proofs.Present.{present_with, IsPresentOf, present_at, one_problem, lie_up_to, goes_through}
+use Rattle.control_run.proofs.Present.{one_problem}
 
 -- ---- the path
 

@@ -7,7 +7,6 @@ use Rattle.lp_definitions.specs.Basis.{Basics, basics_of}
 use Rattle.lp_definitions.specs.Waypoints.{waypoint}
 use Rattle.lp_definitions.specs.declared.Evidence.{Evidence}
 use Rattle.control_definitions.specs.Program.{Verb}
-use Rattle.listing_definitions.specs.Ending.{Place}
 use Rattle.question_definitions.specs.Answers.{Basis}
 use Rattle.run_definitions.specs.State.{State}
 use Rattle.run_definitions.specs.Moves.{Gain, Nothing, punched_by, Outcome, Ends as EndsRun, next, jump, Move, Gives}

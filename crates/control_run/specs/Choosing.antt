@@ -81,13 +81,16 @@ module _ (cells : Cells) (file : Filed) (options : SetupOptions) where
     pub are_options : opened.setup.options ≡ options
     pub is_selected : selected problem (choice_of cells options) ≡ Ok opened.setup.lp
     pub is_opening : opened.setup.basis ≡ opening_statuses opened.setup.lp
-    pub rates : HasRates (matrix opened.setup.engine) (basics opened.setup.engine) opened.setup.lp opened.setup.basis
+    pub rates : HasRates (matrix opened.setup.engine) (basics opened.setup.engine) opened.setup.lp
+        opened.setup.basis
     pub lie : LieIn opened.setup.lp.matrix (ways opened.setup.engine) (opened.setup.basis ∷ [])
 
   -- there is no such problem, or its selection is refused
   pub data IsSetupFault (refusal : Refusal) : Type 0 where
-    no_problem : refusal ≡ Fault faults.NoProblem → filed cells.xpbname file ≡ None → IsSetupFault refusal
-    not_selected : (problem : Problem ℕ) → filed cells.xpbname file ≡ Some problem → IsUnselected problem (choice_of cells options) refusal → IsSetupFault refusal
+    no_problem : refusal ≡ Fault faults.NoProblem → filed cells.xpbname file ≡ None →
+        IsSetupFault refusal
+    not_selected : (problem : Problem ℕ) → filed cells.xpbname file ≡ Some problem →
+        IsUnselected problem (choice_of cells options) refusal → IsSetupFault refusal
 
   abbrev pub IsNotOpened : Refusal → Type 0
   IsNotOpened (Fault fault) = IsSetupFault (Fault fault)

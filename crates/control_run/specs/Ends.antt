@@ -21,7 +21,8 @@ end_shown (Verb fault card) = VerbStop (record { fault = fault; card = card })
 end_shown (Deck fault) = deck_stop fault
 end_shown (Limit limit card) = LimitStop (record { limit = limit; card = card })
 end_shown Statements = StatementLimit
-end_shown (Overflow evidence place card) = OverflowStop (record { evidence = evidence; place = option_map place_shown place; card = card })
+end_shown (Overflow evidence place card) =
+    OverflowStop (record { evidence = evidence; place = option_map place_shown place; card = card })
 end_shown Memory = endings.Memory
 end_shown NotBuilt = endings.NotBuilt
 

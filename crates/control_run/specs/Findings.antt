@@ -54,7 +54,9 @@ use Rattle.control_run.specs.Statements.{gain_text}
 
 -- an operation is refused, at this basis and this waypoint; or there is no memory
 pub data IsOverflowAt (s : Basis) (after : List Basics) (e : Evidence) : Result Finding Halt → Type 0 where
-  told : (place : OwnPlace) → place_shown place ≡ record { basis = s; way = waypoint (basics_of s) after e.way } → IsOverflowAt s after e (Ok (Overflow e (Some place)))
+  told : (place : OwnPlace) →
+      place_shown place ≡ record { basis = s; way = waypoint (basics_of s) after e.way } →
+      IsOverflowAt s after e (Ok (Overflow e (Some place)))
   no_memory : IsOverflowAt s after e (Err halt.NoMemory)
 
 -- ---- the path
@@ -65,26 +67,37 @@ module _ (sheet : Sheet) (s now : Basis) (limit : ℕ) (before after : List Basi
   pub record PathReaches (bases : List Basis) (verdict : Verdict) (check : Check) : Type 0 where
     pub reaches : ReachesVerdict sheet s limit bases verdict check
     pub leads : last_of s bases ≡ now
-    pub lie : (earlier : List Basis) → LieIn sheet.lp.matrix before (earlier ++ s ∷ []) → LieIn sheet.lp.matrix after (earlier ++ s ∷ bases)
+    pub lie : (earlier : List Basis) → LieIn sheet.lp.matrix before (earlier ++ s ∷ []) →
+        LieIn sheet.lp.matrix after (earlier ++ s ∷ bases)
 
   -- for every list of bases that ends with s, in which the waypoints lay before, the path from there may stop with this evidence
   abbrev pub PathOverflows : Evidence → Option Place → Type 0
-  PathOverflows e place = (earlier : List Basis) → LieIn sheet.lp.matrix before (earlier ++ s ∷ []) → OverflowsOnPath sheet (earlier ++ s ∷ []) limit e place
+  PathOverflows e place = (earlier : List Basis) →
+      LieIn sheet.lp.matrix before (earlier ++ s ∷ []) →
+      OverflowsOnPath sheet (earlier ++ s ∷ []) limit e place
 
   -- its verdict is printed; or it goes on past the limit; or an operation is refused
   pub data PathFinds : Gain → Finding → Type 0 where
-    reached : {bases : List Basis} {verdict : Verdict} {check : Check} → PathReaches bases verdict check → PathFinds (Prints (Solved ByPrimal verdict check)) (Ended (mark_of verdict))
+    reached : {bases : List Basis} {verdict : Verdict} {check : Check} →
+        PathReaches bases verdict check →
+        PathFinds (Prints (Solved ByPrimal verdict check)) (Ended (mark_of verdict))
     at_limit : GoesOnFor sheet.lp s limit → PathFinds Nothing Limit
-    overflows : {e : Evidence} {place : Option OwnPlace} → PathOverflows e (option_map place_shown place) → PathFinds Nothing (Overflow e place)
+    overflows : {e : Evidence} {place : Option OwnPlace} →
+        PathOverflows e (option_map place_shown place) → PathFinds Nothing (Overflow e place)
 
 -- With these cells the selection of a setup's problem is refused; or its path is followed from the present basis, and the setup keeps
 -- where it has come to.
 pub data Finds (problem : Problem ℕ) (cells : Cells) (setup new : Setup) : Gain → Finding → Type 0 where
-  unselected : {fault : VerbFault} → HasSelectionFault problem (choice_of cells setup.options) fault → Finds problem cells setup new Nothing (Refused fault)
-  too_large : {e : Evidence} → HasRangeOverflow problem (choice_of cells setup.options) e → Finds problem cells setup new Nothing (Overflow e None)
-  solved : {lp : LinearProgram} {gain : Gain} {finding : Finding} → selected problem (choice_of cells setup.options) ≡ Ok lp →
+  unselected : {fault : VerbFault} →
+      HasSelectionFault problem (choice_of cells setup.options) fault →
+      Finds problem cells setup new Nothing (Refused fault)
+  too_large : {e : Evidence} → HasRangeOverflow problem (choice_of cells setup.options) e →
+      Finds problem cells setup new Nothing (Overflow e None)
+  solved : {lp : LinearProgram} {gain : Gain} {finding : Finding} →
+      selected problem (choice_of cells setup.options) ≡ Ok lp →
       new.name ≡ setup.name → new.options ≡ setup.options →
-      PathFinds (record { problem = problem; lp = lp }) setup.basis new.basis cells.xiterlim (ways setup.engine) (ways new.engine) gain finding →
+      PathFinds (record { problem = problem; lp = lp }) setup.basis new.basis cells.xiterlim
+      (ways setup.engine) (ways new.engine) gain finding →
       Finds problem cells setup new gain finding
 
 -- a refusal is found, or there is no memory
@@ -98,17 +111,21 @@ refused_finding NoMemory = Err halt.NoMemory
 module _ (sheet : Sheet) (s : Basis) (before : List Basics) where
   -- for every list of bases that ends with s, in which the waypoints lay before, SOLUTION may stop with this evidence
   abbrev pub LinesOverflow : Evidence → Option Place → Type 0
-  LinesOverflow e place = (earlier : List Basis) → LieIn sheet.lp.matrix before (earlier ++ s ∷ []) →
+  LinesOverflow e place = (earlier : List Basis) →
+      LieIn sheet.lp.matrix before (earlier ++ s ∷ []) →
       IsEvidence (SolutionStatement sheet.lp) None 0 (earlier ++ s ∷ []) [] e place
 
   -- its lines are printed with the mark; or an operation is refused
   pub data LinesFound (mark : Mark) : Gain → Finding → Type 0 where
-    shown : {lines : SolutionLines} → IsShown sheet s lines → LinesFound mark (Prints (Solution mark lines)) Shown
-    overflows : {e : Evidence} {place : Option OwnPlace} → LinesOverflow e (option_map place_shown place) → LinesFound mark Nothing (Overflow e place)
+    shown : {lines : SolutionLines} → IsShown sheet s lines →
+        LinesFound mark (Prints (Solution mark lines)) Shown
+    overflows : {e : Evidence} {place : Option OwnPlace} →
+        LinesOverflow e (option_map place_shown place) → LinesFound mark Nothing (Overflow e place)
 
 -- those of a setup's present basis, in the linear program that it keeps
 abbrev pub Shows : Problem ℕ → Setup → Mark → Gain → Finding → Type 0
-Shows problem setup mark = LinesFound (record { problem = problem; lp = setup.lp }) setup.basis (ways setup.engine) mark
+Shows problem setup mark = LinesFound (record { problem = problem; lp = setup.lp }) setup.basis
+    (ways setup.engine) mark
 
 -- ---- with what is printed
 

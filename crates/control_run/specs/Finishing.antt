@@ -22,4 +22,5 @@ pub data Finishes {P : Type 0} (written : P → Option (List ℕ)) (faults refus
 
 -- The job is read before its program runs: no read fails in a run.
 abbrev pub failures_in_run : (print punch memory : Type 0) → Failures
-failures_in_run print punch memory = record { read = ⊥; print = print; punch = punch; memory = memory }
+failures_in_run print punch memory =
+    record { read = ⊥; print = print; punch = punch; memory = memory }

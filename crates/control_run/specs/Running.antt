@@ -45,11 +45,13 @@ module _ (S : Solving) (program : Program) (cards : List (List ℕ)) where
   -- What a run may be answered: the status of an end, with the whole listing; or the print has failed, or wanted memory itself, and
   -- has gained a front of a listing.
   pub data IsRunAnswer (failed wanted : Type 0) (status : ℕ) (old new : Option (List ℕ)) : Type 0 where
-    whole : {reports : List Report} {ending : Ending} → CanEnd reports ending → status ≡ status_of ending →
-        Appends old new (listing reports ending) → IsRunAnswer failed wanted status old new
-    print_fails : {reports : List Report} {ending : Ending} → failed → CanEnd reports ending → status ≡ status_of PrintFault →
+    whole : {reports : List Report} {ending : Ending} → CanEnd reports ending →
+        status ≡ status_of ending → Appends old new (listing reports ending) → IsRunAnswer failed wanted status old new
+    print_fails : {reports : List Report} {ending : Ending} → failed → CanEnd reports ending →
+        status ≡ status_of PrintFault →
         AppendsFront old new (listing reports ending) → IsRunAnswer failed wanted status old new
-    print_wants_memory : {reports : List Report} {ending : Ending} → wanted → CanEnd reports ending → status ≡ status_of Memory →
+    print_wants_memory : {reports : List Report} {ending : Ending} → wanted →
+        CanEnd reports ending → status ≡ status_of Memory →
         AppendsFront old new (listing reports ending) → IsRunAnswer failed wanted status old new
 
   module _ {P : Type 0} (written : P → Option (List ℕ)) (faults refusals : P → ℕ) (print_old print_new : P) where

@@ -40,7 +40,8 @@ pub record IsReady (file : Filed) (setup : Setup) : Type 0 where
 
 -- the present cells select the linear program that the setup keeps
 abbrev pub IsSelected : Cells → Filed → Setup → Type 0
-IsSelected cells file setup = (problem : Problem ℕ) → filed_under setup.name file ≡ Some problem → selected problem (choice_of cells setup.options) ≡ Ok setup.lp
+IsSelected cells file setup = (problem : Problem ℕ) → filed_under setup.name file ≡ Some problem →
+    selected problem (choice_of cells setup.options) ≡ Ok setup.lp
 
 -- the next deck begins with a card of the job, or after the last; and while the mark stands, the setup keeps what PRIMAL solved
 pub record IsSound (cards : List (List ℕ)) (machine : Machine) : Type 0 where
@@ -48,7 +49,8 @@ pub record IsSound (cards : List (List ℕ)) (machine : Machine) : Type 0 where
   pub last : machine.decks_from ≤ length cards + 1
   pub demands : AreDemands machine.cells
   pub ready : IfSome machine.setup (IsReady machine.file)
-  pub solved : IfSome machine.mark (λ mark. IfSome machine.setup (IsSelected machine.cells machine.file))
+  pub solved : IfSome machine.mark
+      (λ mark. IfSome machine.setup (IsSelected machine.cells machine.file))
 
 -- ---- the state that a machine shows
 
@@ -68,7 +70,8 @@ pub record IsPresent (file : Filed) (setup : Setup) (shown : Option Present) : T
   pub on_file : filed_under setup.name file ≡ Some problem
   pub opening : Basis
   pub steps : List Basis
-  pub is_shown : shown ≡ Some (record { problem = problem; options = setup.options; opening = opening; steps = steps })
+  pub is_shown :
+      shown ≡ Some (record { problem = problem; options = setup.options; opening = opening; steps = steps })
   pub reached : last_of opening steps ≡ setup.basis
   pub lie : LieIn (matrix_of problem) (ways setup.engine) (opening ∷ steps)
 

@@ -21,11 +21,17 @@ pub enum End {
     /// With an unbounded verdict, where no demand is set for it.
     Unbounded,
     /// The statement of this card is refused.
-    Verb { fault: VerbFault, card: u32 },
+    Verb {
+        fault: VerbFault,
+        card: u32,
+    },
     /// A card of a deck is refused.
     Deck(DeckFault),
     /// The statement of this card has made as many steps as the limit allows.
-    Limit { limit: u32, card: u32 },
+    Limit {
+        limit: u32,
+        card: u32,
+    },
     /// The run has made as many statements as it may.
     Statements,
     /// An operation is refused in the statement of this card. A range sum has no place.

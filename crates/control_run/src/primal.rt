@@ -63,9 +63,12 @@ fn print_verdict<P: Sink>(
     print: &mut P,
 ) -> Result<Finding, Halt>
     requires { IsOutcome sheet report.now.outcome }
-    ensures { (s reached : answers.Basis) (limit : ℕ) (before after : List Basics) (bases : List answers.Basis) →
-        PathReaches (sheet_shown sheet.entry) s reached limit before after bases (verdict_shown sheet.entry report.now.outcome) (check_shown report.now.refused) →
-        Tells (PathFinds (sheet_shown sheet.entry) s reached limit before after) P.written P.faults P.refusals print.old print.new result }
+    ensures { (s reached : answers.Basis) (limit : ℕ) (before after : List Basics)
+        (bases : List answers.Basis) →
+        PathReaches (sheet_shown sheet.entry) s reached limit before after bases
+        (verdict_shown sheet.entry report.now.outcome) (check_shown report.now.refused) →
+        Tells (PathFinds (sheet_shown sheet.entry) s reached limit before after) P.written P.faults
+        P.refusals print.old print.new result }
 {
     let verdict = Report::Solved {
         by: Solver::Primal,
@@ -90,7 +93,8 @@ fn follow<P: Sink, R: Rates>(
     requires lawful { IsLinearProgram sheet.lp.now }
     requires no_change { sheet.lp.now.change ≡ None }
     requires rates { HasRates (R.matrix rates.old) (R.basics rates.old) sheet.lp.now basis.old }
-    ensures tells { Tells (PathFinds (sheet_shown sheet.entry) basis.old basis.new limit (R.waypoints rates.old) (R.waypoints rates.new))
+    ensures tells { Tells (PathFinds (sheet_shown sheet.entry) basis.old basis.new limit
+        (R.waypoints rates.old) (R.waypoints rates.new))
         P.written P.faults P.refusals print.old print.new result }
     ensures rates { HasRates (R.matrix rates.new) (R.basics rates.new) sheet.entry.lp.now basis.new }
 {
@@ -114,10 +118,13 @@ fn find<P: Sink>(
 ) -> Result<Finding, Halt>
     requires { IsReady file.now setup.old }
     ensures tells { (problem : Problem ℕ) → filed_under setup.old.name file.now ≡ Some problem →
-        Tells (Finds problem cells.now setup.old setup.new) P.written P.faults P.refusals print.old print.new result }
+        Tells (Finds problem cells.now setup.old setup.new) P.written P.faults P.refusals print.old
+        print.new result }
     ensures ready { IsReady file.now setup.new }
-    ensures solved { IfOk result (λ finding. IfEnded finding (IsSelected cells.now file.now setup.new)) }
-    ensures kept { IsSelected cells.now file.now setup.old → IsSelected cells.now file.now setup.new }
+    ensures solved { IfOk result
+        (λ finding. IfEnded finding (IsSelected cells.now file.now setup.new)) }
+    ensures kept { IsSelected cells.now file.now setup.old →
+        IsSelected cells.now file.now setup.new }
 {
     let Some(problem) = file.get(&setup.name) else {
         return Ok(Finding::Refused(VerbFault::NoSetup));
@@ -152,8 +159,11 @@ pub fn solve<P: Sink>(
 ) -> Result<Act, Halt>
     requires demands { AreDemands machine.old.cells }
     requires ready { IfSome machine.old.setup (IsReady machine.old.file) }
-    ensures acts { (cards : List (List ℕ)) → Executes stage program.Primal card P.written P.faults P.refusals print.old print.new cards machine.old machine.new result }
-    ensures sound { (cards : List (List ℕ)) → IsSound cards machine.old → IsSound cards machine.new }
+    ensures acts { (cards : List (List ℕ)) →
+        Executes stage program.Primal card P.written P.faults P.refusals print.old print.new cards
+        machine.old machine.new result }
+    ensures sound { (cards : List (List ℕ)) → IsSound cards machine.old →
+        IsSound cards machine.new }
 {
     let Some(setup) = &mut machine.setup else {
         return Refusal::Fault(VerbFault::NoSetup).act(card);

@@ -73,9 +73,12 @@ fn run<P: Sink>(
 
 // Runs a program to its end, and prints that end too.
 fn run_to_end<P: Sink>(alloc: Global, program: &Program, cards: &Cards, print: &mut P) -> Status
-    ensures answer { IsRunAnswer stage program.now cards.now (Rose (P.faults print.old) (P.faults print.new)) (Rose (P.refusals print.old) (P.refusals print.new))
+    ensures answer { IsRunAnswer stage program.now cards.now
+        (Rose (P.faults print.old) (P.faults print.new))
+        (Rose (P.refusals print.old) (P.refusals print.new))
         (code_of result) (P.written print.old) (P.written print.new) }
-    ensures print_fault { result ≡ Status.PrintFault → Rose (P.faults print.old) (P.faults print.new) }
+    ensures print_fault { result ≡ Status.PrintFault →
+        Rose (P.faults print.old) (P.faults print.new) }
     ensures own { IsStatusOfRun result }
 {
     match run(alloc, program, cards, print) {
@@ -96,14 +99,21 @@ pub fn run_program<P: Sink, U: Sink>(
     punch: &mut U,
 ) -> Status
     // for any program and any cards
-    ensures run { IsRunAnswer stage program.now cards.now (Rose (P.faults print.old) (P.faults print.new)) (Rose (P.refusals print.old) (P.refusals print.new))
+    ensures run { IsRunAnswer stage program.now cards.now
+        (Rose (P.faults print.old) (P.faults print.new))
+        (Rose (P.refusals print.old) (P.refusals print.new))
         (code_of result) (P.written print.old) (P.written print.new) }
     // for those of a job
-    ensures answer { (job : Job) (bytes : List ℕ) → bytes_of job ≡ Some bytes → IsProgramOf bytes program.now → cards.now ≡ cards_of bytes →
+    ensures answer { (job : Job) (bytes : List ℕ) → bytes_of job ≡ Some bytes →
+        IsProgramOf bytes program.now → cards.now ≡ cards_of bytes →
         IsAnswered stage job
-        (failures_in_run (Rose (P.faults print.old) (P.faults print.new)) (Rose (U.faults punch.old) (U.faults punch.new)) (Rose (P.refusals print.old) (P.refusals print.new)))
-        (code_of result) (Appends (P.written print.old) (P.written print.new)) (Appends (U.written punch.old) (U.written punch.new)) }
-    ensures print_fault { result ≡ Status.PrintFault → Rose (P.faults print.old) (P.faults print.new) }
+        (failures_in_run (Rose (P.faults print.old) (P.faults print.new))
+        (Rose (U.faults punch.old) (U.faults punch.new))
+        (Rose (P.refusals print.old) (P.refusals print.new)))
+        (code_of result) (Appends (P.written print.old) (P.written print.new))
+        (Appends (U.written punch.old) (U.written punch.new)) }
+    ensures print_fault { result ≡ Status.PrintFault →
+        Rose (P.faults print.old) (P.faults print.new) }
     ensures own { IsStatusOfRun result }
     ensures punch { punch.new ≡ punch.old }
 {

@@ -79,7 +79,8 @@ pub fn select_present(
     cells: &Cells,
     options: SetupChoice,
 ) -> Result<Lp, Refusal>
-    ensures selected { IfOk result (λ lp. selected problem.now (choice_of cells.now options) ≡ Ok lp) }
+    ensures selected { IfOk result
+        (λ lp. selected problem.now (choice_of cells.now options) ≡ Ok lp) }
     ensures refused { IfErr result (IsUnselected problem.now (choice_of cells.now options)) }
 {
     let choice = present_choice(cells, options);

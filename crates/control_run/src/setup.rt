@@ -93,8 +93,11 @@ pub fn set_up<P: Sink>(
     card: u32,
     options: &SetupOptions,
 ) -> Result<Act, Halt>
-    ensures acts { (cards : List (List ℕ)) → Executes stage (program.Setup (options_shown options.now)) card P.written P.faults P.refusals print.old print.new cards machine.old machine.new result }
-    ensures sound { (cards : List (List ℕ)) → IsSound cards machine.old → IsSound cards machine.new }
+    ensures acts { (cards : List (List ℕ)) →
+        Executes stage (program.Setup (options_shown options.now)) card P.written P.faults
+        P.refusals print.old print.new cards machine.old machine.new result }
+    ensures sound { (cards : List (List ℕ)) → IsSound cards machine.old →
+        IsSound cards machine.new }
 {
     let chosen = choice_of(options);
     let opened = match open(alloc, &machine.cells, &machine.file, chosen) {

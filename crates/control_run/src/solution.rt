@@ -39,8 +39,12 @@ fn print_lines<P: Sink>(
     requires sheet { IsSheet sheet }
     requires no_change { sheet.lp.now.change ≡ None }
     requires listed { AreShown sheet.lp.now basis.now shown.now }
-    requires shown { IsShown (sheet_shown sheet) basis.now (solution_lines sheet.problem.now sheet.lp.now basis.now shown.now.point shown.now.prices shown.now.slack.items) }
-    ensures { (before : List Basics) → Tells (LinesFound (sheet_shown sheet.entry) basis.now before mark) P.written P.faults P.refusals print.old print.new result }
+    requires shown { IsShown (sheet_shown sheet) basis.now
+        (solution_lines sheet.problem.now sheet.lp.now basis.now shown.now.point shown.now.prices
+        shown.now.slack.items) }
+    ensures { (before : List Basics) →
+        Tells (LinesFound (sheet_shown sheet.entry) basis.now before mark) P.written P.faults
+        P.refusals print.old print.new result }
 {
     let report = Report::Solution {
         mark,
@@ -66,9 +70,11 @@ fn show_basis<P: Sink, R: Rates>(
     requires sheet { IsSheet sheet }
     requires no_change { sheet.lp.now.change ≡ None }
     requires rates { HasRates (R.matrix rates.old) (R.basics rates.old) sheet.lp.now basis.now }
-    ensures tells { Tells (LinesFound (sheet_shown sheet.entry) basis.now (R.waypoints rates.old) mark) P.written P.faults P.refusals print.old print.new result }
+    ensures tells { Tells (LinesFound (sheet_shown sheet.entry) basis.now (R.waypoints rates.old) mark)
+        P.written P.faults P.refusals print.old print.new result }
     ensures rates { HasRates (R.matrix rates.new) (R.basics rates.new) sheet.entry.lp.now basis.now }
-    ensures waypoints { KeepsWaypoints sheet.entry.lp.now.matrix (basics_of basis.now) (R.waypoints rates.old) (basics_of basis.now) (R.waypoints rates.new) }
+    ensures waypoints { KeepsWaypoints sheet.entry.lp.now.matrix (basics_of basis.now)
+        (R.waypoints rates.old) (basics_of basis.now) (R.waypoints rates.new) }
 {
     match solution_of(alloc, sheet, basis, rates) {
         Ok(shown) => print_lines(sheet, basis, mark, &shown, print),
@@ -87,13 +93,15 @@ fn show_setup<P: Sink>(
 ) -> Result<Finding, Halt>
     requires { IsReady file.now setup.old }
     ensures tells { (problem : Problem ℕ) → filed_under setup.old.name file.now ≡ Some problem →
-        Tells (Shows problem setup.old mark) P.written P.faults P.refusals print.old print.new result }
+        Tells (Shows problem setup.old mark) P.written P.faults P.refusals print.old print.new
+        result }
     ensures ready { IsReady file.now setup.new }
     ensures name { setup.new.name ≡ setup.old.name }
     ensures options { setup.new.options ≡ setup.old.options }
     ensures lp { setup.new.lp ≡ setup.old.lp }
     ensures basis { setup.new.basis ≡ setup.old.basis }
-    ensures waypoints { KeepsWaypoints setup.old.lp.matrix (basics_of setup.old.basis) (ways setup.old.engine) (basics_of setup.old.basis) (ways setup.new.engine) }
+    ensures waypoints { KeepsWaypoints setup.old.lp.matrix (basics_of setup.old.basis)
+        (ways setup.old.engine) (basics_of setup.old.basis) (ways setup.new.engine) }
 {
     let Some(problem) = file.get(&setup.name) else {
         return Ok(Finding::Refused(VerbFault::NoSetup));
@@ -114,9 +122,13 @@ pub fn show_solution<P: Sink>(
     card: u32,
 ) -> Result<Act, Halt>
     requires ready { IfSome machine.old.setup (IsReady machine.old.file) }
-    requires solved { IfSome machine.old.mark (λ mark. IfSome machine.old.setup (IsSelected machine.old.cells machine.old.file)) }
-    ensures acts { (cards : List (List ℕ)) → Executes stage program.Solution card P.written P.faults P.refusals print.old print.new cards machine.old machine.new result }
-    ensures sound { (cards : List (List ℕ)) → IsSound cards machine.old → IsSound cards machine.new }
+    requires solved { IfSome machine.old.mark
+        (λ mark. IfSome machine.old.setup (IsSelected machine.old.cells machine.old.file)) }
+    ensures acts { (cards : List (List ℕ)) →
+        Executes stage program.Solution card P.written P.faults P.refusals print.old print.new cards
+        machine.old machine.new result }
+    ensures sound { (cards : List (List ℕ)) → IsSound cards machine.old →
+        IsSound cards machine.new }
 {
     let Some(setup) = &mut machine.setup else {
         return Refusal::Fault(VerbFault::NoSetup).act(card);

@@ -1,5 +1,5 @@
 use Rattle.run_definitions.specs.State.{choice_of}
-use Rattle.control_run.proofs.Selected.{unselected_by, rates_carry}
+use Rattle.control_run.proofs.Selected.{unselected_by}
 use Rattle.control_run.proofs.selecting.select_present.Goals as goal
 
 pub returns-in-Err-clause-refused : goal.returns-in-Err-clause-refused
