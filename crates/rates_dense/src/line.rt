@@ -1,6 +1,6 @@
 //! The lines of the table, and what an exchange makes of them.
 
-ghost use Rattle.std.specs.Prelude.{◌≡◌, ◌≢◌, ℕ, ◌<◌, ◌≤◌, ◌^◌, length, take, IfOk, IfErr, OnOk, OnErr};
+ghost use Rattle.std.specs.Prelude.{◌≡◌, ◌≢◌, ℕ, ◌<◌, ◌≤◌, ◌^◌, length, take, IfOk, IfErr, IfSome, OnOk, OnErr};
 ghost use Rattle.exact_values.specs.Rational.{ℚ, zero_ℚ, one_ℚ, ◌-ℚ◌, ◌*ℚ◌, ◌/ℚ◌};
 ghost use Rattle.lp_definitions.specs.LinearProgram.{value_at};
 ghost use Rattle.lp_definitions.specs.RatesEvidence.{Names};
@@ -16,6 +16,20 @@ pub struct Line {
     pub basic: u32,
     pub rates: Vec<Frac>,
     pub next: Vec<Frac>,
+}
+
+/// The product, which is the quotient too, where the factor is 1 or -1.
+fn by_unit(x: Frac, factor: Frac) -> Option<Frac>
+    ensures product { IfSome result (λ product. product ≡ x *ℚ factor) }
+    ensures quotient { IfSome result (λ quotient. quotient ≡ x /ℚ factor) }
+{
+    if factor == Frac::whole(1) {
+        Some(x)
+    } else if factor == Frac::whole(-1) {
+        Some(x.neg())
+    } else {
+        None
+    }
 }
 
 /// An exchange of `p` for `q`, and the rate of `i` at `j` that it changes.
@@ -58,6 +72,9 @@ impl Cell {
         if rate.is_zero() {
             return Ok(rate);
         }
+        if let Some(quotient) = by_unit(rate, pivot) {
+            return Ok(quotient);
+        }
         rate.div(pivot).map_err(|refused| self.evidence(1, refused))
     }
 
@@ -76,6 +93,9 @@ impl Cell {
         ensures value { IfOk result (λ rate. rate ≡ quotient *ℚ factor) }
         ensures refused { IfErr result (IsRefusal 5 self.p self.q self.i self.j Op.Mul quotient factor) }
     {
+        if let Some(multiple) = by_unit(quotient, factor) {
+            return Ok(multiple);
+        }
         quotient
             .mul(factor)
             .map_err(|refused| self.evidence(5, refused))
@@ -86,6 +106,9 @@ impl Cell {
         ensures value { IfOk result (λ product. product ≡ quotient *ℚ factor) }
         ensures refused { IfErr result (IsRefusal 2 self.p self.q self.i self.j Op.Mul quotient factor) }
     {
+        if let Some(product) = by_unit(quotient, factor) {
+            return Ok(product);
+        }
         quotient
             .mul(factor)
             .map_err(|refused| self.evidence(2, refused))
