@@ -32,6 +32,17 @@ fn by_unit(x: Frac, factor: Frac) -> Option<Frac>
     }
 }
 
+/// A rate without its part along the enterer's direction, where the factor is 1 or -1 and nothing is refused.
+fn rest_by_unit(rate: Frac, quotient: Frac, factor: Frac) -> Option<Frac>
+    ensures { IfSome result (λ rest. rest ≡ rate -ℚ quotient *ℚ factor) }
+{
+    let product = by_unit(quotient, factor)?;
+    if rate.is_zero() {
+        return Some(product.neg());
+    }
+    rate.sub(product).ok()
+}
+
 /// An exchange of `p` for `q`, and the rate of `i` at `j` that it changes.
 #[derive(Clone, Copy)]
 struct Cell {
@@ -143,6 +154,9 @@ impl Cell {
         ensures value { IfOk result (λ rest. rest ≡ rate -ℚ quotient *ℚ factor) }
         ensures refused { IfErr result (IsDifferenceRefused self.p self.q self.i self.j rate quotient factor) }
     {
+        if let Some(rest) = rest_by_unit(rate, quotient, factor) {
+            return Ok(rest);
+        }
         match self.plain_rest(rate, quotient, factor) {
             Ok(rest) => Ok(rest),
             Err(evidence) => match rate.sub_product(quotient, factor) {
