@@ -1,11 +1,13 @@
 #!/usr/bin/env bash
 # Times the path of the simplex method over the dense table: on transportation problems of 20 and of 60 sources and as many
-# destinations, and on a table of the greatest size, 1,000 rows and 5,000 columns, whose path ends where it begins. Prints where each
-# path ends, the least processor time of five runs, in seconds, and the peak memory.
+# destinations, on a sparse problem of 300 rows and 350 columns, and on a table of the greatest size, 1,000 rows and 5,000 columns,
+# whose path ends where it begins. Prints where each path ends, the least processor time of five runs, in seconds, and the peak
+# memory. Then it prints how many of fifty problems of 15 rows and 30 columns, with numbers of two decimals, end without an overflow.
+# Usage: scripts/bench_path.sh [PROGRAM], a program that takes the word `path` or none.
 set -eu
 here=$(cd "$(dirname "$0")" && pwd)
-program=$here/../crates/primal_bench/out/primal_bench
-[ -x "$program" ] || (cd "$here/../crates/primal_bench" && rt run <stdin >/dev/null)
+program=${1:-$here/../crates/bench/out/bench}
+[ -x "$program" ] || (cd "$here/../crates/bench" && rt run <stdin >/dev/null)
 deck=$(mktemp)
 trap 'rm -f "$deck"' EXIT
 
@@ -28,6 +30,63 @@ transport() {
     }'
 }
 
+# 100 rows that hold every column down, 199 rows of three kinds at a point that satisfies them all, and the objective. A column has
+# an entry of 1 to 3 in one of the first rows, and two of 1 or -1 in the others.
+sparse() {
+    awk -v seed=3 '
+        function below(n) { seed = (seed * 16807) % 2147483647; return seed % n }
+        BEGIN {
+            rows = 299; capacities = 100
+            print "NAME          SPARSE\nROWS\n N  COST"
+            for (i = 1; i <= rows; i++) {
+                kind[i] = i <= capacities ? "L" : substr("LGE", below(3) + 1, 1)
+                printf " %s  R%03d\n", kind[i], i
+            }
+            print "COLUMNS"
+            for (j = 1; j <= 350; j++) {
+                value = below(3) ? 0 : below(10)
+                printf "    X%03d      COST      %d\n", j, below(20) - 12
+                for (t = 0; t < 3; t++) {
+                    i = t ? capacities + (first + t * t * 31) % (rows - capacities) + 1 : below(capacities) + 1
+                    if (!t) first = below(rows)
+                    number = t ? 2 * below(2) - 1 : 1 + below(3)
+                    printf "    X%03d      R%03d      %d\n", j, i, number
+                    sum[i] += number * value
+                }
+            }
+            print "RHS"
+            for (i = 1; i <= rows; i++)
+                printf "    RHS       R%03d      %d\n", i, sum[i] + (kind[i] == "L" ? below(5) : kind[i] == "G" ? -below(5) : 0)
+            print "ENDATA"
+        }'
+}
+
+# 15 rows, each of one of two kinds, at a point that satisfies them all; all numbers have two decimals.
+dense() {
+    awk -v seed="$1" '
+        function below(n) { seed = (seed * 16807) % 2147483647; return seed % n }
+        BEGIN {
+            seed = seed * 7919 + 17; below(2); below(2)
+            print "NAME          DENSE\nROWS\n N  COST"
+            for (i = 1; i <= 15; i++) { kind[i] = below(2) ? "L" : "G"; printf " %s  R%02d\n", kind[i], i }
+            print "COLUMNS"
+            for (j = 1; j <= 30; j++) {
+                value = below(1000)
+                printf "    X%02d       COST      %d.%02d\n", j, below(10), below(100)
+                for (i = 1; i <= 15; i++) {
+                    below(100)
+                    number = below(1999) - 999
+                    printf "    X%02d       R%02d       %.2f\n", j, i, number / 100
+                    sum[i] += number * value
+                }
+            }
+            print "RHS"
+            for (i = 1; i <= 15; i++)
+                printf "    RHS       R%02d       %.2f\n", i, int(sum[i] / 100) / 100 + (kind[i] == "L" ? 1 : -1) * below(500) / 100
+            print "ENDATA"
+        }'
+}
+
 greatest() {
     awk 'BEGIN {
         print "NAME          GREATEST\nROWS\n N  COST"
@@ -40,7 +99,15 @@ greatest() {
 
 for size in 20 60; do
     transport "$size" >"$deck"
-    python3 "$here/timed.py" "$deck" "$program"
+    python3 "$here/timed.py" "$deck" "$program" path
 done
+sparse >"$deck"
+python3 "$here/timed.py" "$deck" "$program" path
 greatest >"$deck"
-python3 "$here/timed.py" "$deck" "$program"
+python3 "$here/timed.py" "$deck" "$program" path
+ended=0
+for seed in $(seq 50); do
+    dense "$seed" >"$deck"
+    if ! "$program" path <"$deck" | grep -q OVERFLOW; then ended=$((ended + 1)); fi
+done
+echo "fifty problems with numbers of two decimals: $ended end without an overflow"

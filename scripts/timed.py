@@ -1,12 +1,12 @@
 """Runs a program five times on a job. Prints the last line of its listing, the least processor time and the peak memory.
-Usage: timed.py JOB PROGRAM"""
+Usage: timed.py JOB PROGRAM [WORD..]"""
 import resource, subprocess, sys
 
-job, program = sys.argv[1:]
+job, *program = sys.argv[1:]
 least, before = None, 0.0
 for _ in range(5):
     with open(job, "rb") as file:
-        ended = subprocess.run([program], stdin=file, stdout=subprocess.PIPE)
+        ended = subprocess.run(program, stdin=file, stdout=subprocess.PIPE)
     used = resource.getrusage(resource.RUSAGE_CHILDREN)
     spent = used.ru_utime + used.ru_stime
     least = spent - before if least is None else min(least, spent - before)

@@ -1,6 +1,6 @@
 //! The lines of the table, and what an exchange makes of them.
 
-ghost use Rattle.std.specs.Prelude.{◌≡◌, ◌≢◌, ℕ, ◌<◌, ◌≤◌, ◌^◌, length, take, IfOk, IfErr, OnOk, OnErr};
+ghost use Rattle.std.specs.Prelude.{◌≡◌, ◌≢◌, ℕ, ◌<◌, ◌≤◌, ◌^◌, length, take, IfOk, IfErr, IfSome, OnOk, OnErr};
 ghost use Rattle.exact_values.specs.Rational.{ℚ, zero_ℚ, one_ℚ, ◌-ℚ◌, ◌*ℚ◌, ◌/ℚ◌};
 ghost use Rattle.lp_definitions.specs.LinearProgram.{value_at};
 ghost use Rattle.lp_definitions.specs.RatesEvidence.{Names};
@@ -16,6 +16,31 @@ pub struct Line {
     pub basic: u32,
     pub rates: Vec<Frac>,
     pub next: Vec<Frac>,
+}
+
+/// The product, which is the quotient too, where the factor is 1 or -1.
+fn by_unit(x: Frac, factor: Frac) -> Option<Frac>
+    ensures product { IfSome result (λ product. product ≡ x *ℚ factor) }
+    ensures quotient { IfSome result (λ quotient. quotient ≡ x /ℚ factor) }
+{
+    if factor == Frac::whole(1) {
+        Some(x)
+    } else if factor == Frac::whole(-1) {
+        Some(x.neg())
+    } else {
+        None
+    }
+}
+
+/// A rate without its part along the enterer's direction, where the factor is 1 or -1 and nothing is refused.
+fn rest_by_unit(rate: Frac, quotient: Frac, factor: Frac) -> Option<Frac>
+    ensures { IfSome result (λ rest. rest ≡ rate -ℚ quotient *ℚ factor) }
+{
+    let product = by_unit(quotient, factor)?;
+    if rate.is_zero() {
+        return Some(product.neg());
+    }
+    rate.sub(product).ok()
 }
 
 /// An exchange of `p` for `q`, and the rate of `i` at `j` that it changes.
@@ -58,6 +83,9 @@ impl Cell {
         if rate.is_zero() {
             return Ok(rate);
         }
+        if let Some(quotient) = by_unit(rate, pivot) {
+            return Ok(quotient);
+        }
         rate.div(pivot).map_err(|refused| self.evidence(1, refused))
     }
 
@@ -76,6 +104,9 @@ impl Cell {
         ensures value { IfOk result (λ rate. rate ≡ quotient *ℚ factor) }
         ensures refused { IfErr result (IsRefusal 5 self.p self.q self.i self.j Op.Mul quotient factor) }
     {
+        if let Some(multiple) = by_unit(quotient, factor) {
+            return Ok(multiple);
+        }
         quotient
             .mul(factor)
             .map_err(|refused| self.evidence(5, refused))
@@ -86,6 +117,9 @@ impl Cell {
         ensures value { IfOk result (λ product. product ≡ quotient *ℚ factor) }
         ensures refused { IfErr result (IsRefusal 2 self.p self.q self.i self.j Op.Mul quotient factor) }
     {
+        if let Some(product) = by_unit(quotient, factor) {
+            return Ok(product);
+        }
         quotient
             .mul(factor)
             .map_err(|refused| self.evidence(2, refused))
@@ -120,6 +154,9 @@ impl Cell {
         ensures value { IfOk result (λ rest. rest ≡ rate -ℚ quotient *ℚ factor) }
         ensures refused { IfErr result (IsDifferenceRefused self.p self.q self.i self.j rate quotient factor) }
     {
+        if let Some(rest) = rest_by_unit(rate, quotient, factor) {
+            return Ok(rest);
+        }
         match self.plain_rest(rate, quotient, factor) {
             Ok(rest) => Ok(rest),
             Err(evidence) => match rate.sub_product(quotient, factor) {
