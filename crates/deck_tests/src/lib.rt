@@ -1,4 +1,4 @@
-//! Worked cards, names, numbers, decks, control programs and lines of a listing. Nothing but tests.
+//! Worked cards, names, numbers, decks and control programs. Nothing but tests.
 #![tactic(auto)]
 
 #[cfg(test)]
@@ -11,8 +11,6 @@ mod faults;
 mod files;
 #[cfg(test)]
 mod limits;
-#[cfg(test)]
-mod listings;
 #[cfg(test)]
 mod memory;
 #[cfg(test)]

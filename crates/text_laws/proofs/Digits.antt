@@ -10,7 +10,7 @@ use Rattle.exact_values.proofs.Fractions.{same_parts}
 use Rattle.card_definitions.specs.Numbers.{is_digit}
 use Rattle.listing_definitions.specs.Numbers.{digits_within, digits, integer_text, rational_text}
 use Rattle.listing_definitions.proofs.Decimals.{digits_within_is}
-use Rattle.text_laws.proofs.Cutting.{both, weaker, heads, cut, none_within}
+use Rattle.text_laws.proofs.Cutting.{weaker, heads, cut, none_within}
 
 glyph_is_digit : (k : ℕ) → k < 10 → is_digit (48 + k) ≡ true
 glyph_is_digit k small = grind (arith, nat_tests)

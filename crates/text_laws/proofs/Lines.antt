@@ -1,17 +1,16 @@
 -- What the texts of table lines and of tables tell.
-use Rattle.std.proofs.Common.{◌≡◌, ℕ, zero, suc, ◌-◌, Bool, true, false, not, ◌||◌, ◌==◌, List, [], ◌∷◌, ◌++◌, codes, replicate, length, All, refl, ap, ap₂, sym, ◌∙◌, arith, append_assoc}
+use Rattle.std.proofs.Common.{◌≡◌, ℕ, zero, suc, ◌-◌, Bool, true, false, not, ◌||◌, ◌==◌, List, [], ◌∷◌, ◌++◌, replicate, length, All, refl, ap, ap₂, sym, ◌∙◌, arith, append_assoc}
 use Rattle.std.specs.List.{list_all, list_any}
 use Rattle.std.proofs.lemmas.List.{append-nil}
 use Rattle.std.proofs.lemmas.Bool.Decides.{nat_tests}
 use Rattle.card_definitions.specs.Words.{padded}
 use Rattle.card_definitions.specs.Numbers.{is_digit}
-use Rattle.problem_definitions.specs.Names.{Name}
 use Rattle.problem_definitions.specs.Valid.{IsName}
 use Rattle.name_table.specs.Places.{text_in}
 use Rattle.name_table.specs.Places_laws.{length-padded, name_in_places}
 use Rattle.listing_definitions.specs.Numbers.{digits}
-use Rattle.listing_definitions.specs.Report.{Value, Line}
-use Rattle.listing_definitions.specs.Text.{number5, name8, values_text, line_text, table_text}
+use Rattle.listing_definitions.specs.Report.{Line}
+use Rattle.listing_definitions.specs.Text.{name8, values_text, line_text, table_text}
 use Rattle.text_laws.specs.Told.{begins_line}
 use Rattle.text_laws.proofs.Cutting.{both, weaker, heads, cut, same_front}
 use Rattle.text_laws.proofs.Digits.{digits_are, digit_there, digits_tell}

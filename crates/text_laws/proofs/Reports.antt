@@ -1,18 +1,15 @@
 -- What the texts of reports tell.
-use Rattle.std.proofs.Common.{◌≡◌, ℕ, suc, ◌+◌, ◌<◌, Bool, true, false, List, [], ◌∷◌, ◌++◌, codes, take, All, refl, ap, ap₂, sym, ◌∙◌, arith}
-use Rattle.std.specs.Prelude.{bytes_eq}
-use Rattle.std.specs.List.{concat, flat_map, enumerate_from}
+use Rattle.std.proofs.Common.{◌≡◌, ℕ, suc, ◌+◌, false, List, [], ◌∷◌, ◌++◌, codes, take, All, refl, ap, ap₂, sym, ◌∙◌, arith}
+use Rattle.std.specs.List.{flat_map, enumerate_from}
 use Rattle.std.proofs.lemmas.List.{append_cancel_left, append_cancel_right, append-nil, append_assoc}
 use Rattle.exact_values.specs.Rational.{ℚ}
-use Rattle.lp_definitions.specs.declared.Sense.{Sense}
-use Rattle.problem_definitions.specs.Names.{Name}
 use Rattle.problem_definitions.specs.Valid.{IsName}
 use Rattle.listing_definitions.specs.declared.Mark.{Mark}
 use Rattle.listing_definitions.specs.declared.Solver.{Solver}
 use Rattle.listing_definitions.specs.declared.Solver.TheVariants.{Primal, Paraobj, Pararhs}
 use Rattle.listing_definitions.specs.Numbers.{digits, rational_text}
 use Rattle.listing_definitions.specs.Report.{Line, Filed, Verdict, OptimalAt, CrossedAt, InfeasibleBy, UnboundedBy, Check, SolutionLines, RangeLines, Interval, ChainEnd, EndsAt, UnboundedPast, InfeasiblePast, Chain, Report, Titled, Converted, Revised, SetUp, Punched, Solved, Solution, Ranges, Parametric}
-use Rattle.listing_definitions.specs.Text.{name8, table_text, check_text, solver_text, verdict_head, verdict_lines, filed_text, interval_text, chain_end_text, solution_text, ranges_text, report_text}
+use Rattle.listing_definitions.specs.Text.{name8, table_text, check_text, solver_text, verdict_head, verdict_lines, interval_text, chain_end_text, solution_text, ranges_text, report_text}
 use Rattle.text_laws.specs.Told.{begins_line, AreNamed, IsEndNamed, IsNamed}
 use Rattle.text_laws.proofs.Cutting.{differ}
 use Rattle.text_laws.proofs.Lines.{name_tells, table_tells}
@@ -114,7 +111,7 @@ solution_tells m n x y x_named y_named e =
     let second = codes "SECTION 2 - COLUMNS\nNUMBER COLUMN AT ACTIVITY COST LOWER UPPER REDUCED\n" in
     let mark = mark_then m n _ _ (append_cancel_left (codes "SOLUTION ") _ _ e) in
     let rows = table_tells x.rows y.rows (second ++ (table_text x.columns ++ [])) (second ++ (table_text y.columns ++ [])) x_named.0 y_named.0 refl refl
-        (append_cancel_left (codes "SECTION 1 - ROWS\nNUMBER ROW AT ACTIVITY SLACK LOWER UPPER DUAL\n") _ _ mark.1) in
+    (append_cancel_left (codes "SECTION 1 - ROWS\nNUMBER ROW AT ACTIVITY SLACK LOWER UPPER DUAL\n") _ _ mark.1) in
     let columns = last_table x.columns y.columns x_named.1 y_named.1 (append_cancel_left second _ _ rows.1) in
     (mark.0, same_solution x y rows.0 columns)
 
@@ -127,15 +124,15 @@ ranges_tell x y x_named y_named e =
     let third = codes "SECTION 3 - ROWS AT INTERMEDIATE LEVEL\n" in
     let fourth = codes "SECTION 4 - COLUMNS AT INTERMEDIATE LEVEL\n" in
     let a = table_tells x.rows_at_limit y.rows_at_limit
-        (second ++ (table_text x.columns_at_limit ++ (third ++ (table_text x.rows_between ++ (fourth ++ (table_text x.columns_between ++ []))))))
-        (second ++ (table_text y.columns_at_limit ++ (third ++ (table_text y.rows_between ++ (fourth ++ (table_text y.columns_between ++ []))))))
-        x_named.0 y_named.0 refl refl (append_cancel_left (codes "RANGE\nSECTION 1 - ROWS AT LIMIT LEVEL\n") _ _ e) in
+    (second ++ (table_text x.columns_at_limit ++ (third ++ (table_text x.rows_between ++ (fourth ++ (table_text x.columns_between ++ []))))))
+    (second ++ (table_text y.columns_at_limit ++ (third ++ (table_text y.rows_between ++ (fourth ++ (table_text y.columns_between ++ []))))))
+    x_named.0 y_named.0 refl refl (append_cancel_left (codes "RANGE\nSECTION 1 - ROWS AT LIMIT LEVEL\n") _ _ e) in
     let b = table_tells x.columns_at_limit y.columns_at_limit
-        (third ++ (table_text x.rows_between ++ (fourth ++ (table_text x.columns_between ++ []))))
-        (third ++ (table_text y.rows_between ++ (fourth ++ (table_text y.columns_between ++ []))))
-        x_named.1 y_named.1 refl refl (append_cancel_left second _ _ a.1) in
+    (third ++ (table_text x.rows_between ++ (fourth ++ (table_text x.columns_between ++ []))))
+    (third ++ (table_text y.rows_between ++ (fourth ++ (table_text y.columns_between ++ []))))
+    x_named.1 y_named.1 refl refl (append_cancel_left second _ _ a.1) in
     let c = table_tells x.rows_between y.rows_between (fourth ++ (table_text x.columns_between ++ [])) (fourth ++ (table_text y.columns_between ++ []))
-        x_named.2 y_named.2 refl refl (append_cancel_left third _ _ b.1) in
+    x_named.2 y_named.2 refl refl (append_cancel_left third _ _ b.1) in
     let d = last_table x.columns_between y.columns_between x_named.3 y_named.3 (append_cancel_left fourth _ _ c.1) in
     same_ranges x y a.0 b.0 c.0 d
 
@@ -221,7 +218,7 @@ module _ (solver : Solver) where
       let behind = run_text (k + 1) xs a in
       let other = run_text (k + 1) ys b in
       let whole = sym (interval_parts k x behind) ∙ sym (append_assoc (interval_text (k, x)) (flat_map interval_text (enumerate_from (k + 1) xs)) (chain_end_text solver a ++ []))
-          ∙ e ∙ append_assoc (interval_text (k, y)) (flat_map interval_text (enumerate_from (k + 1) ys)) (chain_end_text solver b ++ []) ∙ interval_parts k y other in
+      ∙ e ∙ append_assoc (interval_text (k, y)) (flat_map interval_text (enumerate_from (k + 1) ys)) (chain_end_text solver b ++ []) ∙ interval_parts k y other in
       let number = number_then (codes " FROM ") k k _ _ refl (append_cancel_left (codes "INTERVAL ") _ _ whole) in
       let first = rational_then (codes " TO ") x.from y.from _ _ refl number.1 in
       let last = rational_then (codes "\n") x.to y.to _ _ refl first.1 in
