@@ -1,7 +1,10 @@
 """Runs a program five times on a job. Prints the last line of its listing, the least processor time and the peak memory.
-Usage: timed.py JOB PROGRAM"""
+usage: timed.py JOB PROGRAM"""
 import resource, subprocess, sys
 
+if len(sys.argv) != 3:
+    print(__doc__)
+    sys.exit(0 if sys.argv[1:] in (["-h"], ["--help"]) else 64)
 job, program = sys.argv[1:]
 least, before = None, 0.0
 for _ in range(5):
