@@ -1,18 +1,19 @@
 #!/bin/bash
-# Times the operations of frac128: nanoseconds for one, over each table of crates/frac_bench, the least of five runs.
+# Times the operations of frac128: nanoseconds for one, over each table of crates/bench, and for u - x*y at parts of 62 and of
+# 120 bits where the plain operations are refused, the least of five runs.
 # Usage: scripts/bench.sh [TURNS [PROGRAM]], where a turn is 64 operations.
 set -eu
 turns=${1:-20000}
-cd "$(dirname "$0")/../crates/frac_bench"
-program=${2:-./out/frac_bench}
-[ -x "$program" ] || rt run >/dev/null
+cd "$(dirname "$0")/../crates/bench"
+program=${2:-./out/bench}
+[ -x "$program" ] || rt run <stdin >/dev/null
 
 # the least processor time of five runs, in milliseconds
 least() {
     local least= spent
     local TIMEFORMAT=%3U
     for _ in 1 2 3 4 5; do
-        spent=$({ time "$program" "$1" "$2" "$3" >/dev/null; } 2>&1 | tr -d .)
+        spent=$({ time "$program" fractions "$1" "$2" "$3" >/dev/null; } 2>&1 | tr -d .)
         spent=$((10#$spent))
         if [ -z "$least" ] || [ "$spent" -lt "$least" ]; then least=$spent; fi
     done
@@ -30,4 +31,9 @@ for table in whole short word related wide close; do
         printf '%9s' $(((busy - idle) * 1000000 / ((turns - 1) * 64)))
     done
     printf '\n'
+done
+for table in pivot widepivot; do
+    idle=$(least "$table" subproduct 1)
+    busy=$(least "$table" subproduct "$((turns / 10))")
+    printf '%-10s subproduct %d\n' "$table" $(((busy - idle) * 1000000 / ((turns / 10 - 1) * 64)))
 done

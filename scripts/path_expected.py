@@ -1,5 +1,5 @@
 #!/usr/bin/env python3
-"""What primal_bench prints of the transportation problem of N sources and N destinations, by Python's exact fractions: the bounded
+"""What `bench path` prints of the transportation problem of N sources and N destinations, by Python's exact fractions: the bounded
 simplex method with the least-index rule over a table, written apart from the program.
 Usage: path_expected.py N. It takes a second for 20 and half a minute for 60."""
 from fractions import Fraction

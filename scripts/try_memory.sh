@@ -10,7 +10,7 @@ case ${1:-} in
         exit 0
         ;;
 esac
-cd "$(dirname "$0")/../crates/convert_tests" || exit 1
+cd "$(dirname "$0")/../crates/deck_tests" || exit 1
 
 # What the conversion ends with where this allocation is refused.
 ending() {

@@ -19,6 +19,17 @@ use Rattle.bounded_primal.specs.declared.reach.Ahead.{Ahead}
 use Rattle.bounded_primal.specs.declared.reach.Reach.{Reach}
 use Rattle.bounded_primal.proofs.Nearest.{next_nearest}
 
+-- what rests has no limit ahead
+pub none_ahead : (p : LinearProgram) (k : ℕ) (v : ℚ) → v ≡ zero_ℚ → IsAhead p (λ _. v) k None
+none_ahead p k v e = subst (λ (x : ℚ). limit_ahead p (λ _. x) k ≡ None) (sym e) (rw at_rest refl)
+  where
+    by_test : (b : Bool) → lt_ℚ zero_ℚ zero_ℚ ≡ b → lt_ℚ zero_ℚ zero_ℚ ≡ false
+    by_test true is = absurd (lt_irrefl (lt_true zero_ℚ zero_ℚ is))
+    by_test false is = is
+
+    at_rest : lt_ℚ zero_ℚ zero_ℚ ≡ false
+    at_rest = by_test (lt_ℚ zero_ℚ zero_ℚ) refl
+
 pub ahead_up : (p : LinearProgram) (k : ℕ) (v l : ℚ) → lt_ℚ zero_ℚ v ≡ true → upper_of p k ≡ Some l → IsAhead p (λ _. v) k (Some (record { term = 2; limit = l }))
 ahead_up p k v l up is = (rw up is, is, omega arith, λ e. lt_irrefl (lt_true zero_ℚ zero_ℚ (subst (λ (x : ℚ). lt_ℚ zero_ℚ x ≡ true) e up)))
 

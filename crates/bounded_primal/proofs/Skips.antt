@@ -1,6 +1,7 @@
 -- What an operation gives that need not be made, and the walk of a search.
 use Rattle.std.proofs.Common.{◌≡◌, ◌≢◌, ℕ, ◌+◌, ◌-◌, ◌<◌, List, length, get_or, ◌≤◌, ◌⊎◌, inl, inr, Bool, true, false, sym, ◌∙◌, ap, arith}
-use Rattle.std.specs.Prelude.{eqb, Some, None}
+use Rattle.std.specs.Prelude.{eqb, Option, Some, None, IfSome}
+use Rattle.std.specs.Option.{SomeIff}
 use Rattle.std.proofs.lemmas.Bool.Decides.{eqb_tells}
 use Rattle.exact_values.specs.Rational.{ℚ, zero_ℚ, one_ℚ, neg_ℚ, ◌+ℚ◌, ◌-ℚ◌, ◌*ℚ◌, ◌/ℚ◌, inverse_ℚ}
 use Rattle.exact_values.proofs.Ring_laws.{zero-add, add-zero, zero-mul, mul-zero, one-mul, mul-one}
@@ -12,6 +13,14 @@ use Rattle.lp_definitions.specs.declared.Status.{Status}
 use Rattle.path_definitions.specs.Moves.{least, lowers, signed}
 use Rattle.path_laws.proofs.Searches.{least_is, least_none}
 use Rattle.bounded_primal.specs.Moves.{motion}
+
+-- a value that is had at all
+pub value_had : (o : Option ℚ) (P : Type 0) (v w : ℚ) → SomeIff o P v → v ≡ w → IfSome o (λ x. x ≡ w)
+value_had None P v w h e = tt
+value_had (Some x) P v w h e = h.1 ∙ e
+
+pub stays_put : (x y z : ℚ) → z ≡ zero_ℚ → x ≡ x +ℚ y *ℚ z
+stays_put x y z e = sym (ap (λ u. x +ℚ y *ℚ u) e ∙ ap (λ u. x +ℚ u) (mul-zero y) ∙ add-zero x)
 
 pub left_sum : (x y : ℚ) → x ≡ zero_ℚ → y ≡ x +ℚ y
 left_sum x y e = sym (ap (λ u. u +ℚ y) e ∙ zero-add y)

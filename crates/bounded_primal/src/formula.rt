@@ -1,7 +1,7 @@
 //! The operations of a formula at the basis itself. None is made that need not be: a sum with 0, a product with 0 or 1, a quotient
 //! by 1.
 
-ghost use Rattle.std.specs.Prelude.{◌≡◌, ◌≢◌, ◌↔◌, IsTrue, IfOk, IfErr, OnErr};
+ghost use Rattle.std.specs.Prelude.{◌≡◌, ◌≢◌, ◌↔◌, IsTrue, IfOk, IfErr, IfSome, OnErr};
 ghost use Rattle.exact_values.specs.Rational.{zero_ℚ, one_ℚ, ◌+ℚ◌, ◌-ℚ◌, ◌*ℚ◌, ◌/ℚ◌};
 ghost use Rattle.lp_definitions.specs.RatesEvidence.{Names};
 ghost use Rattle.bounded_primal.specs.Formulas.{IsRefusal};
@@ -25,7 +25,14 @@ pub struct Formula {
 fn is_one(x: Frac) -> bool
     ensures { IsTrue result ↔ (x ≡ one_ℚ) }
 {
-    x.compare(Frac::whole(1)).is_eq()
+    x == Frac::whole(1)
+}
+
+/// The sum with the product, also where the product doesn't fit but the sum can be had by its parts.
+pub fn plus_product(sum: Frac, x: Frac, y: Frac) -> Option<Frac>
+    ensures { IfSome result (λ more. more ≡ sum +ℚ x *ℚ y) }
+{
+    sum.sub_product(x.neg(), y)
 }
 
 impl Formula {

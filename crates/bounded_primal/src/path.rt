@@ -1,7 +1,7 @@
 //! The path of the bounded simplex method.
 
 ghost use Rattle.std.specs.Prelude.{◌≡◌, length, IfOk, IfErr};
-ghost use Rattle.lp_definitions.specs.LinearProgram.{size};
+ghost use Rattle.lp_definitions.specs.LinearProgram.{size, IsLinearProgram};
 ghost use Rattle.bounded_primal.specs.Calls.{HasRates, CallEnds, WaypointsFollow};
 ghost use Rattle.bounded_primal.specs.Outcomes.{IsTrueOutcome};
 ghost use Rattle.bounded_primal.specs.Stops.{PrimalStops};
@@ -27,6 +27,7 @@ fn walk<R: Rates>(
     direction: &mut [Frac],
     limit: u32,
 ) -> Result<Outcome, PrimalStop>
+    requires lawful { IsLinearProgram lp.now }
     requires rates { HasRates (R.matrix rates.old) (R.basics rates.old) lp.now basis.old }
     requires point_places { length point.old ≡ size lp.now.matrix }
     requires row_places { length row.old ≡ size lp.now.matrix }

@@ -11,7 +11,7 @@ ghost use Rattle.bounded_primal.specs.Stops.{PointOverflow};
 ghost use Rattle.bounded_primal.specs.Points.{TermRefused, ColumnTermRefused, IsSoFar, AreAdded, nonbasics_to, term_of};
 
 use crate::choices::stands_basic;
-use crate::formula::Formula;
+use crate::formula::{Formula, plus_product};
 use frac128::Frac;
 use lp_model::{Basis, Evidence, Lp, NoMemory, Rates, Status, Stop};
 use std::alloc::Global;
@@ -57,8 +57,8 @@ fn formula(i: u32, j: u32, term: u32) -> Formula
     }
 }
 
-/// The sum with the rate times the value.
-fn with_term(
+/// The sum with the rate times the value, by the plain operations.
+fn plainly_with_term(
     sum: Frac,
     rate: Frac,
     value: Frac,
@@ -71,6 +71,27 @@ fn with_term(
 {
     let product = formula(i, j, term).product(rate, value)?;
     formula(i, j, term).sum(sum, product)
+}
+
+/// The same, also where only the plain operations are refused.
+fn with_term(
+    sum: Frac,
+    rate: Frac,
+    value: Frac,
+    i: u32,
+    j: u32,
+    term: u32,
+) -> Result<Frac, Evidence>
+    ensures value { IfOk result (λ more. more ≡ sum +ℚ rate *ℚ value) }
+    ensures refused { IfErr result (TermRefused rate value sum i j term) }
+{
+    match plainly_with_term(sum, rate, value, i, j, term) {
+        Ok(more) => Ok(more),
+        Err(evidence) => match plus_product(sum, rate, value) {
+            Some(more) => Ok(more),
+            None => Err(evidence),
+        },
+    }
 }
 
 /// What a variable comes to: a basic's sum with its term, and a nonbasic's value as it is.

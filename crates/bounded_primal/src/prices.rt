@@ -10,7 +10,7 @@ ghost use Rattle.bounded_primal.specs.Calls.{HasRates};
 ghost use Rattle.bounded_primal.specs.Stops.{PointOverflow};
 ghost use Rattle.bounded_primal.specs.Prices.{ChangedRefused, SomeChangedRefused, AreChanged, price_formula};
 
-use crate::formula::Formula;
+use crate::formula::{Formula, plus_product};
 use frac128::Frac;
 use lp_model::{Basis, Change, Evidence, Lp, NoMemory, Rates, Stop};
 use std::alloc::Global;
@@ -30,14 +30,29 @@ fn formula(j: u32, theta: Frac) -> Formula
     }
 }
 
-/// The rate of the objective row at `j`, plus theta times that of the change row.
-fn changed(rate: Frac, theta: Frac, change: Frac, j: u32) -> Result<Frac, Evidence>
+/// The rate of the objective row at `j`, plus theta times that of the change row, by the plain operations.
+fn plainly_changed(rate: Frac, theta: Frac, change: Frac, j: u32) -> Result<Frac, Evidence>
     ensures value { IfOk result (λ price. price ≡ rate +ℚ theta *ℚ change) }
     ensures refused { IfErr result (ChangedRefused theta change rate j) }
     ensures needed { OnErr result (change ≢ zero_ℚ) }
 {
     let product = formula(j, theta).product(theta, change)?;
     formula(j, theta).sum(rate, product)
+}
+
+/// The same, also where only the plain operations are refused.
+fn changed(rate: Frac, theta: Frac, change: Frac, j: u32) -> Result<Frac, Evidence>
+    ensures value { IfOk result (λ price. price ≡ rate +ℚ theta *ℚ change) }
+    ensures refused { IfErr result (ChangedRefused theta change rate j) }
+    ensures needed { OnErr result (change ≢ zero_ℚ) }
+{
+    match plainly_changed(rate, theta, change, j) {
+        Ok(price) => Ok(price),
+        Err(evidence) => match plus_product(rate, theta, change) {
+            Some(price) => Ok(price),
+            None => Err(evidence),
+        },
+    }
 }
 
 /// Adds theta times the rates of the change row.
@@ -88,7 +103,7 @@ fn add_change_row<R: Rates>(
 }
 
 /// Fills `prices` with the objective's rates. `change` is room for the rates of the change row.
-fn fill_prices<R: Rates>(
+pub fn fill_prices<R: Rates>(
     lp: &Lp,
     basis: &Basis,
     rates: &mut R,

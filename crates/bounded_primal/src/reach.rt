@@ -45,6 +45,9 @@ fn limit_before(lp: &Lp, speed: Frac, k: u32) -> Option<Ahead>
     requires { IsVariable lp.now.matrix k }
     ensures { IsAhead lp.now (λ _. speed) k result }
 {
+    if speed.is_zero() {
+        return None;
+    }
     let zero = Frac::whole(0);
     if is_less(zero, speed) {
         let upper = lp.upper_limit(k)?;

@@ -11,7 +11,7 @@ ghost use Rattle.bounded_primal.specs.Calls.{HasRates};
 ghost use Rattle.bounded_primal.specs.Moves.{IsStepBy, move_by, return_by, StepOverflow};
 ghost use Rattle.bounded_primal.specs.Steps.{IsMoved, MovedRefused, SomeMovedRefused, ReturnRefused, step_formula};
 
-use crate::formula::Formula;
+use crate::formula::{Formula, plus_product};
 use crate::moves::Stopper;
 use crate::reach;
 use frac128::Frac;
@@ -55,9 +55,12 @@ fn moved(value: Frac, step: Frac, rate: Frac, p: u32, q: u32, i: u32) -> Result<
     ensures refused { IfErr result (MovedRefused step rate value p q i) }
     ensures needed { OnErr result (rate ≢ zero_ℚ) }
 {
+    if rate.is_zero() {
+        return Ok(value);
+    }
     match plainly_moved(value, step, rate, p, q, i) {
         Ok(moved) => Ok(moved),
-        Err(evidence) => match value.sub_product(step.neg(), rate) {
+        Err(evidence) => match plus_product(value, step, rate) {
             Some(moved) => Ok(moved),
             None => Err(evidence),
         },

@@ -2,7 +2,7 @@
 
 ghost use Rattle.std.specs.Prelude.{◌≡◌, ◌≢◌, ◌≤◌, ℕ, None, Some, not, if◌then◌else◌, length, OnOk, IfOk, IfErr, IsSome, IsTrue};
 ghost use Rattle.exact_values.specs.Rational.{ℚ, zero_ℚ};
-ghost use Rattle.lp_definitions.specs.LinearProgram.{size, value_at, for_min, IsVariable};
+ghost use Rattle.lp_definitions.specs.LinearProgram.{size, value_at, for_min, IsVariable, IsLinearProgram};
 ghost use Rattle.lp_definitions.specs.Solutions.{IsFeasible};
 ghost use Rattle.lp_definitions.specs.Basis.{basics_of, IsBasic, IsNonbasic, IsDirectionOf, IsPointOf};
 ghost use Rattle.lp_definitions.specs.Waypoints.{KeepsWaypoints};
@@ -15,7 +15,7 @@ ghost use Rattle.bounded_primal.specs.Turns.{IsUncrossed, least_outside, ray_fro
 
 use crate::choices::{counted, enterer, is_less, lies_below, outside};
 use crate::moves::{PrimalStop, Stopper};
-use crate::prices::prices_of;
+use crate::prices::fill_prices;
 use crate::step::returning;
 use crate::stopping::stopper;
 use frac128::Frac;
@@ -345,6 +345,7 @@ fn second_phase<R: Rates>(
     steps: u32,
     limit: u32,
 ) -> Result<Turn, PrimalStop>
+    requires lawful { IsLinearProgram lp.now }
     requires rates { HasRates (R.matrix rates.old) (R.basics rates.old) lp.now basis.now }
     requires point_places { length point.now ≡ size lp.now.matrix }
     requires row_places { length row.old ≡ size lp.now.matrix }
@@ -357,7 +358,7 @@ fn second_phase<R: Rates>(
     ensures rates { HasRates (R.matrix rates.new) (R.basics rates.new) lp.now basis.now }
     ensures waypoints { KeepsWaypoints lp.now.matrix (basics_of basis.now) (R.waypoints rates.old) (basics_of basis.now) (R.waypoints rates.new) }
 {
-    prices_of(alloc, lp, basis, rates, row)?;
+    fill_prices(lp, basis, rates, direction, row)?;
     match bettering(lp, basis, row) {
         None => Ok(Turn::Ends(best(alloc, point, row, steps)?)),
         Some(moved) => run(
@@ -378,6 +379,7 @@ pub fn next_turn<R: Rates>(
     steps: u32,
     limit: u32,
 ) -> Result<Turn, PrimalStop>
+    requires lawful { IsLinearProgram lp.now }
     requires rates { HasRates (R.matrix rates.old) (R.basics rates.old) lp.now basis.now }
     requires point_places { length point.now ≡ size lp.now.matrix }
     requires row_places { length row.old ≡ size lp.now.matrix }

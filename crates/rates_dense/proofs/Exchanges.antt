@@ -6,17 +6,19 @@ use Rattle.std.proofs.lemmas.List.{get_or-set_same, get_or-set_other, length-set
 use Rattle.std.specs.List.{HoldsAt}
 use Rattle.exact_values.specs.Rational.{ℚ, zero_ℚ, one_ℚ, ◌/ℚ◌}
 use Rattle.lp_definitions.specs.LinearProgram.{Matrix, Vector, size, IsVariable, value_at}
-use Rattle.lp_definitions.specs.Basis.{Basics, IsBasic, IsNonbasic, IsNonsingular, exchanged}
+use Rattle.lp_definitions.specs.Basis.{Basics, is_in, IsBasic, IsNonbasic, IsNonsingular, exchanged}
 use Rattle.lp_model.specs.RatesCalls.{HasPivot}
 use Rattle.rates_dense.specs.declared.line.Line.{Line}
-use Rattle.rates_dense.specs.Lines.{IsFilled, quotient_at, AreQuotients, entering_rate, staying_rate, LineByLine, SameRates, IsCommitted, enterer_line, changed_line, same_line, IsExchanged}
+use Rattle.rates_dense.specs.Lines.{quotient_at, AreQuotients, IsTakenOver, entering_rate, staying_rate, LineByLine, SameRates, IsCommitted, enterer_line, changed_line, same_line, IsExchanged}
 use Rattle.rates_dense.specs.Placed.{IsPlaced}
 use Rattle.rates_dense.specs.Table.{IsLine, IsTableOf}
-use Rattle.rates_dense.proofs.Fills.{filled_at}
+use Rattle.rates_dense.proofs.Fills.{filled_at, taken_everywhere}
+use Rattle.rates_dense.proofs.Values.{zero_from_quotient}
+use Rattle.lp_laws.proofs.Values.{clash}
 use Rattle.lp_laws.specs.Rates.{exchanged_rate}
 use Rattle.lp_laws.proofs.Uniqueness.{one_direction}
 use Rattle.lp_laws.proofs.Exchange.{IsNonsingular-exchanged, AreRates-exchanged}
-use Rattle.rates_dense.proofs.NewLines.{line_entry, untouched_entry, basic_stays, enterer_basic, basic_before, staying_new, entering_new}
+use Rattle.rates_dense.proofs.NewLines.{line_entry, untouched_entry, unchanged_entry, unchanged_entering, basic_stays, enterer_basic, basic_before, staying_new, entering_new}
 
 -- a line whose rates are the same
 pub line_kept : (a : Matrix) (b : Basics) (rate : ℕ → ℕ → ℚ) (old new : Line) → SameRates old new → IsLine a b rate old → IsLine a b rate new
@@ -32,17 +34,17 @@ line_kept a b rate old new same is = record {
 pub basic_enters : (p q : ℕ) (quotients : List ℚ) (old new : Line) → IsExchanged p q quotients old new → old.basic ≡ p → new.basic ≡ q
 basic_enters p q quotients old new is own = at is.committed
   where
-    at : IsCommitted p q is.ready new → new.basic ≡ q
-    at (enterer_line same now rates next) = now
-    at (changed_line other apart now rates next) = absurd (other (is.same.same_basic ∙ own))
+    at : IsCommitted p q is.changed is.ready new → new.basic ≡ q
+    at (enterer_line same now takes) = now
+    at (changed_line other apart now takes) = absurd (other (is.same.same_basic ∙ own))
     at (same_line other none now) = absurd (other (is.same.same_basic ∙ own))
 
 pub basic_kept : (p q : ℕ) (quotients : List ℚ) (old new : Line) → IsExchanged p q quotients old new → old.basic ≢ p → new.basic ≡ old.basic
 basic_kept p q quotients old new is other = at is.committed
   where
-    at : IsCommitted p q is.ready new → new.basic ≡ old.basic
-    at (enterer_line same now rates next) = absurd (other (sym is.same.same_basic ∙ same))
-    at (changed_line not_p apart now rates next) = now ∙ is.same.same_basic
+    at : IsCommitted p q is.changed is.ready new → new.basic ≡ old.basic
+    at (enterer_line same now takes) = absurd (other (sym is.same.same_basic ∙ same))
+    at (changed_line not_p apart now takes) = now ∙ is.same.same_basic
     at (same_line not_p none now) = ap (λ (line : Line). line.basic) now ∙ is.same.same_basic
 
 module _ (a : Matrix) (b : Basics) (slots : List ℕ) (lines : List Line) (quotients : List ℚ) (table : IsTableOf a b slots lines quotients) where
@@ -112,27 +114,46 @@ module _ (a : Matrix) (b : Basics) (slots : List ℕ) (lines : List Line) (quoti
           ready : IsLine a b table.rate change.ready
           ready = line_kept a b table.rate old change.ready change.same is
 
-          filled_next : (f : ℕ → ℚ) → IsFilled change.ready.next.items f → (k : ℕ) → IsVariable a k → value_at change.ready.next.items k ≡ f k
-          filled_next f all k var =
-              let high : k ≤ length change.ready.next.items = omega (arith, ready.room, var.1) in
-              filled_at change.ready.next.items f all k var.0 high
+          taken : (f : ℕ → ℚ) → IsTakenOver change.changed change.ready.rates.items new.rates.items f → (k : ℕ) → IsVariable a k
+              → (value_at used k ≡ zero_ℚ → value_at change.ready.rates.items k ≡ f k) → value_at new.rates.items k ≡ f k
+          taken f over k var kept =
+              taken_everywhere change.changed used change.ready.rates.items new.rates.items f change.are_changed (ready.places ∙ sym room) over k var.0 (omega (arith, room, var.1)) kept
 
-          at : IsCommitted p q change.ready new → IsLine a (exchanged b p q) (exchanged_rate table.rate p q) new
-          at (enterer_line same now rates next) = record {
+          at_leaver : (i : ℕ) → line_entry b table.rate i p ≡ zero_ℚ
+          at_leaver i = ap (λ m. cond m zero_ℚ (table.rate i p)) leaves.1
+
+          pivot_apart : leaver q ≢ zero_ℚ
+          pivot_apart = leaver_apart old
+
+          not_both : eqb q p ≡ false
+          not_both = elim (eqb_tells q p) [ inl same ↦ absurd (clash (sym leaves.1 ∙ ap (is_in b) (sym same.1) ∙ enters.1)) | inr other ↦ other.0 ]
+
+          quotient_is : (k : ℕ) → IsVariable a k → eqb k p ≡ false → value_at used k ≡ leaver k /ℚ leaver q
+          quotient_is k var told = are_quotients old k var ∙ ap (λ m. cond m one_ℚ (leaver k) /ℚ leaver q) told
+
+          enterer_apart : value_at used q ≢ zero_ℚ
+          enterer_apart none = pivot_apart (zero_from_quotient (leaver q) (leaver q) pivot_apart (sym (quotient_is q enters.0 not_both) ∙ none))
+
+          at : IsCommitted p q change.changed change.ready new → IsLine a (exchanged b p q) (exchanged_rate table.rate p q) new
+          at (enterer_line same now takes) = record {
             is_basic = subst (λ k. IsBasic a (exchanged b p q) k) (sym now) (enterer_basic a b counted table.rate table.are_rates p q leaves enters);
-            places = ap (λ v. length v.items) rates ∙ ready.room;
-            room = ap (λ v. length v.items) next ∙ ready.places;
+            places = takes.same_places ∙ ready.places;
+            room = takes.same_room ∙ ready.room;
             entries = λ k var.
-                ap (λ v. value_at v.items k) rates ∙ filled_next (entering_rate p q used) (change.is_ready.entering same) k var
+                let own : value_at change.ready.rates.items k ≡ leaver k = ready.entries k var ∙ ap (λ i. line_entry b table.rate i k) same ∙ sym (leaver_entry old k var) in
+                taken (entering_rate p q used) (takes.taken (entering_rate p q used) (change.is_ready.entering same)) k var
+                (λ none. own ∙ unchanged_entering p q (value_at used) leaver (leaver_entry old p leaves.0 ∙ at_leaver p) enterer_apart k
+                (λ told. zero_from_quotient (leaver k) (leaver q) pivot_apart (sym (quotient_is k var told) ∙ none)) none)
                 ∙ entering_new a b counted table.rate table.are_rates p q leaves enters leaver (value_at used) (leaver_entry old) (are_quotients old) k var
                 ∙ ap (λ i. line_entry (exchanged b p q) (exchanged_rate table.rate p q) i k) (sym now);
           }
-          at (changed_line other apart now rates next) = record {
+          at (changed_line other apart now takes) = record {
             is_basic = subst (λ k. IsBasic a (exchanged b p q) k) (sym now) (basic_stays a b counted table.rate table.are_rates p q leaves enters change.ready.basic ready.is_basic other);
-            places = ap (λ v. length v.items) rates ∙ ready.room;
-            room = ap (λ v. length v.items) next ∙ ready.places;
+            places = takes.same_places ∙ ready.places;
+            room = takes.same_room ∙ ready.room;
             entries = λ k var.
-                ap (λ v. value_at v.items k) rates ∙ filled_next (staying_rate p q used change.ready.rates.items) (change.is_ready.staying other apart) k var
+                taken (staying_rate p q used change.ready.rates.items) (takes.taken (staying_rate p q used change.ready.rates.items) (change.is_ready.staying other apart)) k var
+                (unchanged_entry p q (value_at used) (value_at change.ready.rates.items) (ready.entries p leaves.0 ∙ at_leaver change.ready.basic) enterer_apart k)
                 ∙ staying_new a b counted table.rate table.are_rates p q leaves enters leaver (value_at used) (leaver_entry old) (are_quotients old) change.ready.basic (value_at change.ready.rates.items) ready.entries k var
                 ∙ ap (λ i. line_entry (exchanged b p q) (exchanged_rate table.rate p q) i k) (sym now);
           }
@@ -141,8 +162,7 @@ module _ (a : Matrix) (b : Basics) (slots : List ℕ) (lines : List Line) (quoti
             places = ready.places;
             room = ready.room;
             entries = λ k var.
-                let at_leaver : value_at change.ready.rates.items p ≡ zero_ℚ = ready.entries p leaves.0 ∙ ap (λ m. cond m zero_ℚ (table.rate change.ready.basic p)) leaves.1 in
-                untouched_entry p q (value_at used) (value_at change.ready.rates.items) at_leaver none k
+                untouched_entry p q (value_at used) (value_at change.ready.rates.items) (ready.entries p leaves.0 ∙ at_leaver change.ready.basic) none k
                 ∙ staying_new a b counted table.rate table.are_rates p q leaves enters leaver (value_at used) (leaver_entry old) (are_quotients old) change.ready.basic (value_at change.ready.rates.items) ready.entries k var;
           })
 

@@ -1,12 +1,12 @@
 -- Lists that a loop fills place by place, and the refusals on the way.
-use Rattle.std.proofs.Common.{◌≡◌, ◌≢◌, ℕ, ◌+◌, ◌-◌, ◌<◌, ◌≤◌, List, length, get_or, set, sym, ap, ◌∙◌, arith, below_more, subst}
+use Rattle.std.proofs.Common.{◌≡◌, ◌≢◌, ℕ, ◌+◌, ◌-◌, ◌<◌, ◌≤◌, ◌⊎◌, inl, inr, List, length, get_or, set, sym, ap, ◌∙◌, arith, below_more, subst}
 use Rattle.std.proofs.lemmas.Bool.{eq-eqb, ne_eqb}
 use Rattle.std.proofs.lemmas.List.{get_or-set_same, get_or-set_other, get_or_read}
 use Rattle.exact_values.specs.Rational.{ℚ, zero_ℚ, ◌-ℚ◌, ◌*ℚ◌}
 use Rattle.frac128.specs.declared.Op.TheVariants.{Sub, Mul, Div}
 use Rattle.lp_definitions.specs.declared.Evidence.{Evidence}
 use Rattle.lp_definitions.specs.LinearProgram.{value_at}
-use Rattle.rates_dense.specs.Lines.{IsFilled, staying_rate}
+use Rattle.rates_dense.specs.Lines.{IsFilled, IsListed, AreChanged, IsFilledAt, IsTakenOver, staying_rate}
 use Rattle.rates_dense.specs.Refusals.{IsRefusal, IsDifferenceRefused, by_product, by_difference, QuotientRefused, of_rate, StayingRefused, of_product, of_difference, of_multiple}
 
 -- one more place is filled
@@ -26,23 +26,36 @@ filled_at xs f filled j low high =
 pub read_at : (xs : List ℚ) (k : ℕ) (v : ℚ) → k < length xs → v ≡ get_or xs k v → v ≡ value_at xs (k + 1)
 read_at xs k v within is = let same : k + 1 - 1 ≡ k = omega arith in get_or_read xs k v within is zero_ℚ ∙ ap (λ n. get_or xs n zero_ℚ) (sym same)
 
+-- what stands ready at a place of the list
+pub read_filled : (js : List ℕ) (xs : List ℚ) (f : ℕ → ℚ) (place : ℕ) (v : ℚ) → place < length js → length js ≤ length xs → IsFilledAt js xs f → v ≡ get_or xs place v → v ≡ f (get_or js place 0)
+read_filled js xs f place v within room filled is = get_or_read xs place v (omega (arith, within, room)) is zero_ℚ ∙ filled place within
+
 -- and at a variable's own place
 pub read_of : (xs : List ℚ) (j : ℕ) (v : ℚ) → 1 ≤ j → j ≤ length xs → v ≡ get_or xs (j - 1) v → v ≡ value_at xs j
 read_of xs j v low high is = let within : j - 1 < length xs = omega arith in get_or_read xs (j - 1) v within is zero_ℚ
+
+-- what was taken over at the variables of a list has the values everywhere, where the others keep theirs
+pub taken_everywhere : (js : List ℕ) (quotients old new : List ℚ) (f : ℕ → ℚ) → AreChanged js quotients → length old ≡ length quotients → IsTakenOver js old new f
+    → (j : ℕ) → 1 ≤ j → j ≤ length quotients → (value_at quotients j ≡ zero_ℚ → value_at old j ≡ f j) → value_at new j ≡ f j
+taken_everywhere js quotients old new f listing same over j low high kept = at (listing.each j low high)
+  where
+    at : IsListed js j ⊎ (value_at quotients j ≡ zero_ℚ) → value_at new j ≡ f j
+    at (inl l) = subst (λ (n : ℕ). value_at new n ≡ f n) l.is (over.listed l.place l.within)
+    at (inr none) = elim (over.others j low (omega (arith, same, high))) [ inl e ↦ e | inr e ↦ e ∙ kept none ]
 
 pub rate_refused : (p q : ℕ) (rates : List ℚ) (k : ℕ) (v pivot : ℚ) (e : Evidence) → k < length rates → v ≡ value_at rates (k + 1) → pivot ≡ value_at rates q → v ≢ zero_ℚ → IsRefusal 1 p q 0 (k + 1) Div v pivot e → QuotientRefused p q rates e
 rate_refused p q rates k v pivot e within at_k at_q apart refusal =
     of_rate (k + 1) (omega arith) (omega arith) (λ zero. apart (at_k ∙ zero))
     (subst (λ x. IsRefusal 1 p q 0 (k + 1) Div x (value_at rates q) e) at_k (subst (λ y. IsRefusal 1 p q 0 (k + 1) Div v y e) at_q refusal))
 
-pub rest_refused : (i p q : ℕ) (quotients rates : List ℚ) (k : ℕ) (v quotient factor : ℚ) (e : Evidence) → k < length rates → v ≡ value_at rates (k + 1) → quotient ≡ value_at quotients (k + 1) → factor ≡ value_at rates q → k + 1 ≢ p → IsDifferenceRefused p q i (k + 1) v quotient factor e → StayingRefused i p q quotients rates e
-rest_refused i p q quotients rates k v quotient factor e within at_v at_quotient at_factor other (by_product apart refusal) =
-    of_product (k + 1) (omega arith) (omega arith) other (λ zero. apart (at_quotient ∙ zero))
-    (subst (λ x. IsRefusal 2 p q i (k + 1) Mul x (value_at rates q) e) at_quotient (subst (λ y. IsRefusal 2 p q i (k + 1) Mul quotient y e) at_factor refusal))
-rest_refused i p q quotients rates k v quotient factor e within at_v at_quotient at_factor other (by_difference apart refusal) =
-    of_difference (k + 1) (omega arith) (omega arith) other (λ zero. apart (at_quotient ∙ zero))
-    (subst (λ x. IsRefusal 3 p q i (k + 1) Sub x (value_at quotients (k + 1) *ℚ value_at rates q) e) at_v
-    (subst (λ x. IsRefusal 3 p q i (k + 1) Sub v (x *ℚ value_at rates q) e) at_quotient (subst (λ y. IsRefusal 3 p q i (k + 1) Sub v (quotient *ℚ y) e) at_factor refusal)))
+pub rest_refused_at : (i p q : ℕ) (quotients rates : List ℚ) (j : ℕ) (v quotient factor : ℚ) (e : Evidence) → 1 ≤ j → j ≤ length rates → v ≡ value_at rates j → quotient ≡ value_at quotients j → factor ≡ value_at rates q → j ≢ p → IsDifferenceRefused p q i j v quotient factor e → StayingRefused i p q quotients rates e
+rest_refused_at i p q quotients rates j v quotient factor e low high at_v at_quotient at_factor other (by_product apart refusal) =
+    of_product j low high other (λ zero. apart (at_quotient ∙ zero))
+    (subst (λ x. IsRefusal 2 p q i j Mul x (value_at rates q) e) at_quotient (subst (λ y. IsRefusal 2 p q i j Mul quotient y e) at_factor refusal))
+rest_refused_at i p q quotients rates j v quotient factor e low high at_v at_quotient at_factor other (by_difference apart refusal) =
+    of_difference j low high other (λ zero. apart (at_quotient ∙ zero))
+    (subst (λ x. IsRefusal 3 p q i j Sub x (value_at quotients j *ℚ value_at rates q) e) at_v
+    (subst (λ x. IsRefusal 3 p q i j Sub v (x *ℚ value_at rates q) e) at_quotient (subst (λ y. IsRefusal 3 p q i j Sub v (quotient *ℚ y) e) at_factor refusal)))
 
 pub multiple_refused : (i p q : ℕ) (quotients rates : List ℚ) (k : ℕ) (quotient factor : ℚ) (e : Evidence) → quotient ≡ value_at quotients (k + 1) → factor ≡ value_at rates q → k + 1 ≡ p → IsRefusal 5 p q i 0 Mul quotient factor e → StayingRefused i p q quotients rates e
 multiple_refused i p q quotients rates k quotient factor e at_quotient at_factor same refusal =

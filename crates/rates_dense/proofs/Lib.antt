@@ -7,3 +7,4 @@ mod Tables
 mod Exchanges
 mod RefusedLaws
 mod OpeningTable
+pub mod Changes

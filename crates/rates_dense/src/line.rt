@@ -1,17 +1,16 @@
 //! The lines of the table, and what an exchange makes of them.
 
-ghost use Rattle.std.specs.Prelude.{◌≡◌, ◌≢◌, ◌<◌, ◌≤◌, ◌^◌, length, IfOk, IfErr, OnOk, OnErr};
-ghost use Rattle.exact_values.specs.Rational.{zero_ℚ, one_ℚ, ◌-ℚ◌, ◌*ℚ◌, ◌/ℚ◌};
+ghost use Rattle.std.specs.Prelude.{◌≡◌, ◌≢◌, ℕ, ◌<◌, ◌≤◌, ◌^◌, length, take, IfOk, IfErr, OnOk, OnErr};
+ghost use Rattle.exact_values.specs.Rational.{ℚ, zero_ℚ, one_ℚ, ◌-ℚ◌, ◌*ℚ◌, ◌/ℚ◌};
 ghost use Rattle.lp_definitions.specs.LinearProgram.{value_at};
 ghost use Rattle.lp_definitions.specs.RatesEvidence.{Names};
-ghost use Rattle.rates_dense.specs.Lines.{IsFilled, quotient_at, entering_rate, staying_rate, SameRates, IsReady, IsCommitted};
+ghost use Rattle.rates_dense.specs.Lines.{IsFilled, quotient_at, AreNumbers, AreChanged, IsFilledAt, IsTakenOver, entering_rate, staying_rate, SameRates, IsReady, IsCommitted};
 ghost use Rattle.rates_dense.specs.Refusals.{IsRefusal, IsDifferenceRefused, QuotientRefused, StayingRefused};
 
 use frac128::{Frac, Op, Refused};
 use lp_model::Evidence;
-use std::mem::swap;
 
-/// The rates of a basic variable: a place for each variable, with 0 at the basics. `next` is room for those after an exchange.
+/// The rates of a basic variable: a place for each variable, with 0 at the basics. `next` is room for those that an exchange changes.
 #[derive(Drop)]
 pub struct Line {
     pub basic: u32,
@@ -104,8 +103,8 @@ impl Cell {
             .map_err(|refused| self.evidence(3, refused))
     }
 
-    /// A rate without its part along the enterer's direction.
-    fn rest(self, rate: Frac, quotient: Frac, factor: Frac) -> Result<Frac, Evidence>
+    /// A rate without its part along the enterer's direction, by the plain operations.
+    fn plain_rest(self, rate: Frac, quotient: Frac, factor: Frac) -> Result<Frac, Evidence>
         ensures value { IfOk result (λ rest. rest ≡ rate -ℚ quotient *ℚ factor) }
         ensures refused { IfErr result (IsDifferenceRefused self.p self.q self.i self.j rate quotient factor) }
     {
@@ -114,6 +113,20 @@ impl Cell {
         }
         let product = self.product(quotient, factor)?;
         self.difference(rate, product)
+    }
+
+    /// The same, also where only the plain operations are refused.
+    fn rest(self, rate: Frac, quotient: Frac, factor: Frac) -> Result<Frac, Evidence>
+        ensures value { IfOk result (λ rest. rest ≡ rate -ℚ quotient *ℚ factor) }
+        ensures refused { IfErr result (IsDifferenceRefused self.p self.q self.i self.j rate quotient factor) }
+    {
+        match self.plain_rest(rate, quotient, factor) {
+            Ok(rest) => Ok(rest),
+            Err(evidence) => match rate.sub_product(quotient, factor) {
+                Some(rest) => Ok(rest),
+                None => Err(evidence),
+            },
+        }
     }
 }
 
@@ -144,89 +157,139 @@ pub fn fill_quotients(
     Ok(())
 }
 
-/// The enterer's rates, from the quotients.
-fn fill_entering(p: u32, q: u32, quotients: &[Frac], next: &mut [Frac])
+/// Lists the variables whose quotient isn't 0, and says how many there are.
+pub fn list_changed(quotients: &[Frac], changed: &mut [u32]) -> usize
     requires small { length quotients.now < 2 ^ 32 }
-    requires room { length next.old ≡ length quotients.now }
-    ensures { IsFilled next.new (entering_rate p q quotients.now) }
+    requires room { length changed.old ≡ length quotients.now }
+    ensures within { result ≤ length quotients.now }
+    ensures listed { AreChanged (take result changed.new) quotients.now }
 {
+    let mut count = 0;
     for (k, quotient) in quotients.iter().enumerate() {
-        let j = k as u32 + 1;
-        next[k] = if j == q {
+        if quotient.is_zero() {
+            continue;
+        }
+        changed[count] = k as u32 + 1;
+        count += 1;
+    }
+    count
+}
+
+/// The enterer's rates at the variables of the list, from the quotients.
+fn fill_entering(p: u32, q: u32, quotients: &[Frac], changed: &[u32], next: &mut [Frac])
+    requires variables { AreNumbers (length quotients.now) changed.now }
+    requires room { length changed.now ≤ length next.old }
+    ensures { IsFilledAt changed.now next.new (entering_rate p q quotients.now) }
+{
+    for (place, number) in changed.iter().enumerate() {
+        let j = *number;
+        let quotient = quotients[j as usize - 1];
+        next[place] = if j == q {
             Frac::whole(0)
         } else if j == p {
-            *quotient
+            quotient
         } else {
             quotient.neg()
         };
     }
 }
 
-/// The rates of another basic `i`, from those before.
+/// The rates of another basic `i` at the variables of the list, from those before.
 fn fill_staying(
     rates: &[Frac],
     i: u32,
     p: u32,
     q: u32,
     quotients: &[Frac],
+    changed: &[u32],
     next: &mut [Frac],
 ) -> Result<(), Evidence>
     requires q_low { 1 ≤ q }
     requires q_high { q ≤ length rates.now }
-    requires small { length rates.now < 2 ^ 32 }
     requires places { length quotients.now ≡ length rates.now }
-    requires room { length next.old ≡ length rates.now }
-    ensures filled { OnOk result (IsFilled next.new (staying_rate p q quotients.now rates.now)) }
+    requires variables { AreNumbers (length quotients.now) changed.now }
+    requires room { length changed.now ≤ length next.old }
+    ensures filled { OnOk result (IsFilledAt changed.now next.new (staying_rate p q quotients.now rates.now)) }
     ensures refused { IfErr result (StayingRefused i p q quotients.now rates.now) }
 {
     let factor = rates[q as usize - 1];
-    for (k, rate) in rates.iter().enumerate() {
-        let j = k as u32 + 1;
-        next[k] = if j == q {
+    for (place, number) in changed.iter().enumerate() {
+        let j = *number;
+        let rate = rates[j as usize - 1];
+        let quotient = quotients[j as usize - 1];
+        next[place] = if j == q {
             Frac::whole(0)
         } else if j == p {
-            Cell { p, q, i, j: 0 }.multiple(quotients[k], factor)?
+            Cell { p, q, i, j: 0 }.multiple(quotient, factor)?
         } else {
-            Cell { p, q, i, j }.rest(*rate, quotients[k], factor)?
+            Cell { p, q, i, j }.rest(rate, quotient, factor)?
         };
     }
     Ok(())
 }
 
+/// Writes the rates that were made ready to their places.
+fn take_over(changed: &[u32], next: &[Frac], rates: &mut [Frac])
+    requires variables { AreNumbers (length rates.old) changed.now }
+    requires room { length changed.now ≤ length next.now }
+    ensures { (f : ℕ → ℚ) → IsFilledAt changed.now next.now f → IsTakenOver changed.now rates.old rates.new f }
+{
+    for (place, number) in changed.iter().enumerate() {
+        rates[*number as usize - 1] = next[place];
+    }
+}
+
 impl Line {
-    /// Makes ready the rates after an exchange of `p` for `q`, where they change.
-    pub fn prepare(&mut self, p: u32, q: u32, quotients: &[Frac]) -> Result<(), Evidence>
+    /// Makes ready the rates that an exchange of `p` for `q` changes, at the variables of the list.
+    pub fn prepare(
+        &mut self,
+        p: u32,
+        q: u32,
+        quotients: &[Frac],
+        changed: &[u32],
+    ) -> Result<(), Evidence>
         requires q_low { 1 ≤ q }
         requires q_high { q ≤ length quotients.now }
-        requires small { length quotients.now < 2 ^ 32 }
+        requires variables { AreNumbers (length quotients.now) changed.now }
+        requires listed { length changed.now ≤ length quotients.now }
         requires places { length self.old.rates.items ≡ length quotients.now }
         requires room { length self.old.next.items ≡ length quotients.now }
         ensures same { SameRates self.old self.new }
-        ensures ready { OnOk result (IsReady p q quotients.now self.new) }
+        ensures ready { OnOk result (IsReady p q quotients.now changed.now self.new) }
         ensures stays { OnErr result (self.old.basic ≢ p) }
         ensures refused { IfErr result (StayingRefused self.old.basic p q quotients.now self.old.rates.items) }
     {
         if self.basic == p {
-            fill_entering(p, q, quotients, &mut self.next);
+            fill_entering(p, q, quotients, changed, &mut self.next);
             Ok(())
         } else if self.rates[q as usize - 1].is_zero() {
             Ok(())
         } else {
-            fill_staying(&self.rates, self.basic, p, q, quotients, &mut self.next)
+            fill_staying(
+                &self.rates,
+                self.basic,
+                p,
+                q,
+                quotients,
+                changed,
+                &mut self.next,
+            )
         }
     }
 
     /// Takes the rates that were made ready.
-    pub fn commit(&mut self, p: u32, q: u32)
+    pub fn commit(&mut self, p: u32, q: u32, changed: &[u32])
         requires q_low { 1 ≤ q }
         requires q_high { q ≤ length self.old.rates.items }
-        ensures { IsCommitted p q self.old self.new }
+        requires variables { AreNumbers (length self.old.rates.items) changed.now }
+        requires room { length changed.now ≤ length self.old.next.items }
+        ensures { IsCommitted p q changed.now self.old self.new }
     {
         if self.basic == p {
             self.basic = q;
-            swap(&mut self.rates, &mut self.next);
+            take_over(changed, &self.next, &mut self.rates);
         } else if !self.rates[q as usize - 1].is_zero() {
-            swap(&mut self.rates, &mut self.next);
+            take_over(changed, &self.next, &mut self.rates);
         }
     }
 }

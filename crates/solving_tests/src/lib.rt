@@ -1,5 +1,7 @@
-//! The solving calls over the dense rates, tried on small problems.
+//! The table of rates, and the solving calls over it, tried on small problems.
 #![tactic(auto)]
 
+#[cfg(test)]
+mod table_tests;
 #[cfg(test)]
 mod tests;

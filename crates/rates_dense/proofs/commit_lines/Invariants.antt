@@ -6,6 +6,6 @@ use Rattle.rates_dense.proofs.commit_lines.Given as goal
 -- the lines so far are committed, and the others as they were
 abbrev pub invariant-loop-line : goal.invariant-loop-line
 invariant-loop-line l = record {
-  committed : (slot : ℕ) (d : Line) → slot < l.line-index → IsCommitted l.p l.q (get_or l.fn.lines slot d) (get_or l.lines slot d);
+  committed : (slot : ℕ) (d : Line) → slot < l.line-index → IsCommitted l.p l.q l.changed (get_or l.fn.lines slot d) (get_or l.lines slot d);
   untouched : (slot : ℕ) (d : Line) → l.line-index ≤ slot → get_or l.lines slot d ≡ get_or l.fn.lines slot d;
 }

@@ -1,4 +1,4 @@
-use Rattle.std.proofs.Common.{rules, arith, ◌≡◌, ◌<◌, Err, length, get_or}
+use Rattle.std.proofs.Common.{take, rules, arith, ◌≡◌, ◌<◌, Err, length, get_or}
 use Rattle.rates_dense.specs.declared.line.Line.{Line}
 use Rattle.rates_dense.specs.Lines.{AreQuotients}
 use Rattle.rates_dense.specs.Refusals.{QuotientRefused, at_leaver, at_another}
@@ -33,6 +33,8 @@ pub returns-clause-lines : goal.returns-clause-lines
 returns-clause-lines c slot d within =
     let still : slot < length c.prepare_lines.new.lines = omega (arith, c.prepare_lines.auto.lines, within) in
     record {
+      changed = take c.list_changed-count.result c.list_changed-count.new.changed;
+      are_changed = c.list_changed-count.ensures.listed;
       ready = get_or c.prepare_lines.new.lines slot d;
       same = c.in_ok-prepare_lines.ensures.same slot d within;
       is_ready = c.in_ok-prepare_lines.ensures.ready slot d still;

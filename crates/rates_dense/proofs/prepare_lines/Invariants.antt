@@ -7,6 +7,6 @@ use Rattle.rates_dense.proofs.prepare_lines.Given as goal
 abbrev pub invariant-loop-line : goal.invariant-loop-line
 invariant-loop-line l = record {
   same : LineByLine SameRates l.fn.lines l.lines;
-  ready : (slot : ℕ) (d : Line) → slot < l.line-index → IsReady l.p l.q l.quotients (get_or l.lines slot d);
+  ready : (slot : ℕ) (d : Line) → slot < l.line-index → IsReady l.p l.q l.quotients l.changed (get_or l.lines slot d);
   untouched : (slot : ℕ) (d : Line) → l.line-index ≤ slot → get_or l.lines slot d ≡ get_or l.fn.lines slot d;
 }

@@ -9,5 +9,5 @@ returns-clause-rates c =
     let one : Contains c.self.inside.lines.items c.line_of.result.now = rw c.deref-2.ensures.value at c.line_of.ensures.one in
     let copied : c.copy_from_slice.new.self ≡ c.line_of.result.now.rates.items = c.copy_from_slice.ensures.after ∙ c.deref-3.ensures.value in
     rw (← c.self.view_is, copied)
-    (row_filled inverse.matrix inverse.basics c.self.inside.slots.items c.self.inside.lines.items c.self.inside.quotients.items c.self.invariant
+    (row_filled inverse.matrix inverse.basics c.self.inside.slots.items c.self.inside.lines.items c.self.inside.quotients.items c.self.invariant.0
     c.line_of.result.now c.args.i one c.line_of.ensures.own)

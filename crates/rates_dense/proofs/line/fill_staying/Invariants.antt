@@ -1,8 +1,8 @@
-use Rattle.std.proofs.Common.{◌≡◌, ℕ, ◌<◌, ◌+◌, get_or}
+use Rattle.std.proofs.Common.{◌≡◌, ℕ, ◌<◌, get_or}
 use Rattle.exact_values.specs.Rational.{zero_ℚ}
 use Rattle.rates_dense.specs.Lines.{staying_rate}
 use Rattle.rates_dense.proofs.line.fill_staying.Given as goal
 
 -- the places so far are filled
-abbrev pub invariant-loop-k : goal.invariant-loop-k
-invariant-loop-k l = (k : ℕ) → k < l.k → get_or l.next k zero_ℚ ≡ staying_rate l.p l.q l.quotients l.rates (k + 1)
+abbrev pub invariant-loop-place : goal.invariant-loop-place
+invariant-loop-place l = (place : ℕ) → place < l.place → get_or l.next place zero_ℚ ≡ staying_rate l.p l.q l.quotients l.rates (get_or l.changed place 0)
