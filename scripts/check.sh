@@ -1,7 +1,14 @@
 #!/usr/bin/env bash
 # Small checks of the repository, which run after the gate, in under a minute. A check whose tool is missing is skipped, and so is,
 # saying so, what needs the proved program where it isn't fresh.
+# usage: check.sh      ends with 1 where a check fails
 set -u
+case ${1:-} in
+    -h | --help)
+        sed -n '2,4s/^# //p' "$0"
+        exit 0
+        ;;
+esac
 cd "$(dirname "$0")/.." || exit 1
 failed=0
 fail() {

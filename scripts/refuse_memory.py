@@ -1,7 +1,7 @@
 #!/usr/bin/env python3
 """Runs a job once for each allocation that the program makes, and refuses that one. Each run has to end with the job's own status and
 listing, or with status 28 and a front of that listing, which STOP 28 MEMORY may end.
-Usage: refuse_memory.py PROGRAM JOB. It wants a C compiler, for an allocator that is loaded before the C library's."""
+usage: refuse_memory.py PROGRAM JOB. It wants a C compiler, for an allocator that is loaded before the C library's."""
 import os, pathlib, subprocess, sys, tempfile
 
 ALLOCATOR = r"""
@@ -39,6 +39,9 @@ __attribute__((destructor)) static void end(void) {
 }
 """
 
+if len(sys.argv) != 3:
+    print(__doc__)
+    sys.exit(0 if sys.argv[1:] in (["-h"], ["--help"]) else 64)
 program, job = sys.argv[1], pathlib.Path(sys.argv[2]).read_bytes()
 with tempfile.TemporaryDirectory() as folder:
     made, told = f"{folder}/allocator.so", f"{folder}/told"

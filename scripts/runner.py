@@ -1,7 +1,8 @@
 """Runs jobs for the other scripts: by the proved program where it is fresh, else all of them unproved, built once (`rt try --cases`)."""
 import pathlib, re, shutil, subprocess, tempfile
 
-TOP = pathlib.Path(__file__).resolve().parent.parent
+HERE = pathlib.Path(__file__).resolve().parent
+TOP = HERE.parent
 
 
 class NoProgram(Exception):
@@ -9,8 +10,10 @@ class NoProgram(Exception):
 
 
 def proved_program():
-    "the path of the proved program, or None where there is no fresh one"
-    found = subprocess.run([TOP / "scripts/program.sh", "--fresh"], capture_output=True, text=True)
+    "the path of the proved program, installed or fresh, or None where there is none"
+    if (HERE / "program").exists():
+        return str(HERE / "program")
+    found = subprocess.run([HERE / "program.sh", "--fresh"], capture_output=True, text=True)
     return found.stdout.strip() if found.returncode == 0 else None
 
 

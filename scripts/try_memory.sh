@@ -2,7 +2,14 @@
 # Converts TESTPROB with its 1st, 2nd, .. allocation refused, up to the first run that has them all: each of those before must
 # end with want of memory, and that one with the whole problem. With arguments only these allocations are refused.
 # There were 56 of them when this was written, and a run takes half a minute.
+# usage: try_memory.sh [NUMBER..]
 set -u
+case ${1:-} in
+    -h | --help)
+        sed -n '2,5s/^# //p' "$0"
+        exit 0
+        ;;
+esac
 cd "$(dirname "$0")/../crates/deck_tests" || exit 1
 
 # What the conversion ends with where this allocation is refused.
