@@ -1,18 +1,11 @@
 """Runs a program five times on a job. Prints the last line of its listing, the least processor time and the peak memory.
-<<<<<<< HEAD
-Usage: timed.py JOB PROGRAM [WORD..]"""
+usage: timed.py JOB PROGRAM [WORD..]"""
 import resource, subprocess, sys
 
-job, *program = sys.argv[1:]
-=======
-usage: timed.py JOB PROGRAM"""
-import resource, subprocess, sys
-
-if len(sys.argv) != 3:
+if len(sys.argv) < 3:
     print(__doc__)
     sys.exit(0 if sys.argv[1:] in (["-h"], ["--help"]) else 64)
-job, program = sys.argv[1:]
->>>>>>> cbf7808352225be6eaf5f42df5d6727da77e7113
+job, *program = sys.argv[1:]
 least, before = None, 0.0
 for _ in range(5):
     with open(job, "rb") as file:
