@@ -126,6 +126,7 @@ fn find<P: Sink>(
     ensures kept { IsSelected cells.now file.now setup.old →
         IsSelected cells.now file.now setup.new }
 {
+    // a setup's problem stays on file
     let Some(problem) = file.get(&setup.name) else {
         return Ok(Finding::Refused(VerbFault::NoSetup));
     };

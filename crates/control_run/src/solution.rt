@@ -103,6 +103,7 @@ fn show_setup<P: Sink>(
     ensures waypoints { KeepsWaypoints setup.old.lp.matrix (basics_of setup.old.basis)
         (ways setup.old.engine) (basics_of setup.old.basis) (ways setup.new.engine) }
 {
+    // a setup's problem stays on file
     let Some(problem) = file.get(&setup.name) else {
         return Ok(Finding::Refused(VerbFault::NoSetup));
     };

@@ -1,4 +1,4 @@
-use Rattle.std.proofs.Common.{◌∙◌, sym, subst, inl, [], ◌∷◌, get_or}
+use Rattle.std.proofs.Common.{◌∙◌, sym, subst, inl, get_or}
 use Rattle.lp_definitions.specs.Basis.{Basics}
 use Rattle.lp_laws.proofs.Opening.{IsNonsingular-row_basics}
 use Rattle.lp_definitions.specs.Waypoints.{HasColumnsWithin}
