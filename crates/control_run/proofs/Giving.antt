@@ -19,6 +19,7 @@ use Rattle.control_run.specs.declared.act.Halt.TheVariants as halt
 use Rattle.control_run.specs.declared.machine.Machine.{Machine}
 use Rattle.control_run.specs.Standing.{Stands}
 use Rattle.control_run.specs.Statements.{Comes, Executes, gain_of, gain_text}
+use Rattle.control_run.specs.Stage.{stage}
 
 -- a verb fault
 pub gives_fault : {X : Type 0} (card : ℕ) (fault : VerbFault) (found : Option X) (go : X → Move) → found ≡ None →

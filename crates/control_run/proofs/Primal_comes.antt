@@ -99,6 +99,7 @@ module _ (card : ℕ) (cards : List (List ℕ)) (old : Machine) (setup new : Set
 
   path_gives : (lp : LinearProgram) → selected problem (choice_of old.cells setup.options) ≡ Ok lp → (answer : PathEnd) →
       IsSolved (record { problem = problem; lp = lp }) setup.basis old.cells.xiterlim answer → Gives stage card (statement_move stage Primal card state) (after_path card present state answer)
+  unfolding stage
   path_gives lp ok answer right =
       selected_gives lp ok (after_path card present state answer)
       (inl (inl (
@@ -124,6 +125,7 @@ module _ (card : ℕ) (cards : List (List ℕ)) (old : Machine) (setup new : Set
   overflow_gives : (lp : LinearProgram) → selected problem (choice_of old.cells setup.options) ≡ Ok lp → (e : Evidence) (place : Option endings.Place) →
       PathOverflows (record { problem = problem; lp = lp }) setup.basis new.basis old.cells.xiterlim (ways setup.engine) (ways new.engine) e place →
       Gives stage card (statement_move stage Primal card state) (stops (endings.OverflowStop (record { evidence = e; place = place; card = card })))
+  unfolding stage
   overflow_gives lp ok e place h =
       selected_gives lp ok (stops (endings.OverflowStop (record { evidence = e; place = place; card = card })))
       (inl (inr (

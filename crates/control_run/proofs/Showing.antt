@@ -181,6 +181,7 @@ module _ (card : ℕ) (cards : List (List ℕ)) (old : Machine) (setup : Setup) 
 
       pub shown_comes : (gain : Gain) (finding : Finding) → Shows problem setup mark gain finding →
           Comes stage SolutionVerb card cards position executed state (record old { setup = Some new }) gain (act_of old.cells card finding)
+      unfolding stage
       shown_comes _ _ (shown {lines = lines} h) =
           (state, marked_gives (printed card state mark lines) (inl (lines, subst (λ (b : Basis). IsShown (record { problem = problem; lp = setup.lp }) b lines) (sym p.reached) h, refl)), still_stands)
       shown_comes _ _ (overflows {e = e} {place = place} h) =
