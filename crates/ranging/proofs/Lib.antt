@@ -1,2 +1,4 @@
 pub mod Results
 pub mod RateBounds
+pub mod Distances
+pub mod Deviations

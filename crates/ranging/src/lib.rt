@@ -4,4 +4,6 @@
 
 mod choices;
 mod evidence;
+mod intervals;
+mod limit_ends;
 mod row_ends;
