@@ -1,7 +1,7 @@
 -- Ends of intervals.
-use Rattle.std.proofs.Common.{◌≡◌, ℕ, ◌⊎◌, inl, inr, refl, sym, ap, subst, subst₂, ◌∙◌, Bool, true, false, Option, Some, None, pos}
+use Rattle.std.proofs.Common.{◌≡◌, ℕ, inl, inr, refl, sym, subst, subst₂, true, false, Option, Some, None}
 use Rattle.std.specs.Prelude.{◌↔◌, IfSome, IsSome, option_map}
-use Rattle.exact_values.specs.Rational.{ℚ, neg_ℚ, ◌+ℚ◌, ◌-ℚ◌, ◌≤ℚ◌, ◌<ℚ◌}
+use Rattle.exact_values.specs.Rational.{ℚ, neg_ℚ, ◌+ℚ◌, ◌-ℚ◌, ◌≤ℚ◌}
 use Rattle.exact_values.specs.Tests.{lt_ℚ}
 use Rattle.exact_values.proofs.Ring.{by_ring2, by_ring3, opposite as opp, ◌⊕◌, ◌⊖◌, ◌≐◌}
 use Rattle.exact_values.proofs.Order.{le_by_one, le_trans, le_of_lt}
@@ -12,7 +12,7 @@ use Rattle.affine_conditions.specs.declared.tightening.Ends.{Ends}
 use Rattle.frac128.specs.declared.Op.TheVariants.{Add, Sub}
 use Rattle.lp_definitions.specs.declared.Evidence.{Evidence}
 use Rattle.ranging.specs.Refusals.{IsRefusal}
-use Rattle.ranging.specs.Intervals.{IsAtLeast, IsAtMost, IsIn, less_end, taken_from, opposite_end, opposite, IsOneOf, DifferenceRefused, SumRefused}
+use Rattle.ranging.specs.Intervals.{IsAtLeast, IsAtMost, IsIn, less_end, taken_from, opposite_end, opposite, DifferenceRefused, SumRefused}
 
 none_some : {A : Type 0} (x : A) → None ≡ Some x → ⊥
 none_some x e = cc
@@ -96,6 +96,7 @@ plus_high stands t (Some e) =
 -- a limit lies between the moved ends where its way from where it stands lies between the ends, and its own limit holds as it does
 pub moved_is : (stands t : ℚ) (ends : Ends) (low high : Option ℚ) (Own In : Type 0) → low ≡ option_map (λ (e : End). stands +ℚ e.value) ends.low → high ≡ option_map (λ (e : End). stands +ℚ e.value) ends.high
     → In ↔ ((IsAtLeast low t × IsAtMost high t) × Own) → In ↔ (IsBetweenEnds ends (t -ℚ stands) × Own)
-moved_is stands t ends low high Own In is_low is_high h =
-    (λ a. let b = h.0 a in (((plus_low stands t ends.low).0 (subst (λ o. IsAtLeast o t) is_low b.0.0), (plus_high stands t ends.high).0 (subst (λ o. IsAtMost o t) is_high b.0.1)), b.1),
-    λ b. h.1 ((subst (λ o. IsAtLeast o t) (sym is_low) ((plus_low stands t ends.low).1 b.0.0), subst (λ o. IsAtMost o t) (sym is_high) ((plus_high stands t ends.high).1 b.0.1)), b.1))
+moved_is stands t ends low high Own In is_low is_high h = (
+  λ a. let b = h.0 a in (((plus_low stands t ends.low).0 (subst (λ o. IsAtLeast o t) is_low b.0.0), (plus_high stands t ends.high).0 (subst (λ o. IsAtMost o t) is_high b.0.1)), b.1),
+  λ b. h.1 ((subst (λ o. IsAtLeast o t) (sym is_low) ((plus_low stands t ends.low).1 b.0.0), subst (λ o. IsAtMost o t) (sym is_high) ((plus_high stands t ends.high).1 b.0.1)), b.1),
+)

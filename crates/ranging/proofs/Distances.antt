@@ -1,13 +1,13 @@
 -- The bounds that a basic's limits make.
-use Rattle.std.proofs.Common.{◌≡◌, ◌≢◌, ℕ, ◌+◌, ◌-◌, ◌<◌, ◌≤◌, ◌⊎◌, inl, inr, List, set, length, get_or, pos, refl, sym, ap, ap₂, subst, subst₂, ◌∙◌, Bool, true, false, Option, Some, None, arith}
-use Rattle.std.specs.Prelude.{◌↔◌, IfSome, IsSome, nat_eq, cond, eqb, option_map}
+use Rattle.std.proofs.Common.{◌≡◌, ◌≢◌, ℕ, ◌+◌, ◌-◌, ◌<◌, ◌≤◌, ◌⊎◌, inl, inr, List, set, length, get_or, pos, refl, sym, ap, subst, subst₂, ◌∙◌, Bool, true, false, Option, Some, None, arith}
+use Rattle.std.specs.Prelude.{◌↔◌, IfSome, IsSome, nat_eq, cond, eqb}
 use Rattle.std.proofs.lemmas.Bool.Decides.{eqb_tells}
 use Rattle.std.proofs.lemmas.List.{get_or-set_same, get_or-set_other, get_or_default}
 use Rattle.exact_values.specs.Rational.{ℚ, zero_ℚ, ◌+ℚ◌, ◌-ℚ◌, ◌*ℚ◌, ◌/ℚ◌, ◌≤ℚ◌}
 use Rattle.exact_values.proofs.Ring.{by_ring2, by_ring3, number, ◌⊕◌, ◌⊖◌, ◌⊗◌, ◌≐◌}
 use Rattle.exact_values.proofs.Order.{le_by_one}
 use Rattle.exact_values.proofs.Inverse.{zero_or_not}
-use Rattle.affine_conditions.specs.Ends.{MeetsBy, IsBetweenEnds, IsEither, IsTightened, IsRefused, end_of}
+use Rattle.affine_conditions.specs.Ends.{MeetsBy, IsBetweenEnds, IsTightened, IsRefused}
 use Rattle.affine_conditions.specs.declared.tightening.Bound.{Bound}
 use Rattle.affine_conditions.specs.declared.tightening.End.{End}
 use Rattle.affine_conditions.specs.declared.tightening.Ends.{Ends}
@@ -16,15 +16,14 @@ use Rattle.changed_programs.proofs.Limits.{sides_of_value}
 use Rattle.evidence_definitions.specs.Formulas.{limit_numbered}
 use Rattle.frac128.specs.declared.Refused.{Refused}
 use Rattle.frac128.specs.declared.Op.TheVariants.{Sub, Div}
-use Rattle.lp_definitions.specs.LinearProgram.{LinearProgram, Vector, lower_of, upper_of, value_at, IsVariable}
+use Rattle.lp_definitions.specs.LinearProgram.{LinearProgram, Vector, lower_of, upper_of, IsVariable}
 use Rattle.lp_definitions.specs.Basis.{status_of}
-use Rattle.lp_definitions.specs.RatesEvidence.{Names, Refuses}
+use Rattle.lp_definitions.specs.RatesEvidence.{Names}
 use Rattle.lp_definitions.specs.declared.Evidence.{Evidence}
 use Rattle.lp_definitions.specs.declared.Status.{Status}
-use Rattle.lp_laws.proofs.Values.{clash}
 use Rattle.postoptimal_definitions.specs.Ranges.{stands_at_limit}
 use Rattle.ranging.specs.Refusals.{IsRefusal}
-use Rattle.ranging.specs.LimitEnds.{less_value, distances_of, distance_numbered, IsBasicEnd, IsKeptOr, KeepOr, IsQuotientOf, IsWithDistance, IsFarEnough, IsWithDistances, IsWithBasic, IsDistanceRefused, IsBasicRefused, no_ends, ends_at, IsLimitEnd, IsMet, IsLimitRefused, IsRateRefused, AreMet}
+use Rattle.ranging.specs.LimitEnds.{less_value, distances_of, distance_numbered, IsBasicEnd, IsKeptOr, IsQuotientOf, IsWithDistance, IsFarEnough, IsWithDistances, IsWithBasic, IsDistanceRefused, IsBasicRefused, no_ends, ends_at, IsLimitEnd, IsMet, IsLimitRefused, IsRateRefused, AreMet}
 use Rattle.ranging.specs.declared.limit_ends.Distances.{Distances}
 
 pub limit_refused : (p : LinearProgram) (value : ℚ) (i which : ℕ) (e : Evidence) (limit : Option ℚ) → limit ≡ limit_numbered p i which → which < 3
@@ -88,9 +87,10 @@ module _ (far : Distances) (rate : ℚ) (apart : rate ≢ zero_ℚ) (i : ℕ) wh
 
   pub both_limits : (ends mid now : Ends) → IsWithDistance false far.low rate i 1 ends mid → IsWithDistance true far.high rate i 2 mid now → IsWithDistances far rate i ends now
   both_limits ends mid now first second = record {
-    exact = λ x.
-        (λ h. let b = (second.exact x).0 h in let a = (first.exact x).0 b.0 in (a.0, (a.1, b.1)),
-        λ h. (second.exact x).1 ((first.exact x).1 (h.0, h.1.0), h.1.1));
+    exact = λ x. (
+      λ h. let b = (second.exact x).0 h in let a = (first.exact x).0 b.0 in (a.0, (a.1, b.1)),
+      λ h. (second.exact x).1 ((first.exact x).1 (h.0, h.1.0), h.1.1),
+    );
     made = record { low = in_turn ends.low mid.low now.low first.made.low second.made.low; high = in_turn ends.high mid.high now.high first.made.high second.made.high };
   }
 
@@ -129,15 +129,17 @@ module _ (p : LinearProgram) (z : ℚ) (i : ℕ) where
   -- the products that are far enough lead to values within the limits
   far_low : (low : Option ℚ) (y w : ℚ) → y ≡ z +ℚ w → IfSome (less_value z low) (λ d. d ≤ℚ w) ↔ IfSome low (λ l. l ≤ℚ y)
   far_low None y w is = (λ h. tt, λ h. tt)
-  far_low (Some l) y w is =
-      (λ h. subst (λ y. l ≤ℚ y) (sym is) (le_by_one h (by_ring3 l z w (λ l z w. z ⊕ w ≐ l ⊕ (w ⊖ (l ⊖ z))) refl)),
-      λ h. le_by_one (subst (λ y. l ≤ℚ y) is h) (by_ring3 l z w (λ l z w. w ≐ (l ⊖ z) ⊕ (z ⊕ w ⊖ l)) refl))
+  far_low (Some l) y w is = (
+    λ h. subst (λ y. l ≤ℚ y) (sym is) (le_by_one h (by_ring3 l z w (λ l z w. z ⊕ w ≐ l ⊕ (w ⊖ (l ⊖ z))) refl)),
+    λ h. le_by_one (subst (λ y. l ≤ℚ y) is h) (by_ring3 l z w (λ l z w. w ≐ (l ⊖ z) ⊕ (z ⊕ w ⊖ l)) refl),
+  )
 
   far_high : (high : Option ℚ) (y w : ℚ) → y ≡ z +ℚ w → IfSome (less_value z high) (λ d. w ≤ℚ d) ↔ IfSome high (λ u. y ≤ℚ u)
   far_high None y w is = (λ h. tt, λ h. tt)
-  far_high (Some u) y w is =
-      (λ h. subst (λ y. y ≤ℚ u) (sym is) (le_by_one h (by_ring3 u z w (λ u z w. u ≐ z ⊕ w ⊕ ((u ⊖ z) ⊖ w)) refl)),
-      λ h. le_by_one (subst (λ y. y ≤ℚ u) is h) (by_ring3 u z w (λ u z w. u ⊖ z ≐ w ⊕ (u ⊖ (z ⊕ w))) refl))
+  far_high (Some u) y w is = (
+    λ h. subst (λ y. y ≤ℚ u) (sym is) (le_by_one h (by_ring3 u z w (λ u z w. u ≐ z ⊕ w ⊕ ((u ⊖ z) ⊖ w)) refl)),
+    λ h. le_by_one (subst (λ y. y ≤ℚ u) is h) (by_ring3 u z w (λ u z w. u ⊖ z ≐ w ⊕ (u ⊖ (z ⊕ w))) refl),
+  )
 
   module _ (low : IfSome (lower_of p i) (λ l. l ≤ℚ z)) (high : IfSome (upper_of p i) (λ u. z ≤ℚ u)) (v : ℚ) where
     -- without a rate it stays where it is
@@ -147,9 +149,10 @@ module _ (p : LinearProgram) (z : ℚ) (i : ℕ) where
 
     far_is : (x : ℚ) → IsFarEnough (distances_of p z i) (x *ℚ v) ↔ SidesHold (value_sides (lower_of p i) (upper_of p i) z v) x
     far_is x =
-        let sides = sides_of_value (lower_of p i) (upper_of p i) (z +ℚ x *ℚ v) z v x refl in
-        (λ h. sides.0 ((far_low (lower_of p i) (z +ℚ x *ℚ v) (x *ℚ v) refl).0 h.0, (far_high (upper_of p i) (z +ℚ x *ℚ v) (x *ℚ v) refl).0 h.1),
-        λ h. ((far_low (lower_of p i) (z +ℚ x *ℚ v) (x *ℚ v) refl).1 (sides.1 h).0, (far_high (upper_of p i) (z +ℚ x *ℚ v) (x *ℚ v) refl).1 (sides.1 h).1))
+        let sides = sides_of_value (lower_of p i) (upper_of p i) (z +ℚ x *ℚ v) z v x refl in (
+          λ h. sides.0 ((far_low (lower_of p i) (z +ℚ x *ℚ v) (x *ℚ v) refl).0 h.0, (far_high (upper_of p i) (z +ℚ x *ℚ v) (x *ℚ v) refl).0 h.1),
+          λ h. ((far_low (lower_of p i) (z +ℚ x *ℚ v) (x *ℚ v) refl).1 (sides.1 h).0, (far_high (upper_of p i) (z +ℚ x *ℚ v) (x *ℚ v) refl).1 (sides.1 h).1),
+        )
 
     pub met : (far : Distances) → far ≡ distances_of p z i → (stands : Bool) → stands ≡ true → (ends now : Ends) → IsWithBasic stands far v i ends now → IsMet p z v i ends now
     met far far_are stands is ends now with = at (zero_or_not v) (subst (λ (f : Distances). IsWithBasic stands f v i ends now) far_are with)
@@ -160,9 +163,10 @@ module _ (p : LinearProgram) (z : ℚ) (i : ℕ) where
           made = record { low = kept_limit v ends.low now.low h.made.low; high = kept_limit v ends.high now.high h.made.high };
         }
         at (inr moves) h = record {
-          exact = λ x.
-              (λ k. let r = (h.exact is moves x).0 k in (r.0, (far_is x).0 r.1),
-              λ k. (h.exact is moves x).1 (k.0, (far_is x).1 k.1));
+          exact = λ x. (
+            λ k. let r = (h.exact is moves x).0 k in (r.0, (far_is x).0 r.1),
+            λ k. (h.exact is moves x).1 (k.0, (far_is x).1 k.1),
+          );
           made = record { low = kept_limit v ends.low now.low h.made.low; high = kept_limit v ends.high now.high h.made.high };
         }
 
@@ -220,3 +224,6 @@ module _ (p : LinearProgram) (s : List Status) (z : ℚ) (row : Vector) (i : ℕ
 
       rest : (k : ℕ) → n + 1 < k → ends_at (set now n e) k ≡ ends_at before k
       rest k after = ends_unwritten now n k e (omega (arith, after)) (λ h. absurd (omega (arith, h, after))) ∙ h.rest k (omega (arith, after))
+
+pub ends_read : (xs : List Ends) (k : ℕ) (e : Ends) → k - 1 < length xs → e ≡ get_or xs (k - 1) e → e ≡ ends_at xs k
+ends_read xs k e below is = is ∙ get_or_default xs (k - 1) e no_ends below

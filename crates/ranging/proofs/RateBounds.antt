@@ -1,45 +1,48 @@
 -- The bounds that prices and rates make.
 use Rattle.std.proofs.Common.{◌≡◌, ◌≢◌, ℕ, ◌+◌, ◌-◌, ◌<◌, ◌≤◌, ◌⊎◌, inl, inr, List, length, get_or, pos, refl, sym, ap, ap₂, subst, subst₂, ◌∙◌, Bool, true, false, Option, Some, None, arith}
-use Rattle.std.specs.Prelude.{◌↔◌, IfSome, not, cond, eqb}
+use Rattle.std.specs.Prelude.{◌↔◌, IfSome, eqb}
 use Rattle.std.proofs.lemmas.Bool.Decides.{eqb_tells}
 use Rattle.std.proofs.lemmas.List.{get_or_default}
 use Rattle.exact_values.specs.Rational.{ℚ, zero_ℚ, neg_ℚ, ◌+ℚ◌, ◌*ℚ◌, ◌/ℚ◌, ◌≤ℚ◌}
-use Rattle.exact_values.proofs.Ring.{by_ring1, by_ring2, by_ring3, number, opposite, ◌⊕◌, ◌⊖◌, ◌⊗◌, ◌≐◌}
+use Rattle.exact_values.proofs.Ring.{by_ring1, by_ring3, number, opposite, ◌⊕◌, ◌⊖◌, ◌⊗◌, ◌≐◌}
 use Rattle.exact_values.proofs.Order.{le_by_one}
 use Rattle.affine_conditions.specs.Conditions.{Holds}
-use Rattle.affine_conditions.specs.Ends.{Meets, IsBetweenEnds, IsEither}
+use Rattle.affine_conditions.specs.Ends.{Meets, IsBetweenEnds}
 use Rattle.affine_conditions.specs.declared.tightening.End.{End}
 use Rattle.affine_conditions.specs.declared.tightening.Ends.{Ends}
-use Rattle.changed_programs.specs.Changes.{Sides, SidesHold, sign_sides, condition, condition_if}
+use Rattle.changed_programs.specs.Changes.{SidesHold, condition, condition_if}
 use Rattle.lp_definitions.specs.LinearProgram.{LinearProgram, Vector, value_at, for_min}
 use Rattle.lp_definitions.specs.declared.Sense.{Sense}
 use Rattle.lp_definitions.specs.declared.Sense.TheVariants.{Min, Max}
 use Rattle.lp_definitions.specs.declared.Status.{Status}
 use Rattle.lp_laws.proofs.Values.{clash}
 use Rattle.path_definitions.specs.Moves.{may_rise, may_fall}
-use Rattle.ranging.specs.RowEnds.{rate_bound, sides_of, RatesStayTo, IsTightenedIf, IsEitherRate, IsWithRate, IsRateEnd, AreEnds, AreRowEnds}
+use Rattle.ranging.specs.RowEnds.{rate_bound, sides_of, RatesStayTo, IsTightenedIf, IsEitherRate, IsWithRate, IsRateEnd, AreRowEnds}
 
 -- the conditions of a price from which y times a rate is taken, as bounds on y
 below_is : (price rate y : ℚ) → (y *ℚ rate ≤ℚ price) ↔ (zero_ℚ ≤ℚ price +ℚ neg_ℚ y *ℚ rate)
-below_is price rate y =
-    (λ h. le_by_one h (by_ring3 price rate y (λ p r y. p ⊕ opposite y ⊗ r ≐ number (pos 0) ⊕ (p ⊖ y ⊗ r)) refl),
-    λ h. le_by_one h (by_ring3 price rate y (λ p r y. p ≐ y ⊗ r ⊕ (p ⊕ opposite y ⊗ r ⊖ number (pos 0))) refl))
+below_is price rate y = (
+  λ h. le_by_one h (by_ring3 price rate y (λ p r y. p ⊕ opposite y ⊗ r ≐ number (pos 0) ⊕ (p ⊖ y ⊗ r)) refl),
+  λ h. le_by_one h (by_ring3 price rate y (λ p r y. p ≐ y ⊗ r ⊕ (p ⊕ opposite y ⊗ r ⊖ number (pos 0))) refl),
+)
 
 above_is : (price rate y : ℚ) → (price ≤ℚ y *ℚ rate) ↔ (zero_ℚ ≤ℚ neg_ℚ price +ℚ neg_ℚ y *ℚ neg_ℚ rate)
-above_is price rate y =
-    (λ h. le_by_one h (by_ring3 price rate y (λ p r y. opposite p ⊕ opposite y ⊗ opposite r ≐ number (pos 0) ⊕ (y ⊗ r ⊖ p)) refl),
-    λ h. le_by_one h (by_ring3 price rate y (λ p r y. y ⊗ r ≐ p ⊕ (opposite p ⊕ opposite y ⊗ opposite r ⊖ number (pos 0))) refl))
+above_is price rate y = (
+  λ h. le_by_one h (by_ring3 price rate y (λ p r y. opposite p ⊕ opposite y ⊗ opposite r ≐ number (pos 0) ⊕ (y ⊗ r ⊖ p)) refl),
+  λ h. le_by_one h (by_ring3 price rate y (λ p r y. y ⊗ r ≐ p ⊕ (opposite p ⊕ opposite y ⊗ opposite r ⊖ number (pos 0))) refl),
+)
 
 twice_below : (price rate y : ℚ) → (y *ℚ rate ≤ℚ price) ↔ (zero_ℚ ≤ℚ neg_ℚ (neg_ℚ price) +ℚ neg_ℚ y *ℚ neg_ℚ (neg_ℚ rate))
-twice_below price rate y =
-    (λ h. le_by_one h (by_ring3 price rate y (λ p r y. opposite (opposite p) ⊕ opposite y ⊗ opposite (opposite r) ≐ number (pos 0) ⊕ (p ⊖ y ⊗ r)) refl),
-    λ h. le_by_one h (by_ring3 price rate y (λ p r y. p ≐ y ⊗ r ⊕ (opposite (opposite p) ⊕ opposite y ⊗ opposite (opposite r) ⊖ number (pos 0))) refl))
+twice_below price rate y = (
+  λ h. le_by_one h (by_ring3 price rate y (λ p r y. opposite (opposite p) ⊕ opposite y ⊗ opposite (opposite r) ≐ number (pos 0) ⊕ (p ⊖ y ⊗ r)) refl),
+  λ h. le_by_one h (by_ring3 price rate y (λ p r y. p ≐ y ⊗ r ⊕ (opposite (opposite p) ⊕ opposite y ⊗ opposite (opposite r) ⊖ number (pos 0))) refl),
+)
 
-rising_bound : (s : Sense) (price rate : ℚ) (j : ℕ) (y : ℚ) → Meets (rate_bound s true price rate j) y ↔ Holds (condition (for_min s price) (for_min s rate)) (neg_ℚ y)
+pub rising_bound : (s : Sense) (price rate : ℚ) (j : ℕ) (y : ℚ) → Meets (rate_bound s true price rate j) y ↔ Holds (condition (for_min s price) (for_min s rate)) (neg_ℚ y)
 rising_bound Min price rate j y = below_is price rate y
 rising_bound Max price rate j y = above_is price rate y
 
-falling_bound : (s : Sense) (price rate : ℚ) (j : ℕ) (y : ℚ) → Meets (rate_bound s false price rate j) y ↔ Holds (condition (neg_ℚ (for_min s price)) (neg_ℚ (for_min s rate))) (neg_ℚ y)
+pub falling_bound : (s : Sense) (price rate : ℚ) (j : ℕ) (y : ℚ) → Meets (rate_bound s false price rate j) y ↔ Holds (condition (neg_ℚ (for_min s price)) (neg_ℚ (for_min s rate))) (neg_ℚ y)
 falling_bound Min price rate j y = above_is price rate y
 falling_bound Max price rate j y = twice_below price rate y
 
@@ -57,7 +60,7 @@ flat a b x y none h =
 neg_zero : (v : ℚ) → v ≡ zero_ℚ → neg_ℚ v ≡ zero_ℚ
 neg_zero v e = ap neg_ℚ e ∙ by_ring1 v (λ v. opposite (number (pos 0)) ≐ number (pos 0)) refl
 
-for_min_zero : (s : Sense) (v : ℚ) → v ≡ zero_ℚ → for_min s v ≡ zero_ℚ
+pub for_min_zero : (s : Sense) (v : ℚ) → v ≡ zero_ℚ → for_min s v ≡ zero_ℚ
 for_min_zero Min v e = e
 for_min_zero Max v e = neg_zero v e
 
@@ -70,9 +73,10 @@ module _ (p : LinearProgram) (s : List Status) (price rate : ℚ) (j : ℕ) wher
   no_rate ends none holds = record { exact = λ y. (λ h. (h, stays y), λ h. h.0); low = inl refl; high = inl refl }
     where
       stays : (y : ℚ) → SidesHold (sides_of p s price rate j) (neg_ℚ y)
-      stays y =
-          (flat_if (may_rise p s j) (for_min p.sense price) (for_min p.sense rate) zero_ℚ (neg_ℚ y) (for_min_zero p.sense rate none) holds.0,
-          flat_if (may_fall p s j) (neg_ℚ (for_min p.sense price)) (neg_ℚ (for_min p.sense rate)) zero_ℚ (neg_ℚ y) (neg_zero (for_min p.sense rate) (for_min_zero p.sense rate none)) holds.1)
+      stays y = (
+        flat_if (may_rise p s j) (for_min p.sense price) (for_min p.sense rate) zero_ℚ (neg_ℚ y) (for_min_zero p.sense rate none) holds.0,
+        flat_if (may_fall p s j) (neg_ℚ (for_min p.sense price)) (neg_ℚ (for_min p.sense rate)) zero_ℚ (neg_ℚ y) (neg_zero (for_min p.sense rate) (for_min_zero p.sense rate none)) holds.1,
+      )
 
   either_then : (rate ≢ zero_ℚ) → (a b c : Option End) → (b ≡ a) ⊎ (b ≡ Some (record { value = price /ℚ rate; by = j; which = 0 })) → (c ≡ b) ⊎ (c ≡ Some (record { value = price /ℚ rate; by = j; which = 0 })) → IsEitherRate price rate j a c
   either_then apart a b c _ (inr new) = inr (apart, new)

@@ -4,9 +4,8 @@
 --     opposite ends                their opposites
 --     IsOwn p s k t                where k is not fixed, t is not past the limit of k at which it doesn't stand
 --     SumRefused, DifferenceRefused    the sum of a limit or the difference of a cost with an end is refused
-use Rattle.std.specs.Prelude.{◌≡◌, ◌↔◌, ◌⊎◌, ℕ, List, Option, Some, IfSome, option_map, Bool, true, false}
+use Rattle.std.specs.Prelude.{◌≡◌, ◌⊎◌, ℕ, List, Option, Some, IfSome, option_map, Bool, true, false}
 use Rattle.exact_values.specs.Rational.{ℚ, neg_ℚ, ◌-ℚ◌, ◌≤ℚ◌}
-use Rattle.affine_conditions.specs.Ends.{IsBetweenEnds}
 use Rattle.affine_conditions.specs.declared.tightening.End.{End}
 use Rattle.affine_conditions.specs.declared.tightening.Ends.{Ends}
 use Rattle.frac128.specs.declared.Op.TheVariants.{Add, Sub}

@@ -10,7 +10,7 @@ use Rattle.affine_conditions.specs.Ends.{Meets, IsBetweenEnds, IsEither}
 use Rattle.affine_conditions.specs.declared.tightening.Bound.{Bound}
 use Rattle.affine_conditions.specs.declared.tightening.End.{End}
 use Rattle.affine_conditions.specs.declared.tightening.Ends.{Ends}
-use Rattle.changed_programs.specs.Changes.{Sides, SidesHold, rate_sides, sign_sides}
+use Rattle.changed_programs.specs.Changes.{Sides, SidesHold, sign_sides}
 use Rattle.frac128.specs.declared.Op.TheVariants.{Div}
 use Rattle.lp_definitions.specs.LinearProgram.{LinearProgram, Vector, for_min}
 use Rattle.lp_definitions.specs.declared.Evidence.{Evidence}

@@ -6,4 +6,9 @@ mod choices;
 mod evidence;
 mod intervals;
 mod limit_ends;
+mod lists;
+mod pass;
+mod reporting;
 mod row_ends;
+
+pub use reporting::range;

@@ -23,12 +23,7 @@ pub struct Distances {
 }
 
 /// The limit of `i` of this number, less the value.
-fn distance(
-    limit: Option<Frac>,
-    value: Frac,
-    i: u32,
-    which: u32,
-) -> Result<Option<Frac>, Evidence>
+fn distance(limit: Option<Frac>, value: Frac, i: u32, which: u32) -> Result<Option<Frac>, Evidence>
     ensures distance { IfOk result (λ far. far ≡ less_value value limit) }
     ensures refused { IfErr result (λ e. IfSome limit (λ l. IsRefusal 6 0 i 0 which Sub l value e)) }
     ensures there { IfErr result (λ e. IsSome limit) }
@@ -84,13 +79,7 @@ fn with_distance(
 }
 
 /// The ends with the bounds of both limits of `i`.
-fn with_distances(
-    ends: Ends,
-    far: &Distances,
-    rate: Frac,
-    i: u32,
-    k: u32,
-) -> Result<Ends, Evidence>
+fn with_distances(ends: Ends, far: &Distances, rate: Frac, i: u32, k: u32) -> Result<Ends, Evidence>
     requires { rate ≢ zero_ℚ }
     ensures ends { IfOk result (IsWithDistances far.now rate i ends) }
     ensures refused { IfErr result (IsBasicRefused far.now rate i k) }

@@ -1,4 +1,4 @@
-use Rattle.std.proofs.Common.{◌≡◌, ◌-◌, length}
+use Rattle.std.proofs.Common.{◌≡◌, length}
 use Rattle.lp_definitions.specs.LinearProgram.{value_at}
 use Rattle.ranging.proofs.Distances.{AreMetTo}
 use Rattle.ranging.proofs.limit_ends.meet_limits.Given as goal

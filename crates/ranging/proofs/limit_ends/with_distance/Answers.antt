@@ -1,4 +1,4 @@
-use Rattle.std.proofs.Common.{◌≡◌, Some, rules}
+use Rattle.std.proofs.Common.{◌≡◌, Some}
 use Rattle.ranging.proofs.Distances.{one_distance, refused_quotient}
 use Rattle.ranging.proofs.limit_ends.with_distance.Goals as goal
 
