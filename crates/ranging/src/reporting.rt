@@ -1,7 +1,7 @@
 //! The report of all intervals.
 
 ghost use Rattle.std.specs.Prelude.{◌≡◌, None, length, IfOk, IfErr};
-ghost use Rattle.lp_definitions.specs.LinearProgram.{size, value_at};
+ghost use Rattle.lp_definitions.specs.LinearProgram.{size, value_at, IsLinearProgram};
 ghost use Rattle.lp_definitions.specs.Basis.{basics_of, IsPointOf, ArePricesOf, IsOptimalBasis};
 ghost use Rattle.lp_definitions.specs.Waypoints.{KeepsWaypoints};
 ghost use Rattle.postoptimal_definitions.specs.Ranges.{IsRangeReport};
@@ -30,6 +30,7 @@ fn report(
     found: &[Ends],
     ends: &[Ends],
 ) -> Result<RangeReport, Stop>
+    requires lawful { IsLinearProgram lp.now }
     requires no_change { lp.now.change ≡ None }
     requires optimal { IsOptimalBasis lp.now basis.now }
     requires point { IsPointOf lp.now basis.now (value_at point.now) }
@@ -43,7 +44,6 @@ fn report(
     ensures report { IfOk result (λ report. IsRangeReport lp.now basis.now (report_of report)) }
     ensures overflow { IfErr result (λ stop. IfOverflow stop (RefusedAnywhere lp.now basis.now)) }
 {
-    let _size = lp.number_of_variables();
     let limits = limit_list(alloc, lp, basis, point, ends)?;
     let costs = cost_list(alloc, lp, basis, prices, found)?;
     let rows = row_list(alloc, lp, basis, found)?;
