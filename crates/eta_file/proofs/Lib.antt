@@ -6,3 +6,5 @@ pub mod Directions
 pub mod RefusedLaws
 pub mod FileLaws
 pub mod Marks
+pub mod Counts
+pub mod ColumnLaws

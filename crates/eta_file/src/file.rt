@@ -3,13 +3,13 @@
 ghost use Rattle.std.specs.Prelude.{◌≡◌, ◌≢◌, ℕ, ◌+◌, ◌-◌, ◌*◌, ◌<◌, ◌≤◌, [], ◌∷◌, length, take, not, ◌&&◌, IfOk, IfErr, OnOk, OnErr, slice_index_or};
 ghost use Rattle.exact_values.specs.Rational.{zero_ℚ};
 ghost use Rattle.exact_values.specs.Tests.{eq_ℚ};
-ghost use Rattle.lp_definitions.specs.LinearProgram.{IsMatrix, IsColumn, column, size, value_at};
-ghost use Rattle.lp_definitions.specs.Basis.{IsBasic, IsNonbasic, IsNonsingular, IsDirectionOf, exchanged, row_basics};
+ghost use Rattle.lp_definitions.specs.LinearProgram.{IsMatrix, IsVariable, IsColumn, column, size, value_at};
+ghost use Rattle.lp_definitions.specs.Basis.{is_in, IsBasic, IsNonbasic, IsNonsingular, IsDirectionOf, exchanged, row_basics};
 ghost use Rattle.lp_definitions.specs.Waypoints.{waypoint};
 ghost use Rattle.lp_definitions.specs.RatesEvidence.{ExchangeRefused};
 ghost use Rattle.lp_model.specs.RatesCalls.{HasPivot, ColumnOverflow, ExchangeOverflow};
 ghost use Rattle.eta_file.specs.Crossings.{NoneLater, LeftAt};
-ghost use Rattle.eta_file.specs.Prefixes.{Passed, entries_to, IsLent, after, entry_count};
+ghost use Rattle.eta_file.specs.Prefixes.{Passed, entries_to, IsLent, IsExchangeOf, basic_columns, after, entry_count};
 ghost use Rattle.eta_file.specs.Inverse.{ways_of, IsAppended};
 
 use crate::carry::{cross, fill_column, last_left, leave};
@@ -111,6 +111,14 @@ impl EtaFile {
         ensures passed { Passed self.now.matrix (row_basics self.now.matrix) self.now.etas }
     {
         self.rows + self.cols
+    }
+
+    /// Whether variable `k`, from 1, is basic.
+    pub fn is_basic(&self, k: u32) -> bool
+        requires { IsVariable self.now.matrix k }
+        ensures { result ≡ is_in self.now.basics k }
+    {
+        self.marks[k as usize - 1]
     }
 
     /// The numbers of column `j`, from 1.
@@ -312,18 +320,21 @@ impl EtaFile {
         total
     }
 
-    /// The number of etas.
+    /// The number of etas. There are at least as many as there are basic columns.
     pub fn etas(&self) -> u32
-        ensures { result ≡ length self.now.etas }
+        ensures all { result ≡ length self.now.etas }
+        ensures enough { basic_columns self.now.matrix self.now.basics ≤ result }
     {
         self.etas.len() as u32
     }
 
-    /// The k-th exchange, and the rates that the basics before it have at the variable that enters.
+    /// The k-th exchange, and the rates that the basics before it have at the variable that enters, at most one for each row.
     pub fn eta(&self, k: u32) -> Eta<'_>
         requires low { 1 ≤ k }
         requires high { k ≤ length self.now.etas }
-        ensures { IsLent self.now.etas (k - 1) result.p result.q result.entries.now }
+        ensures lent { IsLent self.now.etas (k - 1) result.p result.q result.entries.now }
+        ensures its { IsExchangeOf self.now.matrix (after (row_basics self.now.matrix) (take (k - 1) self.now.etas)) result.p result.q result.entries.now }
+        ensures few { length result.entries.now ≤ self.now.matrix.rows }
     {
         let eta = &self.etas[k as usize - 1];
         Eta {
