@@ -7,4 +7,5 @@ pub mod RefusedLaws
 pub mod FileLaws
 pub mod Marks
 pub mod Counts
+pub mod Lists
 pub mod ColumnLaws

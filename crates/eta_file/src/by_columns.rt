@@ -52,17 +52,6 @@ impl ByColumns {
     {
         &self.file
     }
-
-    /// The rate of `i` at `k`, and 0 where `k` is basic.
-    fn rate(&mut self, i: u32, k: u32) -> Result<Frac, Stop>
-        requires low { IsVariable self.old.matrix i }
-        requires high { IsVariable self.old.matrix k }
-        ensures value { IfOk result (IsRateAt self.old i k) }
-        ensures overflow { IfErr result (IsColumnStop self.old) }
-        ensures same { self.new ≡ self.old }
-    {
-        rate_in(&self.file, i, k, &mut self.room)
-    }
 }
 
 /// The rate of `i` at `k`, and 0 where `k` is basic, with room for the direction of `k`.
@@ -79,6 +68,25 @@ fn rate_in(file: &EtaFile, i: u32, k: u32, room: &mut [Frac]) -> Result<Frac, St
     }
     file.column(k, room)?;
     Ok(room[i as usize - 1])
+}
+
+/// Fills `out` with the rates of the basic `i`, by the column of each nonbasic, with room for it.
+pub fn row_by_columns(
+    file: &EtaFile,
+    i: u32,
+    out: &mut [Frac],
+    room: &mut [Frac],
+) -> Result<(), Stop>
+    requires basic { IsBasic file.now.matrix file.now.basics i }
+    requires places { length out.old ≡ size file.now.matrix }
+    requires room { length room.old ≡ size file.now.matrix }
+    ensures rates { OnOk result (IsRowOf file.now.matrix file.now.basics i (value_at out.new)) }
+    ensures overflow { RowOverflow result file.now.matrix file.now.basics (ways_of file.now) (ways_of file.now) }
+{
+    for k in 0..file.size() {
+        out[k as usize] = rate_in(file, i, k + 1, room)?;
+    }
+    Ok(())
 }
 
 impl Rates for ByColumns {
@@ -110,10 +118,7 @@ impl Rates for ByColumns {
         ensures same { self.new ≡ self.old }
         ensures waypoints { KeepsWaypoints self.old.matrix self.old.basics (ways_of self.old) self.new.basics (ways_of self.new) }
     {
-        for k in 0..self.file.size() {
-            out[k as usize] = self.rate(i, k + 1)?;
-        }
-        Ok(())
+        row_by_columns(&self.file, i, out, &mut self.room)
     }
 
     /// After a Stop the file is as before.
