@@ -1,5 +1,4 @@
-use Rattle.std.proofs.Common.{◌≡◌, ◌<◌, ◌+◌, length, arith, rules, Err}
-use Rattle.eta_file.specs.Inverse.{IsColumnStop}
+use Rattle.std.proofs.Common.{◌≡◌, arith, rules, Err}
 use Rattle.eta_file.proofs.ColumnLaws.{row_of_rates, rates_more, row_stop}
 use Rattle.eta_file.proofs.by_columns.row_by_columns.Goals as goal
 

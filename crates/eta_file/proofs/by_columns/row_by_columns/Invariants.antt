@@ -1,4 +1,4 @@
-use Rattle.std.proofs.Common.{◌≡◌, ℕ, ◌<◌, ◌+◌, get_or}
+use Rattle.std.proofs.Common.{ℕ, ◌<◌, ◌+◌, get_or}
 use Rattle.exact_values.specs.Rational.{zero_ℚ}
 use Rattle.eta_file.specs.Inverse.{IsRateAt}
 use Rattle.eta_file.proofs.by_columns.row_by_columns.Given as goal
