@@ -19,7 +19,8 @@ use Rattle.eta_file.specs.declared.eta.StoredEta.{StoredEta}
 use Rattle.eta_file.specs.Entries.{others, IsEntryWithin, AreApart, IsRowWithin, AreDistinctRows}
 use Rattle.eta_file.specs.Crossings.{IsWithinPlaces, IsCrossed, IsLeaving, IsColumnFilled, NoneLater}
 use Rattle.eta_file.specs.Refusals.{CrossRefused, LeaveRefused}
-use Rattle.eta_file.specs.Prefixes.{IsEta, after, prefixes, rate_entries, entries_to, entry_count}
+use Rattle.eta_file.specs.Prefixes.{IsEta, after, prefixes, rate_entries, entries_to, entry_count, IsExchangeOf}
+use Rattle.eta_file.proofs.Counts.{rate_entries_few}
 use Rattle.eta_file.specs.File.{IsFileOf}
 use Rattle.lp_model.specs.RatesCalls.{HasPivot, IfOverflow}
 use Rattle.lp_model.specs.declared.Stop.{Stop}
@@ -73,6 +74,12 @@ module _ (a : Matrix) (etas : List StoredEta) (marks : Basics) (file : IsFileOf 
     -- the place after it, as one number less
     pub set_then : (n : ℕ) → n ≡ k + 1 → set_at n ≡ exchanged (set_at k) eta.p eta.q
     set_then n same = ap set_at same ∙ set_next
+
+    pub exchange_of : IsExchangeOf a (set_at k) eta.p eta.q eta.entries.items
+    exchange_of = record { leaves = is.leaves; enters = is.enters; rate = is.rate; are_rates = is.are_rates; apart = is.apart; are_entries = is.are_entries }
+
+    pub entries_at_most_rows : length eta.entries.items ≤ a.rows
+    entries_at_most_rows = subst (λ es. length es ≤ a.rows) (sym is.are_entries) (rate_entries_few a (set_at k) (λ i. is.rate i eta.q) (one_at k))
 
     pub within_places : (n : ℕ) → n ≡ size a → IsWithinPlaces n eta
     within_places n same = record {

@@ -6,3 +6,6 @@ pub mod Directions
 pub mod RefusedLaws
 pub mod FileLaws
 pub mod Marks
+pub mod Counts
+pub mod Lists
+pub mod ColumnLaws

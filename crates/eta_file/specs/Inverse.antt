@@ -1,10 +1,16 @@
 -- What an eta file stands for.
 --     Inverse                      a matrix, a set of basics, and the exchanges that led to it from the rows
 --     ways_of f                    the sets of basics that the file has passed through: number w is the one after the first w - 1 etas
+--     IsRateAt f i k v            v is the rate of i at k, and 0 where k is basic
+--     IsColumnStop f stop          the stop is an overflow that the column of a nonbasic may come to
 --     IsAppended f p q g           g has one eta more, of the exchange of p for q
-use Rattle.std.specs.Prelude.{◌≡◌, ℕ, List, [], ◌∷◌, ◌++◌}
-use Rattle.lp_definitions.specs.LinearProgram.{Matrix}
-use Rattle.lp_definitions.specs.Basis.{Basics, exchanged, row_basics}
+use Rattle.std.specs.Prelude.{◌≡◌, ℕ, true, false, List, [], ◌∷◌, ◌++◌}
+use Rattle.exact_values.specs.Rational.{ℚ, zero_ℚ}
+use Rattle.lp_definitions.specs.LinearProgram.{Matrix, Vector}
+use Rattle.lp_definitions.specs.Basis.{Basics, is_in, IsDirectionOf, exchanged, row_basics}
+use Rattle.lp_definitions.specs.RatesEvidence.{ExchangeRefused}
+use Rattle.lp_model.specs.RatesCalls.{IfOverflow}
+use Rattle.lp_model.specs.declared.Stop.{Stop}
 use Rattle.eta_file.specs.Prefixes.{prefixes}
 use Rattle.eta_file.specs.declared.eta.StoredEta.{StoredEta}
 
@@ -23,3 +29,10 @@ pub record IsAppended (f : Inverse) (p q : ℕ) (g : Inverse) : Type 0 where
   pub is_p : eta.p ≡ p
   pub is_q : eta.q ≡ q
   pub one_more : g.etas ≡ f.etas ++ eta ∷ []
+
+pub record IsRateAt (f : Inverse) (i k : ℕ) (v : ℚ) : Type 0 where
+  pub at_basic : is_in f.basics k ≡ true → v ≡ zero_ℚ
+  pub at_nonbasic : is_in f.basics k ≡ false → (d : Vector) → IsDirectionOf f.matrix f.basics k d → v ≡ d i
+
+abbrev pub IsColumnStop : Inverse → Stop → Type 0
+IsColumnStop f stop = IfOverflow stop (ExchangeRefused f.matrix (f.basics ∷ ways_of f) f.basics (ways_of f))

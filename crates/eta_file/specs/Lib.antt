@@ -4,3 +4,4 @@ pub mod Refusals
 pub mod Prefixes
 pub mod Inverse
 pub mod File
+pub mod Columns

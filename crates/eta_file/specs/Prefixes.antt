@@ -1,12 +1,14 @@
 -- The sets of basics that a list of exchanges passes through, and what an eta keeps of its exchange.
 --     rate_entries a b d           the numbers of a direction at the basics b, where they are not 0, in ascending order
 --     IsLent etas k p q entries    the eta at this place has these
+--     IsExchangeOf a b p q entries an exchange at the basics b, with its rates that are not 0
+--     basic_columns a b            the number of basic columns
 --     IsEta a b eta                the eta of an exchange at the basics b
 --     Passed a b etas              each eta is one of an exchange at the set that those before it lead to, from b
 --     after b etas                 the set that they lead to
 --     prefixes b etas              all sets on the way, b first
 --     entry_count etas             the number of entries of all etas
-use Rattle.std.specs.Prelude.{◌≡◌, ◌≢◌, ℕ, ◌+◌, Bool, List, [], ◌∷◌, length, map, filter, slice_index_or, not, ◌&&◌}
+use Rattle.std.specs.Prelude.{◌≡◌, ◌≢◌, ℕ, ◌+◌, Bool, List, [], ◌∷◌, length, map, filter, count_by, drop, slice_index_or, not, ◌&&◌}
 use Rattle.exact_values.specs.Rational.{ℚ, zero_ℚ}
 use Rattle.exact_values.specs.Tests.{eq_ℚ}
 use Rattle.lp_definitions.specs.LinearProgram.{Matrix, Vector, size, numbers_from}
@@ -57,3 +59,15 @@ pub record IsLent (etas : List StoredEta) (place p q : ℕ) (entries : List EtaE
   pub is_p : (d : StoredEta) → (slice_index_or etas place d).p ≡ p
   pub is_q : (d : StoredEta) → (slice_index_or etas place d).q ≡ q
   pub are_entries : (d : StoredEta) → (slice_index_or etas place d).entries.items ≡ entries
+
+-- p goes for q at the basics b, and these are the rates at q that are not 0
+pub record IsExchangeOf (a : Matrix) (b : Basics) (p q : ℕ) (entries : List EtaEntry) : Type 0 where
+  pub leaves : IsBasic a b p
+  pub enters : IsNonbasic a b q
+  pub rate : ℕ → ℕ → ℚ
+  pub are_rates : AreRates a b rate
+  pub apart : rate p q ≢ zero_ℚ
+  pub are_entries : entries ≡ rate_entries a b (λ i. rate i q)
+
+abbrev pub basic_columns : Matrix → Basics → ℕ
+basic_columns a b = count_by (λ mark. mark) (drop a.rows b)

@@ -112,7 +112,8 @@ impl Crossing {
             .map_err(|refused| self.evidence(3, i, j, refused))
     }
 
-    /// The rate of `i` at `j` without its part along the enterer's direction. This counts as two operations.
+    /// The rate of `i` at `j` without its part along the enterer's direction. Where the product or the difference doesn't fit, it is
+    /// had from the product's parts. Either way this counts as two operations.
     fn rest<L: Ledger>(
         self,
         i: u32,
@@ -128,6 +129,27 @@ impl Crossing {
     {
         steps.tick();
         steps.tick();
+        match self.plain_rest(i, j, rate, quotient, factor) {
+            Ok(rest) => Ok(rest),
+            Err(evidence) => match rate.sub_product(quotient, factor) {
+                Some(rest) => Ok(rest),
+                None => Err(evidence),
+            },
+        }
+    }
+
+    /// The same by a product and a difference alone.
+    fn plain_rest(
+        self,
+        i: u32,
+        j: u32,
+        rate: Frac,
+        quotient: Frac,
+        factor: Frac,
+    ) -> Result<Frac, Evidence>
+        ensures value { IfOk result (λ rest. rest ≡ rate -ℚ quotient *ℚ factor) }
+        ensures refused { IfErr result (IsRestRefused self.way self.p self.q i j rate quotient factor) }
+    {
         let product = self.product(i, j, quotient, factor)?;
         self.difference(i, j, rate, product)
     }

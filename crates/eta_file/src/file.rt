@@ -3,13 +3,15 @@
 ghost use Rattle.std.specs.Prelude.{◌≡◌, ◌≢◌, ℕ, ◌+◌, ◌-◌, ◌*◌, ◌<◌, ◌≤◌, [], ◌∷◌, length, take, not, ◌&&◌, IfOk, IfErr, OnOk, OnErr, slice_index_or};
 ghost use Rattle.exact_values.specs.Rational.{zero_ℚ};
 ghost use Rattle.exact_values.specs.Tests.{eq_ℚ};
-ghost use Rattle.lp_definitions.specs.LinearProgram.{IsMatrix, IsColumn, column, size, value_at};
-ghost use Rattle.lp_definitions.specs.Basis.{IsBasic, IsNonbasic, IsNonsingular, IsDirectionOf, exchanged, row_basics};
+ghost use Rattle.lp_definitions.specs.LinearProgram.{IsMatrix, IsVariable, IsColumn, column, size, value_at};
+ghost use Rattle.lp_definitions.specs.Basis.{is_in, IsBasic, IsNonbasic, IsNonsingular, IsDirectionOf, exchanged, row_basics};
 ghost use Rattle.lp_definitions.specs.Waypoints.{waypoint};
 ghost use Rattle.lp_definitions.specs.RatesEvidence.{ExchangeRefused};
+ghost use Rattle.lp_model.specs.Columns.{entries_of};
 ghost use Rattle.lp_model.specs.RatesCalls.{HasPivot, ColumnOverflow, ExchangeOverflow};
 ghost use Rattle.eta_file.specs.Crossings.{NoneLater, LeftAt};
-ghost use Rattle.eta_file.specs.Prefixes.{Passed, entries_to, IsLent, after, entry_count};
+ghost use Rattle.eta_file.specs.Prefixes.{Passed, entries_to, IsLent, IsExchangeOf, basic_columns, after, entry_count};
+ghost use Rattle.eta_file.specs.declared.eta.StoredEta.{StoredEta};
 ghost use Rattle.eta_file.specs.Inverse.{ways_of, IsAppended};
 
 use crate::carry::{cross, fill_column, last_left, leave};
@@ -67,7 +69,7 @@ fn has_entry(mark: bool, rate: Frac) -> bool
 }
 
 /// The numbers of a direction at the marked variables, where they are not 0.
-fn entries_of(alloc: Global, direction: &[Frac], marks: &[bool]) -> Result<Vec<EtaEntry>, NoMemory>
+fn entries_at(alloc: Global, direction: &[Frac], marks: &[bool]) -> Result<Vec<EtaEntry>, NoMemory>
     requires places { length direction.now ≡ length marks.now }
     requires small { length marks.now < 4294967296 }
     ensures { IfOk result (λ entries. entries.items ≡ entries_to marks.now (value_at direction.now) (length marks.now)) }
@@ -82,6 +84,18 @@ fn entries_of(alloc: Global, direction: &[Frac], marks: &[bool]) -> Result<Vec<E
         }
     }
     Ok(entries)
+}
+
+/// A copy of the columns.
+fn copy_of_columns(alloc: Global, columns: &Vec<Vec<Entry>>) -> Result<Vec<Vec<Entry>>, NoMemory>
+    ensures { IfOk result (λ copy. entries_of copy.items ≡ entries_of columns.now.items) }
+{
+    let mut copy = Vec::new(alloc);
+    for column in columns {
+        copy.push(Vec::from_slice(alloc, column)?)
+            .map_err(|_| NoMemory)?;
+    }
+    Ok(copy)
 }
 
 impl EtaFile {
@@ -111,6 +125,40 @@ impl EtaFile {
         ensures passed { Passed self.now.matrix (row_basics self.now.matrix) self.now.etas }
     {
         self.rows + self.cols
+    }
+
+    /// The number of rows.
+    pub fn rows(&self) -> u32
+        ensures { result ≡ self.now.matrix.rows }
+    {
+        self.rows
+    }
+
+    /// A file of the same matrix where all rows are basic.
+    pub fn at_rows(&self) -> Result<EtaFile, NoMemory>
+        ensures matrix { IfOk result (λ file. file.matrix ≡ self.now.matrix) }
+        ensures basics { IfOk result (λ file. file.basics ≡ row_basics self.now.matrix) }
+        ensures no_eta { IfOk result (λ file. file.etas ≡ []) }
+    {
+        let size = self.size();
+        let mut marks = vec![in self.alloc; false; size as usize].map_err(|_| NoMemory)?;
+        self.mark_rows(&mut marks);
+        Ok(EtaFile {
+            rows: self.rows,
+            cols: self.cols,
+            columns: copy_of_columns(self.alloc, &self.columns)?,
+            marks,
+            etas: Vec::new(self.alloc),
+            alloc: self.alloc,
+        })
+    }
+
+    /// Whether variable `k`, from 1, is basic.
+    pub fn is_basic(&self, k: u32) -> bool
+        requires { IsVariable self.now.matrix k }
+        ensures { result ≡ is_in self.now.basics k }
+    {
+        self.marks[k as usize - 1]
     }
 
     /// The numbers of column `j`, from 1.
@@ -253,7 +301,7 @@ impl EtaFile {
         if self.etas.len() >= MOST_ETAS {
             return Err(NoMemory);
         }
-        let entries = entries_of(self.alloc, direction, &self.marks)?;
+        let entries = entries_at(self.alloc, direction, &self.marks)?;
         let pivot = direction[p as usize - 1];
         let eta = StoredEta {
             p,
@@ -312,18 +360,31 @@ impl EtaFile {
         total
     }
 
-    /// The number of etas.
+    /// The number of etas. There are at least as many as there are basic columns.
     pub fn etas(&self) -> u32
-        ensures { result ≡ length self.now.etas }
+        ensures all { result ≡ length self.now.etas }
+        ensures enough { basic_columns self.now.matrix self.now.basics ≤ result }
     {
         self.etas.len() as u32
     }
 
-    /// The k-th exchange, and the rates that the basics before it have at the variable that enters.
+    /// The pivot of the k-th exchange.
+    pub fn pivot(&self, k: u32) -> Frac
+        requires low { 1 ≤ k }
+        requires high { k ≤ length self.now.etas }
+        ensures { (d : StoredEta) → (slice_index_or self.now.etas (k - 1) d).pivot ≡ result }
+    {
+        let eta = &self.etas[k as usize - 1];
+        eta.pivot
+    }
+
+    /// The k-th exchange, and the rates that the basics before it have at the variable that enters, at most one for each row.
     pub fn eta(&self, k: u32) -> Eta<'_>
         requires low { 1 ≤ k }
         requires high { k ≤ length self.now.etas }
-        ensures { IsLent self.now.etas (k - 1) result.p result.q result.entries.now }
+        ensures lent { IsLent self.now.etas (k - 1) result.p result.q result.entries.now }
+        ensures its { IsExchangeOf self.now.matrix (after (row_basics self.now.matrix) (take (k - 1) self.now.etas)) result.p result.q result.entries.now }
+        ensures few { length result.entries.now ≤ self.now.matrix.rows }
     {
         let eta = &self.etas[k as usize - 1];
         Eta {

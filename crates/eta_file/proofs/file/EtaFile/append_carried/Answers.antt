@@ -8,14 +8,14 @@ use Rattle.eta_file.proofs.CarrySteps.{read_place}
 use Rattle.eta_file.proofs.FileLaws.{marks_counted, appended, added}
 use Rattle.eta_file.proofs.file.EtaFile.append_carried.Goals as goal
 
-pub entries_of-requires-clause-places : goal.entries_of-requires-clause-places
-entries_of-requires-clause-places c =
+pub entries_at-requires-clause-places : goal.entries_at-requires-clause-places
+entries_at-requires-clause-places c =
     let f = inverse_of c.self.inside in
     let places : length c.args.direction.now ≡ size f.matrix = rw (← c.self.view_is) at c.requires.places in
     places ∙ sym (marks_counted f.matrix f.etas f.basics c.self.invariant) ∙ ap length (sym c.deref.ensures.value)
 
-pub entries_of-requires-clause-small : goal.entries_of-requires-clause-small
-entries_of-requires-clause-small c =
+pub entries_at-requires-clause-small : goal.entries_at-requires-clause-small
+entries_at-requires-clause-small c =
     let f = inverse_of c.self.inside in
     let counted = marks_counted f.matrix f.etas f.basics c.self.invariant in
     rw c.deref.ensures.value (omega (arith, counted, c.self.invariant.lawful.small))

@@ -1,8 +1,8 @@
 use Rattle.std.proofs.Common.{rules, ◌≡◌, ◌∙◌, ◌++◌, ◌∷◌, [], ◌+◌, get_or, false, refl}
 use Rattle.eta_file.specs.declared.eta.EtaEntry.{EtaEntry}
 use Rattle.eta_file.proofs.RateEntries.{entry_more, entry_none}
-use Rattle.eta_file.proofs.file.entries_of.Goals as goal
-use Rattle.eta_file.proofs.file.entries_of.Goals.{then-has_entry+in_ok-map_err, else-has_entry}
+use Rattle.eta_file.proofs.file.entries_at.Goals as goal
+use Rattle.eta_file.proofs.file.entries_at.Goals.{then-has_entry+in_ok-map_err, else-has_entry}
 
 pub loop-k-preserved : goal.loop-k-preserved
 loop-k-preserved c =

@@ -1,0 +1,8 @@
+use Rattle.std.proofs.Common.{ℕ, ◌<◌, ◌+◌, get_or}
+use Rattle.exact_values.specs.Rational.{zero_ℚ}
+use Rattle.eta_file.specs.Inverse.{IsRateAt}
+use Rattle.eta_file.proofs.by_columns.row_by_columns.Given as goal
+
+-- the places so far have the rates
+abbrev pub invariant-loop-k : goal.invariant-loop-k
+invariant-loop-k l = (k : ℕ) → k < l.k → IsRateAt l.file l.i (k + 1) (get_or l.out k zero_ℚ)

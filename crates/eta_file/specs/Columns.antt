@@ -1,0 +1,11 @@
+-- What rates by columns keep: a file, and room for a direction.
+use Rattle.std.specs.Prelude.{◌≡◌, length}
+use Rattle.lp_definitions.specs.LinearProgram.{size}
+use Rattle.eta_file.specs.Inverse.{Inverse}
+use Rattle.eta_file.specs.declared.by_columns.ByColumns.TheInside.{Inside}
+
+abbrev pub file_of : Inside → Inverse
+file_of a = a.file
+
+abbrev pub HasRoom : Inside → Type 0
+HasRoom a = length a.room.items ≡ size a.file.matrix

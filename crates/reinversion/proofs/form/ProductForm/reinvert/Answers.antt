@@ -1,0 +1,6 @@
+use Rattle.eta_file.specs.Inverse.{ways_of}
+use Rattle.eta_file.proofs.ColumnLaws.{keeps_same}
+use Rattle.reinversion.proofs.form.ProductForm.reinvert.Goals as goal
+
+pub returns-in-Err-clause-waypoints : goal.returns-in-Err-clause-waypoints
+returns-in-Err-clause-waypoints c = rw (← c.self.view_is) (keeps_same c.self.inside.file.matrix c.self.inside.file.basics (ways_of c.self.inside.file))

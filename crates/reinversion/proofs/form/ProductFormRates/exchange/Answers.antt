@@ -1,0 +1,15 @@
+use Rattle.reinversion.proofs.Keeping.{keeps_through, overflow_through}
+use Rattle.reinversion.proofs.form.ProductFormRates.exchange.Goals as goal
+
+pub exchange_in_file-requires-clause-pivot : goal.exchange_in_file-requires-clause-pivot
+exchange_in_file-requires-clause-pivot c = rw (c.in_ok-reinvert_if_due.ensures.same_matrix, c.in_ok-reinvert_if_due.ensures.same_basics) c.requires.pivot
+
+pub returns-clause-waypoints : goal.returns-clause-waypoints
+returns-clause-waypoints c =
+    keeps_through c.args.self.now c.reinvert_if_due.new.self c.exchange_in_file.new.self c.in_ok-reinvert_if_due.ensures.same_matrix c.in_ok-reinvert_if_due.ensures.same_basics
+    c.in_ok-reinvert_if_due.ensures.waypoints c.exchange_in_file.ensures.waypoints
+
+pub returns-clause-overflow : goal.returns-clause-overflow
+returns-clause-overflow c =
+    overflow_through c.args.self.now c.reinvert_if_due.new.self c.exchange_in_file.new.self c.in_ok-reinvert_if_due.ensures.same_matrix c.in_ok-reinvert_if_due.ensures.same_basics
+    c.in_ok-reinvert_if_due.ensures.waypoints c.exchange_in_file.result c.args.p c.args.q c.exchange_in_file.ensures.overflow

@@ -1,0 +1,6 @@
+use Rattle.reinversion.specs.Rebuilt.{IsRebuilt}
+use Rattle.reinversion.proofs.rebuild.rebuild.Given as goal
+
+-- the columns so far are through
+abbrev pub invariant-loop-c : goal.invariant-loop-c
+invariant-loop-c l = IsRebuilt l.old.matrix l.old.basics l.c l.new
