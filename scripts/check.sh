@@ -1,5 +1,6 @@
 #!/usr/bin/env bash
-# Small checks of the repository, which run behind the gate. A check whose tool is missing is skipped.
+# Small checks of the repository, which run after the gate, in under a minute. A check whose tool is missing is skipped, and so is,
+# saying so, what needs the proved program where it isn't fresh.
 set -u
 cd "$(dirname "$0")/.." || exit 1
 failed=0
@@ -65,6 +66,46 @@ for path in sorted(pathlib.Path(".").rglob("*")):
             bad = 1
 sys.exit(bad)
 PYTHON
+fi
+
+# README.md is short, and the edits that must fail are few.
+most_lines=100 most_edits=220
+lines=$(wc -l <README.md)
+[ "$lines" -le "$most_lines" ] || fail "README.md has $lines lines, more than $most_lines"
+edits=$(find crates -path '*/must-fail/*.edit' | wc -l)
+echo "check: $edits must-fail edits"
+[ "$edits" -le "$most_edits" ] || fail "there are $edits must-fail edits, more than $most_edits"
+
+if command -v python3 >/dev/null; then
+    # Each path that a document names is there.
+    python3 - <<'PYTHON' || fail "a document names what isn't there"
+import pathlib, re, sys
+
+NAMED = re.compile(r"`((?:\.ci|scripts|docs|examples|crates)/[^`\s]*)|\]\(([^)#\s]+)(?:#[^)]*)?\)")
+bad = 0
+for page in [*pathlib.Path(".").glob("*.md"), *pathlib.Path("docs").glob("*.md"), *pathlib.Path("examples").glob("*.md")]:
+    for number, line in enumerate(page.read_text(encoding="utf-8").splitlines(), 1):
+        for found in NAMED.finditer(line):
+            name = (found[1] or "").rstrip(".,:)") or found[2]
+            if "://" in name or re.search(r"NAME|[A-Z]+\.job|<|\.\.\.", name) or "/out/" in name:
+                continue
+            base = pathlib.Path(".") if found[1] else page.parent
+            if not (list(base.glob(name)) if re.search(r"[*?]", name) else (base / name).exists()):
+                print(f"{page}:{number}: {name}", file=sys.stderr)
+                bad = 1
+sys.exit(bad)
+PYTHON
+
+    # The page of faults is that of examples/faults, and the listings of examples/ are those that are worked out apart.
+    python3 scripts/faults.py --check || fail "scripts/faults.py --write makes docs/FAULTS.md"
+    bash scripts/examples.sh --expected || fail "a listing of examples/"
+    python3 scripts/check_tools.py || fail "a script does otherwise than it is to do"
+    if scripts/program.sh --fresh >/dev/null; then
+        bash scripts/examples.sh || fail "the program prints other listings of examples/"
+        python3 scripts/faults.py --run || fail "the program ends the jobs of examples/faults otherwise"
+    else
+        echo "check: no fresh proved program; examples/ aren't run"
+    fi
 fi
 
 [ "$failed" -eq 0 ] && echo "check: ok"

@@ -1,25 +1,25 @@
 #!/usr/bin/env bash
-# Prints the path of the proved program, and builds it first where it is missing or older than a source file.
-# A first build proves every crate below it, which takes minutes. Ends with 1 where there is no proved program.
+# Prints the path of the proved program, which is one that no source, definition or proof is newer than.
+# usage: program.sh [--fresh]
+# Where there is none it is built first (scripts/build.sh); with --fresh nothing is built. Ends with 1 where there is none.
 set -eu
+case ${1:-} in
+    -h | --help)
+        sed -n '2,4s/^# //p' "$0"
+        exit 0
+        ;;
+esac
 top=$(cd "$(dirname "$0")/.." && pwd)
 program=$top/crates/mps360/out/mps360
 
 is_fresh() {
-    [ -x "$program" ] && [ -z "$(find "$top/crates" "$top/crates.txt" -path '*/out' -prune -o \
-        \( -name '*.rt' -o -name crates.txt \) -newer "$program" -print -quit)" ]
+    [ -x "$program" ] && [ -z "$(find "$top/crates" "$top/crates.txt" -name out -prune -o \
+        \( -name '*.rt' -o -name '*.antt' -o -name crates.txt \) -newer "$program" -print -quit)" ]
 }
 
 if ! is_fresh; then
-    command -v rt >/dev/null || exit 1
-    echo "building the proved program; the first time this takes minutes" >&2
-    log=$(mktemp)
-    (cd "$top/crates/mps360" && rt run) >/dev/null 2>"$log" || true
-    if ! is_fresh; then
-        tail -n 5 "$log" >&2
-        rm -f "$log"
-        exit 1
-    fi
-    rm -f "$log"
+    [ "${1:-}" != --fresh ] || exit 1
+    "$top/scripts/build.sh" >&2 || exit 1
+    is_fresh || exit 1
 fi
 echo "$program"

@@ -3,7 +3,7 @@
 # end with want of memory, and that one with the whole problem. With arguments only these allocations are refused.
 # There were 56 of them when this was written, and a run takes half a minute.
 set -u
-cd "$(dirname "$0")/../crates/convert_tests" || exit 1
+cd "$(dirname "$0")/../crates/deck_tests" || exit 1
 
 # What the conversion ends with where this allocation is refused.
 ending() {

@@ -1,6 +1,5 @@
 -- Intervals and chains, from their values to what RANGE and the parametric verbs print of them.
 use Rattle.std.specs.Prelude.{◌≡◌, refl, ℕ, List, [], ◌∷◌, codes, Option, Some, None, map, pos, negsuc}
-use Rattle.std.specs.Fmt.{digits}
 use Rattle.divisors.specs.Gcd.{gcd}
 use Rattle.exact_values.specs.Rational.{ℚ, fraction, whole, ◌+ℚ◌, ◌*ℚ◌, neg_ℚ, inverse_ℚ, reciprocal, compare_ℚ}
 use Rattle.exact_values.specs.Sums.{sum_to}
@@ -15,6 +14,7 @@ use Rattle.card_definitions.specs.Numbers.{number_of, number_fault, value_of}
 use Rattle.problem_definitions.specs.Numbering.{numbered}
 use Rattle.deck_definitions.specs.Described.{described}
 use Rattle.deck_definitions.specs.Conversion.{card_fault, deck_fault, conversion}
+use Rattle.listing_definitions.specs.Numbers.{digits}
 use Rattle.listing_definitions.specs.Report.{Ranges, Parametric}
 use Rattle.listing_definitions.specs.Text.{report_text}
 use Rattle.question_definitions.specs.Answers.{Basis, Sheet, Changing, Row, Set, changing_name, sweeper}

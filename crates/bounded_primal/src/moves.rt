@@ -2,12 +2,16 @@
 
 use frac128::Frac;
 use lp_model::{Evidence, NoMemory, Status, Stop};
+use thiserror::Error;
 
 /// Why a solving call stopped: its limit of steps, a number that was too large, as the evidence shows, or no memory.
-#[derive(Clone, Copy, Debug, PartialEq, Eq)]
+#[derive(Clone, Copy, Debug, PartialEq, Eq, Error)]
 pub enum PrimalStop {
+    #[error("the limit of steps is reached")]
     Limit,
+    #[error("formula {}: {}", .0.formula, .0.refused)]
     Overflow(Evidence),
+    #[error("there is no memory")]
     NoMemory,
 }
 

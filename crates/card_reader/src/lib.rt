@@ -8,8 +8,6 @@ mod cut;
 mod read;
 mod span;
 mod stop;
-#[cfg(test)]
-mod tests;
 
 pub use card::Card;
 pub use cards::Cards;

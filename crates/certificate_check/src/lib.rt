@@ -110,6 +110,3 @@ fn unbounded(lp: &Lp, point: &[Frac], direction: &[Frac]) -> Result<(), Stopped>
     direction_is_free(lp, direction)?;
     direction_betters(lp, direction)
 }
-
-#[cfg(test)]
-mod tests;

@@ -8,7 +8,8 @@ use Rattle.std.proofs.Math.ListN.{drop_of_length-le}
 use Rattle.card_definitions.specs.Cards.{Card, is_skipped, live, numbered_from}
 use Rattle.control_definitions.specs.declared.ControlFault.{ControlFault}
 use Rattle.control_definitions.specs.Verbs.{verb_of}
-use Rattle.control_definitions.specs.Compiled.{is_pend, program_cards, cards_to_pend, control_card_fault, first_control_fault, control_fault, fault_at, head_fault, live_fault, end_fault, misses_label, no_program}
+use Rattle.control_definitions.specs.declared.ControlFaultKind.TheVariants.{NoProgram}
+use Rattle.control_definitions.specs.Compiled.{is_pend, program_cards, cards_to_pend, control_card_fault, first_control_fault, control_fault, fault_at, head_fault, live_fault, end_fault, misses_label}
 use Rattle.control_compiler.specs.Jobs.{live_cards, live_behind, behind_head, has_end, late_fault}
 use Rattle.control_compiler.specs.Underway.{IsReached}
 use Rattle.control_compiler.proofs.Taking.{program_is_no_statement}
@@ -111,6 +112,6 @@ pub head_is_faulty : (job : List (List ℕ)) (head : Card) (rest : List Card) (f
 unfolding control_fault
 head_is_faulty job head rest fault e some = ap (live_fault (length job)) e ∙ rw some refl
 
-pub all_skipped : (job : List (List ℕ)) → live_cards job ≡ [] → control_fault job ≡ Some (fault_at (length job) no_program)
+pub all_skipped : (job : List (List ℕ)) → live_cards job ≡ [] → control_fault job ≡ Some (fault_at (length job) NoProgram)
 unfolding control_fault
 all_skipped job e = ap (live_fault (length job)) e

@@ -11,7 +11,8 @@ use Rattle.control_definitions.specs.declared.TheConstants.{MAX_STATEMENTS}
 use Rattle.control_definitions.specs.Program.{Verb, Statement}
 use Rattle.control_definitions.specs.Statements.{statement_of, is_unclosed, verb_word, arguments_of, Arguments, Without, With, Malformed}
 use Rattle.control_definitions.specs.Verbs.{verb_words, cell_words, demand_words, verb_of, verb_with, EndsProgram}
-use Rattle.control_definitions.specs.Compiled.{no_program, head_fault, is_program, has_verb, is_program_argument, has_bad_label, has_label_twice, lacks_word, is_lawful_pend, is_pend, control_card_fault, bad_label, label_twice, unclosed, unknown_verb, unknown_cell, unknown_demand, bad_argument, too_many_statements}
+use Rattle.control_definitions.specs.declared.ControlFaultKind.TheVariants.{NoProgram, BadLabel, LabelTwice, Unclosed, UnknownVerb, UnknownCell, UnknownDemand, BadArgument, TooManyStatements}
+use Rattle.control_definitions.specs.Compiled.{head_fault, is_program, has_verb, is_program_argument, has_bad_label, has_label_twice, lacks_word, is_lawful_pend, is_pend, control_card_fault}
 use Rattle.control_verbs.specs.Shown.{statement_shown}
 use Rattle.control_compiler.specs.Cards.{statement_said}
 use Rattle.control_compiler.specs.Behind.{IsBehind}
@@ -19,7 +20,7 @@ use Rattle.control_compiler.specs.declared.draft.Draft.{Draft}
 
 -- where no test finds a fault, each fails
 no_fault : (a b c d e f g h : Bool)
-    → first_fault ((a ⟹ bad_label) ∷ (b ⟹ label_twice) ∷ (c ⟹ unclosed) ∷ (d ⟹ unknown_verb) ∷ (e ⟹ unknown_cell) ∷ (f ⟹ unknown_demand) ∷ (g ⟹ bad_argument) ∷ (h ⟹ too_many_statements) ∷ []) ≡ None
+    → first_fault ((a ⟹ BadLabel) ∷ (b ⟹ LabelTwice) ∷ (c ⟹ Unclosed) ∷ (d ⟹ UnknownVerb) ∷ (e ⟹ UnknownCell) ∷ (f ⟹ UnknownDemand) ∷ (g ⟹ BadArgument) ∷ (h ⟹ TooManyStatements) ∷ []) ≡ None
     → (a ≡ false) × (b ≡ false) × (g ≡ false) × (h ≡ false)
 no_fault true b c d e f g h none = cc none
 no_fault false true c d e f g h none = cc none
@@ -104,7 +105,7 @@ last_number-push cards card = ap (λ last. unwrap_or last 0) (by None cards)
 
 -- ---- PROGRAM
 
-no_head_fault : (a b : Bool) → first_fault ((a ⟹ bad_label) ∷ (not b ⟹ no_program) ∷ []) ≡ None → (a ≡ false) × (b ≡ true)
+no_head_fault : (a b : Bool) → first_fault ((a ⟹ BadLabel) ∷ (not b ⟹ NoProgram) ∷ []) ≡ None → (a ≡ false) × (b ≡ true)
 no_head_fault true b none = cc none
 no_head_fault false false none = cc none
 no_head_fault false true none = (refl, refl)

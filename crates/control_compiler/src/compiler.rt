@@ -9,12 +9,8 @@ use crate::reading::Reading;
 use crate::settling::{missing, settle};
 use crate::stop::CompileStop;
 use card_reader::Cards;
-use control_definitions::ControlFault;
+use control_definitions::{ControlFault, ControlFaultKind};
 use std::alloc::Global;
-
-const NO_PEND: u8 = 2;
-
-const NO_LABEL: u8 = 6;
 
 // The number of PEND's card, unless the program has a fault as a whole: the job, whose last card has this number, ends before
 // PEND, or a statement names a label that no card has. The earlier card decides, and the end where it is one card.
@@ -23,18 +19,9 @@ fn pend_or_fault(pend: Option<u32>, missing: Option<u32>, last: u32) -> Result<u
 {
     match (pend, missing) {
         (Some(pend), None) => Ok(pend),
-        (Some(_), Some(card)) => Err(ControlFault {
-            number: NO_LABEL,
-            card,
-        }),
-        (None, Some(card)) if card < last => Err(ControlFault {
-            number: NO_LABEL,
-            card,
-        }),
-        (None, _) => Err(ControlFault {
-            number: NO_PEND,
-            card: last,
-        }),
+        (Some(_), Some(card)) => Err(ControlFaultKind::NoLabel.on_card(card)),
+        (None, Some(card)) if card < last => Err(ControlFaultKind::NoLabel.on_card(card)),
+        (None, _) => Err(ControlFaultKind::NoPend.on_card(last)),
     }
 }
 

@@ -9,9 +9,7 @@ ghost use Rattle.card_definitions.specs.Cards.{Card};
 
 use crate::labels::Labels;
 use crate::stop::CompileStop;
-use control_definitions::ControlFault;
-use control_verbs::label;
-use control_verbs::{Statement, card_fault, is_pend, label_in, verb_of};
+use control_verbs::{Statement, card_fault, is_pend, label, label_in, verb_of};
 use name_table::Name;
 
 /// The labels and the statements of the cards read so far, of which the first is PROGRAM.
@@ -74,10 +72,7 @@ impl Draft {
         let label = label_in(label(card));
         let is_twice = is_placed(&self.labels, &label);
         if let Some(fault) = card_fault(card, is_twice, position) {
-            return Err(CompileStop::Fault(ControlFault {
-                number: fault,
-                card: number,
-            }));
+            return Err(CompileStop::Fault(fault.on_card(number)));
         }
         place_label(&mut self.labels, label, position as u32)?;
         push_statement(&mut self.statements, number, card)?;

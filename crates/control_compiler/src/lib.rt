@@ -8,11 +8,9 @@ mod program;
 mod reading;
 mod settling;
 mod stop;
-#[cfg(test)]
-mod tests;
 
 pub use compiler::compile;
-pub use control_definitions::{ControlFault, Demand, NameCell, NumberCell};
+pub use control_definitions::{ControlFault, ControlFaultKind, Demand, NameCell, NumberCell};
 pub use control_verbs::{SetupOptions, Statement, Text, Verb};
 pub use program::Program;
 pub use stop::CompileStop;

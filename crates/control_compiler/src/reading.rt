@@ -6,12 +6,9 @@ use crate::draft::{Draft, place_label};
 use crate::labels::Labels;
 use crate::stop::CompileStop;
 use card_reader::Cards;
-use control_definitions::ControlFault;
-use control_verbs::label;
-use control_verbs::{head_fault, label_in};
+use control_definitions::ControlFaultKind;
+use control_verbs::{head_fault, label, label_in};
 use std::alloc::Global;
-
-const NO_PROGRAM: u8 = 1;
 
 /// What was read of a job's control cards: labels and statements, and PEND's number, if it was there.
 #[derive(Drop)]
@@ -41,10 +38,7 @@ fn begin(alloc: Global, cards: &Cards, number: u32) -> Result<Draft, CompileStop
 {
     let card = cards.card(number).bytes();
     if let Some(fault) = head_fault(card) {
-        return Err(CompileStop::Fault(ControlFault {
-            number: fault,
-            card: number,
-        }));
+        return Err(CompileStop::Fault(fault.on_card(number)));
     }
     let mut labels = Labels::new(alloc);
     place_label(&mut labels, label_in(label(card)), 1)?;
@@ -76,10 +70,7 @@ impl Reading {
         ensures { Reads result cards.now }
     {
         let Some(number) = first_live(cards) else {
-            return Err(CompileStop::Fault(ControlFault {
-                number: NO_PROGRAM,
-                card: cards.count(),
-            }));
+            return Err(CompileStop::Fault(ControlFaultKind::NoProgram.on_card(cards.count())));
         };
         let draft = begin(alloc, cards, number)?;
         Reading::behind(draft, cards, number)

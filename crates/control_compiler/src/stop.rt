@@ -6,7 +6,7 @@ use thiserror::Error;
 /// Why a program was not compiled.
 #[derive(Clone, Copy, Debug, PartialEq, Eq, Error)]
 pub enum CompileStop {
-    #[error("a control card is refused")]
+    #[error(transparent)]
     Fault(ControlFault),
     #[error("out of memory")]
     NoMemory,

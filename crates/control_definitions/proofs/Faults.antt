@@ -6,6 +6,7 @@ use Rattle.exact_values.specs.Rational.{fraction}
 use Rattle.card_definitions.specs.Cards.{Card, cards_of}
 use Rattle.card_definitions.specs.Numbers.{number_of, number_fault, value_of}
 use Rattle.control_definitions.specs.declared.ControlFault.{ControlFault}
+use Rattle.control_definitions.specs.declared.ControlFaultKind.TheVariants.{TooManyStatements}
 use Rattle.control_definitions.specs.Statements.{label_of, statement_of}
 use Rattle.control_definitions.specs.Verbs.{verb_of}
 use Rattle.control_definitions.specs.Compiled.{control_fault, control_card_fault}
@@ -232,7 +233,7 @@ statement_5000 : control_card_fault (replicate 5000 exit_card) exit_card.bytes �
 unfolding control_card_fault verb_of label_of statement_of exit_card
 statement_5000 = refl
 
-statement_5001 : control_card_fault (replicate 5001 exit_card) exit_card.bytes ≡ Some 11
+statement_5001 : control_card_fault (replicate 5001 exit_card) exit_card.bytes ≡ Some TooManyStatements
 unfolding control_card_fault verb_of label_of statement_of exit_card
 statement_5001 = refl
 

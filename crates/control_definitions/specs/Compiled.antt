@@ -9,47 +9,30 @@ use Rattle.card_definitions.specs.Words.{named, is_empty, each_behind, ◌⟹◌
 use Rattle.card_definitions.specs.Cards.{Card, live, last_number, numbered_cards}
 use Rattle.control_definitions.specs.declared.TheConstants.{MAX_STATEMENTS}
 use Rattle.control_definitions.specs.declared.ControlFault.{ControlFault}
+use Rattle.control_definitions.specs.declared.ControlFaultKind.{ControlFaultKind}
+use Rattle.control_definitions.specs.declared.ControlFaultKind.TheVariants.{NoProgram, NoPend, UnknownVerb, BadLabel, LabelTwice, NoLabel, BadArgument, UnknownCell, UnknownDemand, Unclosed, TooManyStatements}
 use Rattle.control_definitions.specs.Program.{Statement, Verb, Program, label_argument, verb_by}
 use Rattle.control_definitions.specs.Statements.{label_of, statement_of, is_unclosed, verb_word, Arguments, Without, With, arguments_of, first_argument}
 use Rattle.control_definitions.specs.Arguments.{is_label, quotation}
 use Rattle.control_definitions.specs.Verbs.{verb_words, cell_words, demand_words, verb_of}
 
 -- the numbers of the control faults
-abbrev pub no_program : ℕ
-no_program = 1
+abbrev pub fault_number : ControlFaultKind → ℕ
+fault_number NoProgram = 1
+fault_number NoPend = 2
+fault_number UnknownVerb = 3
+fault_number BadLabel = 4
+fault_number LabelTwice = 5
+fault_number NoLabel = 6
+fault_number BadArgument = 7
+fault_number UnknownCell = 8
+fault_number UnknownDemand = 9
+fault_number Unclosed = 10
+fault_number TooManyStatements = 11
 
-abbrev pub no_pend : ℕ
-no_pend = 2
-
-abbrev pub unknown_verb : ℕ
-unknown_verb = 3
-
-abbrev pub bad_label : ℕ
-bad_label = 4
-
-abbrev pub label_twice : ℕ
-label_twice = 5
-
-abbrev pub no_label : ℕ
-no_label = 6
-
-abbrev pub bad_argument : ℕ
-bad_argument = 7
-
-abbrev pub unknown_cell : ℕ
-unknown_cell = 8
-
-abbrev pub unknown_demand : ℕ
-unknown_demand = 9
-
-abbrev pub unclosed : ℕ
-unclosed = 10
-
-abbrev pub too_many_statements : ℕ
-too_many_statements = 11
-
-abbrev pub fault_at : ℕ → ℕ → ControlFault
-fault_at card number = record { number = number; card = card }
+-- a fault as it is told: by its number and its card
+abbrev pub fault_at : ℕ → ControlFaultKind → ControlFault
+fault_at card kind = record { number = fault_number kind; card = card }
 
 -- ---- the tests of one card
 
@@ -88,23 +71,23 @@ abbrev pub lacks_word : {X : Type 0} → List ℕ → List (List ℕ × X) → L
 lacks_word verb table card = has_verb verb card && is_none (named table (first_argument (statement_of card)))
 
 -- The fault of the first card: its label is tested first, and then whether it is PROGRAM.
-abbrev pub head_fault : List ℕ → Option ℕ
+abbrev pub head_fault : List ℕ → Option ControlFaultKind
 head_fault card = first_fault (
-    (has_bad_label card ⟹ bad_label) ∷
-    (not (is_program card) ⟹ no_program) ∷ [])
+    (has_bad_label card ⟹ BadLabel) ∷
+    (not (is_program card) ⟹ NoProgram) ∷ [])
 
 -- The fault of a card behind PROGRAM: the tests are made in this order. The cards before it are PROGRAM's and one for each
 -- statement before, so that it would be a statement of as many as they are.
-unfoldable pub control_card_fault : List Card → List ℕ → Option ℕ
+unfoldable pub control_card_fault : List Card → List ℕ → Option ControlFaultKind
 control_card_fault before card = first_fault (
-    (has_bad_label card ⟹ bad_label) ∷
-    (has_label_twice before card ⟹ label_twice) ∷
-    (is_unclosed (statement_of card) ⟹ unclosed) ∷
-    (is_none (named verb_words (verb_word (statement_of card))) ⟹ unknown_verb) ∷
-    (lacks_word (codes "MOVE") cell_words card ⟹ unknown_cell) ∷
-    (lacks_word (codes "MVADR") demand_words card ⟹ unknown_demand) ∷
-    (not (is_lawful_pend card) && is_none (verb_of card) ⟹ bad_argument) ∷
-    (not (is_pend card) && nat_lt MAX_STATEMENTS (length before) ⟹ too_many_statements) ∷ [])
+    (has_bad_label card ⟹ BadLabel) ∷
+    (has_label_twice before card ⟹ LabelTwice) ∷
+    (is_unclosed (statement_of card) ⟹ Unclosed) ∷
+    (is_none (named verb_words (verb_word (statement_of card))) ⟹ UnknownVerb) ∷
+    (lacks_word (codes "MOVE") cell_words card ⟹ UnknownCell) ∷
+    (lacks_word (codes "MVADR") demand_words card ⟹ UnknownDemand) ∷
+    (not (is_lawful_pend card) && is_none (verb_of card) ⟹ BadArgument) ∷
+    (not (is_pend card) && nat_lt MAX_STATEMENTS (length before) ⟹ TooManyStatements) ∷ [])
 
 -- the fault of the first card that has one, where the cards before stand before them all
 abbrev pub first_control_fault : List Card → List Card → Option ControlFault
@@ -143,14 +126,14 @@ program_of cards = record { statements = filter_map (statement_on cards) cards; 
 -- The faults of a program as a whole, which come only where no card up to its end has another: the job ends before PEND, on
 -- its last card; or a statement names a label that no card has. The earlier card decides, and the end where it is one card.
 abbrev pub end_fault : ℕ → Bool → Option Card → Option ControlFault
-end_fault last true missing = option_map (λ card. fault_at card.number no_label) missing
-end_fault last false None = Some (fault_at last no_pend)
-end_fault last false (Some card) = Some (if nat_lt card.number last then fault_at card.number no_label else fault_at last no_pend)
+end_fault last true missing = option_map (λ card. fault_at card.number NoLabel) missing
+end_fault last false None = Some (fault_at last NoPend)
+end_fault last false (Some card) = Some (if nat_lt card.number last then fault_at card.number NoLabel else fault_at last NoPend)
 
 -- The first fault of a job's cards that aren't skipped, where the job's last card has this number. Where all are skipped,
 -- the fault stands on the job's last card, and the number is 0 where there is none.
 abbrev pub live_fault : ℕ → List Card → Option ControlFault
-live_fault last [] = Some (fault_at last no_program)
+live_fault last [] = Some (fault_at last NoProgram)
 live_fault last (head ∷ cards) = first_fault (
     option_map (fault_at head.number) (head_fault head.bytes) ∷
     first_control_fault (head ∷ []) (program_cards cards) ∷

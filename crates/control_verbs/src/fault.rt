@@ -6,31 +6,13 @@ ghost use Rattle.control_definitions.specs.Statements.{statement_of, verb_word, 
 ghost use Rattle.control_definitions.specs.Verbs.{cell_words, demand_words, verb_words, verb_of};
 ghost use Rattle.control_definitions.specs.Compiled.{has_bad_label, has_label_twice, has_verb, lacks_word, is_program, is_program_argument, is_pend, is_lawful_pend, head_fault, control_card_fault};
 
+use crate::columns::{has_open_quote, label, statement};
 use crate::given::is_label;
+use crate::parts::{one_argument, quotation};
 use crate::reading::verb_of;
 use crate::tables::{cell_of, demand_of, verb_word_of};
-use crate::columns::{has_open_quote, label, statement};
-use crate::parts::{one_argument, quotation};
 use crate::words::{Arguments, arguments_of, first_argument, verb_word};
-use control_definitions::MAX_STATEMENTS;
-
-const NO_PROGRAM: u8 = 1;
-
-const UNKNOWN_VERB: u8 = 3;
-
-const BAD_LABEL: u8 = 4;
-
-const LABEL_TWICE: u8 = 5;
-
-const BAD_ARGUMENT: u8 = 7;
-
-const UNKNOWN_CELL: u8 = 8;
-
-const UNKNOWN_DEMAND: u8 = 9;
-
-const UNCLOSED: u8 = 10;
-
-const TOO_MANY_STATEMENTS: u8 = 11;
+use control_definitions::{ControlFaultKind, MAX_STATEMENTS};
 
 // Whether a card has a label that isn't of a label's form.
 fn has_bad_label(card: &[u8]) -> bool
@@ -119,13 +101,13 @@ fn is_program(card: &[u8]) -> bool
 }
 
 /// The fault of a job's first card that isn't skipped.
-pub fn head_fault(card: &[u8]) -> Option<u8>
+pub fn head_fault(card: &[u8]) -> Option<ControlFaultKind>
     ensures { result ≡ head_fault card.now }
 {
     if has_bad_label(card) {
-        Some(BAD_LABEL)
+        Some(ControlFaultKind::BadLabel)
     } else if !is_program(card) {
-        Some(NO_PROGRAM)
+        Some(ControlFaultKind::NoProgram)
     } else {
         None
     }
@@ -134,25 +116,25 @@ pub fn head_fault(card: &[u8]) -> Option<u8>
 /// The fault of a card behind PROGRAM. Whether a card before it has its label, and how many cards of the program stand before
 /// it, is for the caller to say.
 #[tactic(auto, unfolding(control_definitions::specs::Compiled::control_card_fault))]
-pub fn card_fault(card: &[u8], is_label_twice: bool, before: usize) -> Option<u8>
+pub fn card_fault(card: &[u8], is_label_twice: bool, before: usize) -> Option<ControlFaultKind>
     ensures { (cards : List Card) → (has_bad_label card.now ≡ false → is_label_twice ≡ has_label_twice cards card.now) → before ≡ length cards → result ≡ control_card_fault cards card.now }
 {
     if has_bad_label(card) {
-        Some(BAD_LABEL)
+        Some(ControlFaultKind::BadLabel)
     } else if is_label_twice {
-        Some(LABEL_TWICE)
+        Some(ControlFaultKind::LabelTwice)
     } else if has_open_quote(statement(card)) {
-        Some(UNCLOSED)
+        Some(ControlFaultKind::Unclosed)
     } else if has_unknown_verb(card) {
-        Some(UNKNOWN_VERB)
+        Some(ControlFaultKind::UnknownVerb)
     } else if lacks_cell(card) {
-        Some(UNKNOWN_CELL)
+        Some(ControlFaultKind::UnknownCell)
     } else if lacks_demand(card) {
-        Some(UNKNOWN_DEMAND)
+        Some(ControlFaultKind::UnknownDemand)
     } else if has_bad_argument(card) {
-        Some(BAD_ARGUMENT)
+        Some(ControlFaultKind::BadArgument)
     } else if !is_pend(card) && before > MAX_STATEMENTS {
-        Some(TOO_MANY_STATEMENTS)
+        Some(ControlFaultKind::TooManyStatements)
     } else {
         None
     }

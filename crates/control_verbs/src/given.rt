@@ -4,9 +4,9 @@ ghost use Rattle.std.specs.List.{list_all};
 ghost use Rattle.card_definitions.specs.Words.{is_empty};
 ghost use Rattle.control_definitions.specs.Arguments.{title_argument, quoted_name, number_argument, limit_argument, steps_of, is_label, is_label_byte, label_text, if_passes, is_name};
 
+use crate::parts::quotation;
 use crate::text::Text;
 use control_definitions::MAX_STEPS;
-use crate::parts::quotation;
 use deck_fields::number;
 use frac128::Frac;
 use name_table::Name;

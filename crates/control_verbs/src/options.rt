@@ -9,8 +9,8 @@ ghost use Rattle.control_verbs.specs.Shown.{options_shown};
 ghost use Rattle.control_verbs.specs.Chosen.{set_shown, choice_shown, first_choice, behind_first, added, all_added, nothing_chosen, chosen_options};
 
 use crate::given::name_in;
-use crate::verb::SetupOptions;
 use crate::parts::{quotation, split_argument};
+use crate::verb::SetupOptions;
 use lp_definitions::Sense;
 use name_table::Name;
 

@@ -5,12 +5,12 @@ ghost use Rattle.control_definitions.specs.Verbs as verbs;
 ghost use Rattle.control_verbs.specs.Pieces.{arguments_shown};
 ghost use Rattle.control_verbs.specs.Shown.{shown, IsLawful, cell_shown, word_shown, plain_shown};
 
+use crate::columns::statement;
 use crate::given::{label_in, limit_in, name_in, number_in, title_in};
 use crate::options::options_in;
+use crate::parts::{one_argument, two_arguments};
 use crate::tables::{Cell, Plain, VerbWord, cell_of, demand_of, verb_word_of};
 use crate::verb::{SetupOptions, Verb};
-use crate::columns::statement;
-use crate::parts::{one_argument, two_arguments};
 use crate::words::{Arguments, arguments_of, verb_word};
 use lp_definitions::Sense;
 use name_table::Name;

@@ -3,6 +3,7 @@
 #![tactic(auto)]
 
 use card_definitions::NumberFault;
+use thiserror::Error;
 
 /// The section that a section card begins.
 #[derive(Clone, Copy, Debug, PartialEq, Eq)]
@@ -19,51 +20,76 @@ pub enum Section {
 }
 
 /// Why a card of a deck is refused.
-#[derive(Clone, Copy, Debug, PartialEq, Eq)]
+#[derive(Clone, Copy, Debug, PartialEq, Eq, Error)]
 pub enum DeckFaultKind {
     /// The card isn't lawful at this place.
+    #[error("a section stands at the wrong place")]
     SectionOrder,
     /// The word isn't that of a section.
+    #[error("a section is unknown")]
     UnknownSection,
+    #[error("a row type is unknown")]
     BadRowType,
+    #[error("a row stands twice")]
     DuplicateRow,
     /// The cards of a column don't stand together.
+    #[error("the cards of a column don't stand together")]
     ColumnSplit,
+    #[error("a row is unknown")]
     UnknownRow,
     /// The column or set has an item on this row already.
+    #[error("an entry stands twice")]
     DuplicateEntry,
     /// A field holds no number; for a character the card's column, from 1, and else 0.
+    #[error("{0} (column {1})")]
     Number(NumberFault, u8),
     /// A range on a free row.
+    #[error("a range stands on a free row")]
     RangeOnFree,
+    #[error("a bound type is unknown")]
     BadBoundType,
+    #[error("a column is unknown")]
     UnknownColumn,
     /// The set has a bound on this end of the column already.
+    #[error("a bound stands twice")]
     BoundTwice,
     /// The job ends before ENDATA.
+    #[error("the job ends before ENDATA")]
     NoEndata,
     /// A card that marks integer columns.
+    #[error("integer columns are marked")]
     Marker,
+    #[error("a name is empty")]
     EmptyName,
+    #[error("there are too many rows")]
     TooManyRows,
+    #[error("there are too many columns")]
     TooManyColumns,
+    #[error("there are too many entries")]
     TooManyEntries,
     /// A row type that makes a row of other rows.
+    #[error("a row is to be made of other rows")]
     CombinationRow,
     /// Something stands where the card is to be blank.
+    #[error("a field is to be blank")]
     ExtraField,
     /// No lawful action, or none at all.
+    #[error("an action is unknown")]
     UnknownAction,
     /// The place to insert at isn't there.
+    #[error("the place to insert at isn't there")]
     NoAnchor,
     /// What is to be deleted isn't there.
+    #[error("what is to be deleted isn't there")]
     DeleteMissing,
     /// What is to be modified isn't there.
+    #[error("what is to be modified isn't there")]
     ModifyMissing,
 }
 
 /// A refused card, by its number in the job, from 1.
-#[derive(Clone, Copy, Debug, PartialEq, Eq)]
+#[derive(Clone, Copy, Debug, PartialEq, Eq, Error)]
+#[error("card {card}: {kind}")]
 pub struct DeckFault {
     pub card: u32,
     pub kind: DeckFaultKind,

@@ -1,7 +1,6 @@
 -- Numbers without a fault, and the texts that they keep.
 use Rattle.std.proofs.Common.{◌≡◌, ℕ, ◌≤◌, Bool, true, false, List, [], ◌∷◌, Option, Some, None, Ok, length, refl, ap, sym, ◌∙◌, arith, nat_lt}
 use Rattle.std.proofs.lemmas.Bool.Decides.{nat_tests}
-use Rattle.card_definitions.specs.declared.NumberFault.{NumberFault}
 use Rattle.card_definitions.specs.declared.NumberFault.TheVariants.{Empty, BadCharacter, NoDigit, ExponentRange}
 use Rattle.card_definitions.specs.Words.{padded, without_trailing, without_leading, is_empty, ◌⟹◌, first_fault, unless}
 use Rattle.card_definitions.specs.Cards.{is_blank}

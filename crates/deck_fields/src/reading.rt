@@ -11,6 +11,7 @@ use crate::decimal::Decimal;
 use card_definitions::NumberFault;
 use frac128::Frac;
 use name_table::without_trailing_blanks;
+use num_traits::checked_pow;
 
 // How many decimal digits a text begins with.
 fn leading_digits(text: &[u8]) -> usize
@@ -243,7 +244,7 @@ fn power_of_ten(exponent: u32) -> u128
     ensures bound { result ≤ 10 ^ 18 }
     ensures positive { 1 ≤ result }
 {
-    10u128.pow(exponent)
+    checked_pow(10u128, exponent as usize).unwrap_or(1)
 }
 
 // A number as a sign, a magnitude and a denominator, which needn't be in lowest terms.

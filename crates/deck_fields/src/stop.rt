@@ -8,7 +8,7 @@ use thiserror::Error;
 /// Why a deck was not read.
 #[derive(Clone, Copy, Debug, PartialEq, Eq, Error)]
 pub enum DeckStop {
-    #[error("a card of the deck is refused")]
+    #[error(transparent)]
     Fault(DeckFault),
     #[error("out of memory")]
     NoMemory,

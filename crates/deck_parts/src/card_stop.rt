@@ -9,7 +9,7 @@ use thiserror::Error;
 /// Why a card was not taken.
 #[derive(Clone, Copy, Debug, PartialEq, Eq, Error)]
 pub enum CardStop {
-    #[error("the card is refused")]
+    #[error(transparent)]
     Refused(DeckFaultKind),
     #[error("out of memory")]
     NoMemory,

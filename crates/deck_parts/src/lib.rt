@@ -15,8 +15,6 @@ mod on_row;
 mod pairs;
 mod rows;
 mod sections;
-#[cfg(test)]
-mod tests;
 mod words;
 
 pub use bound_sets::{BoundSets, take_bound_card};

@@ -4,8 +4,6 @@
 mod cutting;
 mod deck;
 mod headings;
-#[cfg(test)]
-mod tests;
 
 pub use cutting::take_deck;
 pub use deck::Deck;

@@ -4,8 +4,6 @@
 mod device;
 mod memory;
 mod stream;
-#[cfg(test)]
-mod tests;
 
 pub use device::{Failed, NoMemory, Sink, Source, WriteStop, put_all, put_each};
 pub use memory::{MemorySink, MemorySource, SureSink, SureSource};

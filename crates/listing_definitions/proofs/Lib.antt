@@ -1,2 +1,3 @@
+pub mod Decimals
 mod Reports
 mod Stops

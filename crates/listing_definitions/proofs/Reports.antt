@@ -1,7 +1,6 @@
 -- Reports as they are printed, computed.
 use Rattle.std.specs.Prelude.{◌≡◌, refl, ℕ, List, [], ◌∷◌, ◌++◌, codes, pos, negsuc}
 use Prim.Native.String.{String}
-use Rattle.std.specs.Fmt.{digits}
 use Rattle.divisors.specs.Gcd.{gcd}
 use Rattle.exact_values.specs.Rational.{fraction, whole}
 use Rattle.frac128.specs.declared.Op.TheVariants.{Add, Mul}
@@ -9,6 +8,7 @@ use Rattle.lp_definitions.specs.declared.Sense.TheVariants.{Min, Max}
 use Rattle.listing_definitions.specs.declared.Mark.TheVariants.{Optimal, Infeasible, Unbounded}
 use Rattle.listing_definitions.specs.declared.Solver.TheVariants.{Primal, Paraobj, Pararhs}
 use Rattle.listing_definitions.specs.declared.At.TheVariants.{Basic, Outside, Equal, Lower, Upper, Free}
+use Rattle.listing_definitions.specs.Numbers.{digits}
 use Rattle.listing_definitions.specs.Report.{Value, Code, Number, Absent, Dash, Line, OptimalAt, CrossedAt, InfeasibleBy, UnboundedBy, Checked, Unchecked, EndsAt, UnboundedPast, InfeasiblePast, Titled, Converted, Revised, SetUp, Punched, Solved, Solution, Ranges, Parametric}
 use Rattle.listing_definitions.specs.Ending.{Ended}
 use Rattle.listing_definitions.specs.Text.{report_text, line_text}
@@ -179,3 +179,14 @@ table_lines : line_text (row 6 "Z" (Code Free ∷ Number (whole (pos 0)) ∷ Das
     ≡ codes "    6 Z        FR 0 - - NONE\n60000 LONGNAME ** -3/100\n"
 unfolding whole row fraction gcd digits
 table_lines = refl
+
+-- a number of 73 digits, and a fraction of 73 digits by 73, are printed whole
+long_objective : report_text (Solved Primal (OptimalAt 3 (whole (pos 1234567890123456789012345678901234567890123456789012345678901234567890123))) Checked)
+    ≡ codes "PRIMAL OPTIMAL STEPS 3 OBJECTIVE 1234567890123456789012345678901234567890123456789012345678901234567890123 CHECKED\n"
+unfolding whole fraction gcd digits
+long_objective = refl
+
+long_fraction : line_text (row 1 "COST" (Number (fraction (negsuc 1234567890123456789012345678901234567890123456789012345678901234567890122) 1000000000000000000000000000000000000000000000000000000000000000000000001) ∷ []))
+    ≡ codes "    1 COST     -1234567890123456789012345678901234567890123456789012345678901234567890123/1000000000000000000000000000000000000000000000000000000000000000000000001\n"
+unfolding row fraction gcd digits
+long_fraction = refl

@@ -1,12 +1,12 @@
 -- The ends of a listing as they are printed, computed, and their statuses.
 use Rattle.std.specs.Prelude.{◌≡◌, refl, true, false, List, [], ◌∷◌, codes, None, Some, map, pos, negsuc}
 use Rattle.std.specs.List.{flat_map}
-use Rattle.std.specs.Fmt.{digits}
 use Rattle.divisors.specs.Gcd.{gcd}
 use Rattle.exact_values.specs.Rational.{ℚ, fraction, whole}
 use Rattle.frac128.specs.declared.Op.TheVariants.{Sub, Mul, Div}
 use Rattle.lp_definitions.specs.declared.Status.TheVariants.{Bs, Ll, Ul, Fr}
 use Rattle.card_definitions.specs.declared.CardFault.TheVariants.{TooLong, NotPrintable, CardTooLong}
+use Rattle.listing_definitions.specs.Numbers.{digits}
 use Rattle.listing_definitions.specs.declared.VerbFault.TheVariants.{DeckNotFound, NoBoundSet}
 use Rattle.listing_definitions.specs.Ending.{Ending, Ended, WordsRefused, ControlStop, VerbStop, DeckStop, CardStop, LimitStop, StatementLimit, OverflowStop, ReadFault, PrintFault, PunchFault, Memory, NotBuilt, status_of}
 use Rattle.listing_definitions.specs.Listing.{ending_text}

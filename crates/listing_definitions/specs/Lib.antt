@@ -1,3 +1,4 @@
+pub mod Numbers
 pub mod Report
 pub mod Ending
 pub mod Text

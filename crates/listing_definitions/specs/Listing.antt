@@ -1,27 +1,26 @@
 -- The text of a run's end, and the listing of a run.
 --     ending_text ending            the end's own lines
 --     listing reports ending        the whole listing
-use Rattle.std.specs.Prelude.{◌≡◌, ℕ, Bool, true, false, List, [], ◌∷◌, ◌++◌, Option, Some, None, codes, map}
+use Rattle.std.specs.Prelude.{ℕ, Bool, true, false, List, [], ◌∷◌, ◌++◌, Option, Some, None, codes, map}
 use Rattle.std.specs.List.{concat, flat_map}
-use Rattle.std.specs.Fmt.{decimal}
-use Rattle.frac128.specs.Text.{fraction_text}
 use Rattle.lp_definitions.specs.declared.Evidence.{Evidence}
 use Rattle.lp_definitions.specs.declared.Status.{Status}
 use Rattle.lp_definitions.specs.declared.Status.TheVariants.{Bs, Ll, Ul, Fr}
 use Rattle.card_definitions.specs.declared.CardFault.{CardFault}
 use Rattle.card_definitions.specs.declared.CardFault.TheVariants.{TooLong, NotPrintable, CardTooLong}
+use Rattle.listing_definitions.specs.Numbers.{digits, rational_text}
 use Rattle.listing_definitions.specs.Report.{Report}
 use Rattle.listing_definitions.specs.Ending.{DeckCardFault, Place, Overflow, Ending, Ended, WordsRefused, ControlStop, VerbStop, DeckStop, CardStop, LimitStop, StatementLimit, OverflowStop, ReadFault, PrintFault, PunchFault, Memory, NotBuilt, verb_fault_number}
 use Rattle.listing_definitions.specs.Text.{refused_text, report_text}
 
 -- the number of a fault and the card on which it stands
 abbrev pub fault_text : ℕ → ℕ → List ℕ
-fault_text number card = concat (codes "FAULT " ∷ decimal number ∷ codes " CARD " ∷ decimal card ∷ [])
+fault_text number card = concat (codes "FAULT " ∷ digits number ∷ codes " CARD " ∷ digits card ∷ [])
 
 -- a number behind its word, where there is one
 abbrev pub labelled : List ℕ → Option ℕ → List ℕ
 labelled word None = []
-labelled word (Some number) = word ++ decimal number
+labelled word (Some number) = word ++ digits number
 
 abbrev pub deck_stop_text : DeckCardFault → List ℕ
 deck_stop_text fault =
@@ -56,24 +55,24 @@ way_text (Some place) = map basic_letter place.way
 -- what an evidence names: its formula, the refused operation, and its numbers
 abbrev pub evidence_text : Evidence → List ℕ
 evidence_text e =
-    concat (codes "F" ∷ decimal e.formula ∷ codes " " ∷ refused_text e.refused ∷
-    codes " P " ∷ decimal e.p ∷ codes " Q " ∷ decimal e.q ∷ codes " I " ∷ decimal e.i ∷ codes " J " ∷ decimal e.j ∷
-    codes " TERM " ∷ decimal e.term ∷ codes " THETA " ∷ fraction_text e.theta ∷ [])
+    concat (codes "F" ∷ digits e.formula ∷ codes " " ∷ refused_text e.refused ∷
+    codes " P " ∷ digits e.p ∷ codes " Q " ∷ digits e.q ∷ codes " I " ∷ digits e.i ∷ codes " J " ∷ digits e.j ∷
+    codes " TERM " ∷ digits e.term ∷ codes " THETA " ∷ rational_text e.theta ∷ [])
 
 abbrev pub overflow_text : Overflow → List ℕ
 overflow_text overflow =
-    concat (codes "STOP 20 OVERFLOW " ∷ evidence_text overflow.evidence ∷ codes " CARD " ∷ decimal overflow.card ∷ codes "\n" ∷
+    concat (codes "STOP 20 OVERFLOW " ∷ evidence_text overflow.evidence ∷ codes " CARD " ∷ digits overflow.card ∷ codes "\n" ∷
     codes "BASIS " ∷ basis_text overflow.place ∷ codes "\n" ∷ codes "WAY " ∷ way_text overflow.place ∷ codes "\n" ∷ [])
 
 -- Behind a fault of the print nothing is written.
 abbrev pub ending_text : Ending → List ℕ
-ending_text (Ended code) = concat (codes "END " ∷ decimal code ∷ codes "\n" ∷ [])
+ending_text (Ended code) = concat (codes "END " ∷ digits code ∷ codes "\n" ∷ [])
 ending_text WordsRefused = codes "STOP 4 WORDS\n"
 ending_text (ControlStop fault) = concat (codes "STOP 8 CONTROL " ∷ fault_text fault.number fault.card ∷ codes "\n" ∷ [])
 ending_text (VerbStop fault) = concat (codes "STOP 10 VERB " ∷ fault_text (verb_fault_number fault.fault) fault.card ∷ codes "\n" ∷ [])
 ending_text (DeckStop fault) = deck_stop_text fault
 ending_text (CardStop fault) = card_stop_text fault
-ending_text (LimitStop reached) = concat (codes "STOP 16 ITERATION LIMIT " ∷ decimal reached.limit ∷ codes " CARD " ∷ decimal reached.card ∷ codes "\n" ∷ [])
+ending_text (LimitStop reached) = concat (codes "STOP 16 ITERATION LIMIT " ∷ digits reached.limit ∷ codes " CARD " ∷ digits reached.card ∷ codes "\n" ∷ [])
 ending_text StatementLimit = codes "STOP 17 STATEMENT LIMIT\n"
 ending_text (OverflowStop overflow) = overflow_text overflow
 ending_text ReadFault = codes "STOP 24 READ FAULT\n"

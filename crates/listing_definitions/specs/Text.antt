@@ -1,12 +1,9 @@
--- The text of reports. A text is written as its pieces, one behind the other; each line ends with a line feed. Numbers are written in
--- full up to 64 digits, and those of 128 bits have 39 at most.
+-- The text of reports. A text is written as its pieces, one behind the other; each line ends with a line feed.
 use Rattle.std.specs.Prelude.{ℕ, ◌-◌, List, [], ◌∷◌, ◌++◌, codes, length, replicate}
 use Rattle.std.specs.List.{concat, flat_map, enumerate_from}
-use Rattle.std.specs.Fmt.{decimal}
 use Rattle.frac128.specs.declared.Op.{Op}
 use Rattle.frac128.specs.declared.Op.TheVariants.{Add, Sub, Mul, Div}
 use Rattle.frac128.specs.declared.Refused.{Refused}
-use Rattle.frac128.specs.Text.{fraction_text}
 use Rattle.lp_definitions.specs.declared.Sense.{Sense}
 use Rattle.lp_definitions.specs.declared.Sense.TheVariants.{Min, Max}
 use Rattle.card_definitions.specs.Words.{padded}
@@ -17,6 +14,7 @@ use Rattle.listing_definitions.specs.declared.Solver.{Solver}
 use Rattle.listing_definitions.specs.declared.Solver.TheVariants.{Primal, Paraobj, Pararhs}
 use Rattle.listing_definitions.specs.declared.At.{At}
 use Rattle.listing_definitions.specs.declared.At.TheVariants.{Basic, Outside, Equal, Lower, Upper, Free}
+use Rattle.listing_definitions.specs.Numbers.{digits, rational_text}
 use Rattle.listing_definitions.specs.Report.{Value, Code, Number, Absent, Dash, Line, Filed, Verdict, OptimalAt, CrossedAt, InfeasibleBy, UnboundedBy, Check, Checked, Unchecked, SolutionLines, RangeLines, Interval, ChainEnd, EndsAt, UnboundedPast, InfeasiblePast, Chain, Report, Titled, Converted, Revised, SetUp, Punched, Solved, Solution, Ranges, Parametric}
 
 -- ---- table lines
@@ -32,13 +30,13 @@ at_text Free = codes "FR"
 -- a fraction is its numerator, and behind a slash its denominator where that isn't 1
 abbrev pub value_text : Value → List ℕ
 value_text (Code at) = at_text at
-value_text (Number value) = fraction_text value
+value_text (Number value) = rational_text value
 value_text Absent = codes "NONE"
 value_text Dash = codes "-"
 
 -- a number at the right of 5 places
 abbrev pub number5 : ℕ → List ℕ
-number5 number = replicate (5 - length (decimal number)) 32 ++ decimal number
+number5 number = replicate (5 - length (digits number)) 32 ++ digits number
 
 -- a name at the left of 8 places
 abbrev pub name8 : Name → List ℕ
@@ -64,7 +62,7 @@ operation_text Div = codes "DIV"
 
 -- an operation with its two operands
 abbrev pub refused_text : Refused → List ℕ
-refused_text refused = concat (operation_text refused.op ∷ codes " " ∷ fraction_text refused.left ∷ codes " " ∷ fraction_text refused.right ∷ [])
+refused_text refused = concat (operation_text refused.op ∷ codes " " ∷ rational_text refused.left ∷ codes " " ∷ rational_text refused.right ∷ [])
 
 abbrev pub check_text : Check → List ℕ
 check_text Checked = codes "CHECKED"
@@ -77,10 +75,10 @@ solver_text Pararhs = codes "PARARHS"
 
 -- the first line of a verdict, without the check and the line feed
 abbrev pub verdict_head : Verdict → List ℕ
-verdict_head (OptimalAt steps objective) = concat (codes "OPTIMAL STEPS " ∷ decimal steps ∷ codes " OBJECTIVE " ∷ fraction_text objective ∷ [])
-verdict_head (CrossedAt number) = codes "INFEASIBLE STEPS 0 CROSSED " ++ decimal number
-verdict_head (InfeasibleBy steps lines) = concat (codes "INFEASIBLE STEPS " ∷ decimal steps ∷ codes " RAY" ∷ [])
-verdict_head (UnboundedBy steps objective lines) = concat (codes "UNBOUNDED STEPS " ∷ decimal steps ∷ codes " OBJECTIVE " ∷ fraction_text objective ∷ [])
+verdict_head (OptimalAt steps objective) = concat (codes "OPTIMAL STEPS " ∷ digits steps ∷ codes " OBJECTIVE " ∷ rational_text objective ∷ [])
+verdict_head (CrossedAt number) = codes "INFEASIBLE STEPS 0 CROSSED " ++ digits number
+verdict_head (InfeasibleBy steps lines) = concat (codes "INFEASIBLE STEPS " ∷ digits steps ∷ codes " RAY" ∷ [])
+verdict_head (UnboundedBy steps objective lines) = concat (codes "UNBOUNDED STEPS " ∷ digits steps ∷ codes " OBJECTIVE " ∷ rational_text objective ∷ [])
 
 -- the table lines of a verdict
 abbrev pub verdict_lines : Verdict → List Line
@@ -97,7 +95,7 @@ verdict_text solver verdict check =
 
 abbrev pub filed_text : List ℕ → Filed → List ℕ
 filed_text verb filed =
-    concat (verb ∷ codes " " ∷ name8 filed.name ∷ codes " ROWS " ∷ decimal filed.rows ∷ codes " COLUMNS " ∷ decimal filed.columns ∷ codes " ENTRIES " ∷ decimal filed.entries ∷ codes "\n" ∷ [])
+    concat (verb ∷ codes " " ∷ name8 filed.name ∷ codes " ROWS " ∷ digits filed.rows ∷ codes " COLUMNS " ∷ digits filed.columns ∷ codes " ENTRIES " ∷ digits filed.entries ∷ codes "\n" ∷ [])
 
 abbrev pub sense_text : Sense → List ℕ
 sense_text Min = codes "MIN"
@@ -125,16 +123,16 @@ ranges_text lines =
 -- intervals count from 1
 abbrev pub interval_text : ℕ × Interval → List ℕ
 interval_text entry =
-    concat (codes "INTERVAL " ∷ decimal entry.0 ∷ codes " FROM " ∷ fraction_text entry.1.from ∷ codes " TO " ∷ fraction_text entry.1.to ∷ codes "\n" ∷ table_text entry.1.lines ∷ [])
+    concat (codes "INTERVAL " ∷ digits entry.0 ∷ codes " FROM " ∷ rational_text entry.1.from ∷ codes " TO " ∷ rational_text entry.1.to ∷ codes "\n" ∷ table_text entry.1.lines ∷ [])
 
 abbrev pub chain_end_text : Solver → ChainEnd → List ℕ
-chain_end_text solver (EndsAt value) = concat (solver_text solver ∷ codes " ENDS AT " ∷ fraction_text value ∷ codes "\n" ∷ [])
-chain_end_text solver (UnboundedPast value lines) = concat (solver_text solver ∷ codes " UNBOUNDED PAST " ∷ fraction_text value ∷ codes "\n" ∷ table_text lines ∷ [])
-chain_end_text solver (InfeasiblePast value lines) = concat (solver_text solver ∷ codes " INFEASIBLE PAST " ∷ fraction_text value ∷ codes "\n" ∷ table_text lines ∷ [])
+chain_end_text solver (EndsAt value) = concat (solver_text solver ∷ codes " ENDS AT " ∷ rational_text value ∷ codes "\n" ∷ [])
+chain_end_text solver (UnboundedPast value lines) = concat (solver_text solver ∷ codes " UNBOUNDED PAST " ∷ rational_text value ∷ codes "\n" ∷ table_text lines ∷ [])
+chain_end_text solver (InfeasiblePast value lines) = concat (solver_text solver ∷ codes " INFEASIBLE PAST " ∷ rational_text value ∷ codes "\n" ∷ table_text lines ∷ [])
 
 abbrev pub chain_text : Solver → Chain → List ℕ
 chain_text solver chain =
-    concat (solver_text solver ∷ codes " FROM " ∷ fraction_text chain.from ∷ codes " CHANGE " ∷ chain.change ∷ codes "\n" ∷
+    concat (solver_text solver ∷ codes " FROM " ∷ rational_text chain.from ∷ codes " CHANGE " ∷ chain.change ∷ codes "\n" ∷
     flat_map interval_text (enumerate_from 1 chain.intervals) ∷ chain_end_text solver chain.end ∷ [])
 
 abbrev pub report_text : Report → List ℕ
@@ -142,7 +140,7 @@ report_text (Titled text) = concat (codes "TITLE " ∷ text ∷ codes "\n" ∷ [
 report_text (Converted filed) = filed_text (codes "CONVERT") filed
 report_text (Revised filed) = filed_text (codes "REVISE ") filed
 report_text (SetUp name sense) = concat (codes "SETUP   " ∷ name8 name ∷ codes " " ∷ sense_text sense ∷ codes "\n" ∷ [])
-report_text (Punched name cards) = concat (codes "BCDOUT  " ∷ name8 name ∷ codes " CARDS " ∷ decimal cards ∷ codes "\n" ∷ [])
+report_text (Punched name cards) = concat (codes "BCDOUT  " ∷ name8 name ∷ codes " CARDS " ∷ digits cards ∷ codes "\n" ∷ [])
 report_text (Solved solver verdict check) = verdict_text solver verdict check
 report_text (Solution mark lines) = solution_text mark lines
 report_text (Ranges lines) = ranges_text lines

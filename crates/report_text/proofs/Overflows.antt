@@ -1,7 +1,7 @@
 -- The parts in which an overflow is written.
 use Rattle.std.proofs.Common.{◌≡◌, ℕ, ◌++◌, List, [], ◌∷◌, Some, None, codes, map, refl, ap, append_assoc}
 use Rattle.std.specs.List.{concat, flat_map}
-use Rattle.std.specs.Fmt.{decimal}
+use Rattle.listing_definitions.specs.Numbers.{digits}
 use Rattle.listing_definitions.specs.Ending.{Overflow}
 use Rattle.listing_definitions.specs.Listing.{overflow_text}
 use Rattle.listing_definitions.specs.Text.{refused_text}
@@ -15,6 +15,6 @@ pub letters_mapped : {X : Type 0} (letter : X → ℕ) (items : List X) → flat
 letters_mapped letter [] = refl
 letters_mapped letter (x ∷ xs) = ap (λ rest. letter x ∷ rest) (letters_mapped letter xs)
 
-pub overflow_parts : (e : Evidence) (place : Option endings.Place) (card : ℕ) → concat (codes "STOP 20 OVERFLOW F" ∷ decimal e.formula ∷ codes " " ∷ refused_text e.refused ∷ []) ++ (concat (evidence_tail e ∷ codes " CARD " ∷ decimal card ∷ codes "\n" ∷ []) ++ place_text place) ≡ overflow_text (record { evidence = e; place = place; card = card })
+pub overflow_parts : (e : Evidence) (place : Option endings.Place) (card : ℕ) → concat (codes "STOP 20 OVERFLOW F" ∷ digits e.formula ∷ codes " " ∷ refused_text e.refused ∷ []) ++ (concat (evidence_tail e ∷ codes " CARD " ∷ digits card ∷ codes "\n" ∷ []) ++ place_text place) ≡ overflow_text (record { evidence = e; place = place; card = card })
 overflow_parts e None card = simp append_assoc
 overflow_parts e (Some place) card = simp (letters_mapped, append_assoc)

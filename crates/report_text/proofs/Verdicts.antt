@@ -2,13 +2,12 @@
 use Rattle.std.proofs.Common.{◌≡◌, ◌-◌, ℕ, List, [], ◌∷◌, ◌++◌, codes, sym, ◌∙◌, ap, append_assoc, arith}
 use denote.Bor.{Bor}
 use Rattle.std.specs.List.{concat, flat_map}
-use Rattle.std.specs.Fmt.{decimal}
 use Rattle.std.proofs.lemmas.List.{append-nil}
 use Rattle.std.proofs.lemmas.List.Folds.{flat_map-map}
 use Rattle.exact_values.specs.Rational.{ℚ, zero_ℚ}
 use Rattle.exact_values.specs.Tests.{eq_ℚ}
-use Rattle.frac128.specs.Text.{fraction_text}
 use Rattle.lp_definitions.specs.LinearProgram.{size, value_at, numbers_from, variables}
+use Rattle.listing_definitions.specs.Numbers.{digits, rational_text}
 use Rattle.listing_definitions.specs.declared.Solver.{Solver}
 use Rattle.listing_definitions.specs.Report.{Verdict, CrossedAt, Check}
 use Rattle.listing_definitions.specs.Text.{solver_text, check_text, verdict_head, verdict_lines, verdict_text, line_text, table_text}
@@ -19,12 +18,12 @@ use Rattle.report_text.specs.Tables.{line_shown}
 use Rattle.report_text.proofs.Tables.{lines_filtered}
 
 -- equal objectives are written alike
-pub same_objective : (by : Solver) (found : List ℕ) (steps : ℕ) (x y : ℚ) → x ≡ y → concat (solver_text by ∷ codes " " ∷ concat (found ∷ decimal steps ∷ codes " OBJECTIVE " ∷ fraction_text x ∷ []) ∷ []) ≡ concat (solver_text by ∷ codes " " ∷ concat (found ∷ decimal steps ∷ codes " OBJECTIVE " ∷ fraction_text y ∷ []) ∷ [])
-same_objective by found steps x y e = ap (λ v. concat (solver_text by ∷ codes " " ∷ concat (found ∷ decimal steps ∷ codes " OBJECTIVE " ∷ fraction_text v ∷ []) ∷ [])) e
+pub same_objective : (by : Solver) (found : List ℕ) (steps : ℕ) (x y : ℚ) → x ≡ y → concat (solver_text by ∷ codes " " ∷ concat (found ∷ digits steps ∷ codes " OBJECTIVE " ∷ rational_text x ∷ []) ∷ []) ≡ concat (solver_text by ∷ codes " " ∷ concat (found ∷ digits steps ∷ codes " OBJECTIVE " ∷ rational_text y ∷ []) ∷ [])
+same_objective by found steps x y e = ap (λ v. concat (solver_text by ∷ codes " " ∷ concat (found ∷ digits steps ∷ codes " OBJECTIVE " ∷ rational_text v ∷ []) ∷ [])) e
 
 -- nothing stands behind the number of a crossed variable
-pub crossed_head : (by : Solver) (number : ℕ) → concat (solver_text by ∷ codes " " ∷ concat (codes "INFEASIBLE STEPS 0 CROSSED " ∷ decimal number ∷ [] ∷ []) ∷ []) ≡ concat (solver_text by ∷ codes " " ∷ verdict_head (CrossedAt number) ∷ [])
-crossed_head by number = ap (λ w. concat (solver_text by ∷ codes " " ∷ (codes "INFEASIBLE STEPS 0 CROSSED " ++ w) ∷ [])) (append-nil (decimal number))
+pub crossed_head : (by : Solver) (number : ℕ) → concat (solver_text by ∷ codes " " ∷ concat (codes "INFEASIBLE STEPS 0 CROSSED " ∷ digits number ∷ [] ∷ []) ∷ []) ≡ concat (solver_text by ∷ codes " " ∷ verdict_head (CrossedAt number) ∷ [])
+crossed_head by number = ap (λ w. concat (solver_text by ∷ codes " " ∷ (codes "INFEASIBLE STEPS 0 CROSSED " ++ w) ∷ [])) (append-nil (digits number))
 
 pub verdict_parts : (by : Solver) (verdict : Verdict) (check : Check) → concat (solver_text by ∷ codes " " ∷ verdict_head verdict ∷ []) ++ (concat (codes " " ∷ check_text check ∷ codes "\n" ∷ []) ++ table_text (verdict_lines verdict)) ≡ verdict_text by verdict check
 verdict_parts by verdict check = simp (append_assoc, append-nil)

@@ -4,12 +4,11 @@
 use Rattle.std.specs.Prelude.{ℕ, ◌-◌, ◌≤◌, ◌≡◌, ◌⊎◌, List, [], ◌∷◌, ◌++◌, Option, Some, None, Bool, codes, slice_index_or, nat_eq, if◌then◌else◌}
 use denote.Bor.{Bor}
 use Rattle.std.specs.List.{concat, flat_map}
-use Rattle.std.specs.Fmt.{decimal}
-use Rattle.frac128.specs.Text.{fraction_text}
 use Rattle.lp_definitions.specs.declared.Evidence.{Evidence}
 use Rattle.lp_definitions.specs.declared.Status.{Status}
 use Rattle.card_definitions.specs.declared.CardFault.{CardFault}
 use Rattle.card_definitions.specs.declared.CardFault.TheVariants as card_faults
+use Rattle.listing_definitions.specs.Numbers.{digits, rational_text}
 use Rattle.listing_definitions.specs.declared.VerbFault.{VerbFault}
 use Rattle.listing_definitions.specs.declared.VerbFault.TheVariants.{DeckNotFound, NoProblem, NoSetup, NotSolved, NotOptimal, NoChangeRow, NoChangeSet, NoParmax, ParmaxBelow, NoObjective, ObjectiveNotFree, NoRhsSet, NoRangeSet, NoBoundSet}
 use Rattle.listing_definitions.specs.Report as reports
@@ -77,8 +76,8 @@ ending_shown NotBuilt = endings.NotBuilt
 -- the numbers of an evidence
 abbrev pub evidence_tail : Evidence → List ℕ
 evidence_tail e =
-    concat (codes " P " ∷ decimal e.p ∷ codes " Q " ∷ decimal e.q ∷ codes " I " ∷ decimal e.i ∷ codes " J " ∷ decimal e.j ∷
-    codes " TERM " ∷ decimal e.term ∷ codes " THETA " ∷ fraction_text e.theta ∷ [])
+    concat (codes " P " ∷ digits e.p ∷ codes " Q " ∷ digits e.q ∷ codes " I " ∷ digits e.i ∷ codes " J " ∷ digits e.j ∷
+    codes " TERM " ∷ digits e.term ∷ codes " THETA " ∷ rational_text e.theta ∷ [])
 
 -- one letter as a text
 abbrev pub letters_of : {X : Type 0} → (X → ℕ) → X → List ℕ

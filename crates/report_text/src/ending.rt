@@ -1,13 +1,14 @@
 // The texts of the ends of a run.
 ghost use Rattle.std.specs.Prelude.{◌≡◌, ◌≤◌, ◌∷◌, [], codes, length};
 ghost use Rattle.std.specs.List.{concat};
-ghost use Rattle.std.specs.Fmt.{decimal};
+ghost use Rattle.listing_definitions.specs.Numbers.{digits};
 ghost use Rattle.job_devices.specs.Text.{Writes};
 ghost use Rattle.listing_definitions.specs.Ending as endings;
 ghost use Rattle.listing_definitions.specs.Listing.{ending_text, fault_text, labelled, deck_stop_text};
 ghost use Rattle.report_text.specs.Shown.{IsEnding, IsVerbFault, IsCardFault, verb_fault, card_fault, ending_shown};
 
 use crate::overflow::put_overflow;
+use crate::pieces::decimal;
 use crate::report::Ending;
 use arrayvec::ArrayString;
 use itoa::Buffer;
@@ -18,7 +19,14 @@ fn put_code<P: Sink>(print: &mut P, code: u8) -> Result<(), WriteStop>
     ensures { Writes P.written P.faults P.refusals print.old print.new result (ending_text (endings.Ended code)) }
 {
     let mut digits = Buffer::new();
-    put_each(print, &[b"END ", digits.format(code).as_bytes(), b"\n"])
+    put_each(
+        print,
+        &[
+            b"END ",
+            decimal(&mut digits, u32::from(code)).as_bytes(),
+            b"\n",
+        ],
+    )
 }
 
 // What is refused, the number of the fault, and the card on which it stands.
@@ -37,9 +45,9 @@ fn put_fault<P: Sink>(
         &[
             refused,
             b"FAULT ",
-            fault_digits.format(fault).as_bytes(),
+            decimal(&mut fault_digits, u32::from(fault)).as_bytes(),
             b" CARD ",
-            card_digits.format(card).as_bytes(),
+            decimal(&mut card_digits, card).as_bytes(),
             b"\n",
         ],
     )
@@ -68,6 +76,7 @@ fn put_card_fault<P: Sink>(print: &mut P, fault: u8, card: Option<u32>) -> Resul
 type Label = ArrayString<11>;
 
 // A number behind its word, where there is one.
+#[tactic(auto, using(listing_definitions::proofs::Decimals::decimal_is_digits))]
 fn label(word: &str, number: Option<u8>) -> Label
     requires { length word.now ≤ 8 }
     ensures { result.bytes ≡ labelled word.now number }
@@ -101,9 +110,9 @@ fn put_deck_fault<P: Sink>(
         &[
             refused,
             b"FAULT ",
-            fault_digits.format(fault).as_bytes(),
+            decimal(&mut fault_digits, u32::from(fault)).as_bytes(),
             b" CARD ",
-            card_digits.format(card).as_bytes(),
+            decimal(&mut card_digits, card).as_bytes(),
             number_label.as_str().as_bytes(),
             column_label.as_str().as_bytes(),
             b"\n",
@@ -118,7 +127,7 @@ fn put_limit<P: Sink>(
     limit: u32,
     card: u32,
 ) -> Result<(), WriteStop>
-    ensures { Writes P.written P.faults P.refusals print.old print.new result (concat (reached.now ∷ decimal limit ∷ codes " CARD " ∷ decimal card ∷ codes "\n" ∷ [])) }
+    ensures { Writes P.written P.faults P.refusals print.old print.new result (concat (reached.now ∷ digits limit ∷ codes " CARD " ∷ digits card ∷ codes "\n" ∷ [])) }
 {
     let mut limit_digits = Buffer::new();
     let mut card_digits = Buffer::new();
@@ -126,9 +135,9 @@ fn put_limit<P: Sink>(
         print,
         &[
             reached,
-            limit_digits.format(limit).as_bytes(),
+            decimal(&mut limit_digits, limit).as_bytes(),
             b" CARD ",
-            card_digits.format(card).as_bytes(),
+            decimal(&mut card_digits, card).as_bytes(),
             b"\n",
         ],
     )

@@ -15,6 +15,3 @@ mod verdict;
 pub use listing_definitions::{Mark, Solver};
 pub use report::{Ending, Report, text_of};
 pub use sheet::Sheet;
-
-#[cfg(test)]
-mod tests;

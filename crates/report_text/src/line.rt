@@ -6,7 +6,7 @@ ghost use Rattle.listing_definitions.specs.Report.{limit_value};
 ghost use Rattle.listing_definitions.specs.Text.{at_text, number5, name8, value_text, line_text};
 ghost use Rattle.report_text.specs.Values.{value_shown, value_behind_blank};
 
-use crate::pieces::{NAME_PLACES, NUMBER_PLACES, blanks, fraction};
+use crate::pieces::{NAME_PLACES, NUMBER_PLACES, blanks, decimal, fraction};
 use frac128::Frac;
 use itoa::Buffer;
 use job_devices::{Sink, WriteStop, put_all, put_each};
@@ -78,7 +78,7 @@ fn put_line_head<P: Sink>(print: &mut P, number: u32, name: Name) -> Result<(), 
     ensures { Writes P.written P.faults P.refusals print.old print.new result (concat (number5 number ∷ codes " " ∷ name8 name ∷ [])) }
 {
     let mut buffer = Buffer::new();
-    let digits = buffer.format(number).as_bytes();
+    let digits = decimal(&mut buffer, number).as_bytes();
     let letters = name.bytes();
     put_each(
         print,

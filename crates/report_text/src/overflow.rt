@@ -1,14 +1,13 @@
 // The text of an operation that was refused.
 ghost use Rattle.std.specs.Prelude.{ℕ, ◌≡◌, ◌∷◌, ◌++◌, [], codes};
 ghost use Rattle.std.specs.List.{concat, flat_map};
-ghost use Rattle.std.specs.Fmt.{decimal};
-ghost use Rattle.frac128.specs.Text.{fraction_text};
+ghost use Rattle.listing_definitions.specs.Numbers.{digits, rational_text};
 ghost use Rattle.job_devices.specs.Text.{Writes};
 ghost use Rattle.listing_definitions.specs.Listing.{status_letter, basic_letter, overflow_text};
 ghost use Rattle.listing_definitions.specs.Text.{refused_text};
 ghost use Rattle.report_text.specs.Shown.{place_shown, place_text, evidence_tail, letters_of, letter_line};
 
-use crate::pieces::{fraction, operation};
+use crate::pieces::{decimal, fraction, operation};
 use itoa::Buffer;
 use job_devices::{Sink, WriteStop, put_all, put_each};
 use lp_definitions::{Evidence, Status};
@@ -20,7 +19,7 @@ fn put_evidence_head<P: Sink>(
     stop: &'static [u8],
     evidence: &Evidence,
 ) -> Result<(), WriteStop>
-    ensures { Writes P.written P.faults P.refusals print.old print.new result (concat (stop.now ∷ decimal evidence.now.formula ∷ codes " " ∷ refused_text evidence.now.refused ∷ [])) }
+    ensures { Writes P.written P.faults P.refusals print.old print.new result (concat (stop.now ∷ digits evidence.now.formula ∷ codes " " ∷ refused_text evidence.now.refused ∷ [])) }
 {
     let mut formula_digits = Buffer::new();
     let left = fraction(evidence.refused.left);
@@ -29,7 +28,7 @@ fn put_evidence_head<P: Sink>(
         print,
         &[
             stop,
-            formula_digits.format(evidence.formula).as_bytes(),
+            decimal(&mut formula_digits, u32::from(evidence.formula)).as_bytes(),
             b" ",
             operation(evidence.refused.op),
             b" ",
@@ -46,7 +45,7 @@ fn put_evidence_tail<P: Sink>(
     evidence: &Evidence,
     card: u32,
 ) -> Result<(), WriteStop>
-    ensures { Writes P.written P.faults P.refusals print.old print.new result (concat (evidence_tail evidence.now ∷ codes " CARD " ∷ decimal card ∷ codes "\n" ∷ [])) }
+    ensures { Writes P.written P.faults P.refusals print.old print.new result (concat (evidence_tail evidence.now ∷ codes " CARD " ∷ digits card ∷ codes "\n" ∷ [])) }
 {
     let mut p_digits = Buffer::new();
     let mut q_digits = Buffer::new();
@@ -59,19 +58,19 @@ fn put_evidence_tail<P: Sink>(
         print,
         &[
             b" P ",
-            p_digits.format(evidence.p).as_bytes(),
+            decimal(&mut p_digits, evidence.p).as_bytes(),
             b" Q ",
-            q_digits.format(evidence.q).as_bytes(),
+            decimal(&mut q_digits, evidence.q).as_bytes(),
             b" I ",
-            i_digits.format(evidence.i).as_bytes(),
+            decimal(&mut i_digits, evidence.i).as_bytes(),
             b" J ",
-            j_digits.format(evidence.j).as_bytes(),
+            decimal(&mut j_digits, evidence.j).as_bytes(),
             b" TERM ",
-            term_digits.format(evidence.term).as_bytes(),
+            decimal(&mut term_digits, evidence.term).as_bytes(),
             b" THETA ",
             theta.as_str().as_bytes(),
             b" CARD ",
-            card_digits.format(card).as_bytes(),
+            decimal(&mut card_digits, card).as_bytes(),
             b"\n",
         ],
     )

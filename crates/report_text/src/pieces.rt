@@ -1,6 +1,7 @@
 // Blanks, fractions and words, as the listing shows them.
 ghost use Rattle.std.specs.Prelude.{◌≡◌, ◌≤◌, ◌-◌, replicate};
 ghost use Rattle.frac128.specs.Text.{fraction_text};
+ghost use Rattle.listing_definitions.specs.Numbers.{digits, rational_text};
 ghost use Rattle.listing_definitions.specs.Text.{operation_text, sense_text};
 
 use arrayvec::ArrayString;
@@ -19,8 +20,16 @@ pub const NUMBER_PLACES: usize = 5;
 
 static BLANKS: [u8; 8] = [b' '; 8];
 
-/// The numerator, and behind a slash the denominator where it isn't 1.
-pub fn fraction(value: Frac) -> FractionText
+/// The digits of a number.
+#[tactic(auto, using(listing_definitions::proofs::Decimals::decimal_is_digits))]
+pub fn decimal(buffer: &mut Buffer, number: u32) -> &str
+    ensures { result.now ≡ digits number }
+{
+    buffer.format(number)
+}
+
+// The text of a fraction's own crate.
+fn written(value: Frac) -> FractionText
     ensures { result.bytes ≡ fraction_text value }
 {
     let mut digits = Buffer::new();
@@ -31,6 +40,14 @@ pub fn fraction(value: Frac) -> FractionText
         text.push_str(digits.format(value.den().unsigned_abs()));
     }
     text
+}
+
+/// The numerator, and behind a slash the denominator where it isn't 1.
+#[tactic(auto, using(listing_definitions::proofs::Decimals::fraction_is_rational))]
+pub fn fraction(value: Frac) -> FractionText
+    ensures { result.bytes ≡ rational_text value }
+{
+    written(value)
 }
 
 /// The blanks that fill up so many places, of which some are taken.

@@ -4,7 +4,7 @@ ghost use Rattle.job_devices.specs.Text.{Writes};
 ghost use Rattle.listing_definitions.specs.Report as reports;
 ghost use Rattle.listing_definitions.specs.Text.{report_text};
 
-use crate::pieces::{NAME_PLACES, blanks, sense_word};
+use crate::pieces::{NAME_PLACES, blanks, decimal, sense_word};
 use itoa::Buffer;
 use job_devices::{Sink, WriteStop, put_each};
 use lp_definitions::Sense;
@@ -36,11 +36,11 @@ pub fn put_converted<P: Sink>(
             letters,
             blanks(NAME_PLACES, letters.len()),
             b" ROWS ",
-            row_digits.format(rows).as_bytes(),
+            decimal(&mut row_digits, rows).as_bytes(),
             b" COLUMNS ",
-            column_digits.format(columns).as_bytes(),
+            decimal(&mut column_digits, columns).as_bytes(),
             b" ENTRIES ",
-            entry_digits.format(entries).as_bytes(),
+            decimal(&mut entry_digits, entries).as_bytes(),
             b"\n",
         ],
     )

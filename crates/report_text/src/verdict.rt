@@ -1,14 +1,13 @@
 // The texts of verdicts.
 ghost use Rattle.std.specs.Prelude.{◌≡◌, ◌∷◌, [], codes};
 ghost use Rattle.std.specs.List.{concat};
-ghost use Rattle.std.specs.Fmt.{decimal};
-ghost use Rattle.frac128.specs.Text.{fraction_text};
+ghost use Rattle.listing_definitions.specs.Numbers.{digits, rational_text};
 ghost use Rattle.job_devices.specs.Text.{Writes};
 ghost use Rattle.listing_definitions.specs.Report as reports;
 ghost use Rattle.listing_definitions.specs.Text.{solver_text, check_text, refused_text, verdict_head, verdict_lines, table_text, report_text};
 ghost use Rattle.report_text.specs.Verdicts.{IsOutcome, verdict_shown, check_shown};
 
-use crate::pieces::{fraction, operation};
+use crate::pieces::{decimal, fraction, operation};
 use crate::sheet::{Sheet, objective_of};
 use crate::table::{Table, put_table};
 use frac128::{Frac, Refused};
@@ -36,7 +35,7 @@ fn put_found<P: Sink>(
     number: u32,
     rest: &'static [u8],
 ) -> Result<(), WriteStop>
-    ensures { Writes P.written P.faults P.refusals print.old print.new result (concat (solver_text by ∷ codes " " ∷ concat (found.now ∷ decimal number ∷ rest.now ∷ []) ∷ [])) }
+    ensures { Writes P.written P.faults P.refusals print.old print.new result (concat (solver_text by ∷ codes " " ∷ concat (found.now ∷ digits number ∷ rest.now ∷ []) ∷ [])) }
 {
     let mut digits = Buffer::new();
     put_each(
@@ -45,7 +44,7 @@ fn put_found<P: Sink>(
             solver_word(by),
             b" ",
             found,
-            digits.format(number).as_bytes(),
+            decimal(&mut digits, number).as_bytes(),
             rest,
         ],
     )
@@ -59,7 +58,7 @@ fn put_objective<P: Sink>(
     steps: u32,
     objective: Frac,
 ) -> Result<(), WriteStop>
-    ensures { Writes P.written P.faults P.refusals print.old print.new result (concat (solver_text by ∷ codes " " ∷ concat (found.now ∷ decimal steps ∷ codes " OBJECTIVE " ∷ fraction_text objective ∷ []) ∷ [])) }
+    ensures { Writes P.written P.faults P.refusals print.old print.new result (concat (solver_text by ∷ codes " " ∷ concat (found.now ∷ digits steps ∷ codes " OBJECTIVE " ∷ rational_text objective ∷ []) ∷ [])) }
 {
     let mut digits = Buffer::new();
     let value = fraction(objective);
@@ -69,7 +68,7 @@ fn put_objective<P: Sink>(
             solver_word(by),
             b" ",
             found,
-            digits.format(steps).as_bytes(),
+            decimal(&mut digits, steps).as_bytes(),
             b" OBJECTIVE ",
             value.as_str().as_bytes(),
         ],

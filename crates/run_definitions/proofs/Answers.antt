@@ -1,12 +1,12 @@
 -- Answers to jobs, shown to be lawful.
 use Rattle.std.specs.Prelude.{◌≡◌, refl, ℕ, List, [], ◌∷◌, codes, None, Ok}
 use Rattle.std.proofs.Common.{lit<}
-use Rattle.std.specs.Fmt.{digits}
 use Rattle.card_definitions.specs.Cards.{cards_of, job_fault}
 use Rattle.control_definitions.specs.Program.{Program, Title}
 use Rattle.control_definitions.specs.Statements.{label_of, statement_of}
 use Rattle.control_definitions.specs.Verbs.{verb_of}
 use Rattle.control_definitions.specs.Compiled.{control_fault, control_card_fault, compiled}
+use Rattle.listing_definitions.specs.Numbers.{digits}
 use Rattle.listing_definitions.specs.Report.{Titled}
 use Rattle.listing_definitions.specs.Ending.{Ended, WordsRefused, ControlStop, ReadFault, Memory}
 use Rattle.run_definitions.specs.Moves.{Prints}

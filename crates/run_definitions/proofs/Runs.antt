@@ -2,7 +2,6 @@
 -- shown in `Courses`.
 use Rattle.std.specs.Prelude.{◌≡◌, refl, ℕ, List, [], codes, Option, Some, option_map}
 use Prim.Native.String.{String}
-use Rattle.std.specs.Fmt.{digits}
 use Rattle.divisors.specs.Gcd.{gcd}
 use Rattle.exact_values.specs.Rational.{fraction, whole, compare_ℚ}
 use Rattle.card_definitions.specs.Cards.{cards_of, job_fault}
@@ -19,6 +18,7 @@ use Rattle.control_definitions.specs.Verbs.{verb_of}
 use Rattle.control_definitions.specs.Compiled.{control_fault, control_card_fault, compiled}
 use Rattle.selection_definitions.specs.Choice.{selection_fault}
 use Rattle.selection_definitions.specs.Selection.{selected}
+use Rattle.listing_definitions.specs.Numbers.{digits}
 use Rattle.listing_definitions.specs.Listing.{listing}
 use Rattle.run_definitions.specs.Verbs.{verb_move}
 use Rattle.run_definitions.proofs.Courses.{Course, job_course}

@@ -24,9 +24,9 @@ first_card job number bytes read there got live =
     subst (λ (bytes : List ℕ). live_cards job ≡ (record { number = number; bytes = bytes }) ∷ live_behind number job) same live
 
 pub returns-in-Some : goal.returns-in-Some
-returns-in-Some c = head_is_faulty c.args.cards.now (record { number = c.args.number; bytes = c.bytes-card.result.now }) (live_behind c.args.number c.args.cards.now) (record { number = c.in-Some.fault; card = c.args.number })
+returns-in-Some c = head_is_faulty c.args.cards.now (record { number = c.args.number; bytes = c.bytes-card.result.now }) (live_behind c.args.number c.args.cards.now) (fault_at c.args.number c.in-Some.fault)
     (first_card c.args.cards.now c.args.number c.requires.bytes c.bytes-card.result.now c.requires.there (c.card.ensures ∙ ap Some (sym c.bytes-card.ensures.bytes)) c.requires.live)
-    (ap (option_map (fault_at c.args.number)) (sym c.in-Some.ensures))
+    (ap (option_map (fault_at c.args.number)) (sym c.in-Some.ensures)) ∙ ap Some (sym c.on_card.ensures)
 
 pub returns : goal.returns
 returns c =

@@ -1,7 +1,7 @@
 use Rattle.std.proofs.Common.{◌++◌, [], ◌∷◌, codes}
 use Rattle.std.specs.List.{concat}
-use Rattle.std.specs.Fmt.{decimal}
 use Rattle.std.proofs.lemmas.Result.{err_from_is_err_and}
+use Rattle.listing_definitions.specs.Numbers.{digits}
 use Rattle.job_devices.proofs.TextLemmas.{writes_then, writes_more, writes_same}
 use Rattle.report_text.specs.Shown.{evidence_tail, place_text, place_shown}
 use Rattle.report_text.proofs.Overflows.{overflow_parts}
@@ -11,7 +11,7 @@ pub returns-in_err-put_evidence_head : goal.returns-in_err-put_evidence_head
 returns-in_err-put_evidence_head g c =
     let place = place_shown c.args.basis c.args.way.now in
     let p = err_from_is_err_and c.from_residual.result c.from_residual.ensures.1 in
-    rw (p.1, p.2) (writes_same (overflow_parts c.args.evidence.now place c.args.card) (writes_more (concat (evidence_tail c.args.evidence.now ∷ codes " CARD " ∷ decimal c.args.card ∷ codes "\n" ∷ []) ++ place_text place) c.in_err-put_evidence_head.ensures))
+    rw (p.1, p.2) (writes_same (overflow_parts c.args.evidence.now place c.args.card) (writes_more (concat (evidence_tail c.args.evidence.now ∷ codes " CARD " ∷ digits c.args.card ∷ codes "\n" ∷ []) ++ place_text place) c.in_err-put_evidence_head.ensures))
 
 pub returns-in_err-put_evidence_tail : goal.returns-in_err-put_evidence_tail
 returns-in_err-put_evidence_tail g c =

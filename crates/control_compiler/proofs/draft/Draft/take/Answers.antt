@@ -26,7 +26,7 @@ returns-in-Some c = λ cards behind count.
     ap (option_map (fault_at c.args.number)) (sym (c.in-Some.ensures cards
     (λ good. c.is_placed-is_twice.ensures ∙ ap (λ (label : Option (List ℕ)). option_map_or (λ (name : List ℕ). is_some (lookup (bytes_eq name) c.args.self.now.labels)) label false) (c.label_in-label.ensures.label ∙ ap label_text c.label.ensures.label)
     ∙ twice_told c.args.self.now.labels cards c.args.card.now behind.labels good)
-    (omega (arith, count, c.len-position.ensures))))
+    (omega (arith, count, c.len-position.ensures)))) ∙ ap Some (sym c.on_card.ensures)
 
 pub returns : goal.returns
 returns c = λ cards behind count.

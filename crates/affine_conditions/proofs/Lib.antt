@@ -1,0 +1,4 @@
+pub mod Single
+pub mod Lists
+pub mod Bounds
+pub mod Examples

@@ -1,0 +1,3 @@
+pub mod Conditions
+pub mod Ends
+pub mod Laws

@@ -1,0 +1,54 @@
+-- A multiple of a row is added to the objective.
+use Rattle.std.proofs.Common.{◌≡◌, ℕ, List, Option, Some, None}
+use Rattle.std.specs.Prelude.{◌↔◌, false}
+use Rattle.exact_values.specs.Rational.{ℚ}
+use Rattle.lp_definitions.specs.LinearProgram.{LinearProgram, IsRow}
+use Rattle.lp_definitions.specs.Solutions.{IsFeasible}
+use Rattle.lp_definitions.specs.Basis.{IsBasis, IsOptimalBasis, Tableau, IsTableau}
+use Rattle.lp_definitions.specs.declared.Status.{Status}
+use Rattle.path_definitions.specs.Moves.{may_rise, may_fall, lowers}
+use Rattle.path_definitions.specs.Path.{worth_rate}
+use Rattle.postoptimal_definitions.specs.Ranges.{with_row}
+use Rattle.changed_programs.specs.Changes.{HasRows, ChangeIsRow, RatesStay, SidesHold, rate_sides, worths, slopes}
+use Rattle.changed_programs.specs.Laws.{IsPresent}
+use Rattle.changed_programs.proofs.Tableaus.{by_tableau}
+use Rattle.changed_programs.proofs.Signs.{sides_of_rate, for_min-add}
+
+module _ (p : LinearProgram) (s : List Status) (t : Tableau) (present : IsPresent p s t) where
+  pub rows_of : HasRows p
+  rows_of = record { objective = present.lawful.objective_row; change = at p.change present.no_change }
+    where
+      at : (c : Option _) → c ≡ None → ChangeIsRow p.matrix c
+      at None e = tt
+      at (Some c) e = let P : Some c ≡ None → ⊥ = λ e. cc in absurd (P e)
+
+  pub feasible_now : IsFeasible p t.point
+  feasible_now = ((by_tableau p s present.optimal.is_basis present.optimal.nonsingular rows_of t present.is_tableau).0 present.optimal).feasible
+
+  pub row : (i : ℕ) → IsRow p.matrix i → (x : ℚ) → IsOptimalBasis (with_row p i x) s ↔ RatesStay p s (worths p t) (slopes p t i) x
+  row i is x = (to, back)
+    where
+      q : LinearProgram
+      q = with_row p i x
+
+      basis : IsBasis (with_row p i x) s
+      basis = let b = present.optimal.is_basis in record { counted = b.counted; m_basics = b.m_basics; free_rows = b.free_rows; allowed = b.allowed }
+
+      rows : HasRows (with_row p i x)
+      rows = record { objective = present.lawful.objective_row; change = is }
+
+      tab : IsTableau (with_row p i x) s t
+      tab = let h = present.is_tableau in record { is_point = record { keeps = h.is_point.keeps; placed = h.is_point.placed }; are_rates = h.are_rates }
+
+      sides : (k : ℕ) → (lowers (with_row p i x) s (worth_rate (with_row p i x) s t) k ≡ false) ↔ SidesHold (rate_sides p s (worths p t) (slopes p t i) k) x
+      sides k =
+          sides_of_rate (worth_rate (with_row p i x) s t k) (worths p t k) (slopes p t i k) x (may_rise p s k) (may_fall p s k)
+          (for_min-add p.sense (t.rate p.objective k) x (t.rate i k))
+
+      to : IsOptimalBasis (with_row p i x) s → RatesStay p s (worths p t) (slopes p t i) x
+      to optimal k is_k = (sides k).0 (((by_tableau (with_row p i x) s basis present.optimal.nonsingular rows t tab).0 optimal).right k is_k)
+
+      back : RatesStay p s (worths p t) (slopes p t i) x → IsOptimalBasis (with_row p i x) s
+      back hold =
+          (by_tableau (with_row p i x) s basis present.optimal.nonsingular rows t tab).1
+          (record { feasible = record { keeps = feasible_now.keeps; within = feasible_now.within }; right = λ k is_k. (sides k).1 (hold k is_k) })

@@ -1,0 +1,32 @@
+-- What is proved of bases in changed programs, as the functions of src/lib.rt promise it.
+use Rattle.std.specs.Prelude.{◌≡◌, ◌↔◌, ℕ, ◌+◌, true, List, None}
+use Rattle.exact_values.specs.Rational.{ℚ, ◌+ℚ◌}
+use Rattle.lp_definitions.specs.LinearProgram.{LinearProgram, IsRow, IsColumn, IsVariable, IsLinearProgram, cost}
+use Rattle.lp_definitions.specs.Basis.{basics_of, status_of, IsBasis, IsNonsingular, IsOptimalBasis, Tableau, IsTableau}
+use Rattle.lp_definitions.specs.declared.Status.{Status}
+use Rattle.postoptimal_definitions.specs.Ranges.{with_limit, with_cost, with_row, stands_at_limit}
+use Rattle.changed_programs.specs.Changes.{HasRows, IsRightTableau, RatesStay, LimitStays, worths, slopes}
+
+-- a basis is optimal where one tableau of it says so, and then each does
+pub record TableauLaws : Type 0 where
+  pub by_tableau : (p : LinearProgram) (s : List Status) (t : Tableau) → IsBasis p s → IsNonsingular p.matrix (basics_of s) → HasRows p → IsTableau p s t
+      → IsOptimalBasis p s ↔ IsRightTableau p s t
+
+-- a basis that is optimal, with its tableau, in a program without a change row
+pub record IsPresent (p : LinearProgram) (s : List Status) (t : Tableau) : Type 0 where
+  pub lawful : IsLinearProgram p
+  pub no_change : p.change ≡ None
+  pub optimal : IsOptimalBasis p s
+  pub is_tableau : IsTableau p s t
+
+-- where it stays optimal
+pub record ChangedLaws : Type 0 where
+  -- x times the activity of a row is added to the objective
+  pub row : (p : LinearProgram) (s : List Status) (t : Tableau) → IsPresent p s t → (i : ℕ) → IsRow p.matrix i → (x : ℚ)
+      → IsOptimalBasis (with_row p i x) s ↔ RatesStay p s (worths p t) (slopes p t i) x
+  -- x is added to the cost of a column
+  pub cost : (p : LinearProgram) (s : List Status) (t : Tableau) → IsPresent p s t → (j : ℕ) → IsColumn p.matrix j → (x : ℚ)
+      → IsOptimalBasis (with_cost p (p.rows + j) (cost p j +ℚ x)) s ↔ RatesStay p s (worths p t) (slopes p t (p.rows + j)) x
+  -- x is added to the limit at which a nonbasic stands
+  pub limit : (p : LinearProgram) (s : List Status) (t : Tableau) → IsPresent p s t → (k : ℕ) → IsVariable p.matrix k
+      → stands_at_limit (status_of s k) ≡ true → (x : ℚ) → IsOptimalBasis (with_limit p s k (t.point k +ℚ x)) s ↔ LimitStays p s t k x

@@ -1,0 +1,27 @@
+//! Worked cards, names, numbers, decks, control programs and lines of a listing. Nothing but tests.
+#![tactic(auto)]
+
+#[cfg(test)]
+mod cards;
+#[cfg(test)]
+mod decks;
+#[cfg(test)]
+mod faults;
+#[cfg(test)]
+mod files;
+#[cfg(test)]
+mod limits;
+#[cfg(test)]
+mod listings;
+#[cfg(test)]
+mod memory;
+#[cfg(test)]
+mod names;
+#[cfg(test)]
+mod numbers;
+#[cfg(test)]
+mod problems;
+#[cfg(test)]
+mod programs;
+#[cfg(test)]
+mod set_faults;

@@ -1,0 +1,363 @@
+//! The eta file.
+
+ghost use Rattle.std.specs.Prelude.{◌≡◌, ◌≢◌, ℕ, ◌+◌, ◌-◌, ◌*◌, ◌<◌, ◌≤◌, [], ◌∷◌, length, take, not, ◌&&◌, IfOk, IfErr, OnOk, OnErr, slice_index_or};
+ghost use Rattle.exact_values.specs.Rational.{zero_ℚ};
+ghost use Rattle.exact_values.specs.Tests.{eq_ℚ};
+ghost use Rattle.lp_definitions.specs.LinearProgram.{IsMatrix, IsColumn, column, size, value_at};
+ghost use Rattle.lp_definitions.specs.Basis.{IsBasic, IsNonbasic, IsNonsingular, IsDirectionOf, exchanged, row_basics};
+ghost use Rattle.lp_definitions.specs.Waypoints.{waypoint};
+ghost use Rattle.lp_definitions.specs.RatesEvidence.{ExchangeRefused};
+ghost use Rattle.lp_model.specs.RatesCalls.{HasPivot, ColumnOverflow, ExchangeOverflow};
+ghost use Rattle.eta_file.specs.Crossings.{NoneLater, LeftAt};
+ghost use Rattle.eta_file.specs.Prefixes.{Passed, entries_to, IsLent, after, entry_count};
+ghost use Rattle.eta_file.specs.Inverse.{ways_of, IsAppended};
+
+use crate::carry::{cross, fill_column, last_left, leave};
+use crate::eta::{Eta, EtaEntry, StoredEta};
+use crate::steps::Steps;
+use frac128::Frac;
+use lp_model::{Entry, Evidence, Lp, NoMemory, Stop};
+use std::alloc::Global;
+use std::marker::{Brand, Model};
+use std::sync::ledger::{Blank, Ledger};
+
+/// The most etas that a file holds.
+const MOST_ETAS: usize = 4_294_967_294;
+
+/// A set of basics of one matrix, and the exchanges that led to it from the rows. Waypoint w, from 1, is the set of basics after the
+/// first w - 1 etas.
+#[derive(Drop)]
+pub struct EtaFile {
+    rows: u32,
+    cols: u32,
+    columns: Vec<Vec<Entry>>,
+    marks: Vec<bool>,
+    etas: Vec<StoredEta>,
+    alloc: Global,
+}
+
+impl Model for EtaFile {
+    ghost use Rattle.eta_file.specs.Inverse.{Inverse};
+
+    ghost Value = { Inverse };
+
+    ghost use Rattle.eta_file.specs.File.{inverse_of, IsFile};
+
+    ghost view = { inverse_of };
+
+    ghost invariant = { IsFile };
+}
+
+/// A mark for each row, and none for the columns.
+fn row_marks(alloc: Global, lp: &Lp) -> Result<Vec<bool>, NoMemory>
+    ensures { IfOk result (λ marks. marks.items ≡ row_basics lp.now.matrix) }
+{
+    let mut marks = Vec::new(alloc);
+    for k in 0..lp.number_of_variables() {
+        marks.push(k < lp.rows).map_err(|_| NoMemory)?;
+    }
+    Ok(marks)
+}
+
+/// Whether a variable has an entry: it is basic, and its rate is not 0.
+fn has_entry(mark: bool, rate: Frac) -> bool
+    ensures { result ≡ mark && not (eq_ℚ rate zero_ℚ) }
+{
+    mark && !rate.is_zero()
+}
+
+/// The numbers of a direction at the marked variables, where they are not 0.
+fn entries_of(alloc: Global, direction: &[Frac], marks: &[bool]) -> Result<Vec<EtaEntry>, NoMemory>
+    requires places { length direction.now ≡ length marks.now }
+    requires small { length marks.now < 4294967296 }
+    ensures { IfOk result (λ entries. entries.items ≡ entries_to marks.now (value_at direction.now) (length marks.now)) }
+{
+    let mut entries = Vec::new(alloc);
+    for (k, rate) in direction.iter().enumerate() {
+        if has_entry(marks[k], *rate) {
+            let i = k as u32 + 1;
+            entries
+                .push(EtaEntry { i, rate: *rate })
+                .map_err(|_| NoMemory)?;
+        }
+    }
+    Ok(entries)
+}
+
+impl EtaFile {
+    /// All rows are basic, and there is no eta.
+    pub fn new(alloc: Global, lp: &Lp) -> Result<EtaFile, NoMemory>
+        ensures matrix { IfOk result (λ file. file.matrix ≡ lp.now.matrix) }
+        ensures basics { IfOk result (λ file. file.basics ≡ row_basics lp.now.matrix) }
+        ensures no_eta { IfOk result (λ file. file.etas ≡ []) }
+    {
+        let _size = lp.number_of_variables();
+        Ok(EtaFile {
+            rows: lp.rows,
+            cols: lp.cols,
+            columns: lp.copied_columns(alloc)?,
+            marks: row_marks(alloc, lp)?,
+            etas: Vec::new(alloc),
+            alloc,
+        })
+    }
+
+    /// The number of variables, and what holds of the matrix.
+    pub fn size(&self) -> u32
+        ensures size { result ≡ size self.now.matrix }
+        ensures lawful { IsMatrix self.now.matrix }
+        ensures basics { self.now.basics ≡ after (row_basics self.now.matrix) self.now.etas }
+        ensures nonsingular { IsNonsingular self.now.matrix self.now.basics }
+        ensures passed { Passed self.now.matrix (row_basics self.now.matrix) self.now.etas }
+    {
+        self.rows + self.cols
+    }
+
+    /// The numbers of column `j`, from 1.
+    fn numbers(&self, j: u32) -> &[Entry]
+        requires { IsColumn self.now.matrix j }
+        ensures { result.now ≡ column self.now.matrix j }
+    {
+        &self.columns[j as usize - 1]
+    }
+
+    /// The direction of the nonbasic `j` at the set after the first so many etas, where it left at the last of them, or where there
+    /// is none of them.
+    fn begin<L: Ledger>(
+        &self,
+        first: usize,
+        j: u32,
+        out: &mut [Frac],
+        steps: &mut Steps<L>,
+    ) -> Result<(), Evidence>
+        requires nonbasic { IsNonbasic self.now.matrix self.now.basics j }
+        requires places { length out.old ≡ size self.now.matrix }
+        requires within { first ≤ length self.now.etas }
+        requires none_later { NoneLater self.now.etas j first }
+        requires left { LeftAt self.now.etas j first }
+        ensures direction { OnOk result (IsDirectionOf self.now.matrix (after (row_basics self.now.matrix) (take first self.now.etas)) j (value_at out.new)) }
+        ensures refused { IfErr result (ExchangeRefused self.now.matrix (self.now.basics ∷ ways_of self.now) self.now.basics (ways_of self.now)) }
+        ensures cost { steps.new ≤ steps.old + 2 * entry_count (take first self.now.etas) }
+    {
+        if first == 0 {
+            fill_column(self.numbers(j - self.rows), j, out);
+            Ok(())
+        } else {
+            let eta = &self.etas[first - 1];
+            let way = first as u32;
+            leave(eta, way, out, steps)
+        }
+    }
+
+    /// Carries the direction of `j` over the eta at this place.
+    fn cross_at<L: Ledger>(
+        &self,
+        place: usize,
+        j: u32,
+        out: &mut [Frac],
+        steps: &mut Steps<L>,
+    ) -> Result<(), Evidence>
+        requires within { place < length self.now.etas }
+        requires before { IsNonbasic self.now.matrix (after (row_basics self.now.matrix) (take place self.now.etas)) j }
+        requires then { IsNonbasic self.now.matrix (after (row_basics self.now.matrix) (take (place + 1) self.now.etas)) j }
+        requires places { length out.old ≡ size self.now.matrix }
+        requires direction { IsDirectionOf self.now.matrix (after (row_basics self.now.matrix) (take place self.now.etas)) j (value_at out.old) }
+        ensures direction { OnOk result (IsDirectionOf self.now.matrix (after (row_basics self.now.matrix) (take (place + 1) self.now.etas)) j (value_at out.new)) }
+        ensures refused { IfErr result (ExchangeRefused self.now.matrix (self.now.basics ∷ ways_of self.now) self.now.basics (ways_of self.now)) }
+        ensures cost { steps.new + 2 * entry_count (take place self.now.etas) ≤ steps.old + 2 * entry_count (take (place + 1) self.now.etas) }
+    {
+        let eta = &self.etas[place];
+        let way = place as u32 + 1;
+        cross(eta, way, j, out, steps)
+    }
+
+    /// Fills `out` with the direction of the nonbasic `j`, or says which number was too large.
+    fn carried<L: Ledger>(
+        &self,
+        j: u32,
+        out: &mut [Frac],
+        steps: &mut Steps<L>,
+    ) -> Result<(), Evidence>
+        requires nonbasic { IsNonbasic self.now.matrix self.now.basics j }
+        requires places { length out.old ≡ size self.now.matrix }
+        ensures direction { OnOk result (IsDirectionOf self.now.matrix self.now.basics j (value_at out.new)) }
+        ensures refused { IfErr result (ExchangeRefused self.now.matrix (self.now.basics ∷ ways_of self.now) self.now.basics (ways_of self.now)) }
+        ensures cost { steps.new ≤ steps.old + 2 * entry_count self.now.etas }
+    {
+        let first = last_left(&self.etas, j);
+        self.begin(first, j, out, steps)?;
+        for place in first..self.etas.len() {
+            self.cross_at(place, j, out, steps)?;
+        }
+        Ok(())
+    }
+
+    /// Fills `out`, which has a place for each variable, with the direction of the nonbasic `j`. It takes no memory, and counts one
+    /// step for each operation on fractions; a rate less a product counts as two.
+    pub fn carry<L: Ledger>(
+        &self,
+        j: u32,
+        out: &mut [Frac],
+        steps: &mut Steps<L>,
+    ) -> Result<(), Stop>
+        requires nonbasic { IsNonbasic self.now.matrix self.now.basics j }
+        requires places { length out.old ≡ size self.now.matrix }
+        ensures direction { OnOk result (IsDirectionOf self.now.matrix self.now.basics j (value_at out.new)) }
+        ensures overflow { ColumnOverflow result self.now.matrix self.now.basics (ways_of self.now) (ways_of self.now) }
+        ensures never { IfErr result (λ stop. stop ≢ Stop.NoMemory) }
+        ensures cost { steps.new ≤ steps.old + 2 * entry_count self.now.etas }
+    {
+        match self.carried(j, out, steps) {
+            Ok(()) => Ok(()),
+            Err(evidence) => Err(Stop::Overflow(evidence)),
+        }
+    }
+
+    /// The same with a counter of its own.
+    fn carry_by<L: Ledger>(&self, j: u32, out: &mut [Frac], blank: Blank) -> Result<(), Stop>
+        requires nonbasic { IsNonbasic self.now.matrix self.now.basics j }
+        requires places { length out.old ≡ size self.now.matrix }
+        requires name { blank.name ≡ L.name }
+        requires parts { blank.parts ≡ L.parts }
+        requires some { 0 < L.parts }
+        ensures direction { OnOk result (IsDirectionOf self.now.matrix self.now.basics j (value_at out.new)) }
+        ensures overflow { ColumnOverflow result self.now.matrix self.now.basics (ways_of self.now) (ways_of self.now) }
+        ensures never { IfErr result (λ stop. stop ≢ Stop.NoMemory) }
+    {
+        let mut steps = Steps::<L>::new(blank);
+        self.carry(j, out, &mut steps)
+    }
+
+    /// Fills `out` with the direction of the nonbasic `j`, and counts nothing.
+    pub fn column(&self, j: u32, out: &mut [Frac]) -> Result<(), Stop>
+        requires nonbasic { IsNonbasic self.now.matrix self.now.basics j }
+        requires places { length out.old ≡ size self.now.matrix }
+        ensures direction { OnOk result (IsDirectionOf self.now.matrix self.now.basics j (value_at out.new)) }
+        ensures overflow { ColumnOverflow result self.now.matrix self.now.basics (ways_of self.now) (ways_of self.now) }
+        ensures never { IfErr result (λ stop. stop ≢ Stop.NoMemory) }
+    {
+        self.carry_by::<Brand>(j, out, Blank::new(1))
+    }
+
+    /// Makes the nonbasic `q` basic in place of `p`, where this is the direction of q, and it is not 0 at p.
+    pub fn append_carried(&mut self, p: u32, q: u32, direction: &[Frac]) -> Result<(), NoMemory>
+        requires leaves { IsBasic self.old.matrix self.old.basics p }
+        requires enters { IsNonbasic self.old.matrix self.old.basics q }
+        requires places { length direction.now ≡ size self.old.matrix }
+        requires direction { IsDirectionOf self.old.matrix self.old.basics q (value_at direction.now) }
+        requires pivot { value_at direction.now p ≢ zero_ℚ }
+        ensures ok { OnOk result (IsAppended self.old p q self.new) }
+        ensures err { OnErr result (self.new ≡ self.old) }
+    {
+        let _size = self.size();
+        if self.etas.len() >= MOST_ETAS {
+            return Err(NoMemory);
+        }
+        let entries = entries_of(self.alloc, direction, &self.marks)?;
+        let pivot = direction[p as usize - 1];
+        let eta = StoredEta {
+            p,
+            q,
+            pivot,
+            entries,
+        };
+        self.etas.push(eta).map_err(|_| NoMemory)?;
+        self.marks[q as usize - 1] = true;
+        self.marks[p as usize - 1] = false;
+        Ok(())
+    }
+
+    /// Makes the nonbasic `q` basic in place of `p`, whose rate at q is not 0. After a Stop the file is as before.
+    pub fn append(&mut self, p: u32, q: u32) -> Result<(), Stop>
+        requires leaves { IsBasic self.old.matrix self.old.basics p }
+        requires enters { IsNonbasic self.old.matrix self.old.basics q }
+        requires pivot { HasPivot self.old.matrix self.old.basics p q }
+        ensures ok { OnOk result (IsAppended self.old p q self.new) }
+        ensures err { OnErr result (self.new ≡ self.old) }
+        ensures overflow { ExchangeOverflow result self.old.matrix self.old.basics p q (ways_of self.old) (ways_of self.old) }
+    {
+        let size = self.size();
+        let mut room = vec![in self.alloc; Frac::whole(0); size as usize].map_err(
+            |_| Stop::NoMemory,
+        )?;
+        self.append_in(p, q, &mut room)
+    }
+
+    /// The same, with room for the direction of `q`.
+    pub fn append_in(&mut self, p: u32, q: u32, room: &mut [Frac]) -> Result<(), Stop>
+        requires leaves { IsBasic self.old.matrix self.old.basics p }
+        requires enters { IsNonbasic self.old.matrix self.old.basics q }
+        requires pivot { HasPivot self.old.matrix self.old.basics p q }
+        requires places { length room.old ≡ size self.old.matrix }
+        ensures ok { OnOk result (IsAppended self.old p q self.new) }
+        ensures err { OnErr result (self.new ≡ self.old) }
+        ensures overflow { ExchangeOverflow result self.old.matrix self.old.basics p q (ways_of self.old) (ways_of self.old) }
+    {
+        let _size = self.size();
+        self.column(q, room)?;
+        self.append_carried(p, q, room)?;
+        Ok(())
+    }
+
+    /// The number of entries of all etas.
+    pub fn entries(&self) -> u64
+        ensures { result ≡ entry_count self.now.etas }
+    {
+        let _size = self.size();
+        let mut total = 0;
+        for place in 0..self.etas.len() {
+            let eta = &self.etas[place];
+            total += eta.entries.len() as u64;
+        }
+        total
+    }
+
+    /// The number of etas.
+    pub fn etas(&self) -> u32
+        ensures { result ≡ length self.now.etas }
+    {
+        self.etas.len() as u32
+    }
+
+    /// The k-th exchange, and the rates that the basics before it have at the variable that enters.
+    pub fn eta(&self, k: u32) -> Eta<'_>
+        requires low { 1 ≤ k }
+        requires high { k ≤ length self.now.etas }
+        ensures { IsLent self.now.etas (k - 1) result.p result.q result.entries.now }
+    {
+        let eta = &self.etas[k as usize - 1];
+        Eta {
+            p: eta.p,
+            q: eta.q,
+            entries: &eta.entries,
+        }
+    }
+
+    /// Marks the basics of a waypoint, by its number from 1; 0 is the present set.
+    pub fn way_basics(&self, way: u32, out: &mut [bool])
+        requires is_way { way ≤ length (ways_of self.now) }
+        requires places { length out.old ≡ size self.now.matrix }
+        ensures { out.new ≡ waypoint self.now.basics (ways_of self.now) way }
+    {
+        if way == 0 {
+            out.copy_from_slice(&self.marks);
+            return;
+        }
+        self.mark_rows(out);
+        for place in 0..way as usize - 1 {
+            let eta = &self.etas[place];
+            out[eta.q as usize - 1] = true;
+            out[eta.p as usize - 1] = false;
+        }
+    }
+
+    /// Marks the rows alone.
+    fn mark_rows(&self, out: &mut [bool])
+        requires { length out.old ≡ size self.now.matrix }
+        ensures { out.new ≡ row_basics self.now.matrix }
+    {
+        for (k, mark) in out.iter_mut().enumerate() {
+            *mark = k < self.rows as usize;
+        }
+    }
+}

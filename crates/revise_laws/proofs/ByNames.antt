@@ -1,0 +1,157 @@
+-- A problem by numbers is lawful by names.
+use Rattle.std.proofs.Common.{◌≡◌, ℕ, ◌≤◌, Bool, true, false, ◌&&◌, List, [], ◌∷◌, length, map, refl, ap, sym, ◌∙◌, subst, arith, nat_eq, is_some}
+use Rattle.std.specs.List.{All, AllByRecursion, IsDistinct, sum_by}
+use Rattle.std.specs.Option.{IfSome}
+use Rattle.std.proofs.lemmas.List.{length-map}
+use Rattle.std.proofs.lemmas.List.Sums.{sum_by-cons}
+use Rattle.card_definitions.specs.Words.{is_empty}
+use Rattle.problem_definitions.specs.declared.TheConstants.{MAX_COLUMNS, MAX_ENTRIES}
+use Rattle.problem_definitions.specs.Names.{Name, same, has_name, name_at, marker}
+use Rattle.problem_definitions.specs.Kinds.{meet, takes_value}
+use Rattle.problem_definitions.specs.Problem.{Row, Entry, Bound, Group, Problem, row_names, group_names, has_row, has_free_row, has_group}
+use Rattle.problem_definitions.specs.Numbering.{entry_by, bound_by, group_by, by_names}
+use Rattle.problem_definitions.specs.Valid.{IsName, IsDecimal, AreLabels, IsNumberOf, AreEntries, clash, AreBounds, AreSets, is_free_row, IsProblem}
+use Rattle.problem_definitions.proofs.Names.{row_is_named}
+use Rattle.problem_definitions.proofs.Groups.{map-map, has_group-names}
+use Rattle.problem_definitions.proofs.Each.{each-change, each-mapped, distinct-mapped}
+use Rattle.problem_definitions.proofs.Lawful.{IsLabel, AreGroups, AreLawfulEntries, AreColumnEntries, AreRightHandSides, AreRanges, clash_by_name, AreLawfulBounds, AreBoundSets, IsLawful, names-by}
+use Rattle.revise_laws.proofs.Places.{all-each, name_at-there, names_apart, free_row-name}
+
+empty-map : {X Y : Type 0} (h : X → Y) (xs : List X) → is_empty xs ≡ false → is_empty (map h xs) ≡ false
+empty-map h [] e = e
+empty-map h (x ∷ xs) e = refl
+
+labels : (names : List Name) → AreLabels names → AllByRecursion IsLabel names
+labels names are = both names (all-each IsName names are.each) (all-each (λ name. is_empty name ≡ false) names are.present)
+  where
+    both : (names : List Name) → AllByRecursion IsName names → AllByRecursion (λ name. is_empty name ≡ false) names → AllByRecursion IsLabel names
+    both [] each present = tt
+    both (name ∷ names) each present = (record { name_of = each.0; present = present.0 }, both names each.1 present.1)
+
+-- what two facts on the groups' items give, once they are replaced
+items-by : {X Y : Type 0} (h : X → Y) (P P' : List X → Type 0) (Q : List Y → Type 0) → ((items : List X) → P items → P' items → Q (map h items))
+    → (groups : List (Group X)) → AllByRecursion (λ group. P group.items) groups → AllByRecursion (λ group. P' group.items) groups → AllByRecursion (λ group. Q group.items) (map (group_by h) groups)
+items-by h P P' Q change [] each also = tt
+items-by h P P' Q change (group ∷ groups) each also = (change group.items each.0 also.0, items-by h P P' Q change groups each.1 also.1)
+
+sets : {X Y : Type 0} (h : X → Y) (P : List X → Type 0) (Q : List Y → Type 0) → ((items : List X) → P items → is_empty (map h items) ≡ false → Q (map h items))
+    → (groups : List (Group X)) → AreSets groups → AllByRecursion (λ group. P group.items) groups → AreGroups IsName Q (map (group_by h) groups)
+sets h P Q change groups are each = record {
+  names = subst (AllByRecursion IsName) (sym (names-by h groups)) (all-each IsName (group_names groups) are.names);
+  distinct = subst (IsDistinct same) (sym (names-by h groups)) are.distinct;
+  items = items-by h P (λ items. is_empty items ≡ false) Q (λ items p e. change items p (empty-map h items e)) groups each (all-each (λ (set : Group _). is_empty set.items ≡ false) groups are.filled);
+}
+
+module _ (rows : List Row) (distinct : IsDistinct same (map (λ row. row.name) rows)) where
+  abbrev names : List Name
+  names = map (λ row. row.name) rows
+
+  numbers : (number : ℕ) → IsNumberOf (length rows) number → IsNumberOf (length names) number
+  numbers number is = subst (λ n. IsNumberOf n number) (sym (length-map rows (λ row. row.name))) is
+
+  entries-named : (entries : List (Entry ℕ)) → AreEntries (length rows) entries → AreLawfulEntries rows (map (entry_by (name_at names)) entries)
+  entries-named entries are = record {
+    on_rows = each-mapped (λ entry. has_row rows entry.row ≡ true) (entry_by (name_at names)) entries
+        (each-change (λ (entry : Entry ℕ). IsNumberOf (length rows) entry.row) (λ entry. has_row rows (name_at names entry.row) ≡ true)
+        (λ entry is. row_is_named (name_at names entry.row) rows ∙ name_at-there names entry.row (numbers entry.row is)) entries on_rows);
+    distinct = subst (IsDistinct same) (map-map (name_at names) (λ entry. entry.row) entries ∙ sym (map-map (λ entry. entry.row) (entry_by (name_at names)) entries))
+        (distinct-mapped nat_eq same (name_at names) (IsNumberOf (length rows)) (λ a b is_a is_b apart. names_apart names distinct a b (numbers a is_a) (numbers b is_b) apart)
+        (map (λ entry. entry.row) entries) (each-mapped (IsNumberOf (length rows)) (λ (entry : Entry ℕ). entry.row) entries on_rows) are.distinct);
+    values = each-mapped (λ entry. IsDecimal entry.value) (entry_by (name_at names)) entries (all-each (λ (entry : Entry ℕ). IsDecimal entry.value) entries are.values);
+  }
+    where
+      on_rows : AllByRecursion (λ (entry : Entry ℕ). IsNumberOf (length rows) entry.row) entries
+      on_rows = all-each (λ (entry : Entry ℕ). IsNumberOf (length rows) entry.row) entries are.on_rows
+
+  columns-named : (entries : List (Entry ℕ)) → AreEntries (length rows) entries → All (λ (entry : Entry ℕ). same marker (name_at names entry.row) ≡ false) entries
+      → AreColumnEntries rows (map (entry_by (name_at names)) entries)
+  columns-named entries are unmarked = record {
+    entries_lawful = entries-named entries are;
+    no_marker = each-mapped (λ entry. same marker entry.row ≡ false) (entry_by (name_at names)) entries (all-each (λ (entry : Entry ℕ). same marker (name_at names entry.row) ≡ false) entries unmarked);
+  }
+
+  limited-named : (entries : List (Entry ℕ)) → AllByRecursion (λ (entry : Entry ℕ). IsNumberOf (length rows) entry.row) entries → AllByRecursion (λ (entry : Entry ℕ). is_free_row rows entry.row ≡ false) entries
+      → AllByRecursion (λ entry. has_free_row rows entry.row ≡ false) (map (entry_by (name_at names)) entries)
+  limited-named [] each limited = tt
+  limited-named (entry ∷ entries) each limited = (free_row-name rows distinct entry.row (numbers entry.row each.0) limited.0, limited-named entries each.1 limited.1)
+
+  -- the items of a range set, by number
+  record AreNumberedRanges (entries : List (Entry ℕ)) : Type 0 where
+    are : AreEntries (length rows) entries
+    limited : All (λ (entry : Entry ℕ). is_free_row rows entry.row ≡ false) entries
+
+  range_items : (groups : List (Group (Entry ℕ))) → AllByRecursion (λ (group : Group (Entry ℕ)). AreEntries (length rows) group.items) groups
+      → AllByRecursion (λ (group : Group (Entry ℕ)). All (λ entry. is_free_row rows entry.row ≡ false) group.items) groups → AllByRecursion (λ (group : Group (Entry ℕ)). AreNumberedRanges group.items) groups
+  range_items [] each limited = tt
+  range_items (group ∷ groups) each limited = (record { are = each.0; limited = limited.0 }, range_items groups each.1 limited.1)
+
+  ranges-named : (entries : List (Entry ℕ)) → AreNumberedRanges entries → is_empty (map (entry_by (name_at names)) entries) ≡ false → AreRanges rows (map (entry_by (name_at names)) entries)
+  ranges-named entries items e = record {
+    entries_lawful = entries-named entries items.are;
+    filled = e;
+    limited = limited-named entries (all-each (λ (entry : Entry ℕ). IsNumberOf (length rows) entry.row) entries items.are.on_rows) (all-each (λ (entry : Entry ℕ). is_free_row rows entry.row ≡ false) entries items.limited);
+  }
+
+bounds-named : (columns : List (Group (Entry Name))) (names : List Name) → group_names columns ≡ names → IsDistinct same names → (count : ℕ) → count ≡ length names → (bounds : List (Bound ℕ)) → AreBounds count bounds
+    → AreLawfulBounds columns (map (bound_by (name_at names)) bounds)
+bounds-named columns names named distinct count counted bounds are = record {
+  on_columns = each-mapped (λ bound. has_group columns bound.column ≡ true) (bound_by (name_at names)) bounds
+      (each-change (λ (bound : Bound ℕ). IsNumberOf count bound.column) (λ bound. has_group columns (name_at names bound.column) ≡ true)
+      (λ bound is. has_group-names columns (name_at names bound.column) ∙ ap (λ list. has_name list (name_at names bound.column)) named ∙ name_at-there names bound.column (numbers bound.column is)) bounds on_columns);
+  apart = distinct-mapped clash clash_by_name (bound_by (name_at names)) (λ (bound : Bound ℕ). IsNumberOf count bound.column) keeps bounds on_columns are.apart;
+  valued = each-mapped (λ bound. is_some bound.value ≡ takes_value bound.kind) (bound_by (name_at names)) bounds (all-each (λ (bound : Bound ℕ). is_some bound.value ≡ takes_value bound.kind) bounds are.valued);
+  values = each-mapped (λ bound. IfSome bound.value IsDecimal) (bound_by (name_at names)) bounds (all-each (λ (bound : Bound ℕ). IfSome bound.value IsDecimal) bounds are.values);
+}
+  where
+    on_columns : AllByRecursion (λ (bound : Bound ℕ). IsNumberOf count bound.column) bounds
+    on_columns = all-each (λ (bound : Bound ℕ). IsNumberOf count bound.column) bounds are.on_columns
+
+    numbers : (number : ℕ) → IsNumberOf count number → IsNumberOf (length names) number
+    numbers number is = subst (λ n. IsNumberOf n number) counted is
+
+    keeps : (a b : Bound ℕ) → IsNumberOf count a.column → IsNumberOf count b.column → clash a b ≡ false → (same (name_at names a.column) (name_at names b.column) && meet a.kind b.kind) ≡ false
+    keeps a b is_a is_b apart = by (nat_eq a.column b.column) (meet a.kind b.kind) (same (name_at names a.column) (name_at names b.column)) apart
+        (names_apart names distinct a.column b.column (subst (λ n. IsNumberOf n a.column) counted is_a) (subst (λ n. IsNumberOf n b.column) counted is_b))
+      where
+        by : (n m s : Bool) → (n && m) ≡ false → (n ≡ false → s ≡ false) → (s && m) ≡ false
+        by n m false e unlike = refl
+        by n false true e unlike = refl
+        by false true true e unlike = unlike refl
+        by true true true e unlike = e
+
+sum-by : {X Y : Type 0} (h : X → Y) (groups : List (Group X)) → sum_by (λ group. length group.items) (map (group_by h) groups) ≡ sum_by (λ group. length group.items) groups
+sum-by h [] = refl
+sum-by h (group ∷ groups) =
+    omega (arith, sum-by h groups, length-map group.items h, sum_by-cons (λ group. length group.items) group groups, sum_by-cons (λ group. length group.items) (group_by h group) (map (group_by h) groups))
+
+-- What is a problem by numbers is lawful by names.
+pub named-lawful : (problem : Problem ℕ) → IsProblem problem → IsLawful (by_names problem)
+unfolding by_names
+named-lawful problem is = record {
+  row_labels = labels (row_names problem) is.rows;
+  rows_distinct = is.rows.distinct;
+  columns = record {
+    names = subst (AllByRecursion IsLabel) (sym (names-by by_row problem.columns)) (labels (group_names problem.columns) is.columns);
+    distinct = subst (IsDistinct same) (sym (names-by by_row problem.columns)) is.columns.distinct;
+    items = items-by by_row (AreEntries (length problem.rows)) (All (λ (entry : Entry ℕ). same marker (name_at (row_names problem) entry.row) ≡ false)) (AreColumnEntries problem.rows) (columns-named problem.rows is.rows.distinct) problem.columns
+        (all-each (λ (column : Group (Entry ℕ)). AreEntries (length problem.rows) column.items) problem.columns is.entries)
+        (all-each (λ (column : Group (Entry ℕ)). All (λ (entry : Entry ℕ). same marker (name_at (row_names problem) entry.row) ≡ false) column.items) problem.columns is.no_marker);
+  };
+  rhs = sets by_row (AreEntries (length problem.rows)) (AreRightHandSides problem.rows) (λ items p e. record { entries_lawful = entries-named problem.rows is.rows.distinct items p; filled = e }) problem.rhs is.rhs
+      (all-each (λ (set : Group (Entry ℕ)). AreEntries (length problem.rows) set.items) problem.rhs is.rhs_items);
+  ranges = sets by_row (AreNumberedRanges problem.rows is.rows.distinct) (AreRanges problem.rows) (ranges-named problem.rows is.rows.distinct) problem.ranges is.ranges
+      (range_items problem.rows is.rows.distinct problem.ranges (all-each (λ (set : Group (Entry ℕ)). AreEntries (length problem.rows) set.items) problem.ranges is.range_items)
+      (all-each (λ (set : Group (Entry ℕ)). All (λ (entry : Entry ℕ). is_free_row problem.rows entry.row ≡ false) set.items) problem.ranges is.ranges_limited));
+  bounds = sets by_column (AreBounds (length problem.columns)) (AreBoundSets (map (group_by by_row) problem.columns))
+      (λ items p e. record { bounds_lawful = bounds-named (map (group_by by_row) problem.columns) (group_names problem.columns) (names-by by_row problem.columns) is.columns.distinct (length problem.columns) (sym (length-map problem.columns (λ column. column.name))) items p; filled = e })
+      problem.bounds is.bounds (all-each (λ (set : Group (Bound ℕ)). AreBounds (length problem.columns) set.items) problem.bounds is.bound_items);
+  few_rows = is.few_rows;
+  few_columns = subst (λ n. n ≤ MAX_COLUMNS) (sym (length-map problem.columns (group_by by_row))) is.few_columns;
+  few_entries = subst (λ n. n ≤ MAX_ENTRIES) (sym (sum-by by_row problem.columns)) is.few_entries;
+}
+  where
+    by_row : Entry ℕ → Entry Name
+    by_row = entry_by (name_at (row_names problem))
+
+    by_column : Bound ℕ → Bound Name
+    by_column = bound_by (name_at (group_names problem.columns))

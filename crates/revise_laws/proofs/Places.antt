@@ -1,0 +1,97 @@
+-- The names at the places of a list without two alike.
+use Rattle.std.proofs.Common.{◌≡◌, ℕ, zero, suc, ◌-◌, ◌<◌, Bool, true, false, ◌&&◌, ◌||◌, List, [], ◌∷◌, length, map, refl, ap, sym, ◌∙◌, arith, unwrap_or, nat_eq}
+use Rattle.std.specs.List.{All, AllByRecursion, IsDistinct, position_or_len, slice_get}
+use Rattle.std.specs.Option.{option_map}
+use Rattle.std.proofs.lemmas.Bool.{eq-eqb}
+use Rattle.problem_definitions.specs.Names.{Name, same, has_name, number_in, name_at}
+use Rattle.problem_definitions.specs.Kinds.{is_free_kind}
+use Rattle.problem_definitions.specs.Problem.{Row, has_free_row}
+use Rattle.problem_definitions.specs.Valid.{IsNumberOf, is_free_row}
+use Rattle.problem_definitions.proofs.Names.{same_eq, same_refl, same_sym}
+use Rattle.problem_definitions.proofs.Places.{number_in-is}
+
+pub all-each : {X : Type 0} (P : X → Type 0) (xs : List X) → All P xs → AllByRecursion P xs
+all-each P [] all = tt
+all-each P (x ∷ xs) all = (all zero x first, all-each P xs (λ k d below. all (suc k) d (next k below)))
+  where
+    first : 0 < suc (length xs)
+    first = omega arith
+
+    next : (k : ℕ) → k < length xs → suc k < suc (length xs)
+    next k below = omega (arith, below)
+
+-- the name at a place, from 0
+abbrev at : List Name → ℕ → Name
+at names place = unwrap_or (slice_get names place) []
+
+each-at : (P : Name → Type 0) (names : List Name) (place : ℕ) → place < length names → AllByRecursion P names → P (at names place)
+each-at P [] place below each = absurd (omega (arith, below))
+each-at P (name ∷ names) zero below each = each.0
+each-at P (name ∷ names) (suc place) below each = let inner : place < length names = omega (arith, below) in each-at P names place inner each.1
+
+at-there : (names : List Name) (place : ℕ) → place < length names → has_name names (at names place) ≡ true
+at-there [] place below = absurd (omega (arith, below))
+at-there (name ∷ names) zero below = rw (same_refl name) refl
+at-there (name ∷ names) (suc place) below =
+    let inner : place < length names = omega (arith, below) in
+    by (same (at names place) name) (at-there names place inner)
+  where
+    by : (b : Bool) → has_name names (at names place) ≡ true → (b || has_name names (at names place)) ≡ true
+    by true h = refl
+    by false h = h
+
+at-place : (names : List Name) (place : ℕ) → place < length names → IsDistinct same names → position_or_len (same (at names place)) names ≡ place
+unfolding IsDistinct
+at-place [] place below distinct = absurd (omega (arith, below))
+at-place (name ∷ names) zero below distinct = rw (same_refl name) refl
+at-place (name ∷ names) (suc place) below distinct =
+    let inner : place < length names = omega (arith, below) in
+    let other : same (at names place) name ≡ false = same_sym (at names place) name ∙ each-at (λ y. same name y ≡ false) names place inner distinct.0 in
+    let rest : position_or_len (same (at names place)) names ≡ place = at-place names place inner distinct.1 in
+    rw (other, rest) (omega arith)
+
+-- a number of a name, from 1, and its place
+below : (names : List Name) (number : ℕ) → IsNumberOf (length names) number → number - 1 < length names
+below names number is = omega (arith, is.positive, is.at_most)
+
+pub name_at-there : (names : List Name) (number : ℕ) → IsNumberOf (length names) number → has_name names (name_at names number) ≡ true
+name_at-there names number is = at-there names (number - 1) (below names number is)
+
+-- the number of the name at a number is that number
+pub number_in-name_at : (names : List Name) → IsDistinct same names → (number : ℕ) → IsNumberOf (length names) number → number_in names (name_at names number) ≡ number
+number_in-name_at names distinct number is =
+    let place = at-place names (number - 1) (below names number is) distinct in
+    number_in-is names (name_at names number) (name_at-there names number is) ∙ omega (arith, place, is.positive)
+
+-- different numbers have different names
+pub names_apart : (names : List Name) → IsDistinct same names → (a b : ℕ) → IsNumberOf (length names) a → IsNumberOf (length names) b → nat_eq a b ≡ false → same (name_at names a) (name_at names b) ≡ false
+names_apart names distinct a b is_a is_b apart = by (same (name_at names a) (name_at names b)) refl
+  where
+    by : (t : Bool) → same (name_at names a) (name_at names b) ≡ t → t ≡ false
+    by false e = refl
+    by true e =
+        let one : a ≡ b = sym (number_in-name_at names distinct a is_a) ∙ ap (number_in names) (same_eq (name_at names a) (name_at names b) e) ∙ number_in-name_at names distinct b is_b in
+        absurd (cc (apart, eq-eqb a b one))
+
+unlike_free : (rows : List Row) (name : Name) → AllByRecursion (λ other. same name other ≡ false) (map (λ row. row.name) rows) → has_free_row rows name ≡ false
+unlike_free [] name apart = refl
+unlike_free (row ∷ rows) name apart = rw apart.0 (unlike_free rows name apart.1)
+
+-- a row that isn't free by its number isn't by its name
+pub free_row-name : (rows : List Row) → IsDistinct same (map (λ row. row.name) rows) → (number : ℕ) → IsNumberOf (length (map (λ row. row.name) rows)) number → is_free_row rows number ≡ false
+    → has_free_row rows (name_at (map (λ row. row.name) rows) number) ≡ false
+unfolding IsDistinct
+free_row-name rows distinct number is limited = kind rows distinct (number - 1) (below (map (λ row. row.name) rows) number is) limited
+  where
+    kind : (rows : List Row) → IsDistinct same (map (λ row. row.name) rows) → (place : ℕ) → place < length (map (λ row. row.name) rows) → unwrap_or (option_map (λ row. is_free_kind row.kind) (slice_get rows place)) false ≡ false
+        → has_free_row rows (at (map (λ row. row.name) rows) place) ≡ false
+    kind [] distinct place below limited = refl
+    kind (row ∷ rest) distinct zero below limited = rw (limited, unlike_free rest row.name distinct.0) (closed (same row.name row.name))
+      where
+        closed : (b : Bool) → (b && false || false) ≡ false
+        closed true = refl
+        closed false = refl
+    kind (row ∷ rest) distinct (suc place) below limited =
+        let inner : place < length (map (λ row. row.name) rest) = omega (arith, below) in
+        let other : same (at (map (λ row. row.name) rest) place) row.name ≡ false = same_sym (at (map (λ row. row.name) rest) place) row.name ∙ each-at (λ y. same row.name y ≡ false) (map (λ row. row.name) rest) place inner distinct.0 in
+        rw other (kind rest distinct.1 place inner limited)

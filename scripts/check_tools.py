@@ -1,0 +1,183 @@
+#!/usr/bin/env python3
+"""Tries the scripts on examples whose results are known from outside, and on hostile inputs. scripts/check.sh runs it.
+
+usage: check_tools.py      ends with 1 where a result is another; what needs the proved program is left out, and said, where it isn't fresh"""
+import json, os, pathlib, subprocess, sys, tempfile
+import runner
+
+SCRIPTS = runner.TOP / "scripts"
+wrong = 0
+
+# The example of many descriptions of the format: its optimum is 54, here with a constant of 10 besides.
+TESTPROB = """NAME          TESTPROB
+ROWS
+ N  COST
+ L  LIM1
+ G  LIM2
+ E  MYEQN
+COLUMNS
+    XONE      COST         1.0   LIM1         1.0
+    XONE      LIM2         1.0
+    YTWO      COST         4.0   LIM1         1.0
+    YTWO      MYEQN       -1.0
+    ZTHREE    COST         9.0   LIM2         1.0
+    ZTHREE    MYEQN        1.0
+RHS
+    RHS       COST       -10.0   LIM1         5.0
+    RHS       LIM2        10.0   MYEQN        7.0
+BOUNDS
+ UP BND       XONE         4.0
+ LO BND       YTWO        -1.0
+ UP BND       YTWO         1.0
+ENDATA
+"""
+# Hillier and Lieberman's example of glass products, with the optimum 36; long names, no names of sets, carriage returns.
+GLASS = """NAME glass_products
+OBJSENSE MAX
+ROWS
+ N total_profit
+ L plant_1_hours
+ L plant_2_hours
+ L plant_3_hours
+COLUMNS
+ doors_batches total_profit 3 plant_1_hours 1
+ doors_batches plant_3_hours 3.0000000000000000
+ windows_batches total_profit 5 plant_2_hours 2
+ windows_batches plant_3_hours 2
+RHS
+ plant_1_hours 4 plant_2_hours 12
+ plant_3_hours 18
+BOUNDS
+ UP doors_batches 1e30
+ MI windows_batches
+ LO windows_batches 0
+ENDATA
+""".replace("\n", "\r\n")
+# Beale's example, on which the simplex method goes round in circles under other rules; its optimum is -1/20.
+BEALE = """NAME BEALE
+ROWS
+ N COST
+ L R1
+ L R2
+ L R3
+COLUMNS
+ X1 COST -0.75 R1 2.5e-1
+ X1 R2 0.500000000000
+ X2 COST 150 R1 -60
+ X2 R2 -90
+ X3 COST -2e-2 R1 -0.04
+ X3 R2 -.02 R3 1
+ X4 COST 6 R1 9
+ X4 R2 3
+RHS
+ B R3 1
+BOUNDS
+ PL BND X1
+ENDATA
+"""
+DOOMED = {
+    "a MARKER": ("    M1  'MARKER'  'INTORG'\n", "MARKER"),
+    "a long number": ("    X  COST  0.1234567890123\n", "12 columns"),
+    "an unknown row": ("    X  PROFIT  1\n", "PROFIT"),
+}
+
+
+def check(what, holds):
+    global wrong
+    if not holds:
+        wrong += 1
+        print(f"check_tools: {what}", file=sys.stderr)
+
+
+def call(*words, **more):
+    return subprocess.run([str(word) for word in words], capture_output=True, timeout=60, **more)
+
+
+def try_mps(folder, program):
+    wanted = {"testprob": (TESTPROB, "54", "64"), "glass": (GLASS, "36", None), "beale": (BEALE, "-1/20", None)}
+    for name, (text, objective, constant) in wanted.items():
+        mps, job, names, listing = (folder / f"{name}.{ending}" for ending in ("mps", "job", "names", "listing"))
+        mps.write_bytes(text.encode())
+        made = call(SCRIPTS / "mps2job.py", mps, "-o", job, "--names", names)
+        check(f"{name}: mps2job.py ends with {made.returncode}: {made.stderr.decode()}", made.returncode == 0)
+        if made.returncode:
+            continue
+        printed = [call(SCRIPTS / "expected_listing.py", job).stdout]
+        if program:
+            printed.append(subprocess.run([program], input=job.read_bytes(), stdout=subprocess.PIPE).stdout)
+        for text in printed:
+            listing.write_bytes(text)
+            told = call(SCRIPTS / "listing2json.py", "--names", names, listing)
+            verdict = next((report for report in json.loads(told.stdout or '{"reports":[]}')["reports"] if report["report"] == "verdict"), {})
+            check(f"{name}: the objective is {verdict.get('objective')}, not {objective}", verdict.get("objective") == objective)
+            check(f"{name}: with its constant {verdict.get('objective_with_constant')}", verdict.get("objective_with_constant") == constant)
+            if name == "glass":
+                table = call(SCRIPTS / "listing2json.py", "--csv", "--names", names, listing).stdout.decode()
+                check("glass: doors and windows by their names", "doors_batches,BS,2," in table and "windows_batches,BS,6," in table)
+    for what, (line, said) in DOOMED.items():
+        path = folder / "doomed.mps"
+        path.write_text(f"NAME D\nROWS\n N  COST\nCOLUMNS\n    A  COST  1\n{line}ENDATA\n")
+        told = call(SCRIPTS / "mps2job.py", path)
+        check(f"{what}: refused with its line", told.returncode == 65 and b"line 6:" in told.stderr and said.encode() in told.stderr)
+    path.write_text("NAME D\nROWS\n N COST\nCOLUMNS\n X COST 1\nBOUNDS\n UP BND X -1\nENDATA\n")
+    ends = [call(SCRIPTS / "mps2job.py", *words, path).returncode for words in ((), ("--negative-up", "free"), ("--negative-up", "keep"))]
+    check("a negative UP wants its option", ends == [65, 0, 0])
+
+
+def try_explain(folder):
+    examples = runner.TOP / "examples"
+    told = call(SCRIPTS / "explain", examples / "conflict.job", examples / "conflict.listing").stdout.decode()
+    check("explain reads a ray as a sum", "together 0, and at most -10" in told)
+    listing = folder / "deck-06.listing"
+    listing.write_text("STOP 12 DECK FAULT 6 CARD 12\n")
+    told = call(SCRIPTS / "explain", examples / "faults/deck-06.job", listing).stdout.decode()
+    check("explain names the rows that are known", "Known rows: 'COST'" in told and "PROFIT    1" in told)
+
+
+def try_hostile(folder, program):
+    hostile = {"empty": b"", "binary": bytes(range(256)) * 40, "long": b"X" * 20_000_000}
+    for name, content in hostile.items():
+        path = folder / name
+        path.write_bytes(content)
+        for script in ("mps2job.py", "listing2json.py"):
+            check(f"{script}: {name}", call(SCRIPTS / script, path).returncode == 65)
+        check(f"explain: {name}", call(SCRIPTS / "explain", path, path).returncode == (65 if content else 0))
+    for script, words in (("mps2job.py", ()), ("listing2json.py", ()), ("explain", (folder,)), ("mps360", ())):
+        check(f"{script}: a folder", call(SCRIPTS / script, *words, folder).returncode == 66)
+        check(f"{script}: no such file", call(SCRIPTS / script, *words, folder / "none").returncode == 66)
+        check(f"{script}: --help", call(SCRIPTS / script, "--help").returncode == 0)
+    check("mps360: wrong use", call(SCRIPTS / "mps360", "a", "b").returncode == 64 and call(SCRIPTS / "mps360", "--make").returncode == 64)
+    check("mps360-batch: no folder", call(SCRIPTS / "mps360-batch", folder / "none").returncode == 66)
+    check("mps360: --version", call(SCRIPTS / "mps360", "--version").stdout.startswith(b"mps360 "))
+    words = {**os.environ, "PATH": "/usr/bin:/bin", "MPS360_UNPROVED": "1"}
+    if not any(os.path.exists(f"{place}/rt") for place in ("/usr/bin", "/bin")):
+        check("mps360: no rt", call(SCRIPTS / "mps360", runner.TOP / "examples/store.job", env=words).returncode == 70)
+    if program:
+        job = (runner.TOP / "examples/store.job").read_bytes()
+        cases = {b"": 8, hostile["binary"]: 13, hostile["long"]: 13, job.replace(b"\n", b"\r\n"): 0}
+        for content, status in cases.items():
+            ended = call(SCRIPTS / "mps360", input=content)
+            check(f"mps360: status {ended.returncode} of {content[:20]!r}..", ended.returncode == status)
+        link = folder / "link"
+        link.symlink_to(SCRIPTS / "mps360")
+        wanted = (runner.TOP / "examples/store.listing").read_bytes()
+        check("mps360: through a symbolic link, from a pipe", call(link, input=job, cwd=folder).stdout == wanted)
+
+
+def main():
+    if len(sys.argv) > 1:
+        print(__doc__)
+        return 0 if sys.argv[1] in ("-h", "--help") else 64
+    program = runner.proved_program()
+    if not program:
+        print("check_tools: no fresh proved program; what needs it is left out")
+    with tempfile.TemporaryDirectory() as folder:
+        folder = pathlib.Path(folder)
+        try_mps(folder, program)
+        try_explain(folder)
+        try_hostile(folder, program)
+    return 1 if wrong else 0
+
+
+if __name__ == "__main__":
+    sys.exit(main())

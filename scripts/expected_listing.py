@@ -1,0 +1,406 @@
+#!/usr/bin/env python3
+"""Prints the listing of a lawful job, worked out apart from the program: the bounded simplex method by the least-index rule over a
+table of Python's exact fractions. The listings beside the jobs of examples/ are compared with it.
+
+usage: expected_listing.py [FILE.job]      without a file the job is read from standard input; it ends with the run's status
+
+It knows TITLE, MOVE, MVADR, GOTO, INITIALZ, CONVERT, SETUP, PRIMAL, SOLUTION and EXIT, in jobs without a fault. It looks for few
+faults itself, and ends with 70 where it meets one, or another verb."""
+from fractions import Fraction
+import re
+import sys
+
+SECTIONS = ("NAME", "ROWS", "COLUMNS", "RHS", "RANGES", "BOUNDS", "ENDATA")
+NUMBER = re.compile(r"([+-]?(?:\d+\.?\d*|\.\d+))(?:[EeDd]([+-]?\d+))?$")
+
+
+class Fault(Exception):
+    "a job that is not lawful, or asks for what is not known here"
+
+
+def number(text):
+    found = NUMBER.match(text.strip())
+    if not found:
+        raise Fault(f"not a number: {text!r}")
+    return Fraction(found[1].rstrip(".") if found[1].endswith(".") else found[1]) * Fraction(10) ** int(found[2] or 0)
+
+
+def is_skipped(card):
+    return not card or card.startswith("*")
+
+
+# ---- a deck: what it says, by names
+
+class Problem:
+    def __init__(self, cards):
+        self.name, self.rows, self.columns = "", {}, {}
+        self.sets = {"RHS": {}, "RANGES": {}, "BOUNDS": {}}
+        section = None
+        for card in cards:
+            if is_skipped(card):
+                continue
+            if card[0] != " ":
+                section = card.split()[0]
+                if section not in SECTIONS:
+                    raise Fault(f"section {section}")
+                if section == "NAME":
+                    self.name = card[14:22].rstrip()
+                continue
+            field = [card[a:b].rstrip() for a, b in ((1, 3), (4, 12), (14, 22), (24, 36), (39, 47), (49, 61))]
+            pairs = [(field[2], field[3])] + ([(field[4], field[5])] if field[4] or field[5] else [])
+            if section == "ROWS":
+                self.rows[field[1]] = field[0].strip()
+            elif section == "COLUMNS":
+                self.columns.setdefault(field[1], {}).update({row: number(text) for row, text in pairs})
+            elif section in ("RHS", "RANGES"):
+                self.sets[section].setdefault(field[1], {}).update({row: number(text) for row, text in pairs})
+            elif section == "BOUNDS":
+                kind = field[0].strip()
+                value = number(field[3]) if kind in ("UP", "LO", "FX") else None
+                self.sets["BOUNDS"].setdefault(field[1], []).append((kind, field[2], value))
+        for entries in self.columns.values():
+            if any(row not in self.rows for row in entries):
+                raise Fault("an unknown row")
+
+    def entries(self):
+        return sum(len(entries) for entries in self.columns.values())
+
+
+# ---- a linear program: variables are numbered from 0, rows before columns
+
+class LinearProgram:
+    def __init__(self, problem, objective, rhs, options):
+        self.names = [*problem.rows, *problem.columns]
+        self.m, self.n = len(problem.rows), len(problem.columns)
+        place = {name: k for k, name in enumerate(problem.rows)}
+        free = [name for name, kind in problem.rows.items() if kind == "N"]
+        chosen = objective if objective is not None else free[0]
+        if chosen not in free:
+            raise Fault("the objective")
+        self.objective, self.sense = place[chosen], options["sense"]
+        sets = problem.sets["RHS"]
+        values = sets[rhs] if rhs is not None else next(iter(sets.values()), {})
+        self.rhs = [values.get(name, Fraction(0)) for name in problem.rows]
+        ranges = problem.sets["RANGES"][options["range"]] if options["range"] is not None else {}
+        self.columns = [{place[row]: value for row, value in entries.items()} for entries in problem.columns.values()]
+        self.lower, self.upper = [None] * self.m + [Fraction(0)] * self.n, [None] * (self.m + self.n)
+        for name, kind in problem.rows.items():
+            k, b = place[name], self.rhs[place[name]]
+            if kind in "GE":
+                self.lower[k] = b
+            if kind in "LE":
+                self.upper[k] = b
+            if name in ranges:
+                r = ranges[name]
+                if kind == "L" or kind == "E" and r < 0:
+                    self.lower[k] = b - abs(r)
+                else:
+                    self.upper[k] = b + abs(r)
+        bounds = problem.sets["BOUNDS"][options["bound"]] if options["bound"] is not None else []
+        number_of = {name: self.m + k for k, name in enumerate(problem.columns)}
+        for kind, name, value in bounds:
+            k = number_of[name]
+            if kind in ("LO", "FX", "FR", "MI"):
+                self.lower[k] = value if kind in ("LO", "FX") else None
+            if kind in ("UP", "FX", "FR", "PL"):
+                self.upper[k] = value if kind in ("UP", "FX") else None
+
+
+# ---- a basis, with its table: each basic as a sum of nonbasics
+
+class Table:
+    def __init__(self, lp):
+        size = lp.m + lp.n
+        self.lp, self.size = lp, size
+        self.rate = {i: [Fraction(0)] * size for i in range(lp.m)}
+        for j, entries in enumerate(lp.columns):
+            for i, value in entries.items():
+                self.rate[i][lp.m + j] = value
+        self.at = ["BS"] * lp.m + ["LL" if lp.lower[k] is not None else "UL" if lp.upper[k] is not None else "FR"
+                                   for k in range(lp.m, size)]
+
+    def take(self, lp):
+        "the same basis, for other limits, right-hand sides or another objective"
+        self.lp = lp
+
+    def value(self):
+        lp, value = self.lp, [Fraction(0)] * self.size
+        for k in range(self.size):
+            if k not in self.rate:
+                value[k] = {"LL": lp.lower[k], "UL": lp.upper[k], "FR": Fraction(0)}[self.at[k]]
+        for i, line in self.rate.items():
+            value[i] = sum((line[k] * value[k] for k in range(self.size) if k not in self.rate and line[k]), Fraction(0))
+        return value
+
+    def prices(self):
+        return [Fraction(0) if k in self.rate else self.rate[self.lp.objective][k] for k in range(self.size)]
+
+    def is_outside(self, k, value):
+        lp = self.lp
+        if lp.lower[k] is not None and value[k] < lp.lower[k]:
+            return "below"
+        if lp.upper[k] is not None and value[k] > lp.upper[k]:
+            return "above"
+        return None
+
+    def may_move(self, k, up):
+        lp = self.lp
+        if k in self.rate or lp.lower[k] is not None and lp.lower[k] == lp.upper[k]:
+            return False
+        return self.at[k] in (("LL", "FR") if up else ("UL", "FR"))
+
+    def entering(self, wish):
+        "the least-numbered nonbasic that may move so that what has these rates rises"
+        for k in range(self.size):
+            if k not in self.rate and wish(k) and self.may_move(k, wish(k) > 0):
+                return k
+        return None
+
+    def direction(self, q):
+        direction = [Fraction(0)] * self.size
+        direction[q] = Fraction(1)
+        for i, line in self.rate.items():
+            direction[i] = line[q]
+        return direction
+
+    def leaving(self, q, up, value):
+        "the least-numbered of those that stop q first, and the limit to which it goes"
+        best, lp = None, self.lp
+        for k, speed in enumerate(self.direction(q)):
+            speed = speed if up else -speed
+            limit = lp.upper[k] if speed > 0 else lp.lower[k] if speed < 0 else None
+            if limit is not None and (k == q or k in self.rate):
+                room = (limit - value[k]) / speed
+                if best is None or room < best[0]:
+                    best = room, k, "UL" if speed > 0 else "LL"
+        return best and best[1:]
+
+    def exchange(self, p, q, to):
+        self.at[p] = to
+        if p == q:
+            return
+        self.at[q] = "BS"
+        line = self.rate.pop(p)
+        pivot = line[q]
+        new = [-x / pivot for x in line]
+        new[q], new[p] = Fraction(0), 1 / pivot
+        for other in self.rate.values():
+            factor, other[q] = other[q], Fraction(0)
+            if factor:
+                for k in range(self.size):
+                    if new[k]:
+                        other[k] += factor * new[k]
+        self.rate[q] = new
+
+    def path(self, most):
+        "the end of the path and the number of steps"
+        lp, steps = self.lp, 0
+        for k in range(self.size):
+            if None not in (lp.lower[k], lp.upper[k]) and lp.lower[k] > lp.upper[k]:
+                return ("CROSSED", k), steps
+        while True:
+            value = self.value()
+            p = next((k for k in range(self.size) if k in self.rate and self.is_outside(k, value)), None)
+            if p is not None:
+                below = self.is_outside(p, value) == "below"
+                line = self.rate[p]
+                q = self.entering(lambda k: line[k] if below else -line[k])
+                if q is None:
+                    ray = [Fraction(0) if k in self.rate else line[k] if below else -line[k] for k in range(self.size)]
+                    ray[p] = Fraction(-1 if below else 1)
+                    return ("RAY", ray), steps
+                to = "LL" if below else "UL"
+            else:
+                line, better = self.rate[lp.objective], -1 if lp.sense == "MIN" else 1
+                q = self.entering(lambda k: better * line[k])
+                if q is None:
+                    return ("OPTIMAL", value), steps
+                up = better * line[q] > 0
+                found = self.leaving(q, up, value)
+                if found is None:
+                    direction = self.direction(q)
+                    return ("UNBOUNDED", value, direction if up else [-x for x in direction]), steps
+                p, to = found
+            if steps == most:
+                return ("LIMIT",), steps
+            self.exchange(p, q, to)
+            steps += 1
+
+    def code(self, k, value):
+        lp = self.lp
+        if k in self.rate:
+            return "**" if self.is_outside(k, value) else "BS"
+        return "EQ" if lp.lower[k] is not None and lp.lower[k] == lp.upper[k] else self.at[k]
+
+
+# ---- a run
+
+def shown(value):
+    return "NONE" if value is None else str(value)
+
+
+class Run:
+    def __init__(self, text):
+        self.cards = [line.rstrip(" \r") for line in text.split("\n")]
+        if self.cards and not self.cards[-1]:
+            self.cards.pop()
+        if any(len(card) > 80 or re.search(r"[^ -~]", card) for card in self.cards):
+            raise Fault("a card of more than 80 bytes, or with a byte that isn't printable")
+        self.statements, self.labels, self.place = [], {}, 0
+        self.problems, self.last, self.setup, self.mark, self.lines = {}, None, None, None, []
+        self.compile()
+        self.reset()
+
+    def reset(self):
+        self.cells, self.demands, self.mark = {"XITERLIM": Fraction(10000)}, {}, None
+
+    def compile(self):
+        for place, card in enumerate(self.cards, 1):
+            if is_skipped(card):
+                continue
+            card = card[:72]
+            if card[0] != " ":
+                self.labels[card.split()[0]] = len(self.statements)
+                card = card[len(card.split()[0]):]
+            text = re.match(r"\s*((?:'[^']*'|[^' ])*)", card)[1]
+            if text == "PEND":
+                self.place = place
+                return
+            if not text.startswith("PROGRAM"):
+                verb, _, rest = text.partition("(")
+                self.statements.append((place, verb, re.findall(r"'[^']*'|[^,']+", rest[:-1])))
+        raise Fault("no PEND")
+
+    def deck(self):
+        while True:
+            while self.place < len(self.cards) and is_skipped(self.cards[self.place]):
+                self.place += 1
+            taken = []
+            while self.place < len(self.cards):
+                taken.append(self.cards[self.place])
+                self.place += 1
+                if taken[-1].split(" ")[0] == "ENDATA":
+                    break
+            if not taken:
+                raise Fault("no deck")
+            problem = Problem(taken)
+            if self.cells.get("XDATA", problem.name) == problem.name:
+                return problem
+
+    def table_line(self, k, values):
+        return f"{k + 1:5} {self.lp.names[k]:<8} " + " ".join(str(value) if isinstance(value, str) else shown(value) for value in values)
+
+    def select(self):
+        problem, options = self.setup
+        self.lp = LinearProgram(problem, self.cells.get("XOBJ"), self.cells.get("XRHS"), options)
+
+    def primal(self):
+        self.select()
+        self.table.take(self.lp)
+        end, steps = self.table.path(self.cells["XITERLIM"])
+        kind, say = end[0], self.lines.append
+        if kind == "LIMIT":
+            return "LIMIT"
+        if kind == "OPTIMAL":
+            say(f"PRIMAL OPTIMAL STEPS {steps} OBJECTIVE {end[1][self.lp.objective]} CHECKED")
+            self.mark = "OPTIMAL"
+        elif kind == "UNBOUNDED":
+            say(f"PRIMAL UNBOUNDED STEPS {steps} OBJECTIVE {end[1][self.lp.objective]} CHECKED")
+            self.lines += [self.table_line(k, pair) for k, pair in enumerate(zip(end[1], end[2]))]
+            self.mark = "UNBOUNDED"
+        else:
+            self.mark = "INFEASIBLE"
+            if kind == "CROSSED":
+                say(f"PRIMAL INFEASIBLE STEPS {steps} CROSSED {end[1] + 1} CHECKED")
+            else:
+                say(f"PRIMAL INFEASIBLE STEPS {steps} RAY CHECKED")
+                self.lines += [self.table_line(k, [value]) for k, value in enumerate(end[1]) if value]
+        return self.mark
+
+    def solution(self):
+        lp, table, value, prices = self.lp, self.table, self.table.value(), self.table.prices()
+        self.lines += [f"SOLUTION {self.mark}", "SECTION 1 - ROWS", "NUMBER ROW AT ACTIVITY SLACK LOWER UPPER DUAL"]
+        for k in range(lp.m + lp.n):
+            if k == lp.m:
+                self.lines += ["SECTION 2 - COLUMNS", "NUMBER COLUMN AT ACTIVITY COST LOWER UPPER REDUCED"]
+            second = lp.rhs[k] - value[k] if k < lp.m else lp.columns[k - lp.m].get(lp.objective, Fraction(0))
+            self.lines.append(self.table_line(k, [table.code(k, value), value[k], second, lp.lower[k], lp.upper[k], prices[k]]))
+        if not lp.n:
+            self.lines += ["SECTION 2 - COLUMNS", "NUMBER COLUMN AT ACTIVITY COST LOWER UPPER REDUCED"]
+
+    def run(self):
+        at = executed = 0
+        while at < len(self.statements):
+            if executed == 100_000:
+                self.lines.append("STOP 17 STATEMENT LIMIT")
+                return 17
+            card, verb, words = self.statements[at]
+            at, executed = at + 1, executed + 1
+            words = [word.strip("'") for word in words]
+            if verb == "EXIT":
+                break
+            if verb == "GOTO":
+                at = self.labels[words[0]]
+            elif verb == "TITLE":
+                self.lines.append("TITLE " + (words[0] if words else ""))
+            elif verb == "INITIALZ":
+                self.reset()
+            elif verb == "MOVE":
+                is_number = words[0] in ("XITERLIM", "XPARAM", "XPARMAX")
+                self.cells[words[0]] = number(words[1]) if is_number else words[1] if len(words) > 1 else ""
+                if words[0] in ("XOBJ", "XRHS"):
+                    self.mark = None
+            elif verb == "MVADR":
+                self.demands[words[0]] = self.labels[words[1]]
+            elif verb == "CONVERT":
+                problem = self.deck()
+                problem.name = self.cells.get("XPBNAME", problem.name)
+                self.problems[problem.name], self.last, self.setup, self.mark = problem, problem.name, None, None
+                counts = len(problem.rows), len(problem.columns), problem.entries()
+                self.lines.append("CONVERT {:<8} ROWS {} COLUMNS {} ENTRIES {}".format(problem.name, *counts))
+            elif verb == "SETUP":
+                options = {"bound": None, "range": None, "sense": "MAX" if "MAX" in words else "MIN"}
+                for kind in ("BOUND", "RANGE"):
+                    if kind in words:
+                        options[kind.lower()] = words[words.index(kind) + 1]
+                problem = self.problems[self.cells.get("XPBNAME", self.last)]
+                self.setup, self.mark = (problem, options), None
+                self.select()
+                self.table = Table(self.lp)
+                self.lines.append(f"SETUP   {problem.name:<8} {options['sense']}")
+            elif verb == "PRIMAL":
+                end = self.primal()
+                if end == "LIMIT":
+                    self.lines.append(f"STOP 16 ITERATION LIMIT {self.cells['XITERLIM']} CARD {card}")
+                    return 16
+                if end != "OPTIMAL":
+                    demand, status = ("XDONFS", 1) if end == "INFEASIBLE" else ("XDOUNB", 2)
+                    if demand not in self.demands:
+                        self.lines.append(f"END {status}")
+                        return status
+                    at = self.demands[demand]
+            elif verb == "SOLUTION":
+                self.solution()
+            else:
+                raise Fault(f"verb {verb}")
+        self.lines.append("END 0")
+        return 0
+
+
+def main(words):
+    if words and words[0] in ("-h", "--help"):
+        print(__doc__)
+        return 0
+    text = open(words[0], encoding="latin-1").read() if words else sys.stdin.read()
+    try:
+        run = Run(text)
+        status = run.run()
+    except (Fault, KeyError, IndexError) as fault:
+        print(f"expected_listing.py: not a job that is known here: {fault}", file=sys.stderr)
+        return 70
+    print("\n".join(run.lines))
+    return status
+
+
+if __name__ == "__main__":
+    sys.exit(main(sys.argv[1:]))

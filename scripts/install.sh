@@ -1,0 +1,38 @@
+#!/usr/bin/env bash
+# Installs the proved program, the commands mps360, mps360-batch, mps360-explain, mps2job and listing2json, the manual page, completion.
+# usage: scripts/install.sh PREFIX     into PREFIX/libexec/mps360, with links in PREFIX/bin, and PREFIX/share
+# The program has to be built before (scripts/build.sh). Ends with 64 for wrong use, 70 where no proved program is there.
+set -eu
+case ${1:-} in
+    -h | --help)
+        sed -n '2,4s/^# //p' "$0"
+        exit 0
+        ;;
+esac
+[ $# -eq 1 ] || {
+    echo "usage: scripts/install.sh PREFIX" >&2
+    exit 64
+}
+scripts=$(cd "$(dirname "$0")" && pwd)
+program=$("$scripts/program.sh" --fresh) || {
+    echo "install.sh: no proved program is there; scripts/build.sh proves and builds it, in about 20 minutes" >&2
+    exit 70
+}
+home=$1/libexec/mps360
+mkdir -p "$home/faults" "$1/bin" "$1/share/man/man1" "$1/share/bash-completion/completions"
+install -m 755 "$program" "$home/program"
+echo "mps360 $(git -C "$scripts" rev-parse --short HEAD 2>/dev/null || echo 'of unknown commit'), proved program" >"$home/version"
+install -m 755 "$scripts"/{mps360,mps360-batch,explain,mps2job.py,listing2json.py,expected_listing.py} "$home"
+install -m 644 "$scripts/../examples/faults/INDEX" "$home/faults"
+link() { ln -sf "../libexec/mps360/$1" "$prefix/bin/$2"; }
+prefix=$1
+link mps360 mps360
+link mps360-batch mps360-batch
+link explain mps360-explain
+link mps2job.py mps2job
+link listing2json.py listing2json
+install -m 644 "$scripts/share/mps360.1" "$prefix/share/man/man1"
+for command in mps360 mps360-batch; do
+    install -m 644 "$scripts/share/completion.bash" "$prefix/share/bash-completion/completions/$command"
+done
+echo "installed in $prefix: bin/mps360 and what belongs to it"

@@ -1,0 +1,39 @@
+"""Runs jobs for the other scripts: by the proved program where it is fresh, else all of them unproved, built once (`rt try --cases`)."""
+import pathlib, re, shutil, subprocess, tempfile
+
+TOP = pathlib.Path(__file__).resolve().parent.parent
+
+
+class NoProgram(Exception):
+    "neither a proved program nor an unproved run can be had"
+
+
+def proved_program():
+    "the path of the proved program, or None where there is no fresh one"
+    found = subprocess.run([TOP / "scripts/program.sh", "--fresh"], capture_output=True, text=True)
+    return found.stdout.strip() if found.returncode == 0 else None
+
+
+def run_jobs(jobs, unproved=False):
+    "from names to bytes of jobs, the status and the listing of each"
+    program = None if unproved else proved_program()
+    if program:
+        answers = {}
+        for name, job in jobs.items():
+            with tempfile.TemporaryDirectory() as folder:
+                ended = subprocess.run([program], input=job, stdout=subprocess.PIPE, cwd=folder, timeout=120)
+            answers[name] = ended.returncode, ended.stdout
+        return answers
+    if not unproved or not shutil.which("rt"):
+        raise NoProgram("no proved program is there (scripts/build.sh builds it)" if not unproved else "no command rt on the path")
+    with tempfile.TemporaryDirectory() as folder:
+        for name, job in jobs.items():
+            pathlib.Path(folder, name).write_bytes(job)
+        ended = subprocess.run(["rt", "try", "--cases", folder], cwd=TOP / "crates/mps360", capture_output=True)
+    text = ended.stdout + ended.stderr
+    statuses = {found[1].decode(): int(found[2]) for found in re.finditer(rb"^case=(\S+) run=ended status=(\d+)", text, re.M)}
+    parts = re.split(rb"^== (\S+)\n", ended.stdout, flags=re.M)
+    listings = {name.decode(): re.sub(rb"^case=.*\n?", b"", listing, flags=re.M) for name, listing in zip(parts[1::2], parts[2::2])}
+    if not statuses:
+        raise NoProgram("the unproved run gave no answer:\n" + text.decode(errors="replace")[-600:])
+    return {name: (statuses.get(name), re.sub(rb"cases=\d+ ended=.*\n?", b"", listings.get(name, b""))) for name in jobs}
