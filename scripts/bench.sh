@@ -1,6 +1,6 @@
 #!/bin/bash
-# Times the operations of frac128: nanoseconds for one, over each table of crates/bench, and for u - x*y at parts of 62 and of
-# 120 bits where the plain operations are refused, the least of five runs.
+# Times the operations of frac128: nanoseconds for one, over each table of crates/bench, and for u - x*y at parts of 62 bits,
+# where the plain operations give it, and of 120, where they are refused: the least of five runs.
 # Usage: scripts/bench.sh [TURNS [PROGRAM]], where a turn is 64 operations.
 set -eu
 turns=${1:-20000}

@@ -1,6 +1,6 @@
 //! The point of a basis.
 
-ghost use Rattle.std.specs.Prelude.{◌≡◌, ◌≤◌, ◌<◌, ◌-◌, ◌^◌, ℕ, true, if◌then◌else◌, length, vec_len, OnOk, OnErr, IfOk, IfErr};
+ghost use Rattle.std.specs.Prelude.{◌≡◌, ◌≤◌, ◌<◌, ◌+◌, ◌-◌, ◌^◌, ℕ, true, if◌then◌else◌, length, vec_len, OnOk, OnErr, IfOk, IfErr};
 ghost use Rattle.exact_values.specs.Rational.{◌+ℚ◌, ◌*ℚ◌};
 ghost use Rattle.lp_definitions.specs.LinearProgram.{size, value_at, IsVariable, IsLinearProgram};
 ghost use Rattle.lp_definitions.specs.Basis.{basics_of, is_in, IsBasis, IsPointOf};
@@ -142,33 +142,37 @@ fn add_multiple(
     Ok(())
 }
 
-/// How many of the first `k` variables are nonbasic.
-fn nonbasics_up_to(basis: &Basis, k: u32) -> u32
-    requires { k ≤ length basis.now }
-    ensures { result ≡ length (nonbasics_to (basics_of basis.now) k) }
+/// How many of the first `k + 1` variables are nonbasic, where so many of the first `k` are.
+fn counted_on(basis: &Basis, count: u32, k: u32) -> u32
+    requires fits { k + 1 < 2 ^ 32 }
+    requires high { k < length basis.now }
+    requires small { count ≤ k }
+    requires counted { count ≡ length (nonbasics_to (basics_of basis.now) k) }
+    ensures small { result ≤ k + 1 }
+    ensures counted { result ≡ length (nonbasics_to (basics_of basis.now) (k + 1)) }
 {
-    let mut count = 0;
-    for i in 0..k {
-        if stands_basic(basis, i + 1) {
-            continue;
-        }
-        count += 1;
+    if stands_basic(basis, k + 1) {
+        count
+    } else {
+        count + 1
     }
-    count
 }
 
-/// Adds the direction of `j`, times its value, if it is nonbasic. `column` is room for the direction.
+/// Adds the direction of `j`, times its value, if it is nonbasic. `term` nonbasics stand before it, and `column` is room for the
+/// direction.
 fn add_direction<R: Rates>(
     lp: &Lp,
     basis: &Basis,
     rates: &mut R,
     j: u32,
+    term: u32,
     column: &mut [Frac],
     point: &mut [Frac],
 ) -> Result<(), Stop>
     requires rates { HasRates (R.matrix rates.old) (R.basics rates.old) lp.now basis.now }
     requires lawful { IsLinearProgram lp.now }
     requires variable { IsVariable lp.now.matrix j }
+    requires term { term ≡ length (nonbasics_to (basics_of basis.now) (j - 1)) }
     requires column { length column.old ≡ size lp.now.matrix }
     requires places { length point.old ≡ size lp.now.matrix }
     requires so_far { IsSoFar lp.now.matrix (basics_of basis.now) (standing lp.now basis.now) (j - 1) (value_at point.old) }
@@ -186,7 +190,6 @@ fn add_direction<R: Rates>(
         return Ok(());
     }
     rates.column(j, column)?;
-    let term = nonbasics_up_to(basis, j - 1);
     match add_multiple(basis, column, value, j, term, point) {
         Ok(()) => Ok(()),
         Err(evidence) => Err(Stop::Overflow(evidence)),
@@ -212,8 +215,10 @@ fn add_directions<R: Rates>(
     ensures waypoints { KeepsWaypoints lp.now.matrix (basics_of basis.now) (R.waypoints rates.old) (basics_of basis.now) (R.waypoints rates.new) }
     ensures overflow { PointOverflow result lp.now basis.now (R.waypoints rates.old) (R.waypoints rates.new) }
 {
+    let mut nonbasics = 0;
     for k in 0..lp.number_of_variables() {
-        add_direction(lp, basis, rates, k + 1, column, point)?;
+        add_direction(lp, basis, rates, k + 1, nonbasics, column, point)?;
+        nonbasics = counted_on(basis, nonbasics, k);
     }
     Ok(())
 }

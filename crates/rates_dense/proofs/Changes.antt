@@ -1,12 +1,11 @@
 -- The list of the changed variables, and rates that are taken over at them.
 use Rattle.std.specs.Prelude.{eqb}
-use Rattle.std.proofs.Common.{refl, true, false, ◌≡◌, ◌≢◌, ℕ, ◌+◌, ◌-◌, ◌<◌, ◌≤◌, ◌⊎◌, inl, inr, List, length, get_or, set, take, sym, ap, ◌∙◌, arith, below_more}
-use Rattle.std.proofs.lemmas.Bool.{cases_lt}
+use Rattle.std.proofs.Common.{refl, true, false, ◌≡◌, ◌≢◌, ℕ, ◌+◌, ◌-◌, ◌<◌, ◌≤◌, ◌⊎◌, inl, inr, List, length, get_or, set, sym, ap, ◌∙◌, arith, below_more}
 use Rattle.std.proofs.lemmas.Bool.Decides.{eqb_tells}
-use Rattle.std.proofs.lemmas.List.{get_or-set_same, get_or-set_other, get_or-take, length-take-le}
+use Rattle.std.proofs.lemmas.List.{get_or-set_same, get_or-set_other}
 use Rattle.exact_values.specs.Rational.{ℚ, zero_ℚ}
 use Rattle.lp_definitions.specs.LinearProgram.{value_at}
-use Rattle.rates_dense.specs.Lines.{AreNumbers, IsListed, AreChanged, IsTakenOver}
+use Rattle.rates_dense.specs.Lines.{AreNumbers, IsTakenOver}
 
 -- ---- the list
 
@@ -14,68 +13,6 @@ use Rattle.rates_dense.specs.Lines.{AreNumbers, IsListed, AreChanged, IsTakenOve
 pub record ListedTo (js : List ℕ) (quotients : List ℚ) (n count : ℕ) : Type 0 where
   pub numbers : (place : ℕ) → place < count → (1 ≤ get_or js place 0) × (get_or js place 0 ≤ n)
   pub each : (j : ℕ) → 1 ≤ j → j ≤ n → ((place : ℕ) × (place < count) × (get_or js place 0 ≡ j)) ⊎ (value_at quotients j ≡ zero_ℚ)
-
-abbrev Listed : List ℕ → ℕ → ℕ → Type 0
-Listed js count j = (place : ℕ) × (place < count) × (get_or js place 0 ≡ j)
-
--- one more variable, with the quotient 0
-pub listed_past : (js : List ℕ) (quotients : List ℚ) (n count : ℕ) → value_at quotients (n + 1) ≡ zero_ℚ → ListedTo js quotients n count → ListedTo js quotients (n + 1) count
-listed_past js quotients n count none so_far = record {
-  numbers = λ place within. let h = so_far.numbers place within in (h.0, omega (arith, h.1));
-  each = λ j low high. at j low high (cases_lt j (n + 1));
-}
-  where
-    at : (j : ℕ) → 1 ≤ j → j ≤ n + 1 → (j < n + 1) ⊎ (n + 1 ≤ j) → Listed js count j ⊎ (value_at quotients j ≡ zero_ℚ)
-    at j low high (inl before) = so_far.each j low (omega arith)
-    at j low high (inr last) = let same : j ≡ n + 1 = omega arith in inr (ap (value_at quotients) same ∙ none)
-
--- one more that is written to the list
-pub listed_more : (js : List ℕ) (quotients : List ℚ) (n count : ℕ) → count < length js → ListedTo js quotients n count → ListedTo (set js count (n + 1)) quotients (n + 1) (count + 1)
-listed_more js quotients n count room so_far = record {
-  numbers = below_more (λ place. (1 ≤ get_or (set js count (n + 1)) place 0) × (get_or (set js count (n + 1)) place 0 ≤ n + 1)) count
-      (λ place within. rw (kept place within) (let h = so_far.numbers place within in (h.0, omega (arith, h.1))))
-      (rw own (omega arith, omega arith));
-  each = λ j low high. at j low high (cases_lt j (n + 1));
-}
-  where
-    own : get_or (set js count (n + 1)) count 0 ≡ n + 1
-    own = get_or-set_same js count (n + 1) 0 room
-
-    kept : (place : ℕ) → place < count → get_or (set js count (n + 1)) place 0 ≡ get_or js place 0
-    kept place within = let other : place ≢ count = omega arith in get_or-set_other js count place (n + 1) 0 other
-
-    before : (j : ℕ) → Listed js count j ⊎ (value_at quotients j ≡ zero_ℚ) → Listed (set js count (n + 1)) (count + 1) j ⊎ (value_at quotients j ≡ zero_ℚ)
-    before j (inl l) = inl (l.0, omega (arith, l.1), kept l.0 l.1 ∙ l.2)
-    before j (inr none) = inr none
-
-    at : (j : ℕ) → 1 ≤ j → j ≤ n + 1 → (j < n + 1) ⊎ (n + 1 ≤ j) → Listed (set js count (n + 1)) (count + 1) j ⊎ (value_at quotients j ≡ zero_ℚ)
-    at j low high (inl earlier) = before j (so_far.each j low (omega arith))
-    at j low high (inr last) = let same : n + 1 ≡ j = omega arith in inl (count, omega arith, own ∙ same)
-
-pub listed_none : (js : List ℕ) (quotients : List ℚ) → ListedTo js quotients 0 0
-listed_none js quotients = record { numbers = λ place within. absurd (omega arith); each = λ j low high. absurd (omega arith) }
-
--- all variables
-pub listed_all : (js : List ℕ) (quotients : List ℚ) (n count : ℕ) → n ≡ length quotients → count ≤ length js → ListedTo js quotients n count → AreChanged (take count js) quotients
-listed_all js quotients n count all room so_far = record {
-  numbers = λ place within.
-      let below = inside place within in
-      let h = so_far.numbers place below in rw (read place below) (h.0, omega (arith, h.1, all));
-  each = λ j low high. at j (so_far.each j low (omega (arith, all, high)));
-}
-  where
-    counted : length (take count js) ≡ count
-    counted = length-take-le count js room
-
-    inside : (place : ℕ) → place < length (take count js) → place < count
-    inside place within = omega (arith, counted, within)
-
-    read : (place : ℕ) → place < count → get_or (take count js) place 0 ≡ get_or js place 0
-    read place below = get_or-take count js place 0 below
-
-    at : (j : ℕ) → Listed js count j ⊎ (value_at quotients j ≡ zero_ℚ) → IsListed (take count js) j ⊎ (value_at quotients j ≡ zero_ℚ)
-    at j (inl l) = inl (record { place = l.0; within = omega (arith, counted, l.1); is = read l.0 l.1 ∙ l.2 })
-    at j (inr none) = inr none
 
 -- ---- taking over
 

@@ -1,13 +1,12 @@
 -- Lists that a loop fills place by place, and the refusals on the way.
 use Rattle.std.proofs.Common.{◌≡◌, ◌≢◌, ℕ, ◌+◌, ◌-◌, ◌<◌, ◌≤◌, ◌⊎◌, inl, inr, List, length, get_or, set, sym, ap, ◌∙◌, arith, below_more, subst}
-use Rattle.std.proofs.lemmas.Bool.{eq-eqb, ne_eqb}
 use Rattle.std.proofs.lemmas.List.{get_or-set_same, get_or-set_other, get_or_read}
-use Rattle.exact_values.specs.Rational.{ℚ, zero_ℚ, ◌-ℚ◌, ◌*ℚ◌}
+use Rattle.exact_values.specs.Rational.{ℚ, zero_ℚ, ◌*ℚ◌}
 use Rattle.frac128.specs.declared.Op.TheVariants.{Sub, Mul, Div}
 use Rattle.lp_definitions.specs.declared.Evidence.{Evidence}
 use Rattle.lp_definitions.specs.LinearProgram.{value_at}
-use Rattle.rates_dense.specs.Lines.{IsFilled, IsListed, AreChanged, IsFilledAt, IsTakenOver, staying_rate}
-use Rattle.rates_dense.specs.Refusals.{IsRefusal, IsDifferenceRefused, by_product, by_difference, QuotientRefused, of_rate, StayingRefused, of_product, of_difference, of_multiple}
+use Rattle.rates_dense.specs.Lines.{IsFilled, IsListed, AreChanged, IsFilledAt, IsTakenOver}
+use Rattle.rates_dense.specs.Refusals.{IsRefusal, IsDifferenceRefused, by_product, by_difference, QuotientRefused, of_rate, StayingRefused, of_product, of_difference}
 
 -- one more place is filled
 pub filled_more : (xs : List ℚ) (n : ℕ) (v : ℚ) (f : ℕ → ℚ) → n < length xs → ((k : ℕ) → k < n → get_or xs k zero_ℚ ≡ f (k + 1)) → v ≡ f (n + 1) → (k : ℕ) → k < n + 1 → get_or (set xs n v) k zero_ℚ ≡ f (k + 1)
@@ -57,20 +56,4 @@ rest_refused_at i p q quotients rates j v quotient factor e low high at_v at_quo
     (subst (λ x. IsRefusal 3 p q i j Sub x (value_at quotients j *ℚ value_at rates q) e) at_v
     (subst (λ x. IsRefusal 3 p q i j Sub v (x *ℚ value_at rates q) e) at_quotient (subst (λ y. IsRefusal 3 p q i j Sub v (quotient *ℚ y) e) at_factor refusal)))
 
-pub multiple_refused : (i p q : ℕ) (quotients rates : List ℚ) (k : ℕ) (quotient factor : ℚ) (e : Evidence) → quotient ≡ value_at quotients (k + 1) → factor ≡ value_at rates q → k + 1 ≡ p → IsRefusal 5 p q i 0 Mul quotient factor e → StayingRefused i p q quotients rates e
-multiple_refused i p q quotients rates k quotient factor e at_quotient at_factor same refusal =
-    let at_p : quotient ≡ value_at quotients p = at_quotient ∙ ap (value_at quotients) same in
-    of_multiple (subst (λ x. IsRefusal 5 p q i 0 Mul x (value_at rates q) e) at_p (subst (λ y. IsRefusal 5 p q i 0 Mul quotient y e) at_factor refusal))
-
 -- the rate of a basic that stays: at the enterer, at the leaver, and elsewhere
-pub staying_at_enterer : (p q : ℕ) (quotients rates : List ℚ) (j : ℕ) → j ≡ q → zero_ℚ ≡ staying_rate p q quotients rates j
-staying_at_enterer p q quotients rates j same = rw (eq-eqb j q same)
-
-pub staying_at_leaver : (p q : ℕ) (quotients rates : List ℚ) (j : ℕ) (quotient factor v : ℚ) → j ≢ q → j ≡ p → quotient ≡ value_at quotients j → factor ≡ value_at rates q → v ≡ quotient *ℚ factor → v ≡ staying_rate p q quotients rates j
-staying_at_leaver p q quotients rates j quotient factor v other same at_quotient at_factor is_v =
-    rw (ne_eqb j q other, eq-eqb j p same) (is_v ∙ ap (λ x. x *ℚ factor) at_quotient ∙ ap (λ y. value_at quotients j *ℚ y) at_factor)
-
-pub staying_elsewhere : (p q : ℕ) (quotients rates : List ℚ) (j : ℕ) (rate quotient factor v : ℚ) → j ≢ q → j ≢ p → rate ≡ value_at rates j → quotient ≡ value_at quotients j → factor ≡ value_at rates q → v ≡ rate -ℚ quotient *ℚ factor → v ≡ staying_rate p q quotients rates j
-staying_elsewhere p q quotients rates j rate quotient factor v not_q not_p at_rate at_quotient at_factor is_v =
-    rw (ne_eqb j q not_q, ne_eqb j p not_p)
-    (is_v ∙ ap (λ r. r -ℚ quotient *ℚ factor) at_rate ∙ ap (λ x. value_at rates j -ℚ x *ℚ factor) at_quotient ∙ ap (λ y. value_at rates j -ℚ value_at quotients j *ℚ y) at_factor)

@@ -1,5 +1,5 @@
 -- Operations that need not be made.
-use Rattle.std.specs.Prelude.{Bool}
+use Rattle.std.specs.Prelude.{Bool, Option, Some, None, IfSome}
 use Rattle.std.specs.Cmp.{Equal-is}
 use Rattle.std.proofs.Common.{refl, true, pos, negsuc, ◌≡◌, ◌≢◌, sym, ◌∙◌, ap}
 use Rattle.exact_values.specs.Rational.{ℚ, whole, zero_ℚ, one_ℚ, compare_ℚ, neg_ℚ, inverse_ℚ, ◌+ℚ◌, ◌-ℚ◌, ◌*ℚ◌, ◌/ℚ◌}
@@ -7,7 +7,7 @@ use Rattle.exact_values.proofs.Inverse.{inverse_apart, div_is, one_apart}
 use Rattle.exact_values.proofs.Compare.{parts_equal, compare_ties, same_from_compare}
 use Rattle.exact_values.proofs.Ring.{by_ring1, ◌≐◌, ◌⊗◌, number, opposite}
 use Rattle.lp_laws.proofs.Values.{no_divisors}
-use Rattle.exact_values.proofs.Ring_laws.{zero-add, zero-mul, mul-one, add-zero, add-neg}
+use Rattle.exact_values.proofs.Ring_laws.{mul_comm, zero-add, zero-mul, mul-one, add-zero, add-neg}
 
 pub quotient_of_zero : (x y : ℚ) → x ≡ zero_ℚ → x ≡ x /ℚ y
 quotient_of_zero x y zero = zero ∙ sym (ap (λ v. v *ℚ inverse_ℚ y) zero ∙ zero-mul (inverse_ℚ y))
@@ -48,3 +48,7 @@ pub over_minus_one : (x f : ℚ) → f ≡ whole (negsuc 0) → neg_ℚ x ≡ x 
 over_minus_one x f e =
     sym (div_is x f (neg_ℚ x) (λ none. minus_one_apart (sym e ∙ none))
     (by_ring1 x (λ x. x ≐ opposite x ⊗ number (negsuc 0)) refl ∙ ap (λ u. neg_ℚ x *ℚ u) (sym e)))
+
+pub product_turned : (x y : ℚ) (o : Option ℚ) → IfSome o (λ v. v ≡ y *ℚ x) → IfSome o (λ v. v ≡ x *ℚ y)
+product_turned x y None h = tt
+product_turned x y (Some v) h = h ∙ mul_comm y x

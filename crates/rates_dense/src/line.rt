@@ -32,15 +32,25 @@ fn by_unit(x: Frac, factor: Frac) -> Option<Frac>
     }
 }
 
-/// A rate without its part along the enterer's direction, where the factor is 1 or -1 and nothing is refused.
+/// A rate without its part along the enterer's direction, where the quotient or the factor is 1 or -1 and nothing is refused.
 fn rest_by_unit(rate: Frac, quotient: Frac, factor: Frac) -> Option<Frac>
     ensures { IfSome result (λ rest. rest ≡ rate -ℚ quotient *ℚ factor) }
 {
-    let product = by_unit(quotient, factor)?;
+    let product = product_by_unit(quotient, factor)?;
     if rate.is_zero() {
         return Some(product.neg());
     }
     rate.sub(product).ok()
+}
+
+/// The product, where one of the factors is 1 or -1.
+fn product_by_unit(x: Frac, y: Frac) -> Option<Frac>
+    ensures { IfSome result (λ product. product ≡ x *ℚ y) }
+{
+    if let Some(product) = by_unit(x, y) {
+        return Some(product);
+    }
+    by_unit(y, x)
 }
 
 /// An exchange of `p` for `q`, and the rate of `i` at `j` that it changes.
@@ -104,7 +114,7 @@ impl Cell {
         ensures value { IfOk result (λ rate. rate ≡ quotient *ℚ factor) }
         ensures refused { IfErr result (IsRefusal 5 self.p self.q self.i self.j Op.Mul quotient factor) }
     {
-        if let Some(multiple) = by_unit(quotient, factor) {
+        if let Some(multiple) = product_by_unit(quotient, factor) {
             return Ok(multiple);
         }
         quotient
@@ -117,7 +127,7 @@ impl Cell {
         ensures value { IfOk result (λ product. product ≡ quotient *ℚ factor) }
         ensures refused { IfErr result (IsRefusal 2 self.p self.q self.i self.j Op.Mul quotient factor) }
     {
-        if let Some(product) = by_unit(quotient, factor) {
+        if let Some(product) = product_by_unit(quotient, factor) {
             return Ok(product);
         }
         quotient

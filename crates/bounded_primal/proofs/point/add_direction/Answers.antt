@@ -42,9 +42,9 @@ returns-in-Ok-clause-so_far g c =
 
 pub returns-in-Err-clause-overflow : goal.returns-in-Err-clause-overflow
 returns-in-Err-clause-overflow g c =
-    more_refused c.args.lp.now c.args.basis.now c.args.j c.requires.variable.0 (value_at c.args.point.now) (value_at c.column.new.out) c.index-point-j.result c.nonbasics_up_to-term.result c.in-Err.evidence
+    more_refused c.args.lp.now c.args.basis.now c.args.j c.requires.variable.0 (value_at c.args.point.now) (value_at c.column.new.out) c.index-point-j.result c.args.term c.in-Err.evidence
     c.requires.rates.is_basis c.requires.rates.nonsingular c.requires.so_far (c.requires.variable, sym c.stands_basic.ensures ∙ c.if-stands_basic.false)
     (rw (c.requires.rates.same_matrix, c.requires.rates.same_basics) at c.in_ok-column.ensures.direction)
-    (value_read c.args.point.now c.args.j c.index-point-j.result (omega arith) c.index-point-j.is) c.nonbasics_up_to-term.ensures
+    (value_read c.args.point.now c.args.j c.index-point-j.result (omega arith) c.index-point-j.is) c.requires.term
     (g.R.Rates.waypoints c.args.rates.now) (g.R.Rates.waypoints c.column.new.self)
-    (subst (λ (n : ℕ). ColumnTermRefused (basics_of c.args.basis.now) (value_at c.column.new.out) c.index-point-j.result (value_at c.args.point.now) c.args.j c.nonbasics_up_to-term.result n c.in-Err.evidence) c.requires.rates.is_basis.counted c.in-Err.ensures.refused)
+    (subst (λ (n : ℕ). ColumnTermRefused (basics_of c.args.basis.now) (value_at c.column.new.out) c.index-point-j.result (value_at c.args.point.now) c.args.j c.args.term n c.in-Err.evidence) c.requires.rates.is_basis.counted c.in-Err.ensures.refused)

@@ -14,6 +14,8 @@ loop-k-init g c = record {
   matrix = refl;
   basics = refl;
   waypoints = keeps_same c.args.lp.now.matrix (basics_of c.args.basis.now) (g.R.Rates.waypoints c.args.rates.now);
+  counted = refl;
+  few = omega arith;
   so_far = so_far-begins c.args.lp.now c.args.basis.now c.requires.rates.is_basis (value_at c.args.point.now) c.requires.begins;
 }
 
@@ -35,6 +37,8 @@ loop-k-preserved g c = record {
   basics = c.add_direction.ensures.basics ∙ c.loop-k.invariant.basics;
   waypoints = keeps_then c.args.lp.now.matrix (basics_of c.args.basis.now) (g.R.Rates.waypoints c.args.rates.now) (basics_of c.args.basis.now) (g.R.Rates.waypoints c.loop-k.rates) (g.R.Rates.waypoints c.add_direction.new.rates)
       c.loop-k.invariant.waypoints c.add_direction.ensures.waypoints;
+  counted = c.counted_on-nonbasics.ensures.counted;
+  few = c.counted_on-nonbasics.ensures.small;
   so_far = c.in_ok-add_direction.ensures.so_far;
 }
 

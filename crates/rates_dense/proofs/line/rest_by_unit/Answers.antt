@@ -6,4 +6,4 @@ use Rattle.rates_dense.proofs.line.rest_by_unit.Goals as goal
 pub returns-then-is_zero : goal.returns-then-is_zero
 returns-then-is_zero c =
     c.neg.ensures ∙ zero_less c.args.rate c.in_ok-product.product (c.is_zero.ensures.0 c.if-is_zero.true)
-    ∙ ap (λ (v : ℚ). c.args.rate -ℚ v) c.in_ok-product.ensures.product
+    ∙ ap (λ (v : ℚ). c.args.rate -ℚ v) c.in_ok-product.ensures
