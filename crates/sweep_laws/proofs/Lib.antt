@@ -1,0 +1,4 @@
+pub mod Leads
+pub mod Objective
+pub mod Rhs
+pub mod Runs
