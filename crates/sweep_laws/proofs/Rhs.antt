@@ -3,7 +3,7 @@ use Rattle.std.proofs.Common.{◌≡◌, ◌≢◌, ℕ, ◌-◌, Bool, true, fa
 use Rattle.std.specs.Prelude.{Option, Some, None, IsSome, not, ◌&&◌, ◌||◌, if◌then◌else◌, option_map}
 use Rattle.exact_values.specs.Rational.{ℚ, zero_ℚ, ◌+ℚ◌, ◌*ℚ◌}
 use Rattle.exact_values.specs.Tests.{eq_ℚ, lt_ℚ}
-use Rattle.lp_definitions.specs.LinearProgram.{Matrix, LinearProgram, Vector, size, IsVariable, IsRow, lower_of, upper_of}
+use Rattle.lp_definitions.specs.LinearProgram.{HasNoLimits, Matrix, LinearProgram, Vector, size, IsVariable, IsRow, lower_of, upper_of}
 use Rattle.lp_definitions.specs.Basis.{is_in, basics_of, status_of, IsAllowed, Tableau, IsTableau}
 use Rattle.lp_definitions.specs.declared.Status.{Status}
 use Rattle.lp_definitions.specs.declared.Status.TheVariants.{Bs, Ll, Ul, Fr}
@@ -67,6 +67,12 @@ module _ (p : LinearProgram) (shift : List ℚ) (theta : ℚ) where
   row_is : (i : ℕ) → IsRow p.matrix i → IsVariable p.matrix i
   row_is i row = (row.0, omega (arith, row.1))
 
+  pub free_to : (i : ℕ) → IsRow p.matrix i → HasNoLimits p i → HasNoLimits (rhs_family p shift theta) i
+  free_to i row free = (
+    lower_is i (row_is i row) ∙ none_to (by i) (lower_of p i) free.0,
+    upper_is i (row_is i row) ∙ none_to (by i) (upper_of p i) free.1,
+  )
+
   pub to_rhs : (s : List Status) → IsNonsingularBasis p s → IsNonsingularBasis (rhs_family p shift theta) s
   to_rhs s at = record {
     is_basis = record {
@@ -88,10 +94,7 @@ module _ (p : LinearProgram) (shift : List ℚ) (theta : ℚ) where
     is_basis = record {
       counted = at.is_basis.counted;
       m_basics = at.is_basis.m_basics;
-      free_rows = λ i row free. at.is_basis.free_rows i row (
-        lower_is i (row_is i row) ∙ none_to (by i) (lower_of p i) free.0,
-        upper_is i (row_is i row) ∙ none_to (by i) (upper_of p i) free.1,
-      );
+      free_rows = λ i row free. at.is_basis.free_rows i row (free_to i row free);
       allowed = λ k is. allowed_from (by k) (status_of s k) (lower_of p k) (upper_of p k)
           (subst (λ low. IsAllowed (status_of s k) low (option_map (by k) (upper_of p k))) (lower_is k is)
           (subst (λ high. IsAllowed (status_of s k) (lower_of (rhs_family p shift theta) k) high) (upper_is k is) (at.is_basis.allowed k is)));

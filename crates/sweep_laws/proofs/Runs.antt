@@ -27,10 +27,10 @@ pub record KeepsBases (p : LinearProgram) (family : ℚ → LinearProgram) (Face
   pub face_leads : (theta : ℚ) (s : List Status) (m : Move) → IsNonsingularBasis p s → Face theta s (FaceMoves m) → IsNonsingularBasis p (after s m)
 
 module _ (p : LinearProgram) (family : ℚ → LinearProgram) (Face : ℚ → List Status → FaceTurn → Type 0) (keeps : KeepsBases p family Face) where
-  face_step_leads : (theta : ℚ) (s next : List Status) → IsNonsingularBasis p s → IsFaceStep family Face theta s next → IsNonsingularBasis p next
+  pub face_step_leads : (theta : ℚ) (s next : List Status) → IsNonsingularBasis p s → IsFaceStep family Face theta s next → IsNonsingularBasis p next
   face_step_leads theta s next at step = subst (IsNonsingularBasis p) (sym step.2) (keeps.face_leads theta s step.0 at step.1)
 
-  face_path_leads : (theta : ℚ) (s : List Status) (bases : List (List Status)) → IsNonsingularBasis p s → IsFacePath family Face theta s bases → IsNonsingularBasis p (last_of s bases)
+  pub face_path_leads : (theta : ℚ) (s : List Status) (bases : List (List Status)) → IsNonsingularBasis p s → IsFacePath family Face theta s bases → IsNonsingularBasis p (last_of s bases)
   face_path_leads theta s [] at path = at
   face_path_leads theta s (next ∷ bases) at path = face_path_leads theta next bases (face_step_leads theta s next at path.0) path.1
 
@@ -52,7 +52,7 @@ module _ (p : LinearProgram) (family : ℚ → LinearProgram) (Face : ℚ → Li
       subst (IsNonsingularBasis p) (sym (last_of-append s bases later))
       (chain_leads max part.to (last_of s bases) parts end later (face_path_leads part.to s bases at faces.face_path) chain)
 
-  opening_leads : (from : ℚ) (s : List Status) (bases : List (List Status)) (ending : Ending) → IsNonsingularBasis p s → PathEnds (family from) s bases ending → IsNonsingularBasis p (last_of s bases)
+  pub opening_leads : (from : ℚ) (s : List Status) (bases : List (List Status)) (ending : Ending) → IsNonsingularBasis p s → PathEnds (family from) s bases ending → IsNonsingularBasis p (last_of s bases)
   opening_leads from s bases ending at ends = keeps.from_family from (last_of s bases) (path_leads (family from) s bases (keeps.to_family from s at) ends.is_path)
 
   run_leads : (from max : ℚ) (s : List Status) (parts : List Part) (end : ChainEnd) (path : List (List Status)) → IsNonsingularBasis p s →
@@ -72,11 +72,17 @@ module _ (p : LinearProgram) (family : ℚ → LinearProgram) (Face : ℚ → Li
 
 -- ---- the two families
 
+pub objective_keeps : (p : LinearProgram) (h : ℕ) → KeepsBases p (objective_family p h) (IsObjectiveFace p h)
+objective_keeps p h = record { to_family = to_objective p h; from_family = from_objective p h; face_leads = objective_leads p h }
+
+pub rhs_keeps : (p : LinearProgram) (shift : List ℚ) → KeepsBases p (rhs_family p shift) (IsRhsFace p shift)
+rhs_keeps p shift = record { to_family = to_rhs p shift; from_family = from_rhs p shift; face_leads = rhs_leads p shift }
+
 pub objective_runs : (p : LinearProgram) (h : ℕ) → LeadsToBases p (objective_family p h) (IsObjectiveFace p h)
-objective_runs p h = leads_to_bases p (objective_family p h) (IsObjectiveFace p h) (record { to_family = to_objective p h; from_family = from_objective p h; face_leads = objective_leads p h })
+objective_runs p h = leads_to_bases p (objective_family p h) (IsObjectiveFace p h) (objective_keeps p h)
 
 pub rhs_runs : (p : LinearProgram) (shift : List ℚ) → LeadsToBases p (rhs_family p shift) (IsRhsFace p shift)
-rhs_runs p shift = leads_to_bases p (rhs_family p shift) (IsRhsFace p shift) (record { to_family = to_rhs p shift; from_family = from_rhs p shift; face_leads = rhs_leads p shift })
+rhs_runs p shift = leads_to_bases p (rhs_family p shift) (IsRhsFace p shift) (rhs_keeps p shift)
 
 runs_of : (sheet : Sheet) (changing : Changing) → LeadsToBases sheet.lp (family_of sheet changing) (IsFace sheet changing)
 runs_of sheet (Row name) = objective_runs sheet.lp (row_of sheet.problem name)

@@ -1,10 +1,11 @@
 -- The laws of parametric runs, as the functions of src/lib.rt promise them.
 --     gone_over end                the bases that a parametric run has gone over
 --     LeadsToBases p family Face   from a nonsingular basis each run of the family leads to nonsingular bases
+--     HasOneReport p family Face   from a nonsingular basis there is one run, with one report
 --     BasisLaws                    so do the runs of the objective, those of the right-hand side, and what the verbs print of them
-use Rattle.std.specs.Prelude.{ℕ, List, []}
+use Rattle.std.specs.Prelude.{◌≡◌, ℕ, List, []}
 use Rattle.exact_values.specs.Rational.{ℚ}
-use Rattle.lp_definitions.specs.LinearProgram.{LinearProgram}
+use Rattle.lp_definitions.specs.LinearProgram.{LinearProgram, IsRow, HasNoLimits, IsLinearProgram}
 use Rattle.lp_definitions.specs.declared.Status.{Status}
 use Rattle.path_definitions.specs.Path.{last_of}
 use Rattle.path_laws.specs.Laws.{IsNonsingularBasis}
@@ -36,3 +37,19 @@ pub record BasisLaws : Type 0 where
   -- what PARAOBJ or PARARHS prints leads from a nonsingular basis to a nonsingular basis
   pub swept : (sheet : Sheet) (s : Basis) (sweep : Sweep) (end : SweepEnd) → IsSwept sheet s sweep end →
       IsNonsingularBasis sheet.lp s → IsNonsingularBasis sheet.lp (last_of s (gone_over end))
+
+-- the two runs went over the same bases, and tell the same
+pub record SameReports (report other : RunReport) (path further : List (List Status)) : Type 0 where
+  pub same_report : report ≡ other
+  pub same_path : path ≡ further
+
+-- two reports of a run from a nonsingular basis of p are one, and so are its bases
+pub record HasOneReport (p : LinearProgram) (family : ℚ → LinearProgram) (Face : ℚ → List Status → FaceTurn → Type 0) : Type 0 where
+  pub one_report : (from max : ℚ) (s : List Status) (report other : RunReport) (path further : List (List Status)) → IsNonsingularBasis p s →
+      IsReport family Face from max s report path → IsReport family Face from max s other further → SameReports report other path further
+
+pub record ReportLaws : Type 0 where
+  -- the change row is a row without limits
+  pub objective : (p : LinearProgram) (h : ℕ) → IsLinearProgram p → IsRow p.matrix h → HasNoLimits p h →
+      HasOneReport p (objective_family p h) (IsObjectiveFace p h)
+  pub rhs : (p : LinearProgram) (shift : List ℚ) → IsLinearProgram p → HasOneReport p (rhs_family p shift) (IsRhsFace p shift)
