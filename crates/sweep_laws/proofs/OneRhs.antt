@@ -1,0 +1,139 @@
+-- What is done at a break of a parametric run of the right-hand side is one thing.
+use Rattle.std.proofs.Common.{◌≡◌, ℕ, Bool, true, false, List, length, refl, sym, ap, ap₂, ◌∙◌, arith}
+use Rattle.std.specs.Prelude.{Option, Some, None, not, ◌&&◌, ◌||◌, if◌then◌else◌, nat_eq}
+use Rattle.std.proofs.lemmas.List.{length-map}
+use Rattle.exact_values.specs.Rational.{ℚ, zero_ℚ, one_ℚ, neg_ℚ, ◌/ℚ◌}
+use Rattle.exact_values.specs.Tests.{eq_ℚ, lt_ℚ, le_ℚ, magnitude}
+use Rattle.lp_definitions.specs.LinearProgram.{Matrix, LinearProgram, Vector, size, IsVariable, IsLinearProgram, ChangeIsFree, lower_of, upper_of}
+use Rattle.lp_definitions.specs.Basis.{is_in, basics_of, IsNonbasic, Tableau}
+use Rattle.lp_definitions.specs.declared.Change.{Change}
+use Rattle.lp_definitions.specs.declared.Status.{Status}
+use Rattle.lp_laws.proofs.Opening.{length-numbers_from}
+use Rattle.lp_laws.proofs.Uniqueness.{same_from_nonbasics}
+use Rattle.path_definitions.specs.Moves.{on_limit, signed}
+use Rattle.path_definitions.specs.Path.{ray_of, excess_rate}
+use Rattle.path_laws.specs.Laws.{IsNonsingularBasis}
+use Rattle.path_laws.proofs.Numbered.{find_same, list_all_same}
+use Rattle.path_laws.proofs.OneTurn.{SameTableau}
+use Rattle.path_laws.proofs.Searches.{found_passes}
+use Rattle.postoptimal_definitions.specs.Chain.{FaceTurn, FaceEnds, InfeasiblePast}
+use Rattle.postoptimal_definitions.specs.RhsRun.{shift_of, shifted, rhs_family, IsSlope, leaves_below, leaves_above, leaving, brings_back, ratio, is_cheapest, cheapest, face_exchange, face_at, rhs_face, IsRhsFace}
+use Rattle.sweep_laws.proofs.Rhs.{to_rhs, free_to}
+use Rattle.sweep_laws.proofs.Alike.{same_tableau, listed_same, lowers_idle, lowers_same}
+
+-- ---- each program of the family is one
+
+shifted_counted : (a : Matrix) (shift : List ℚ) (theta : ℚ) (limit : ℕ → Option ℚ) → length (shifted a shift theta limit) ≡ size a
+shifted_counted a shift theta limit = rw length-map (length-numbers_from 1 (size a))
+
+pub lawful_rhs : (p : LinearProgram) (shift : List ℚ) → IsLinearProgram p → (theta : ℚ) → IsLinearProgram (rhs_family p shift theta)
+lawful_rhs p shift lawful theta = record {
+  is_matrix = lawful.is_matrix;
+  lower_counted = shifted_counted p.matrix shift theta (lower_of p);
+  upper_counted = shifted_counted p.matrix shift theta (upper_of p);
+  rhs_counted = lawful.rhs_counted;
+  objective_row = lawful.objective_row;
+  objective_free = free_to p shift theta p.objective lawful.objective_row lawful.objective_free;
+  change_free = change_free p.change lawful.change_free;
+}
+  where
+    change_free : (change : Option Change) → ChangeIsFree p change → ChangeIsFree (rhs_family p shift theta) change
+    change_free None free = tt
+    change_free (Some c) free = (free.0, free_to p shift theta c.row free.0 free.1)
+
+-- ---- one face
+
+module _ (p : LinearProgram) (shift : List ℚ) (theta : ℚ) (s : List Status) (t u : Tableau) (v w : Vector) (lawful : IsLinearProgram p) (at : IsNonsingularBasis p s)
+    (same : SameTableau p s t u) (slopes : (k : ℕ) → IsVariable p.matrix k → v k ≡ w k) where
+  below_same : (r : ℕ) → IsVariable p.matrix r → leaves_below p shift theta s t v r ≡ leaves_below p shift theta s u w r
+  below_same r is = ap₂ (λ z x. on_limit (λ l. eq_ℚ z l) (lower_of p r) && lt_ℚ x (shift_of p.matrix shift r)) (same.points r is) (slopes r is)
+
+  above_same : (r : ℕ) → IsVariable p.matrix r → leaves_above p shift theta s t v r ≡ leaves_above p shift theta s u w r
+  above_same r is = ap₂ (λ z x. on_limit (λ l. eq_ℚ z l) (upper_of p r) && lt_ℚ (shift_of p.matrix shift r) x) (same.points r is) (slopes r is)
+
+  leaving_same : leaving p shift theta s t v ≡ leaving p shift theta s u w
+  leaving_same =
+      find_same (λ k. is_in (basics_of s) k && (leaves_below p shift theta s t v k || leaves_above p shift theta s t v k))
+      (λ k. is_in (basics_of s) k && (leaves_below p shift theta s u w k || leaves_above p shift theta s u w k)) (size p.matrix) 1
+      (λ k low high. let is : IsVariable p.matrix k = (low, omega (arith, high)) in ap₂ (λ a b. is_in (basics_of s) k && (a || b)) (below_same k is) (above_same k is))
+
+  -- the basic r, with the side on which it leaves
+  module _ (r : ℕ) (is_r : IsVariable p.matrix r) (below : Bool) where
+    brings_same : (q : ℕ) → IsVariable p.matrix q → brings_back p shift theta s t v r below q ≡ brings_back p shift theta s u w r below q
+    brings_same q is = lowers_same p s at (excess_rate t.rate r below) (excess_rate u.rate r below) q is (λ out. ap (signed (not below)) (same.rates r q is_r out))
+
+    brings_idle : (t : Tableau) (v : Vector) (q : ℕ) → IsVariable p.matrix q → is_in (basics_of s) q ≡ true → brings_back p shift theta s t v r below q ≡ false
+    brings_idle t v q is mark = lowers_idle p s at (excess_rate t.rate r below) q is mark
+
+    ratio_same : (q : ℕ) → IsNonbasic p.matrix (basics_of s) q → ratio p shift theta s t v r q ≡ ratio p shift theta s u w r q
+    ratio_same q out =
+        ap₂ (λ a b. magnitude (a /ℚ b)) (same.rates p.objective q (lawful.objective_row.0, omega (arith, lawful.objective_row.1)) out) (same.rates r q is_r out)
+
+    abbrev no_cheaper : Tableau → Vector → ℕ → ℕ → Bool
+    no_cheaper t v q j = not (brings_back p shift theta s t v r below j) || le_ℚ (ratio p shift theta s t v r q) (ratio p shift theta s t v r j)
+
+    no_cheaper_same : (q : ℕ) → IsNonbasic p.matrix (basics_of s) q → (j : ℕ) → IsVariable p.matrix j → no_cheaper t v q j ≡ no_cheaper u w q j
+    no_cheaper_same q out j is = by_mark (is_in (basics_of s) j) refl
+      where
+        by_mark : (mark : Bool) → is_in (basics_of s) j ≡ mark → no_cheaper t v q j ≡ no_cheaper u w q j
+        by_mark true mark =
+            ap (λ b. not b || le_ℚ (ratio p shift theta s t v r q) (ratio p shift theta s t v r j)) (brings_idle t v j is mark)
+            ∙ sym (ap (λ b. not b || le_ℚ (ratio p shift theta s u w r q) (ratio p shift theta s u w r j)) (brings_idle u w j is mark))
+        by_mark false mark =
+            ap₂ (λ b x. not b || le_ℚ (ratio p shift theta s t v r q) x) (brings_same j is) (ratio_same j (is, mark))
+            ∙ ap (λ x. not (brings_back p shift theta s u w r below j) || le_ℚ x (ratio p shift theta s u w r j)) (ratio_same q out)
+
+    abbrev enters : Tableau → Vector → ℕ → Bool
+    enters t v q = brings_back p shift theta s t v r below q && is_cheapest p shift theta s t v r below q
+
+    enters_same : (q : ℕ) → IsVariable p.matrix q → enters t v q ≡ enters u w q
+    enters_same q is = by_mark (is_in (basics_of s) q) refl
+      where
+        by_mark : (mark : Bool) → is_in (basics_of s) q ≡ mark → enters t v q ≡ enters u w q
+        by_mark true mark =
+            ap (λ b. b && is_cheapest p shift theta s t v r below q) (brings_idle t v q is mark)
+            ∙ sym (ap (λ b. b && is_cheapest p shift theta s u w r below q) (brings_idle u w q is mark))
+        by_mark false mark =
+            ap₂ (λ a b. a && b) (brings_same q is)
+            (list_all_same (no_cheaper t v q) (no_cheaper u w q) (size p.matrix) 1 (λ j low high. no_cheaper_same q (is, mark) j (low, omega (arith, high))))
+
+    cheapest_same : cheapest p shift theta s t v r below ≡ cheapest p shift theta s u w r below
+    cheapest_same = find_same (enters t v) (enters u w) (size p.matrix) 1 (λ k low high. enters_same k (low, omega (arith, high)))
+
+    ray_same : (k : ℕ) → IsVariable p.matrix k → ray_of (basics_of s) t.rate r below k ≡ ray_of (basics_of s) u.rate r below k
+    ray_same k is = by_mark (nat_eq k r) (is_in (basics_of s) k) refl
+      where
+        by_mark : (own mark : Bool) → is_in (basics_of s) k ≡ mark →
+            (if own then signed below (neg_ℚ one_ℚ) else (if mark then zero_ℚ else signed below (t.rate r k))) ≡ (if own then signed below (neg_ℚ one_ℚ) else (if mark then zero_ℚ else signed below (u.rate r k)))
+        by_mark true mark e = refl
+        by_mark false true e = refl
+        by_mark false false e = ap (signed below) (same.rates r k is_r (is, e))
+
+    exchange_same : (o : Option ℕ) → face_exchange p shift theta s t v r below o ≡ face_exchange p shift theta s u w r below o
+    exchange_same (Some q) = refl
+    exchange_same None = ap (λ xs. FaceEnds (InfeasiblePast theta xs)) (listed_same p.matrix (ray_of (basics_of s) t.rate r below) (ray_of (basics_of s) u.rate r below) ray_same)
+
+  at_same : (o : Option ℕ) → ((r : ℕ) → o ≡ Some r → IsVariable p.matrix r) → face_at p shift theta s t v o ≡ face_at p shift theta s u w o
+  at_same (Some r) found =
+      ap (λ b. face_exchange p shift theta s t v r b (cheapest p shift theta s t v r b)) (below_same r (found r refl))
+      ∙ ap (face_exchange p shift theta s t v r (leaves_below p shift theta s u w r)) (cheapest_same r (found r refl) (leaves_below p shift theta s u w r))
+      ∙ exchange_same r (found r refl) (leaves_below p shift theta s u w r) (cheapest p shift theta s u w r (leaves_below p shift theta s u w r))
+  at_same None found = refl
+
+  face_same : rhs_face p shift theta s t v ≡ rhs_face p shift theta s u w
+  unfolding rhs_face
+  face_same = at_same (leaving p shift theta s t v) (λ r e. (found_passes p _ r e).0) ∙ ap (face_at p shift theta s u w) leaving_same
+
+-- a basis has one slope
+one_slope : (p : LinearProgram) (s : List Status) (shift : List ℚ) (v w : Vector) → IsNonsingularBasis p s → IsSlope p s shift v → IsSlope p s shift w → (k : ℕ) → IsVariable p.matrix k → v k ≡ w k
+one_slope p s shift v w at first second =
+    same_from_nonbasics p.matrix (basics_of s) v w at.nonsingular first.keeps second.keeps (λ k out. first.placed k out ∙ sym (second.placed k out))
+
+pub one_rhs_face : (p : LinearProgram) (shift : List ℚ) → IsLinearProgram p → (theta : ℚ) (s : List Status) (turn other : FaceTurn) → IsNonsingularBasis p s →
+    IsRhsFace p shift theta s turn → IsRhsFace p shift theta s other → turn ≡ other
+one_rhs_face p shift lawful theta s turn other at first second =
+    let there = to_rhs p shift theta s at in
+    sym first.4
+    ∙ face_same (rhs_family p shift theta) shift theta s first.0 second.0 first.1 second.1 (lawful_rhs p shift lawful theta) there
+    (same_tableau (rhs_family p shift theta) s there first.0 second.0 first.2 second.2) (one_slope (rhs_family p shift theta) s shift first.1 second.1 there first.3 second.3)
+    ∙ second.4

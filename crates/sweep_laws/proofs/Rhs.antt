@@ -1,0 +1,177 @@
+-- A face step of a parametric run of the right-hand side leads from a nonsingular basis to a nonsingular basis.
+use Rattle.std.proofs.Common.{◌≡◌, ◌≢◌, ℕ, ◌-◌, Bool, true, false, List, refl, sym, ap, subst, ◌∙◌, arith, get_or}
+use Rattle.std.specs.Prelude.{Option, Some, None, IsSome, not, ◌&&◌, ◌||◌, if◌then◌else◌, option_map}
+use Rattle.exact_values.specs.Rational.{ℚ, zero_ℚ, ◌+ℚ◌, ◌*ℚ◌}
+use Rattle.exact_values.specs.Tests.{eq_ℚ, lt_ℚ}
+use Rattle.lp_definitions.specs.LinearProgram.{HasNoLimits, Matrix, LinearProgram, Vector, size, IsVariable, IsRow, lower_of, upper_of}
+use Rattle.lp_definitions.specs.Basis.{is_in, basics_of, status_of, IsAllowed, Tableau, IsTableau}
+use Rattle.lp_definitions.specs.declared.Status.{Status}
+use Rattle.lp_definitions.specs.declared.Status.TheVariants.{Bs, Ll, Ul, Fr}
+use Rattle.path_definitions.specs.Moves.{on_limit, signed}
+use Rattle.path_definitions.specs.Path.{Move, after, excess_rate}
+use Rattle.path_laws.specs.Laws.{IsNonsingularBasis}
+use Rattle.path_laws.proofs.Numbered.{get_or-listed}
+use Rattle.path_laws.proofs.Searches.{found_passes}
+use Rattle.postoptimal_definitions.specs.Chain.{FaceMoves}
+use Rattle.postoptimal_definitions.specs.RhsRun.{shift_of, shifted, rhs_family, leaves_below, leaves_above, leaving, brings_back, is_cheapest, cheapest, face_exchange, face_at, rhs_face, IsRhsFace}
+use Rattle.sweep_laws.proofs.Leads.{and_parts, IsMover, is_mover, signed_zero, MayStand, lower_apart, upper_apart, exchange_leads}
+
+-- ---- only the presence of limits counts
+
+-- each limit is moved by a multiple of its shift
+limit_is : (a : Matrix) (shift : List ℚ) (theta : ℚ) (limit : ℕ → Option ℚ) (k : ℕ) → IsVariable a k →
+    get_or (shifted a shift theta limit) (k - 1) None ≡ option_map (λ l. l +ℚ theta *ℚ shift_of a shift k) (limit k)
+limit_is a shift theta limit k is =
+    get_or-listed (λ k. option_map (λ l. l +ℚ theta *ℚ shift_of a shift k) (limit k)) (size a) 1 (k - 1) None (omega (arith, is.0, is.1))
+    ∙ ap (λ k. option_map (λ l. l +ℚ theta *ℚ shift_of a shift k) (limit k)) (omega (arith, is.0))
+
+module _ (f : ℚ → ℚ) where
+  none_to : (o : Option ℚ) → o ≡ None → option_map f o ≡ None
+  none_to None e = refl
+  none_to (Some l) e = cc
+
+  none_from : (o : Option ℚ) → option_map f o ≡ None → o ≡ None
+  none_from None e = refl
+  none_from (Some l) e = cc
+
+  some_to : (o : Option ℚ) → IsSome o → IsSome (option_map f o)
+  some_to None e = cc
+  some_to (Some l) e = refl
+
+  some_from : (o : Option ℚ) → IsSome (option_map f o) → IsSome o
+  some_from None e = cc
+  some_from (Some l) e = refl
+
+  allowed_to : (st : Status) (low high : Option ℚ) → IsAllowed st low high → IsAllowed st (option_map f low) (option_map f high)
+  allowed_to Bs low high e = tt
+  allowed_to Ll low high e = some_to low e
+  allowed_to Ul low high e = some_to high e
+  allowed_to Fr low high e = (none_to low e.0, none_to high e.1)
+
+  allowed_from : (st : Status) (low high : Option ℚ) → IsAllowed st (option_map f low) (option_map f high) → IsAllowed st low high
+  allowed_from Bs low high e = tt
+  allowed_from Ll low high e = some_from low e
+  allowed_from Ul low high e = some_from high e
+  allowed_from Fr low high e = (none_from low e.0, none_from high e.1)
+
+module _ (p : LinearProgram) (shift : List ℚ) (theta : ℚ) where
+  abbrev by : ℕ → ℚ → ℚ
+  by k l = l +ℚ theta *ℚ shift_of p.matrix shift k
+
+  lower_is : (k : ℕ) → IsVariable p.matrix k → lower_of (rhs_family p shift theta) k ≡ option_map (by k) (lower_of p k)
+  lower_is k is = limit_is p.matrix shift theta (lower_of p) k is
+
+  upper_is : (k : ℕ) → IsVariable p.matrix k → upper_of (rhs_family p shift theta) k ≡ option_map (by k) (upper_of p k)
+  upper_is k is = limit_is p.matrix shift theta (upper_of p) k is
+
+  row_is : (i : ℕ) → IsRow p.matrix i → IsVariable p.matrix i
+  row_is i row = (row.0, omega (arith, row.1))
+
+  pub free_to : (i : ℕ) → IsRow p.matrix i → HasNoLimits p i → HasNoLimits (rhs_family p shift theta) i
+  free_to i row free = (
+    lower_is i (row_is i row) ∙ none_to (by i) (lower_of p i) free.0,
+    upper_is i (row_is i row) ∙ none_to (by i) (upper_of p i) free.1,
+  )
+
+  pub to_rhs : (s : List Status) → IsNonsingularBasis p s → IsNonsingularBasis (rhs_family p shift theta) s
+  to_rhs s at = record {
+    is_basis = record {
+      counted = at.is_basis.counted;
+      m_basics = at.is_basis.m_basics;
+      free_rows = λ i row free. at.is_basis.free_rows i row (
+        none_from (by i) (lower_of p i) (sym (lower_is i (row_is i row)) ∙ free.0),
+        none_from (by i) (upper_of p i) (sym (upper_is i (row_is i row)) ∙ free.1),
+      );
+      allowed = λ k is. subst (λ low. IsAllowed (status_of s k) low (upper_of (rhs_family p shift theta) k)) (sym (lower_is k is))
+          (subst (λ high. IsAllowed (status_of s k) (option_map (by k) (lower_of p k)) high) (sym (upper_is k is))
+          (allowed_to (by k) (status_of s k) (lower_of p k) (upper_of p k) (at.is_basis.allowed k is)));
+    };
+    nonsingular = at.nonsingular;
+  }
+
+  pub from_rhs : (s : List Status) → IsNonsingularBasis (rhs_family p shift theta) s → IsNonsingularBasis p s
+  from_rhs s at = record {
+    is_basis = record {
+      counted = at.is_basis.counted;
+      m_basics = at.is_basis.m_basics;
+      free_rows = λ i row free. at.is_basis.free_rows i row (free_to i row free);
+      allowed = λ k is. allowed_from (by k) (status_of s k) (lower_of p k) (upper_of p k)
+          (subst (λ low. IsAllowed (status_of s k) low (option_map (by k) (upper_of p k))) (lower_is k is)
+          (subst (λ high. IsAllowed (status_of s k) (lower_of (rhs_family p shift theta) k) high) (upper_is k is) (at.is_basis.allowed k is)));
+    };
+    nonsingular = at.nonsingular;
+  }
+
+-- ---- a face step
+
+-- what leaves stands at the limit to which it goes
+stands_at : (low high : Option ℚ) (at_low at_high : ℚ → Bool) (c d below : Bool) → (on_limit at_low low && c) ≡ below → (below || (on_limit at_high high && d)) ≡ true →
+    IsAllowed (if below then Ll else Ul) low high
+stands_at None high at_low at_high c d true is e = cc
+stands_at (Some l) high at_low at_high c d true is e = refl
+stands_at low None at_low at_high c d false is e = cc
+stands_at low (Some u) at_low at_high c d false is e = refl
+
+goes_apart : (below : Bool) → ((if below then Ll else Ul) ≢ Bs) × ((if below then Ll else Ul) ≢ Fr)
+goes_apart true = lower_apart
+goes_apart false = upper_apart
+
+module _ (p : LinearProgram) (shift : List ℚ) (theta : ℚ) (s : List Status) (t : Tableau) (v : Vector) where
+  abbrev below : ℕ → Bool
+  below r = leaves_below p shift theta s t v r
+
+  -- q brings r back to the limit that it would break
+  record IsFaceExchange (m : Move) (r q : ℕ) : Type 0 where
+    leaves : leaving p shift theta s t v ≡ Some r
+    enters : cheapest p shift theta s t v r (below r) ≡ Some q
+    gives : m ≡ record { enters = q; leaves = r; to = if below r then Ll else Ul }
+
+  entered_move : (m : Move) (r : ℕ) → leaving p shift theta s t v ≡ Some r → (o : Option ℕ) → cheapest p shift theta s t v r (below r) ≡ o →
+      face_exchange p shift theta s t v r (below r) o ≡ FaceMoves m → (r : ℕ) × (q : ℕ) × IsFaceExchange m r q
+  entered_move m r leaves (Some q) enters e =
+      let same : m ≡ record { enters = q; leaves = r; to = if below r then Ll else Ul } = cc in (r, q, record { leaves = leaves; enters = enters; gives = same })
+  entered_move m r leaves None enters e = cc
+
+  found_move : (m : Move) (o : Option ℕ) → leaving p shift theta s t v ≡ o → face_at p shift theta s t v o ≡ FaceMoves m → (r : ℕ) × (q : ℕ) × IsFaceExchange m r q
+  found_move m (Some r) leaves e = entered_move m r leaves (cheapest p shift theta s t v r (below r)) refl e
+  found_move m None leaves e = cc
+
+  face_move : (m : Move) → rhs_face p shift theta s t v ≡ FaceMoves m → (r : ℕ) × (q : ℕ) × IsFaceExchange m r q
+  unfolding rhs_face
+  face_move m e = found_move m (leaving p shift theta s t v) refl e
+
+  module _ (at : IsNonsingularBasis p s) (tab : IsTableau p s t) (m : Move) (r q : ℕ) (move : IsFaceExchange m r q) where
+    found : IsVariable p.matrix r × ((is_in (basics_of s) r && (below r || leaves_above p shift theta s t v r)) ≡ true)
+    found = found_passes p (λ k. is_in (basics_of s) k && (leaves_below p shift theta s t v k || leaves_above p shift theta s t v k)) r move.leaves
+
+    tests : (is_in (basics_of s) r ≡ true) × ((below r || leaves_above p shift theta s t v r) ≡ true)
+    tests = and_parts (is_in (basics_of s) r) (below r || leaves_above p shift theta s t v r) found.1
+
+    stands : MayStand p r (if below r then Ll else Ul)
+    stands = record {
+      nonbasic = (goes_apart (below r)).0;
+      limited = (goes_apart (below r)).1;
+      allowed = stands_at (lower_of p r) (upper_of p r) (λ l. eq_ℚ (t.point r) l) (λ u. eq_ℚ (t.point r) u) (lt_ℚ (v r) (shift_of p.matrix shift r)) (lt_ℚ (shift_of p.matrix shift r) (v r))
+          (below r) refl tests.1;
+    }
+
+    entered : IsVariable p.matrix q × ((brings_back p shift theta s t v r (below r) q && is_cheapest p shift theta s t v r (below r) q) ≡ true)
+    entered = found_passes p (λ q. brings_back p shift theta s t v r (below r) q && is_cheapest p shift theta s t v r (below r) q) q move.enters
+
+    mover : IsMover p s (excess_rate t.rate r (below r)) q
+    mover = is_mover p s (excess_rate t.rate r (below r)) q at entered.0
+        (and_parts (brings_back p shift theta s t v r (below r) q) (is_cheapest p shift theta s t v r (below r) q) entered.1).0
+
+    pivot : t.rate r q ≢ zero_ℚ
+    pivot zero = mover.rate_apart (ap (signed (not (below r))) zero ∙ signed_zero (not (below r)))
+
+    exchange_is : IsNonsingularBasis p (after s m)
+    exchange_is = subst (λ m. IsNonsingularBasis p (after s m)) (sym move.gives)
+        (exchange_leads p s t at tab r q (if below r then Ll else Ul) (found.0, tests.0) mover.nonbasic stands pivot)
+
+  move_leads : (m : Move) → IsNonsingularBasis p s → IsTableau p s t → rhs_face p shift theta s t v ≡ FaceMoves m → IsNonsingularBasis p (after s m)
+  move_leads m at tab e = let move = face_move m e in exchange_is at tab m move.0 move.1 move.2
+
+pub rhs_leads : (p : LinearProgram) (shift : List ℚ) (theta : ℚ) (s : List Status) (m : Move) → IsNonsingularBasis p s → IsRhsFace p shift theta s (FaceMoves m) → IsNonsingularBasis p (after s m)
+rhs_leads p shift theta s m at face =
+    from_rhs p shift theta (after s m) (move_leads (rhs_family p shift theta) shift theta s face.0 face.1 m (to_rhs p shift theta s at) face.2 face.4)
