@@ -5,7 +5,7 @@ use Rattle.job_devices.specs.Causes.{Rose}
 use Rattle.run_definitions.specs.Answer.{Job, WithoutBytes, Read, Failures, words_refused, IsAnswered}
 use Rattle.run_laws.specs.Laws.{KnowsSolving}
 use Rattle.run_laws.specs.Headline.{IsTrueAnswer}
-use Rattle.run_laws.proofs.Runs.{knows_without_sweeps, answer_holds}
+use Rattle.run_laws.proofs.Runs.{knows_staged, answer_holds}
 use Rattle.control_run.specs.declared.status.Status.{Status}
 use Rattle.control_run.specs.Stage.{builds, stage}
 use Rattle.control_run.specs.Ends.{code_of}
@@ -21,7 +21,7 @@ use Rattle.mps_cli.proofs.May_end.{may_stop, answered_too}
 
 stage_knows : KnowsSolving stage
 unfolding stage
-stage_knows = knows_without_sweeps builds refl refl
+stage_knows = knows_staged builds
 
 true_answer : {job : Job} {failures : Failures} {status : ℕ} {PrintGains PunchGains : List ℕ → Type 0} → IsAnswered stage job failures status PrintGains PunchGains →
     IsTrueAnswer stage job failures status PrintGains PunchGains

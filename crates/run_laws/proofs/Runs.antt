@@ -15,7 +15,8 @@ use Rattle.run_definitions.specs.Run.{counted, Step, Reaches, begun, stepped, Is
 use Rattle.run_definitions.specs.Answer.{Job, Failures, Answer, IsProgramOf, job_decks, IsJobRun, card_fault, control_fault, run, MayEnd, words_refused, read_fails, by_itself, memory_at_start, memory_in_run, memory_at_punch, punch_fails, IsAnswer, whole, print_fails, print_wants_memory}
 use Rattle.run_laws.specs.Truth.{Holds}
 use Rattle.run_laws.specs.Headline.{HoldSoFar, HoldInRun, HoldInJob, HoldInEnd, HoldInAnswer}
-use Rattle.run_laws.specs.Laws.{BuildsNoSweep, SweepsKeepBases, KnowsSolving, reports_of, TellsTruth}
+use Rattle.sweep_laws.proofs.Runs.{swept_leads}
+use Rattle.run_laws.specs.Laws.{KnowsSolving, reports_of, TellsTruth}
 use Rattle.run_laws.proofs.Moves.{HasProblem, Knows, HoldsGain, Keeps, unmarked, without_setup}
 use Rattle.run_laws.proofs.Verbs.{statement_kept}
 use Rattle.run_laws.proofs.Filed.{job_reaching}
@@ -101,12 +102,5 @@ module _ (S : Solving) (solving : KnowsSolving S) where
     job = job_holds;
   }
 
-module _ (builds : Verb ℕ → Bool) where
-  knows : BuildsNoSweep (staged builds) ⊎ SweepsKeepBases (staged builds) → KnowsSolving (staged builds)
-  knows sweeps = record { solves = λ sheet s limit bases verdict check solved. solved; shows = λ sheet s lines shown. shown; sweeps = sweeps }
-
-  pub knows_without_sweeps : builds Paraobj ≡ false → builds Pararhs ≡ false → KnowsSolving (staged builds)
-  knows_without_sweeps paraobj pararhs = knows (inl (record { paraobj = paraobj; pararhs = pararhs }))
-
-  pub knows_with_sweeps : SweepsKeepBases (staged builds) → KnowsSolving (staged builds)
-  knows_with_sweeps keep = knows (inr keep)
+pub knows_staged : (builds : Verb ℕ → Bool) → KnowsSolving (staged builds)
+knows_staged builds = record { solves = λ sheet s limit bases verdict check solved. solved; shows = λ sheet s lines shown. shown; sweeps = swept_leads }

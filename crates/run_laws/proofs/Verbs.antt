@@ -36,7 +36,8 @@ use Rattle.path_laws.specs.Laws.{IsNonsingularBasis}
 use Rattle.path_laws.proofs.Steps.{opening_is}
 use Rattle.path_laws.proofs.OnePath.{path_leads}
 use Rattle.run_laws.specs.Truth.{PresentProgram, ShowsBest, Holds}
-use Rattle.run_laws.specs.Laws.{KnowsSolving, BuildsNoSweep, SweepsKeepBases, gone_over}
+use Rattle.sweep_laws.specs.Laws.{gone_over}
+use Rattle.run_laws.specs.Laws.{KnowsSolving, SweepsKeepBases}
 use Rattle.run_laws.proofs.Ends.{IsProvedBest, shown_is_best, path_is_true}
 use Rattle.run_laws.proofs.Selected.{selected_is_lawful, selected_has_no_change}
 use Rattle.run_laws.proofs.Moves.{HasProblem, EndsOptimally, KnowsMark, Knows, Keeps, IsKept, unmarked, HasBases, KnowsBases, without_setup, with_basis, does, may_stop, answered, unless_fault, unless_deck_fault, unless_selection_fault, selecting}
@@ -267,14 +268,6 @@ module _ (S : Solving) (solving : KnowsSolving S) where
   punches_kept : (card : ℕ) (state : State) → Knows state → IsKept S state card (punches card state)
   punches_kept card state knows = unless_fault S state card VerbFault.NoProblem (problem_of state.cells.xpbname state.file) _ (λ problem e. punched card state problem.name _ _ knows)
 
-  -- a parametric verb that is built keeps to bases
-  with_sweeps : {X : Type 0} (verb : Verb ℕ) → S.builds verb ≡ true → (BuildsNoSweep S → S.builds verb ≡ false) → (SweepsKeepBases S → X) → X
-  with_sweeps {X} verb built unbuilt by = at solving.sweeps
-    where
-      at : BuildsNoSweep S ⊎ SweepsKeepBases S → X
-      at (inl none) = let e = unbuilt none in absurd (cc e)
-      at (inr keep) = by keep
-
   verb_kept : (verb : Verb ℕ) (card : ℕ) (state : State) → HasProblem state.setup → Knows state → S.builds verb ≡ true → IsKept S state card (verb_move verb card state)
   unfolding verb_move
   verb_kept Initialz card state lawful knows built = does S state card _ (tt, record { marked = unmarked _ _ _; bases = knows.bases })
@@ -290,8 +283,8 @@ module _ (S : Solving) (solving : KnowsSolving S) where
   verb_kept Primal card state lawful knows built = solving_kept card state lawful knows
   verb_kept SolutionVerb card state lawful knows built = shows_kept card state lawful knows
   verb_kept Ranging card state lawful knows built = ranges_kept card state knows
-  verb_kept Paraobj card state lawful knows built = with_sweeps Paraobj built (λ none. none.paraobj) (λ keep. sweeps_kept card VerbFault.NoChangeRow change_row state.cells.xchrow state keep knows)
-  verb_kept Pararhs card state lawful knows built = with_sweeps Pararhs built (λ none. none.pararhs) (λ keep. sweeps_kept card VerbFault.NoChangeSet change_set state.cells.xchcol state keep knows)
+  verb_kept Paraobj card state lawful knows built = sweeps_kept card VerbFault.NoChangeRow change_row state.cells.xchrow state solving.sweeps knows
+  verb_kept Pararhs card state lawful knows built = sweeps_kept card VerbFault.NoChangeSet change_set state.cells.xchcol state solving.sweeps knows
   verb_kept Bcdout card state lawful knows built = punches_kept card state knows
   verb_kept Exit card state lawful knows built = does S state card _ tt
 
