@@ -6,3 +6,4 @@ pub mod Alike
 pub mod OneObjective
 pub mod OneRhs
 pub mod OneRun
+pub mod NotBoth

@@ -3,13 +3,13 @@
 --     LeadsToBases p family Face   from a nonsingular basis each run of the family leads to nonsingular bases
 --     HasOneReport p family Face   from a nonsingular basis there is one run, with one report
 --     BasisLaws                    so do the runs of the objective, those of the right-hand side, and what the verbs print of them
-use Rattle.std.specs.Prelude.{◌≡◌, ℕ, List, []}
+use Rattle.std.specs.Prelude.{◌≡◌, ℕ, ◌≤◌, List, [], length}
 use Rattle.exact_values.specs.Rational.{ℚ}
 use Rattle.lp_definitions.specs.LinearProgram.{LinearProgram, IsRow, HasNoLimits, IsLinearProgram}
 use Rattle.lp_definitions.specs.declared.Status.{Status}
 use Rattle.path_definitions.specs.Path.{last_of}
 use Rattle.path_laws.specs.Laws.{IsNonsingularBasis}
-use Rattle.postoptimal_definitions.specs.Chain.{FaceTurn, RunReport, Place, basis_of, Reaches, IsReport}
+use Rattle.postoptimal_definitions.specs.Chain.{FaceTurn, RunReport, Place, basis_of, Reaches, IsReport, RunGoesOnFor}
 use Rattle.postoptimal_definitions.specs.ObjectiveRun.{objective_family, IsObjectiveFace}
 use Rattle.postoptimal_definitions.specs.RhsRun.{rhs_family, IsRhsFace}
 use Rattle.question_definitions.specs.Answers.{Basis, Sheet, Sweep, SweepEnd, Opening, Chained, SweepLimit}
@@ -43,10 +43,13 @@ pub record SameReports (report other : RunReport) (path further : List (List Sta
   pub same_report : report ≡ other
   pub same_path : path ≡ further
 
--- two reports of a run from a nonsingular basis of p are one, and so are its bases
+-- two reports of a run from a nonsingular basis of p are one, and so are its bases; a run that has ended within so many steps doesn't
+-- go on after them
 pub record HasOneReport (p : LinearProgram) (family : ℚ → LinearProgram) (Face : ℚ → List Status → FaceTurn → Type 0) : Type 0 where
   pub one_report : (from max : ℚ) (s : List Status) (report other : RunReport) (path further : List (List Status)) → IsNonsingularBasis p s →
       IsReport family Face from max s report path → IsReport family Face from max s other further → SameReports report other path further
+  pub not_both : (from max : ℚ) (s : List Status) (report : RunReport) (path : List (List Status)) (steps : ℕ) → IsNonsingularBasis p s →
+      IsReport family Face from max s report path → length path ≤ steps → RunGoesOnFor family Face from max s steps → ⊥
 
 pub record ReportLaws : Type 0 where
   -- the change row is a row without limits
