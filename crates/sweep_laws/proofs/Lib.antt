@@ -7,3 +7,4 @@ pub mod OneObjective
 pub mod OneRhs
 pub mod OneRun
 pub mod NotBoth
+pub mod OneEnd
