@@ -1,0 +1,5 @@
+pub mod OneAnswer
+pub mod Outcomes
+pub mod Statements
+pub mod Steps
+pub mod Runs

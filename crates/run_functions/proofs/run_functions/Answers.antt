@@ -1,0 +1,15 @@
+use Rattle.answer_definitions.specs.Real.{staged}
+use Rattle.run_laws.proofs.Runs.{knows, knows_without_sweeps}
+use Rattle.run_functions.proofs.OneAnswer.{path_once, shown_once}
+use Rattle.run_functions.proofs.Outcomes.{outcomes}
+use Rattle.run_functions.proofs.Runs.{is_function, answers_once}
+use Rattle.run_functions.proofs.run_functions.Goals as goal
+
+pub returns : goal.returns
+returns c = record {
+  paths = λ builds limit sheet s a b lawful at first second. path_once sheet s limit lawful at a b first second;
+  solutions = λ builds mark sheet s a b lawful at first second. shown_once sheet s a b lawful at first second;
+  moves = λ builds card. outcomes (staged builds) card;
+  runs = λ builds ranging paraobj pararhs. is_function (staged builds) (knows_without_sweeps builds paraobj pararhs) (answers_once builds ranging paraobj pararhs);
+  whole = λ builds sweeps answers. is_function (staged builds) (knows builds sweeps) answers;
+}

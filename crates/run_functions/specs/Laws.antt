@@ -1,0 +1,97 @@
+-- A run is a function but for the choice to stop with an overflow, as the function of src/lib.rt promises it.
+--     HasOneAnswer S question      the question has one answer at most
+--     AnswersOnce S                so has each question of the verbs that are built
+--     AsksOnce S move              so has the question that a move asks where it asks it
+--     IsSameOrStop a b             two outcomes are the same, or one of them is a stop for an overflow
+--     AreSame, Continues           two runs are the same; the one has come as far as the other, or further
+--     IsFunction S                 what is the same in two runs of one job
+use Rattle.std.specs.Prelude.{◌≡◌, ◌⊎◌, ℕ, Bool, false, List, ◌++◌}
+use Rattle.lp_definitions.specs.LinearProgram.{IsLinearProgram}
+use Rattle.path_laws.specs.Laws.{IsNonsingularBasis}
+use Rattle.control_definitions.specs.Program.{Verb, Ranging, Paraobj, Pararhs, Program}
+use Rattle.listing_definitions.specs.declared.Mark.{Mark}
+use Rattle.listing_definitions.specs.Report.{Report}
+use Rattle.listing_definitions.specs.Ending.{Overflow, Ending, OverflowStop}
+use Rattle.question_definitions.specs.Answers.{Basis, Sheet, Sweep, Question, Answer, OfPath, OfSolution, OfRanges, OfSweep}
+use Rattle.question_definitions.specs.Solving.{Solving, IsRight}
+use Rattle.answer_definitions.specs.Real.{staged}
+use Rattle.run_definitions.specs.State.{State}
+use Rattle.run_definitions.specs.Moves.{Outcome, stops, Move, Does, MayStop, Asks, Gives}
+use Rattle.run_definitions.specs.Run.{Step}
+use Rattle.run_definitions.specs.Answer.{IsJobRun, IsSoFar}
+use Rattle.run_laws.specs.Laws.{BuildsNoSweep, SweepsKeepBases}
+
+-- At a nonsingular basis of a lawful linear program the question has one right answer at most.
+abbrev pub HasOneAnswer : Solving → Question → Type 0
+HasOneAnswer S question = (sheet : Sheet) (s : Basis) (a b : Answer question) →
+    IsLinearProgram sheet.lp → IsNonsingularBasis sheet.lp s →
+    IsRight S question sheet s a → IsRight S question sheet s b → a ≡ b
+
+-- So it is with each question that PRIMAL, SOLUTION, RANGE, PARAOBJ and PARARHS ask; what a verb asks that
+-- isn't built doesn't count.
+pub record AnswersOnce (S : Solving) : Type 0 where
+  pub paths : (limit : ℕ) → HasOneAnswer S (OfPath limit)
+  pub solutions : (mark : Mark) → HasOneAnswer S (OfSolution mark)
+  pub ranges : (S.builds Ranging ≡ false) ⊎ HasOneAnswer S OfRanges
+  pub sweeps : BuildsNoSweep S ⊎ ((sweep : Sweep) → HasOneAnswer S (OfSweep sweep))
+
+-- If a move asks a question, this has one right answer at most, about the linear program and at the basis
+-- at which it is asked.
+abbrev pub AsksOnce : Solving → Move → Type 0
+AsksOnce S (Does outcome) = Unit {0}
+AsksOnce S (MayStop refusals move) = AsksOnce S move
+AsksOnce S (Asks question sheet s go) =
+    (a b : Answer question) → IsRight S question sheet s a → IsRight S question sheet s b → a ≡ b
+
+-- a stop for an overflow
+abbrev pub IsOverflow : Ending → Type 0
+IsOverflow ending = (overflow : Overflow) × (ending ≡ OverflowStop overflow)
+
+abbrev pub IsOverflowStop : Outcome → Type 0
+IsOverflowStop outcome = (overflow : Overflow) × (outcome ≡ stops (OverflowStop overflow))
+
+abbrev pub IsSameOrStop : Outcome → Outcome → Type 0
+IsSameOrStop a b = (a ≡ b) ⊎ (IsOverflowStop a ⊎ IsOverflowStop b)
+
+-- two runs report and punch the same, and end alike
+pub record AreSame (reports others : List Report) (cards other_cards : List (List ℕ)) (ending other : Ending) :
+    Type 0 where
+  pub same_reports : reports ≡ others
+  pub same_cards : cards ≡ other_cards
+  pub same_ending : ending ≡ other
+
+-- the reports and the punched cards of a run begin with those of another
+pub record Continues (reports others : List Report) (cards other_cards : List (List ℕ)) : Type 0 where
+  pub more_reports : List Report
+  pub more_cards : List (List ℕ)
+  pub are_reports : others ≡ reports ++ more_reports
+  pub are_cards : other_cards ≡ cards ++ more_cards
+
+-- What is the same in two runs of one job. Two outcomes of one statement are the same, or one of them is a
+-- stop for an overflow. Of two runs so far, the one continues the other. And two runs that both don't stop
+-- with an overflow report and punch the same, and end alike.
+pub record IsFunction (S : Solving) : Type 0 where
+  pub step : (bytes : List ℕ) (program : Program) (reports : List Report) (cards : List (List ℕ)) (state : State)
+      (a b : Outcome) → IsSoFar S bytes reports cards program state →
+      Step S program state a → Step S program state b → IsSameOrStop a b
+  pub so_far : (bytes : List ℕ) (program : Program) (reports others : List Report)
+      (cards other_cards : List (List ℕ)) (state other : State) →
+      IsSoFar S bytes reports cards program state → IsSoFar S bytes others other_cards program other →
+      Continues reports others cards other_cards ⊎ Continues others reports other_cards cards
+  pub job : (bytes : List ℕ) (reports others : List Report) (cards other_cards : List (List ℕ))
+      (ending other : Ending) → IsJobRun S bytes reports cards ending → IsJobRun S bytes others other_cards other →
+      (IsOverflow ending → ⊥) → (IsOverflow other → ⊥) → AreSame reports others cards other_cards ending other
+
+-- Whichever verbs are built: a path has one end within a limit, with one verdict and one check of it, and
+-- SOLUTION prints one list of lines of a basis. Two outcomes of a move that asks its question where it has
+-- one answer are the same, or one of them is a stop for an overflow. And a run is a function: while there
+-- is no RANGE and no parametric run; or where these have one answer too, and a parametric run keeps to bases.
+pub record RunFunctions : Type 0 where
+  pub paths : (builds : Verb ℕ → Bool) (limit : ℕ) → HasOneAnswer (staged builds) (OfPath limit)
+  pub solutions : (builds : Verb ℕ → Bool) (mark : Mark) → HasOneAnswer (staged builds) (OfSolution mark)
+  pub moves : (builds : Verb ℕ → Bool) (card : ℕ) (move : Move) (a b : Outcome) → AsksOnce (staged builds) move →
+      Gives (staged builds) card move a → Gives (staged builds) card move b → IsSameOrStop a b
+  pub runs : (builds : Verb ℕ → Bool) → builds Ranging ≡ false → builds Paraobj ≡ false → builds Pararhs ≡ false →
+      IsFunction (staged builds)
+  pub whole : (builds : Verb ℕ → Bool) → BuildsNoSweep (staged builds) ⊎ SweepsKeepBases (staged builds) →
+      AnswersOnce (staged builds) → IsFunction (staged builds)
