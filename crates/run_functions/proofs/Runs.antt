@@ -1,12 +1,13 @@
 -- Two runs of one job that don't stop with an overflow are the same.
-use Rattle.std.proofs.Common.{◌≡◌, ◌⊎◌, inl, inr, ℕ, ◌-◌, ◌≤◌, ◌<◌, Bool, false, List, ◌++◌, refl, sym, ap₂, subst, ◌∙◌, arith}
+use Rattle.std.proofs.Common.{◌≡◌, ◌⊎◌, inl, inr, ℕ, ◌-◌, ◌≤◌, ◌<◌, Bool, false, List, [], ◌++◌, refl, sym, ap, ap₂, subst, ◌∙◌, arith}
 use Rattle.std.proofs.Math.Nat.{eq-or-lt_of_le, le_of_lt}
 use Rattle.std.proofs.lemmas.Bool.{cases_lt}
-use Rattle.std.proofs.lemmas.List.{append-nil}
+use Rattle.std.proofs.lemmas.List.{append-nil, append_assoc}
 use Rattle.std.proofs.lemmas.Option.{slice_get_within}
 use Rattle.control_definitions.specs.Program.{Program, Verb, Ranging, Paraobj, Pararhs}
 use Rattle.listing_definitions.specs.Report.{Report}
-use Rattle.listing_definitions.specs.Ending.{Ending}
+use Rattle.listing_definitions.specs.Ending.{Ending, Ended, WordsRefused, ControlStop, VerbStop, DeckStop, CardStop, LimitStop, StatementLimit, OverflowStop, ReadFault, PrintFault, PunchFault, Memory, NotBuilt}
+use Rattle.question_definitions.specs.Answers.{Basis, Sheet, Question, OfPath, OfSolution}
 use Rattle.question_definitions.specs.Solving.{Solving}
 use Rattle.answer_definitions.specs.Real.{staged}
 use Rattle.run_definitions.specs.State.{State}
@@ -14,7 +15,9 @@ use Rattle.run_definitions.specs.Moves.{Gain, Nothing, printed_by, punched_by, O
 use Rattle.run_definitions.specs.Run.{Step, IsOver, at_end, at_limit, IsRun, is_over, is_ended}
 use Rattle.run_definitions.specs.Answer.{IsProgramOf, job_decks, IsJobRun, card_fault, control_fault, run}
 use Rattle.run_laws.specs.Laws.{KnowsSolving}
-use Rattle.run_functions.specs.Laws.{AnswersOnce, IsOverflow, IsOverflowStop, IsSameOrStop, AreSame, Continues, IsFunction}
+use Rattle.lp_definitions.specs.LinearProgram.{IsLinearProgram}
+use Rattle.run_laws.proofs.Selected.{selected_is_lawful}
+use Rattle.run_functions.specs.Laws.{IsAsked, AnswersOnce, IsOverflow, IsOverflowStop, IsSameOrStop, AreSame, Continues, IsFunction}
 use Rattle.run_functions.proofs.OneAnswer.{path_once, shown_once}
 use Rattle.run_functions.proofs.Steps.{Comes, two_outcomes, steps, GoesOn, same_so_far, goes_on, continues}
 
@@ -35,6 +38,33 @@ goes_or_ends : (gain other : Gain) (after : State) (ending : Ending) → (IsOver
 goes_or_ends gain other after ending none (inl e) = cc e
 goes_or_ends gain other after ending none (inr (inl stop)) = let e = stop.1 in cc e
 goes_or_ends gain other after ending none (inr (inr stop)) = none (overflows other ending stop)
+
+stopped_going : (gain other : Gain) (after : State) (ending : Ending) → IsSameOrStop (Goes gain after) (Ends other ending) → other ≡ Nothing
+stopped_going gain other after ending (inl e) = absurd (cc e)
+stopped_going gain other after ending (inr (inl stop)) = let e = stop.1 in absurd (cc e)
+stopped_going gain other after ending (inr (inr stop)) = let e = stop.1 in cc
+
+stopped_ending : (gain other : Gain) (ending another : Ending) → (IsOverflow another → ⊥) → IsOverflow ending → IsSameOrStop (Ends gain ending) (Ends other another) → gain ≡ Nothing
+stopped_ending gain other ending another nor stop (inl e) = let same : another ≡ ending = cc in absurd (nor (subst IsOverflow (sym same) stop))
+stopped_ending gain other ending another nor stop (inr (inl silent)) = let e = silent.1 in cc
+stopped_ending gain other ending another nor stop (inr (inr other_stop)) = absurd (nor (overflows other another other_stop))
+
+-- an ending is a stop for an overflow, or isn't
+overflow_or_not : (ending : Ending) → IsOverflow ending ⊎ (IsOverflow ending → ⊥)
+overflow_or_not (OverflowStop overflow) = inl (overflow, refl)
+overflow_or_not (Ended code) = inr (λ h. let e = h.1 in cc e)
+overflow_or_not WordsRefused = inr (λ h. let e = h.1 in cc e)
+overflow_or_not (ControlStop fault) = inr (λ h. let e = h.1 in cc e)
+overflow_or_not (VerbStop fault) = inr (λ h. let e = h.1 in cc e)
+overflow_or_not (DeckStop fault) = inr (λ h. let e = h.1 in cc e)
+overflow_or_not (CardStop fault) = inr (λ h. let e = h.1 in cc e)
+overflow_or_not (LimitStop reached) = inr (λ h. let e = h.1 in cc e)
+overflow_or_not StatementLimit = inr (λ h. let e = h.1 in cc e)
+overflow_or_not ReadFault = inr (λ h. let e = h.1 in cc e)
+overflow_or_not PrintFault = inr (λ h. let e = h.1 in cc e)
+overflow_or_not PunchFault = inr (λ h. let e = h.1 in cc e)
+overflow_or_not Memory = inr (λ h. let e = h.1 in cc e)
+overflow_or_not NotBuilt = inr (λ h. let e = h.1 in cc e)
 
 module _ (S : Solving) (program : Program) where
   -- a run that is over executes no statement
@@ -135,6 +165,70 @@ module _ (S : Solving) (solving : KnowsSolving S) (answers : AnswersOnce S) (byt
           (goes_on S solving answers bytes program is_program first.before second.before first.before_cards second.before_cards first.state second.state first.came second.came fewer))
       by (inr more) = not_fewer (eq-or-lt_of_le {n = n} {m = m} more)
 
+  -- a statement that stops with an overflow, where it may go on or end otherwise, reports nothing
+  stops_where_it_goes : (reports : List Report) (cards : List (List ℕ)) (state : State) (gain : Gain) (ending : Ending) → Came reports cards state → IsOverflow ending → Last S program state gain ending →
+      GoesOn S solving answers bytes program is_program state → gain ≡ Nothing
+  stops_where_it_goes reports cards state _ ending came stop (over first) more = refl
+  stops_where_it_goes reports cards state gain ending came stop (ended first) more =
+      stopped_going more.gain gain more.after ending (two_outcomes S solving answers bytes program is_program reports cards state (Goes more.gain more.after) (Ends gain ending) came more.step first)
+
+  stops_where_it_ends : (reports : List Report) (cards : List (List ℕ)) (state : State) (gain other : Gain) (ending another : Ending) → Came reports cards state → (IsOverflow another → ⊥) → IsOverflow ending →
+      Last S program state gain ending → Last S program state other another → gain ≡ Nothing
+  stops_where_it_ends reports cards state _ other ending another came nor stop (over first) second = refl
+  stops_where_it_ends reports cards state gain _ ending another came nor stop (ended first) (over second) = absurd (over_or_step S program state another (Ends gain ending) second first)
+  stops_where_it_ends reports cards state gain other ending another came nor stop (ended first) (ended second) =
+      stopped_ending gain other ending another nor stop (two_outcomes S solving answers bytes program is_program reports cards state (Ends gain ending) (Ends other another) came first second)
+
+  -- a run without an overflow continues every other
+  stopped_early : (reports others : List Report) (cards other_cards : List (List ℕ)) (ending other : Ending) (first : Whole reports cards ending) (second : Whole others other_cards other) → first.gain ≡ Nothing →
+      Continues first.before second.before first.before_cards second.before_cards → Continues reports others cards other_cards
+  stopped_early reports others cards other_cards ending other first second nothing rest =
+      let are : reports ≡ first.before = first.are_reports ∙ ap (λ g. first.before ++ printed_by g) nothing ∙ append-nil first.before in
+      let cards_are : cards ≡ first.before_cards = first.are_cards ∙ ap (λ g. first.before_cards ++ punched_by g) nothing ∙ append-nil first.before_cards in
+      record {
+        more_reports = rest.more_reports ++ printed_by second.gain;
+        more_cards = rest.more_cards ++ punched_by second.gain;
+        are_reports =
+            second.are_reports ∙ ap (λ xs. xs ++ printed_by second.gain) rest.are_reports ∙ append_assoc first.before rest.more_reports (printed_by second.gain)
+            ∙ ap (λ xs. xs ++ (rest.more_reports ++ printed_by second.gain)) (sym are);
+        are_cards =
+            second.are_cards ∙ ap (λ xs. xs ++ punched_by second.gain) rest.are_cards ∙ append_assoc first.before_cards rest.more_cards (punched_by second.gain)
+            ∙ ap (λ xs. xs ++ (rest.more_cards ++ punched_by second.gain)) (sym cards_are);
+      }
+
+  broken_off : (reports others : List Report) (cards other_cards : List (List ℕ)) (ending other : Ending) → Whole reports cards ending → Whole others other_cards other → (IsOverflow other → ⊥) →
+      IsOverflow ending ⊎ (IsOverflow ending → ⊥) → Continues reports others cards other_cards
+  broken_off reports others cards other_cards ending other first second nor (inr none) =
+      let same = two_runs reports others cards other_cards ending other first second none nor in
+      record {
+        more_reports = [];
+        more_cards = [];
+        are_reports = sym same.same_reports ∙ sym (append-nil reports);
+        are_cards = sym same.same_cards ∙ sym (append-nil cards);
+      }
+  broken_off reports others cards other_cards ending other first second nor (inl stop) = by (cases_lt n m)
+    where
+      m : ℕ
+      m = steps S solving answers bytes program is_program first.came
+
+      n : ℕ
+      n = steps S solving answers bytes program is_program second.came
+
+      silent : (m ≡ n) ⊎ (m < n) → first.gain ≡ Nothing
+      silent (inl e) =
+          let same = same_so_far S solving answers bytes program is_program first.before second.before first.before_cards second.before_cards first.state second.state first.came second.came e in
+          let moved : Last S program first.state second.gain other = subst (λ x. Last S program x second.gain other) (sym same.states_same) second.last in
+          stops_where_it_ends first.before first.before_cards first.state first.gain second.gain ending other first.came nor stop first.last moved
+      silent (inr fewer) =
+          stops_where_it_goes first.before first.before_cards first.state first.gain ending first.came stop first.last
+          (goes_on S solving answers bytes program is_program first.before second.before first.before_cards second.before_cards first.state second.state first.came second.came fewer)
+
+      by : (n < m) ⊎ (m ≤ n) → Continues reports others cards other_cards
+      by (inl more) = absurd (last_or_more second.before second.before_cards second.state second.gain other second.came nor second.last
+          (goes_on S solving answers bytes program is_program second.before first.before second.before_cards first.before_cards second.state first.state second.came first.came more))
+      by (inr fewer) = stopped_early reports others cards other_cards ending other first second (silent (eq-or-lt_of_le {n = m} {m = n} fewer))
+          (continues S solving answers bytes program is_program first.before second.before first.before_cards second.before_cards first.state second.state first.came second.came fewer)
+
   two_so_far : (reports others : List Report) (cards other_cards : List (List ℕ)) (state other : State) → Came reports cards state → Came others other_cards other →
       Continues reports others cards other_cards ⊎ Continues others reports other_cards cards
   two_so_far reports others cards other_cards state other first second = by (cases_lt m n)
@@ -170,6 +264,24 @@ module _ (S : Solving) (solving : KnowsSolving S) (answers : AnswersOnce S) (byt
       two_runs S solving answers bytes program fine reports others cards other_cards ending other (whole_of S solving answers bytes program fine reports cards ending runs)
       (whole_of S solving answers bytes program fine others other_cards other moved) none nor
 
+  alone : {reports : List Report} {cards : List (List ℕ)} → Continues reports reports cards cards
+  alone = record { more_reports = []; more_cards = []; are_reports = sym (append-nil _); are_cards = sym (append-nil _) }
+
+  job_breaks_off : (reports others : List Report) (cards other_cards : List (List ℕ)) (ending other : Ending) → IsJobRun S bytes reports cards ending → IsJobRun S bytes others other_cards other →
+      (IsOverflow other → ⊥) → Continues reports others cards other_cards
+  job_breaks_off _ _ _ _ _ _ (card_fault fault is) (card_fault other also) nor = alone
+  job_breaks_off _ _ _ _ _ _ (card_fault fault is) (control_fault other fine also) nor = alone
+  job_breaks_off _ _ _ _ _ _ (card_fault fault is) (run program fine runs) nor = let e = sym is ∙ fine.is_read in absurd (cc e)
+  job_breaks_off _ _ _ _ _ _ (control_fault fault fine is) (card_fault other also) nor = alone
+  job_breaks_off _ _ _ _ _ _ (control_fault fault fine is) (control_fault other again also) nor = alone
+  job_breaks_off _ _ _ _ _ _ (control_fault fault fine is) (run program again runs) nor = let e = sym is ∙ again.is_compiled in absurd (cc e)
+  job_breaks_off _ _ _ _ _ _ (run program fine runs) (card_fault other also) nor = let e = sym also ∙ fine.is_read in absurd (cc e)
+  job_breaks_off _ _ _ _ _ _ (run program fine runs) (control_fault other again also) nor = let e = sym also ∙ fine.is_compiled in absurd (cc e)
+  job_breaks_off reports others cards other_cards ending other (run program fine runs) (run another again second) nor =
+      let moved = subst (λ x. IsRun S x (job_decks x bytes) others other_cards other) (one_program program another fine again) second in
+      broken_off S solving answers bytes program fine reports others cards other_cards ending other (whole_of S solving answers bytes program fine reports cards ending runs)
+      (whole_of S solving answers bytes program fine others other_cards other moved) nor (overflow_or_not ending)
+
 -- a run is a function, where each question has one answer
 pub is_function : (S : Solving) → KnowsSolving S → AnswersOnce S → IsFunction S
 is_function S solving answers = record {
@@ -177,13 +289,18 @@ is_function S solving answers = record {
   so_far = λ bytes program reports others cards other_cards state other first second.
       two_so_far S solving answers bytes program first.is_program reports others cards other_cards state other first.reaches second.reaches;
   job = λ bytes. two_job_runs S solving answers bytes;
+  breaks_off = λ bytes. job_breaks_off S solving answers bytes;
 }
+
+-- what is selected of a lawful problem is lawful
+lawful_of : (question : Question) (sheet : Sheet) (s : Basis) → IsAsked question sheet s → IsLinearProgram sheet.lp
+lawful_of question sheet s asked = selected_is_lawful sheet.problem asked.choice sheet.lp asked.is_problem asked.is_selected
 
 -- while there is no RANGE and no parametric run
 pub answers_once : (builds : Verb ℕ → Bool) → builds Ranging ≡ false → builds Paraobj ≡ false → builds Pararhs ≡ false → AnswersOnce (staged builds)
 answers_once builds ranging paraobj pararhs = record {
-  paths = λ limit sheet s a b lawful at first second. path_once sheet s limit lawful at a b first second;
-  solutions = λ mark sheet s a b lawful at first second. shown_once sheet s a b lawful at first second;
+  paths = λ limit sheet s a b asked first second. path_once sheet s limit (lawful_of (OfPath limit) sheet s asked) asked.is_basis a b first second;
+  solutions = λ mark sheet s a b asked first second. shown_once sheet s a b (lawful_of (OfSolution mark) sheet s asked) asked.is_basis first second;
   ranges = inl ranging;
   sweeps = inl (record { paraobj = paraobj; pararhs = pararhs });
 }

@@ -12,6 +12,7 @@ use Rattle.run_definitions.specs.Verbs.{statement_move}
 use Rattle.run_definitions.specs.Run.{counted, Step, Reaches, begun, stepped}
 use Rattle.run_definitions.specs.Answer.{IsProgramOf, job_decks}
 use Rattle.run_laws.specs.Laws.{KnowsSolving}
+use Rattle.run_laws.proofs.Moves.{Knows}
 use Rattle.run_laws.proofs.Runs.{has_problem, known}
 use Rattle.run_functions.specs.Laws.{AnswersOnce, IsSameOrStop, Continues}
 use Rattle.run_functions.proofs.Outcomes.{outcomes}
@@ -27,6 +28,10 @@ going gain other after another (inl e) = record { gains = cc; states = cc }
 going gain other after another (inr (inl stop)) = let e = stop.1 in absurd (cc e)
 going gain other after another (inr (inr stop)) = let e = stop.1 in absurd (cc e)
 
+-- to count a statement as executed changes nothing of what a run knows
+counted_known : (state : State) → Knows state → Knows (counted state)
+counted_known state knows = record { marked = knows.marked; bases = knows.bases }
+
 -- two runs so far are the same
 pub record SameSoFar (reports others : List Report) (cards other_cards : List (List ℕ)) (state other : State) : Type 0 where
   pub reports_same : reports ≡ others
@@ -41,7 +46,7 @@ module _ (S : Solving) (solving : KnowsSolving S) (answers : AnswersOnce S) (byt
   pub two_outcomes : (reports : List Report) (cards : List (List ℕ)) (state : State) (a b : Outcome) → Comes reports cards state → Step S program state a → Step S program state b → IsSameOrStop a b
   two_outcomes reports cards state a b reaches first second =
       outcomes S first.statement.card (statement_move S first.statement.verb first.statement.card (counted state)) a b
-      (statement_once S answers first.statement.verb first.statement.card (counted state) (has_problem S solving bytes program is_program reports cards state reaches) (known S solving bytes program is_program reports cards state reaches).bases)
+      (statement_once S answers first.statement.verb first.statement.card (counted state) (has_problem S solving bytes program is_program reports cards state reaches) (counted_known state (known S solving bytes program is_program reports cards state reaches)))
       first.gives moved
     where
       same : second.statement ≡ first.statement

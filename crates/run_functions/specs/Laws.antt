@@ -1,19 +1,28 @@
 -- A run is a function but for the choice to stop with an overflow, as the function of src/lib.rt promises it.
---     HasOneAnswer S question      the question has one answer at most
+--     IsAsked question sheet s     how a statement of a run asks a question
+--     HasOneAnswer S question      where it is asked so, it has one answer at most
 --     AnswersOnce S                so has each question of the verbs that are built
 --     AsksOnce S move              so has the question that a move asks where it asks it
 --     IsSameOrStop a b             two outcomes are the same, or one of them is a stop for an overflow
 --     AreSame, Continues           two runs are the same; the one has come as far as the other, or further
 --     IsFunction S                 what is the same in two runs of one job
-use Rattle.std.specs.Prelude.{◌≡◌, ◌⊎◌, ℕ, Bool, false, List, ◌++◌}
+use Rattle.std.specs.Prelude.{◌≡◌, ◌⊎◌, ℕ, Bool, true, false, List, ◌++◌, Ok}
+use Rattle.exact_values.specs.Tests.{lt_ℚ}
 use Rattle.lp_definitions.specs.LinearProgram.{IsLinearProgram}
+use Rattle.lp_definitions.specs.Basis.{IsOptimalBasis}
 use Rattle.path_laws.specs.Laws.{IsNonsingularBasis}
+use Rattle.problem_definitions.specs.Problem.{Problem, has_free_row, has_group}
+use Rattle.problem_definitions.specs.Valid.{IsProblem}
+use Rattle.selection_definitions.specs.Choice.{Choice}
+use Rattle.selection_definitions.specs.Selection.{selected}
 use Rattle.control_definitions.specs.Program.{Verb, Ranging, Paraobj, Pararhs, Program}
 use Rattle.listing_definitions.specs.declared.Mark.{Mark}
-use Rattle.listing_definitions.specs.Report.{Report}
+use Rattle.listing_definitions.specs.Report.{SolutionLines, Report}
 use Rattle.listing_definitions.specs.Ending.{Overflow, Ending, OverflowStop}
-use Rattle.question_definitions.specs.Answers.{Basis, Sheet, Sweep, Question, Answer, OfPath, OfSolution, OfRanges, OfSweep}
+use Rattle.question_definitions.specs.Answers.{Basis, Sheet, Changing, Row, Set, Sweep, Question, Answer, OfPath, OfSolution, OfRanges, OfSweep, PathEnd}
 use Rattle.question_definitions.specs.Solving.{Solving, IsRight}
+use Rattle.answer_definitions.specs.Verdicts.{IsSolved}
+use Rattle.answer_definitions.specs.Sections.{IsShown}
 use Rattle.answer_definitions.specs.Real.{staged}
 use Rattle.run_definitions.specs.State.{State}
 use Rattle.run_definitions.specs.Moves.{Outcome, stops, Move, Does, MayStop, Asks, Gives}
@@ -21,10 +30,31 @@ use Rattle.run_definitions.specs.Run.{Step}
 use Rattle.run_definitions.specs.Answer.{IsJobRun, IsSoFar}
 use Rattle.run_laws.specs.Laws.{BuildsNoSweep, SweepsKeepBases}
 
--- At a nonsingular basis of a lawful linear program the question has one right answer at most.
+-- A parametric run changes a row without limits of the problem, or a right-hand side set of it.
+abbrev pub IsOfProblem : Changing → Problem ℕ → Type 0
+IsOfProblem (Row name) problem = has_free_row problem.rows name ≡ true
+IsOfProblem (Set name) problem = has_group problem.rhs name ≡ true
+
+-- RANGE asks at an optimal basis; a parametric run changes something of the problem, and its last value isn't
+-- less than its first.
+abbrev pub Suits : Question → Sheet → Basis → Type 0
+Suits (OfPath limit) sheet s = Unit {0}
+Suits (OfSolution mark) sheet s = Unit {0}
+Suits OfRanges sheet s = IsOptimalBasis sheet.lp s
+Suits (OfSweep sweep) sheet s = IsOfProblem sweep.changing sheet.problem × (lt_ℚ sweep.to sweep.from ≡ false)
+
+-- How a statement of a run asks a question: about a linear program that is selected of a lawful problem, at a
+-- nonsingular basis of it.
+pub record IsAsked (question : Question) (sheet : Sheet) (s : Basis) : Type 0 where
+  pub is_problem : IsProblem sheet.problem
+  pub choice : Choice
+  pub is_selected : selected sheet.problem choice ≡ Ok sheet.lp
+  pub is_basis : IsNonsingularBasis sheet.lp s
+  pub suits : Suits question sheet s
+
+-- Where the question is asked so, it has one right answer at most.
 abbrev pub HasOneAnswer : Solving → Question → Type 0
-HasOneAnswer S question = (sheet : Sheet) (s : Basis) (a b : Answer question) →
-    IsLinearProgram sheet.lp → IsNonsingularBasis sheet.lp s →
+HasOneAnswer S question = (sheet : Sheet) (s : Basis) (a b : Answer question) → IsAsked question sheet s →
     IsRight S question sheet s a → IsRight S question sheet s b → a ≡ b
 
 -- So it is with each question that PRIMAL, SOLUTION, RANGE, PARAOBJ and PARARHS ask; what a verb asks that
@@ -68,8 +98,9 @@ pub record Continues (reports others : List Report) (cards other_cards : List (L
   pub are_cards : other_cards ≡ cards ++ more_cards
 
 -- What is the same in two runs of one job. Two outcomes of one statement are the same, or one of them is a
--- stop for an overflow. Of two runs so far, the one continues the other. And two runs that both don't stop
--- with an overflow report and punch the same, and end alike.
+-- stop for an overflow. Of two runs so far, the one continues the other. Two runs that both don't stop with an
+-- overflow report and punch the same, and end alike; and such a run continues every other, so that a stop for
+-- an overflow only breaks it off.
 pub record IsFunction (S : Solving) : Type 0 where
   pub step : (bytes : List ℕ) (program : Program) (reports : List Report) (cards : List (List ℕ)) (state : State)
       (a b : Outcome) → IsSoFar S bytes reports cards program state →
@@ -81,16 +112,27 @@ pub record IsFunction (S : Solving) : Type 0 where
   pub job : (bytes : List ℕ) (reports others : List Report) (cards other_cards : List (List ℕ))
       (ending other : Ending) → IsJobRun S bytes reports cards ending → IsJobRun S bytes others other_cards other →
       (IsOverflow ending → ⊥) → (IsOverflow other → ⊥) → AreSame reports others cards other_cards ending other
+  pub breaks_off : (bytes : List ℕ) (reports others : List Report) (cards other_cards : List (List ℕ))
+      (ending other : Ending) → IsJobRun S bytes reports cards ending → IsJobRun S bytes others other_cards other →
+      (IsOverflow other → ⊥) → Continues reports others cards other_cards
 
--- Whichever verbs are built: a path has one end within a limit, with one verdict and one check of it, and
--- SOLUTION prints one list of lines of a basis. Two outcomes of a move that asks its question where it has
--- one answer are the same, or one of them is a stop for an overflow. And a run is a function: while there
--- is no RANGE and no parametric run; or where these have one answer too, and a parametric run keeps to bases.
+-- At a nonsingular basis of a lawful linear program a path has one end within a limit, with one verdict and one
+-- check of it, and SOLUTION prints one list of lines.
+pub record AnswerLaws : Type 0 where
+  pub path : (sheet : Sheet) (s : Basis) (limit : ℕ) (a b : PathEnd) → IsLinearProgram sheet.lp →
+      IsNonsingularBasis sheet.lp s → IsSolved sheet s limit a → IsSolved sheet s limit b → a ≡ b
+  pub solution : (sheet : Sheet) (s : Basis) (a b : SolutionLines) → IsLinearProgram sheet.lp →
+      IsNonsingularBasis sheet.lp s → IsShown sheet s a → IsShown sheet s b → a ≡ b
+
+-- Two outcomes of a move that asks its question where it has one answer are the same, or one of them is a stop
+-- for an overflow. And whichever verbs are built, a run is a function: while there is no RANGE and no parametric
+-- run; or where their questions have one answer too, and a parametric run keeps to bases.
 pub record RunFunctions : Type 0 where
-  pub paths : (builds : Verb ℕ → Bool) (limit : ℕ) → HasOneAnswer (staged builds) (OfPath limit)
-  pub solutions : (builds : Verb ℕ → Bool) (mark : Mark) → HasOneAnswer (staged builds) (OfSolution mark)
+  pub answers : AnswerLaws
   pub moves : (builds : Verb ℕ → Bool) (card : ℕ) (move : Move) (a b : Outcome) → AsksOnce (staged builds) move →
       Gives (staged builds) card move a → Gives (staged builds) card move b → IsSameOrStop a b
+  pub answered : (builds : Verb ℕ → Bool) → builds Ranging ≡ false → builds Paraobj ≡ false →
+      builds Pararhs ≡ false → AnswersOnce (staged builds)
   pub runs : (builds : Verb ℕ → Bool) → builds Ranging ≡ false → builds Paraobj ≡ false → builds Pararhs ≡ false →
       IsFunction (staged builds)
   pub whole : (builds : Verb ℕ → Bool) → BuildsNoSweep (staged builds) ⊎ SweepsKeepBases (staged builds) →

@@ -7,9 +7,9 @@ use Rattle.run_functions.proofs.run_functions.Goals as goal
 
 pub returns : goal.returns
 returns c = record {
-  paths = λ builds limit sheet s a b lawful at first second. path_once sheet s limit lawful at a b first second;
-  solutions = λ builds mark sheet s a b lawful at first second. shown_once sheet s a b lawful at first second;
+  answers = record { path = λ sheet s limit a b lawful at. path_once sheet s limit lawful at a b; solution = shown_once };
   moves = λ builds card. outcomes (staged builds) card;
+  answered = answers_once;
   runs = λ builds ranging paraobj pararhs. is_function (staged builds) (knows_without_sweeps builds paraobj pararhs) (answers_once builds ranging paraobj pararhs);
   whole = λ builds sweeps answers. is_function (staged builds) (knows builds sweeps) answers;
 }
