@@ -1,4 +1,6 @@
 pub mod OneAnswer
+pub mod Intervals
+pub mod OneRange
 pub mod Outcomes
 pub mod Statements
 pub mod Steps

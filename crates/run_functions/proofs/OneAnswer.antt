@@ -48,7 +48,7 @@ module _ (sheet : Sheet) where
 -- ---- the lines of SOLUTION
 
 -- the line of a variable, from its activity and its price
-abbrev placed_at : Sheet → Basis → ℕ → ℚ → List Value
+abbrev pub placed_at : Sheet → Basis → ℕ → ℚ → List Value
 placed_at sheet s k v = Code (at_of sheet.lp s (λ i. v) k) ∷ Number v ∷ []
 
 abbrev limited_at : Sheet → ℕ → ℚ → List Value

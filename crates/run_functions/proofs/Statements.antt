@@ -213,7 +213,7 @@ module _ (S : Solving) where
     verb_once (Setup options) card state lawful knows built = sets_up_once card options state
     verb_once Primal card state lawful knows built = solves_once card state lawful knows (answers.paths state.cells.xiterlim)
     verb_once SolutionVerb card state lawful knows built = shows_once card state lawful knows answers.solutions
-    verb_once Ranging card state lawful knows built = ranges_once card state lawful knows (with_answer {X = S.builds Ranging ≡ false} {Y = HasOneAnswer S OfRanges} Ranging built (λ none. none) answers.ranges)
+    verb_once Ranging card state lawful knows built = ranges_once card state lawful knows answers.ranges
     verb_once Paraobj card state lawful knows built =
         sweeps_once card state lawful knows VerbFault.NoChangeRow change_row state.cells.xchrow row_of_problem (with_answer {X = BuildsNoSweep S} {Y = (sweep : Sweep) → HasOneAnswer S (OfSweep sweep)} Paraobj built (λ none. none.paraobj) answers.sweeps)
     verb_once Pararhs card state lawful knows built =

@@ -6,7 +6,7 @@
 --     IsSameOrStop a b             two outcomes are the same, or one of them is a stop for an overflow
 --     AreSame, Continues           two runs are the same; the one has come as far as the other, or further
 --     IsFunction S                 what is the same in two runs of one job
-use Rattle.std.specs.Prelude.{◌≡◌, ◌⊎◌, ℕ, Bool, true, false, List, ◌++◌, Ok}
+use Rattle.std.specs.Prelude.{◌≡◌, ◌⊎◌, ℕ, Bool, true, false, List, ◌++◌, None, Ok}
 use Rattle.exact_values.specs.Tests.{lt_ℚ}
 use Rattle.lp_definitions.specs.LinearProgram.{IsLinearProgram}
 use Rattle.lp_definitions.specs.Basis.{IsOptimalBasis}
@@ -15,14 +15,14 @@ use Rattle.problem_definitions.specs.Problem.{Problem, has_free_row, has_group}
 use Rattle.problem_definitions.specs.Valid.{IsProblem}
 use Rattle.selection_definitions.specs.Choice.{Choice}
 use Rattle.selection_definitions.specs.Selection.{selected}
-use Rattle.control_definitions.specs.Program.{Verb, Ranging, Paraobj, Pararhs, Program}
+use Rattle.control_definitions.specs.Program.{Verb, Paraobj, Pararhs, Program}
 use Rattle.listing_definitions.specs.declared.Mark.{Mark}
-use Rattle.listing_definitions.specs.Report.{SolutionLines, Report}
+use Rattle.listing_definitions.specs.Report.{SolutionLines, RangeLines, Report}
 use Rattle.listing_definitions.specs.Ending.{Overflow, Ending, OverflowStop}
 use Rattle.question_definitions.specs.Answers.{Basis, Sheet, Changing, Row, Set, Sweep, Question, Answer, OfPath, OfSolution, OfRanges, OfSweep, PathEnd}
 use Rattle.question_definitions.specs.Solving.{Solving, IsRight}
 use Rattle.answer_definitions.specs.Verdicts.{IsSolved}
-use Rattle.answer_definitions.specs.Sections.{IsShown}
+use Rattle.answer_definitions.specs.Sections.{IsShown, IsRanged}
 use Rattle.answer_definitions.specs.Real.{staged}
 use Rattle.run_definitions.specs.State.{State}
 use Rattle.run_definitions.specs.Moves.{Outcome, stops, Move, Does, MayStop, Asks, Gives}
@@ -57,12 +57,12 @@ abbrev pub HasOneAnswer : Solving → Question → Type 0
 HasOneAnswer S question = (sheet : Sheet) (s : Basis) (a b : Answer question) → IsAsked question sheet s →
     IsRight S question sheet s a → IsRight S question sheet s b → a ≡ b
 
--- So it is with each question that PRIMAL, SOLUTION, RANGE, PARAOBJ and PARARHS ask; what a verb asks that
--- isn't built doesn't count.
+-- So it is with each question that PRIMAL, SOLUTION, RANGE, PARAOBJ and PARARHS ask; what the last two ask doesn't
+-- count while they aren't built.
 pub record AnswersOnce (S : Solving) : Type 0 where
   pub paths : (limit : ℕ) → HasOneAnswer S (OfPath limit)
   pub solutions : (mark : Mark) → HasOneAnswer S (OfSolution mark)
-  pub ranges : (S.builds Ranging ≡ false) ⊎ HasOneAnswer S OfRanges
+  pub ranges : HasOneAnswer S OfRanges
   pub sweeps : BuildsNoSweep S ⊎ ((sweep : Sweep) → HasOneAnswer S (OfSweep sweep))
 
 -- If a move asks a question, this has one right answer at most, about the linear program and at the basis
@@ -117,23 +117,25 @@ pub record IsFunction (S : Solving) : Type 0 where
       (IsOverflow other → ⊥) → Continues reports others cards other_cards
 
 -- At a nonsingular basis of a lawful linear program a path has one end within a limit, with one verdict and one
--- check of it, and SOLUTION prints one list of lines.
+-- check of it, and SOLUTION prints one list of lines; and so does RANGE at an optimal basis of a program without
+-- a change row.
 pub record AnswerLaws : Type 0 where
   pub path : (sheet : Sheet) (s : Basis) (limit : ℕ) (a b : PathEnd) → IsLinearProgram sheet.lp →
       IsNonsingularBasis sheet.lp s → IsSolved sheet s limit a → IsSolved sheet s limit b → a ≡ b
   pub solution : (sheet : Sheet) (s : Basis) (a b : SolutionLines) → IsLinearProgram sheet.lp →
       IsNonsingularBasis sheet.lp s → IsShown sheet s a → IsShown sheet s b → a ≡ b
+  pub ranges : (sheet : Sheet) (s : Basis) (a b : RangeLines) → IsLinearProgram sheet.lp → sheet.lp.change ≡ None →
+      IsOptimalBasis sheet.lp s → IsRanged sheet s a → IsRanged sheet s b → a ≡ b
 
 -- Two outcomes of a move that asks its question where it has one answer are the same, or one of them is a stop
--- for an overflow. And whichever verbs are built, a run is a function: while there is no RANGE and no parametric
--- run; or where their questions have one answer too, and a parametric run keeps to bases.
+-- for an overflow. And whichever verbs are built, a run is a function: while there is no parametric run; or where
+-- the question of one has one answer too, and it keeps to bases.
 pub record RunFunctions : Type 0 where
   pub answers : AnswerLaws
   pub moves : (builds : Verb ℕ → Bool) (card : ℕ) (move : Move) (a b : Outcome) → AsksOnce (staged builds) move →
       Gives (staged builds) card move a → Gives (staged builds) card move b → IsSameOrStop a b
-  pub answered : (builds : Verb ℕ → Bool) → builds Ranging ≡ false → builds Paraobj ≡ false →
-      builds Pararhs ≡ false → AnswersOnce (staged builds)
-  pub runs : (builds : Verb ℕ → Bool) → builds Ranging ≡ false → builds Paraobj ≡ false → builds Pararhs ≡ false →
-      IsFunction (staged builds)
-  pub whole : (builds : Verb ℕ → Bool) → BuildsNoSweep (staged builds) ⊎ SweepsKeepBases (staged builds) →
-      AnswersOnce (staged builds) → IsFunction (staged builds)
+  pub answered : (builds : Verb ℕ → Bool) → builds Paraobj ≡ false → builds Pararhs ≡ false →
+      AnswersOnce (staged builds)
+  pub runs : (builds : Verb ℕ → Bool) → builds Paraobj ≡ false → builds Pararhs ≡ false → IsFunction (staged builds)
+  pub swept : (builds : Verb ℕ → Bool) → SweepsKeepBases (staged builds) →
+      ((sweep : Sweep) → HasOneAnswer (staged builds) (OfSweep sweep)) → IsFunction (staged builds)
