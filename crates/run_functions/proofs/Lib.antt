@@ -4,4 +4,5 @@ pub mod OneRange
 pub mod Outcomes
 pub mod Statements
 pub mod Steps
+pub mod Stops
 pub mod Runs

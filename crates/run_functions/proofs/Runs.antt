@@ -11,13 +11,15 @@ use Rattle.question_definitions.specs.Answers.{Basis, Sheet, Question, Sweep, Of
 use Rattle.question_definitions.specs.Solving.{Solving}
 use Rattle.answer_definitions.specs.Real.{staged}
 use Rattle.run_definitions.specs.State.{State}
-use Rattle.run_definitions.specs.Moves.{Gain, Nothing, printed_by, punched_by, Outcome, Goes, Ends}
-use Rattle.run_definitions.specs.Run.{Step, IsOver, at_end, at_limit, IsRun, is_over, is_ended}
+use Rattle.run_definitions.specs.Moves.{Gain, Nothing, printed_by, punched_by, Outcome, Goes, Ends, Gives}
+use Rattle.run_definitions.specs.Verbs.{statement_move}
+use Rattle.run_definitions.specs.Run.{counted, Step, IsOver, at_end, at_limit, IsRun, is_over, is_ended}
 use Rattle.run_definitions.specs.Answer.{IsProgramOf, job_decks, IsJobRun, card_fault, control_fault, run}
 use Rattle.run_laws.specs.Laws.{BuildsNoSweep, KnowsSolving}
 use Rattle.lp_definitions.specs.LinearProgram.{LinearProgram, IsLinearProgram}
 use Rattle.run_laws.proofs.Selected.{is_chosen, selected_is_lawful}
-use Rattle.run_functions.specs.Laws.{IsAsked, HasOneAnswer, AnswersOnce, IsOverflow, IsOverflowStop, IsSameOrStop, AreSame, Continues, IsFunction}
+use Rattle.run_functions.specs.Laws.{IsAsked, HasOneAnswer, MeetsNoEvidence, AnswersOnce, IsOverflow, IsOverflowStop, IsSameOrStop, AreSame, Continues, IsFunction}
+use Rattle.run_functions.proofs.Stops.{statement_evidence}
 use Rattle.run_functions.proofs.OneRange.{ranged_once}
 use Rattle.run_functions.proofs.OneAnswer.{path_once, shown_once}
 use Rattle.run_functions.proofs.Steps.{Comes, two_outcomes, steps, GoesOn, same_so_far, goes_on, continues}
@@ -283,6 +285,21 @@ module _ (S : Solving) (solving : KnowsSolving S) (answers : AnswersOnce S) (byt
       broken_off S solving answers bytes program fine reports others cards other_cards ending other (whole_of S solving answers bytes program fine reports cards ending runs)
       (whole_of S solving answers bytes program fine others other_cards other moved) nor (overflow_or_not ending)
 
+  -- where no evidence holds no run stops with an overflow
+  stopped_run : (program : Program) (reports : List Report) (cards : List (List ℕ)) (ending : Ending) → MeetsNoEvidence S bytes → IsProgramOf bytes program → IsRun S program (job_decks program bytes) reports cards ending →
+      IsOverflow ending → ⊥
+  stopped_run program _ _ _ none is (is_over came (at_end past)) stop = let e = stop.1 in cc e
+  stopped_run program _ _ _ none is (is_over came (at_limit within limit)) stop = let e = stop.1 in cc e
+  stopped_run program _ _ ending none is (is_ended {reports} {cards} {state} gain came step) stop =
+      none program reports cards state step.statement (record { is_program = is; reaches = came }) step.is_at_position step.is_within_limit
+      (statement_evidence S step.statement.card gain stop.0 step.statement.verb (counted state)
+      (subst (λ x. Gives S step.statement.card (statement_move S step.statement.verb step.statement.card (counted state)) (Ends gain x)) stop.1 step.gives))
+
+  unstopped : (reports : List Report) (cards : List (List ℕ)) (ending : Ending) → MeetsNoEvidence S bytes → IsJobRun S bytes reports cards ending → IsOverflow ending → ⊥
+  unstopped _ _ _ none (card_fault fault is) stop = let e = stop.1 in cc e
+  unstopped _ _ _ none (control_fault fault fine is) stop = let e = stop.1 in cc e
+  unstopped reports cards ending none (run program is runs) stop = stopped_run program reports cards ending none is runs stop
+
 -- a run is a function, where each question has one answer
 pub is_function : (S : Solving) → KnowsSolving S → AnswersOnce S → IsFunction S
 is_function S solving answers = record {
@@ -291,6 +308,9 @@ is_function S solving answers = record {
       two_so_far S solving answers bytes program first.is_program reports others cards other_cards state other first.reaches second.reaches;
   job = λ bytes. two_job_runs S solving answers bytes;
   breaks_off = λ bytes. job_breaks_off S solving answers bytes;
+  unstopped = λ bytes. unstopped S solving answers bytes;
+  one_run = λ bytes reports others cards other_cards ending other none first second. two_job_runs S solving answers bytes reports others cards other_cards ending other first second
+      (unstopped S solving answers bytes reports cards ending none first) (unstopped S solving answers bytes others other_cards other none second);
 }
 
 -- what is selected of a lawful problem is lawful
