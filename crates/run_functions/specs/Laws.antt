@@ -108,21 +108,23 @@ pub record Continues (reports others : List Report) (cards other_cards : List (L
 abbrev pub HasEvidence : Solving → Move → Type 0
 HasEvidence S (Does outcome) = ⊥
 HasEvidence S (MayStop refusals move) =
-    ((evidence : Evidence) × (place : Option Place) × Shows S refusals evidence place) ⊎ HasEvidence S move
+    ((evidence : Evidence) × (place : Option Place) × Shows S refusals evidence place) ⊎
+    HasEvidence S move
 HasEvidence S (Asks question sheet s go) = ⊥
 
 -- However far a run of the job has come, no evidence holds at the statement that it executes next.
 abbrev pub MeetsNoEvidence : Solving → List ℕ → Type 0
 MeetsNoEvidence S bytes = (program : Program) (reports : List Report) (cards : List (List ℕ))
     (state : State) (statement : Statement ℕ) → IsSoFar S bytes reports cards program state →
-    slice_get program.statements (state.position - 1) ≡ Some statement → state.executed < max_executed →
+    slice_get program.statements (state.position - 1) ≡ Some statement →
+    state.executed < max_executed →
     HasEvidence S (statement_move S statement.verb statement.card (counted state)) → ⊥
 
--- What is the same in two runs of one job. Two outcomes of one statement are the same, or one of them
--- is a stop for an overflow. Of two runs so far, the one begins with the other. Two runs that both
--- don't stop with an overflow report and punch the same, and end alike. Such a run begins with every
--- other, so that a stop for an overflow only breaks it off. And where no evidence holds at any moment,
--- no run stops with an overflow, and so all are the same.
+-- What is the same in two runs of one job. Two outcomes of one statement are the same, or one of
+-- them is a stop for an overflow. Of two runs so far, the one begins with the other. Two runs that
+-- both don't stop with an overflow report and punch the same, and end alike. Such a run begins with
+-- every other, so that a stop for an overflow only breaks it off. And where no evidence holds at any
+-- moment, no run stops with an overflow, and so all are the same.
 pub record IsFunction (S : Solving) : Type 0 where
   pub step : (bytes : List ℕ) (program : Program) (reports : List Report) (cards : List (List ℕ))
       (state : State) (a b : Outcome) → IsSoFar S bytes reports cards program state →
@@ -140,8 +142,8 @@ pub record IsFunction (S : Solving) : Type 0 where
       (cards other_cards : List (List ℕ)) (ending other : Ending) →
       IsJobRun S bytes reports cards ending → IsJobRun S bytes others other_cards other →
       (IsOverflow other → ⊥) → Continues reports others cards other_cards
-  pub unstopped : (bytes : List ℕ) (reports : List Report) (cards : List (List ℕ)) (ending : Ending) →
-      MeetsNoEvidence S bytes → IsJobRun S bytes reports cards ending → IsOverflow ending → ⊥
+  pub unstopped : (bytes : List ℕ) (reports : List Report) (cards : List (List ℕ))
+      (ending : Ending) → MeetsNoEvidence S bytes → IsJobRun S bytes reports cards ending → IsOverflow ending → ⊥
   pub one_run : (bytes : List ℕ) (reports others : List Report) (cards other_cards : List (List ℕ))
       (ending other : Ending) → MeetsNoEvidence S bytes → IsJobRun S bytes reports cards ending →
       IsJobRun S bytes others other_cards other →
@@ -160,8 +162,8 @@ pub record AnswerLaws : Type 0 where
       IsRanged sheet s a → IsRanged sheet s b → a ≡ b
 
 -- Two outcomes of a move that asks its question where it has one answer are the same, or one of
--- them is a stop for an overflow. And whichever verbs are built, a run is a function: while there is
--- no parametric run; or where the question of one has one answer too, and it keeps to bases.
+-- them is a stop for an overflow. And whichever verbs are built, a run is a function: while there
+-- is no parametric run; or where the question of one has one answer too, and it keeps to bases.
 pub record RunFunctions : Type 0 where
   pub answers : AnswerLaws
   pub moves : (builds : Verb ℕ → Bool) (card : ℕ) (move : Move) (a b : Outcome) →
