@@ -53,10 +53,10 @@ module _ (S : Solving) (solving : KnowsSolving S) where
       (statement_kept S solving step.statement.verb step.statement.card (counted state) lawful (record { marked = knows.marked; bases = knows.bases })).by outcome step.gives
 
   module _ (bytes : List ℕ) (program : Program) (is_program : IsProgramOf bytes program) where
-    has_problem : (reports : List Report) (cards : List (List ℕ)) (state : State) → Reaches S program (job_decks program bytes) reports cards state → HasProblem state.setup
+    pub has_problem : (reports : List Report) (cards : List (List ℕ)) (state : State) → Reaches S program (job_decks program bytes) reports cards state → HasProblem state.setup
     has_problem reports cards state reaches = (job_reaching S bytes program reports cards state (record { is_program = is_program; reaches = reaches })).setup
 
-    known : (reports : List Report) (cards : List (List ℕ)) (state : State) → Reaches S program (job_decks program bytes) reports cards state → Knows state
+    pub known : (reports : List Report) (cards : List (List ℕ)) (state : State) → Reaches S program (job_decks program bytes) reports cards state → Knows state
     known _ _ _ begun = record { marked = unmarked _ _ _; bases = without_setup }
     known _ _ _ (stepped {reports} {cards} {state} gain after before step) =
         (step_keeps program state (Goes gain after) (has_problem reports cards state before) (known reports cards state before) step).1
@@ -102,5 +102,17 @@ module _ (S : Solving) (solving : KnowsSolving S) where
     job = job_holds;
   }
 
+<<<<<<< HEAD
 pub knows_staged : (builds : Verb ℕ → Bool) → KnowsSolving (staged builds)
 knows_staged builds = record { solves = λ sheet s limit bases verdict check solved. solved; shows = λ sheet s lines shown. shown; sweeps = swept_leads }
+=======
+module _ (builds : Verb ℕ → Bool) where
+  pub knows : BuildsNoSweep (staged builds) ⊎ SweepsKeepBases (staged builds) → KnowsSolving (staged builds)
+  knows sweeps = record { solves = λ sheet s limit bases verdict check solved. solved; shows = λ sheet s lines shown. shown; sweeps = sweeps }
+
+  pub knows_without_sweeps : builds Paraobj ≡ false → builds Pararhs ≡ false → KnowsSolving (staged builds)
+  knows_without_sweeps paraobj pararhs = knows (inl (record { paraobj = paraobj; pararhs = pararhs }))
+
+  pub knows_with_sweeps : SweepsKeepBases (staged builds) → KnowsSolving (staged builds)
+  knows_with_sweeps keep = knows (inr keep)
+>>>>>>> d473a9437f193950c96ccfcf8b72b712192b190e
