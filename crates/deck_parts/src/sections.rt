@@ -39,13 +39,8 @@ pub fn row_kind_of(card: &DataCard<'_>) -> Result<RowKind, DeckFaultKind>
     Ok(kind)
 }
 
-<<<<<<< HEAD
 // The fault of a card of ROWS with a new name, after so many rows.
-fn new_row_fault(count: usize, card: &DataCard<'_>) -> Option<DeckFaultKind>
-=======
-// The fault of a card of ROWS with a new name, behind so many rows.
 pub fn new_row_fault(count: usize, card: &DataCard<'_>) -> Option<DeckFaultKind>
->>>>>>> 12881bf7ede611054d02ba5c70bdd96628bbbb7e
     ensures { result ≡ first_fault ((nat_le MAX_ROWS count ⟹ DeckFaultKind.TooManyRows) ∷ filled_from_3 (shown card.now) ∷ []) }
 {
     if MAX_ROWS <= count {

@@ -15,10 +15,10 @@ use Rattle.run_definitions.specs.Moves.{Gain, Nothing, printed_by, punched_by, O
 use Rattle.run_definitions.specs.Verbs.{statement_move}
 use Rattle.run_definitions.specs.Run.{counted, Step, IsOver, at_end, at_limit, IsRun, is_over, is_ended}
 use Rattle.run_definitions.specs.Answer.{IsProgramOf, job_decks, IsJobRun, card_fault, control_fault, run}
-use Rattle.run_laws.specs.Laws.{BuildsNoSweep, KnowsSolving}
+use Rattle.run_laws.specs.Laws.{KnowsSolving}
 use Rattle.lp_definitions.specs.LinearProgram.{LinearProgram, IsLinearProgram}
 use Rattle.run_laws.proofs.Selected.{is_chosen, selected_is_lawful}
-use Rattle.run_functions.specs.Laws.{IsAsked, HasOneAnswer, MeetsNoEvidence, AnswersOnce, IsOverflow, IsOverflowStop, IsSameOrStop, AreSame, Continues, IsFunction}
+use Rattle.run_functions.specs.Laws.{BuildsNoSweep, IsAsked, HasOneAnswer, MeetsNoEvidence, AnswersOnce, IsOverflow, IsOverflowStop, IsSameOrStop, AreSame, Continues, IsFunction}
 use Rattle.run_functions.proofs.Stops.{statement_evidence}
 use Rattle.run_functions.proofs.OneRange.{ranged_once}
 use Rattle.run_functions.proofs.OneAnswer.{path_once, shown_once}

@@ -22,7 +22,6 @@ use Rattle.question_definitions.specs.Solving.{Solving}
 use Rattle.run_definitions.specs.State.{Present, present_basis, State, problem_of, choice_of}
 use Rattle.run_definitions.specs.Moves.{Outcome, Refusals, Move, Does, MayStop, or_fault}
 use Rattle.run_definitions.specs.Verbs.{or_deck_fault, or_selection_fault, files, selects, not_less, change_row, change_set, asks, if_optimal, shows_present, solves, shows, ranges, sweeps, converts, revises, sets_up, punches, verb_move, if_built, statement_move}
-use Rattle.run_laws.specs.Laws.{BuildsNoSweep}
 use Rattle.path_definitions.specs.Path.{EndsOptimal, EndsAt}
 use Rattle.path_laws.proofs.Ends.{optimal_end}
 use Rattle.std.proofs.lemmas.Option.{same_Some}
@@ -31,7 +30,7 @@ use Rattle.exact_values.specs.Tests.{lt_ℚ}
 use Rattle.listing_definitions.specs.declared.Mark.TheVariants.{Optimal, Infeasible, Unbounded}
 use Rattle.run_laws.proofs.Selected.{selected_is_lawful}
 use Rattle.run_laws.proofs.Moves.{HasProblem, EndsOptimally, Knows}
-use Rattle.run_functions.specs.Laws.{IsOfProblem, Suits, HasOneAnswer, AnswersOnce, AsksOnce}
+use Rattle.run_functions.specs.Laws.{BuildsNoSweep, IsOfProblem, Suits, HasOneAnswer, AnswersOnce, AsksOnce}
 
 pub record IsOnce (S : Solving) (move : Move) : Type 0 where
   pub once : AsksOnce S move

@@ -33,7 +33,6 @@ use Rattle.run_definitions.specs.Moves.{Outcome, stops, Move, Does, MayStop, Ask
 use Rattle.run_definitions.specs.Verbs.{statement_move}
 use Rattle.run_definitions.specs.Run.{max_executed, counted, Step}
 use Rattle.run_definitions.specs.Answer.{IsJobRun, IsSoFar}
-use Rattle.run_laws.specs.Laws.{BuildsNoSweep, SweepsKeepBases}
 
 -- A parametric run changes a row without limits of the problem, or a right-hand side set of it.
 abbrev pub IsOfProblem : Changing → Problem ℕ → Type 0
@@ -62,6 +61,11 @@ pub record IsAsked (question : Question) (sheet : Sheet) (s : Basis) : Type 0 wh
 abbrev pub HasOneAnswer : Solving → Question → Type 0
 HasOneAnswer S question = (sheet : Sheet) (s : Basis) (a b : Answer question) →
     IsAsked question sheet s → IsRight S question sheet s a → IsRight S question sheet s b → a ≡ b
+
+-- there are no parametric runs
+pub record BuildsNoSweep (S : Solving) : Type 0 where
+  pub paraobj : S.builds Paraobj ≡ false
+  pub pararhs : S.builds Pararhs ≡ false
 
 -- So it is with each question that PRIMAL, SOLUTION, RANGE, PARAOBJ and PARARHS ask; what the last
 -- two ask doesn't count while they aren't built.
@@ -163,7 +167,7 @@ pub record AnswerLaws : Type 0 where
 
 -- Two outcomes of a move that asks its question where it has one answer are the same, or one of
 -- them is a stop for an overflow. And whichever verbs are built, a run is a function: while there
--- is no parametric run; or where the question of one has one answer too, and it keeps to bases.
+-- is no parametric run; or where the question of one has one answer too.
 pub record RunFunctions : Type 0 where
   pub answers : AnswerLaws
   pub moves : (builds : Verb ℕ → Bool) (card : ℕ) (move : Move) (a b : Outcome) →
@@ -173,5 +177,5 @@ pub record RunFunctions : Type 0 where
       AnswersOnce (staged builds)
   pub runs : (builds : Verb ℕ → Bool) → builds Paraobj ≡ false → builds Pararhs ≡ false →
       IsFunction (staged builds)
-  pub swept : (builds : Verb ℕ → Bool) → SweepsKeepBases (staged builds) →
+  pub swept : (builds : Verb ℕ → Bool) →
       ((sweep : Sweep) → HasOneAnswer (staged builds) (OfSweep sweep)) → IsFunction (staged builds)

@@ -102,17 +102,5 @@ module _ (S : Solving) (solving : KnowsSolving S) where
     job = job_holds;
   }
 
-<<<<<<< HEAD
 pub knows_staged : (builds : Verb ℕ → Bool) → KnowsSolving (staged builds)
 knows_staged builds = record { solves = λ sheet s limit bases verdict check solved. solved; shows = λ sheet s lines shown. shown; sweeps = swept_leads }
-=======
-module _ (builds : Verb ℕ → Bool) where
-  pub knows : BuildsNoSweep (staged builds) ⊎ SweepsKeepBases (staged builds) → KnowsSolving (staged builds)
-  knows sweeps = record { solves = λ sheet s limit bases verdict check solved. solved; shows = λ sheet s lines shown. shown; sweeps = sweeps }
-
-  pub knows_without_sweeps : builds Paraobj ≡ false → builds Pararhs ≡ false → KnowsSolving (staged builds)
-  knows_without_sweeps paraobj pararhs = knows (inl (record { paraobj = paraobj; pararhs = pararhs }))
-
-  pub knows_with_sweeps : SweepsKeepBases (staged builds) → KnowsSolving (staged builds)
-  knows_with_sweeps keep = knows (inr keep)
->>>>>>> d473a9437f193950c96ccfcf8b72b712192b190e

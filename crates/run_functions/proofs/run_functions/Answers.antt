@@ -1,6 +1,6 @@
 use Rattle.std.proofs.Common.{inr}
 use Rattle.answer_definitions.specs.Real.{staged}
-use Rattle.run_laws.proofs.Runs.{knows_without_sweeps, knows_with_sweeps}
+use Rattle.run_laws.proofs.Runs.{knows_staged}
 use Rattle.run_functions.proofs.OneAnswer.{path_once, shown_once}
 use Rattle.run_functions.proofs.OneRange.{ranged_once}
 use Rattle.run_functions.proofs.Outcomes.{outcomes}
@@ -12,6 +12,6 @@ returns c = record {
   answers = record { path = λ sheet s limit a b lawful at. path_once sheet s limit lawful at a b; solution = shown_once; ranges = ranged_once };
   moves = λ builds card. outcomes (staged builds) card;
   answered = answers_without_sweeps;
-  runs = λ builds paraobj pararhs. is_function (staged builds) (knows_without_sweeps builds paraobj pararhs) (answers_without_sweeps builds paraobj pararhs);
-  swept = λ builds keep one. is_function (staged builds) (knows_with_sweeps builds keep) (answers_once builds (inr one));
+  runs = λ builds paraobj pararhs. is_function (staged builds) (knows_staged builds) (answers_without_sweeps builds paraobj pararhs);
+  swept = λ builds one. is_function (staged builds) (knows_staged builds) (answers_once builds (inr one));
 }
