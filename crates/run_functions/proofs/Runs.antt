@@ -1,13 +1,13 @@
 -- Two runs of one job that don't stop with an overflow are the same.
-use Rattle.std.proofs.Common.{◌≡◌, ◌⊎◌, inl, inr, ℕ, ◌-◌, ◌≤◌, ◌<◌, Bool, false, List, [], ◌++◌, refl, sym, ap, ap₂, subst, ◌∙◌, arith, None}
+use Rattle.std.proofs.Common.{◌≡◌, ◌⊎◌, inl, inr, ℕ, ◌-◌, ◌≤◌, ◌<◌, Bool, List, [], ◌++◌, refl, sym, ap, ap₂, subst, ◌∙◌, arith, None}
 use Rattle.std.proofs.Math.Nat.{eq-or-lt_of_le, le_of_lt}
 use Rattle.std.proofs.lemmas.Bool.{cases_lt}
 use Rattle.std.proofs.lemmas.List.{append-nil, append_assoc}
 use Rattle.std.proofs.lemmas.Option.{slice_get_within}
-use Rattle.control_definitions.specs.Program.{Program, Verb, Paraobj, Pararhs}
+use Rattle.control_definitions.specs.Program.{Program, Verb}
 use Rattle.listing_definitions.specs.Report.{Report}
 use Rattle.listing_definitions.specs.Ending.{Ending, Ended, WordsRefused, ControlStop, VerbStop, DeckStop, CardStop, LimitStop, StatementLimit, OverflowStop, ReadFault, PrintFault, PunchFault, Memory, NotBuilt}
-use Rattle.question_definitions.specs.Answers.{Basis, Sheet, Question, Sweep, OfPath, OfSolution, OfRanges, OfSweep}
+use Rattle.question_definitions.specs.Answers.{Basis, Sheet, Question, OfPath, OfSolution, OfRanges}
 use Rattle.question_definitions.specs.Solving.{Solving}
 use Rattle.answer_definitions.specs.Real.{staged}
 use Rattle.run_definitions.specs.State.{State}
@@ -18,9 +18,10 @@ use Rattle.run_definitions.specs.Answer.{IsProgramOf, job_decks, IsJobRun, card_
 use Rattle.run_laws.specs.Laws.{KnowsSolving}
 use Rattle.lp_definitions.specs.LinearProgram.{LinearProgram, IsLinearProgram}
 use Rattle.run_laws.proofs.Selected.{is_chosen, selected_is_lawful}
-use Rattle.run_functions.specs.Laws.{BuildsNoSweep, IsAsked, HasOneAnswer, MeetsNoEvidence, AnswersOnce, IsOverflow, IsOverflowStop, IsSameOrStop, AreSame, Continues, IsFunction}
+use Rattle.run_functions.specs.Laws.{IsAsked, MeetsNoEvidence, AnswersOnce, IsOverflow, IsOverflowStop, IsSameOrStop, AreSame, Continues, IsFunction}
 use Rattle.run_functions.proofs.Stops.{statement_evidence}
 use Rattle.run_functions.proofs.OneRange.{ranged_once}
+use Rattle.run_functions.proofs.ChangeRow.{swept_once}
 use Rattle.run_functions.proofs.OneAnswer.{path_once, shown_once}
 use Rattle.run_functions.proofs.Steps.{Comes, two_outcomes, steps, GoesOn, same_so_far, goes_on, continues}
 
@@ -320,14 +321,11 @@ lawful_of question sheet s asked = selected_is_lawful sheet.problem asked.choice
 no_change : (question : Question) (sheet : Sheet) (s : Basis) → IsAsked question sheet s → sheet.lp.change ≡ None
 no_change question sheet s asked = subst (λ (p : LinearProgram). p.change ≡ None) (is_chosen sheet.problem asked.choice sheet.lp asked.is_selected).1 refl
 
--- what is asked has one answer, if what a parametric run asks has
-pub answers_once : (builds : Verb ℕ → Bool) → BuildsNoSweep (staged builds) ⊎ ((sweep : Sweep) → HasOneAnswer (staged builds) (OfSweep sweep)) → AnswersOnce (staged builds)
-answers_once builds sweeps = record {
+-- what is asked has one answer
+pub answers_once : (builds : Verb ℕ → Bool) → AnswersOnce (staged builds)
+answers_once builds = record {
   paths = λ limit sheet s a b asked first second. path_once sheet s limit (lawful_of (OfPath limit) sheet s asked) asked.is_basis a b first second;
   solutions = λ mark sheet s a b asked first second. shown_once sheet s a b (lawful_of (OfSolution mark) sheet s asked) asked.is_basis first second;
   ranges = λ sheet s a b asked first second. ranged_once sheet s a b (lawful_of OfRanges sheet s asked) (no_change OfRanges sheet s asked) asked.suits first second;
-  sweeps = sweeps;
+  sweeps = swept_once;
 }
-
-pub answers_without_sweeps : (builds : Verb ℕ → Bool) → builds Paraobj ≡ false → builds Pararhs ≡ false → AnswersOnce (staged builds)
-answers_without_sweeps builds paraobj pararhs = answers_once builds (inl (record { paraobj = paraobj; pararhs = pararhs }))

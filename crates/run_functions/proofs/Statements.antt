@@ -1,5 +1,5 @@
 -- In a state whose setup has a lawful problem and a nonsingular basis, a statement asks its question where it has one answer at most.
-use Rattle.std.proofs.Common.{◌≡◌, ◌⊎◌, inl, inr, ℕ, Bool, true, false, List, refl, sym, ap, subst, ◌∙◌}
+use Rattle.std.proofs.Common.{◌≡◌, ℕ, Bool, true, false, List, refl, sym, ap, subst, ◌∙◌}
 use Rattle.std.specs.Prelude.{Option, Some, None, Result, Ok, Err, option_and_then, if◌then◌else◌}
 use Rattle.exact_values.specs.Rational.{ℚ}
 use Rattle.lp_definitions.specs.LinearProgram.{LinearProgram}
@@ -30,7 +30,7 @@ use Rattle.exact_values.specs.Tests.{lt_ℚ}
 use Rattle.listing_definitions.specs.declared.Mark.TheVariants.{Optimal, Infeasible, Unbounded}
 use Rattle.run_laws.proofs.Selected.{selected_is_lawful}
 use Rattle.run_laws.proofs.Moves.{HasProblem, EndsOptimally, Knows}
-use Rattle.run_functions.specs.Laws.{BuildsNoSweep, IsOfProblem, Suits, HasOneAnswer, AnswersOnce, AsksOnce}
+use Rattle.run_functions.specs.Laws.{IsOfProblem, Suits, HasOneAnswer, AnswersOnce, AsksOnce}
 
 pub record IsOnce (S : Solving) (move : Move) : Type 0 where
   pub once : AsksOnce S move
@@ -192,37 +192,32 @@ module _ (S : Solving) where
         (one (record { changing = changing; from = state.cells.xparam; to = to; limit = state.cells.xiterlim })) lawful knows e is
         (changes_part change of_problem present.problem moved changing c, last_no_less state.cells.xparam last to t))))))
 
-  -- what a verb that is built asks has one answer
-  with_answer : {X Y : Type 0} (verb : Verb ℕ) → S.builds verb ≡ true → (X → S.builds verb ≡ false) → X ⊎ Y → Y
-  with_answer verb built unbuilt (inl none) = let e = unbuilt none in absurd (cc e)
-  with_answer verb built unbuilt (inr one) = one
-
   module _ (answers : AnswersOnce S) where
-    verb_once : (verb : Verb ℕ) (card : ℕ) (state : State) → HasProblem state.setup → Knows state → S.builds verb ≡ true → IsOnce S (verb_move verb card state)
+    verb_once : (verb : Verb ℕ) (card : ℕ) (state : State) → HasProblem state.setup → Knows state → IsOnce S (verb_move verb card state)
     unfolding verb_move
-    verb_once Initialz card state lawful knows built = does _
-    verb_once (Title text) card state lawful knows built = does _
-    verb_once (MoveName cell name) card state lawful knows built = does _
-    verb_once (MoveNumber cell value) card state lawful knows built = does _
-    verb_once (MoveLimit limit) card state lawful knows built = does _
-    verb_once (Mvadr demand position) card state lawful knows built = does _
-    verb_once (Goto position) card state lawful knows built = does _
-    verb_once Convert card state lawful knows built = converts_once card state
-    verb_once Revise card state lawful knows built = revises_once card state
-    verb_once (Setup options) card state lawful knows built = sets_up_once card options state
-    verb_once Primal card state lawful knows built = solves_once card state lawful knows (answers.paths state.cells.xiterlim)
-    verb_once SolutionVerb card state lawful knows built = shows_once card state lawful knows answers.solutions
-    verb_once Ranging card state lawful knows built = ranges_once card state lawful knows answers.ranges
-    verb_once Paraobj card state lawful knows built =
-        sweeps_once card state lawful knows VerbFault.NoChangeRow change_row state.cells.xchrow row_of_problem (with_answer {X = BuildsNoSweep S} {Y = (sweep : Sweep) → HasOneAnswer S (OfSweep sweep)} Paraobj built (λ none. none.paraobj) answers.sweeps)
-    verb_once Pararhs card state lawful knows built =
-        sweeps_once card state lawful knows VerbFault.NoChangeSet change_set state.cells.xchcol set_of_problem (with_answer {X = BuildsNoSweep S} {Y = (sweep : Sweep) → HasOneAnswer S (OfSweep sweep)} Pararhs built (λ none. none.pararhs) answers.sweeps)
-    verb_once Bcdout card state lawful knows built = punches_once card state
-    verb_once Exit card state lawful knows built = does _
+    verb_once Initialz card state lawful knows = does _
+    verb_once (Title text) card state lawful knows = does _
+    verb_once (MoveName cell name) card state lawful knows = does _
+    verb_once (MoveNumber cell value) card state lawful knows = does _
+    verb_once (MoveLimit limit) card state lawful knows = does _
+    verb_once (Mvadr demand position) card state lawful knows = does _
+    verb_once (Goto position) card state lawful knows = does _
+    verb_once Convert card state lawful knows = converts_once card state
+    verb_once Revise card state lawful knows = revises_once card state
+    verb_once (Setup options) card state lawful knows = sets_up_once card options state
+    verb_once Primal card state lawful knows = solves_once card state lawful knows (answers.paths state.cells.xiterlim)
+    verb_once SolutionVerb card state lawful knows = shows_once card state lawful knows answers.solutions
+    verb_once Ranging card state lawful knows = ranges_once card state lawful knows answers.ranges
+    verb_once Paraobj card state lawful knows =
+        sweeps_once card state lawful knows VerbFault.NoChangeRow change_row state.cells.xchrow row_of_problem answers.sweeps
+    verb_once Pararhs card state lawful knows =
+        sweeps_once card state lawful knows VerbFault.NoChangeSet change_set state.cells.xchcol set_of_problem answers.sweeps
+    verb_once Bcdout card state lawful knows = punches_once card state
+    verb_once Exit card state lawful knows = does _
 
-    if_built_once : (verb : Verb ℕ) (card : ℕ) (state : State) → HasProblem state.setup → Knows state → (built : Bool) → S.builds verb ≡ built → IsOnce S (if_built built (verb_move verb card state))
-    if_built_once verb card state lawful knows true is = verb_once verb card state lawful knows is
-    if_built_once verb card state lawful knows false is = does _
+    if_built_once : (verb : Verb ℕ) (card : ℕ) (state : State) → HasProblem state.setup → Knows state → (built : Bool) → IsOnce S (if_built built (verb_move verb card state))
+    if_built_once verb card state lawful knows true = verb_once verb card state lawful knows
+    if_built_once verb card state lawful knows false = does _
 
     pub statement_once : (verb : Verb ℕ) (card : ℕ) (state : State) → HasProblem state.setup → Knows state → AsksOnce S (statement_move S verb card state)
-    statement_once verb card state lawful knows = (if_built_once verb card state lawful knows (S.builds verb) refl).once
+    statement_once verb card state lawful knows = (if_built_once verb card state lawful knows (S.builds verb)).once

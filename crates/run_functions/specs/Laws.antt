@@ -2,7 +2,7 @@
 -- promises it.
 --     IsAsked question sheet s     how a statement of a run asks a question
 --     HasOneAnswer S question      where it is asked so, it has one answer at most
---     AnswersOnce S                so has each question of the verbs that are built
+--     AnswersOnce S                so has each question
 --     AsksOnce S move              so has the question that a move asks where it asks it
 --     IsSameOrStop a b             two outcomes are the same, or one is a stop for an overflow
 --     HasEvidence S move           the evidence of an operation of a move holds
@@ -19,7 +19,7 @@ use Rattle.problem_definitions.specs.Problem.{Problem, has_free_row, has_group}
 use Rattle.problem_definitions.specs.Valid.{IsProblem}
 use Rattle.selection_definitions.specs.Choice.{Choice}
 use Rattle.selection_definitions.specs.Selection.{selected}
-use Rattle.control_definitions.specs.Program.{Verb, Paraobj, Pararhs, Statement, Program}
+use Rattle.control_definitions.specs.Program.{Verb, Statement, Program}
 use Rattle.listing_definitions.specs.declared.Mark.{Mark}
 use Rattle.listing_definitions.specs.Report.{SolutionLines, RangeLines, Report}
 use Rattle.listing_definitions.specs.Ending.{Place, Overflow, Ending, OverflowStop}
@@ -62,18 +62,12 @@ abbrev pub HasOneAnswer : Solving → Question → Type 0
 HasOneAnswer S question = (sheet : Sheet) (s : Basis) (a b : Answer question) →
     IsAsked question sheet s → IsRight S question sheet s a → IsRight S question sheet s b → a ≡ b
 
--- there are no parametric runs
-pub record BuildsNoSweep (S : Solving) : Type 0 where
-  pub paraobj : S.builds Paraobj ≡ false
-  pub pararhs : S.builds Pararhs ≡ false
-
--- So it is with each question that PRIMAL, SOLUTION, RANGE, PARAOBJ and PARARHS ask; what the last
--- two ask doesn't count while they aren't built.
+-- So it is with each question that PRIMAL, SOLUTION, RANGE, PARAOBJ and PARARHS ask.
 pub record AnswersOnce (S : Solving) : Type 0 where
   pub paths : (limit : ℕ) → HasOneAnswer S (OfPath limit)
   pub solutions : (mark : Mark) → HasOneAnswer S (OfSolution mark)
   pub ranges : HasOneAnswer S OfRanges
-  pub sweeps : BuildsNoSweep S ⊎ ((sweep : Sweep) → HasOneAnswer S (OfSweep sweep))
+  pub sweeps : (sweep : Sweep) → HasOneAnswer S (OfSweep sweep)
 
 -- If a move asks a question, this has one right answer at most, about the linear program and at the
 -- basis at which it is asked.
@@ -165,17 +159,13 @@ pub record AnswerLaws : Type 0 where
       sheet.lp.change ≡ None → IsOptimalBasis sheet.lp s →
       IsRanged sheet s a → IsRanged sheet s b → a ≡ b
 
--- Two outcomes of a move that asks its question where it has one answer are the same, or one of
--- them is a stop for an overflow. And whichever verbs are built, a run is a function: while there
--- is no parametric run; or where the question of one has one answer too.
+-- Two outcomes of a move that asks its question where it has one answer at most are the same, or
+-- one of them is a stop for an overflow. Where a statement asks a question, it has one answer at
+-- most; and so, whichever verbs are built, a run is a function.
 pub record RunFunctions : Type 0 where
   pub answers : AnswerLaws
   pub moves : (builds : Verb ℕ → Bool) (card : ℕ) (move : Move) (a b : Outcome) →
       AsksOnce (staged builds) move → Gives (staged builds) card move a →
       Gives (staged builds) card move b → IsSameOrStop a b
-  pub answered : (builds : Verb ℕ → Bool) → builds Paraobj ≡ false → builds Pararhs ≡ false →
-      AnswersOnce (staged builds)
-  pub runs : (builds : Verb ℕ → Bool) → builds Paraobj ≡ false → builds Pararhs ≡ false →
-      IsFunction (staged builds)
-  pub swept : (builds : Verb ℕ → Bool) →
-      ((sweep : Sweep) → HasOneAnswer (staged builds) (OfSweep sweep)) → IsFunction (staged builds)
+  pub answered : (builds : Verb ℕ → Bool) → AnswersOnce (staged builds)
+  pub runs : (builds : Verb ℕ → Bool) → IsFunction (staged builds)
