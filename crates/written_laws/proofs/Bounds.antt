@@ -1,6 +1,6 @@
 -- The cards of the bounds are accepted, and add those bounds.
-use Rattle.std.proofs.Common.{◌≡◌, ℕ, ◌+◌, ◌≤◌, Bool, true, false, cond, not, ◌&&◌, ◌||◌, List, [], ◌∷◌, ◌++◌, Option, Some, None, map, is_some, refl, ap, ap₂, sym, ◌∙◌, subst, arith, lit≤}
-use Rattle.std.specs.List.{AllByRecursion, IsDistinct, list_any, flat_map}
+use Rattle.std.proofs.Common.{◌≡◌, ℕ, Bool, true, false, cond, not, ◌&&◌, ◌||◌, List, [], ◌∷◌, ◌++◌, Option, Some, None, map, is_some, refl, ap, ap₂, sym, ◌∙◌, subst, lit≤}
+use Rattle.std.specs.List.{AllByRecursion, IsDistinct, flat_map}
 use Rattle.std.specs.Option.{IfSome, option_map}
 use Rattle.card_definitions.specs.Words.{named, is_empty, without_leading, ◌⟹◌}
 use Rattle.card_definitions.specs.Cards.{is_blank}
@@ -18,7 +18,7 @@ use Rattle.problem_definitions.proofs.Groups.{has_group-names}
 use Rattle.problem_definitions.proofs.Lawful.{IsLabel, AreGroups, AreLawfulBounds, AreBoundSets, clash_by_name}
 use Rattle.deck_definitions.specs.declared.DeckFaultKind.TheVariants.{UnknownColumn, BoundTwice, EmptyName}
 use Rattle.deck_definitions.specs.declared.Section.TheVariants.{Bounds}
-use Rattle.deck_definitions.specs.DataCards.{bound_kinds, bound_of, bound_group}
+use Rattle.deck_definitions.specs.DataCards.{bound_kinds, bound_of}
 use Rattle.deck_definitions.specs.Tests.{bounds_fault, bound_fault, is_bound_already, bound_value_fault, value_fault, number_fault_from, filled_from_5}
 use Rattle.deck_definitions.specs.Written.{data_card, bound_kind_text, bound_text}
 use Rattle.deck_definitions.proofs.Steps.{with_card, with_group}
@@ -143,12 +143,19 @@ bound-fine seen taken name bound may items = type-known seen bound.kind name bou
     (not (has_group seen.columns bound.column) ⟹ UnknownColumn) ∷
     (is_bound_already (items_of name seen.bounds) bound.column bound.kind ⟹ BoundTwice) ∷
     bound_value_fault (bound_fields name bound) bound.kind ∷
-    filled_from_5 (bound_fields name bound) ∷ [])
-    (not_found (is_empty bound.column) EmptyName may.label.present,
-    (not_found (not (has_group seen.columns bound.column)) UnknownColumn (ap not may.there),
-    (not_found (is_bound_already (items_of name seen.bounds) bound.column bound.kind) BoundTwice (ap (λ list. is_bound_already list bound.column bound.kind) items ∙ may.new),
-    (ap (λ text. cond (takes_value bound.kind) (value_fault 25 text) None) (text-is bound) ∙ value-fine bound.kind bound.value may.valued may.value,
-    (refl, tt)))))
+    filled_from_5 (bound_fields name bound) ∷ []) (
+      not_found (is_empty bound.column) EmptyName may.label.present,
+      (
+        not_found (not (has_group seen.columns bound.column)) UnknownColumn (ap not may.there),
+        (
+          not_found (is_bound_already (items_of name seen.bounds) bound.column bound.kind) BoundTwice (ap (λ list. is_bound_already list bound.column bound.kind) items ∙ may.new),
+          (
+            ap (λ text. cond (takes_value bound.kind) (value_fault 25 text) None) (text-is bound) ∙ value-fine bound.kind bound.value may.valued may.value,
+            (refl, tt),
+          ),
+        ),
+      ),
+    )
 
 module _ (rows : List Row) (columns rhs ranges : List (Group (Entry Name))) (labels : AllByRecursion IsLabel (group_names columns)) (whole : List (Group (Bound Name))) where
   abbrev pub with_bounds : List (Group (Bound Name)) → Problem Name

@@ -3,11 +3,10 @@ use Rattle.std.proofs.Common.{◌≡◌, ℕ, zero, suc, ◌+◌, ◌-◌, ◌�
 use Rattle.std.specs.List.{list_all, slice_get}
 use Rattle.std.specs.Prelude.{codes}
 use Rattle.std.proofs.lemmas.List.{append_assoc, length-append, length-replicate}
-use Rattle.std.proofs.Math.Seq.{drop-append_seam}
 use Rattle.std.proofs.Math.ListN.{drop_of_length-le}
 use Rattle.card_definitions.specs.Words.{without_trailing, without_leading, padded, is_empty}
 use Rattle.card_definitions.specs.Cards.{is_blank, is_skipped}
-use Rattle.card_definitions.specs.Fields.{Fixed, Reading, reading_of, columns, is_blank_column, gaps_are_blank}
+use Rattle.card_definitions.specs.Fields.{Fixed, Reading, reading_of, columns, gaps_are_blank}
 use Rattle.card_definitions.proofs.Trailing.{without_trailing-cons, trailing_split}
 use Rattle.deck_definitions.specs.Sections.{is_section_card}
 use Rattle.deck_definitions.specs.Written.{data_card}

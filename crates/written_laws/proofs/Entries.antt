@@ -1,6 +1,6 @@
 -- The cards of the columns, the right-hand sides and the ranges are accepted, and add their entries.
-use Rattle.std.proofs.Common.{◌≡◌, ℕ, zero, suc, ◌+◌, ◌-◌, ◌≤◌, Bool, true, false, cond, not, ◌&&◌, ◌||◌, List, [], ◌∷◌, ◌++◌, Option, Some, None, length, map, take, nat_le, refl, ap, sym, ◌∙◌, subst, arith}
-use Rattle.std.specs.List.{AllByRecursion, IsDistinct, list_any, flat_map, sum_by}
+use Rattle.std.proofs.Common.{◌≡◌, ℕ, zero, suc, ◌+◌, ◌-◌, ◌≤◌, Bool, true, false, not, ◌&&◌, ◌||◌, List, [], ◌∷◌, ◌++◌, Some, None, length, map, take, nat_le, refl, ap, sym, ◌∙◌, subst, arith}
+use Rattle.std.specs.List.{AllByRecursion, IsDistinct, flat_map, sum_by}
 use Rattle.std.specs.Option.{option_or}
 use Rattle.std.proofs.lemmas.List.{append-nil, map-append, length-append}
 use Rattle.std.proofs.lemmas.List.Sums.{sum_by-append, sum_by-cons}
@@ -9,7 +9,7 @@ use Rattle.card_definitions.specs.Fields.{Reading}
 use Rattle.card_definitions.specs.Numbers.{decimal_of}
 use Rattle.problem_definitions.specs.declared.TheConstants.{MAX_COLUMNS, MAX_ENTRIES}
 use Rattle.problem_definitions.specs.Names.{Name, same, has_name, marker}
-use Rattle.problem_definitions.specs.Problem.{Row, Entry, Bound, Group, Problem, group_names, entry_count, has_row, has_free_row, has_entry, has_group}
+use Rattle.problem_definitions.specs.Problem.{Row, Entry, Group, Problem, group_names, entry_count, has_row, has_free_row, has_entry, has_group}
 use Rattle.problem_definitions.specs.Groups.{items_of, in_set}
 use Rattle.problem_definitions.specs.Valid.{IsName, IsDecimal}
 use Rattle.problem_definitions.proofs.Names.{row_is_named}
@@ -19,10 +19,9 @@ use Rattle.deck_definitions.specs.declared.Section.{Section}
 use Rattle.deck_definitions.specs.declared.Section.TheVariants.{Columns, Rhs, Ranges}
 use Rattle.deck_definitions.specs.Sections.{is_section}
 use Rattle.deck_definitions.specs.DataCards.{Pair, pairs_of}
-use Rattle.deck_definitions.specs.Tests.{kind_filled, marks, all_but_last, columns_fault, set_fault, pair_row_fault, pair_fault, pairs_fault, value_fault, number_fault_from}
+use Rattle.deck_definitions.specs.Tests.{kind_filled, marks, all_but_last, columns_fault, pair_row_fault, pairs_fault, value_fault, number_fault_from}
 use Rattle.deck_definitions.specs.Written.{data_card}
 use Rattle.deck_definitions.proofs.Pairs.{pairs_fault-cons}
-use Rattle.deck_definitions.proofs.WrittenCards.{FitsField}
 use Rattle.std.specs.Option.{option_map}
 use Rattle.written_laws.proofs.Cards.{IsWritten, fields, written-card}
 use Rattle.written_laws.proofs.Accepts.{Accepts, accepts-data}
@@ -73,17 +72,25 @@ pair-fine seen section taken count name entry may limited few =
     pair_row_fault seen section pair.row ∷
     (has_entry taken pair.row ⟹ DuplicateEntry) ∷
     value_fault pair.column pair.value ∷
-    (is_section Columns section && nat_le MAX_ENTRIES count ⟹ TooManyEntries) ∷ [])
-    (none_found (
-    (is_empty pair.row ⟹ EmptyName) ∷
-    (not (has_row seen.rows pair.row) ⟹ UnknownRow) ∷
-    (is_section Ranges section && has_free_row seen.rows pair.row ⟹ RangeOnFree) ∷ [])
-    (not_found (is_empty pair.row) EmptyName may.label.present,
-    (not_found (not (has_row seen.rows pair.row)) UnknownRow (ap not may.there),
-    (not_found (is_section Ranges section && has_free_row seen.rows pair.row) RangeOnFree limited, tt))),
-    (not_found (has_entry taken pair.row) DuplicateEntry may.new,
-    (ap (option_map (number_fault_from 25)) ((reads-as entry.value may.value).fine),
-    (not_found (is_section Columns section && nat_le MAX_ENTRIES count) TooManyEntries few, tt)))))
+    (is_section Columns section && nat_le MAX_ENTRIES count ⟹ TooManyEntries) ∷ []) (
+      none_found (
+          (is_empty pair.row ⟹ EmptyName) ∷
+          (not (has_row seen.rows pair.row) ⟹ UnknownRow) ∷
+          (is_section Ranges section && has_free_row seen.rows pair.row ⟹ RangeOnFree) ∷ []) (
+            not_found (is_empty pair.row) EmptyName may.label.present,
+            (
+              not_found (not (has_row seen.rows pair.row)) UnknownRow (ap not may.there),
+              (not_found (is_section Ranges section && has_free_row seen.rows pair.row) RangeOnFree limited, tt),
+            ),
+          ),
+      (
+        not_found (has_entry taken pair.row) DuplicateEntry may.new,
+        (
+          ap (option_map (number_fault_from 25)) ((reads-as entry.value may.value).fine),
+          (not_found (is_section Columns section && nat_le MAX_ENTRIES count) TooManyEntries few, tt),
+        ),
+      ),
+    ))
   where
     pair : Pair
     pair = record { row = entry.row; value = entry.value.text; column = 25 }
@@ -98,7 +105,6 @@ group-at : (P : Group (Entry Name) → Type 0) (done : List (Group (Entry Name))
 group-at P done group after whole e each = all-at P done group after (subst (AllByRecursion P) (sym e) each)
 
 module _ (rows : List Row) (labels : AllByRecursion IsLabel (map (λ row. row.name) rows)) where
-
   -- ---- columns
 
   module _ (whole : List (Group (Entry Name))) where
@@ -172,14 +178,26 @@ module _ (rows : List Row) (labels : AllByRecursion IsLabel (map (λ row. row.na
             (is_empty name ⟹ EmptyName) ∷
             (has_group (all_but_last now) name ⟹ ColumnSplit) ∷
             (not (has_group now name) && nat_le MAX_COLUMNS (length now) ⟹ TooManyColumns) ∷
-            pairs_fault seen Columns (items_of name now) (entry_count seen) (pairs_of (entry_fields name item)) ∷ [])
-            (refl,
-            (not_found (same marker item.row || same marker []) Marker (ap (λ b. b || same marker []) unmarked),
-            (not_found (is_empty name) EmptyName present,
-            (not_found (has_group (all_but_last now) name) ColumnSplit (together done name taken absent),
-            (not_found (not (has_group now name) && nat_le MAX_COLUMNS (length now)) TooManyColumns (not-many done name taken absent room),
-            (ap (λ list. pairs_fault seen Columns list (entry_count seen) (pairs_of (entry_fields name item))) (items-taken done name taken absent)
-            ∙ pair-fine seen Columns taken (entry_count seen) name item may refl (below MAX_ENTRIES (entry_count seen) entry_room), tt))))))
+            pairs_fault seen Columns (items_of name now) (entry_count seen) (pairs_of (entry_fields name item)) ∷ []) (
+              refl,
+              (
+                not_found (same marker item.row || same marker []) Marker (ap (λ b. b || same marker []) unmarked),
+                (
+                  not_found (is_empty name) EmptyName present,
+                  (
+                    not_found (has_group (all_but_last now) name) ColumnSplit (together done name taken absent),
+                    (
+                      not_found (not (has_group now name) && nat_le MAX_COLUMNS (length now)) TooManyColumns (not-many done name taken absent room),
+                      (
+                        ap (λ list. pairs_fault seen Columns list (entry_count seen) (pairs_of (entry_fields name item))) (items-taken done name taken absent)
+                            ∙ pair-fine seen Columns taken (entry_count seen) name item may refl (below MAX_ENTRIES (entry_count seen) entry_room),
+                        tt,
+                      ),
+                    ),
+                  ),
+                ),
+              ),
+            )
 
     -- The cards of columns that each have an entry.
     pub columns-accepted : AreGroups IsLabel (AreColumnEntries rows) whole → AllByRecursion (λ (column : Group (Entry Name)). is_empty column.items ≡ false) whole → length whole ≤ MAX_COLUMNS → size whole ≤ MAX_ENTRIES
@@ -201,9 +219,14 @@ module _ (rows : List Row) (labels : AllByRecursion IsLabel (map (λ row. row.na
         let now = groups_at done group.name taken in
         subst (λ p. Accepts (Some Rhs) (with_rhs now) (entry_card group.name item ∷ []) (Some Rhs) p) (adds-entry with_rhs now group.name item may.value)
         (accepts-data Rhs (with_rhs now) (entry_card group.name item) (entry_fields group.name item) (written-entry group.name item is may.label may.value)
-        (none_found (kind_filled (entry_fields group.name item) ∷ pairs_fault (with_rhs now) Rhs (items_of group.name now) 0 (pairs_of (entry_fields group.name item)) ∷ [])
-        (refl, (ap (λ list. pairs_fault (with_rhs now) Rhs list 0 (pairs_of (entry_fields group.name item))) (items-taken done group.name taken absent)
-        ∙ pair-fine (with_rhs now) Rhs taken 0 group.name item may refl refl, tt))))
+        (none_found (kind_filled (entry_fields group.name item) ∷ pairs_fault (with_rhs now) Rhs (items_of group.name now) 0 (pairs_of (entry_fields group.name item)) ∷ []) (
+          refl,
+          (
+            ap (λ list. pairs_fault (with_rhs now) Rhs list 0 (pairs_of (entry_fields group.name item))) (items-taken done group.name taken absent)
+                ∙ pair-fine (with_rhs now) Rhs taken 0 group.name item may refl refl,
+            tt,
+          ),
+        )))
 
     pub rhs-accepted : AreGroups IsName (AreRightHandSides rows) whole → Accepts (Some Rhs) (with_rhs []) (flat_map (λ (set : Group (Entry Name)). map (entry_card set.name) set.items) whole) (Some Rhs) (with_rhs whole)
     rhs-accepted lawful = groups-accepted Rhs with_rhs entry_card whole (rhs-add lawful) lawful.distinct [] whole refl (filled whole lawful.items)
@@ -228,9 +251,14 @@ module _ (rows : List Row) (labels : AllByRecursion IsLabel (map (λ row. row.na
         let now = groups_at done group.name taken in
         subst (λ p. Accepts (Some Ranges) (with_ranges now) (entry_card group.name item ∷ []) (Some Ranges) p) (adds-entry with_ranges now group.name item may.value)
         (accepts-data Ranges (with_ranges now) (entry_card group.name item) (entry_fields group.name item) (written-entry group.name item is may.label may.value)
-        (none_found (kind_filled (entry_fields group.name item) ∷ pairs_fault (with_ranges now) Ranges (items_of group.name now) 0 (pairs_of (entry_fields group.name item)) ∷ [])
-        (refl, (ap (λ list. pairs_fault (with_ranges now) Ranges list 0 (pairs_of (entry_fields group.name item))) (items-taken done group.name taken absent)
-        ∙ pair-fine (with_ranges now) Ranges taken 0 group.name item may limited refl, tt))))
+        (none_found (kind_filled (entry_fields group.name item) ∷ pairs_fault (with_ranges now) Ranges (items_of group.name now) 0 (pairs_of (entry_fields group.name item)) ∷ []) (
+          refl,
+          (
+            ap (λ list. pairs_fault (with_ranges now) Ranges list 0 (pairs_of (entry_fields group.name item))) (items-taken done group.name taken absent)
+                ∙ pair-fine (with_ranges now) Ranges taken 0 group.name item may limited refl,
+            tt,
+          ),
+        )))
 
     pub ranges-accepted : AreGroups IsName (AreRanges rows) whole → Accepts (Some Ranges) (with_ranges []) (flat_map (λ (set : Group (Entry Name)). map (entry_card set.name) set.items) whole) (Some Ranges) (with_ranges whole)
     ranges-accepted lawful = groups-accepted Ranges with_ranges entry_card whole (ranges-add lawful) lawful.distinct [] whole refl (filled whole lawful.items)

@@ -1,10 +1,10 @@
 -- What lawful names, numbers and distinct lists give a written card.
-use Rattle.std.proofs.Common.{◌≡◌, ℕ, ◌+◌, ◌≤◌, Bool, true, false, cond, ◌||◌, List, [], ◌∷◌, ◌++◌, Option, Some, None, Result, Ok, Err, length, map, nat_le, refl, ap, sym, ◌∙◌, subst, arith}
+use Rattle.std.proofs.Common.{◌≡◌, ℕ, ◌+◌, ◌≤◌, Bool, true, false, ◌||◌, List, [], ◌∷◌, ◌++◌, Option, Some, None, Result, Ok, Err, map, nat_le, refl, ap, sym, ◌∙◌, subst, arith}
 use Rattle.std.specs.List.{AllByRecursion, IsDistinct}
 use Rattle.std.specs.Option.{option_or}
 use Rattle.std.proofs.lemmas.Bool.{leb-true}
 use Rattle.card_definitions.specs.declared.NumberFault.{NumberFault}
-use Rattle.card_definitions.specs.Words.{without_trailing, without_leading, is_empty, first_fault, unless, ◌⟹◌}
+use Rattle.card_definitions.specs.Words.{without_trailing, without_leading, first_fault, unless, ◌⟹◌}
 use Rattle.card_definitions.specs.Cards.{is_blank}
 use Rattle.card_definitions.specs.Numbers.{Decimal, number_fault, number_of, decimal_of}
 use Rattle.card_definitions.proofs.Trailing.{trimmed_twice}

@@ -6,3 +6,4 @@ pub mod Sets
 pub mod Entries
 pub mod Bounds
 pub mod Numbers
+pub mod Whole

@@ -3,7 +3,7 @@ use Rattle.std.proofs.Common.{◌≡◌, ℕ, List, [], ◌∷◌, length, map, 
 use Rattle.std.specs.List.{AllByRecursion, IsDistinct}
 use Rattle.std.proofs.lemmas.List.{length-map}
 use Rattle.problem_definitions.specs.Names.{Name, same, number_in, name_at}
-use Rattle.problem_definitions.specs.Problem.{Row, Entry, Bound, Group, Problem, row_names, group_names}
+use Rattle.problem_definitions.specs.Problem.{Entry, Bound, Group, Problem, row_names, group_names}
 use Rattle.problem_definitions.specs.Numbering.{entry_by, bound_by, group_by, numbered, by_names}
 use Rattle.problem_definitions.specs.Valid.{IsNumberOf, AreEntries, AreBounds, IsProblem}
 use Rattle.problem_definitions.proofs.Groups.{map-map}

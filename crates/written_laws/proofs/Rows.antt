@@ -1,8 +1,8 @@
 -- The cards of the rows are accepted, and add those rows.
-use Rattle.std.proofs.Common.{◌≡◌, ℕ, ◌+◌, ◌≤◌, Bool, true, false, ◌&&◌, List, [], ◌∷◌, ◌++◌, Option, Some, None, length, map, nat_le, refl, ap, sym, ◌∙◌, subst, arith, lit≤}
+use Rattle.std.proofs.Common.{◌≡◌, ℕ, ◌+◌, ◌≤◌, Bool, true, false, ◌&&◌, List, [], ◌∷◌, ◌++◌, Some, None, length, map, nat_le, refl, ap, sym, ◌∙◌, subst, arith, lit≤}
 use Rattle.std.specs.List.{AllByRecursion, IsDistinct}
 use Rattle.std.proofs.lemmas.List.{append_assoc, append-nil, map-append, length-append}
-use Rattle.card_definitions.specs.Words.{named, is_empty, without_leading, without_trailing, ◌⟹◌}
+use Rattle.card_definitions.specs.Words.{named, is_empty, without_leading, ◌⟹◌}
 use Rattle.card_definitions.specs.Cards.{is_blank}
 use Rattle.card_definitions.specs.Fields.{Reading}
 use Rattle.std.specs.Prelude.{is_none}
@@ -17,10 +17,10 @@ use Rattle.deck_definitions.specs.declared.DeckFaultKind.TheVariants.{BadRowType
 use Rattle.deck_definitions.specs.declared.Section.TheVariants.{Rows}
 use Rattle.deck_definitions.specs.DataCards.{row_kinds}
 use Rattle.deck_definitions.specs.Tests.{combination_kinds, rows_fault, filled_from_3}
-use Rattle.deck_definitions.specs.Written.{row_kind_text, row_card, data_card}
+use Rattle.deck_definitions.specs.Written.{row_kind_text, row_card}
 use Rattle.deck_definitions.proofs.Steps.{with_card}
 use Rattle.deck_definitions.proofs.WrittenCards.{FitsField}
-use Rattle.written_laws.proofs.Cards.{IsWritten, fields, written-card}
+use Rattle.written_laws.proofs.Cards.{fields, written-card}
 use Rattle.written_laws.proofs.Accepts.{Accepts, accepts-none, accepts-then, accepts-data}
 use Rattle.written_laws.proofs.Facts.{none_found, not_found, below, apart-before, absent-before, fits-name}
 
@@ -58,13 +58,22 @@ rows_fine seen row some new few = none_found (
     (is_empty row.name ⟹ EmptyName) ∷
     (has_row seen.rows row.name ⟹ DuplicateRow) ∷
     (nat_le MAX_ROWS (length seen.rows) ⟹ TooManyRows) ∷
-    filled_from_3 (row_fields row) ∷ [])
-    (not_found (has_name combination_kinds (row_kind_text row.kind)) CombinationRow (no_combination row.kind),
-    (not_found (is_none (named row_kinds (row_kind_text row.kind))) BadRowType (ap is_none (kind-known row.kind)),
-    (not_found (is_empty row.name) EmptyName some,
-    (not_found (has_row seen.rows row.name) DuplicateRow new,
-    (not_found (nat_le MAX_ROWS (length seen.rows)) TooManyRows (below MAX_ROWS (length seen.rows) few),
-    (refl, tt))))))
+    filled_from_3 (row_fields row) ∷ []) (
+      not_found (has_name combination_kinds (row_kind_text row.kind)) CombinationRow (no_combination row.kind),
+      (
+        not_found (is_none (named row_kinds (row_kind_text row.kind))) BadRowType (ap is_none (kind-known row.kind)),
+        (
+          not_found (is_empty row.name) EmptyName some,
+          (
+            not_found (has_row seen.rows row.name) DuplicateRow new,
+            (
+              not_found (nat_le MAX_ROWS (length seen.rows)) TooManyRows (below MAX_ROWS (length seen.rows) few),
+              (refl, tt),
+            ),
+          ),
+        ),
+      ),
+    )
 
 -- one row
 row-accepted : (seen : Problem Name) (row : Row) → IsLabel row.name → has_row seen.rows row.name ≡ false → length seen.rows + 1 ≤ MAX_ROWS

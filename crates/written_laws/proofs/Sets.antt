@@ -1,9 +1,9 @@
 -- The cards of the groups of a section are accepted, and add those groups, where each card does.
-use Rattle.std.proofs.Common.{◌≡◌, ℕ, Bool, true, false, cond, ◌||◌, List, [], ◌∷◌, ◌++◌, Option, Some, None, map, refl, ap, ap₂, sym, ◌∙◌, subst}
-use Rattle.std.specs.List.{AllByRecursion, IsDistinct, list_any, flat_map}
+use Rattle.std.proofs.Common.{◌≡◌, ℕ, Bool, true, false, cond, ◌||◌, List, [], ◌∷◌, ◌++◌, Some, map, refl, ap, ap₂, sym, ◌∙◌, subst}
+use Rattle.std.specs.List.{AllByRecursion, IsDistinct, flat_map}
 use Rattle.std.proofs.lemmas.List.{append_assoc, append-nil, map-append}
 use Rattle.card_definitions.specs.Words.{is_empty}
-use Rattle.problem_definitions.specs.Names.{Name, same, has_name}
+use Rattle.problem_definitions.specs.Names.{Name, same}
 use Rattle.problem_definitions.specs.Problem.{Group, Problem, group_names, has_group}
 use Rattle.problem_definitions.specs.Groups.{items_of, in_group, in_set}
 use Rattle.problem_definitions.proofs.Names.{same_refl}

@@ -1,5 +1,5 @@
 -- The law of written decks, as the function of src/lib.rt promises it.
-use Rattle.std.specs.Prelude.{◌≡◌, ℕ, Option, None, Ok, false}
+use Rattle.std.specs.Prelude.{◌≡◌, ℕ, None, Ok, false}
 use Rattle.std.specs.List.{All}
 use Rattle.card_definitions.specs.Words.{is_empty}
 use Rattle.card_definitions.specs.Cards.{numbered_from}
