@@ -1,5 +1,5 @@
 // The sink that makes the punch file.
-ghost use Rattle.std.specs.Prelude.{◌≡◌, ◌≤◌, length, take, None, IfOk, IfSome, is_ok, if◌then◌else◌};
+ghost use Rattle.std.specs.Prelude.{◌≡◌, ◌≤◌, length, take, None, IfOk, IfSome, IsSome, OnOk, is_ok, if◌then◌else◌};
 ghost use Rattle.std.specs.Io.{WritesAtMost};
 ghost use Rattle.std.specs.Io.KnownBytes.{WriteAppends};
 
@@ -19,10 +19,11 @@ pub struct PunchFile<R: Files> {
 }
 
 impl<R: Files> PunchFile<R> {
-    ghost use Rattle.job_devices.specs.Punch.{punch_faults};
+    ghost use Rattle.job_devices.specs.Punch.{punch_file, punch_faults};
 
     /// A sink that has created no file yet, with no fault.
     pub fn new(files: R) -> PunchFile<R>
+        ensures file { punch_file result ≡ None }
         ensures faults { punch_faults result ≡ 0 }
     {
         PunchFile {
@@ -36,6 +37,8 @@ impl<R: Files> PunchFile<R> {
     fn take(&mut self, piece: &[u8]) -> Option<usize>
         ensures bound { IfSome result (λ taken. taken ≤ length piece.now) }
         ensures some { IfSome result (λ taken. taken ≡ 0 → length piece.now ≡ 0) }
+        ensures file { IsSome result → IsSome (punch_file self.new) }
+        ensures kept { IsSome (punch_file self.old) → IsSome (punch_file self.new) }
         ensures faults { punch_faults self.new ≡ punch_faults self.old }
     {
         if self.file.is_none() {
@@ -51,7 +54,7 @@ impl<R: Files> PunchFile<R> {
 
 impl<R: Files> Sink for PunchFile<R> {
     ghost use Rattle.job_devices.specs.Causes.{HasWriteCause, next_count};
-    ghost use Rattle.job_devices.specs.Punch.{punch_faults};
+    ghost use Rattle.job_devices.specs.Punch.{punch_file, punch_faults};
 
     ghost written = { λ _. None };
 
@@ -64,6 +67,10 @@ impl<R: Files> Sink for PunchFile<R> {
         ensures some { IfOk result (λ taken. taken ≡ 0 → length piece.now ≡ 0) }
         ensures bytes { WriteAppends None None result piece.now }
         ensures cause { HasWriteCause (punch_faults self.old) (punch_faults self.new) 0 0 result }
+
+        // A byte is taken only where the file is there, and once created it stays.
+        ensures file { OnOk result (IsSome (punch_file self.new)) }
+        ensures kept { IsSome (punch_file self.old) → IsSome (punch_file self.new) }
         ensures count { punch_faults self.new ≡ (if is_ok result then punch_faults self.old else next_count (punch_faults self.old)) }
     {
         match self.take(piece) {
