@@ -1,5 +1,6 @@
 // The sink that makes the punch file.
 ghost use Rattle.std.specs.Prelude.{◌≡◌, ◌≤◌, length, take, None, IfOk, IfSome, IsSome, OnOk, is_ok, if◌then◌else◌};
+ghost use Rattle.std.specs.Result.{result_ok};
 ghost use Rattle.std.specs.Io.{WritesAtMost};
 ghost use Rattle.std.specs.Io.KnownBytes.{WriteAppends};
 
@@ -19,7 +20,7 @@ pub struct PunchFile<R: Files> {
 }
 
 impl<R: Files> PunchFile<R> {
-    ghost use Rattle.job_devices.specs.Punch.{punch_file, punch_faults};
+    ghost use Rattle.job_devices.specs.Punch.{punch_file, punch_faults, FileTakes};
 
     /// A sink that has created no file yet, with no fault.
     pub fn new(files: R) -> PunchFile<R>
@@ -39,6 +40,7 @@ impl<R: Files> PunchFile<R> {
         ensures some { IfSome result (λ taken. taken ≡ 0 → length piece.now ≡ 0) }
         ensures file { IsSome result → IsSome (punch_file self.new) }
         ensures kept { IsSome (punch_file self.old) → IsSome (punch_file self.new) }
+        ensures bytes { FileTakes R.File.contents (punch_file self.old) (punch_file self.new) result piece.now }
         ensures faults { punch_faults self.new ≡ punch_faults self.old }
     {
         if self.file.is_none() {
@@ -54,7 +56,7 @@ impl<R: Files> PunchFile<R> {
 
 impl<R: Files> Sink for PunchFile<R> {
     ghost use Rattle.job_devices.specs.Causes.{HasWriteCause, next_count};
-    ghost use Rattle.job_devices.specs.Punch.{punch_file, punch_faults};
+    ghost use Rattle.job_devices.specs.Punch.{punch_file, punch_faults, FileTakes};
 
     ghost written = { λ _. None };
 
@@ -71,6 +73,7 @@ impl<R: Files> Sink for PunchFile<R> {
         // A byte is taken only where the file is there, and once created it stays.
         ensures file { OnOk result (IsSome (punch_file self.new)) }
         ensures kept { IsSome (punch_file self.old) → IsSome (punch_file self.new) }
+        ensures writer { FileTakes R.File.contents (punch_file self.old) (punch_file self.new) (result_ok result) piece.now }
         ensures count { punch_faults self.new ≡ (if is_ok result then punch_faults self.old else next_count (punch_faults self.old)) }
     {
         match self.take(piece) {
