@@ -1,0 +1,18 @@
+-- The law of written decks, as the function of src/lib.rt promises it.
+use Rattle.std.specs.Prelude.{◌≡◌, ℕ, None, Ok, false}
+use Rattle.std.specs.List.{All}
+use Rattle.card_definitions.specs.Words.{is_empty}
+use Rattle.card_definitions.specs.Cards.{numbered_from}
+use Rattle.problem_definitions.specs.Problem.{Problem}
+use Rattle.problem_definitions.specs.Numbering.{by_names}
+use Rattle.problem_definitions.specs.Valid.{IsProblem}
+use Rattle.deck_definitions.specs.Conversion.{conversion}
+use Rattle.deck_definitions.specs.Written.{written}
+
+-- The deck that is written for a lawful problem in which each column has an entry converts to that problem, whatever
+-- the number of its first card in a job.
+abbrev pub ConvertsBack : Type 0
+ConvertsBack =
+    (problem : Problem ℕ) (first : ℕ) →
+    IsProblem problem → All (λ column. is_empty column.items ≡ false) problem.columns →
+    conversion (numbered_from first (written (by_names problem))) None ≡ Ok problem
