@@ -61,7 +61,7 @@ impl Model for Bounds {
 }
 
 // Whether a bound of this type touches the upper end.
-fn touches_top(kind: BoundKind) -> bool
+pub fn touches_top(kind: BoundKind) -> bool
     ensures { result ≡ touches_upper kind }
 {
     match kind {
@@ -75,7 +75,7 @@ fn touches_top(kind: BoundKind) -> bool
 }
 
 // Whether a bound of this type touches the lower end.
-fn touches_bottom(kind: BoundKind) -> bool
+pub fn touches_bottom(kind: BoundKind) -> bool
     ensures { result ≡ touches_lower kind }
 {
     match kind {

@@ -22,7 +22,7 @@ use problem_definitions::{MAX_ROWS, RowKind};
 use std::alloc::Global;
 
 // The type of the row on a card of ROWS that has a name, or the fault.
-fn row_kind_of(card: &DataCard<'_>) -> Result<RowKind, DeckFaultKind>
+pub fn row_kind_of(card: &DataCard<'_>) -> Result<RowKind, DeckFaultKind>
     ensures kind { IfOk result (λ kind. named row_kinds card.now.kind.now ≡ Some kind) }
     ensures no_fault { OnOk result (row_kind_fault (shown card.now) ≡ None) }
     ensures fault { IfErr result (λ kind. row_kind_fault (shown card.now) ≡ Some kind) }
@@ -40,7 +40,7 @@ fn row_kind_of(card: &DataCard<'_>) -> Result<RowKind, DeckFaultKind>
 }
 
 // The fault of a card of ROWS with a new name, behind so many rows.
-fn new_row_fault(count: usize, card: &DataCard<'_>) -> Option<DeckFaultKind>
+pub fn new_row_fault(count: usize, card: &DataCard<'_>) -> Option<DeckFaultKind>
     ensures { result ≡ first_fault ((nat_le MAX_ROWS count ⟹ DeckFaultKind.TooManyRows) ∷ filled_from_3 (shown card.now) ∷ []) }
 {
     if MAX_ROWS <= count {
@@ -53,7 +53,7 @@ fn new_row_fault(count: usize, card: &DataCard<'_>) -> Option<DeckFaultKind>
 }
 
 // Whether one of the fields 3 to 6 isn't blank.
-fn has_more(card: &DataCard<'_>) -> bool
+pub fn has_more(card: &DataCard<'_>) -> bool
     ensures { result ≡ not (is_empty (card.now.name2 ++ card.now.value1.now ++ card.now.name3 ++ card.now.value2.now)) }
 {
     !(is_blank(card.name2.bytes())
@@ -80,7 +80,7 @@ pub fn take_row_card(rows: &mut Rows, card: &DataCard<'_>) -> Result<(), CardSto
 }
 
 // Whether a card marks integer columns.
-fn is_marker(card: &DataCard<'_>) -> bool
+pub fn is_marker(card: &DataCard<'_>) -> bool
     ensures { result ≡ (same marker card.now.name2 || same marker card.now.name3) }
 {
     is_word(b"'MARKER'", card.name2.bytes()) || is_word(b"'MARKER'", card.name3.bytes())

@@ -51,8 +51,8 @@ fn own_name(cards: &Cards, first: u32, last: u32) -> Name
     }
 }
 
-// The name of the problem: this one, or else the deck's own.
-fn problem_name(cards: &Cards, first: u32, last: u32, name: Option<Name>) -> Name
+/// The name of the problem of a deck: this one, or else the deck's own.
+pub fn problem_name(cards: &Cards, first: u32, last: u32, name: Option<Name>) -> Name
     requires from_one { 1 ≤ first }
     requires ordered { first ≤ last }
     requires within { last ≤ length cards.now }

@@ -6,7 +6,7 @@ mod conversion;
 mod draft;
 mod reading;
 
-pub use conversion::convert;
+pub use conversion::{convert, problem_name};
 pub use deck_fields::{DeckFault, DeckFaultKind, DeckStop};
 pub use deck_parts::{CardStop, Section};
 pub use draft::DeckDraft;

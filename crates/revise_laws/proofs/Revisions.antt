@@ -146,7 +146,7 @@ module _ (old : Problem Name) where
   revised-lawful cards lawful printable fine = accepted-cards [] cards printable lawful fine
 
 -- the problem's name decides nothing
-renamed : (name : Name) (p : Problem Name) → IsLawful p → IsLawful (record p { name = name })
+pub renamed : (name : Name) (p : Problem Name) → IsLawful p → IsLawful (record p { name = name })
 renamed name p lawful = record {
   row_labels = lawful.row_labels;
   rows_distinct = lawful.rows_distinct;
@@ -159,7 +159,7 @@ renamed name p lawful = record {
   few_entries = lawful.few_entries;
 }
 
-printable_live : (cards : List Card) → ArePrintable cards → ArePrintable (live cards)
+pub printable_live : (cards : List Card) → ArePrintable cards → ArePrintable (live cards)
 printable_live [] printable = tt
 printable_live (card ∷ cards) printable = by (is_skipped card.bytes) (printable_live cards printable.1)
   where

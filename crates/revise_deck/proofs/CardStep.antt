@@ -1,0 +1,189 @@
+-- The tests of a card of a REVISE deck, and what it changes, by what is known of the cards before it.
+use Rattle.std.proofs.Common.{◌≡◌, ℕ, Bool, true, false, cond, ◌||◌, List, [], ◌∷◌, ◌++◌, Option, Some, None, map, refl, ap, ap₂, sym, ◌∙◌, unwrap_or}
+use Rattle.std.specs.List.{last_or}
+use Rattle.std.specs.Option.{option_or, option_map, option_and_then}
+use Rattle.std.proofs.lemmas.List.{length-append, map-append}
+use Rattle.indexmap.specs.IndexSet.{insert_key}
+use Rattle.card_definitions.specs.Words.{named}
+use Rattle.card_definitions.specs.Cards.{Card}
+use Rattle.card_definitions.specs.Fields.{Fixed, Reading, reading_of}
+use Rattle.problem_definitions.specs.Names.{Name, same, different}
+use Rattle.problem_definitions.specs.Problem.{Problem}
+use Rattle.problem_definitions.proofs.Names.{has_name-different, different-push}
+use Rattle.deck_definitions.specs.declared.Section.{Section}
+use Rattle.deck_definitions.specs.declared.Section.TheVariants.{Header, Rows, Columns, Rhs, Ranges, Bounds, Endata}
+use Rattle.deck_definitions.specs.Sections.{is_section_card, section_after, section_words, section_word}
+use Rattle.deck_definitions.specs.Conversion.{section_card_fault, form_fault}
+use Rattle.deck_definitions.proofs.Steps.{section_after-push, last_or-push}
+use Rattle.revise_definitions.specs.declared.Action.{Action}
+use Rattle.revise_definitions.specs.declared.Action.TheVariants.{Modify, Delete, Before, After}
+use Rattle.revise_definitions.specs.Actions.{is_action_card, is_heading, action_on, anchor_on, action_card_after, action_after, anchor_after, under_after, edit_of}
+use Rattle.revise_definitions.specs.Edits.{goes_on, edited}
+use Rattle.revise_definitions.specs.Tests.{action_fault, edit_fault, action_data_fault}
+use Rattle.revise_definitions.specs.Revision.{revised, may_come_after, inner_card_fault, revise_card_fault}
+use Rattle.revise_definitions.proofs.Steps.{action_card_after-push, under_after-push, revised-push, with_edit}
+use Rattle.revise_parts.specs.Summary.{under_of, with_card_under, goes_on_from, insert_columns_test, edit_test, edited_by}
+use Rattle.revise_deck.specs.State.{State, state_of, data_fault, inner_fault, fault_at, problem_with, state_with}
+
+-- ---- what is known of the cards under an action
+
+last-mapped : {X Y : Type 0} (f : X → Y) (o : Option X) (xs : List X) → last_or (option_map f o) (map f xs) ≡ option_map f (last_or o xs)
+last-mapped f o [] = refl
+last-mapped f o (x ∷ xs) = last-mapped f (Some x) xs
+
+goes-same : (anchor : Name) (under : List Reading) (card : Reading) → goes_on under card ≡ goes_on_from (under_of anchor under) card
+goes-same anchor under card = sym (ap (λ o. unwrap_or (option_map (same card.name1) o) false) (last-mapped (λ (c : Reading). c.name1) None under) ∙ twice (last_or None under))
+  where
+    twice : (o : Option Reading) → unwrap_or (option_map (same card.name1) (option_map (λ (c : Reading). c.name1) o)) false ≡ unwrap_or (option_map (λ (before : Reading). same card.name1 before.name1) o) false
+    twice None = refl
+    twice (Some before) = refl
+
+under-push : (anchor : Name) (under : List Reading) (card : Reading) → under_of anchor (under ++ card ∷ []) ≡ with_card_under (under_of anchor under) card
+under-push anchor under card = λ i. record { anchor = anchor; there = length-append under (card ∷ []) i; names = names i; last = last i }
+  where
+    mapped : map (λ (c : Reading). c.name1) (under ++ card ∷ []) ≡ map (λ (c : Reading). c.name1) under ++ card.name1 ∷ []
+    mapped = map-append (λ (c : Reading). c.name1) under (card ∷ [])
+
+    names : different (map (λ (c : Reading). c.name1) (under ++ card ∷ [])) ≡ insert_key same (different (map (λ (c : Reading). c.name1) under)) card.name1
+    names = ap different mapped ∙ different-push (map (λ (c : Reading). c.name1) under) card.name1
+        ∙ ap (λ b. cond b (different (map (λ (c : Reading). c.name1) under)) (different (map (λ (c : Reading). c.name1) under) ++ card.name1 ∷ [])) (sym (has_name-different card.name1 (map (λ (c : Reading). c.name1) under)))
+
+    last : last_or None (map (λ (c : Reading). c.name1) (under ++ card ∷ [])) ≡ Some card.name1
+    last = ap (last_or None) mapped ∙ last_or-push None (map (λ (c : Reading). c.name1) under) (Some card.name1)
+
+-- ---- tests and edits
+
+edit-same : (seen : Problem Name) (section : Section) (action : Action) (anchor : Name) (under : List Reading) (card : Reading) → edit_fault seen section action under card ≡ edit_test seen section action (under_of anchor under) card
+edit-same seen Columns Before anchor under card = ap (λ b. insert_columns_test seen b card) (goes-same anchor under card)
+edit-same seen Columns After anchor under card = ap (λ b. insert_columns_test seen b card) (goes-same anchor under card)
+edit-same seen Rows Modify anchor under card = refl
+edit-same seen Rows Delete anchor under card = refl
+edit-same seen Rows Before anchor under card = refl
+edit-same seen Rows After anchor under card = refl
+edit-same seen Columns Modify anchor under card = refl
+edit-same seen Columns Delete anchor under card = refl
+edit-same seen Rhs Modify anchor under card = refl
+edit-same seen Rhs Delete anchor under card = refl
+edit-same seen Rhs Before anchor under card = refl
+edit-same seen Rhs After anchor under card = refl
+edit-same seen Ranges Modify anchor under card = refl
+edit-same seen Ranges Delete anchor under card = refl
+edit-same seen Ranges Before anchor under card = refl
+edit-same seen Ranges After anchor under card = refl
+edit-same seen Bounds Modify anchor under card = refl
+edit-same seen Bounds Delete anchor under card = refl
+edit-same seen Bounds Before anchor under card = refl
+edit-same seen Bounds After anchor under card = refl
+edit-same seen Header action anchor under card = refl
+edit-same seen Endata action anchor under card = refl
+
+edited-same : (problem : Problem Name) (section : Section) (action : Action) (anchor : Name) (under : List Reading) (card : Reading)
+    → edited problem (record { section = section; action = action; anchor = anchor; under = under; card = card }) ≡ edited_by section action (under_of anchor under) card problem
+edited-same problem Columns Before anchor under card = rw (goes-same anchor under card) refl
+edited-same problem Columns After anchor under card = rw (goes-same anchor under card) refl
+edited-same problem Rows Modify anchor under card = refl
+edited-same problem Rows Delete anchor under card = refl
+edited-same problem Rows Before anchor under card = refl
+edited-same problem Rows After anchor under card = refl
+edited-same problem Columns Modify anchor under card = refl
+edited-same problem Columns Delete anchor under card = refl
+edited-same problem Rhs Modify anchor under card = refl
+edited-same problem Rhs Delete anchor under card = refl
+edited-same problem Rhs Before anchor under card = refl
+edited-same problem Rhs After anchor under card = refl
+edited-same problem Ranges Modify anchor under card = refl
+edited-same problem Ranges Delete anchor under card = refl
+edited-same problem Ranges Before anchor under card = refl
+edited-same problem Ranges After anchor under card = refl
+edited-same problem Bounds Modify anchor under card = refl
+edited-same problem Bounds Delete anchor under card = refl
+edited-same problem Bounds Before anchor under card = refl
+edited-same problem Bounds After anchor under card = refl
+edited-same problem Header action anchor under card = refl
+edited-same problem Endata action anchor under card = refl
+
+module _ (old : Problem Name) (cards : List Card) where
+  data-same : (section : Section) (s : Option Section) (action : Option Action) (card : List ℕ) → action_data_fault (revised old cards) Fixed section action (under_after cards) card
+      ≡ data_fault (record { section = s; action = action; under = under_of (anchor_after cards) (under_after cards); problem = revised old cards }) section card
+  data-same section s None card = refl
+  data-same section s (Some action) card = ap (λ o. option_or (form_fault Fixed card) (option_or o None)) (edit-same (revised old cards) section action (anchor_after cards) (under_after cards) (reading_of Fixed card))
+
+  inner-same : (section : Option Section) (card : List ℕ) → inner_card_fault (revised old cards) cards section card
+      ≡ inner_fault (record { section = section; action = action_after cards; under = under_of (anchor_after cards) (under_after cards); problem = revised old cards }) card
+  inner-same None card = refl
+  inner-same (Some Header) card = refl
+  inner-same (Some Rows) card = ap (cond (is_action_card Fixed card) (action_fault (revised old cards) Rows (action_on Fixed card) (anchor_on Fixed card))) (data-same Rows (Some Rows) (action_after cards) card)
+  inner-same (Some Columns) card = ap (cond (is_action_card Fixed card) (action_fault (revised old cards) Columns (action_on Fixed card) (anchor_on Fixed card))) (data-same Columns (Some Columns) (action_after cards) card)
+  inner-same (Some Rhs) card = ap (cond (is_action_card Fixed card) (action_fault (revised old cards) Rhs (action_on Fixed card) (anchor_on Fixed card))) (data-same Rhs (Some Rhs) (action_after cards) card)
+  inner-same (Some Ranges) card = ap (cond (is_action_card Fixed card) (action_fault (revised old cards) Ranges (action_on Fixed card) (anchor_on Fixed card))) (data-same Ranges (Some Ranges) (action_after cards) card)
+  inner-same (Some Bounds) card = ap (cond (is_action_card Fixed card) (action_fault (revised old cards) Bounds (action_on Fixed card) (anchor_on Fixed card))) (data-same Bounds (Some Bounds) (action_after cards) card)
+  inner-same (Some Endata) card = ap (cond (is_action_card Fixed card) (action_fault (revised old cards) Endata (action_on Fixed card) (anchor_on Fixed card))) (data-same Endata (Some Endata) (action_after cards) card)
+
+-- the fault of a card behind others is that at the state behind them
+pub fault-state : (old : Problem Name) (cards : List Card) (card : List ℕ) → revise_card_fault old cards card ≡ fault_at (state_of old cards) card
+unfolding revise_card_fault
+fault-state old cards card = ap (cond (is_section_card card) (section_card_fault may_come_after (section_after cards) card)) (inner-same old cards (section_after cards) card)
+
+-- ---- one more card
+
+module _ (old : Problem Name) (cards : List Card) (card : Card) where
+  abbrev whole : List Card
+  whole = cards ++ card ∷ []
+
+  abbrev read : Reading
+  read = reading_of Fixed card.bytes
+
+  state-is : (section : Option Section) (holder : Option Card) (under : List Reading) (problem : Problem Name) → section_after whole ≡ section → action_card_after whole ≡ holder → under_after whole ≡ under → revised old whole ≡ problem
+      → state_of old whole ≡ record {
+        section = section;
+        action = option_and_then (λ c. action_on Fixed c.bytes) holder;
+        under = under_of (unwrap_or (option_map (λ c. anchor_on Fixed c.bytes) holder) []) under;
+        problem = problem;
+      }
+  state-is section holder under problem s a u p = λ i. record {
+    section = s i;
+    action = option_and_then (λ (c : Card). action_on Fixed c.bytes) (a i);
+    under = under_of (unwrap_or (option_map (λ (c : Card). anchor_on Fixed c.bytes) (a i)) []) (u i);
+    problem = p i;
+  }
+
+  heading-edits : is_heading Fixed card.bytes ≡ true → revised old whole ≡ revised old cards
+  heading-edits h = revised-push old cards card ∙ rw h refl
+
+  data-edits : is_heading Fixed card.bytes ≡ false → with_edit (edit_of cards card) (revised old cards) ≡ problem_with (state_of old cards) read
+  data-edits h = by (section_after cards) (action_after cards) refl refl
+    where
+      by : (s : Option Section) (a : Option Action) → section_after cards ≡ s → action_after cards ≡ a → with_edit (edit_of cards card) (revised old cards) ≡ problem_with (state_of old cards) read
+      by None a es ea = rw (h, es) refl
+      by (Some s) None es ea = rw (h, es, ea) refl
+      by (Some s) (Some a) es ea = rw (h, es, ea) (edited-same (revised old cards) s a (anchor_after cards) (under_after cards) read)
+
+  abbrev st : State
+  st = state_of old cards
+
+  step-by : (b : Bool) → is_section_card card.bytes ≡ b → (a : Bool) → is_action_card Fixed card.bytes ≡ a → state_of old whole
+      ≡ cond b (record st { section = option_or (cond b (named section_words (section_word card.bytes)) None) st.section; action = None; under = under_of [] [] })
+      (cond a (record st { action = action_on Fixed card.bytes; under = under_of (anchor_on Fixed card.bytes) [] }) (record st { under = with_card_under st.under read; problem = problem_with st read }))
+  step-by true e a f =
+      state-is (option_or (named section_words (section_word card.bytes)) (section_after cards)) None [] (revised old cards)
+      (section_after-push cards card ∙ ap (λ b. option_or (cond b (named section_words (section_word card.bytes)) None) (section_after cards)) e)
+      (action_card_after-push cards card ∙ ap (λ b. cond b None (cond (is_action_card Fixed card.bytes) (Some card) (action_card_after cards))) e)
+      (under_after-push cards card ∙ ap (λ b. cond (b || is_action_card Fixed card.bytes) [] (under_after cards ++ read ∷ [])) e)
+      (heading-edits (rw e refl))
+  step-by false e true f =
+      state-is (section_after cards) (Some card) [] (revised old cards)
+      (section_after-push cards card ∙ ap (λ b. option_or (cond b (named section_words (section_word card.bytes)) None) (section_after cards)) e)
+      (action_card_after-push cards card ∙ ap₂ (λ b a. cond b None (cond a (Some card) (action_card_after cards))) e f)
+      (under_after-push cards card ∙ ap₂ (λ b a. cond (b || a) [] (under_after cards ++ read ∷ [])) e f)
+      (heading-edits (rw (e, f) refl))
+  step-by false e false f =
+      state-is (section_after cards) (action_card_after cards) (under_after cards ++ read ∷ []) (problem_with st read)
+      (section_after-push cards card ∙ ap (λ b. option_or (cond b (named section_words (section_word card.bytes)) None) (section_after cards)) e)
+      (action_card_after-push cards card ∙ ap₂ (λ b a. cond b None (cond a (Some card) (action_card_after cards))) e f)
+      (under_after-push cards card ∙ ap₂ (λ b a. cond (b || a) [] (under_after cards ++ read ∷ [])) e f)
+      (revised-push old cards card ∙ data-edits (rw (e, f) refl))
+      ∙ ap (λ u. record { section = section_after cards; action = action_after cards; under = u; problem = problem_with st read }) (under-push (anchor_after cards) (under_after cards) read)
+
+  -- one more card takes the state one step on
+  pub state-step : fault_at (state_of old cards) card.bytes ≡ None → state_of old (cards ++ card ∷ []) ≡ state_with (state_of old cards) card.bytes
+  state-step fine = step-by (is_section_card card.bytes) refl (is_action_card Fixed card.bytes) refl

@@ -1,0 +1,3 @@
+pub mod State
+pub mod Draft_shown
+pub mod Revision

@@ -1,0 +1,97 @@
+-- What a reader of a REVISE deck knows behind the cards so far, what one more card does to it, and how reading stops.
+use Rattle.std.specs.Prelude.{◌≡◌, ℕ, List, [], ◌∷◌, Option, Some, None, if◌then◌else◌, option_map}
+use Rattle.std.specs.Option.{option_or}
+use Rattle.card_definitions.specs.Words.{first_fault}
+use Rattle.card_definitions.specs.Cards.{Card, is_skipped}
+use Rattle.card_definitions.specs.Fields.{Fixed, Reading, reading_of}
+use Rattle.problem_definitions.specs.Names.{Name}
+use Rattle.problem_definitions.specs.Problem.{Problem}
+use Rattle.deck_definitions.specs.declared.DeckFaultKind.{DeckFaultKind}
+use Rattle.deck_definitions.specs.declared.DeckFaultKind.TheVariants.{SectionOrder, UnknownAction}
+use Rattle.deck_definitions.specs.declared.Section.{Section}
+use Rattle.deck_definitions.specs.declared.Section.TheVariants.{Header}
+use Rattle.deck_definitions.specs.Sections.{is_section_card, section_begun, section_after}
+use Rattle.deck_definitions.specs.Conversion.{section_card_fault, form_fault, first_faulty}
+use Rattle.deck_fields.specs.declared.stop.DeckStop.{DeckStop}
+use Rattle.deck_fields.specs.declared.stop.DeckStop.TheVariants.{Fault, NoMemory}
+use Rattle.revise_definitions.specs.declared.Action.{Action}
+use Rattle.revise_definitions.specs.Actions.{is_action_card, action_on, anchor_on, action_after, anchor_after, under_after}
+use Rattle.revise_definitions.specs.Tests.{action_fault}
+use Rattle.revise_definitions.specs.Revision.{revised, may_come_after, revise_card_fault}
+use Rattle.revise_parts.specs.Summary.{Under, under_of, edit_test, edited_by, with_card_under}
+
+-- the section and the action that go on, what is known of the data cards under the action, and the revised problem so far
+pub record State : Type 0 where
+  pub section : Option Section
+  pub action : Option Action
+  pub under : Under
+  pub problem : Problem Name
+
+-- behind these cards
+abbrev pub state_of : Problem Name → List Card → State
+state_of old cards = record { section = section_after cards; action = action_after cards; under = under_of (anchor_after cards) (under_after cards); problem = revised old cards }
+
+-- the fault of a data card in a section, under an action or none
+abbrev pub data_fault : State → Section → List ℕ → Option DeckFaultKind
+data_fault state section card = by state.action
+  where
+    by : Option Action → Option DeckFaultKind
+    by None = Some UnknownAction
+    by (Some action) = first_fault (form_fault Fixed card ∷ edit_test state.problem section action state.under (reading_of Fixed card) ∷ [])
+
+-- the fault of an action card or a data card in a section
+abbrev pub standing_fault : State → Section → List ℕ → Option DeckFaultKind
+standing_fault state section card =
+    if is_action_card Fixed card then action_fault state.problem section (action_on Fixed card) (anchor_on Fixed card)
+    else data_fault state section card
+
+-- the fault of an action card or a data card
+abbrev pub inner_fault : State → List ℕ → Option DeckFaultKind
+inner_fault state card = by state.section
+  where
+    by : Option Section → Option DeckFaultKind
+    by None = Some SectionOrder
+    by (Some Header) = Some SectionOrder
+    by (Some section) = standing_fault state section card
+
+-- the fault of a card
+abbrev pub fault_at : State → List ℕ → Option DeckFaultKind
+fault_at state card = if is_section_card card then section_card_fault may_come_after state.section card else inner_fault state card
+
+-- the problem after the edit of a data card, if it stands under an action in a section
+abbrev pub problem_with : State → Reading → Problem Name
+problem_with state card = by state.section state.action
+  where
+    by : Option Section → Option Action → Problem Name
+    by (Some section) (Some action) = edited_by section action state.under card state.problem
+    by (Some section) None = state.problem
+    by None action = state.problem
+
+-- one more action card or data card
+abbrev pub inner_with : State → List ℕ → State
+inner_with state card =
+    if is_action_card Fixed card then record state { action = action_on Fixed card; under = under_of (anchor_on Fixed card) [] }
+    else record state { under = with_card_under state.under (reading_of Fixed card); problem = problem_with state (reading_of Fixed card) }
+
+-- one more card
+abbrev pub state_with : State → List ℕ → State
+state_with state card =
+    if is_section_card card then record state { section = option_or (section_begun card) state.section; action = None; under = under_of [] [] }
+    else inner_with state card
+
+-- the same where a skipped card may stand
+abbrev pub live_fault : State → List ℕ → Option DeckFaultKind
+live_fault state card = if is_skipped card then None else fault_at state card
+
+abbrev pub state_after : State → List ℕ → State
+state_after state card = if is_skipped card then state else state_with state card
+
+-- a fault is that of the card of this number, and memory may be wanted at any time
+abbrev pub StopsAt : ℕ → Option DeckFaultKind → DeckStop → Type 0
+StopsAt number fault (Fault told) = option_map (λ kind. record { card = number; kind = kind }) fault ≡ Some told
+StopsAt number fault NoMemory = Unit {0}
+
+-- a fault is that of the first faulty card of these
+abbrev pub Stops : Problem Name → List Card → DeckStop → Type 0
+Stops old cards (Fault told) = first_faulty (revise_card_fault old) [] cards ≡ Some told
+Stops old cards NoMemory = Unit {0}

@@ -1,0 +1,182 @@
+// A problem under revision, card by card.
+ghost use Rattle.std.specs.Prelude.{◌≡◌, [], None, Some, OnOk, IfErr};
+
+use crate::reading::Draft;
+use crate::sections::{
+    action_fault_of, action_of, anchor_of, begins_section, is_action, is_header, is_last,
+    next_section,
+};
+use card_reader::Card;
+use deck_parts::{CardStop, DataCard, DeckFaultKind, Section, name_in, read_data_card};
+use revise_definitions::Action;
+use revise_parts::{NamedProblem, UnderAction, edit, edit_fault_of};
+use std::alloc::Global;
+
+/// A problem under revision: the section and the action that go on, what is known of the data cards under the action, and the
+/// problem after the cards so far.
+#[derive(Drop)]
+pub struct ReviseDraft {
+    alloc: Global,
+    section: Option<Section>,
+    action: Option<Action>,
+    under: UnderAction,
+    problem: NamedProblem,
+}
+
+impl ReviseDraft {
+    ghost use Rattle.std.specs.Prelude.{◌≡◌, [], ◌∷◌, None, Some, OnOk, IfErr, unwrap_or, option_map, false};
+    ghost use Rattle.std.specs.Option.{option_or};
+    ghost use Rattle.card_definitions.specs.Words.{first_fault, named};
+    ghost use Rattle.card_definitions.specs.Fields.{Fixed, reading_of};
+    ghost use Rattle.card_reader.specs.Card.{card_bytes};
+    ghost use Rattle.deck_definitions.specs.declared.Section.TheVariants.{Endata};
+    ghost use Rattle.deck_definitions.specs.Sections.{is_section, section_words, section_word};
+    ghost use Rattle.deck_definitions.specs.Conversion.{form_fault, section_card_fault};
+    ghost use Rattle.revise_definitions.specs.Revision.{may_come_after};
+    ghost use Rattle.deck_parts.specs.Told.{Tells};
+    ghost use Rattle.deck_parts.specs.Fields_shown.{shown};
+    ghost use Rattle.revise_definitions.specs.Actions.{is_action_card, action_on, anchor_on};
+    ghost use Rattle.revise_definitions.specs.Tests.{action_fault};
+    ghost use Rattle.revise_parts.specs.Summary.{under_of, with_card_under, edit_test, edited_by};
+    ghost use Rattle.revise_deck.specs.State.{data_fault, standing_fault, inner_fault, inner_with, problem_with};
+    ghost use Rattle.revise_deck.specs.Draft_shown.{state_shown};
+
+    /// A draft behind no card, of this problem.
+    pub fn new(alloc: Global, problem: NamedProblem) -> ReviseDraft
+        ensures { state_shown result ≡ record { section = None; action = None; under = under_of [] []; problem = problem } }
+    {
+        ReviseDraft {
+            alloc,
+            section: None,
+            action: None,
+            under: UnderAction::new(alloc, name_in(b"")),
+            problem,
+        }
+    }
+
+    /// Whether the last section goes on.
+    pub fn is_ended(&self) -> bool
+        ensures { result ≡ unwrap_or (option_map (is_section Endata) self.now.section) false }
+    {
+        match self.section {
+            Some(section) => is_last(section),
+            None => false,
+        }
+    }
+
+    /// The problem after the cards so far.
+    pub fn problem(&self) -> &NamedProblem
+        ensures { result.now ≡ self.now.problem }
+    {
+        &self.problem
+    }
+
+    // Takes a data card of this section under this action.
+    fn take_in(
+        &mut self,
+        section: Section,
+        action: Action,
+        card: &DataCard<'_>,
+    ) -> Result<(), CardStop>
+        ensures no_fault { OnOk result (edit_test self.old.problem section action self.old.under (shown card.now) ≡ None) }
+        ensures step { OnOk result (state_shown self.new ≡ record (state_shown self.old) { under = with_card_under self.old.under (shown card.now); problem = edited_by section action self.old.under (shown card.now) self.old.problem }) }
+        ensures stop { IfErr result (Tells (edit_test self.old.problem section action self.old.under (shown card.now))) }
+    {
+        if let Some(kind) = edit_fault_of(&self.problem, section, action, &self.under, card) {
+            return Err(CardStop::Refused(kind));
+        }
+        edit(
+            self.alloc,
+            section,
+            action,
+            &self.under,
+            card,
+            &mut self.problem,
+        )?;
+        self.under.add(card.name1)
+    }
+
+    // Takes a data card of this section.
+    fn take_data(&mut self, section: Section, card: Card<'_>) -> Result<(), CardStop>
+        requires { self.old.section ≡ Some section }
+        ensures no_fault { OnOk result (data_fault (state_shown self.old) section (card_bytes card.entry) ≡ None) }
+        ensures step { OnOk result (state_shown self.new ≡ record (state_shown self.old) { under = with_card_under self.old.under (reading_of Fixed (card_bytes card.entry)); problem = problem_with (state_shown self.old) (reading_of Fixed (card_bytes card.entry)) }) }
+        ensures stop { IfErr result (Tells (data_fault (state_shown self.old) section (card_bytes card.entry))) }
+    {
+        let Some(action) = self.action else {
+            return Err(CardStop::Refused(DeckFaultKind::UnknownAction));
+        };
+        match read_data_card(card) {
+            Ok(data) => self.take_in(section, action, &data),
+            Err(kind) => Err(CardStop::Refused(kind)),
+        }
+    }
+
+    // Takes an action card of this section.
+    fn take_action(&mut self, section: Section, card: Card<'_>) -> Result<(), CardStop>
+        ensures no_fault { OnOk result (action_fault self.old.problem section (action_on Fixed (card_bytes card.entry)) (anchor_on Fixed (card_bytes card.entry)) ≡ None) }
+        ensures step { OnOk result (state_shown self.new ≡ record (state_shown self.old) { action = action_on Fixed (card_bytes card.entry); under = under_of (anchor_on Fixed (card_bytes card.entry)) [] }) }
+        ensures stop { IfErr result (Tells (action_fault self.old.problem section (action_on Fixed (card_bytes card.entry)) (anchor_on Fixed (card_bytes card.entry)))) }
+    {
+        let action = action_of(card.bytes());
+        let anchor = anchor_of(card);
+        if let Some(kind) = action_fault_of(&self.problem, section, action, &anchor) {
+            return Err(CardStop::Refused(kind));
+        }
+        self.action = action;
+        self.under = UnderAction::new(self.alloc, anchor);
+        Ok(())
+    }
+
+    // Takes an action card or a data card of this section.
+    fn take_standing(&mut self, section: Section, card: Card<'_>) -> Result<(), CardStop>
+        requires { self.old.section ≡ Some section }
+        ensures no_fault { OnOk result (standing_fault (state_shown self.old) section (card_bytes card.entry) ≡ None) }
+        ensures step { OnOk result (state_shown self.new ≡ inner_with (state_shown self.old) (card_bytes card.entry)) }
+        ensures stop { IfErr result (Tells (standing_fault (state_shown self.old) section (card_bytes card.entry))) }
+    {
+        if is_action(card.bytes()) {
+            return self.take_action(section, card);
+        }
+        self.take_data(section, card)
+    }
+
+    // Takes an action card or a data card.
+    fn take_inner(&mut self, card: Card<'_>) -> Result<(), CardStop>
+        ensures no_fault { OnOk result (inner_fault (state_shown self.old) (card_bytes card.entry) ≡ None) }
+        ensures step { OnOk result (state_shown self.new ≡ inner_with (state_shown self.old) (card_bytes card.entry)) }
+        ensures stop { IfErr result (Tells (inner_fault (state_shown self.old) (card_bytes card.entry))) }
+    {
+        let Some(section) = self.section else {
+            return Err(CardStop::Refused(DeckFaultKind::SectionOrder));
+        };
+        if is_header(section) {
+            return Err(CardStop::Refused(DeckFaultKind::SectionOrder));
+        }
+        self.take_standing(section, card)
+    }
+
+    // Takes a section card.
+    fn take_section(&mut self, card: Card<'_>) -> Result<(), CardStop>
+        ensures no_fault { OnOk result (section_card_fault may_come_after self.old.section (card_bytes card.entry) ≡ None) }
+        ensures step { OnOk result (state_shown self.new ≡ record (state_shown self.old) { section = option_or (named section_words (section_word (card_bytes card.entry))) self.old.section; action = None; under = under_of [] [] }) }
+        ensures stop { IfErr result (Tells (section_card_fault may_come_after self.old.section (card_bytes card.entry))) }
+    {
+        let section = next_section(self.section, card.bytes())?;
+        self.section = Some(section);
+        self.action = None;
+        self.under = UnderAction::new(self.alloc, name_in(b""));
+        Ok(())
+    }
+}
+
+impl Draft for ReviseDraft {
+    ghost state = { λ d. record { section = d.section; action = d.action; under = d.under; problem = d.problem } };
+
+    fn take(&mut self, card: Card<'_>) -> Result<(), CardStop> {
+        if begins_section(card.bytes()) {
+            return self.take_section(card);
+        }
+        self.take_inner(card)
+    }
+}

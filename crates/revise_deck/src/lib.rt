@@ -1,0 +1,15 @@
+//! The revision of a problem by a REVISE deck: the cards of the deck one after another, what each changes, or its fault, and the
+//! problem after the whole deck.
+#![tactic(auto)]
+
+mod draft;
+mod naming;
+mod numbering;
+mod reading;
+mod revision;
+mod sections;
+
+pub use deck_fields::{DeckFault, DeckFaultKind, DeckStop};
+pub use draft::ReviseDraft;
+pub use reading::{Draft, read_cards};
+pub use revision::revise;

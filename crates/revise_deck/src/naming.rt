@@ -1,0 +1,160 @@
+// A problem with names in place of numbers.
+ghost use Rattle.std.specs.Prelude.{◌≡◌, IfOk, map};
+ghost use Rattle.problem_definitions.specs.Names.{name_at};
+ghost use Rattle.problem_definitions.specs.Numbering.{entry_by, bound_by, group_by, by_names};
+ghost use Rattle.problem_definitions.specs.Problem.{group_names};
+
+use deck_fields::DeckStop;
+use deck_parts::name_in;
+use name_table::Name;
+use problem_file::{BoundItem, BoundSet, ColumnDecl, DeckEntry, Problem, RowDecl, ValueSet};
+use revise_parts::{BoundGroup, EntryGroup, NamedBound, NamedEntry, NamedProblem};
+use std::alloc::Global;
+
+// The name of the row of this number, from 1, or the empty name.
+fn row_name(rows: &[RowDecl], number: u32) -> Name
+    ensures { result ≡ name_at (map (λ row. row.name) rows.now) number }
+{
+    match rows.get((number as usize).saturating_sub(1)) {
+        Some(row) => row.name,
+        None => name_in(b""),
+    }
+}
+
+// The name of the column of this number, from 1, or the empty name.
+fn column_name(columns: &[ColumnDecl], number: u32) -> Name
+    ensures { result ≡ name_at (group_names columns.now) number }
+{
+    match columns.get((number as usize).saturating_sub(1)) {
+        Some(column) => column.name,
+        None => name_in(b""),
+    }
+}
+
+fn named_entry(rows: &[RowDecl], entry: DeckEntry) -> NamedEntry
+    ensures { result ≡ entry_by (name_at (map (λ row. row.name) rows.now)) entry }
+{
+    NamedEntry {
+        row: row_name(rows, entry.row),
+        value: entry.value,
+    }
+}
+
+fn named_bound(columns: &[ColumnDecl], bound: BoundItem) -> NamedBound
+    ensures { result ≡ bound_by (name_at (group_names columns.now)) bound }
+{
+    NamedBound {
+        kind: bound.kind,
+        column: column_name(columns, bound.column),
+        value: bound.value,
+    }
+}
+
+// Entries on the names of their rows.
+fn named_entries(
+    alloc: Global,
+    rows: &[RowDecl],
+    entries: &[DeckEntry],
+) -> Result<Vec<NamedEntry>, DeckStop>
+    ensures { IfOk result (λ list. list.items ≡ map (entry_by (name_at (map (λ row. row.name) rows.now))) entries.now) }
+{
+    let list = entries
+        .iter()
+        .map(|entry| named_entry(rows, *entry))
+        .collect(alloc)?;
+    Ok(list)
+}
+
+// Bounds on the names of their columns.
+fn named_bounds(
+    alloc: Global,
+    columns: &[ColumnDecl],
+    bounds: &[BoundItem],
+) -> Result<Vec<NamedBound>, DeckStop>
+    ensures { IfOk result (λ list. list.items ≡ map (bound_by (name_at (group_names columns.now))) bounds.now) }
+{
+    let list = bounds
+        .iter()
+        .map(|bound| named_bound(columns, *bound))
+        .collect(alloc)?;
+    Ok(list)
+}
+
+// Columns with the names of their rows.
+fn named_columns(
+    alloc: Global,
+    rows: &[RowDecl],
+    columns: &[ColumnDecl],
+) -> Result<Vec<EntryGroup>, DeckStop>
+    ensures { IfOk result (λ list. list.items ≡ map (group_by (entry_by (name_at (map (λ row. row.name) rows.now)))) columns.now) }
+{
+    let mut list = Vec::new(alloc);
+    for column in columns {
+        list.push(EntryGroup {
+            name: column.name,
+            items: named_entries(alloc, rows, &column.entries)?,
+        })?;
+    }
+    Ok(list)
+}
+
+// Sets with the names of their rows.
+fn named_sets(
+    alloc: Global,
+    rows: &[RowDecl],
+    sets: &[ValueSet],
+) -> Result<Vec<EntryGroup>, DeckStop>
+    ensures { IfOk result (λ list. list.items ≡ map (group_by (entry_by (name_at (map (λ row. row.name) rows.now)))) sets.now) }
+{
+    let mut list = Vec::new(alloc);
+    for set in sets {
+        list.push(EntryGroup {
+            name: set.name,
+            items: named_entries(alloc, rows, &set.items)?,
+        })?;
+    }
+    Ok(list)
+}
+
+// Sets of bounds with the names of their columns.
+fn named_bound_sets(
+    alloc: Global,
+    columns: &[ColumnDecl],
+    sets: &[BoundSet],
+) -> Result<Vec<BoundGroup>, DeckStop>
+    ensures { IfOk result (λ list. list.items ≡ map (group_by (bound_by (name_at (group_names columns.now)))) sets.now) }
+{
+    let mut list = Vec::new(alloc);
+    for set in sets {
+        list.push(BoundGroup {
+            name: set.name,
+            items: named_bounds(alloc, columns, &set.items)?,
+        })?;
+    }
+    Ok(list)
+}
+
+// The same rows.
+fn copied_rows(alloc: Global, rows: &[RowDecl]) -> Result<Vec<RowDecl>, DeckStop>
+    ensures { IfOk result (λ list. list.items ≡ rows.now) }
+{
+    let list = Vec::from_slice(alloc, rows)?;
+    Ok(list)
+}
+
+/// The problem with names in place of numbers.
+#[tactic(auto, unfolding(problem_definitions::specs::Numbering::by_names))]
+pub fn named(alloc: Global, problem: &Problem) -> Result<NamedProblem, DeckStop>
+    ensures { IfOk result (λ named. named ≡ by_names problem.now) }
+{
+    let rows = problem.rows();
+    let columns = problem.columns();
+    Ok(NamedProblem {
+        name: problem.name(),
+        rows: copied_rows(alloc, rows)?,
+        columns: named_columns(alloc, rows, columns)?,
+        rhs: named_sets(alloc, rows, problem.rhs())?,
+        ranges: named_sets(alloc, rows, problem.ranges())?,
+        bounds: named_bound_sets(alloc, columns, problem.bounds())?,
+    })
+}

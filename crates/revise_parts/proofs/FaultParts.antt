@@ -1,0 +1,47 @@
+-- The tests of a card of COLUMNS, in parts.
+use Rattle.std.proofs.Common.{◌≡◌, Bool, not, ◌&&◌, List, [], ◌∷◌, Option, Some, None, length, refl, ap, ap₂, sym, ◌∙◌, nat_le}
+use Rattle.std.specs.List.{sum_by}
+use Rattle.std.specs.Option.{option_or}
+use Rattle.card_definitions.specs.Words.{is_empty, ◌⟹◌, first_fault}
+use Rattle.card_definitions.specs.Fields.{Reading}
+use Rattle.card_definitions.proofs.Behind.{first_fault-append}
+use Rattle.problem_definitions.specs.declared.TheConstants.{MAX_COLUMNS}
+use Rattle.problem_definitions.specs.Names.{Name}
+use Rattle.problem_definitions.specs.Problem.{Entry, Group, Problem, has_group}
+use Rattle.problem_definitions.specs.Groups.{items_of}
+use Rattle.deck_definitions.specs.declared.DeckFaultKind.{DeckFaultKind}
+use Rattle.deck_definitions.specs.declared.DeckFaultKind.TheVariants.{ColumnSplit, EmptyName, TooManyColumns, ModifyMissing}
+use Rattle.deck_definitions.specs.declared.Section.TheVariants.{Columns}
+use Rattle.deck_definitions.specs.DataCards.{pairs_of}
+use Rattle.deck_definitions.specs.Tests.{kind_filled, marks, pairs_fault}
+use Rattle.revise_definitions.specs.Tests.{puts_fault, modify_columns_fault}
+use Rattle.revise_parts.specs.Summary.{insert_columns_test}
+
+or_none : (o : Option DeckFaultKind) → option_or o None ≡ o
+or_none None = refl
+or_none (Some kind) = refl
+
+module _ (seen : Problem Name) (card : Reading) where
+  abbrev head : List (Option DeckFaultKind)
+  head = kind_filled card ∷ marks card ∷ (is_empty card.name1 ⟹ EmptyName) ∷ []
+
+  abbrev put_rest : List (Group (Entry Name)) → List (Option DeckFaultKind)
+  put_rest columns = (not (has_group columns card.name1) ⟹ ModifyMissing) ∷ puts_fault seen Columns (items_of card.name1 columns) (sum_by (λ column. length column.items) columns) (pairs_of card) ∷ []
+
+  abbrev insert_rest : Bool → List (Group (Entry Name)) → List (Option DeckFaultKind)
+  insert_rest goes columns =
+      (has_group columns card.name1 && not goes ⟹ ColumnSplit) ∷
+      (not (has_group columns card.name1) && nat_le MAX_COLUMNS (length columns) ⟹ TooManyColumns) ∷
+      pairs_fault seen Columns (items_of card.name1 columns) (sum_by (λ column. length column.items) columns) (pairs_of card) ∷ []
+
+  pub modified_parts : (whole first rest : Option DeckFaultKind) (columns : List (Group (Entry Name))) → whole ≡ option_or first rest → first ≡ first_fault head → rest ≡ first_fault (put_rest columns) → columns ≡ seen.columns
+      → whole ≡ modify_columns_fault seen card
+  modified_parts whole first rest columns w f r c = w ∙ ap₂ option_or f (r ∙ ap (λ list. first_fault (put_rest list)) c) ∙ sym (first_fault-append head (put_rest seen.columns))
+
+  pub inserted_parts : (goes : Bool) (whole first rest : Option DeckFaultKind) (columns : List (Group (Entry Name))) → whole ≡ option_or first rest → first ≡ first_fault head → rest ≡ first_fault (insert_rest goes columns)
+      → columns ≡ seen.columns → whole ≡ insert_columns_test seen goes card
+  inserted_parts goes whole first rest columns w f r c = w ∙ ap₂ option_or f (r ∙ ap (λ list. first_fault (insert_rest goes list)) c) ∙ sym (first_fault-append head (insert_rest goes seen.columns))
+
+-- two tests and one more
+pub one_more : (whole two more : Option DeckFaultKind) (a b c : Option DeckFaultKind) → whole ≡ option_or two more → two ≡ first_fault (a ∷ b ∷ []) → more ≡ c → whole ≡ first_fault (a ∷ b ∷ c ∷ [])
+one_more whole two more a b c w t h = w ∙ ap₂ option_or t h ∙ sym (first_fault-append (a ∷ b ∷ []) (c ∷ []) ∙ ap (option_or (first_fault (a ∷ b ∷ []))) (or_none c))

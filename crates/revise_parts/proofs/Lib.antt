@@ -1,0 +1,5 @@
+pub mod Items
+pub mod InPlace
+pub mod TwoPairs
+pub mod Numbers
+pub mod FaultParts

@@ -1,0 +1,112 @@
+-- What the tests and the edits of a data card look at, beside the problem and the card.
+use Rattle.std.specs.Prelude.{ℕ, ◌+◌, ◌-◌, Bool, false, not, ◌&&◌, List, [], ◌∷◌, ◌++◌, nat_le, Option, Some, None, if◌then◌else◌, unwrap_or, option_map, map, length, insert}
+use Rattle.std.specs.List.{last_or}
+use Rattle.indexmap.specs.IndexSet.{insert_key}
+use Rattle.card_definitions.specs.Words.{is_empty, ◌⟹◌, first_fault}
+use Rattle.card_definitions.specs.Fields.{Reading}
+use Rattle.problem_definitions.specs.declared.TheConstants.{MAX_COLUMNS, MAX_ENTRIES}
+use Rattle.problem_definitions.specs.Names.{Name, same, number_in, different}
+use Rattle.problem_definitions.specs.Problem.{Row, Entry, Group, Problem, has_group, group_names, entry_count}
+use Rattle.problem_definitions.specs.Groups.{items_of, in_group}
+use Rattle.deck_definitions.specs.declared.DeckFaultKind.{DeckFaultKind}
+use Rattle.deck_definitions.specs.declared.DeckFaultKind.TheVariants.{DuplicateEntry, TooManyEntries, ColumnSplit, EmptyName, TooManyColumns}
+use Rattle.deck_definitions.specs.declared.Section.{Section}
+use Rattle.deck_definitions.specs.declared.Section.TheVariants.{Header, Rows, Columns, Rhs, Ranges, Bounds, Endata}
+use Rattle.deck_definitions.specs.Sections.{is_section}
+use Rattle.deck_definitions.specs.DataCards.{Pair, pairs_of, entries_of, row_of}
+use Rattle.deck_definitions.specs.Tests.{kind_filled, marks, pair_row_fault, value_fault, pairs_fault}
+use Rattle.revise_definitions.specs.declared.Action.{Action}
+use Rattle.revise_definitions.specs.declared.Action.TheVariants.{Modify, Delete, Before, After}
+use Rattle.revise_definitions.specs.Edits.{edit_sets, edit_bounds, modify_row, delete_row, delete_column, put_entries, without_row}
+use Rattle.revise_definitions.specs.Tests.{edit_fault}
+
+-- The tests of a pair that replaces an item or adds one, where one on its row is there already or isn't.
+abbrev pub put_test : Problem Name → Section → Bool → ℕ → Pair → Option DeckFaultKind
+put_test seen section there count pair = first_fault (
+    pair_row_fault seen section pair.row ∷
+    value_fault pair.column pair.value ∷
+    (is_section Columns section && not there && nat_le MAX_ENTRIES count ⟹ TooManyEntries) ∷ [])
+
+-- the tests of a pair that adds an item of a column
+abbrev pub pair_test : Problem Name → Bool → ℕ → Pair → Option DeckFaultKind
+pair_test seen taken count pair = first_fault (
+    pair_row_fault seen Columns pair.row ∷
+    (taken ⟹ DuplicateEntry) ∷
+    value_fault pair.column pair.value ∷
+    (nat_le MAX_ENTRIES count ⟹ TooManyEntries) ∷ [])
+
+-- the tests of a card that inserts a column, or goes on with that of the card before
+abbrev pub insert_columns_test : Problem Name → Bool → Reading → Option DeckFaultKind
+insert_columns_test seen goes card = first_fault (
+    kind_filled card ∷
+    marks card ∷
+    (is_empty card.name1 ⟹ EmptyName) ∷
+    (has_group seen.columns card.name1 && not goes ⟹ ColumnSplit) ∷
+    (not (has_group seen.columns card.name1) && nat_le MAX_COLUMNS (length seen.columns) ⟹ TooManyColumns) ∷
+    pairs_fault seen Columns (items_of card.name1 seen.columns) (entry_count seen) (pairs_of card) ∷ [])
+
+-- What is known of the data cards so far under an action: the name on its card, how many there were, the different names
+-- in their fields 2, and the last of these.
+pub record Under : Type 0 where
+  pub anchor : Name
+  pub there : ℕ
+  pub names : List Name
+  pub last : Option Name
+
+abbrev pub under_of : Name → List Reading → Under
+under_of anchor cards = record { anchor = anchor; there = length cards; names = different (map (λ card. card.name1) cards); last = last_or None (map (λ card. card.name1) cards) }
+
+-- one more card
+abbrev pub with_card_under : Under → Reading → Under
+with_card_under under card = record { anchor = under.anchor; there = under.there + 1; names = insert_key same under.names card.name1; last = Some card.name1 }
+
+-- whether a card has the name of the last
+abbrev pub goes_on_from : Under → Reading → Bool
+goes_on_from under card = unwrap_or (option_map (same card.name1) under.last) false
+
+-- the tests of a data card under an action of its section
+abbrev pub edit_test : Problem Name → Section → Action → Under → Reading → Option DeckFaultKind
+edit_test seen Columns Before under card = insert_columns_test seen (goes_on_from under card) card
+edit_test seen Columns After under card = insert_columns_test seen (goes_on_from under card) card
+edit_test seen section action under card = edit_fault seen section action [] card
+
+-- The place of the next new thing among so many, where so many stand there already and the anchor has this number.
+abbrev pub place_at : Action → Name → ℕ → ℕ → ℕ → ℕ
+place_at After anchor there count number = if is_empty anchor then count else number + there
+place_at _ anchor there count number = if is_empty anchor then there else number - 1
+
+abbrev pub place_among : Action → Name → ℕ → List Name → ℕ
+place_among action anchor there names = place_at action anchor there (length names) (number_in names anchor)
+
+-- the rows with the card's row put next to the anchor
+abbrev pub row_inserted : Action → Under → Reading → List Row → List Row
+row_inserted action under card rows =
+    unwrap_or (option_map (insert rows (place_among action under.anchor under.there (map (λ row. row.name) rows))) (row_of card)) rows
+
+-- the columns with the card's column put next to the anchor, or with its entries added to the column that it goes on with
+abbrev pub column_inserted : Action → Under → Reading → List (Group (Entry Name)) → List (Group (Entry Name))
+column_inserted action under card columns =
+    if goes_on_from under card then in_group card.name1 (λ entries. entries ++ entries_of card) columns
+    else insert columns (place_among action under.anchor (length under.names) (group_names columns)) (record { name = card.name1; items = entries_of card })
+
+abbrev pub rows_edited : Action → Under → Reading → Problem Name → Problem Name
+rows_edited Modify under card problem = record problem { rows = modify_row card problem.rows }
+rows_edited Delete under card problem = delete_row card.name1 problem
+rows_edited action under card problem = record problem { rows = row_inserted action under card problem.rows }
+
+abbrev pub columns_edited : Action → Under → Reading → Problem Name → Problem Name
+columns_edited Modify under card problem = record problem { columns = in_group card.name1 (put_entries (entries_of card)) problem.columns }
+columns_edited Delete under card problem =
+    if is_empty card.name2 then delete_column card.name1 problem
+    else record problem { columns = in_group card.name1 (without_row card.name2) problem.columns }
+columns_edited action under card problem = record problem { columns = column_inserted action under card problem.columns }
+
+-- the problem after the edit of a data card
+abbrev pub edited_by : Section → Action → Under → Reading → Problem Name → Problem Name
+edited_by Rows action under card problem = rows_edited action under card problem
+edited_by Columns action under card problem = columns_edited action under card problem
+edited_by Rhs action under card problem = record problem { rhs = edit_sets action card problem.rhs }
+edited_by Ranges action under card problem = record problem { ranges = edit_sets action card problem.ranges }
+edited_by Bounds action under card problem = record problem { bounds = edit_bounds action card problem.bounds }
+edited_by Header action under card problem = problem
+edited_by Endata action under card problem = problem

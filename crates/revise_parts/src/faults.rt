@@ -1,0 +1,308 @@
+// The faults of data cards under actions.
+ghost use Rattle.std.specs.Prelude.{◌≡◌, [], ◌∷◌, None, Some, ◌&&◌, not, nat_le, length, sum_by};
+ghost use Rattle.card_definitions.specs.Words.{is_empty, ◌⟹◌, first_fault};
+ghost use Rattle.problem_definitions.specs.Problem.{has_group};
+ghost use Rattle.problem_definitions.specs.Groups.{items_of};
+ghost use Rattle.deck_definitions.specs.DataCards.{pairs_of};
+ghost use Rattle.deck_definitions.specs.declared.Section.TheVariants.{Columns};
+ghost use Rattle.deck_definitions.specs.Tests.{kind_filled, marks, filled_from_4, rows_fault, pairs_fault, of_bound_type};
+ghost use Rattle.deck_parts.specs.Fields_shown.{shown};
+ghost use Rattle.revise_definitions.specs.Tests.{has_range, puts_fault, modify_rows_fault, delete_rows_fault, modify_columns_fault, modify_sets_fault, delete_entry_fault, delete_columns_fault, delete_sets_fault, modify_bound_fault, delete_bounds_fault};
+ghost use Rattle.revise_parts.specs.Summary.{insert_columns_test};
+
+use crate::entries::finds_entry;
+use crate::groups::{finds_group, finds_item, item_count};
+use crate::pairs::{first_of, pairs_fault_of, puts_fault_of};
+use crate::parts::{EntryGroup, NamedProblem};
+use crate::rows::finds_row;
+use crate::sets::{finds_set, finds_set_bound};
+use deck_parts::{
+    DataCard, DeckFaultKind, Section, bound_kind, bound_value, has_more, is_blank, is_free,
+    is_marker, new_row_fault, row_kind_of,
+};
+use name_table::Name;
+use problem_definitions::{BoundKind, MAX_COLUMNS};
+
+// Whether a range set has an item on this row.
+fn has_range_on(seen: &NamedProblem, row: &Name) -> bool
+    ensures { result ≡ has_range seen.now row.now }
+{
+    seen.ranges.iter().any(|set| finds_entry(&set.items, row))
+}
+
+// The fault of a card on which the fields from field 4 on are to be blank.
+fn rest_fault(card: &DataCard<'_>) -> Option<DeckFaultKind>
+    ensures { result ≡ filled_from_4 (shown card.now) }
+{
+    if is_blank(card.value1) && is_blank(card.name3.bytes()) && is_blank(card.value2) {
+        return None;
+    }
+    Some(DeckFaultKind::ExtraField)
+}
+
+/// The fault of a card of ROWS under MODIFY.
+pub fn modified_row_fault(seen: &NamedProblem, card: &DataCard<'_>) -> Option<DeckFaultKind>
+    ensures { result ≡ modify_rows_fault seen.now (shown card.now) }
+{
+    let kind = match row_kind_of(card) {
+        Ok(kind) => kind,
+        Err(fault) => return Some(fault),
+    };
+    if !finds_row(&seen.rows, &card.name1) {
+        return Some(DeckFaultKind::ModifyMissing);
+    }
+    if is_free(kind) && has_range_on(seen, &card.name1) {
+        return Some(DeckFaultKind::RangeOnFree);
+    }
+    if has_more(card) {
+        return Some(DeckFaultKind::ExtraField);
+    }
+    None
+}
+
+/// The fault of a card of ROWS under DELETE.
+pub fn deleted_row_fault(seen: &NamedProblem, card: &DataCard<'_>) -> Option<DeckFaultKind>
+    ensures { result ≡ delete_rows_fault seen.now (shown card.now) }
+{
+    if is_blank(card.name1.bytes()) {
+        return Some(DeckFaultKind::EmptyName);
+    }
+    if !finds_row(&seen.rows, &card.name1) {
+        return Some(DeckFaultKind::DeleteMissing);
+    }
+    if has_more(card) {
+        return Some(DeckFaultKind::ExtraField);
+    }
+    None
+}
+
+/// The fault of a card of ROWS under BEFORE or AFTER.
+pub fn inserted_row_fault(seen: &NamedProblem, card: &DataCard<'_>) -> Option<DeckFaultKind>
+    ensures { result ≡ rows_fault seen.now (shown card.now) }
+{
+    if let Err(fault) = row_kind_of(card) {
+        return Some(fault);
+    }
+    if finds_row(&seen.rows, &card.name1) {
+        return Some(DeckFaultKind::DuplicateRow);
+    }
+    new_row_fault(seen.rows.len(), card)
+}
+
+// The fault of a card of COLUMNS before those of its column: field 1, a marker, or no name.
+fn column_head_fault(card: &DataCard<'_>) -> Option<DeckFaultKind>
+    ensures { result ≡ first_fault (kind_filled (shown card.now) ∷ marks (shown card.now) ∷ (is_empty card.now.name1 ⟹ DeckFaultKind.EmptyName) ∷ []) }
+{
+    if !is_blank(card.kind) {
+        return Some(DeckFaultKind::ExtraField);
+    }
+    if is_marker(card) {
+        return Some(DeckFaultKind::Marker);
+    }
+    if is_blank(card.name1.bytes()) {
+        return Some(DeckFaultKind::EmptyName);
+    }
+    None
+}
+
+// The fault of the pairs of a card that are put into one of these columns.
+fn put_pairs_fault(
+    seen: &NamedProblem,
+    columns: &[EntryGroup],
+    card: &DataCard<'_>,
+) -> Option<DeckFaultKind>
+    ensures { result ≡ puts_fault seen.now Columns (items_of card.now.name1 columns.now) (sum_by (λ column. length column.items) columns.now) (pairs_of (shown card.now)) }
+{
+    let count = item_count(columns);
+    puts_fault_of(seen, Section::Columns, columns, count, card)
+}
+
+// The fault of a card's column that is to be modified, and then of its pairs.
+fn put_column_fault(
+    seen: &NamedProblem,
+    columns: &[EntryGroup],
+    card: &DataCard<'_>,
+) -> Option<DeckFaultKind>
+    ensures { result ≡ first_fault ((not (has_group columns.now card.now.name1) ⟹ DeckFaultKind.ModifyMissing) ∷ puts_fault seen.now Columns (items_of card.now.name1 columns.now) (sum_by (λ column. length column.items) columns.now) (pairs_of (shown card.now)) ∷ []) }
+{
+    if !finds_group(columns, &card.name1) {
+        return Some(DeckFaultKind::ModifyMissing);
+    }
+    put_pairs_fault(seen, columns, card)
+}
+
+/// The fault of a card of COLUMNS under MODIFY.
+pub fn modified_column_fault(seen: &NamedProblem, card: &DataCard<'_>) -> Option<DeckFaultKind>
+    ensures { result ≡ modify_columns_fault seen.now (shown card.now) }
+{
+    let head = column_head_fault(card);
+    let rest = put_column_fault(seen, &seen.columns, card);
+    first_of(head, rest)
+}
+
+/// The fault of a card of RHS or RANGES under MODIFY.
+pub fn modified_set_fault(
+    seen: &NamedProblem,
+    section: Section,
+    card: &DataCard<'_>,
+) -> Option<DeckFaultKind>
+    ensures { result ≡ modify_sets_fault seen.now section (shown card.now) }
+{
+    if !is_blank(card.kind) {
+        return Some(DeckFaultKind::ExtraField);
+    }
+    puts_fault_of(seen, section, &[], 0, card)
+}
+
+// The fault of what a card deletes of these columns or sets.
+fn deleted_entry_fault(
+    seen: &NamedProblem,
+    groups: &[EntryGroup],
+    card: &DataCard<'_>,
+) -> Option<DeckFaultKind>
+    ensures { result ≡ delete_entry_fault seen.now groups.now (shown card.now) }
+{
+    if !finds_group(groups, &card.name1) {
+        return Some(DeckFaultKind::DeleteMissing);
+    }
+    if is_blank(card.name2.bytes()) {
+        return rest_fault(card);
+    }
+    if !finds_row(&seen.rows, &card.name2) {
+        return Some(DeckFaultKind::UnknownRow);
+    }
+    if !finds_item(groups, &card.name1, &card.name2) {
+        return Some(DeckFaultKind::DeleteMissing);
+    }
+    rest_fault(card)
+}
+
+/// The fault of a card of COLUMNS under DELETE.
+pub fn deleted_column_fault(seen: &NamedProblem, card: &DataCard<'_>) -> Option<DeckFaultKind>
+    ensures { result ≡ delete_columns_fault seen.now (shown card.now) }
+{
+    if !is_blank(card.kind) {
+        return Some(DeckFaultKind::ExtraField);
+    }
+    if is_blank(card.name1.bytes()) {
+        return Some(DeckFaultKind::EmptyName);
+    }
+    deleted_entry_fault(seen, &seen.columns, card)
+}
+
+/// The fault of a card of RHS or RANGES, with these sets, under DELETE.
+pub fn deleted_set_fault(
+    seen: &NamedProblem,
+    sets: &[EntryGroup],
+    card: &DataCard<'_>,
+) -> Option<DeckFaultKind>
+    ensures { result ≡ delete_sets_fault seen.now sets.now (shown card.now) }
+{
+    if !is_blank(card.kind) {
+        return Some(DeckFaultKind::ExtraField);
+    }
+    deleted_entry_fault(seen, sets, card)
+}
+
+// The fault of a new column, or of one that goes on with that of the card before.
+fn new_column_fault(columns: &[EntryGroup], goes_on: bool, name: &Name) -> Option<DeckFaultKind>
+    ensures { result ≡ first_fault ((has_group columns.now name.now && not goes_on ⟹ DeckFaultKind.ColumnSplit) ∷ (not (has_group columns.now name.now) && nat_le MAX_COLUMNS (length columns.now) ⟹ DeckFaultKind.TooManyColumns) ∷ []) }
+{
+    let is_there = finds_group(columns, name);
+    if is_there && !goes_on {
+        return Some(DeckFaultKind::ColumnSplit);
+    }
+    if !is_there && MAX_COLUMNS <= columns.len() {
+        return Some(DeckFaultKind::TooManyColumns);
+    }
+    None
+}
+
+// The fault of the pairs of a card that are added to one of these columns.
+fn added_pairs_fault(
+    seen: &NamedProblem,
+    columns: &[EntryGroup],
+    card: &DataCard<'_>,
+) -> Option<DeckFaultKind>
+    ensures { result ≡ pairs_fault seen.now Columns (items_of card.now.name1 columns.now) (sum_by (λ column. length column.items) columns.now) (pairs_of (shown card.now)) }
+{
+    let count = item_count(columns);
+    pairs_fault_of(seen, columns, count, card)
+}
+
+// The fault of a card's column that is inserted or goes on, and then of its pairs.
+fn insert_column_fault(
+    seen: &NamedProblem,
+    columns: &[EntryGroup],
+    goes_on: bool,
+    card: &DataCard<'_>,
+) -> Option<DeckFaultKind>
+    ensures { result ≡ first_fault ((has_group columns.now card.now.name1 && not goes_on ⟹ DeckFaultKind.ColumnSplit) ∷ (not (has_group columns.now card.now.name1) && nat_le MAX_COLUMNS (length columns.now) ⟹ DeckFaultKind.TooManyColumns) ∷ pairs_fault seen.now Columns (items_of card.now.name1 columns.now) (sum_by (λ column. length column.items) columns.now) (pairs_of (shown card.now)) ∷ []) }
+{
+    first_of(
+        new_column_fault(columns, goes_on, &card.name1),
+        added_pairs_fault(seen, columns, card),
+    )
+}
+
+/// The fault of a card of COLUMNS under BEFORE or AFTER that goes on with the column of the card before, or doesn't.
+pub fn inserted_column_fault(
+    seen: &NamedProblem,
+    goes_on: bool,
+    card: &DataCard<'_>,
+) -> Option<DeckFaultKind>
+    ensures { result ≡ insert_columns_test seen.now goes_on (shown card.now) }
+{
+    let head = column_head_fault(card);
+    let rest = insert_column_fault(seen, &seen.columns, goes_on, card);
+    first_of(head, rest)
+}
+
+// The fault of a card of BOUNDS of this type under MODIFY.
+fn modified_bound_fault(
+    seen: &NamedProblem,
+    kind: BoundKind,
+    card: &DataCard<'_>,
+) -> Option<DeckFaultKind>
+    ensures { result ≡ modify_bound_fault seen.now (shown card.now) kind }
+{
+    if is_blank(card.name2.bytes()) {
+        return Some(DeckFaultKind::EmptyName);
+    }
+    if !finds_group(&seen.columns, &card.name2) {
+        return Some(DeckFaultKind::UnknownColumn);
+    }
+    match bound_value(kind, card) {
+        Ok(_) => None,
+        Err(fault) => Some(fault),
+    }
+}
+
+/// The fault of a card of BOUNDS under MODIFY.
+pub fn modified_bounds_fault(seen: &NamedProblem, card: &DataCard<'_>) -> Option<DeckFaultKind>
+    ensures { result ≡ of_bound_type (shown card.now) (modify_bound_fault seen.now (shown card.now)) }
+{
+    match bound_kind(card.kind) {
+        Some(kind) => modified_bound_fault(seen, kind, card),
+        None => Some(DeckFaultKind::BadBoundType),
+    }
+}
+
+/// The fault of a card of BOUNDS under DELETE.
+pub fn deleted_bounds_fault(seen: &NamedProblem, card: &DataCard<'_>) -> Option<DeckFaultKind>
+    ensures { result ≡ delete_bounds_fault seen.now (shown card.now) }
+{
+    if !finds_set(&seen.bounds, &card.name1) {
+        return Some(DeckFaultKind::DeleteMissing);
+    }
+    if is_blank(card.name2.bytes()) {
+        return rest_fault(card);
+    }
+    if !finds_group(&seen.columns, &card.name2) {
+        return Some(DeckFaultKind::UnknownColumn);
+    }
+    if !finds_set_bound(&seen.bounds, &card.name1, &card.name2) {
+        return Some(DeckFaultKind::DeleteMissing);
+    }
+    rest_fault(card)
+}

@@ -1,0 +1,96 @@
+// The parts of a problem by names.
+
+use deck_fields::Decimal;
+use name_table::Name;
+use problem_definitions::BoundKind;
+use problem_file::RowDecl;
+use std::marker::Model;
+
+/// A number on the row of this name.
+#[derive(Clone, Copy, Debug)]
+pub struct NamedEntry {
+    pub row: Name,
+    pub value: Decimal,
+}
+
+impl Model for NamedEntry {
+    ghost use Rattle.problem_definitions.specs.Names.{Name as Text};
+    ghost use Rattle.problem_definitions.specs.Problem.{Entry};
+
+    ghost Value = { Entry Text };
+
+    ghost view = { λ entry. record { row = entry.row; value = entry.value } };
+
+    ghost inverse = { λ entry. record { row = entry.row; value = entry.value } };
+}
+
+/// A bound on the column of this name.
+#[derive(Clone, Copy, Debug)]
+pub struct NamedBound {
+    pub kind: BoundKind,
+    pub column: Name,
+    pub value: Option<Decimal>,
+}
+
+impl Model for NamedBound {
+    ghost use Rattle.problem_definitions.specs.Names.{Name as Text};
+    ghost use Rattle.problem_definitions.specs.Problem.{Bound};
+
+    ghost Value = { Bound Text };
+
+    ghost view = { λ bound. record { kind = bound.kind; column = bound.column; value = bound.value } };
+
+    ghost inverse = { λ bound. record { kind = bound.kind; column = bound.column; value = bound.value } };
+}
+
+/// A column with its entries, or a set of right-hand sides or of ranges with its items.
+#[derive(Debug, Drop)]
+pub struct EntryGroup {
+    pub name: Name,
+    pub items: Vec<NamedEntry>,
+}
+
+impl Model for EntryGroup {
+    ghost use Rattle.problem_definitions.specs.Names.{Name as Text};
+    ghost use Rattle.problem_definitions.specs.Problem.{Entry, Group};
+
+    ghost Value = { Group (Entry Text) };
+
+    ghost view = { λ group. record { name = group.name; items = group.items.items } };
+}
+
+/// A set of bounds with its items.
+#[derive(Debug, Drop)]
+pub struct BoundGroup {
+    pub name: Name,
+    pub items: Vec<NamedBound>,
+}
+
+impl Model for BoundGroup {
+    ghost use Rattle.problem_definitions.specs.Names.{Name as Text};
+    ghost use Rattle.problem_definitions.specs.Problem.{Bound, Group};
+
+    ghost Value = { Group (Bound Text) };
+
+    ghost view = { λ group. record { name = group.name; items = group.items.items } };
+}
+
+/// A problem by names.
+#[derive(Debug, Drop)]
+pub struct NamedProblem {
+    pub name: Name,
+    pub rows: Vec<RowDecl>,
+    pub columns: Vec<EntryGroup>,
+    pub rhs: Vec<EntryGroup>,
+    pub ranges: Vec<EntryGroup>,
+    pub bounds: Vec<BoundGroup>,
+}
+
+impl Model for NamedProblem {
+    ghost use Rattle.problem_definitions.specs.Names.{Name as Text};
+    ghost use Rattle.problem_definitions.specs.Problem.{Problem};
+
+    ghost Value = { Problem Text };
+
+    ghost view = { λ p. record { name = p.name; rows = p.rows.items; columns = p.columns.items; rhs = p.rhs.items; ranges = p.ranges.items; bounds = p.bounds.items } };
+}

@@ -1,0 +1,121 @@
+// The fault of a data card under an action of its section.
+ghost use Rattle.std.specs.Prelude.{◌≡◌};
+ghost use Rattle.deck_definitions.specs.declared.Section.TheVariants.{Rows, Columns, Rhs, Ranges, Bounds};
+ghost use Rattle.deck_parts.specs.Fields_shown.{shown};
+ghost use Rattle.revise_parts.specs.Summary.{edit_test};
+
+use crate::faults::{
+    deleted_bounds_fault, deleted_column_fault, deleted_row_fault, deleted_set_fault,
+    inserted_column_fault, inserted_row_fault, modified_bounds_fault, modified_column_fault,
+    modified_row_fault, modified_set_fault,
+};
+use crate::parts::NamedProblem;
+use crate::under::UnderAction;
+use deck_parts::{DataCard, DeckFaultKind, Section};
+use revise_definitions::Action;
+
+// The fault of a card of ROWS.
+fn rows_fault_of(
+    seen: &NamedProblem,
+    action: Action,
+    under: &UnderAction,
+    card: &DataCard<'_>,
+) -> Option<DeckFaultKind>
+    ensures { result ≡ edit_test seen.now Rows action under.now (shown card.now) }
+{
+    match action {
+        Action::Modify => modified_row_fault(seen, card),
+        Action::Delete => deleted_row_fault(seen, card),
+        Action::Before => inserted_row_fault(seen, card),
+        Action::After => inserted_row_fault(seen, card),
+    }
+}
+
+// The fault of a card of COLUMNS.
+fn columns_fault_of(
+    seen: &NamedProblem,
+    action: Action,
+    under: &UnderAction,
+    card: &DataCard<'_>,
+) -> Option<DeckFaultKind>
+    ensures { result ≡ edit_test seen.now Columns action under.now (shown card.now) }
+{
+    match action {
+        Action::Modify => modified_column_fault(seen, card),
+        Action::Delete => deleted_column_fault(seen, card),
+        Action::Before => inserted_column_fault(seen, under.goes_on(card), card),
+        Action::After => inserted_column_fault(seen, under.goes_on(card), card),
+    }
+}
+
+// The fault of a card of RHS.
+fn rhs_fault_of(
+    seen: &NamedProblem,
+    action: Action,
+    under: &UnderAction,
+    card: &DataCard<'_>,
+) -> Option<DeckFaultKind>
+    ensures { result ≡ edit_test seen.now Rhs action under.now (shown card.now) }
+{
+    match action {
+        Action::Modify => modified_set_fault(seen, Section::Rhs, card),
+        Action::Delete => deleted_set_fault(seen, &seen.rhs, card),
+        Action::Before => modified_set_fault(seen, Section::Rhs, card),
+        Action::After => modified_set_fault(seen, Section::Rhs, card),
+    }
+}
+
+// The fault of a card of RANGES.
+fn ranges_fault_of(
+    seen: &NamedProblem,
+    action: Action,
+    under: &UnderAction,
+    card: &DataCard<'_>,
+) -> Option<DeckFaultKind>
+    ensures { result ≡ edit_test seen.now Ranges action under.now (shown card.now) }
+{
+    match action {
+        Action::Modify => modified_set_fault(seen, Section::Ranges, card),
+        Action::Delete => deleted_set_fault(seen, &seen.ranges, card),
+        Action::Before => modified_set_fault(seen, Section::Ranges, card),
+        Action::After => modified_set_fault(seen, Section::Ranges, card),
+    }
+}
+
+// The fault of a card of BOUNDS.
+fn bounds_fault_of(
+    seen: &NamedProblem,
+    action: Action,
+    under: &UnderAction,
+    card: &DataCard<'_>,
+) -> Option<DeckFaultKind>
+    ensures { result ≡ edit_test seen.now Bounds action under.now (shown card.now) }
+{
+    match action {
+        Action::Modify => modified_bounds_fault(seen, card),
+        Action::Delete => deleted_bounds_fault(seen, card),
+        Action::Before => modified_bounds_fault(seen, card),
+        Action::After => modified_bounds_fault(seen, card),
+    }
+}
+
+/// The fault of a data card under an action of its section, with the data cards before it under that action.
+pub fn edit_fault_of(
+    seen: &NamedProblem,
+    section: Section,
+    action: Action,
+    under: &UnderAction,
+    card: &DataCard<'_>,
+) -> Option<DeckFaultKind>
+    ensures { result ≡ edit_test seen.now section action under.now (shown card.now) }
+{
+    match section {
+        Section::Rows => rows_fault_of(seen, action, under, card),
+        Section::Columns => columns_fault_of(seen, action, under, card),
+        Section::Rhs => rhs_fault_of(seen, action, under, card),
+        Section::Ranges => ranges_fault_of(seen, action, under, card),
+        Section::Bounds => bounds_fault_of(seen, action, under, card),
+        Section::Header => Some(DeckFaultKind::SectionOrder),
+        Section::Endata => Some(DeckFaultKind::SectionOrder),
+    }
+}
