@@ -1,5 +1,5 @@
 -- What CONVERT finds.
-use Rattle.control_run.proofs.Filing.{described_by, finds_no_deck, deck_refused}
+use Rattle.control_run.proofs.Filing.{finds_no_deck, deck_refused, converts_to}
 use Rattle.control_run.proofs.machine.Machine.described.Goals as goal
 
 pub returns-in_default : goal.returns-in_default
@@ -8,7 +8,7 @@ returns-in_default c =
 
 pub returns-in-Ok : goal.returns-in-Ok
 returns-in-Ok c =
-    described_by c.args.cards.now c.args.self.now c.in-Ok.problem c.name-wanted.result _ c.in-Some.deck.last c.next_card.result c.name-wanted.ensures c.in-Some.ensures.taken
+    converts_to c.args.card c.args.cards.now c.args.self.now c.name-wanted.result c.name-wanted.ensures c.in-Ok.problem _ c.in-Some.deck.last c.next_card.result c.in-Some.ensures.taken
     (rw c.name-name.ensures at c.in-Ok.ensures.problem) c.in-Some.ensures.within.2 c.next_card.ensures
 
 pub returns-in-Err : goal.returns-in-Err
