@@ -1,6 +1,6 @@
 -- What CONVERT and REVISE come to.
-use Rattle.std.proofs.Common.{◌≡◌, ℕ, ◌+◌, ◌-◌, ◌≤◌, length, arith, Bool, true, List, ◌∷◌, Option, None, Some, Result, Ok, Err, if◌then◌else◌, drop, refl, sym, ap, subst, ◌∙◌}
-use Rattle.std.specs.Prelude.{option_and_then, bytes_eq}
+use Rattle.std.proofs.Common.{◌≡◌, ℕ, ◌+◌, ◌-◌, ◌≤◌, length, arith, Bool, true, List, ◌∷◌, Option, None, Some, Result, Ok, Err, IfOk, if◌then◌else◌, drop, refl, sym, ap, subst, ◌∙◌}
+use Rattle.std.specs.Prelude.{IfErr, option_and_then, bytes_eq}
 use Rattle.std.proofs.lemmas.Slice.Eq.{bytes_eq-Decides}
 use Rattle.std.proofs.lemmas.Bool.Decides.{same_from_decides}
 use Rattle.job_devices.specs.declared.device.WriteStop.{WriteStop}
@@ -33,7 +33,7 @@ use Rattle.control_run.specs.declared.machine.Machine.{Machine}
 use Rattle.control_run.specs.Stage.{stage}
 use Rattle.control_run.specs.Standing.{filed, Stands}
 use Rattle.control_run.specs.Statements.{Comes, Executes}
-use Rattle.control_run.specs.Describing.{verb_of, report_of, decks_from, with_problem, IsDescribed, Describes, stopped_at}
+use Rattle.control_run.specs.Describing.{verb_of, report_of, decks_from, with_problem, IsDescribed, Describes, described_as}
 use Rattle.control_run.proofs.Giving.{gives_fault, gives_found, loudly, cut_off}
 
 same_either_way : (a b : Name) → same a b ≡ same b a
@@ -98,7 +98,7 @@ filed_behind verb card cards machine problem last from_card within is given =
     record {
       files = λ position executed state s.
           subst (λ (n : ℕ). Gives stage card (statement_move stage (verb_of verb) card state) (next (Prints (report_of verb (size_of problem))) (with_problem problem (decks_of (drop n (numbered_cards cards))) state)))
-              behind (given position executed state s);
+          behind (given position executed state s);
       first = omega (arith, is);
       last = omega (arith, is, within);
     }
@@ -110,22 +110,20 @@ module _ (card : ℕ) (cards : List (List ℕ)) (machine : Machine) (wanted : Op
   unfolding stage verb_move
   finds_no_deck none = λ position executed state s. takes_nothing card cards machine wanted same_name s (λ deck. conversion deck state.cells.xpbname) reports.Converted none
 
-  pub deck_refused : (deck : List Card) (rest : List (List Card)) (stop : DeckStop) → deck_taken wanted (decks_from machine.decks_from cards) ≡ Some (deck, rest) →
-      Refuses deck machine.cells.xpbname stop → Describes stage Convert card cards machine (stopped_at stop)
+  pub finds_a_deck : (given : Result (Problem ℕ) DeckStop) (deck : List Card) (last from_card : ℕ) →
+      deck_taken wanted (decks_from machine.decks_from cards) ≡ Some (deck, decks_of (drop last (numbered_cards cards))) →
+      IfOk given (λ problem. conversion deck machine.cells.xpbname ≡ Ok problem) → IfErr given (Refuses deck machine.cells.xpbname) →
+      last ≤ length cards → from_card ≡ last + 1 → Describes stage Convert card cards machine (described_as given from_card)
   unfolding stage verb_move
-  deck_refused deck rest (Fault fault) taken err = λ position executed state s.
-      takes_refused card cards machine wanted same_name s (λ deck. conversion deck state.cells.xpbname) reports.Converted deck rest fault taken (ap (λ (c : Cells). conversion deck c.xpbname) s.cells ∙ err)
-  deck_refused deck rest NoMemory taken err = refl
-
-  pub converts_to : (problem : Problem ℕ) (deck : List Card) (last from_card : ℕ) →
-      deck_taken wanted (decks_from machine.decks_from cards) ≡ Some (deck, decks_of (drop last (numbered_cards cards))) → conversion deck machine.cells.xpbname ≡ Ok problem →
-      last ≤ length cards → from_card ≡ last + 1 → IsDescribed stage Convert card cards machine problem from_card
-  unfolding stage verb_move
-  converts_to problem deck last from_card taken ok within is =
+  finds_a_deck (Ok problem) deck last from_card taken ok err within is =
       filed_behind Convert card cards machine problem last from_card within is
       (λ position executed state s.
-          takes_problem card cards machine wanted same_name s (λ deck. conversion deck state.cells.xpbname) reports.Converted deck (decks_of (drop last (numbered_cards cards))) problem taken
-          (ap (λ (c : Cells). conversion deck c.xpbname) s.cells ∙ ok))
+      takes_problem card cards machine wanted same_name s (λ deck. conversion deck state.cells.xpbname) reports.Converted deck (decks_of (drop last (numbered_cards cards))) problem taken
+      (ap (λ (c : Cells). conversion deck c.xpbname) s.cells ∙ ok))
+  finds_a_deck (Err (Fault fault)) deck last from_card taken ok err within is = λ position executed state s.
+      takes_refused card cards machine wanted same_name s (λ deck. conversion deck state.cells.xpbname) reports.Converted deck (decks_of (drop last (numbered_cards cards))) fault taken
+      (ap (λ (c : Cells). conversion deck c.xpbname) s.cells ∙ err)
+  finds_a_deck (Err NoMemory) deck last from_card taken ok err within is = refl
 
 -- ---- the statement
 

@@ -1,5 +1,6 @@
 -- What REVISE finds.
-use Rattle.std.proofs.Common.{◌≡◌, ℕ, ◌+◌, ◌≤◌, length, List, Option, None, Some, Ok, Err, drop, refl, ap, ◌∙◌}
+use Rattle.std.proofs.Common.{◌≡◌, ℕ, ◌+◌, ◌≤◌, length, List, Option, None, Some, Result, Ok, Err, IfOk, drop, refl, ap, ◌∙◌}
+use Rattle.std.specs.Prelude.{IfErr}
 use Rattle.card_definitions.specs.Cards.{Card, numbered_cards}
 use Rattle.deck_definitions.specs.Decks.{decks_of, deck_taken}
 use Rattle.deck_fields.specs.declared.stop.DeckStop.{DeckStop}
@@ -12,7 +13,7 @@ use Rattle.control_definitions.specs.Cells.{Cells}
 use Rattle.listing_definitions.specs.declared.VerbFault.TheVariants.{DeckNotFound, NoProblem}
 use Rattle.listing_definitions.specs.Report as reports
 use Rattle.run_definitions.specs.State.{State, problem_of}
-use Rattle.run_definitions.specs.Moves.{Outcome, Gives, or_fault}
+use Rattle.run_definitions.specs.Moves.{Outcome, Gives}
 use Rattle.run_definitions.specs.Verbs.{revises, verb_move}
 use Rattle.control_run.specs.declared.taking.DeckVerb.TheVariants.{Revise}
 use Rattle.control_run.specs.declared.taking.Described.TheVariants as described
@@ -20,7 +21,7 @@ use Rattle.control_run.specs.declared.end.End.TheVariants.{Verb}
 use Rattle.control_run.specs.declared.machine.Machine.{Machine}
 use Rattle.control_run.specs.Stage.{stage}
 use Rattle.control_run.specs.Standing.{filed, Stands}
-use Rattle.control_run.specs.Describing.{decks_from, IsDescribed, Describes, stopped_at}
+use Rattle.control_run.specs.Describing.{decks_from, Describes, described_as}
 use Rattle.control_run.proofs.Giving.{gives_fault, gives_found}
 use Rattle.control_run.proofs.Filing.{takes, takes_nothing, takes_refused, takes_problem, filed_behind}
 
@@ -47,22 +48,19 @@ module _ (card : ℕ) (cards : List (List ℕ)) (machine : Machine) where
     finds_no_revision none = λ position executed state s.
         gives_revised s _ (takes_nothing card cards machine wanted same_name s (λ deck. revision old deck state.cells.xpbname) reports.Revised none)
 
-    pub revision_refused : (deck : List Card) (rest : List (List Card)) (stop : DeckStop) → deck_taken wanted (decks_from machine.decks_from cards) ≡ Some (deck, rest) →
-        Refuses old deck machine.cells.xpbname stop → Describes stage Revise card cards machine (stopped_at stop)
+    pub finds_a_revision : (given : Result (Problem ℕ) DeckStop) (deck : List Card) (last from_card : ℕ) →
+        deck_taken wanted (decks_from machine.decks_from cards) ≡ Some (deck, decks_of (drop last (numbered_cards cards))) →
+        IfOk given (λ problem. revision old deck machine.cells.xpbname ≡ Ok problem) → IfErr given (Refuses old deck machine.cells.xpbname) →
+        last ≤ length cards → from_card ≡ last + 1 → Describes stage Revise card cards machine (described_as given from_card)
     unfolding stage verb_move
-    revision_refused deck rest (Fault fault) taken err = λ position executed state s.
-        gives_revised s _
-        (takes_refused card cards machine wanted same_name s (λ deck. revision old deck state.cells.xpbname) reports.Revised deck rest fault taken
-        (ap (λ (c : Cells). revision old deck c.xpbname) s.cells ∙ err))
-    revision_refused deck rest NoMemory taken err = refl
-
-    pub revises_to : (problem : Problem ℕ) (deck : List Card) (last from_card : ℕ) →
-        deck_taken wanted (decks_from machine.decks_from cards) ≡ Some (deck, decks_of (drop last (numbered_cards cards))) → revision old deck machine.cells.xpbname ≡ Ok problem →
-        last ≤ length cards → from_card ≡ last + 1 → IsDescribed stage Revise card cards machine problem from_card
-    unfolding stage verb_move
-    revises_to problem deck last from_card taken ok within is =
+    finds_a_revision (Ok problem) deck last from_card taken ok err within is =
         filed_behind Revise card cards machine problem last from_card within is
         (λ position executed state s.
-            gives_revised s _
-            (takes_problem card cards machine wanted same_name s (λ deck. revision old deck state.cells.xpbname) reports.Revised deck (decks_of (drop last (numbered_cards cards))) problem taken
-            (ap (λ (c : Cells). revision old deck c.xpbname) s.cells ∙ ok)))
+        gives_revised s _
+        (takes_problem card cards machine wanted same_name s (λ deck. revision old deck state.cells.xpbname) reports.Revised deck (decks_of (drop last (numbered_cards cards))) problem taken
+        (ap (λ (c : Cells). revision old deck c.xpbname) s.cells ∙ ok)))
+    finds_a_revision (Err (Fault fault)) deck last from_card taken ok err within is = λ position executed state s.
+        gives_revised s _
+        (takes_refused card cards machine wanted same_name s (λ deck. revision old deck state.cells.xpbname) reports.Revised deck (decks_of (drop last (numbered_cards cards))) fault taken
+        (ap (λ (c : Cells). revision old deck c.xpbname) s.cells ∙ err))
+    finds_a_revision (Err NoMemory) deck last from_card taken ok err within is = refl

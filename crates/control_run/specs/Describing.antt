@@ -49,10 +49,11 @@ pub record IsDescribed (S : Solving) (verb : DeckVerb) (card : ℕ) (cards : Lis
   pub first : 1 ≤ from_card
   pub last : from_card ≤ length cards + 1
 
--- a fault of the deck ends the run, and else there is no memory
-abbrev pub stopped_at : DeckStop → Result Described Halt
-stopped_at (Fault fault) = Ok (Ends (ends.Deck fault))
-stopped_at NoMemory = Err halt.NoMemory
+-- the problem that a deck gives is to be filed, and a fault of the deck ends the run; else there is no memory
+abbrev pub described_as : Result (Problem ℕ) DeckStop → ℕ → Result Described Halt
+described_as (Ok problem) from_card = Ok (Filed problem from_card)
+described_as (Err (Fault fault)) from_card = Ok (Ends (ends.Deck fault))
+described_as (Err NoMemory) from_card = Err halt.NoMemory
 
 -- A problem is to be filed, or from each state that the machine shows the statement ends the run, or there is no memory.
 abbrev pub Describes : Solving → DeckVerb → ℕ → List (List ℕ) → Machine → Result Described Halt → Type 0

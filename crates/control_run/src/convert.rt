@@ -10,7 +10,7 @@ ghost use Rattle.control_run.specs.declared.taking.DeckVerb.TheVariants as deck_
 use crate::act::{Act, Halt};
 use crate::end::End;
 use crate::machine::Machine;
-use crate::taking::{DeckVerb, Described, next_card, stopped};
+use crate::taking::{DeckVerb, Described, described_as, next_card};
 use card_reader::Cards;
 use control_definitions::NameCell;
 use job_decks::take_deck;
@@ -33,13 +33,8 @@ impl Machine {
             }));
         };
         let name = self.cells.name(NameCell::Xpbname);
-        match convert(alloc, cards, deck.first, deck.last, name) {
-            Ok(problem) => Ok(Described::Filed {
-                problem,
-                next: next_card(cards, deck.last),
-            }),
-            Err(stop) => stopped(stop),
-        }
+        let given = convert(alloc, cards, deck.first, deck.last, name);
+        described_as(given, next_card(cards, deck.last))
     }
 
     /// CONVERT: takes the first deck of the name moved to XDATA, or the first of all, and files the problem that it describes,

@@ -12,7 +12,7 @@ use crate::act::{Act, Halt};
 use crate::end::End;
 use crate::machine::Machine;
 use crate::setup::wanted_name;
-use crate::taking::{DeckVerb, Described, next_card, stopped};
+use crate::taking::{DeckVerb, Described, described_as, next_card};
 use card_reader::Cards;
 use control_definitions::NameCell;
 use job_decks::take_deck;
@@ -50,13 +50,8 @@ impl Machine {
             }));
         };
         let name = self.cells.name(NameCell::Xpbname);
-        match revise(alloc, old, cards, deck.first, deck.last, name) {
-            Ok(problem) => Ok(Described::Filed {
-                problem,
-                next: next_card(cards, deck.last),
-            }),
-            Err(stop) => stopped(stop),
-        }
+        let given = revise(alloc, old, cards, deck.first, deck.last, name);
+        described_as(given, next_card(cards, deck.last))
     }
 
     /// REVISE: takes the first deck of the name moved to XDATA, or the first of all, and files what it makes of the problem that

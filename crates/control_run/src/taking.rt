@@ -7,7 +7,7 @@ ghost use Rattle.run_definitions.specs.Verbs.{size_of};
 ghost use Rattle.control_run.specs.Stage.{stage};
 ghost use Rattle.control_run.specs.Standing.{IsSound};
 ghost use Rattle.control_run.specs.Statements.{Executes};
-ghost use Rattle.control_run.specs.Describing.{verb_of, report_of, Describes, stopped_at};
+ghost use Rattle.control_run.specs.Describing.{verb_of, report_of, Describes, described_as};
 
 use crate::act::{Act, Halt};
 use crate::end::End;
@@ -78,13 +78,14 @@ pub fn next_card(cards: &Cards, last: u32) -> u32
     last.min(cards.count()) + 1
 }
 
-/// What a deck that stops comes to.
-pub fn stopped(stop: DeckStop) -> Result<Described, Halt>
-    ensures { result ≡ stopped_at stop }
+/// What the problem that a deck gives comes to, or its stop; the next deck begins with the card of this number or later.
+pub fn described_as(given: Result<Problem, DeckStop>, next: u32) -> Result<Described, Halt>
+    ensures { result ≡ described_as given next }
 {
-    match stop {
-        DeckStop::Fault(fault) => Ok(Described::Ends(End::Deck(fault))),
-        DeckStop::NoMemory => Err(Halt::NoMemory),
+    match given {
+        Ok(problem) => Ok(Described::Filed { problem, next }),
+        Err(DeckStop::Fault(fault)) => Ok(Described::Ends(End::Deck(fault))),
+        Err(DeckStop::NoMemory) => Err(Halt::NoMemory),
     }
 }
 

@@ -1,6 +1,6 @@
 -- What REVISE finds.
 use Rattle.std.proofs.Common.{sym}
-use Rattle.control_run.proofs.Revising.{finds_no_problem, finds_no_revision, revision_refused, revises_to}
+use Rattle.control_run.proofs.Revising.{finds_no_problem, finds_no_revision, finds_a_revision}
 use Rattle.control_run.proofs.machine.Machine.revised.Goals as goal
 
 pub returns-in_default : goal.returns-in_default
@@ -10,13 +10,9 @@ pub returns-in_default-take_deck : goal.returns-in_default-take_deck
 returns-in_default-take_deck c =
     finds_no_revision c.args.card c.args.cards.now c.args.self.now c.in-Some.old.now (sym c.in-Some.ensures) c.name-wanted.result c.name-wanted.ensures c.in_default-take_deck.ensures.taken
 
-pub returns-in-Ok : goal.returns-in-Ok
-returns-in-Ok c =
-    revises_to c.args.card c.args.cards.now c.args.self.now c.in-Some.old.now (sym c.in-Some.ensures) c.name-wanted.result c.name-wanted.ensures c.in-Ok.problem _ c.in-Some-take_deck.deck.last c.next_card.result
-    c.in-Some-take_deck.ensures.taken (rw c.name-name.ensures at c.in-Ok.ensures.problem) c.in-Some-take_deck.ensures.within.2 c.next_card.ensures
-
-pub returns-in-Err : goal.returns-in-Err
-returns-in-Err c =
-    rw c.stopped.ensures
-    (revision_refused c.args.card c.args.cards.now c.args.self.now c.in-Some.old.now (sym c.in-Some.ensures) c.name-wanted.result c.name-wanted.ensures _ _ c.in-Err.stop c.in-Some-take_deck.ensures.taken
-    (rw c.name-name.ensures at c.in-Err.ensures.stop))
+pub returns : goal.returns
+returns c =
+    rw c.described_as.ensures
+    (finds_a_revision c.args.card c.args.cards.now c.args.self.now c.in-Some.old.now (sym c.in-Some.ensures) c.name-wanted.result c.name-wanted.ensures c.revise-given.result _
+    c.in-Some-take_deck.deck.last c.next_card.result c.in-Some-take_deck.ensures.taken (rw c.name-name.ensures at c.revise-given.ensures.problem) (rw c.name-name.ensures at c.revise-given.ensures.stop)
+    c.in-Some-take_deck.ensures.within.2 c.next_card.ensures)
