@@ -16,7 +16,7 @@ use Rattle.listing_definitions.specs.Report.{Verdict, Check, Report, Solved}
 use Rattle.listing_definitions.specs.Ending as endings
 use Rattle.question_definitions.specs.Answers.{Basis, Sheet, OfPath, PathEnd, Reached, PathLimit}
 use Rattle.answer_definitions.specs.Verdicts.{IsSolved}
-use Rattle.answer_definitions.specs.Evidence.{OverflowsOnPath}
+use Rattle.answer_definitions.specs.Evidence.{OverflowsAt, OverflowsOnPath}
 use Rattle.run_definitions.specs.State.{Present, present_basis, path_of, State, choice_of, gone_through}
 use Rattle.run_definitions.specs.Moves.{Gain, Prints, punched_by, Outcome, Ends as EndsRun, stops, Move, MayStop, Asks, Gives, or_fault, InSelection, InAnswer, RangeOverflows}
 use Rattle.run_definitions.specs.Verbs.{mark_of, or_selection_fault, by_verdict, demanded, after_path, statement_move, verb_move}

@@ -22,7 +22,7 @@ use Rattle.listing_definitions.specs.Ending as endings
 use Rattle.question_definitions.specs.Answers.{Basis, Sheet, OfSolution}
 use Rattle.control_definitions.specs.Cells.{Cells}
 use Rattle.answer_definitions.specs.Sections.{IsShown}
-use Rattle.answer_definitions.specs.Evidence.{IsEvidence}
+use Rattle.answer_definitions.specs.Evidence.{OverflowsAt, IsEvidence}
 use Rattle.report_text.specs.declared.sheet.Sheet.{Sheet as OwnSheet}
 use Rattle.present_answers.specs.Answers.{sheet_shown}
 use Rattle.present_answers.specs.Stops.{SolutionRefused}
