@@ -1,0 +1,119 @@
+use card_reader::{Cards, read_job};
+use deck_fields::{DeckFault, DeckFaultKind, DeckStop};
+use job_devices::SureSource;
+use mps_convert::convert;
+use problem_file::Problem;
+use revise_deck::revise;
+use std::alloc::Global;
+use std::test::Fail;
+
+// The deck of the old problem.
+const OLD: &[u8] =
+    b"NAME          OLD\nROWS\n N  COST\n L  LIM\nCOLUMNS\n    X         COST      1              LIM       1\n    Y         COST      2\nRHS\n    B         LIM       4\nRANGES\n    R         LIM       2\nBOUNDS\n LO BND       X         1\n UP BND       X         3\nENDATA\n";
+
+fn cards_of(alloc: Global, text: &[u8]) -> Result<Cards, Fail> {
+    let mut source = SureSource::new(alloc, text)?;
+    let cards = read_job(alloc, &mut source)?;
+    Ok(cards)
+}
+
+// The old problem.
+fn old_problem(alloc: Global) -> Result<Problem, Fail> {
+    let cards = cards_of(alloc, OLD)?;
+    let last = cards.count();
+    if last == 0 {
+        return Err(Fail::from("no card"));
+    }
+    let problem = convert(alloc, &cards, 1, last, None)
+        .ok()
+        .ok_or("a problem")?;
+    Ok(problem)
+}
+
+// The old problem, revised by the deck of a NAME card, these cards and ENDATA.
+fn revision(alloc: Global, edits: &[u8]) -> Result<Result<Problem, DeckStop>, Fail> {
+    let old = old_problem(alloc)?;
+    let mut deck = Vec::from_slice(alloc, b"NAME          REV\n")?;
+    deck.extend_from_slice(edits)?;
+    deck.extend_from_slice(b"ENDATA\n")?;
+    let cards = cards_of(alloc, &deck)?;
+    let last = cards.count();
+    if last == 0 {
+        return Err(Fail::from("no card"));
+    }
+    Ok(revise(alloc, &old, &cards, 1, last, None))
+}
+
+// The problem that such a deck makes of the old one.
+pub fn revised(alloc: Global, edits: &[u8]) -> Result<Problem, Fail> {
+    match revision(alloc, edits)? {
+        Ok(problem) => Ok(problem),
+        Err(_) => Err(Fail::from("a fault")),
+    }
+}
+
+// The fault of such a deck.
+pub fn fault_of(alloc: Global, edits: &[u8]) -> Result<Option<(u32, DeckFaultKind)>, Fail> {
+    match revision(alloc, edits)? {
+        Ok(_) => Ok(None),
+        Err(DeckStop::Fault(DeckFault { card, kind })) => Ok(Some((card, kind))),
+        Err(DeckStop::NoMemory) => Err(Fail::from("memory")),
+    }
+}
+
+// What a problem says, shortly: a line each for the rows, the columns, the right-hand sides, the ranges and the bounds.
+pub fn text_of(alloc: Global, problem: &Problem) -> Result<Vec<u8>, Fail> {
+    let mut text = Vec::new(alloc);
+    for row in problem.rows() {
+        text.extend_from_slice(row.name.bytes())?;
+        text.push(b' ')?;
+    }
+    text.push(b'/')?;
+    for column in problem.columns() {
+        text.extend_from_slice(column.name.bytes())?;
+        for entry in &column.entries {
+            text.push(b' ')?;
+            text.push(digit(entry.row))?;
+            text.push(b':')?;
+            text.extend_from_slice(entry.value.text())?;
+        }
+        text.push(b';')?;
+    }
+    text.push(b'/')?;
+    for set in problem.rhs() {
+        text.extend_from_slice(set.name.bytes())?;
+        for item in &set.items {
+            text.push(b' ')?;
+            text.push(digit(item.row))?;
+            text.push(b':')?;
+            text.extend_from_slice(item.value.text())?;
+        }
+        text.push(b';')?;
+    }
+    text.push(b'/')?;
+    for set in problem.ranges() {
+        text.extend_from_slice(set.name.bytes())?;
+        for item in &set.items {
+            text.push(b' ')?;
+            text.push(digit(item.row))?;
+            text.push(b':')?;
+            text.extend_from_slice(item.value.text())?;
+        }
+        text.push(b';')?;
+    }
+    text.push(b'/')?;
+    for set in problem.bounds() {
+        text.extend_from_slice(set.name.bytes())?;
+        for bound in &set.items {
+            text.push(b' ')?;
+            text.push(digit(bound.column))?;
+        }
+        text.push(b';')?;
+    }
+    Ok(text)
+}
+
+// A number below 10 as a digit.
+fn digit(number: u32) -> u8 {
+    b'0' + (number % 10) as u8
+}

@@ -1,0 +1,78 @@
+use crate::decks::{revised, text_of};
+use std::test::Fail;
+
+#[test]
+fn each_action_edits_its_section(rt: HostRuntime) -> Result<(), Fail> {
+    let decks: [(&[u8], &[u8]); 17] = [
+        (b"", b"COST LIM /X 1:1 2:1;Y 1:2;/B 2:4;/R 2:2;/BND 1 1;"),
+        (
+            b"ROWS\n MODIFY\n G  LIM\n",
+            b"COST LIM /X 1:1 2:1;Y 1:2;/B 2:4;/R 2:2;/BND 1 1;",
+        ),
+        (
+            b"ROWS\n DELETE\n    LIM\n",
+            b"COST /X 1:1;Y 1:2;///BND 1 1;",
+        ),
+        (
+            b"ROWS\n BEFORE       LIM\n G  R1\n G  R2\n",
+            b"COST R1 R2 LIM /X 1:1 4:1;Y 1:2;/B 4:4;/R 4:2;/BND 1 1;",
+        ),
+        (
+            b"ROWS\n AFTER        COST\n G  R1\n G  R2\n AFTER\n G  R3\n",
+            b"COST R1 R2 LIM R3 /X 1:1 4:1;Y 1:2;/B 4:4;/R 4:2;/BND 1 1;",
+        ),
+        (
+            b"COLUMNS\n MODIFY\n    Y         LIM       7              COST      5\n",
+            b"COST LIM /X 1:1 2:1;Y 1:5 2:7;/B 2:4;/R 2:2;/BND 1 1;",
+        ),
+        (
+            b"COLUMNS\n DELETE\n    X\n",
+            b"COST LIM /Y 1:2;/B 2:4;/R 2:2;/",
+        ),
+        (
+            b"COLUMNS\n DELETE\n    X         COST\n",
+            b"COST LIM /X 2:1;Y 1:2;/B 2:4;/R 2:2;/BND 1 1;",
+        ),
+        (
+            b"COLUMNS\n BEFORE       Y\n    Z         COST      3\n    Z         LIM       4\n    W         LIM       5\n",
+            b"COST LIM /X 1:1 2:1;Z 1:3 2:4;W 2:5;Y 1:2;/B 2:4;/R 2:2;/BND 1 1;",
+        ),
+        (
+            b"COLUMNS\n AFTER        X\n    Z         COST      3\n BEFORE\n    V         COST      6\n",
+            b"COST LIM /V 1:6;X 1:1 2:1;Z 1:3;Y 1:2;/B 2:4;/R 2:2;/BND 2 2;",
+        ),
+        (
+            b"RHS\n MODIFY\n    B         LIM       5              COST      1\n    C         LIM       6\n",
+            b"COST LIM /X 1:1 2:1;Y 1:2;/B 2:5 1:1;C 2:6;/R 2:2;/BND 1 1;",
+        ),
+        (
+            b"RHS\n DELETE\n    B\n",
+            b"COST LIM /X 1:1 2:1;Y 1:2;//R 2:2;/BND 1 1;",
+        ),
+        (
+            b"RANGES\n DELETE\n    R         LIM\n",
+            b"COST LIM /X 1:1 2:1;Y 1:2;/B 2:4;//BND 1 1;",
+        ),
+        (
+            b"RANGES\n MODIFY\n    S         LIM       8\n",
+            b"COST LIM /X 1:1 2:1;Y 1:2;/B 2:4;/R 2:2;S 2:8;/BND 1 1;",
+        ),
+        (
+            b"BOUNDS\n MODIFY\n UP BND       Y         9\n",
+            b"COST LIM /X 1:1 2:1;Y 1:2;/B 2:4;/R 2:2;/BND 1 1 2;",
+        ),
+        (
+            b"BOUNDS\n MODIFY\n FX BND       X         2\n UP NEW       Y         1\n",
+            b"COST LIM /X 1:1 2:1;Y 1:2;/B 2:4;/R 2:2;/BND 1;NEW 2;",
+        ),
+        (
+            b"BOUNDS\n DELETE\n    BND       X\n",
+            b"COST LIM /X 1:1 2:1;Y 1:2;/B 2:4;/R 2:2;/",
+        ),
+    ];
+    for (edits, text) in decks {
+        let problem = revised(rt.alloc(), edits)?;
+        assert_eq!(rt; text_of(rt.alloc(), &problem)?.as_slice(), text);
+    }
+    Ok(())
+}
