@@ -11,6 +11,7 @@ pub mod Sound
 pub mod Selected
 pub mod Setting
 pub mod Filing
+pub mod Revising
 pub mod Telling
 pub mod Present
 pub mod Solving_steps

@@ -45,7 +45,7 @@ fn execute<P: Sink>(
         Verb::Setup(options) => set_up(alloc, machine, print, card, options),
         Verb::Primal => solve(alloc, machine, print, card),
         Verb::Solution => show_solution(alloc, machine, print, card),
-        Verb::Revise => Ok(Act::Ends(End::NotBuilt)),
+        Verb::Revise => machine.revise(alloc, cards, print, card),
         Verb::Ranging => Ok(Act::Ends(End::NotBuilt)),
         Verb::Paraobj => Ok(Act::Ends(End::NotBuilt)),
         Verb::Pararhs => Ok(Act::Ends(End::NotBuilt)),

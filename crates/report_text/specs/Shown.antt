@@ -19,7 +19,7 @@ use Rattle.report_text.specs.Lines.{solution_lines}
 use Rattle.report_text.specs.Solutions.{IsSolution}
 use Rattle.report_text.specs.Verdicts.{IsOutcome, verdict_shown, check_shown}
 use Rattle.report_text.specs.declared.report.Report.{Report}
-use Rattle.report_text.specs.declared.report.Report.TheVariants.{Title, Converted, SetUp, Solved, Solution, End}
+use Rattle.report_text.specs.declared.report.Report.TheVariants.{Title, Converted, Revised, SetUp, Solved, Solution, End}
 use Rattle.report_text.specs.declared.report.Ending.{Ending}
 use Rattle.report_text.specs.declared.report.Ending.TheVariants.{Code, Words, Control, Verb, Deck, CardFault as CardStop, Limit, Statements, Overflow, ReadFault, PunchFault, Memory, NotBuilt}
 
@@ -105,6 +105,7 @@ IsReport _ = Unit {0}
 abbrev pub text_shown : Report → List ℕ
 text_shown (Title text) = report_text (reports.Titled text.now)
 text_shown (Converted name rows columns entries) = report_text (reports.Converted (record { name = name; rows = rows; columns = columns; entries = entries }))
+text_shown (Revised name rows columns entries) = report_text (reports.Revised (record { name = name; rows = rows; columns = columns; entries = entries }))
 text_shown (SetUp name sense) = report_text (reports.SetUp name sense)
 text_shown (Solved by sheet outcome refused) = report_text (reports.Solved by (verdict_shown sheet outcome.now) (check_shown refused))
 text_shown (Solution mark sheet basis point prices slack) = report_text (reports.Solution mark (solution_lines sheet.problem.now sheet.lp.now basis.now point.now prices.now slack.now))

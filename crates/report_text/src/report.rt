@@ -3,7 +3,7 @@ ghost use Rattle.job_devices.specs.Text.{Writes};
 ghost use Rattle.report_text.specs.Shown.{IsReport, text_shown};
 
 use crate::ending::put_ending;
-use crate::plain::{put_converted, put_setup, put_title};
+use crate::plain::{put_converted, put_revised, put_setup, put_title};
 use crate::sheet::Sheet;
 use crate::solution::put_solution;
 use crate::table::Standing;
@@ -24,6 +24,13 @@ pub enum Report<'a> {
     },
     /// A problem that was converted and filed, with its size.
     Converted {
+        name: Name,
+        rows: u32,
+        columns: u32,
+        entries: u32,
+    },
+    /// A problem that was made of another one and filed, with its size.
+    Revised {
         name: Name,
         rows: u32,
         columns: u32,
@@ -122,6 +129,12 @@ pub fn text_of<P: Sink>(report: &Report<'_>, print: &mut P) -> Result<(), WriteS
             columns,
             entries,
         } => put_converted(print, name, rows, columns, entries),
+        Report::Revised {
+            name,
+            rows,
+            columns,
+            entries,
+        } => put_revised(print, name, rows, columns, entries),
         Report::SetUp { name, sense } => put_setup(print, name, sense),
         Report::Solved {
             by,
