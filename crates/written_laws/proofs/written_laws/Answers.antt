@@ -1,6 +1,10 @@
--- A written deck converts back.
+-- A written deck converts back, and is read back from its text.
+use Rattle.written_laws.proofs.Texts.{reads-back}
 use Rattle.written_laws.proofs.Whole.{converts-back}
 use Rattle.written_laws.proofs.written_laws.Goals as goal
 
-pub returns : goal.returns
-returns c = converts-back
+pub returns-clause-converts_back : goal.returns-clause-converts_back
+returns-clause-converts_back c = converts-back
+
+pub returns-clause-reads_back : goal.returns-clause-reads_back
+returns-clause-reads_back c = reads-back
