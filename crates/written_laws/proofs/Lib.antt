@@ -8,4 +8,5 @@ pub mod Bounds
 pub mod Numbers
 pub mod Printable
 pub mod Texts
+pub mod Decks
 pub mod Whole
