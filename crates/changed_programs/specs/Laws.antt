@@ -2,9 +2,11 @@
 use Rattle.std.specs.Prelude.{◌≡◌, ◌↔◌, ℕ, ◌+◌, true, List, None}
 use Rattle.exact_values.specs.Rational.{ℚ, ◌+ℚ◌}
 use Rattle.lp_definitions.specs.LinearProgram.{LinearProgram, IsRow, IsColumn, IsVariable, IsLinearProgram, cost}
+use Rattle.lp_definitions.specs.Solutions.{IsFeasible}
 use Rattle.lp_definitions.specs.Basis.{basics_of, status_of, IsBasis, IsNonsingular, IsOptimalBasis, Tableau, IsTableau}
 use Rattle.lp_definitions.specs.declared.Status.{Status}
 use Rattle.postoptimal_definitions.specs.Ranges.{with_limit, with_cost, with_row, stands_at_limit}
+use Rattle.postoptimal_definitions.specs.ObjectiveRun.{objective_family}
 use Rattle.changed_programs.specs.Changes.{HasRows, IsRightTableau, RatesStay, LimitStays, worths, slopes}
 
 -- a basis is optimal where one tableau of it says so, and then each does
@@ -19,11 +21,22 @@ pub record IsPresent (p : LinearProgram) (s : List Status) (t : Tableau) : Type 
   pub optimal : IsOptimalBasis p s
   pub is_tableau : IsTableau p s t
 
+-- a basis with its tableau, whose point is feasible
+pub record IsFeasibleBasis (p : LinearProgram) (s : List Status) (t : Tableau) : Type 0 where
+  pub is_basis : IsBasis p s
+  pub nonsingular : IsNonsingular p.matrix (basics_of s)
+  pub objective_row : IsRow p.matrix p.objective
+  pub is_tableau : IsTableau p s t
+  pub feasible : IsFeasible p t.point
+
 -- where it stays optimal
 pub record ChangedLaws : Type 0 where
   -- x times the activity of a row is added to the objective
   pub row : (p : LinearProgram) (s : List Status) (t : Tableau) → IsPresent p s t → (i : ℕ) → IsRow p.matrix i → (x : ℚ)
       → IsOptimalBasis (with_row p i x) s ↔ RatesStay p s (worths p t) (slopes p t i) x
+  -- the same as in a parametric run, where only the basis's point need be feasible
+  pub objective : (p : LinearProgram) (s : List Status) (t : Tableau) → IsFeasibleBasis p s t → (h : ℕ) → IsRow p.matrix h → (x : ℚ)
+      → IsOptimalBasis (objective_family p h x) s ↔ RatesStay p s (worths p t) (slopes p t h) x
   -- x is added to the cost of a column
   pub cost : (p : LinearProgram) (s : List Status) (t : Tableau) → IsPresent p s t → (j : ℕ) → IsColumn p.matrix j → (x : ℚ)
       → IsOptimalBasis (with_cost p (p.rows + j) (cost p j +ℚ x)) s ↔ RatesStay p s (worths p t) (slopes p t (p.rows + j)) x

@@ -1,13 +1,14 @@
-// A library with one function.
+//! Ranging: the intervals in which a basis stays optimal while one limit, one cost or one multiple of a row changes. Variables are
+//! numbered from 1: the rows, and then the columns.
 #![tactic(auto)]
 
-ghost use Rattle.std.specs.Prelude.{◌≡◌};
-ghost use Rattle.ranging.specs.Echo.{echo_of};
+mod choices;
+mod evidence;
+mod intervals;
+mod limit_ends;
+mod lists;
+mod pass;
+mod reporting;
+mod row_ends;
 
-// The `ensures` clause is the contract: what `echo` returns is `echo_of` of its argument, a definition
-// in `specs/Echo.antt`, which a caller's clause can cite too.
-pub fn echo(x: usize) -> usize
-    ensures { result ≡ echo_of x }
-{
-    x
-}
+pub use reporting::range;

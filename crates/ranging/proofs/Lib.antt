@@ -1,0 +1,9 @@
+pub mod Results
+pub mod RateBounds
+pub mod Distances
+pub mod Deviations
+pub mod Shown
+pub mod AtBasis
+pub mod Refused
+pub mod Listed
+pub mod Items

@@ -1,0 +1,36 @@
+use Rattle.std.proofs.Common.{◌≡◌, ◌-◌, rules, arith, sym, ap, ◌∙◌, subst, drop, length, replicate}
+use Rattle.std.proofs.lemmas.List.{get_or-replicate}
+use Rattle.lp_definitions.specs.LinearProgram.{value_at, size}
+use Rattle.lp_definitions.specs.Basis.{basics_of}
+use Rattle.bounded_primal.proofs.Covered.{keeps_same}
+use Rattle.ranging.specs.LimitEnds.{no_ends, ends_at}
+use Rattle.ranging.specs.Tables.{AllMet, AllFound}
+use Rattle.ranging.proofs.Results.{take_all}
+use Rattle.ranging.proofs.AtBasis.{met_begins}
+use Rattle.ranging.proofs.reporting.range_at.Goals as goal
+
+pub returns-in_err-row-clause-waypoints : goal.returns-in_err-row-clause-waypoints
+returns-in_err-row-clause-waypoints g c = keeps_same c.args.lp.now.matrix (basics_of c.args.basis.now) (g.R.Rates.waypoints c.args.rates.now)
+
+pub returns-in_err-found-clause-waypoints : goal.returns-in_err-found-clause-waypoints
+returns-in_err-found-clause-waypoints g c = keeps_same c.args.lp.now.matrix (basics_of c.args.basis.now) (g.R.Rates.waypoints c.args.rates.now)
+
+pub returns-in_err-ends-clause-waypoints : goal.returns-in_err-ends-clause-waypoints
+returns-in_err-ends-clause-waypoints g c = keeps_same c.args.lp.now.matrix (basics_of c.args.basis.now) (g.R.Rates.waypoints c.args.rates.now)
+
+pub pass-requires-clause-begins : goal.pass-requires-clause-begins
+pass-requires-clause-begins g c =
+    let counted : c.number_of_variables-size.result ≡ size c.args.lp.now.matrix = search rules in
+    let items : c.deref_mut-3.result.now ≡ replicate c.number_of_variables-size.result c.without_ends-2.result = search rules in
+    met_begins c.args.lp.now c.args.basis.now c.number_of_variables-size.ensures.lawful c.requires.no_change c.requires.optimal (value_at c.args.point.now) c.requires.point c.deref_mut-3.result.now
+    (λ k is. ap (λ xs. ends_at xs k) items ∙ get_or-replicate c.number_of_variables-size.result (k - 1) c.without_ends-2.result no_ends (omega (arith, counted, is.0, is.1)) ∙ c.without_ends-2.ensures)
+
+pub report-requires-clause-met : goal.report-requires-clause-met
+report-requires-clause-met g c =
+    let same : c.deref-2.result.now ≡ c.pass.new.ends = c.deref-2.ensures.value ∙ take_all c.pass.new.ends (drop (length c.pass.new.ends) c.in_ok-ends.ends.items) c.in_ok-ends.ends.len (omega arith) in
+    subst (AllMet c.args.lp.now c.args.basis.now (value_at c.args.point.now) (size c.args.lp.now.matrix)) (sym same) c.in_ok-pass.ensures.met
+
+pub report-requires-clause-found : goal.report-requires-clause-found
+report-requires-clause-found g c =
+    let same : c.deref.result.now ≡ c.pass.new.found = c.deref.ensures.value ∙ take_all c.pass.new.found (drop (length c.pass.new.found) c.in_ok-found.found.items) c.in_ok-found.found.len (omega arith) in
+    subst (AllFound c.args.lp.now c.args.basis.now (size c.args.lp.now.matrix)) (sym same) c.in_ok-pass.ensures.found

@@ -1,0 +1,155 @@
+//! Intervals of costs, multiples of rows and limits.
+
+ghost use Rattle.std.specs.Prelude.{◌≡◌, ◌↔◌, IfSome, IsSome, length, IfOk, IfErr, option_map};
+ghost use Rattle.exact_values.specs.Rational.{ℚ, ◌+ℚ◌, ◌-ℚ◌};
+ghost use Rattle.exact_values.specs.Tests.{lt_ℚ};
+ghost use Rattle.frac128.specs.declared.Op.TheVariants.{Add, Sub};
+ghost use Rattle.affine_conditions.specs.Ends.{IsBetweenEnds};
+ghost use Rattle.lp_definitions.specs.LinearProgram.{size, IsVariable};
+ghost use Rattle.ranging.specs.Refusals.{IsRefusal};
+ghost use Rattle.ranging.specs.Intervals.{IsAtLeast, IsAtMost, IsIn, less_end, taken_from, opposite_end, opposite, IsOwn, DifferenceRefused, SumRefused};
+
+use crate::choices::stands_fixed;
+use crate::evidence::evidence;
+use affine_conditions::{End, Ends};
+use frac128::Frac;
+use lp_model::{Basis, Evidence, Interval, Lp, Status};
+
+/// The cost, less the end. `i` is the basic whose rate makes the end, or 0.
+fn cost_less(cost: Frac, end: Option<End>, i: u32) -> Result<Option<Frac>, Evidence>
+    ensures value { IfOk result (λ now. now ≡ less_end cost end) }
+    ensures refused { IfErr result (λ e. IfSome end (λ d. IsRefusal 15 0 i d.by 0 Sub cost d.value e)) }
+    ensures there { IfErr result (λ e. IsSome end) }
+{
+    let Some(there) = end else {
+        return Ok(None);
+    };
+    match cost.sub(there.value) {
+        Ok(now) => Ok(Some(now)),
+        Err(refused) => Err(evidence(15, 0, i, there.by, 0, refused)),
+    }
+}
+
+/// The interval of a cost.
+pub fn cost_interval(cost: Frac, ends: &Ends, i: u32) -> Result<Interval, Evidence>
+    ensures interval { IfOk result (λ interval. interval ≡ taken_from cost ends.now) }
+    ensures refused { IfErr result (DifferenceRefused cost ends.now i) }
+{
+    let low = cost_less(cost, ends.high, i)?;
+    let high = cost_less(cost, ends.low, i)?;
+    Ok(Interval { low, high })
+}
+
+/// The opposite of an end.
+fn opposite_of(end: Option<End>) -> Option<Frac>
+    ensures { result ≡ opposite_end end }
+{
+    match end {
+        None => None,
+        Some(there) => Some(there.value.neg()),
+    }
+}
+
+/// The interval of a row's multiple.
+pub fn row_interval(ends: &Ends) -> Interval
+    ensures { result ≡ opposite ends.now }
+{
+    Interval {
+        low: opposite_of(ends.high),
+        high: opposite_of(ends.low),
+    }
+}
+
+/// The limit at which `k` stands, moved to the end.
+fn limit_plus(stands: Frac, end: Option<End>, k: u32) -> Result<Option<Frac>, Evidence>
+    ensures value { IfOk result (λ now. now ≡ option_map (λ e. stands +ℚ e.value) end) }
+    ensures refused { IfErr result (λ e. IfSome end (λ d. IsRefusal 15 0 d.by k d.which Add stands d.value e)) }
+    ensures there { IfErr result (λ e. IsSome end) }
+{
+    let Some(there) = end else {
+        return Ok(None);
+    };
+    match stands.add(there.value) {
+        Ok(now) => Ok(Some(now)),
+        Err(refused) => Err(evidence(15, 0, there.by, k, there.which, refused)),
+    }
+}
+
+/// Whether `x` is below `y`.
+fn is_less(x: Frac, y: Frac) -> bool
+    ensures { result ≡ lt_ℚ x y }
+{
+    x.compare(y).is_lt()
+}
+
+/// The least of two upper ends, of which either may not be there.
+fn least(first: Option<Frac>, second: Option<Frac>) -> Option<Frac>
+    ensures { (t : ℚ) → IsAtMost result t ↔ (IsAtMost first t × IsAtMost second t) }
+{
+    let Some(one) = first else {
+        return second;
+    };
+    let Some(other) = second else {
+        return first;
+    };
+    if is_less(other, one) {
+        return second;
+    }
+    first
+}
+
+/// The greatest of two lower ends, of which either may not be there.
+fn greatest(first: Option<Frac>, second: Option<Frac>) -> Option<Frac>
+    ensures { (t : ℚ) → IsAtLeast result t ↔ (IsAtLeast first t × IsAtLeast second t) }
+{
+    let Some(one) = first else {
+        return second;
+    };
+    let Some(other) = second else {
+        return first;
+    };
+    if is_less(one, other) {
+        return second;
+    }
+    first
+}
+
+/// The interval up to the limit of `k` at which it doesn't stand, if it isn't fixed.
+fn up_to_other(lp: &Lp, basis: &Basis, k: u32, interval: Interval) -> Interval
+    requires variable { IsVariable lp.now.matrix k }
+    requires counted { length basis.now ≡ size lp.now.matrix }
+    ensures { (t : ℚ) → IsIn result t ↔ (IsIn interval t × IsOwn lp.now basis.now k t) }
+{
+    if stands_fixed(lp, k) {
+        return interval;
+    }
+    match basis.status(k) {
+        Status::Ll => Interval {
+            low: interval.low,
+            high: least(interval.high, lp.upper_limit(k)),
+        },
+        Status::Ul => Interval {
+            low: greatest(interval.low, lp.lower_limit(k)),
+            high: interval.high,
+        },
+        Status::Bs | Status::Fr => interval,
+    }
+}
+
+/// The interval of the limit at which `k` stands.
+pub fn limit_interval(
+    lp: &Lp,
+    basis: &Basis,
+    stands: Frac,
+    k: u32,
+    ends: &Ends,
+) -> Result<Interval, Evidence>
+    requires variable { IsVariable lp.now.matrix k }
+    requires counted { length basis.now ≡ size lp.now.matrix }
+    ensures interval { IfOk result (λ interval. (t : ℚ) → IsIn interval t ↔ (IsBetweenEnds ends.now (t -ℚ stands) × IsOwn lp.now basis.now k t)) }
+    ensures refused { IfErr result (SumRefused stands ends.now k) }
+{
+    let low = limit_plus(stands, ends.low, k)?;
+    let high = limit_plus(stands, ends.high, k)?;
+    Ok(up_to_other(lp, basis, k, Interval { low, high }))
+}
