@@ -10,6 +10,7 @@ mod finding;
 mod finish;
 mod machine;
 mod primal;
+mod ranges;
 mod run;
 mod selecting;
 mod setup;

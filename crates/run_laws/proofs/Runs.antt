@@ -2,7 +2,7 @@
 use Rattle.std.proofs.Common.{◌≡◌, ◌⊎◌, ℕ, Bool, false, List, [], inl, inr}
 use Rattle.std.specs.Prelude.{All}
 use Rattle.std.proofs.lemmas.List.Elements.{All-nil, All-cons}
-use Rattle.control_definitions.specs.Program.{Program, Verb, Revise, Paraobj, Pararhs}
+use Rattle.control_definitions.specs.Program.{Program, Verb, Paraobj, Pararhs}
 use Rattle.listing_definitions.specs.declared.Mark.TheVariants.{Optimal, Infeasible, Unbounded}
 use Rattle.listing_definitions.specs.declared.Solver.TheVariants.{Primal as ByPrimal, Paraobj as ByParaobj, Pararhs as ByPararhs}
 use Rattle.listing_definitions.specs.Report.{Report, Titled, Converted, Revised, SetUp, Punched, Solved, Solution, Ranges, Parametric}
@@ -33,7 +33,7 @@ uncounted state (Solved ByPararhs verdict check) holds = tt
 uncounted state (Solution Optimal lines) holds = holds
 uncounted state (Solution Infeasible lines) holds = tt
 uncounted state (Solution Unbounded lines) holds = tt
-uncounted state (Ranges lines) holds = tt
+uncounted state (Ranges lines) holds = holds
 uncounted state (Parametric solver chain) holds = tt
 
 -- the report of a gain
@@ -103,7 +103,7 @@ module _ (S : Solving) (solving : KnowsSolving S) where
 
 module _ (builds : Verb ℕ → Bool) where
   knows : BuildsNoSweep (staged builds) ⊎ SweepsKeepBases (staged builds) → KnowsSolving (staged builds)
-  knows sweeps = record { solves = λ sheet s limit bases verdict check solved. solved; shows = λ sheet s lines shown. shown; sweeps = sweeps }
+  knows sweeps = record { solves = λ sheet s limit bases verdict check solved. solved; shows = λ sheet s lines shown. shown; ranges = λ sheet s lines ranged. ranged; sweeps = sweeps }
 
   pub knows_without_sweeps : builds Paraobj ≡ false → builds Pararhs ≡ false → KnowsSolving (staged builds)
   knows_without_sweeps paraobj pararhs = knows (inl (record { paraobj = paraobj; pararhs = pararhs }))
