@@ -1,7 +1,6 @@
 -- The headline of a job: what it is answered, and that each report of this answer holds of the state in which it was made.
 use Rattle.std.proofs.Common.{◌≡◌, ◌<◌, ℕ, false, List, Option, Some, refl, arith}
 use Rattle.std.specs.Io.KnownBytes.{Appends}
-use Rattle.control_definitions.specs.Program.{Revise}
 use Rattle.job_devices.specs.Causes.{Rose}
 use Rattle.run_definitions.specs.Answer.{Job, WithoutBytes, Read, Failures, words_refused, IsAnswered}
 use Rattle.run_laws.specs.Laws.{KnowsSolving}
@@ -24,10 +23,6 @@ stage_knows : KnowsSolving stage
 unfolding stage
 stage_knows = knows_without_sweeps builds refl refl
 
-stage_revises_nothing : stage.builds Revise ≡ false
-unfolding stage
-stage_revises_nothing = refl
-
 true_answer : {job : Job} {failures : Failures} {status : ℕ} {PrintGains PunchGains : List ℕ → Type 0} → IsAnswered stage job failures status PrintGains PunchGains →
     IsTrueAnswer stage job failures status PrintGains PunchGains
 true_answer is = record {
@@ -36,7 +31,7 @@ true_answer is = record {
   print_gains = is.2;
   punch_gains = is.3;
   is_answer = is.4;
-  each_holds = answer_holds stage stage_knows stage_revises_nothing is.4;
+  each_holds = answer_holds stage stage_knows is.4;
 }
 
 -- ---- the job that is asked for
