@@ -1,2 +1,4 @@
 pub mod Walks
 pub mod Fickle
+pub mod Numbers
+pub mod Resting
