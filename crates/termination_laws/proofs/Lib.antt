@@ -2,3 +2,5 @@ pub mod Walks
 pub mod Fickle
 pub mod Numbers
 pub mod Resting
+pub mod FirstClash
+pub mod SecondClash
