@@ -4,3 +4,5 @@ pub mod Numbers
 pub mod Resting
 pub mod FirstClash
 pub mod SecondClash
+pub mod Runs
+pub mod Phases

@@ -17,7 +17,7 @@ use Rattle.path_laws.proofs.Tests.{lt_true, lt_false}
 use Rattle.path_laws.proofs.Rays.{Breaks, breaks_lower, breaks_upper}
 use Rattle.termination_laws.proofs.Numbers.{Against}
 
-some_value : {a b : ℚ} → Some a ≡ Some b → a ≡ b
+pub some_value : {a b : ℚ} → Some a ≡ Some b → a ≡ b
 some_value e = cc
 
 -- the variable stands at the limit towards which it would lower the quantity

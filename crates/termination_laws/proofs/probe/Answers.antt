@@ -1,8 +1,7 @@
 use Rattle.std.proofs.Common.{refl}
-use Rattle.termination_laws.proofs.Fickle.{fickle_pair}
-use Rattle.termination_laws.proofs.FirstClash.{first_clash}
-use Rattle.termination_laws.proofs.SecondClash.{second_clash}
+use Rattle.termination_laws.proofs.Runs.{run_of}
+use Rattle.termination_laws.proofs.Phases.{no_cycle}
 use Rattle.termination_laws.proofs.probe.Goals as goal
 
 pub returns : goal.returns
-returns c = let f = fickle_pair in let g = first_clash in let h = second_clash in record { one = λ n. refl }
+returns c = let f = run_of in let g = no_cycle in record { one = λ n. refl }
