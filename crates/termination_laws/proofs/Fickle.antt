@@ -6,7 +6,7 @@ use Rattle.std.proofs.lemmas.List.{length-set}
 use Rattle.lp_definitions.specs.LinearProgram.{LinearProgram, IsVariable, size}
 use Rattle.lp_definitions.specs.Basis.{status_of, with_status, is_basic, IsBasis}
 use Rattle.lp_definitions.specs.declared.Status.{Status}
-use Rattle.lp_definitions.specs.declared.Status.TheVariants.{Bs, Ll, Ul, Fr}
+use Rattle.lp_definitions.specs.declared.Status.TheVariants.{Bs}
 use Rattle.lp_laws.proofs.Statuses.{basic_from, changed_own, changed_other}
 use Rattle.path_definitions.specs.Path.{after}
 use Rattle.termination_laws.proofs.Walks.{Visit, In, IsWalk, Turned, turn_to}

@@ -1,13 +1,13 @@
 -- In the first phase the variable that left last is not the one to come in again, where nothing past it has changed.
-use Rattle.std.proofs.Common.{◌≡◌, ◌≢◌, ℕ, suc, ◌+◌, ◌-◌, ◌<◌, ◌≤◌, ◌⊎◌, inl, inr, Bool, true, false, List, pos, refl, sym, ap, subst, ◌∙◌, arith}
-use Rattle.std.specs.Prelude.{Option, Some, None, IfSome, not, ◌&&◌, if◌then◌else◌, eqb, leb}
+use Rattle.std.proofs.Common.{◌≡◌, ◌≢◌, ℕ, suc, ◌-◌, ◌<◌, ◌≤◌, ◌⊎◌, inl, inr, Bool, true, false, List, pos, refl, sym, ap, subst, ◌∙◌, arith}
+use Rattle.std.specs.Prelude.{Some, IfSome, not, ◌&&◌, if◌then◌else◌, eqb, leb}
 use Rattle.std.proofs.lemmas.Bool.Decides.{eqb_tells, leb_tells}
-use Rattle.exact_values.specs.Rational.{ℚ, zero_ℚ, ◌-ℚ◌, ◌*ℚ◌, ◌≤ℚ◌, ◌<ℚ◌}
+use Rattle.exact_values.specs.Rational.{zero_ℚ, ◌-ℚ◌, ◌*ℚ◌, ◌≤ℚ◌, ◌<ℚ◌}
 use Rattle.exact_values.specs.Sums.{sum_to}
-use Rattle.exact_values.proofs.Ring.{by_ring2, ◌⊕◌, ◌⊖◌, ◌⊗◌, ◌≐◌, number, opposite}
-use Rattle.exact_values.proofs.Order.{le_of_lt, le_by_one, lt_by_one, lt_not_le, le_trans, lt_of_le_of_lt}
+use Rattle.exact_values.proofs.Ring.{by_ring2, ◌⊕◌, ◌⊖◌, ◌≐◌, number, opposite}
+use Rattle.exact_values.proofs.Order.{le_of_lt, le_by_one, lt_not_le, le_trans}
 use Rattle.lp_definitions.specs.LinearProgram.{LinearProgram, Vector, size, IsVariable, KeepsEquations, lower_of, upper_of}
-use Rattle.lp_definitions.specs.Basis.{is_in, is_basic, basics_of, status_of, StandsAt, Tableau, IsTableau}
+use Rattle.lp_definitions.specs.Basis.{is_in, basics_of, status_of, StandsAt, Tableau, IsTableau}
 use Rattle.lp_definitions.specs.declared.Status.{Status}
 use Rattle.lp_definitions.specs.declared.Status.TheVariants.{Ll, Ul}
 use Rattle.lp_laws.specs.Rates.{weight}

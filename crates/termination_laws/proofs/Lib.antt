@@ -6,3 +6,5 @@ pub mod FirstClash
 pub mod SecondClash
 pub mod Runs
 pub mod Phases
+pub mod Counts
+pub mod Ending

@@ -1,6 +1,6 @@
 -- No closed walk goes over visits of the path.
-use Rattle.std.proofs.Common.{◌≡◌, ◌≢◌, ℕ, ◌<◌, ◌⊎◌, inl, inr, Bool, true, false, List, [], ◌∷◌, length, pos, refl, sym, ap, subst, ◌∙◌, arith}
-use Rattle.std.specs.Prelude.{Option, Some, None, if◌then◌else◌}
+use Rattle.std.proofs.Common.{◌≡◌, ◌≢◌, ℕ, ◌<◌, ◌⊎◌, inl, inr, Bool, true, false, List, [], ◌∷◌, pos, refl, sym, ap, subst, ◌∙◌}
+use Rattle.std.specs.Prelude.{Some, if◌then◌else◌}
 use Rattle.exact_values.specs.Rational.{ℚ, zero_ℚ, ◌+ℚ◌, ◌*ℚ◌, ◌≤ℚ◌}
 use Rattle.exact_values.proofs.Ring.{by_ring2, ◌⊕◌, ◌⊗◌, ◌≐◌, number}
 use Rattle.exact_values.proofs.Order.{le_of_eq, le_trans, lt_not_le}
@@ -14,7 +14,7 @@ use Rattle.lp_laws.proofs.Values.{clash}
 use Rattle.lp_laws.proofs.Uniqueness.{one_point}
 use Rattle.lp_laws.proofs.Statuses.{status_of_basic, status_of_nonbasic}
 use Rattle.path_definitions.specs.Moves.{is_below, room}
-use Rattle.path_definitions.specs.Path.{Move, Moves, after, IsStep, stopped_by, excess_rate, mover, turn}
+use Rattle.path_definitions.specs.Path.{Moves, after, IsStep, stopped_by, excess_rate, turn}
 use Rattle.path_laws.specs.Laws.{IsNonsingularBasis, IsNoWorse}
 use Rattle.path_laws.proofs.Turns.{IsFirstPhase, IsBroughtTurn, IsStoppedTurn, MovingRule, brings, stops, bettering, moving_turn, rule_of}
 use Rattle.path_laws.proofs.Ends.{feasible, IsFeasible-same}

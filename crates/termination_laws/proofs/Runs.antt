@@ -1,14 +1,12 @@
 -- The length of a step of the second phase, and where it leads.
 use Rattle.std.proofs.Common.{◌≡◌, ◌≢◌, ℕ, ◌⊎◌, inl, inr, Bool, true, false, List, pos, refl, sym, ap, subst, ◌∙◌}
-use Rattle.std.specs.Prelude.{Option, Some, None, IfSome, option_map, if◌then◌else◌, eqb}
-use Rattle.std.proofs.lemmas.Bool.Decides.{eqb_tells}
+use Rattle.std.specs.Prelude.{Option, Some, None, IfSome, option_map, if◌then◌else◌}
 use Rattle.exact_values.specs.Rational.{ℚ, zero_ℚ, one_ℚ, neg_ℚ, ◌+ℚ◌, ◌-ℚ◌, ◌*ℚ◌, ◌/ℚ◌, ◌≤ℚ◌, ◌<ℚ◌}
 use Rattle.exact_values.specs.Tests.{lt_ℚ}
 use Rattle.exact_values.proofs.Ring.{by_ring1, by_ring2, by_ring3, ◌⊕◌, ◌⊖◌, ◌⊗◌, ◌≐◌, number, opposite}
 use Rattle.exact_values.proofs.Inverse.{div-mul_cancel, same_quotients}
-use Rattle.exact_values.proofs.Order.{le_of_lt, le_by_one, le_by_product, le-div, lt_irrefl, lt_not_le, lt_from_le, lt_by_product, same_or_not, zero_below_one, apart_from_above, apart_from_below}
+use Rattle.exact_values.proofs.Order.{le_of_lt, le_by_one, le_by_product, le-div, lt_not_le, lt_from_le, lt_by_product, same_or_not, zero_below_one, apart_from_above, apart_from_below}
 use Rattle.lp_definitions.specs.LinearProgram.{LinearProgram, Vector, IsVariable, lower_of, upper_of, for_min, objective_value, size}
-use Rattle.lp_definitions.specs.Solutions.{IsFeasible}
 use Rattle.lp_definitions.specs.Basis.{with_status, StandsAt, IsPointOf, IsBasic, Tableau, IsTableau, is_in, is_basic, basics_of, status_of}
 use Rattle.lp_definitions.specs.declared.Status.{Status}
 use Rattle.lp_definitions.specs.declared.Status.TheVariants.{Bs, Ll, Ul}

@@ -3,7 +3,7 @@
 --     In x xs                      x stands in the list
 --     IsWalk s vs end              from s over the visits vs to end
 --     turn_to                      a closed walk may begin at each of its visits
-use Rattle.std.proofs.Common.{◌≡◌, ◌⊎◌, inl, inr, List, [], ◌∷◌, ◌++◌, refl, sym, ap, subst, ◌∙◌}
+use Rattle.std.proofs.Common.{◌≡◌, ◌⊎◌, inl, inr, List, [], ◌∷◌, ◌++◌, refl, sym, ap, subst}
 use Rattle.lp_definitions.specs.Basis.{Tableau}
 use Rattle.lp_definitions.specs.declared.Status.{Status}
 use Rattle.path_definitions.specs.Path.{Move, after}
