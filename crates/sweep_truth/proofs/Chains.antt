@@ -1,5 +1,5 @@
 -- What is proved of the breaks of a family makes its runs true.
-use Rattle.std.proofs.Common.{◌≡◌, ℕ, suc, ◌⊎◌, List, [], ◌∷◌, refl, subst, arith}
+use Rattle.std.proofs.Common.{List, [], ◌∷◌, arith}
 use Rattle.std.specs.Prelude.{All}
 use Rattle.std.proofs.lemmas.List.Elements.{All-cons}
 use Rattle.exact_values.specs.Rational.{ℚ, ◌<ℚ◌}
@@ -12,9 +12,9 @@ use Rattle.path_definitions.specs.Path.{Move, after, last_of, Ending, EndsOptima
 use Rattle.path_laws.specs.Laws.{IsNonsingularBasis}
 use Rattle.path_laws.proofs.Endless.{crossed_end, unbounded_end}
 use Rattle.path_laws.proofs.Rays.{infeasible_end}
-use Rattle.postoptimal_definitions.specs.Chain.{Part, ChainEnd, RunReport, FailedOpening, Chain, FaceTurn, FaceMoves, FaceDone, FaceEnds, IsFailure, IsPart, IsFaceStep, IsFacePath, IsChain, at_max, past_break, goes_on, IsReport}
+use Rattle.postoptimal_definitions.specs.Chain.{Part, ChainEnd, FailedOpening, Chain, FaceTurn, FaceMoves, FaceDone, FaceEnds, IsFailure, IsPart, IsFaceStep, IsFacePath, IsChain, at_max, past_break, goes_on}
 use Rattle.sweep_laws.proofs.Runs.{KeepsBases, face_step_leads, face_path_leads, opening_leads}
-use Rattle.sweep_truth.specs.Truth.{IsTruePart, IsTrueEnd, IsTrueRun, IsTrueFailure, IsTrueReport, AreLongPast}
+use Rattle.sweep_truth.specs.Truth.{IsTruePart, IsTrueEnd, IsTrueRun, IsTrueFailure}
 use Rattle.sweep_truth.specs.Laws.{HasTrueRuns}
 use Rattle.sweep_truth.proofs.Intervals.{is_true_part}
 

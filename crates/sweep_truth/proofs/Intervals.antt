@@ -1,7 +1,7 @@
 -- At a value at which its basis is optimal an interval tells a best point and proving prices.
 use Rattle.std.proofs.Common.{◌≡◌, ℕ, Bool, true, false, List, refl, ◌∙◌}
 use Rattle.std.specs.Prelude.{if◌then◌else◌}
-use Rattle.exact_values.specs.Rational.{ℚ, zero_ℚ, ◌≤ℚ◌}
+use Rattle.exact_values.specs.Rational.{ℚ, zero_ℚ}
 use Rattle.lp_definitions.specs.LinearProgram.{LinearProgram, Vector, IsVariable, IsLinearProgram}
 use Rattle.lp_definitions.specs.Solutions.{IsFeasible, AreProvingPrices}
 use Rattle.lp_definitions.specs.Basis.{is_in, basics_of, IsOptimalBasis, IsPointOf, ArePricesOf, objective_rate, price_at}

@@ -1,6 +1,6 @@
 -- In a run of the objective the point stays feasible at a break, and a direction in which nothing stops the change row proves for
 -- every greater value that the program is unbounded.
-use Rattle.std.proofs.Common.{◌≡◌, ◌≢◌, ℕ, Bool, true, false, List, refl, sym, ap, subst, ◌∙◌, pos}
+use Rattle.std.proofs.Common.{◌≡◌, ◌≢◌, ℕ, Bool, true, false, List, refl, sym, subst, pos}
 use Rattle.std.specs.Prelude.{Option, Some, None, ◌&&◌, option_map, if◌then◌else◌}
 use Rattle.exact_values.specs.Rational.{ℚ, zero_ℚ, one_ℚ, neg_ℚ, ◌+ℚ◌, ◌-ℚ◌, ◌*ℚ◌, ◌/ℚ◌, ◌<ℚ◌}
 use Rattle.exact_values.specs.Tests.{eq_ℚ, lt_ℚ}
@@ -9,7 +9,7 @@ use Rattle.exact_values.proofs.Order.{le_of_lt, lt_from_le, lt_by_product}
 use Rattle.exact_values.proofs.Tests_laws.{test_from_lt, lt_fails_from_le}
 use Rattle.lp_definitions.specs.LinearProgram.{Matrix, LinearProgram, Vector, value_at, IsRow, IsVariable, HasNoLimits, IsLinearProgram, KeepsEquations, lower_of, upper_of, for_min, objective_value}
 use Rattle.lp_definitions.specs.Solutions.{IsFeasible, ProvesUnbounded}
-use Rattle.lp_definitions.specs.Basis.{basics_of, IsNonbasic, IsOptimalBasis, Tableau, IsTableau, objective_rate}
+use Rattle.lp_definitions.specs.Basis.{IsOptimalBasis, Tableau, IsTableau, objective_rate}
 use Rattle.lp_definitions.specs.declared.Sense.{Sense}
 use Rattle.lp_definitions.specs.declared.Sense.TheVariants.{Min, Max}
 use Rattle.lp_definitions.specs.declared.Status.{Status}
@@ -24,7 +24,7 @@ use Rattle.path_laws.proofs.Ends.{IsFeasible-same, value_at-listed}
 use Rattle.path_laws.proofs.Searches.{found_passes}
 use Rattle.path_laws.proofs.Stoppers.{stopper_none}
 use Rattle.path_laws.proofs.Tests.{lt_true, lt_false, eq_true, neg_below}
-use Rattle.postoptimal_definitions.specs.Chain.{ChainEnd, UnboundedPast, FaceTurn, FaceMoves, FaceEnds}
+use Rattle.postoptimal_definitions.specs.Chain.{ChainEnd, UnboundedPast, FaceMoves, FaceEnds}
 use Rattle.postoptimal_definitions.specs.ObjectiveRun.{objective_family, change_rate, face_mover, face_until, face_by, objective_face, IsObjectiveFace}
 use Rattle.sweep_laws.proofs.Leads.{and_parts, IsMover, is_mover}
 use Rattle.sweep_laws.proofs.Objective.{to_objective}

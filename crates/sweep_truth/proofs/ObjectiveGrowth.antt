@@ -1,10 +1,10 @@
 -- In a run of the objective an interval past a break is longer than a point.
-use Rattle.std.proofs.Common.{◌≡◌, ℕ, Bool, true, false, List, refl, sym, ap, ap₂, ◌∙◌, pos, subst, arith}
-use Rattle.std.specs.Prelude.{Option, Some, None, ◌&&◌, ◌||◌, not}
-use Rattle.exact_values.specs.Rational.{ℚ, zero_ℚ, neg_ℚ, ◌+ℚ◌, ◌*ℚ◌, ◌≤ℚ◌, ◌<ℚ◌}
+use Rattle.std.proofs.Common.{◌≡◌, ℕ, Bool, true, false, List, refl, sym, ap, ap₂, ◌∙◌, pos, subst}
+use Rattle.std.specs.Prelude.{Option, Some, None, ◌&&◌, ◌||◌}
+use Rattle.exact_values.specs.Rational.{ℚ, zero_ℚ, neg_ℚ, ◌+ℚ◌, ◌*ℚ◌, ◌<ℚ◌}
 use Rattle.exact_values.specs.Tests.{eq_ℚ, lt_ℚ}
 use Rattle.exact_values.proofs.Ring.{by_ring1, by_ring3, ◌⊕◌, ◌⊗◌, ◌≐◌, number, opposite}
-use Rattle.exact_values.proofs.Order.{le_refl, le_trans, lt_of_lt_of_le, lt_by_one}
+use Rattle.exact_values.proofs.Order.{le_refl, lt_of_lt_of_le, lt_by_one}
 use Rattle.exact_values.proofs.Tests_laws.{test_from_lt, test_from_same}
 use Rattle.affine_conditions.specs.Conditions.{Condition, EndsAt}
 use Rattle.lp_definitions.specs.LinearProgram.{LinearProgram, Vector, size, IsRow, IsVariable, HasNoLimits, IsLinearProgram, for_min}
@@ -17,12 +17,11 @@ use Rattle.path_definitions.specs.Moves.{may_rise, may_fall, lowers, stopper, go
 use Rattle.path_definitions.specs.Path.{speeds}
 use Rattle.path_laws.specs.Laws.{IsNonsingularBasis}
 use Rattle.path_laws.proofs.Searches.{none_passes}
-use Rattle.path_laws.proofs.Tests.{neg_below}
-use Rattle.changed_programs.specs.Changes.{Sides, SidesHold, condition, condition_if, rate_sides, RatesStay, worths, slopes}
+use Rattle.changed_programs.specs.Changes.{Sides, condition, condition_if, rate_sides, RatesStay, worths, slopes}
 use Rattle.changed_programs.specs.Laws.{IsFeasibleBasis}
 use Rattle.changed_programs.proofs.Rows.{objective}
 use Rattle.changed_programs.proofs.Signs.{for_min-add}
-use Rattle.postoptimal_definitions.specs.Chain.{Part, FaceTurn, FaceDone, IsPart}
+use Rattle.postoptimal_definitions.specs.Chain.{Part, FaceDone, IsPart}
 use Rattle.postoptimal_definitions.specs.ObjectiveRun.{objective_family, change_rate, face_mover, face_until, face_by, objective_face, IsObjectiveFace}
 use Rattle.sweep_laws.proofs.OneObjective.{lawful_objective}
 use Rattle.sweep_truth.proofs.Intervals.{point_feasible}

@@ -6,6 +6,7 @@ use Rattle.lp_definitions.specs.declared.Status.{Status}
 use Rattle.path_laws.specs.Laws.{IsNonsingularBasis}
 use Rattle.postoptimal_definitions.specs.Chain.{FaceTurn, RunReport, IsReport}
 use Rattle.postoptimal_definitions.specs.ObjectiveRun.{objective_family, IsObjectiveFace}
+use Rattle.postoptimal_definitions.specs.RhsRun.{rhs_family, IsRhsFace}
 use Rattle.sweep_truth.specs.Truth.{IsTrueReport}
 
 -- what a run from a nonsingular basis of p reports is true
@@ -17,3 +18,6 @@ pub record TruthLaws : Type 0 where
   -- theta times a row without limits is added to the objective
   pub objective : (p : LinearProgram) (h : ℕ) → IsLinearProgram p → IsRow p.matrix h → HasNoLimits p h →
       HasTrueRuns p (objective_family p h) (IsObjectiveFace p h)
+  -- theta times its shift is added to the limits of each row
+  pub rhs : (p : LinearProgram) (shift : List ℚ) → IsLinearProgram p →
+      HasTrueRuns p (rhs_family p shift) (IsRhsFace p shift)
