@@ -1,20 +1,20 @@
 -- What is proved of the breaks of a family makes its runs true.
-use Rattle.std.proofs.Common.{List, [], ◌∷◌, arith}
+use Rattle.std.proofs.Common.{◌≡◌, suc, ◌⊎◌, inl, inr, List, [], ◌∷◌, refl, arith}
 use Rattle.std.specs.Prelude.{All}
 use Rattle.std.proofs.lemmas.List.Elements.{All-cons}
-use Rattle.exact_values.specs.Rational.{ℚ, ◌<ℚ◌}
-use Rattle.exact_values.proofs.Order.{le_refl}
+use Rattle.exact_values.specs.Rational.{ℚ, ◌≤ℚ◌, ◌<ℚ◌}
+use Rattle.exact_values.proofs.Order.{le_refl, le_of_lt, lt_or_le}
 use Rattle.lp_definitions.specs.LinearProgram.{LinearProgram, IsLinearProgram}
 use Rattle.lp_definitions.specs.Basis.{IsOptimalBasis}
 use Rattle.lp_definitions.specs.declared.Status.{Status}
-use Rattle.lp_laws.proofs.Duality.{infeasible_by_ray, unbounded_by_direction}
+use Rattle.lp_laws.proofs.Duality.{infeasible_by_crossed, infeasible_by_ray, unbounded_by_direction}
 use Rattle.path_definitions.specs.Path.{Move, after, last_of, Ending, EndsOptimal, EndsCrossed, EndsInfeasible, EndsUnbounded, PathEnds}
 use Rattle.path_laws.specs.Laws.{IsNonsingularBasis}
 use Rattle.path_laws.proofs.Endless.{crossed_end, unbounded_end}
 use Rattle.path_laws.proofs.Rays.{infeasible_end}
 use Rattle.postoptimal_definitions.specs.Chain.{Part, ChainEnd, FailedOpening, Chain, FaceTurn, FaceMoves, FaceDone, FaceEnds, IsFailure, IsPart, IsFaceStep, IsFacePath, IsChain, at_max, past_break, goes_on}
 use Rattle.sweep_laws.proofs.Runs.{KeepsBases, face_step_leads, face_path_leads, opening_leads}
-use Rattle.sweep_truth.specs.Truth.{IsTruePart, IsTrueEnd, IsTrueRun, IsTrueFailure}
+use Rattle.sweep_truth.specs.Truth.{IsCovered, IsTruePart, IsTrueEnd, IsTrueRun, IsTrueFailure}
 use Rattle.sweep_truth.specs.Laws.{HasTrueRuns}
 use Rattle.sweep_truth.proofs.Intervals.{is_true_part}
 
@@ -24,11 +24,23 @@ none_fails P i d within = absurd (omega (arith, within))
 abbrev IsLong : Part → Type 0
 IsLong part = part.from <ℚ part.to
 
+-- an interval has the values from its beginning to its end, and the others have those past it
+covered_one : (from theta : ℚ) (part : Part) → part.from ≡ from → from ≤ℚ theta → theta ≤ℚ part.to → IsCovered (part ∷ []) theta
+covered_one from theta part begins after before = record { part = part; among = (0, omega arith, refl); after = rw begins after; before = before }
+
+covered_more : (from theta : ℚ) (part : Part) (parts : List Part) → part.from ≡ from → from ≤ℚ theta → (theta <ℚ part.to) ⊎ (part.to ≤ℚ theta) →
+    (part.to ≤ℚ theta → IsCovered parts theta) → IsCovered (part ∷ parts) theta
+covered_more from theta part parts begins after (inl before) rest =
+    record { part = part; among = (0, omega arith, refl); after = rw begins after; before = le_of_lt before }
+covered_more from theta part parts begins after (inr past) rest =
+    let there = rest past in
+    record { part = there.part; among = (suc there.among.0, omega (arith, there.among.1), there.among.2); after = there.after; before = there.before }
+
 -- a failed opening
 failure_true : (p : LinearProgram) (s : List Status) (ending : Ending) (path : List (List Status)) → IsLinearProgram p → IsNonsingularBasis p (last_of s path) →
     PathEnds p s path ending → IsFailure ending → IsTrueFailure p ending
 failure_true p s (EndsOptimal z y) path lawful at ends failure = failure
-failure_true p s (EndsCrossed k) path lawful at ends failure = crossed_end p (last_of s path) k ends.ends
+failure_true p s (EndsCrossed k) path lawful at ends failure = let crossed = crossed_end p (last_of s path) k ends.ends in (crossed, infeasible_by_crossed p k crossed)
 failure_true p s (EndsInfeasible w) path lawful at ends failure =
     let ray = infeasible_end p (last_of s path) w at.is_basis at.nonsingular ends.ends in
     record { ray = ray; infeasible = infeasible_by_ray p _ ray }
@@ -69,12 +81,14 @@ module _ (p : LinearProgram) (family : ℚ → LinearProgram) (Face : ℚ → Li
   chain_true max _ _ _ _ _ at (at_max {from} {s} {part} is whole) = record {
     intervals = All-cons (IsTruePart family max) part [] (is_true_part family lawful from max s part is) (none_fails (IsTruePart family max));
     joined = (is.begins, tt);
+    covered = λ theta after before. covered_one from theta part is.begins after before;
     long = none_fails IsLong;
     closes = whole;
   }
   chain_true max _ _ _ _ _ at (past_break {from} {s} {part} {end} {path} is faces) = record {
     intervals = All-cons (IsTruePart family max) part [] (is_true_part family lawful from max s part is) (none_fails (IsTruePart family max));
     joined = (is.begins, tt);
+    covered = λ theta after before. covered_one from theta part is.begins after before;
     long = none_fails IsLong;
     closes = closes part.to max (last_of s path) end (face_path_leads p family Face keeps part.to s path at faces.face_path) faces.before_max
         (kept_by_path part.to s path at (known part.to s (is.reaches.optimal part.to is.reaches.forward (le_refl part.to))) faces.face_path) faces.last;
@@ -85,6 +99,7 @@ module _ (p : LinearProgram) (family : ℚ → LinearProgram) (Face : ℚ → Li
       record {
         intervals = All-cons (IsTruePart family max) part parts (is_true_part family lawful from max s part is) rest.intervals;
         joined = (is.begins, rest.joined);
+        covered = λ theta after before. covered_more from theta part parts is.begins after (lt_or_le theta part.to) (λ past. rest.covered theta past before);
         long = chain_long max part.to (last_of s bases) parts end later there faces.before_max faces.last chain;
         closes = rest.closes;
       }

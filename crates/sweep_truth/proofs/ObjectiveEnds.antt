@@ -211,9 +211,9 @@ pub objective_closes : (p : LinearProgram) (h : ℕ) → IsLinearProgram p → I
     HasFeasiblePoint p s → IsObjectiveFace p h theta s (FaceEnds end) → IsTrueEnd (objective_family p h) max theta end
 objective_closes p h lawful row free theta max s end at before have face =
     let last = is_endless (objective_family p h theta) h theta s face.0 end face.2 in
-    subst (IsTrueEnd (objective_family p h) max theta) (sym last.gives) (
-      refl,
-      before,
-      λ x past. endless p h theta s face.0 (lawful_objective p h lawful row free) at face.1 have last.q
-          (face_mover_is (objective_family p h theta) h theta s face.0 last.q (to_objective p h theta s at) last.found) last.stops x past,
-    )
+    subst (IsTrueEnd (objective_family p h) max theta) (sym last.gives) (record {
+      at_last = refl;
+      before_max = before;
+      proved = λ x past. endless p h theta s face.0 (lawful_objective p h lawful row free) at face.1 have last.q
+          (face_mover_is (objective_family p h theta) h theta s face.0 last.q (to_objective p h theta s at) last.found) last.stops x past;
+    })

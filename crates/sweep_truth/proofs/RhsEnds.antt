@@ -186,4 +186,4 @@ pub rhs_closes : (p : LinearProgram) (shift : List ℚ) (theta max : ℚ) (s : L
 rhs_closes p shift theta max s end at before face =
     let stuck = is_stuck (rhs_family p shift theta) shift theta s face.0 face.1 end face.4 in
     subst (IsTrueEnd (rhs_family p shift) max theta) (sym stuck.gives)
-    (refl, before, λ x past. refuted p shift theta s at face.0 face.2 face.1 face.3 end stuck x past)
+    (record { at_last = refl; before_max = before; proved = λ x past. refuted p shift theta s at face.0 face.2 face.1 face.3 end stuck x past })

@@ -3,11 +3,12 @@
 --     IsTruePart family max part   the interval tells a best point and proving prices at each of its values
 --     AreJoined from parts         the first interval begins at from, and each other one where the one before it ended
 --     last_end from parts          where the last interval ends
+--     IsCovered parts theta        one of the intervals has theta in it
 --     AreLongPast parts            each interval past the first is longer than a point
 --     IsTrueEnd family max last end        how the chain ends is proved for every greater value
---     IsTrueRun family from max parts end  all of this
+--     IsTrueRun family from max parts end  all of this: what holds of each interval and of the end, and that there is no gap
 --     IsTrueReport                 the same of a report, which may be of an opening path that failed
-use Rattle.std.specs.Prelude.{◌≡◌, List, [], ◌∷◌, All}
+use Rattle.std.specs.Prelude.{◌≡◌, List, [], ◌∷◌, All, Contains}
 use Rattle.exact_values.specs.Rational.{ℚ, ◌≤ℚ◌, ◌<ℚ◌}
 use Rattle.lp_definitions.specs.LinearProgram.{LinearProgram, Vector, value_at}
 use Rattle.lp_definitions.specs.Solutions.{IsBest, AreProvingPrices, IsCrossed, IsRay, ProvesUnbounded, IsInfeasible, IsUnbounded}
@@ -46,30 +47,43 @@ abbrev pub last_end : ℚ → List Part → ℚ
 last_end from [] = from
 last_end from (part ∷ parts) = last_end part.to parts
 
+pub record IsCovered (parts : List Part) (theta : ℚ) : Type 0 where
+  pub part : Part
+  pub among : Contains parts part
+  pub after : part.from ≤ℚ theta
+  pub before : theta ≤ℚ part.to
+
 -- the first interval may be a point
 abbrev pub AreLongPast : List Part → Type 0
 AreLongPast [] = Unit {0}
 AreLongPast (part ∷ parts) = All (λ (later : Part). later.from <ℚ later.to) parts
+
+-- the last interval ends at past, before max, and this is proved of every greater value
+pub record IsProvedPast (max last past : ℚ) (Proved : ℚ → Type 0) : Type 0 where
+  pub at_last : past ≡ last
+  pub before_max : last <ℚ max
+  pub proved : (theta : ℚ) → past <ℚ theta → Proved theta
 
 -- the last interval ends at max; or it ends before, and for every greater value the point and the direction prove that the
 -- program is unbounded, or the ray proves that it is infeasible
 abbrev pub IsTrueEnd : (ℚ → LinearProgram) → ℚ → ℚ → ChainEnd → Type 0
 IsTrueEnd family max last AtMax = last ≡ max
 IsTrueEnd family max last (UnboundedPast past z d) =
-    (past ≡ last) × (last <ℚ max) × ((theta : ℚ) → past <ℚ theta → IsEndlessBy (family theta) (value_at z) (value_at d))
+    IsProvedPast max last past (λ theta. IsEndlessBy (family theta) (value_at z) (value_at d))
 IsTrueEnd family max last (InfeasiblePast past w) =
-    (past ≡ last) × (last <ℚ max) × ((theta : ℚ) → past <ℚ theta → IsRefutedBy (family theta) (value_at w))
+    IsProvedPast max last past (λ theta. IsRefutedBy (family theta) (value_at w))
 
 pub record IsTrueRun (family : ℚ → LinearProgram) (from max : ℚ) (parts : List Part) (end : ChainEnd) : Type 0 where
   pub intervals : All (IsTruePart family max) parts
   pub joined : AreJoined from parts
+  pub covered : (theta : ℚ) → from ≤ℚ theta → theta ≤ℚ last_end from parts → IsCovered parts theta
   pub long : AreLongPast parts
   pub closes : IsTrueEnd family max (last_end from parts) end
 
 -- a failed opening tells the verdict on the program of the first value
 abbrev pub IsTrueFailure : LinearProgram → Ending → Type 0
 IsTrueFailure p (EndsOptimal z y) = ⊥
-IsTrueFailure p (EndsCrossed k) = IsCrossed p k
+IsTrueFailure p (EndsCrossed k) = IsCrossed p k × IsInfeasible p
 IsTrueFailure p (EndsInfeasible w) = IsRefutedBy p (value_at w)
 IsTrueFailure p (EndsUnbounded z d) = IsEndlessBy p (value_at z) (value_at d)
 
