@@ -1,13 +1,13 @@
 -- What a parametric run tells of the linear programs of its family, at each value of the parameter.
 --     IsSolvedBy p z y             z is best in p, and the prices y prove it
---     IsTruePart family max part   the interval tells a best point and proving prices at each of its values
---     AreJoined from parts         the first interval begins at from, and each other one where the one before it ended
+--     IsTruePart family max part   the interval shows a best point and proving prices at each value in it
+--     AreJoined from parts         the first interval begins at from, each other one where the last ended
 --     last_end from parts          where the last interval ends
 --     IsCovered parts theta        one of the intervals has theta in it
 --     AreLongPast parts            each interval past the first is longer than a point
---     IsTrueEnd family max last end        how the chain ends is proved for every greater value
---     IsTrueRun family from max parts end  all of this: what holds of each interval and of the end, and that there is no gap
---     IsTrueReport                 the same of a report, which may be of an opening path that failed
+--     IsTrueEnd family max last e  how the chain ends is proved for every greater value
+--     IsTrueRun family from max parts e    each interval and the end are true, and there is no gap
+--     IsTrueReport                 the same of a report, which may be of a failed opening path
 use Rattle.std.specs.Prelude.{◌≡◌, List, [], ◌∷◌, All, Contains}
 use Rattle.exact_values.specs.Rational.{ℚ, ◌≤ℚ◌, ◌<ℚ◌}
 use Rattle.lp_definitions.specs.LinearProgram.{LinearProgram, Vector, value_at}
@@ -30,13 +30,15 @@ pub record IsEndlessBy (p : LinearProgram) (z d : Vector) : Type 0 where
   pub proof : ProvesUnbounded p z d
   pub unbounded : IsUnbounded p
 
--- the interval doesn't end before it begins, nor past max; and at every value in it, be it of any size, the activities
--- value + theta * value_rate and the prices price + theta * price_rate solve the program of that value
+-- The interval doesn't end before it begins, nor past max. At every value theta in it, also one that is
+-- too large to be printed, the activities value + theta * value_rate are a best point of the program of
+-- that value, and the prices price + theta * price_rate prove it.
 pub record IsTruePart (family : ℚ → LinearProgram) (max : ℚ) (part : Part) : Type 0 where
   pub forward : part.from ≤ℚ part.to
   pub within : part.to ≤ℚ max
   pub solved : (theta : ℚ) → part.from ≤ℚ theta → theta ≤ℚ part.to →
-      IsSolvedBy (family theta) (along theta part.value part.value_rate) (along theta part.price part.price_rate)
+      IsSolvedBy (family theta) (along theta part.value part.value_rate)
+      (along theta part.price part.price_rate)
 
 -- there is no gap between two intervals
 abbrev pub AreJoined : ℚ → List Part → Type 0
@@ -64,8 +66,8 @@ pub record IsProvedPast (max last past : ℚ) (Proved : ℚ → Type 0) : Type 0
   pub before_max : last <ℚ max
   pub proved : (theta : ℚ) → past <ℚ theta → Proved theta
 
--- the last interval ends at max; or it ends before, and for every greater value the point and the direction prove that the
--- program is unbounded, or the ray proves that it is infeasible
+-- the last interval ends at max; or it ends before, and for every greater value the point and the
+-- direction prove that the program is unbounded, or the ray proves that it is infeasible
 abbrev pub IsTrueEnd : (ℚ → LinearProgram) → ℚ → ℚ → ChainEnd → Type 0
 IsTrueEnd family max last AtMax = last ≡ max
 IsTrueEnd family max last (UnboundedPast past z d) =
@@ -73,7 +75,8 @@ IsTrueEnd family max last (UnboundedPast past z d) =
 IsTrueEnd family max last (InfeasiblePast past w) =
     IsProvedPast max last past (λ theta. IsRefutedBy (family theta) (value_at w))
 
-pub record IsTrueRun (family : ℚ → LinearProgram) (from max : ℚ) (parts : List Part) (end : ChainEnd) : Type 0 where
+pub record IsTrueRun (family : ℚ → LinearProgram) (from max : ℚ) (parts : List Part) (end : ChainEnd) :
+    Type 0 where
   pub intervals : All (IsTruePart family max) parts
   pub joined : AreJoined from parts
   pub covered : (theta : ℚ) → from ≤ℚ theta → theta ≤ℚ last_end from parts → IsCovered parts theta

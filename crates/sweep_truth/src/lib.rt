@@ -1,4 +1,5 @@
-//! The truth of parametric runs: what a run reports holds of the linear program at each value of its parameter.
+//! The truth of parametric runs: what a run reports holds of the linear program at each value of the
+//! parameter.
 //! The function here does nothing. It promises laws, so that the check proves them.
 #![tactic(auto)]
 
