@@ -4,8 +4,9 @@ table of Python's exact fractions. The listings beside the jobs of examples/ are
 
 usage: expected_listing.py [FILE.job]      without a file the job is read from standard input; it ends with the run's status
 
-It knows TITLE, MOVE, MVADR, GOTO, INITIALZ, CONVERT, SETUP, PRIMAL, SOLUTION and EXIT, in jobs without a fault. It looks for few
-faults itself, and ends with 70 where it meets one, or another verb."""
+It knows TITLE, MOVE, MVADR, GOTO, INITIALZ, CONVERT, REVISE, SETUP, PRIMAL, SOLUTION and EXIT, in jobs without a fault. It looks for
+few faults itself, and ends with 70 where it meets one, or another verb."""
+import copy
 from fractions import Fraction
 import re
 import sys
@@ -31,6 +32,30 @@ def is_skipped(card):
 
 # ---- a deck: what it says, by names
 
+def fields(card):
+    return [card[a:b].rstrip() for a, b in ((1, 3), (4, 12), (14, 22), (24, 36), (39, 47), (49, 61))]
+
+
+def pairs(field):
+    "the rows and values of a card"
+    both = [(field[2], field[3])] + ([(field[4], field[5])] if field[4] or field[5] else [])
+    return {row: number(text) for row, text in both}
+
+
+def bound(field):
+    kind = field[0].strip()
+    return kind, field[2], number(field[3]) if kind in ("UP", "LO", "FX") else None
+
+
+def ends(kind):
+    "the ends that a bound touches"
+    return {"LO": "L", "MI": "L", "UP": "U", "PL": "U"}.get(kind, "LU")
+
+
+def deck_name(cards):
+    return next((card[14:22].rstrip() for card in cards if not is_skipped(card) and card.split(" ")[0] == "NAME"), "")
+
+
 class Problem:
     def __init__(self, cards):
         self.name, self.rows, self.columns = "", {}, {}
@@ -46,24 +71,119 @@ class Problem:
                 if section == "NAME":
                     self.name = card[14:22].rstrip()
                 continue
-            field = [card[a:b].rstrip() for a, b in ((1, 3), (4, 12), (14, 22), (24, 36), (39, 47), (49, 61))]
-            pairs = [(field[2], field[3])] + ([(field[4], field[5])] if field[4] or field[5] else [])
+            field = fields(card)
             if section == "ROWS":
                 self.rows[field[1]] = field[0].strip()
             elif section == "COLUMNS":
-                self.columns.setdefault(field[1], {}).update({row: number(text) for row, text in pairs})
+                self.columns.setdefault(field[1], {}).update(pairs(field))
             elif section in ("RHS", "RANGES"):
-                self.sets[section].setdefault(field[1], {}).update({row: number(text) for row, text in pairs})
+                self.sets[section].setdefault(field[1], {}).update(pairs(field))
             elif section == "BOUNDS":
-                kind = field[0].strip()
-                value = number(field[3]) if kind in ("UP", "LO", "FX") else None
-                self.sets["BOUNDS"].setdefault(field[1], []).append((kind, field[2], value))
+                self.sets["BOUNDS"].setdefault(field[1], []).append(bound(field))
+        self.look()
+
+    def look(self):
         for entries in self.columns.values():
             if any(row not in self.rows for row in entries):
                 raise Fault("an unknown row")
 
     def entries(self):
         return sum(len(entries) for entries in self.columns.values())
+
+    def revised(self, cards):
+        "what the deck of a revision makes of it; the problem itself stays as it is"
+        return Revision(copy.deepcopy(self), cards).problem
+
+
+class Revision:
+    "the edits of a deck, card by card"
+    def __init__(self, problem, cards):
+        self.problem, self.action, self.place, section = problem, None, 0, None
+        problem.name = deck_name(cards)
+        for card in cards:
+            if is_skipped(card):
+                continue
+            if card[0] != " ":
+                section, self.action = card.split()[0], None
+            elif re.match(r" [^ ]{3}", card):
+                self.begin(section, card[1:].split(" ")[0], card[14:22].rstrip())
+            elif section in ("RHS", "RANGES", "BOUNDS"):
+                self.edit_set(section, problem.sets[section], fields(card))
+            else:
+                self.edit(section, fields(card))
+        problem.look()
+
+    def begin(self, section, word, name):
+        "an action card; BEFORE and AFTER have a place in the list of rows or columns"
+        if word not in ("MODIFY", "DELETE", "BEFORE", "AFTER") or word in ("BEFORE", "AFTER") and section not in ("ROWS", "COLUMNS"):
+            raise Fault("an unknown action")
+        self.action, listed = word, list(self.problem.rows if section == "ROWS" else self.problem.columns)
+        if word == "BEFORE":
+            self.place = listed.index(name) if name else 0
+        elif word == "AFTER":
+            self.place = listed.index(name) + 1 if name else len(listed)
+
+    def insert(self, things, name, value):
+        listed = list(things.items())
+        if name in things:
+            raise Fault("a name that is there already")
+        listed.insert(self.place, (name, value))
+        things.clear()
+        things.update(listed)
+        self.place += 1
+
+    def edit(self, section, field):
+        problem, name = self.problem, field[1]
+        items = [*problem.columns.values(), *problem.sets["RHS"].values(), *problem.sets["RANGES"].values()]
+        if self.action is None:
+            raise Fault("a card without an action")
+        if self.action == "DELETE" and section == "ROWS":
+            del problem.rows[name]
+            for entries in items:
+                entries.pop(name, None)
+        elif self.action == "DELETE" and field[2]:
+            del problem.columns[name][field[2]]
+        elif self.action == "DELETE":
+            del problem.columns[name]
+            for group, listed in problem.sets["BOUNDS"].items():
+                problem.sets["BOUNDS"][group] = [item for item in listed if item[1] != name]
+        elif section == "ROWS" and self.action == "MODIFY":
+            if name not in problem.rows:
+                raise Fault("a row that isn't there")
+            problem.rows[name] = field[0].strip()
+        elif section == "ROWS":
+            self.insert(problem.rows, name, field[0].strip())
+        elif self.action == "MODIFY":
+            problem.columns[name].update(pairs(field))
+        elif self.place and list(problem.columns)[self.place - 1] == name:
+            problem.columns[name].update(pairs(field))
+        else:
+            self.insert(problem.columns, name, pairs(field))
+        self.drop_empty()
+
+    def edit_set(self, section, sets, field):
+        name, row = field[1], field[2]
+        if self.action == "DELETE" and not row:
+            del sets[name]
+        elif self.action == "DELETE" and section == "BOUNDS":
+            sets[name] = [item for item in sets[name] if item[1] != row]
+        elif self.action == "DELETE":
+            del sets[name][row]
+        elif self.action == "MODIFY" and section == "BOUNDS":
+            new = bound(field)
+            kept = [item for item in sets.get(name, []) if item[1] != row or not set(ends(item[0])) & set(ends(new[0]))]
+            sets[name] = kept + [new]
+        elif self.action == "MODIFY":
+            sets.setdefault(name, {}).update(pairs(field))
+        else:
+            raise Fault("a card without an action")
+        self.drop_empty()
+
+    def drop_empty(self):
+        "a set that has lost its last item goes"
+        for sets in self.problem.sets.values():
+            for name in [name for name, items in sets.items() if not items]:
+                del sets[name]
 
 
 # ---- a linear program: variables are numbered from 0, rows before columns
@@ -283,9 +403,8 @@ class Run:
                     break
             if not taken:
                 raise Fault("no deck")
-            problem = Problem(taken)
-            if self.cells.get("XDATA", problem.name) == problem.name:
-                return problem
+            if self.cells.get("XDATA", deck_name(taken)) == deck_name(taken):
+                return taken
 
     def table_line(self, k, values):
         return f"{k + 1:5} {self.lp.names[k]:<8} " + " ".join(str(value) if isinstance(value, str) else shown(value) for value in values)
@@ -352,12 +471,15 @@ class Run:
                     self.mark = None
             elif verb == "MVADR":
                 self.demands[words[0]] = self.labels[words[1]]
-            elif verb == "CONVERT":
-                problem = self.deck()
+            elif verb in ("CONVERT", "REVISE"):
+                if verb == "CONVERT":
+                    problem = Problem(self.deck())
+                else:
+                    problem = self.problems[self.cells.get("XOLDNAME", self.last)].revised(self.deck())
                 problem.name = self.cells.get("XPBNAME", problem.name)
                 self.problems[problem.name], self.last, self.setup, self.mark = problem, problem.name, None, None
                 counts = len(problem.rows), len(problem.columns), problem.entries()
-                self.lines.append("CONVERT {:<8} ROWS {} COLUMNS {} ENTRIES {}".format(problem.name, *counts))
+                self.lines.append("{:<7} {:<8} ROWS {} COLUMNS {} ENTRIES {}".format(verb, problem.name, *counts))
             elif verb == "SETUP":
                 options = {"bound": None, "range": None, "sense": "MAX" if "MAX" in words else "MIN"}
                 for kind in ("BOUND", "RANGE"):

@@ -11,9 +11,11 @@ pub mod Sound
 pub mod Selected
 pub mod Setting
 pub mod Filing
+pub mod Revising
 pub mod Telling
 pub mod Present
 pub mod Solving_steps
 pub mod Primal_comes
 pub mod Keeping
 pub mod Showing
+pub mod Ranging

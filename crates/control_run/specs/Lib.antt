@@ -4,7 +4,7 @@ pub mod Ends
 pub mod Standing
 pub mod Statements
 pub mod Turning
-pub mod Converting
+pub mod Describing
 pub mod Choosing
 pub mod Findings
 pub mod Finishing

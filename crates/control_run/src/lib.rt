@@ -10,11 +10,14 @@ mod finding;
 mod finish;
 mod machine;
 mod primal;
+mod ranges;
+mod revise;
 mod run;
 mod selecting;
 mod setup;
 mod solution;
 mod status;
+mod taking;
 mod title;
 
 pub use run::run_program;

@@ -39,11 +39,11 @@ fn choice_of(options: &SetupOptions) -> SetupChoice
     }
 }
 
-// The name under which the problem is filed: that in XPBNAME, or else the one put last.
-fn wanted_name(cells: &Cells, file: &ProblemFile) -> Option<Name>
-    ensures { result ≡ named cells.now.xpbname file.now }
+/// The name under which the problem that is wanted is filed: that of its cell, or else the one put last.
+pub fn wanted_name(moved: Option<Name>, file: &ProblemFile) -> Option<Name>
+    ensures { result ≡ named moved file.now }
 {
-    match cells.name(NameCell::Xpbname) {
+    match moved {
         Some(name) => Some(name),
         None => file.last(),
     }
@@ -59,7 +59,7 @@ fn open(
     ensures opened { IfOk result (IsOpened cells.now file.now options) }
     ensures refused { IfErr result (IsNotOpened cells.now file.now options) }
 {
-    let Some(name) = wanted_name(cells, file) else {
+    let Some(name) = wanted_name(cells.name(NameCell::Xpbname), file) else {
         return Err(Refusal::Fault(VerbFault::NoProblem));
     };
     let Some(problem) = file.get(&name) else {

@@ -368,3 +368,67 @@ pub const OVERFLOWS: [Row; 6] = [
         listing: b"CONVERT T        ROWS 2 COLUMNS 1 ENTRIES 2\nSETUP   T        MIN\nSTOP 20 OVERFLOW F",
     },
 ];
+
+/// Revisions, with their faults.
+pub const REVISIONS: [Row; 10] = [
+    Row {
+        name: "revise right hand side",
+        job: b"         PROGRAM\n         CONVERT\n         SETUP\n         PRIMAL\n         MOVE(XPBNAME,'NEW')\n         REVISE\n         SETUP\n         PRIMAL\n         EXIT\n         PEND\nNAME          ONE\nROWS\n N  COST\n G  LOW\nCOLUMNS\n    X         COST      1\n    X         LOW       1\nRHS\n    B         LOW       1\nENDATA\nNAME          REV\nRHS\n MODIFY\n    B         LOW       2\nENDATA\n",
+        status: 0,
+        listing: b"CONVERT ONE      ROWS 2 COLUMNS 1 ENTRIES 2\nSETUP   ONE      MIN\nPRIMAL OPTIMAL STEPS 1 OBJECTIVE 1 CHECKED\nREVISE  NEW      ROWS 2 COLUMNS 1 ENTRIES 2\nSETUP   NEW      MIN\nPRIMAL OPTIMAL STEPS 1 OBJECTIVE 2 CHECKED\nEND 0\n",
+    },
+    Row {
+        name: "revise delete row",
+        job: b"         PROGRAM\n         CONVERT\n         REVISE\n         EXIT\n         PEND\nNAME          ONE\nROWS\n N  COST\n G  LOW\nCOLUMNS\n    X         COST      1\n    X         LOW       1\nRHS\n    B         LOW       1\nENDATA\nNAME          REV\nROWS\n DELETE\n G  LOW\nENDATA\n",
+        status: 0,
+        listing: b"CONVERT ONE      ROWS 2 COLUMNS 1 ENTRIES 2\nREVISE  REV      ROWS 1 COLUMNS 1 ENTRIES 1\nEND 0\n",
+    },
+    Row {
+        name: "revise delete missing",
+        job: b"         PROGRAM\n         CONVERT\n         REVISE\n         EXIT\n         PEND\nNAME          ONE\nROWS\n N  COST\n G  LOW\nCOLUMNS\n    X         COST      1\n    X         LOW       1\nRHS\n    B         LOW       1\nENDATA\nNAME          REV\nROWS\n DELETE\n G  ZZ\nENDATA\n",
+        status: 12,
+        listing: b"CONVERT ONE      ROWS 2 COLUMNS 1 ENTRIES 2\nSTOP 12 DECK FAULT 23 CARD 19\n",
+    },
+    Row {
+        name: "revise unknown action",
+        job: b"         PROGRAM\n         CONVERT\n         REVISE\n         EXIT\n         PEND\nNAME          ONE\nROWS\n N  COST\n G  LOW\nCOLUMNS\n    X         COST      1\n    X         LOW       1\nRHS\n    B         LOW       1\nENDATA\nNAME          REV\nROWS\n CHANGE\n G  LOW\nENDATA\n",
+        status: 12,
+        listing: b"CONVERT ONE      ROWS 2 COLUMNS 1 ENTRIES 2\nSTOP 12 DECK FAULT 21 CARD 18\n",
+    },
+    Row {
+        name: "revise keeps the old problem",
+        job: b"         PROGRAM\n         CONVERT\n         REVISE\n         MOVE(XPBNAME,'ONE')\n         SETUP\n         PRIMAL\n         EXIT\n         PEND\nNAME          ONE\nROWS\n N  COST\n G  LOW\nCOLUMNS\n    X         COST      1\n    X         LOW       1\nRHS\n    B         LOW       1\nENDATA\nNAME          REV\nRHS\n MODIFY\n    B         LOW       2\nENDATA\n",
+        status: 0,
+        listing: b"CONVERT ONE      ROWS 2 COLUMNS 1 ENTRIES 2\nREVISE  REV      ROWS 2 COLUMNS 1 ENTRIES 2\nSETUP   ONE      MIN\nPRIMAL OPTIMAL STEPS 1 OBJECTIVE 1 CHECKED\nEND 0\n",
+    },
+    Row {
+        name: "revise of an old name",
+        job: b"         PROGRAM\n         CONVERT\n         REVISE\n         MOVE(XOLDNAME,'ONE')\n         REVISE\n         SETUP\n         PRIMAL\n         EXIT\n         PEND\nNAME          ONE\nROWS\n N  COST\n G  LOW\nCOLUMNS\n    X         COST      1\n    X         LOW       1\nRHS\n    B         LOW       1\nENDATA\nNAME          REV\nRHS\n MODIFY\n    B         LOW       2\nENDATA\nNAME          REV2\nCOLUMNS\n MODIFY\n    X         COST      5\nENDATA\n",
+        status: 0,
+        listing: b"CONVERT ONE      ROWS 2 COLUMNS 1 ENTRIES 2\nREVISE  REV      ROWS 2 COLUMNS 1 ENTRIES 2\nREVISE  REV2     ROWS 2 COLUMNS 1 ENTRIES 2\nSETUP   REV2     MIN\nPRIMAL OPTIMAL STEPS 1 OBJECTIVE 5 CHECKED\nEND 0\n",
+    },
+    Row {
+        name: "revise clears the setup",
+        job: b"         PROGRAM\n         CONVERT\n         SETUP\n         REVISE\n         PRIMAL\n         EXIT\n         PEND\nNAME          ONE\nROWS\n N  COST\n G  LOW\nCOLUMNS\n    X         COST      1\n    X         LOW       1\nRHS\n    B         LOW       1\nENDATA\nNAME          REV\nRHS\n MODIFY\n    B         LOW       2\nENDATA\n",
+        status: 10,
+        listing: b"CONVERT ONE      ROWS 2 COLUMNS 1 ENTRIES 2\nSETUP   ONE      MIN\nREVISE  REV      ROWS 2 COLUMNS 1 ENTRIES 2\nSTOP 10 VERB FAULT 3 CARD 5\n",
+    },
+    Row {
+        name: "revise without a problem",
+        job: b"         PROGRAM\n         REVISE\n         EXIT\n         PEND\nNAME          REV\nRHS\n MODIFY\n    B         LOW       2\nENDATA\n",
+        status: 10,
+        listing: b"STOP 10 VERB FAULT 2 CARD 2\n",
+    },
+    Row {
+        name: "revise of an unknown name",
+        job: b"         PROGRAM\n         CONVERT\n         MOVE(XOLDNAME,'TWO')\n         REVISE\n         EXIT\n         PEND\nNAME          ONE\nROWS\n N  COST\n G  LOW\nCOLUMNS\n    X         COST      1\n    X         LOW       1\nRHS\n    B         LOW       1\nENDATA\nNAME          REV\nRHS\n MODIFY\n    B         LOW       2\nENDATA\n",
+        status: 10,
+        listing: b"CONVERT ONE      ROWS 2 COLUMNS 1 ENTRIES 2\nSTOP 10 VERB FAULT 2 CARD 4\n",
+    },
+    Row {
+        name: "revise without a deck",
+        job: b"         PROGRAM\n         CONVERT\n         REVISE\n         EXIT\n         PEND\nNAME          ONE\nROWS\n N  COST\n G  LOW\nCOLUMNS\n    X         COST      1\n    X         LOW       1\nRHS\n    B         LOW       1\nENDATA\n",
+        status: 10,
+        listing: b"CONVERT ONE      ROWS 2 COLUMNS 1 ENTRIES 2\nSTOP 10 VERB FAULT 1 CARD 3\n",
+    },
+];

@@ -1,6 +1,8 @@
 // Jobs without words over devices that don't fail.
 use crate::jobs::answer_of;
-use crate::rows::{CONTROL_FAULTS, DECK_FAULTS, OVERFLOWS, PLANS, Row, VERB_FAULTS, VERDICTS};
+use crate::rows::{
+    CONTROL_FAULTS, DECK_FAULTS, OVERFLOWS, PLANS, REVISIONS, Row, VERB_FAULTS, VERDICTS,
+};
 use std::alloc::Global;
 use std::test::Fail;
 
@@ -42,6 +44,12 @@ fn faults_are_told_with_their_cards(rt: HostRuntime) -> Result<(), Fail> {
     assert_eq!(rt; first_untold(rt.alloc(), &CONTROL_FAULTS)?, None);
     assert_eq!(rt; first_untold(rt.alloc(), &VERB_FAULTS)?, None);
     assert_eq!(rt; first_untold(rt.alloc(), &DECK_FAULTS)?, None);
+    Ok(())
+}
+
+#[test]
+fn problems_are_revised(rt: HostRuntime) -> Result<(), Fail> {
+    assert_eq!(rt; first_untold(rt.alloc(), &REVISIONS)?, None);
     Ok(())
 }
 

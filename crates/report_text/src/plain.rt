@@ -2,7 +2,7 @@
 ghost use Rattle.std.specs.Prelude.{codes};
 ghost use Rattle.job_devices.specs.Text.{Writes};
 ghost use Rattle.listing_definitions.specs.Report as reports;
-ghost use Rattle.listing_definitions.specs.Text.{report_text};
+ghost use Rattle.listing_definitions.specs.Text.{filed_text, report_text};
 
 use crate::pieces::{NAME_PLACES, blanks, decimal, sense_word};
 use itoa::Buffer;
@@ -16,14 +16,16 @@ pub fn put_title<P: Sink>(print: &mut P, text: &[u8]) -> Result<(), WriteStop>
     put_each(print, &[b"TITLE ", text, b"\n"])
 }
 
-pub fn put_converted<P: Sink>(
+// The line of a problem that was filed, with the word of its verb.
+fn put_filed<P: Sink>(
     print: &mut P,
+    word: &'static [u8],
     name: Name,
     rows: u32,
     columns: u32,
     entries: u32,
 ) -> Result<(), WriteStop>
-    ensures { Writes P.written P.faults P.refusals print.old print.new result (report_text (reports.Converted (record { name = name; rows = rows; columns = columns; entries = entries }))) }
+    ensures { Writes P.written P.faults P.refusals print.old print.new result (filed_text word.now (record { name = name; rows = rows; columns = columns; entries = entries })) }
 {
     let mut row_digits = Buffer::new();
     let mut column_digits = Buffer::new();
@@ -32,7 +34,8 @@ pub fn put_converted<P: Sink>(
     put_each(
         print,
         &[
-            b"CONVERT ",
+            word,
+            b" ",
             letters,
             blanks(NAME_PLACES, letters.len()),
             b" ROWS ",
@@ -44,6 +47,30 @@ pub fn put_converted<P: Sink>(
             b"\n",
         ],
     )
+}
+
+pub fn put_converted<P: Sink>(
+    print: &mut P,
+    name: Name,
+    rows: u32,
+    columns: u32,
+    entries: u32,
+) -> Result<(), WriteStop>
+    ensures { Writes P.written P.faults P.refusals print.old print.new result (report_text (reports.Converted (record { name = name; rows = rows; columns = columns; entries = entries }))) }
+{
+    put_filed(print, b"CONVERT", name, rows, columns, entries)
+}
+
+pub fn put_revised<P: Sink>(
+    print: &mut P,
+    name: Name,
+    rows: u32,
+    columns: u32,
+    entries: u32,
+) -> Result<(), WriteStop>
+    ensures { Writes P.written P.faults P.refusals print.old print.new result (report_text (reports.Revised (record { name = name; rows = rows; columns = columns; entries = entries }))) }
+{
+    put_filed(print, b"REVISE ", name, rows, columns, entries)
 }
 
 pub fn put_setup<P: Sink>(print: &mut P, name: Name, sense: Sense) -> Result<(), WriteStop>

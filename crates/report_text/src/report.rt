@@ -3,16 +3,17 @@ ghost use Rattle.job_devices.specs.Text.{Writes};
 ghost use Rattle.report_text.specs.Shown.{IsReport, text_shown};
 
 use crate::ending::put_ending;
-use crate::plain::{put_converted, put_setup, put_title};
+use crate::plain::{put_converted, put_revised, put_setup, put_title};
+use crate::ranges::put_ranges;
 use crate::sheet::Sheet;
 use crate::solution::put_solution;
-use crate::table::Standing;
+use crate::table::{Ranging, Standing};
 use crate::verdict::put_verdict;
 use frac128::{Frac, Refused};
 use job_devices::{Sink, WriteStop};
 use listing_definitions::{Mark, Solver};
 use lp_definitions::{Evidence, Sense};
-use lp_model::{Basis, Outcome, Point, Prices};
+use lp_model::{Basis, Outcome, Point, Prices, RangeReport};
 use name_table::Name;
 
 /// What a statement of a run prints, or the end of the run.
@@ -24,6 +25,13 @@ pub enum Report<'a> {
     },
     /// A problem that was converted and filed, with its size.
     Converted {
+        name: Name,
+        rows: u32,
+        columns: u32,
+        entries: u32,
+    },
+    /// A problem that was made of another one and filed, with its size.
+    Revised {
         name: Name,
         rows: u32,
         columns: u32,
@@ -49,6 +57,13 @@ pub enum Report<'a> {
         point: &'a Point,
         prices: &'a Prices,
         slack: &'a [Frac],
+    },
+    /// A basis with its point, and the intervals in which it stays optimal.
+    Ranges {
+        sheet: Sheet<'a>,
+        basis: &'a Basis,
+        point: &'a Point,
+        report: &'a RangeReport,
     },
     /// The end of the run.
     End(Ending<'a>),
@@ -122,6 +137,12 @@ pub fn text_of<P: Sink>(report: &Report<'_>, print: &mut P) -> Result<(), WriteS
             columns,
             entries,
         } => put_converted(print, name, rows, columns, entries),
+        Report::Revised {
+            name,
+            rows,
+            columns,
+            entries,
+        } => put_revised(print, name, rows, columns, entries),
         Report::SetUp { name, sense } => put_setup(print, name, sense),
         Report::Solved {
             by,
@@ -144,6 +165,19 @@ pub fn text_of<P: Sink>(report: &Report<'_>, print: &mut P) -> Result<(), WriteS
                 slack,
             };
             put_solution(print, mark, sheet, standing)
+        }
+        Report::Ranges {
+            sheet,
+            basis,
+            point,
+            report,
+        } => {
+            let ranging = Ranging {
+                basis,
+                point,
+                report,
+            };
+            put_ranges(print, sheet, ranging)
         }
         Report::End(ending) => put_ending(print, ending),
     }

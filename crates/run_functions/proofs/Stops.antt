@@ -1,4 +1,5 @@
--- A statement stops with an overflow only where evidence holds.
+-- A statement stops with an overflow only where evidence holds, and never since a device or memory
+-- fails.
 use Rattle.std.proofs.Common.{inl, inr, ℕ, Bool, true, false, List, sym, subst}
 use Rattle.std.specs.Prelude.{Option, Some, None, Result, Ok, Err, option_and_then}
 use Rattle.exact_values.specs.Rational.{ℚ}
@@ -10,7 +11,7 @@ use Rattle.deck_definitions.specs.declared.DeckFault.{DeckFault}
 use Rattle.deck_definitions.specs.Conversion.{conversion}
 use Rattle.deck_definitions.specs.Decks.{deck_taken}
 use Rattle.revise_definitions.specs.Revision.{revision}
-use Rattle.control_definitions.specs.Program.{SetupOptions, Verb, Initialz, Title, MoveName, MoveNumber, MoveLimit, Mvadr, Goto, Convert, Setup, Primal, Revise, Ranging, Paraobj, Pararhs, Solution as SolutionVerb, Bcdout, Exit}
+use Rattle.control_definitions.specs.Program.{Program, SetupOptions, Verb, Initialz, Title, MoveName, MoveNumber, MoveLimit, Mvadr, Goto, Convert, Setup, Primal, Revise, Ranging, Paraobj, Pararhs, Solution as SolutionVerb, Bcdout, Exit}
 use Rattle.selection_definitions.specs.declared.SelectionFault.{SelectionFault}
 use Rattle.selection_definitions.specs.Choice.{Choice}
 use Rattle.selection_definitions.specs.Selection.{selected}
@@ -19,17 +20,31 @@ use Rattle.listing_definitions.specs.declared.Mark.TheVariants.{Optimal, Infeasi
 use Rattle.listing_definitions.specs.declared.Solver.TheVariants.{Primal as ByPrimal}
 use Rattle.listing_definitions.specs.declared.VerbFault.{VerbFault}
 use Rattle.listing_definitions.specs.Report.{Report, Converted, Revised, Solved, Solution, Ranges}
-use Rattle.listing_definitions.specs.Ending.{Overflow, Ending, OverflowStop}
+use Rattle.listing_definitions.specs.Ending.{Overflow, Ending, Ended, WordsRefused, ControlStop, VerbStop, DeckStop, CardStop, LimitStop, StatementLimit, OverflowStop, ReadFault, PrintFault, PunchFault, Memory, NotBuilt}
 use Rattle.question_definitions.specs.Answers.{Changing, sweeper, Sweep, Question, Answer, OfSolution, OfRanges, PathEnd, Reached, PathLimit, SweepEnd, Opening, Chained, SweepLimit}
 use Rattle.question_definitions.specs.Solving.{Solving}
 use Rattle.run_definitions.specs.State.{Present, gone_through, State, problem_of, choice_of}
 use Rattle.run_definitions.specs.Moves.{Gain, Outcome, Goes, Ends, Refusals, Move, Does, MayStop, Asks, Gives, or_fault}
 use Rattle.run_definitions.specs.Verbs.{or_deck_fault, or_selection_fault, files, selects, not_less, change_row, change_set, demanded, by_verdict, mark_of, if_optimal, after_path, after_sweep, shows_present, solves, shows, ranges, sweeps, converts, revises, sets_up, punches, verb_move, if_built, statement_move}
+use Rattle.run_definitions.specs.Run.{counted, at_end, at_limit, IsRun, is_over, is_ended}
+use Rattle.run_definitions.specs.Answer.{IsJobRun, card_fault, control_fault, run}
 use Rattle.run_functions.specs.Laws.{HasEvidence}
 
--- an ending and an outcome that isn't a stop for an overflow
+-- an ending that a run has by itself, where no device and no memory fails
+abbrev pub IsOfItself : Ending → Type 0
+IsOfItself ReadFault = ⊥
+IsOfItself PrintFault = ⊥
+IsOfItself PunchFault = ⊥
+IsOfItself Memory = ⊥
+IsOfItself _ = Unit {0}
+
+-- an ending and an outcome of that kind that isn't a stop for an overflow
 abbrev IsOtherEnding : Ending → Type 0
 IsOtherEnding (OverflowStop overflow) = ⊥
+IsOtherEnding ReadFault = ⊥
+IsOtherEnding PrintFault = ⊥
+IsOtherEnding PunchFault = ⊥
+IsOtherEnding Memory = ⊥
 IsOtherEnding _ = Unit {0}
 
 abbrev IsOther : Outcome → Type 0
@@ -174,3 +189,51 @@ module _ (S : Solving) (card : ℕ) (gain : Gain) (overflow : Overflow) where
 
   pub statement_evidence : (verb : Verb ℕ) (state : State) → Gives S card (statement_move S verb card state) (Ends gain (OverflowStop overflow)) → HasEvidence S (statement_move S verb card state)
   statement_evidence verb state gives = by_evidence (statement_move S verb card state) (if_built_never (S.builds verb) verb card state).other gives
+
+-- ---- and no statement ends a run as a device or memory does
+
+of_itself : (ending : Ending) → IsOtherEnding ending → IsOfItself ending
+of_itself (Ended code) other = tt
+of_itself WordsRefused other = tt
+of_itself (ControlStop fault) other = tt
+of_itself (VerbStop fault) other = tt
+of_itself (DeckStop fault) other = tt
+of_itself (CardStop fault) other = tt
+of_itself (LimitStop reached) other = tt
+of_itself StatementLimit other = tt
+of_itself (OverflowStop overflow) other = tt
+of_itself ReadFault other = other
+of_itself PrintFault other = other
+of_itself PunchFault other = other
+of_itself Memory other = other
+of_itself NotBuilt other = tt
+
+abbrev EndsOfItself : Outcome → Type 0
+EndsOfItself (Goes gain after) = Unit {0}
+EndsOfItself (Ends gain ending) = IsOfItself ending
+
+outcome_of_itself : (outcome : Outcome) → IsOther outcome → EndsOfItself outcome
+outcome_of_itself (Goes gain after) other = tt
+outcome_of_itself (Ends gain ending) other = of_itself ending other
+
+module _ (S : Solving) (card : ℕ) (given : Outcome) where
+  gives_of_itself : (move : Move) → DoesOther move → Gives S card move given → EndsOfItself given
+  gives_of_itself (Does outcome) other gives = subst EndsOfItself (sym gives) (outcome_of_itself outcome other)
+  gives_of_itself (MayStop refusals move) other (inl gives) = gives_of_itself move other gives
+  gives_of_itself (MayStop refusals move) other (inr stop) = subst EndsOfItself (sym stop.3) tt
+  gives_of_itself (Asks question sheet s go) other gives = subst EndsOfItself (sym gives.2) (outcome_of_itself (go gives.0) (other gives.0))
+
+  statement_of_itself : (verb : Verb ℕ) (state : State) → Gives S card (statement_move S verb card state) given → EndsOfItself given
+  statement_of_itself verb state gives = gives_of_itself (statement_move S verb card state) (if_built_never (S.builds verb) verb card state).other gives
+
+module _ (S : Solving) where
+  run_of_itself : (program : Program) (decks : List (List Card)) (reports : List Report) (cards : List (List ℕ)) (ending : Ending) → IsRun S program decks reports cards ending → IsOfItself ending
+  run_of_itself program decks _ _ _ (is_over came (at_end past)) = tt
+  run_of_itself program decks _ _ _ (is_over came (at_limit within limit)) = tt
+  run_of_itself program decks _ _ ending (is_ended {state = state} gain came step) = statement_of_itself S step.statement.card (Ends gain ending) step.statement.verb (counted state) step.gives
+
+  -- a run of a job, where nothing fails, ends by itself
+  pub job_of_itself : (bytes : List ℕ) (reports : List Report) (cards : List (List ℕ)) (ending : Ending) → IsJobRun S bytes reports cards ending → IsOfItself ending
+  job_of_itself bytes _ _ _ (card_fault fault is) = tt
+  job_of_itself bytes _ _ _ (control_fault fault fine is) = tt
+  job_of_itself bytes reports cards ending (run program is runs) = run_of_itself program _ reports cards ending runs

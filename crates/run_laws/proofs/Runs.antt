@@ -2,7 +2,7 @@
 use Rattle.std.proofs.Common.{◌≡◌, ◌⊎◌, ℕ, Bool, false, List, [], inl, inr}
 use Rattle.std.specs.Prelude.{All}
 use Rattle.std.proofs.lemmas.List.Elements.{All-nil, All-cons}
-use Rattle.control_definitions.specs.Program.{Program, Verb, Revise, Paraobj, Pararhs}
+use Rattle.control_definitions.specs.Program.{Program, Verb, Paraobj, Pararhs}
 use Rattle.listing_definitions.specs.declared.Mark.TheVariants.{Optimal, Infeasible, Unbounded}
 use Rattle.listing_definitions.specs.declared.Solver.TheVariants.{Primal as ByPrimal, Paraobj as ByParaobj, Pararhs as ByPararhs}
 use Rattle.listing_definitions.specs.Report.{Report, Titled, Converted, Revised, SetUp, Punched, Solved, Solution, Ranges, Parametric}
@@ -34,7 +34,7 @@ uncounted state (Solved ByPararhs verdict check) holds = tt
 uncounted state (Solution Optimal lines) holds = holds
 uncounted state (Solution Infeasible lines) holds = tt
 uncounted state (Solution Unbounded lines) holds = tt
-uncounted state (Ranges lines) holds = tt
+uncounted state (Ranges lines) holds = holds
 uncounted state (Parametric solver chain) holds = tt
 
 -- the report of a gain
@@ -103,4 +103,4 @@ module _ (S : Solving) (solving : KnowsSolving S) where
   }
 
 pub knows_staged : (builds : Verb ℕ → Bool) → KnowsSolving (staged builds)
-knows_staged builds = record { solves = λ sheet s limit bases verdict check solved. solved; shows = λ sheet s lines shown. shown; sweeps = swept_leads }
+knows_staged builds = record { solves = λ sheet s limit bases verdict check solved. solved; shows = λ sheet s lines shown. shown; ranges = λ sheet s lines ranged. ranged; sweeps = swept_leads }

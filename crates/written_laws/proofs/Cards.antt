@@ -87,7 +87,7 @@ module _ (K A B v : List ℕ) (lK : length K ≡ 2) (lA : length A ≡ 8) (lB : 
       (both _ _ (column 47 (behind_value 23 (lit≤ tt)))
       (both _ _ (column 48 (behind_value 24 (lit≤ tt))) refl))))))))))
 
-reassoc : (a K b A c B d v : List ℕ) → a ++ K ++ b ++ A ++ c ++ B ++ d ++ v ≡ a ++ (K ++ (b ++ (A ++ (c ++ (B ++ (d ++ v))))))
+pub reassoc : (a K b A c B d v : List ℕ) → a ++ K ++ b ++ A ++ c ++ B ++ d ++ v ≡ a ++ (K ++ (b ++ (A ++ (c ++ (B ++ (d ++ v))))))
 reassoc a K b A c B d v = simp append_assoc
 
 length-padded : (width : ℕ) (text : List ℕ) → length text ≤ width → length (padded width text) ≡ width
@@ -98,7 +98,7 @@ length-padded width text short =
 -- ---- the card
 
 -- no section card begins with a blank
-no_section : (xs : List ℕ) → is_section_card (without_trailing is_blank (32 ∷ xs)) ≡ false
+pub no_section : (xs : List ℕ) → is_section_card (without_trailing is_blank (32 ∷ xs)) ≡ false
 no_section xs = ap is_section_card (without_trailing-cons is_blank 32 xs) ∙ by (is_empty (without_trailing is_blank xs))
   where
     by : (b : Bool) → is_section_card (cond (b && true) [] (32 ∷ without_trailing is_blank xs)) ≡ false

@@ -6,4 +6,7 @@ pub mod Sets
 pub mod Entries
 pub mod Bounds
 pub mod Numbers
+pub mod Printable
+pub mod Texts
+pub mod Decks
 pub mod Whole

@@ -41,17 +41,17 @@ kept x xs h = without_trailing-cons is_blank x xs ∙ by (is_empty (without_trai
     by true false h = refl
     by false false h = refl
 
-abbrev name_card : Name → List ℕ
+abbrev pub name_card : Name → List ℕ
 name_card name = without_trailing is_blank (codes "NAME          " ++ name)
 
 -- the card's word, and behind it nothing or a blank
-abbrev name_word : Bool → List ℕ → List ℕ
+abbrev pub name_word : Bool → List ℕ → List ℕ
 name_word nothing more = 78 ∷ 65 ∷ 77 ∷ 69 ∷ cond (nothing && true) [] (32 ∷ more)
 
-abbrev behind_word : Name → List ℕ
+abbrev pub behind_word : Name → List ℕ
 behind_word name = codes "         " ++ name
 
-name_card-is : (name : Name) → name_card name ≡ name_word (is_empty (without_trailing is_blank (behind_word name))) (without_trailing is_blank (behind_word name))
+pub name_card-is : (name : Name) → name_card name ≡ name_word (is_empty (without_trailing is_blank (behind_word name))) (without_trailing is_blank (behind_word name))
 name_card-is name =
     kept 78 (codes "AME          " ++ name) refl
     ∙ ap (λ w. 78 ∷ w) (kept 65 (codes "ME          " ++ name) refl
@@ -59,7 +59,7 @@ name_card-is name =
     ∙ ap (λ w. 77 ∷ w) (kept 69 (codes "          " ++ name) refl
     ∙ ap (λ w. 69 ∷ w) (without_trailing-cons is_blank 32 (behind_word name)))))
 
-begun_by : (nothing : Bool) (more : List ℕ) → section_begun (name_word nothing more) ≡ Some Header
+pub begun_by : (nothing : Bool) (more : List ℕ) → section_begun (name_word nothing more) ≡ Some Header
 begun_by true more = refl
 begun_by false more = refl
 
@@ -75,7 +75,7 @@ name-accepted name problem =
     (accepts-section None Header problem (name_word nothing more) refl (begun_by nothing more) refl (fine_first nothing more))
 
 -- the name on it
-header-is : (name : Name) → IsName name → header_name (name_card name) ≡ name
+pub header-is : (name : Name) → IsName name → header_name (name_card name) ≡ name
 header-is name is = part_of_trimmed is_blank 14 8 (codes "NAME          " ++ name) ∙ ap (without_trailing is_blank) (take_all 8 name is.short) ∙ is.trimmed
 
 -- ---- the sections
