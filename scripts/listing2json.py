@@ -14,6 +14,11 @@ from fractions import Fraction
 
 ROW = ("at", "activity", "slack", "lower", "upper", "dual")
 COLUMN = ("at", "activity", "cost", "lower", "upper", "reduced")
+RANGES = (("rows_at_limit", "SECTION 1 - ROWS AT LIMIT LEVEL", ("at", "activity", "limit_low", "limit_high")),
+          ("columns_at_limit", "SECTION 2 - COLUMNS AT LIMIT LEVEL",
+           ("at", "activity", "limit_low", "limit_high", "cost", "cost_low", "cost_high")),
+          ("rows_between", "SECTION 3 - ROWS AT INTERMEDIATE LEVEL", ("at", "activity", "factor_low", "factor_high")),
+          ("columns_between", "SECTION 4 - COLUMNS AT INTERMEDIATE LEVEL", ("at", "activity", "cost", "cost_low", "cost_high")))
 NUMBER = r"-?\d+(?:/\d+)?"
 VERDICT = re.compile(
     rf"(PRIMAL|PARAOBJ|PARARHS) (OPTIMAL|INFEASIBLE|UNBOUNDED) STEPS (\d+) (?:OBJECTIVE ({NUMBER})|CROSSED (\d+)|RAY) (CHECKED|UNCHECKED .*)$")
@@ -27,7 +32,8 @@ class NoListing(Exception):
 def table_line(line, keys):
     found = TABLE.match(line)
     values = found[3].split(" ") if found else []
-    if not found or len(values) != len(keys) or any(not re.fullmatch(rf"{NUMBER}|NONE|BS|LL|UL|FR|EQ|\*\*", value) for value in values):
+    absent = "NONE|-" if "limit_low" in keys else "NONE"
+    if not found or len(values) != len(keys) or any(not re.fullmatch(rf"{NUMBER}|{absent}|BS|LL|UL|FR|EQ|\*\*", value) for value in values):
         raise NoListing(f"not a table line: {line[:60]}")
     return {"number": int(found[1]), "name": found[2].rstrip(), **{key: None if value == "NONE" else value for key, value in zip(keys, values)}}
 
@@ -81,6 +87,16 @@ def parse(text):
                 at += 2
                 report[key] = table(keys)
             reports.append(report)
+        elif line == "RANGE":
+            report = {"report": "ranges"}
+            for key, title, keys in RANGES:
+                if at >= len(lines):
+                    break
+                if lines[at] != title:
+                    raise NoListing(f"line {at + 1}: no {title}")
+                at += 1
+                report[key] = table(keys)
+            reports.append(report)
         elif re.match(r"END [012]$", line):
             ended = {"status": int(line[4:]), "text": line}
         elif re.match(r"STOP \d+ ", line):
@@ -92,7 +108,7 @@ def parse(text):
 
 
 def each_line(report):
-    for key in ("rows", "columns", "ray", "direction"):
+    for key in ("rows", "columns", "ray", "direction", *(section[0] for section in RANGES)):
         if isinstance(report.get(key), list):
             for line in report[key]:
                 yield key, line

@@ -7,7 +7,7 @@ usage: mps2job.py [--max | --min] [--negative-up keep|free] [--fixed] [--ranging
   --negative-up    what a negative UP means where nothing was said of the lower limit: keep leaves it at 0 (no plan), free removes it;
                    without the option such a file is refused
   --fixed          fields by their columns, as in old files whose names have blanks; without it fields are words
-  --ranging        RANGE after SOLUTION (the program answers STOP 30 NOT BUILT to it so far)
+  --ranging        RANGE after SOLUTION
   -o JOB           where the job goes; without it to standard output
   --names MAP      where the names that were shortened go, as JSON for listing2json.py; needed where one is
 

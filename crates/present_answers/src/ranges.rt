@@ -33,10 +33,14 @@ pub fn ranges_of<R: Rates>(
     requires optimal { IsOptimalBasis sheet.lp.now basis.now }
     requires rates { HasRates (R.matrix rates.old) (R.basics rates.old) sheet.lp.now basis.now }
     ensures listed { IfOk result (AreRanged sheet.entry.lp.now basis.now) }
-    ensures ranged { IfOk result (λ ranged. IsRanged (sheet_shown sheet.entry) basis.now (range_lines sheet.entry.lp.now basis.now ranged.point ranged.report sheet.entry.problem.now)) }
-    ensures overflow { IfErr result (λ stop. IfOverflow stop (RangesRefused sheet.entry.lp.now (R.waypoints rates.old) basis.now (R.waypoints rates.new))) }
+    ensures ranged { IfOk result (λ ranged. IsRanged (sheet_shown sheet.entry) basis.now
+        (range_lines sheet.entry.lp.now basis.now ranged.point ranged.report
+        sheet.entry.problem.now)) }
+    ensures overflow { IfErr result (λ stop. IfOverflow stop (RangesRefused sheet.entry.lp.now
+        (R.waypoints rates.old) basis.now (R.waypoints rates.new))) }
     ensures rates { HasRates (R.matrix rates.new) (R.basics rates.new) sheet.entry.lp.now basis.now }
-    ensures waypoints { KeepsWaypoints sheet.entry.lp.now.matrix (basics_of basis.now) (R.waypoints rates.old) (basics_of basis.now) (R.waypoints rates.new) }
+    ensures waypoints { KeepsWaypoints sheet.entry.lp.now.matrix (basics_of basis.now)
+        (R.waypoints rates.old) (basics_of basis.now) (R.waypoints rates.new) }
 {
     let lp = sheet.lp;
     let point = point_shown(alloc, lp, basis, rates)?;

@@ -18,7 +18,8 @@ fn put_limit_rows<P: Sink>(
     ranging: Ranging<'_>,
 ) -> Result<(), WriteStop>
     requires { AreRanges sheet ranging }
-    ensures { Writes P.written P.faults P.refusals print.old print.new result (limit_rows_heading ++ table_text (ranges_shown sheet.entry ranging.entry).rows_at_limit) }
+    ensures { Writes P.written P.faults P.refusals print.old print.new result (limit_rows_heading ++
+        table_text (ranges_shown sheet.entry ranging.entry).rows_at_limit) }
 {
     put_all(print, b"SECTION 1 - ROWS AT LIMIT LEVEL\n")?;
     put_table(
@@ -37,7 +38,8 @@ fn put_limit_columns<P: Sink>(
     ranging: Ranging<'_>,
 ) -> Result<(), WriteStop>
     requires { AreRanges sheet ranging }
-    ensures { Writes P.written P.faults P.refusals print.old print.new result (limit_columns_heading ++ table_text (ranges_shown sheet.entry ranging.entry).columns_at_limit) }
+    ensures { Writes P.written P.faults P.refusals print.old print.new result (limit_columns_heading
+        ++ table_text (ranges_shown sheet.entry ranging.entry).columns_at_limit) }
 {
     put_all(print, b"SECTION 2 - COLUMNS AT LIMIT LEVEL\n")?;
     let first = row_count(sheet.lp);
@@ -52,7 +54,8 @@ fn put_between_rows<P: Sink>(
     ranging: Ranging<'_>,
 ) -> Result<(), WriteStop>
     requires { AreRanges sheet ranging }
-    ensures { Writes P.written P.faults P.refusals print.old print.new result (between_rows_heading ++ table_text (ranges_shown sheet.entry ranging.entry).rows_between) }
+    ensures { Writes P.written P.faults P.refusals print.old print.new result (between_rows_heading
+        ++ table_text (ranges_shown sheet.entry ranging.entry).rows_between) }
 {
     put_all(print, b"SECTION 3 - ROWS AT INTERMEDIATE LEVEL\n")?;
     put_table(
@@ -71,7 +74,9 @@ fn put_between_columns<P: Sink>(
     ranging: Ranging<'_>,
 ) -> Result<(), WriteStop>
     requires { AreRanges sheet ranging }
-    ensures { Writes P.written P.faults P.refusals print.old print.new result (between_columns_heading ++ table_text (ranges_shown sheet.entry ranging.entry).columns_between) }
+    ensures { Writes P.written P.faults P.refusals print.old print.new result
+        (between_columns_heading ++ table_text (ranges_shown sheet.entry
+        ranging.entry).columns_between) }
 {
     put_all(print, b"SECTION 4 - COLUMNS AT INTERMEDIATE LEVEL\n")?;
     let first = row_count(sheet.lp);
@@ -86,7 +91,8 @@ pub fn put_ranges<P: Sink>(
     ranging: Ranging<'_>,
 ) -> Result<(), WriteStop>
     requires { AreRanges sheet ranging }
-    ensures { Writes P.written P.faults P.refusals print.old print.new result (report_text (reports.Ranges (ranges_shown sheet.entry ranging.entry))) }
+    ensures { Writes P.written P.faults P.refusals print.old print.new result (report_text
+        (reports.Ranges (ranges_shown sheet.entry ranging.entry))) }
 {
     put_all(print, b"RANGE\n")?;
     put_limit_rows(print, sheet, ranging)?;

@@ -138,7 +138,8 @@ fn put_limit_row<P: Sink>(
     k: u32,
 ) -> Result<(), WriteStop>
     requires { HasLine sheet (Table.LimitRows ranging) k }
-    ensures { Writes P.written P.faults P.refusals print.old print.new result (line_shown sheet.entry (Table.LimitRows ranging.entry) k) }
+    ensures { Writes P.written P.faults P.refusals print.old print.new result (line_shown
+        sheet.entry (Table.LimitRows ranging.entry) k) }
 {
     if !is_at_limit(ranging.basis, k) {
         return put_all(print, b"");
@@ -164,7 +165,8 @@ fn put_limit_column<P: Sink>(
     k: u32,
 ) -> Result<(), WriteStop>
     requires { HasLine sheet (Table.LimitColumns ranging) k }
-    ensures { Writes P.written P.faults P.refusals print.old print.new result (line_shown sheet.entry (Table.LimitColumns ranging.entry) k) }
+    ensures { Writes P.written P.faults P.refusals print.old print.new result (line_shown
+        sheet.entry (Table.LimitColumns ranging.entry) k) }
 {
     if !is_at_limit(ranging.basis, k) {
         return put_all(print, b"");
@@ -194,7 +196,8 @@ fn put_between_row<P: Sink>(
     k: u32,
 ) -> Result<(), WriteStop>
     requires { HasLine sheet (Table.BetweenRows ranging) k }
-    ensures { Writes P.written P.faults P.refusals print.old print.new result (line_shown sheet.entry (Table.BetweenRows ranging.entry) k) }
+    ensures { Writes P.written P.faults P.refusals print.old print.new result (line_shown
+        sheet.entry (Table.BetweenRows ranging.entry) k) }
 {
     if !is_between(sheet.lp, ranging.basis, k) {
         return put_all(print, b"");
@@ -220,7 +223,8 @@ fn put_between_column<P: Sink>(
     k: u32,
 ) -> Result<(), WriteStop>
     requires { HasLine sheet (Table.BetweenColumns ranging) k }
-    ensures { Writes P.written P.faults P.refusals print.old print.new result (line_shown sheet.entry (Table.BetweenColumns ranging.entry) k) }
+    ensures { Writes P.written P.faults P.refusals print.old print.new result (line_shown
+        sheet.entry (Table.BetweenColumns ranging.entry) k) }
 {
     if !is_between(sheet.lp, ranging.basis, k) {
         return put_all(print, b"");
