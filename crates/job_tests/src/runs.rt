@@ -1,6 +1,8 @@
 // Jobs without words over devices that don't fail.
 use crate::jobs::answer_of;
-use crate::rows::{CONTROL_FAULTS, DECK_FAULTS, OVERFLOWS, PLANS, REVISIONS, Row, VERB_FAULTS, VERDICTS};
+use crate::rows::{
+    CONTROL_FAULTS, DECK_FAULTS, OVERFLOWS, PLANS, REVISIONS, Row, VERB_FAULTS, VERDICTS,
+};
 use std::alloc::Global;
 use std::test::Fail;
 
