@@ -17,7 +17,7 @@ use Rattle.listing_definitions.specs.declared.At.TheVariants.{Basic, Outside, Eq
 use Rattle.listing_definitions.specs.Report.{Value, Number, Line}
 use Rattle.question_definitions.specs.Answers.{Basis, Sheet}
 
--- the numbers of the rows, and of the columns behind them
+-- the numbers of the rows, and of the columns after them
 abbrev pub row_numbers : LinearProgram → List ℕ
 row_numbers p = numbers_from 1 p.rows
 

@@ -12,7 +12,7 @@ first_fault-append [] ys = refl
 first_fault-append (None ∷ xs) ys = first_fault-append xs ys
 first_fault-append (Some fault ∷ xs) ys = refl
 
--- the elements of the second part stand behind those of the first
+-- the elements of the second part stand after those of the first
 pub each_behind-append : {X Y : Type 0} (f : List X → X → Y) (before xs ys : List X) → each_behind f before (xs ++ ys) ≡ each_behind f before xs ++ each_behind f (before ++ xs) ys
 each_behind-append f before [] ys = ap (λ list. each_behind f list ys) (sym (append-nil before))
 each_behind-append f before (x ∷ xs) ys =
@@ -23,7 +23,7 @@ pub first_fault_behind : {X F : Type 0} (test : List X → X → Option F) (befo
     → first_fault (each_behind test before (xs ++ ys)) ≡ option_or (first_fault (each_behind test before xs)) (first_fault (each_behind test (before ++ xs) ys))
 first_fault_behind test before xs ys = ap first_fault (each_behind-append test before xs ys) ∙ first_fault-append (each_behind test before xs) (each_behind test (before ++ xs) ys)
 
--- what f makes of elements behind others, where f sees those too
+-- what f makes of elements after others, where f sees those too
 pub each_behind-shift : {X Y : Type 0} (f : List X → X → Y) (first before xs : List X) → each_behind f (first ++ before) xs ≡ each_behind (λ earlier. f (first ++ earlier)) before xs
 each_behind-shift f first before [] = refl
 each_behind-shift f first before (x ∷ xs) =

@@ -12,7 +12,7 @@ columns from to card = without_trailing is_blank (take (to + 1 - from) (drop (fr
 abbrev pub is_blank_column : List ℕ → ℕ → Bool
 is_blank_column card column = is_blank (unwrap_or (slice_get card (column - 1)) 32)
 
--- the columns before, between and behind the names and numbers of a data card that are to be blank
+-- the columns before, between and after the names and numbers of a data card that are to be blank
 abbrev pub gaps : List ℕ
 gaps = 1 ∷ 4 ∷ 13 ∷ 14 ∷ 23 ∷ 24 ∷ 37 ∷ 38 ∷ 39 ∷ 48 ∷ 49 ∷ []
 

@@ -11,7 +11,7 @@ without_trailing p xs = take (length xs - suffix_len p xs) xs
 abbrev pub without_leading : {X : Type 0} → (X → Bool) → List X → List X
 without_leading p xs = drop (prefix_len p xs) xs
 
--- a text with blanks behind it up to so many places
+-- a text with blanks after it up to so many places
 abbrev pub padded : ℕ → List ℕ → List ℕ
 padded width text = text ++ replicate (width - length text) 32
 

@@ -1,4 +1,4 @@
--- The first card of some bytes, and the cards behind it.
+-- The first card of some bytes, and the cards after it.
 use Rattle.std.proofs.Common.{◌≡◌, ℕ, suc, ◌+◌, ◌-◌, ◌<◌, ◌≤◌, true, false, not, List, [], ◌∷◌, ◌++◌, append_assoc, length-append, take, drop, length, map, slice_range, refl, sym, ◌∙◌, ap, arith, cond, unwrap_or, Some, None, ltb}
 use Rattle.std.proofs.lemmas.List.{append-nil, length-take, length-drop, length-map, map-append, take-take, drop-drop}
 use Rattle.std.proofs.Math.ListN.{drop_of_length-le}
@@ -11,7 +11,7 @@ use Rattle.card_reader.specs.Spans.{cards_at, span_bytes}
 use Rattle.card_reader.specs.declared.span.Span.{Span}
 use Rattle.card_definitions.specs.Cards.{is_line_feed, is_trailing, without_empty_last, cards_of}
 
--- the parts between line feeds, and the bytes behind the last line feed if there are any
+-- the parts between line feeds, and the bytes after the last line feed if there are any
 abbrev lines_of : List ℕ → List (List ℕ)
 lines_of [] = []
 lines_of (byte ∷ bytes) = cond (is_line_feed byte) ([] ∷ lines_of bytes) (onto_first byte (lines_of bytes))
@@ -59,7 +59,7 @@ cards_are bytes = ap (map (without_trailing is_trailing)) (lines_are bytes)
 pub cards_of_nothing : cards_of [] ≡ []
 cards_of_nothing = cards_are []
 
--- the first card, and the cards behind it
+-- the first card, and the cards after it
 cards_of-first : (bytes : List ℕ) → 0 < length bytes → cards_of bytes ≡ without_trailing is_trailing (before_first is_line_feed bytes) ∷ cards_of (after_first is_line_feed bytes)
 cards_of-first [] h = absurd (omega arith)
 cards_of-first (byte ∷ bytes) h =
@@ -81,7 +81,7 @@ cards_of-drop bytes start len card rest line inside at_rest at_line at_len at_ca
     ap (λ n. drop (n + 1) rest) (sym at_len) ∙ ap (λ w. drop (len + 1) w) at_rest ∙ drop-drop (len + 1) start bytes ∙ ap (λ n. drop n bytes) place in
     ap cards_of (sym at_rest) ∙ cards_of-first rest some ∙ ap (λ w. w ∷ cards_of (after_first is_line_feed rest)) (front ∙ sym span) ∙ ap (λ w. slice_range bytes start (start + card) ∷ cards_of w) behind
 
--- behind the last byte stands no card
+-- after the last byte stands no card
 pub cards_done : (bytes : List ℕ) (start : ℕ) (cards : List (List ℕ)) → length bytes ≤ start → cards ++ cards_of (drop start bytes) ≡ cards_of bytes → cards ≡ cards_of bytes
 cards_done bytes start cards past all =
     let none : cards_of (drop start bytes) ≡ [] = ap cards_of (drop_of_length-le bytes past) ∙ cards_of_nothing in

@@ -11,7 +11,7 @@ take_min card to = elim (cases_lt (length card) to) [
   | inr longer ↦ let some : min (length card) to ≡ to = omega arith in ap (λ n. take n card) some
 ]
 
--- the columns behind the first n, up to one
+-- the columns after the first n, up to one
 columns_up_to : (card : List ℕ) (n to end start : ℕ) → n ≤ to → end ≡ min (length card) to → start ≡ min end n → slice_range card start end ≡ drop n (take to card)
 columns_up_to card n to end start order at_end at_start = elim (cases_lt (length card) n) [
   | inl short ↦

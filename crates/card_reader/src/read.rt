@@ -14,7 +14,7 @@ use std::alloc::Global;
 
 const PIECE: usize = 65_536;
 
-// The bytes of the source, and one at most behind those that a job may have. A fault of the source and want of memory
+// The bytes of the source, and one at most after those that a job may have. A fault of the source and want of memory
 // stop it, and nothing else.
 fn read_bytes<S: Source>(alloc: Global, source: &mut S) -> Result<Vec<u8>, ReadStop>
     ensures bytes { IfOk result (λ bytes. IfSome (S.left source.old) (λ job. bytes.items ≡ take read_limit job)) }
@@ -38,7 +38,7 @@ fn read_bytes<S: Source>(alloc: Global, source: &mut S) -> Result<Vec<u8>, ReadS
     Ok(bytes)
 }
 
-/// Reads the job to its end and cuts it into cards. Of a job that is too long, no byte behind 16,400,001 is read.
+/// Reads the job to its end and cuts it into cards. Of a job that is too long, no byte after 16,400,001 is read.
 ///
 /// A fault of the source is told first, then a job that is too long, then the first card with a fault. Want of memory
 /// may come before any of these.

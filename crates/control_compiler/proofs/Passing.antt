@@ -1,4 +1,4 @@
--- One more card of a job: what is known behind it.
+-- One more card of a job: what is known after it.
 use Rattle.std.proofs.Common.{◌≡◌, ℕ, ◌+◌, ◌≤◌, Bool, true, false, not, ◌&&◌, List, [], ◌∷◌, ◌++◌, Option, Some, None, length, refl, ap, sym, subst, ◌∙◌, arith, length-append, ltb}
 use Rattle.std.specs.Prelude.{Result, Ok, Err, slice_get, is_some, option_to_list}
 use Rattle.std.proofs.lemmas.Bool.Decides.{nat_tests}
@@ -83,7 +83,7 @@ module _ (job : List (List ℕ)) (number : ℕ) (bytes : List ℕ) (old new : Dr
         few = counts.1;
       }
 
--- Before the first card behind PROGRAM, and at the job's end.
+-- Before the first card after PROGRAM, and at the job's end.
 pub underway_first : (job : List (List ℕ)) (first : ℕ) (draft : Draft) → StandsFirst job first draft → IsUnderway job first draft
 underway_first job first draft stands = record {
   before = stands.card ∷ [];

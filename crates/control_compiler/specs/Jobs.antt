@@ -5,14 +5,14 @@ use Rattle.card_definitions.specs.Cards.{Card, live, numbered_from, numbered_car
 use Rattle.control_definitions.specs.declared.ControlFault.{ControlFault}
 use Rattle.control_definitions.specs.Compiled.{is_pend, cards_to_pend, misses_label, end_fault}
 
--- the cards of a job that aren't skipped, and those of them behind a number
+-- the cards of a job that aren't skipped, and those of them after a number
 abbrev pub live_cards : List (List ℕ) → List Card
 live_cards job = live (numbered_cards job)
 
 abbrev pub live_behind : ℕ → List (List ℕ) → List Card
 live_behind number job = live (numbered_from (number + 1) (drop number job))
 
--- the cards behind the first
+-- the cards after the first
 abbrev pub behind_head : List Card → List Card
 behind_head [] = []
 behind_head (head ∷ cards) = cards

@@ -17,6 +17,6 @@ place_in labels label = unwrap_or (lookup (bytes_eq label) labels) 0
 abbrev pub settled : List (List ℕ × ℕ) → Statement (List ℕ) → Statement ℕ
 settled labels statement = record { card = statement.card; verb = verb_by (place_in labels) statement.verb }
 
--- the program of a draft, with the first card behind it
+-- the program of a draft, with the first card after it
 abbrev pub settled_program : Draft → ℕ → Program
 settled_program draft decks_from = record { statements = map (λ statement. settled draft.labels (statement_shown statement)) draft.statements.items; decks_from = decks_from }

@@ -43,7 +43,7 @@ pub record IsReached (job : List (List ℕ)) (before rest : List Card) : Type 0 
   pub ends : has_end job ≡ list_any (λ (card : Card). is_pend card.bytes) rest
   pub fault : control_fault job ≡ option_or (first_control_fault before (program_cards rest)) (late_fault job)
 
--- The cards up to this number are read: those of the program are behind, without a fault and without PEND.
+-- The cards up to this number are read: those of the program are after, without a fault and without PEND.
 pub record IsUnderway (job : List (List ℕ)) (number : ℕ) (draft : Draft) : Type 0 where
   pub before : List Card
   pub reached : IsReached job before (live_behind number job)

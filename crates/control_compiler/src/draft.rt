@@ -34,7 +34,7 @@ pub fn place_label(
     }
 }
 
-// Puts the statement of a card behind the others, if it has one.
+// Puts the statement of a card after the others, if it has one.
 fn push_statement(
     statements: &mut Vec<Statement<Name>>,
     number: u32,

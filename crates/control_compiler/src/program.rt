@@ -28,7 +28,7 @@ impl Model for Program {
 }
 
 impl Program {
-    // The program of these statements, with the first card behind it.
+    // The program of these statements, with the first card after it.
     pub(crate) fn new(statements: Vec<Statement<u32>>, decks_from: u32) -> Program
         requires { IsProgram (record { statements = map statement_shown statements.items; decks_from = decks_from }) }
         ensures { result ≡ record { statements = map statement_shown statements.items; decks_from = decks_from } }
@@ -56,7 +56,7 @@ impl Program {
         &self.statements[k as usize - 1]
     }
 
-    /// The number of the first card behind the program.
+    /// The number of the first card after the program.
     pub fn decks_from(&self) -> u32
         ensures { result ≡ self.now.decks_from }
     {

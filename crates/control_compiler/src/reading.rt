@@ -48,7 +48,7 @@ fn begin(alloc: Global, cards: &Cards, number: u32) -> Result<Draft, CompileStop
     })
 }
 
-// Takes the card behind this number, unless it is skipped, and tells whether it is PEND.
+// Takes the card after this number, unless it is skipped, and tells whether it is PEND.
 fn pass(draft: &mut Draft, cards: &Cards, number: u32) -> Result<bool, CompileStop>
     requires within { number < length cards.now }
     requires room { number < 4294967295 }
@@ -76,7 +76,7 @@ impl Reading {
         Reading::behind(draft, cards, number)
     }
 
-    // Reads the cards behind the one of this number, which is PROGRAM's.
+    // Reads the cards after the one of this number, which is PROGRAM's.
     fn behind(mut draft: Draft, cards: &Cards, first: u32) -> Result<Reading, CompileStop>
         requires { StandsFirst cards.now first draft }
         ensures { Reads result cards.now }

@@ -86,7 +86,7 @@ fn settled_statements(
     Ok(all)
 }
 
-// The program of a draft, with the first card behind it.
+// The program of a draft, with the first card after it.
 pub fn settle(alloc: Global, draft: Draft, decks_from: u32) -> Result<Program, CompileStop>
     requires { IsProgram (settled_program draft decks_from) }
     ensures ok { IfOk result (λ program. program ≡ settled_program draft decks_from) }

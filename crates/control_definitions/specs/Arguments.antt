@@ -70,7 +70,7 @@ pub data Choice : Type 0 where
   BoundSet RangeSet : List ℕ → Choice
   Direction : Sense → Choice
 
--- the words that take the set's name behind them, and those that stand alone
+-- the words that take the set's name after them, and those that stand alone
 abbrev pub set_words : List (List ℕ × (List ℕ → Choice))
 set_words = (codes "BOUND", BoundSet) ∷ (codes "RANGE", RangeSet) ∷ []
 
@@ -84,7 +84,7 @@ set_choice word name = option_and_then (λ choice. option_map choice (quoted_nam
 abbrev pub sense_choice : List ℕ → Option Choice
 sense_choice word = option_and_then (named sense_words) (quotation word)
 
--- a choice and those behind it
+-- a choice and those after it
 abbrev pub led_by : Option Choice → Option (List Choice) → Option (List Choice)
 led_by (Some choice) (Some others) = Some (choice ∷ others)
 led_by _ _ = None

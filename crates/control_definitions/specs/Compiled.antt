@@ -1,5 +1,5 @@
 -- The program of a job's control cards, or the first control fault.
---     control_card_fault before card       the fault of a card behind PROGRAM, where these cards stand before it
+--     control_card_fault before card       the fault of a card after PROGRAM, where these cards stand before it
 --     control_fault cards                  the fault that decides
 --     compiled cards                       the fault, or the program
 use Rattle.std.specs.Prelude.{ℕ, ◌+◌, max, Bool, true, false, not, ◌&&◌, nat_lt, List, [], ◌∷◌, Option, Some, None, Result, codes, if◌then◌else◌, unwrap_or, option_map, option_and_then, filter_map, find, position, take, length, is_none, is_some, bytes_eq}
@@ -76,7 +76,7 @@ head_fault card = first_fault (
     (has_bad_label card ⟹ BadLabel) ∷
     (not (is_program card) ⟹ NoProgram) ∷ [])
 
--- The fault of a card behind PROGRAM: the tests are made in this order. The cards before it are PROGRAM's and one for each
+-- The fault of a card after PROGRAM: the tests are made in this order. The cards before it are PROGRAM's and one for each
 -- statement before, so that it would be a statement of as many as they are.
 unfoldable pub control_card_fault : List Card → List ℕ → Option ControlFaultKind
 control_card_fault before card = first_fault (
@@ -96,7 +96,7 @@ first_control_fault before cards =
 
 -- ---- the program
 
--- the cards behind PROGRAM up to and with the first PEND, or all where there is none
+-- the cards after PROGRAM up to and with the first PEND, or all where there is none
 abbrev pub program_cards : List Card → List Card
 program_cards cards = take (position_or_len (λ card. is_pend card.bytes) cards + 1) cards
 

@@ -32,7 +32,7 @@ pub record Statement (L : Type 0) : Type 0 where
   pub card : ℕ
   pub verb : Verb L
 
--- The statements of a program, and the number of the first card behind it. A position is the number of a statement, from 1,
+-- The statements of a program, and the number of the first card after it. A position is the number of a statement, from 1,
 -- or one more than their count for the program's end.
 pub record Program : Type 0 where
   pub statements : List (Statement ℕ)

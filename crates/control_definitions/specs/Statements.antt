@@ -1,5 +1,5 @@
 -- The label and the statement of a control card, and the words of a statement.
---     label_of card, statement_of card     what stands in columns 1 to 72; behind the statement stands a remark
+--     label_of card, statement_of card     what stands in columns 1 to 72; after the statement stands a remark
 --     verb_word statement                  the text up to the first parenthesis, or the whole statement
 --     arguments_of statement               what stands between the parentheses, cut at the commas outside quotes
 --     first_argument statement             the text of the first argument, also where the statement isn't well formed
@@ -56,7 +56,7 @@ read_columns card = take READ_COLUMNS card
 unfoldable pub label_of : List ℕ → List ℕ
 label_of card = before_first is_blank (read_columns card)
 
--- The statement of a card goes from the first byte behind the label that isn't blank to the first blank outside quotes.
+-- The statement of a card goes from the first byte after the label that isn't blank to the first blank outside quotes.
 unfoldable pub statement_of : List ℕ → List ℕ
 statement_of card = before_outside is_blank (without_leading is_blank (drop (length (label_of card)) (read_columns card)))
 
@@ -90,7 +90,7 @@ abbrev pub arguments_of : List ℕ → Arguments
 arguments_of statement =
     if list_any is_open_parenthesis statement then between_parentheses (without_close (behind_parenthesis statement)) else Without
 
--- what stands behind the parenthesis up to the first comma outside quotes or, where there is none, up to the first closing
+-- what stands after the parenthesis up to the first comma outside quotes or, where there is none, up to the first closing
 -- parenthesis outside quotes, or else to the statement's end
 abbrev pub first_argument : List ℕ → List ℕ
 first_argument statement =

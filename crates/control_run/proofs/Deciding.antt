@@ -19,7 +19,7 @@ use Rattle.control_run.specs.declared.end.End.TheVariants.{Done}
 use Rattle.control_run.specs.declared.machine.Machine.{Machine}
 use Rattle.control_run.specs.declared.machine.Setup.{Setup}
 use Rattle.control_run.specs.Stage.{stage}
-use Rattle.control_run.specs.Standing.{AreDemands, IsSelected, IsSound, Stands}
+use Rattle.control_run.specs.Standing.{AreDemands, IsSelected, IsSolved, IsSound, Stands}
 use Rattle.control_run.specs.Statements.{Decides}
 
 -- cells and mark change in the state as they do in the machine
@@ -81,13 +81,13 @@ ChooseAlike a b = (options : SetupOptions) → choice_of a options ≡ choice_of
 selected_alike : (a b : Cells) (file : Filed) (setup : Setup) → ChooseAlike a b → IsSelected a file setup → IsSelected b file setup
 selected_alike a b file setup same h = λ problem on_file. ap (selected problem) (sym (same setup.options)) ∙ h problem on_file
 
-setup_alike : (a b : Cells) (file : Filed) (kept : Option Setup) → ChooseAlike a b → IfSome kept (IsSelected a file) → IfSome kept (IsSelected b file)
-setup_alike a b file None same h = tt
-setup_alike a b file (Some setup) same h = selected_alike a b file setup same h
+setup_alike : (mark : Mark) (a b : Cells) (file : Filed) (kept : Option Setup) → ChooseAlike a b → IfSome kept (IsSolved mark a file) → IfSome kept (IsSolved mark b file)
+setup_alike mark a b file None same h = tt
+setup_alike mark a b file (Some setup) same h = record { is_selected = selected_alike a b file setup same h.is_selected; optimal = h.optimal }
 
-solved_alike : (a b : Cells) (file : Filed) (kept : Option Setup) (mark : Option Mark) → ChooseAlike a b → IfSome mark (λ m. IfSome kept (IsSelected a file)) → IfSome mark (λ m. IfSome kept (IsSelected b file))
+solved_alike : (a b : Cells) (file : Filed) (kept : Option Setup) (mark : Option Mark) → ChooseAlike a b → IfSome mark (λ m. IfSome kept (IsSolved m a file)) → IfSome mark (λ m. IfSome kept (IsSolved m b file))
 solved_alike a b file kept None same h = tt
-solved_alike a b file kept (Some mark) same h = setup_alike a b file kept same h
+solved_alike a b file kept (Some mark) same h = setup_alike mark a b file kept same h
 
 sound_alike : {cards : List (List ℕ)} {old : Machine} → IsSound cards old → (cells : Cells) → AreDemands cells → ChooseAlike old.cells cells → IsSound cards (record old { cells = cells })
 sound_alike {old = old} s cells d same = record { first = s.first; last = s.last; demands = d; ready = s.ready; solved = solved_alike old.cells cells old.file old.setup old.mark same s.solved }

@@ -18,3 +18,4 @@ pub mod Solving_steps
 pub mod Primal_comes
 pub mod Keeping
 pub mod Showing
+pub mod Ranging

@@ -16,7 +16,7 @@ use Rattle.listing_definitions.specs.Report.{Verdict, Check, Report, Solved}
 use Rattle.listing_definitions.specs.Ending as endings
 use Rattle.question_definitions.specs.Answers.{Basis, Sheet, OfPath, PathEnd, Reached, PathLimit}
 use Rattle.answer_definitions.specs.Verdicts.{IsSolved}
-use Rattle.answer_definitions.specs.Evidence.{OverflowsAt, OverflowsOnPath}
+use Rattle.answer_definitions.specs.Evidence.{OverflowsOnPath}
 use Rattle.run_definitions.specs.State.{Present, present_basis, path_of, State, choice_of, gone_through}
 use Rattle.run_definitions.specs.Moves.{Gain, Prints, punched_by, Outcome, Ends as EndsRun, stops, Move, MayStop, Asks, Gives, or_fault, InSelection, InAnswer, RangeOverflows}
 use Rattle.run_definitions.specs.Verbs.{mark_of, or_selection_fault, by_verdict, demanded, after_path, statement_move, verb_move}
@@ -167,7 +167,7 @@ module _ (card : ℕ) (cards : List (List ℕ)) (old : Machine) (setup new : Set
       demanded_comes move Unbounded report then t old.cells.xdounb demands.unbounded end.Unbounded 2 refl (subst (λ (c : Cells). Gives stage card move (demanded c.xdounb 2 report then)) t.cells g)
 
   pub found_comes : (gain : Gain) (finding : Finding) → Finds problem old.cells setup new gain finding →
-      Comes stage Primal card cards position executed state (after (mark_left finding old.mark)) gain (act_of old.cells card finding)
+      Comes stage Primal card cards position executed state (after (mark_left finding)) gain (act_of old.cells card finding)
   found_comes _ _ (unselected {fault = fault} h) = fault_gives fault h
   found_comes _ _ (too_large {e = e} h) = range_gives e h
   found_comes _ _ (solved {lp = lp} ok same_name same_options (reached {bases = bases} {verdict = verdict} {check = check} r)) =
@@ -179,19 +179,19 @@ module _ (card : ℕ) (cards : List (List ℕ)) (old : Machine) (setup new : Set
 
 module _ (card : ℕ) {P : Type 0} (written : P → Option (List ℕ)) (faults refusals : P → ℕ) (print_old print_new : P) (cards : List (List ℕ)) (old : Machine) (setup new : Setup) (is_setup : old.setup ≡ Some setup)
     (ready : IsReady old.file setup) (demands : AreDemands old.cells) where
-  pub primal_found : (finding : Finding) (mark : Option Mark) (then : Act) → mark ≡ mark_left finding old.mark → then ≡ act_of old.cells card finding →
+  pub primal_found : (finding : Finding) (mark : Option Mark) (then : Act) → mark ≡ mark_left finding → then ≡ act_of old.cells card finding →
       Tells (Finds ready.problem old.cells setup new) written faults refusals print_old print_new (Ok finding) →
       Executes stage Primal card written faults refusals print_old print_new cards old (record old { setup = Some new; mark = mark }) (Ok then)
   primal_found finding mark then e f t =
       subst (λ (m : Option Mark). Executes stage Primal card written faults refusals print_old print_new cards old (record old { setup = Some new; mark = m }) (Ok then)) (sym e)
-      (subst (λ (a : Act). Executes stage Primal card written faults refusals print_old print_new cards old (record old { setup = Some new; mark = mark_left finding old.mark }) (Ok a)) (sym f)
-      (told_executes Primal card written faults refusals cards old (Finds ready.problem old.cells setup new) (λ found. record old { setup = Some new; mark = mark_left found old.mark }) (act_of old.cells card)
+      (subst (λ (a : Act). Executes stage Primal card written faults refusals print_old print_new cards old (record old { setup = Some new; mark = mark_left finding }) (Ok a)) (sym f)
+      (told_executes Primal card written faults refusals cards old (Finds ready.problem old.cells setup new) (λ found. record old { setup = Some new; mark = mark_left found }) (act_of old.cells card)
       (no_cards_by ready.problem old.cells setup new)
       (λ gain found h position executed state s. found_comes card cards old setup new is_setup ready.problem ready.on_file demands position executed state s gain found h) print_old print_new finding t))
 
   pub primal_cut : (any : Machine) (h : Halt) → Tells (Finds ready.problem old.cells setup new) written faults refusals print_old print_new (Err h) →
       Executes stage Primal card written faults refusals print_old print_new cards old any (Err h)
   primal_cut any h t =
-      cut_executes Primal card written faults refusals cards old (Finds ready.problem old.cells setup new) (λ found. record old { setup = Some new; mark = mark_left found old.mark }) (act_of old.cells card)
+      cut_executes Primal card written faults refusals cards old (Finds ready.problem old.cells setup new) (λ found. record old { setup = Some new; mark = mark_left found }) (act_of old.cells card)
       (no_cards_by ready.problem old.cells setup new)
       (λ gain found h position executed state s. found_comes card cards old setup new is_setup ready.problem ready.on_file demands position executed state s gain found h) print_old print_new any h t

@@ -19,7 +19,7 @@ use Rattle.listing_definitions.specs.Text.{report_text}
 use Rattle.question_definitions.specs.Answers.{Basis}
 use Rattle.control_definitions.specs.Cells.{Cells}
 use Rattle.run_definitions.specs.State.{Present, State, problem_of, choice_of}
-use Rattle.run_definitions.specs.Moves.{Prints, Outcome, next, stops, InSelection, RangeOverflows, Move, Does, MayStop, Gives}
+use Rattle.run_definitions.specs.Moves.{Prints, Outcome, next, stops, InSelection, Move, Does, MayStop, Gives}
 use Rattle.run_definitions.specs.Verbs.{or_selection_fault, verb_move, statement_move}
 use Rattle.control_run.specs.declared.act.Act.TheVariants.{Next}
 use Rattle.control_run.specs.declared.act.Halt.TheVariants as halt

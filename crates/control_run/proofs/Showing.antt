@@ -4,7 +4,7 @@ use Rattle.job_devices.specs.declared.device.WriteStop.{WriteStop}
 use Rattle.job_devices.specs.Text.{Writes}
 use Rattle.exact_values.specs.Rational.{ℚ}
 use Rattle.lp_definitions.specs.LinearProgram.{Matrix, LinearProgram}
-use Rattle.lp_definitions.specs.Basis.{Basics, basics_of}
+use Rattle.lp_definitions.specs.Basis.{Basics, basics_of, IsOptimalBasis}
 use Rattle.lp_definitions.specs.Waypoints.{waypoint, KeepsWaypoints}
 use Rattle.lp_definitions.specs.declared.Evidence.{Evidence}
 use Rattle.evidence_definitions.specs.Statements.{Solution as SolutionStatement}
@@ -22,7 +22,7 @@ use Rattle.listing_definitions.specs.Ending as endings
 use Rattle.question_definitions.specs.Answers.{Basis, Sheet, OfSolution}
 use Rattle.control_definitions.specs.Cells.{Cells}
 use Rattle.answer_definitions.specs.Sections.{IsShown}
-use Rattle.answer_definitions.specs.Evidence.{OverflowsAt, IsEvidence}
+use Rattle.answer_definitions.specs.Evidence.{IsEvidence}
 use Rattle.report_text.specs.declared.sheet.Sheet.{Sheet as OwnSheet}
 use Rattle.present_answers.specs.Answers.{sheet_shown}
 use Rattle.present_answers.specs.Stops.{SolutionRefused}
@@ -41,7 +41,7 @@ use Rattle.control_run.specs.declared.selecting.Refusal.TheVariants.{Fault}
 use Rattle.control_run.specs.Ends.{place_shown}
 use Rattle.control_run.specs.Engine.{ways}
 use Rattle.control_run.specs.Stage.{stage}
-use Rattle.control_run.specs.Standing.{IsSelected, ShowsSetup, Stands}
+use Rattle.control_run.specs.Standing.{IsSelected, IsSolved, ShowsSetup, Stands}
 use Rattle.control_run.specs.Statements.{Comes, Executes}
 use Rattle.control_run.specs.Choosing.{refused_act}
 use Rattle.control_run.specs.Findings.{LinesFound, shown, overflows, Shows, Tells, act_of}
@@ -90,6 +90,12 @@ pub record IsSameSetup (setup new : Setup) : Type 0 where
 pub still_selected : (cells : Cells) (file : Filed) (setup new : Setup) → IsSameSetup setup new → IsSelected cells file setup → IsSelected cells file new
 still_selected cells file setup new k h = λ problem on_file.
     ap (λ (o : SetupOptions). selected problem (choice_of cells o)) k.options ∙ h problem (ap (λ name. filed_under name file) (sym k.name) ∙ on_file) ∙ ap Ok (sym k.lp)
+
+pub still_solved : (cells : Cells) (file : Filed) (setup new : Setup) (mark : Mark) → IsSameSetup setup new → IsSolved mark cells file setup → IsSolved mark cells file new
+still_solved cells file setup new mark k h = record {
+  is_selected = still_selected cells file setup new k h.is_selected;
+  optimal = λ is. subst (λ (p : LinearProgram). IsOptimalBasis p new.basis) (sym k.lp) (subst (λ (b : Basis). IsOptimalBasis setup.lp b) (sym k.basis) (h.optimal is));
+}
 
 module _ {P : Type 0} (written : P → Option (List ℕ)) (faults refusals : P → ℕ) (file : Filed) (setup : Setup) (mark : Mark) (there : Problem ℕ) (is_there : filed_under setup.name file ≡ Some there) where
   pub lines_at : (print_old print_new : P) (result : Result Finding Halt) → Tells (Shows there setup mark) written faults refusals print_old print_new result →
@@ -156,7 +162,7 @@ module _ (card : ℕ) (cards : List (List ℕ)) (old : Machine) (setup : Setup) 
           (gives_selected card (selected problem (choice_of state.cells setup.options)) (go_shown card state present mark) setup.lp outcome
           (ap (λ (c : Cells). selected problem (choice_of c setup.options)) s.cells ∙ ok) g))
 
-      still_stands : Stands cards (record old { setup = Some new }) position executed state
+      pub still_stands : Stands cards (record old { setup = Some new }) position executed state
       still_stands =
           let same : matrix_of problem ≡ setup.lp.matrix = same_matrix problem (choice_of old.cells setup.options) setup.lp ok in
           let lie : LieIn setup.lp.matrix (ways new.engine) (p.initial ++ setup.basis ∷ []) =

@@ -3,10 +3,13 @@ use Rattle.std.proofs.Common.{◌≡◌, ℕ, List, [], ◌∷◌, ◌++◌, Opt
 use Rattle.std.specs.Prelude.{MatchResult, IfOk}
 use Rattle.job_devices.specs.declared.device.WriteStop.{WriteStop}
 use Rattle.job_devices.specs.Text.{Writes}
-use Rattle.lp_definitions.specs.LinearProgram.{Matrix, LinearProgram}
-use Rattle.lp_definitions.specs.Basis.{Basics, basics_of}
+use Rattle.lp_definitions.specs.LinearProgram.{Matrix, LinearProgram, IsLinearProgram}
+use Rattle.lp_definitions.specs.Basis.{Basics, basics_of, IsOptimalBasis}
 use Rattle.lp_definitions.specs.Waypoints.{waypoint}
 use Rattle.lp_definitions.specs.declared.Evidence.{Evidence}
+use Rattle.path_definitions.specs.Path.{Ending, EndsOptimal, EndsCrossed, EndsInfeasible, EndsUnbounded, EndsAt}
+use Rattle.path_laws.specs.Laws.{IsNonsingularBasis}
+use Rattle.path_laws.proofs.Ends.{optimal_end}
 use Rattle.bounded_primal.specs.Calls.{HasRates}
 use Rattle.problem_definitions.specs.Problem.{Problem}
 use Rattle.problem_file.specs.Filed.{Filed, filed_under}
@@ -14,22 +17,24 @@ use Rattle.control_definitions.specs.Cells.{Cells}
 use Rattle.selection_definitions.specs.Choice.{Choice}
 use Rattle.selection_definitions.specs.Selection.{selected}
 use Rattle.listing_definitions.specs.declared.Mark.{Mark}
+use Rattle.listing_definitions.specs.declared.Mark.TheVariants.{Optimal}
 use Rattle.listing_definitions.specs.declared.Solver.TheVariants.{Primal as ByPrimal}
 use Rattle.listing_definitions.specs.Report.{Verdict, Check, Solved}
 use Rattle.listing_definitions.specs.Text.{report_text}
 use Rattle.listing_definitions.specs.Ending as endings
 use Rattle.question_definitions.specs.Answers.{Basis, Sheet}
+use Rattle.answer_definitions.specs.Verdicts.{verdict_of}
 use Rattle.answer_definitions.specs.Evidence.{OverflowsOnPath}
 use Rattle.report_text.specs.declared.sheet.Sheet.{Sheet as OwnSheet}
 use Rattle.present_answers.specs.Reports.{sheet_shown, OverflowsThere}
 use Rattle.run_definitions.specs.State.{choice_of}
-use Rattle.run_definitions.specs.Moves.{Nothing, Prints}
+use Rattle.run_definitions.specs.Moves.{Gain, Nothing, Prints}
 use Rattle.run_definitions.specs.Verbs.{mark_of}
 use Rattle.control_run.specs.declared.act.Halt.{Halt}
 use Rattle.control_run.specs.declared.act.Halt.TheVariants as halt
 use Rattle.control_run.specs.declared.end.Place.{Place as OwnPlace}
 use Rattle.control_run.specs.declared.finding.Finding.{Finding}
-use Rattle.control_run.specs.declared.finding.Finding.TheVariants.{Refused, Ended, Overflow, Limit, Shown}
+use Rattle.control_run.specs.declared.finding.Finding.TheVariants.{Ended, Overflow}
 use Rattle.control_run.specs.declared.machine.Setup.{Setup}
 use Rattle.control_run.specs.declared.selecting.Refusal.{Refusal}
 use Rattle.control_run.specs.declared.selecting.Refusal.TheVariants.{Fault, NoMemory}
@@ -38,7 +43,7 @@ use Rattle.control_run.specs.Choosing.{IsUnselected}
 use Rattle.control_run.specs.Ends.{place_shown}
 use Rattle.control_run.specs.Engine.{matrix, basics, ways}
 use Rattle.control_run.specs.Standing.{IsReady, IsSelected}
-use Rattle.control_run.specs.Findings.{PathReaches, PathFinds, reached, overflows, Finds, unselected, too_large, solved, Tells, refused_finding, IfEnded}
+use Rattle.control_run.specs.Findings.{PathReaches, PathFinds, reached, at_limit, overflows, Finds, unselected, too_large, solved, Tells, refused_finding, IfEnded}
 use Rattle.control_run.proofs.Selected.{same_matrix, no_change, rates_carry}
 use Rattle.control_run.proofs.Telling.{tells_more, tells_quietly}
 use Rattle.control_run.proofs.Present.{one_problem}
@@ -129,17 +134,25 @@ refusal_found problem cells setup new (Fault fault) u = unselected u
 refusal_found problem cells setup new (refusals.Overflow e) u = too_large u
 refusal_found problem cells setup new NoMemory u = refl
 
-pub refusal_ends : (refusal : Refusal) (Fact : Type 0) → IfOk (refused_finding refusal) (λ finding. IfEnded finding Fact)
+pub refusal_ends : (refusal : Refusal) (Fact : Mark → Type 0) → IfOk (refused_finding refusal) (λ finding. IfEnded finding Fact)
 refusal_ends (Fault fault) Fact = tt
 refusal_ends (refusals.Overflow e) Fact = tt
 refusal_ends NoMemory Fact = tt
 
-pub always_ends : (finding : Finding) (Fact : Type 0) → Fact → IfEnded finding Fact
-always_ends (Refused fault) Fact h = tt
-always_ends (Overflow e place) Fact h = tt
-always_ends Limit Fact h = tt
-always_ends (Ended mark) Fact h = h
-always_ends Shown Fact h = tt
+-- what an optimal verdict says of the basis that the path has reached
+optimal_ending : (p : LinearProgram) (now : Basis) (sheet : Sheet) (steps : ℕ) (ending : Ending) → IsLinearProgram p → IsNonsingularBasis p now → EndsAt p now ending → mark_of (verdict_of sheet steps ending) ≡ Optimal → IsOptimalBasis p now
+optimal_ending p now sheet steps (EndsOptimal z y) lawful at ends is = (optimal_end p now z y lawful at ends).optimal
+optimal_ending p now sheet steps (EndsCrossed k) lawful at ends is = absurd (cc is)
+optimal_ending p now sheet steps (EndsInfeasible w) lawful at ends is = absurd (cc is)
+optimal_ending p now sheet steps (EndsUnbounded z d) lawful at ends is = absurd (cc is)
+
+pub solved_ends : (sheet : Sheet) (s now : Basis) (limit : ℕ) (before after : List Basics) (gain : Gain) (finding : Finding) → IsLinearProgram sheet.lp → IsNonsingularBasis sheet.lp now → PathFinds sheet s now limit before after gain finding →
+    (Fact : Mark → Type 0) → ((mark : Mark) → (mark ≡ Optimal → IsOptimalBasis sheet.lp now) → Fact mark) → IfEnded finding Fact
+solved_ends sheet s now limit before after _ _ lawful at (reached {bases = bases} {verdict = verdict} r) Fact gives =
+    gives (mark_of verdict) (λ is. optimal_ending sheet.lp now sheet (length bases) r.reaches.ending lawful at (subst (λ (b : Basis). EndsAt sheet.lp b r.reaches.ending) r.leads r.reaches.ends.ends)
+    (subst (λ (v : Verdict). mark_of v ≡ Optimal) r.reaches.is_verdict.is_verdict is))
+solved_ends sheet s now limit before after _ _ lawful at (at_limit h) Fact gives = tt
+solved_ends sheet s now limit before after _ _ lawful at (overflows h) Fact gives = tt
 
 module _ {P : Type 0} (written : P → Option (List ℕ)) (faults refusals : P → ℕ) (cells : Cells) (file : Filed) (setup new : Setup) (there : Problem ℕ) (is_there : filed_under setup.name file ≡ Some there) where
   at_problem : (print_old print_new : P) (result : Result Finding Halt) → Tells (Finds there cells setup new) written faults refusals print_old print_new result →

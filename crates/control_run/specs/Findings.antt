@@ -1,8 +1,11 @@
--- What PRIMAL and SOLUTION find, and what follows.
+-- What PRIMAL, SOLUTION and RANGE find, and what follows.
 --     PathFinds gain finding       the path from a basis ends so, or is stopped so
 --     Finds gain finding           PRIMAL finds this with a setup, and has this to print
 --     LinesFound gain finding      the lines of a basis are made, or their making is stopped so
 --     Shows gain finding           SOLUTION finds this with a setup, and has this to print
+--     RangesFound gain finding     the intervals of a basis are made, or their making is stopped so
+--     ShowsRanges gain finding     RANGE finds this with a setup, and has this to print
+--     range_fault mark             why RANGE is refused with this mark
 --     refused_finding refusal      what a refusal comes to
 --     Tells result                 what is found is told, with its report printed; or it is cut off
 --     act_of cells card finding    what follows
@@ -14,19 +17,20 @@ use Rattle.lp_definitions.specs.Basis.{Basics, basics_of}
 use Rattle.lp_definitions.specs.Waypoints.{waypoint}
 use Rattle.lp_definitions.specs.declared.Evidence.{Evidence}
 use Rattle.path_definitions.specs.Path.{last_of, GoesOnFor}
-use Rattle.evidence_definitions.specs.Statements.{Solution as SolutionStatement}
+use Rattle.evidence_definitions.specs.Statements.{Solution as SolutionStatement, Range as RangeStatement}
 use Rattle.problem_definitions.specs.Problem.{Problem}
 use Rattle.selection_definitions.specs.Selection.{selected}
 use Rattle.listing_definitions.specs.declared.Mark.{Mark}
 use Rattle.listing_definitions.specs.declared.Mark.TheVariants.{Optimal, Infeasible, Unbounded}
 use Rattle.listing_definitions.specs.declared.VerbFault.{VerbFault}
+use Rattle.listing_definitions.specs.declared.VerbFault.TheVariants.{NotSolved, NotOptimal}
 use Rattle.listing_definitions.specs.declared.Solver.TheVariants.{Primal as ByPrimal}
-use Rattle.listing_definitions.specs.Report.{Verdict, Check, Solved, Solution, SolutionLines}
+use Rattle.listing_definitions.specs.Report.{Verdict, Check, Solved, Solution, SolutionLines, Ranges, RangeLines}
 use Rattle.listing_definitions.specs.Ending.{Place}
 use Rattle.control_definitions.specs.Cells.{Cells}
 use Rattle.question_definitions.specs.Answers.{Basis, Sheet}
 use Rattle.answer_definitions.specs.Verdicts.{ReachesVerdict}
-use Rattle.answer_definitions.specs.Sections.{IsShown}
+use Rattle.answer_definitions.specs.Sections.{IsShown, IsRanged}
 use Rattle.answer_definitions.specs.Evidence.{IsEvidence, OverflowsOnPath}
 use Rattle.bounded_primal.specs.Calls.{LieIn}
 use Rattle.run_definitions.specs.State.{choice_of}
@@ -127,6 +131,32 @@ abbrev pub Shows : Problem ℕ → Setup → Mark → Gain → Finding → Type 
 Shows problem setup mark = LinesFound (record { problem = problem; lp = setup.lp }) setup.basis
     (ways setup.engine) mark
 
+-- ---- the intervals of a basis
+
+module _ (sheet : Sheet) (s : Basis) (before : List Basics) where
+  -- for every list of bases that ends with s, in which the waypoints lay before, RANGE may stop with this evidence
+  abbrev pub RangesOverflow : Evidence → Option Place → Type 0
+  RangesOverflow e place = (earlier : List Basis) →
+      LieIn sheet.lp.matrix before (earlier ++ s ∷ []) →
+      IsEvidence (RangeStatement sheet.lp) None 0 (earlier ++ s ∷ []) [] e place
+
+  -- its intervals are printed; or an operation is refused
+  pub data RangesFound : Gain → Finding → Type 0 where
+    ranged : {lines : RangeLines} → IsRanged sheet s lines → RangesFound (Prints (Ranges lines)) Shown
+    stopped : {e : Evidence} {place : Option OwnPlace} →
+        RangesOverflow e (option_map place_shown place) → RangesFound Nothing (Overflow e place)
+
+-- those of a setup's present basis, in the linear program that it keeps
+abbrev pub ShowsRanges : Problem ℕ → Setup → Gain → Finding → Type 0
+ShowsRanges problem setup = RangesFound (record { problem = problem; lp = setup.lp }) setup.basis (ways setup.engine)
+
+-- it needs a mark, and no other than OPTIMAL
+abbrev pub range_fault : Option Mark → Option VerbFault
+range_fault None = Some NotSolved
+range_fault (Some Optimal) = None
+range_fault (Some Infeasible) = Some NotOptimal
+range_fault (Some Unbounded) = Some NotOptimal
+
 -- ---- with what is printed
 
 module _ (Holds : Gain → Finding → Type 0) {P : Type 0} (written : P → Option (List ℕ)) (faults refusals : P → ℕ) (print_old print_new : P) where
@@ -167,12 +197,12 @@ act_of cells card (Ended Infeasible) = demanded_act cells.xdonfs end.Infeasible
 act_of cells card (Ended Unbounded) = demanded_act cells.xdounb end.Unbounded
 act_of cells card Shown = Next
 
--- a verdict leaves its mark
-abbrev pub mark_left : Finding → Option Mark → Option Mark
-mark_left (Ended mark) old = Some mark
-mark_left _ old = old
+-- a verdict leaves its mark, and what ends the run leaves none
+abbrev pub mark_left : Finding → Option Mark
+mark_left (Ended mark) = Some mark
+mark_left _ = None
 
--- this holds after a verdict
-abbrev pub IfEnded : Finding → Type 0 → Type 0
-IfEnded (Ended mark) Fact = Fact
+-- this holds of the mark of a verdict
+abbrev pub IfEnded : Finding → (Mark → Type 0) → Type 0
+IfEnded (Ended mark) Fact = Fact mark
 IfEnded _ Fact = Unit {0}

@@ -1,10 +1,12 @@
 -- Where a machine stands in a run.
 --     IsReady file setup           the setup's basis and rates are those of a selection of its problem
 --     IsSelected cells file setup  the present cells select the setup's linear program
+--     IsSolved mark cells file setup   so they do, and with the mark OPTIMAL the setup's basis is optimal in it
 --     IsSound cards machine        its numbers are those of cards and of statements, and its setup is ready
 --     named, filed wanted file     the name that is wanted and its problem on file, or those put last
 --     Stands cards machine ..      the machine shows this state of a run over these cards
 use Rattle.std.specs.Prelude.{◌≡◌, ℕ, ◌+◌, ◌-◌, ◌≤◌, List, ◌∷◌, Option, Some, None, IfSome, Ok, length, drop, option_and_then}
+use Rattle.lp_definitions.specs.Basis.{IsOptimalBasis}
 use Rattle.card_definitions.specs.Cards.{numbered_cards}
 use Rattle.deck_definitions.specs.Decks.{decks_of}
 use Rattle.problem_definitions.specs.Names.{Name}
@@ -12,6 +14,8 @@ use Rattle.problem_definitions.specs.Problem.{Problem}
 use Rattle.problem_file.specs.Filed.{Filed, filed_under}
 use Rattle.path_definitions.specs.Path.{last_of}
 use Rattle.bounded_primal.specs.Calls.{HasRates, LieIn}
+use Rattle.listing_definitions.specs.declared.Mark.{Mark}
+use Rattle.listing_definitions.specs.declared.Mark.TheVariants.{Optimal}
 use Rattle.selection_definitions.specs.Choice.{Choice}
 use Rattle.selection_definitions.specs.Selection.{matrix_of, selected}
 use Rattle.control_definitions.specs.Cells.{Cells}
@@ -43,6 +47,11 @@ abbrev pub IsSelected : Cells → Filed → Setup → Type 0
 IsSelected cells file setup = (problem : Problem ℕ) → filed_under setup.name file ≡ Some problem →
     selected problem (choice_of cells setup.options) ≡ Ok setup.lp
 
+-- the setup keeps what PRIMAL solved, and where its verdict was optimal, the basis is
+pub record IsSolved (mark : Mark) (cells : Cells) (file : Filed) (setup : Setup) : Type 0 where
+  pub is_selected : IsSelected cells file setup
+  pub optimal : mark ≡ Optimal → IsOptimalBasis setup.lp setup.basis
+
 -- the next deck begins with a card of the job, or after the last; and while the mark stands, the setup keeps what PRIMAL solved
 pub record IsSound (cards : List (List ℕ)) (machine : Machine) : Type 0 where
   pub first : 1 ≤ machine.decks_from
@@ -50,7 +59,7 @@ pub record IsSound (cards : List (List ℕ)) (machine : Machine) : Type 0 where
   pub demands : AreDemands machine.cells
   pub ready : IfSome machine.setup (IsReady machine.file)
   pub solved : IfSome machine.mark
-      (λ mark. IfSome machine.setup (IsSelected machine.cells machine.file))
+      (λ mark. IfSome machine.setup (IsSolved mark machine.cells machine.file))
 
 -- ---- the state that a machine shows
 

@@ -11,6 +11,7 @@ use crate::act::{Act, Halt, Turn};
 use crate::end::End;
 use crate::machine::Machine;
 use crate::primal::solve;
+use crate::ranges::show_ranges;
 use crate::setup::set_up;
 use crate::solution::show_solution;
 use crate::title::print_title;
@@ -46,7 +47,7 @@ fn execute<P: Sink>(
         Verb::Primal => solve(alloc, machine, print, card),
         Verb::Solution => show_solution(alloc, machine, print, card),
         Verb::Revise => machine.revise(alloc, cards, print, card),
-        Verb::Ranging => Ok(Act::Ends(End::NotBuilt)),
+        Verb::Ranging => show_ranges(alloc, machine, print, card),
         Verb::Paraobj => Ok(Act::Ends(End::NotBuilt)),
         Verb::Pararhs => Ok(Act::Ends(End::NotBuilt)),
         Verb::Bcdout => Ok(Act::Ends(End::NotBuilt)),

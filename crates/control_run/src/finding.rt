@@ -1,4 +1,4 @@
-// What PRIMAL and SOLUTION find, and what follows.
+// What PRIMAL, SOLUTION and RANGE find, and what follows.
 ghost use Rattle.std.specs.Prelude.{◌≡◌, ◌≤◌, length, IfOk};
 ghost use Rattle.lp_definitions.specs.Basis.{basics_of};
 ghost use Rattle.lp_definitions.specs.Waypoints.{waypoint};
@@ -15,7 +15,7 @@ use lp_model::{Basis, Lp, NoMemory, Rates};
 use run_cells::Cells;
 use std::alloc::Global;
 
-/// What PRIMAL and SOLUTION find.
+/// What PRIMAL, SOLUTION and RANGE find.
 #[derive(Drop)]
 pub enum Finding {
     /// The statement is refused.
@@ -29,7 +29,7 @@ pub enum Finding {
     Limit,
     /// The path has ended, and its verdict leaves this mark.
     Ended(Mark),
-    /// The point and the prices are printed.
+    /// The lines of the basis are printed.
     Shown,
 }
 
@@ -109,12 +109,12 @@ pub fn act_of(cells: &Cells, card: u32, finding: Finding) -> Act
     }
 }
 
-/// The mark after a finding.
-pub fn mark_left(finding: &Finding, mark: Option<Mark>) -> Option<Mark>
-    ensures { result ≡ mark_left finding.now mark }
+/// The mark that a finding leaves.
+pub fn mark_left(finding: &Finding) -> Option<Mark>
+    ensures { result ≡ mark_left finding.now }
 {
     match finding {
         Finding::Ended(left) => Some(*left),
-        Finding::Refused(_) | Finding::Overflow { .. } | Finding::Limit | Finding::Shown => mark,
+        Finding::Refused(_) | Finding::Overflow { .. } | Finding::Limit | Finding::Shown => None,
     }
 }

@@ -10,6 +10,7 @@ mod finding;
 mod finish;
 mod machine;
 mod primal;
+mod ranges;
 mod revise;
 mod run;
 mod selecting;

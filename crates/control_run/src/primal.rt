@@ -13,7 +13,7 @@ ghost use Rattle.report_text.specs.Verdicts.{IsOutcome, verdict_shown, check_sho
 ghost use Rattle.present_answers.specs.Reports.{sheet_shown};
 ghost use Rattle.run_definitions.specs.Verbs.{mark_of};
 ghost use Rattle.control_run.specs.Stage.{stage};
-ghost use Rattle.control_run.specs.Standing.{AreDemands, IsReady, IsSelected, IsSound};
+ghost use Rattle.control_run.specs.Standing.{AreDemands, IsReady, IsSolved, IsSound};
 ghost use Rattle.control_run.specs.Statements.{Executes};
 ghost use Rattle.control_run.specs.Findings.{PathReaches, PathFinds, Finds, Tells, refused_finding, IfEnded};
 
@@ -122,9 +122,7 @@ fn find<P: Sink>(
         print.new result }
     ensures ready { IsReady file.now setup.new }
     ensures solved { IfOk result
-        (λ finding. IfEnded finding (IsSelected cells.now file.now setup.new)) }
-    ensures kept { IsSelected cells.now file.now setup.old →
-        IsSelected cells.now file.now setup.new }
+        (λ finding. IfEnded finding (λ mark. IsSolved mark cells.now file.now setup.new)) }
 {
     // a setup's problem stays on file
     let Some(problem) = file.get(&setup.name) else {
@@ -169,7 +167,8 @@ pub fn solve<P: Sink>(
     let Some(setup) = &mut machine.setup else {
         return Refusal::Fault(VerbFault::NoSetup).act(card);
     };
+    machine.mark = None;
     let finding = find(alloc, &machine.cells, &machine.file, setup, print)?;
-    machine.mark = mark_left(&finding, machine.mark);
+    machine.mark = mark_left(&finding);
     Ok(act_of(&machine.cells, card, finding))
 }

@@ -12,7 +12,7 @@ ghost use Rattle.answer_definitions.specs.Sections.{IsShown};
 ghost use Rattle.present_answers.specs.Answers.{sheet_shown, AreShown};
 ghost use Rattle.control_run.specs.Engine.{ways};
 ghost use Rattle.control_run.specs.Stage.{stage};
-ghost use Rattle.control_run.specs.Standing.{IsReady, IsSelected, IsSound};
+ghost use Rattle.control_run.specs.Standing.{IsReady, IsSolved, IsSound};
 ghost use Rattle.control_run.specs.Statements.{Executes};
 ghost use Rattle.control_run.specs.Findings.{Tells, LinesFound, Shows};
 
@@ -124,7 +124,7 @@ pub fn show_solution<P: Sink>(
 ) -> Result<Act, Halt>
     requires ready { IfSome machine.old.setup (IsReady machine.old.file) }
     requires solved { IfSome machine.old.mark
-        (λ mark. IfSome machine.old.setup (IsSelected machine.old.cells machine.old.file)) }
+        (λ mark. IfSome machine.old.setup (IsSolved mark machine.old.cells machine.old.file)) }
     ensures acts { (cards : List (List ℕ)) →
         Executes stage program.Solution card P.written P.faults P.refusals print.old print.new cards
         machine.old machine.new result }

@@ -103,7 +103,7 @@ setup_is text =
 
 -- ---- the first choice
 
--- the choices of arguments are the first one and those behind it
+-- the choices of arguments are the first one and those after it
 choices_one_by_one : (word : List ℕ) (parts : List (List ℕ)) → choices (word ∷ parts) ≡ led_by (first_choice (word ∷ parts)) (choices (behind_first (word ∷ parts)))
 choices_one_by_one word [] = by (sense_choice word)
   where

@@ -83,12 +83,12 @@ module _ (p : ℕ → Bool) where
 comma_is_no_quote : (byte : ℕ) → is_comma byte ≡ true → is_quote byte ≡ false
 comma_is_no_quote byte e = let is : byte ≡ 44 = eqb-true byte 44 e in rw is refl
 
--- The arguments of a text are the first and those behind the comma.
+-- The arguments of a text are the first and those after the comma.
 pub first_part : (n : ℕ) (text : List ℕ) → n ≡ position_or_len (outside is_comma) (marked text) → n < length text
     → split_outside is_comma text ≡ take n text ∷ split_outside is_comma (drop (n + 1) text)
 first_part n text place lt = rw place (split_at_place is_comma comma_is_no_quote text false (rw place at lt))
 
--- the same, where the text behind the comma is cut at the end of the text
+-- the same, where the text after the comma is cut at the end of the text
 pub first_part_cut : (n : ℕ) (text : List ℕ) → n ≡ position_or_len (outside is_comma) (marked text) → n < length text
     → split_outside is_comma text ≡ take n text ∷ split_outside is_comma (take (length text - (n + 1)) (drop (n + 1) text))
 first_part_cut n text place lt =

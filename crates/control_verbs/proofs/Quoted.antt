@@ -19,7 +19,7 @@ bytes_eq-front (suc m) (x ∷ xs) ys = rw (same_byte x) (bytes_eq-front m xs ys)
 abbrev without_quotes : List ℕ → Option (List ℕ)
 without_quotes inner = if list_any is_quote inner then None else Some inner
 
--- A quotation is what stands behind a quote and before a quote, where it has none.
+-- A quotation is what stands after a quote and before a quote, where it has none.
 pub quotation_is : (argument : List ℕ) → quotation argument ≡ option_and_then without_quotes (option_and_then before_quote (behind_quote argument))
 quotation_is [] = refl
 quotation_is (byte ∷ text) = by (is_quote byte)

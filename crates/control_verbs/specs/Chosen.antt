@@ -25,7 +25,7 @@ first_choice [] = None
 first_choice (word ∷ []) = arguments.sense_choice word
 first_choice (word ∷ next ∷ parts) = option_or (arguments.sense_choice word) (arguments.set_choice word next)
 
--- the arguments behind it
+-- the arguments after it
 abbrev pub behind_first : List (List ℕ) → List (List ℕ)
 behind_first [] = []
 behind_first (word ∷ parts) = if is_some (arguments.sense_choice word) then parts else drop 1 parts

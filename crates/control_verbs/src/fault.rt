@@ -113,7 +113,7 @@ pub fn head_fault(card: &[u8]) -> Option<ControlFaultKind>
     }
 }
 
-/// The fault of a card behind PROGRAM. Whether a card before it has its label, and how many cards of the program stand before
+/// The fault of a card after PROGRAM. Whether a card before it has its label, and how many cards of the program stand before
 /// it, is for the caller to say.
 #[tactic(auto, unfolding(control_definitions::specs::Compiled::control_card_fault))]
 pub fn card_fault(card: &[u8], is_label_twice: bool, before: usize) -> Option<ControlFaultKind>

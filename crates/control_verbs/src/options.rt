@@ -59,7 +59,7 @@ fn set_of(word: &[u8]) -> Option<SetKind>
     }
 }
 
-// The choice that a word makes with the argument behind it.
+// The choice that a word makes with the argument after it.
 fn set_in(word: &[u8], argument: &[u8]) -> Option<Choice>
     ensures { option_map choice_shown result ≡ set_choice word.now argument.now }
 {
@@ -81,7 +81,7 @@ fn choice_in(text: &[u8]) -> Option<Choice>
     set_in(word, argument)
 }
 
-// The text behind the first choice, if there is any.
+// The text after the first choice, if there is any.
 fn behind_choice(text: &[u8]) -> Option<&[u8]>
     ensures parts { parts_behind result ≡ behind_first (split_outside is_comma text.now) }
     ensures shorter { IfSome result (λ rest. length rest.now < length text.now) }

@@ -8,7 +8,7 @@ ghost use Rattle.control_verbs.specs.Pieces.{parts_behind, only_part, two_parts,
 
 use crate::quotes::place_outside;
 
-/// The first argument of a text, and the text of those behind it, if there are any.
+/// The first argument of a text, and the text of those after it, if there are any.
 #[tactic(auto, using(crate::proofs::Outside::only_one_part))]
 pub fn split_argument(text: &[u8]) -> (&[u8], Option<&[u8]>)
     ensures parts { split_outside is_comma text.now ≡ result.0.now ∷ parts_behind result.1 }

@@ -9,7 +9,7 @@ const MOST_BYTES: usize = 60;
 /// 0 to 60 bytes.
 #[derive(Debug, Drop)]
 pub struct Text {
-    // The text with zeros behind it.
+    // The text with zeros after it.
     bytes: [u8; MOST_BYTES],
     len: usize,
 }

@@ -8,7 +8,7 @@ ghost use Rattle.control_verbs.specs.Pieces.{arguments_shown};
 use crate::places::parenthesis_place;
 use crate::quotes::{before_outside, place_outside};
 
-/// What a statement has behind its verb.
+/// What a statement has after its verb.
 #[derive(Clone, Copy, Debug)]
 pub enum Arguments<'a> {
     /// No parenthesis.
@@ -26,7 +26,7 @@ pub fn verb_word(statement: &[u8]) -> &[u8]
     &statement[..parenthesis_place(statement)]
 }
 
-// What stands behind the first parenthesis.
+// What stands after the first parenthesis.
 fn behind_parenthesis(statement: &[u8]) -> &[u8]
     ensures { result.now ≡ behind_parenthesis statement.now }
 {

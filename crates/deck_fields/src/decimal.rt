@@ -12,7 +12,7 @@ const WIDTH: usize = 12;
 /// A number as a deck states it: the text without surrounding blanks, and its exact value.
 #[derive(Clone, Copy, Debug)]
 pub struct Decimal {
-    // The text with blanks behind it.
+    // The text with blanks after it.
     places: [u8; WIDTH],
     value: Frac,
 }

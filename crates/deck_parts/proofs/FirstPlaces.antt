@@ -25,7 +25,7 @@ first_place name (first ∷ names) (suc place) distinct at =
     let other : same name first ≡ false = same_sym name first ∙ unlike first name names place distinct.0 at in
     (ap (λ b. b || has_name names name) other ∙ rest.0, ap (λ b. cond (not b) (1 + position_or_len (same name) names) 0) other ∙ ap (λ n. 1 + n) rest.1 ∙ omega arith)
 
--- a name that stands at a place among different names has the number behind it
+-- a name that stands at a place among different names has the number after it
 pub number_at_place : {V : Type 0} (es : List (Name × V)) (place : ℕ) (found : Name) (value : V) (name : Name) → IsDistinct same (keys_of es) → slice_get es place ≡ Some (found, value) → same found name ≡ true
     → number_in (keys_of es) name ≡ place + 1
 number_at_place es place found value name distinct at is =

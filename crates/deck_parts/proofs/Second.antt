@@ -1,4 +1,4 @@
--- The second pair of a card, behind a first without a fault.
+-- The second pair of a card, after a first without a fault.
 use Rattle.std.proofs.Common.{◌≡◌, ℕ, ◌+◌, List, [], ◌∷◌, ◌++◌, Option, Some, None, refl, ap, sym, ◌∙◌}
 use Rattle.std.specs.Option.{option_or}
 use Rattle.problem_definitions.specs.Names.{Name}

@@ -57,14 +57,14 @@ Marks touches keys items = (name : Name) → list_any (same name) keys ≡ list_
 abbrev pub bounds_alone : List (Group (Entry Name)) → List (Group (Bound Name)) → Problem Name
 bounds_alone columns bounds = record { name = []; rows = []; columns = columns; rhs = []; ranges = []; bounds = bounds }
 
--- the tests of a card of BOUNDS that come behind that of its column, against the items of its set
+-- the tests of a card of BOUNDS that come after that of its column, against the items of its set
 abbrev pub bound_rest_fault : List (Bound Name) → Reading → BoundKind → Option DeckFaultKind
 bound_rest_fault items card kind = first_fault (
     (is_bound_already items card.name2 kind ⟹ BoundTwice) ∷
     bound_value_fault card kind ∷
     filled_from_5 card ∷ [])
 
--- the tests of a pair that come behind those of its row
+-- the tests of a pair that come after those of its row
 abbrev pub pair_value_fault : Section → ℕ → Pair → Option DeckFaultKind
 pair_value_fault section count pair = first_fault (
     value_fault pair.column pair.value ∷
@@ -77,7 +77,7 @@ column_fault columns name rest = first_fault (
     (not (has_group columns name) && nat_le MAX_COLUMNS (length columns) ⟹ TooManyColumns) ∷
     rest ∷ [])
 
--- the tests of a card of BOUNDS that come behind that of its bound
+-- the tests of a card of BOUNDS that come after that of its bound
 abbrev pub bound_end_fault : Reading → BoundKind → Option DeckFaultKind
 bound_end_fault card kind = first_fault (bound_value_fault card kind ∷ filled_from_5 card ∷ [])
 

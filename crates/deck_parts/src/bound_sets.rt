@@ -41,7 +41,7 @@ fn has_value(kind: BoundKind) -> bool
     }
 }
 
-// The value on a card of BOUNDS, where its type takes one, or the fault of its value or of what stands behind it.
+// The value on a card of BOUNDS, where its type takes one, or the fault of its value or of what stands after it.
 pub fn bound_value(kind: BoundKind, card: &DataCard<'_>) -> Result<Option<Decimal>, DeckFaultKind>
     ensures value { IfOk result (λ v. v ≡ (if takes_value kind then Some (decimal_of card.now.value1.now) else None)) }
     ensures no_fault { OnOk result (bound_end_fault (shown card.now) kind ≡ None) }

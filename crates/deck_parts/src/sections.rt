@@ -39,7 +39,7 @@ pub fn row_kind_of(card: &DataCard<'_>) -> Result<RowKind, DeckFaultKind>
     Ok(kind)
 }
 
-// The fault of a card of ROWS with a new name, behind so many rows.
+// The fault of a card of ROWS with a new name, after so many rows.
 pub fn new_row_fault(count: usize, card: &DataCard<'_>) -> Option<DeckFaultKind>
     ensures { result ≡ first_fault ((nat_le MAX_ROWS count ⟹ DeckFaultKind.TooManyRows) ∷ filled_from_3 (shown card.now) ∷ []) }
 {

@@ -40,7 +40,7 @@ fn labels_stand_for_positions(rt: HostRuntime) -> Result<(), Fail> {
     Ok(())
 }
 
-// A program of this card alone, behind a PROGRAM with the label TWICE.
+// A program of this card alone, after a PROGRAM with the label TWICE.
 fn job_with(alloc: Global, card: &[u8]) -> Result<Vec<u8>, Fail> {
     let mut job = Vec::from_slice(alloc, b"TWICE    PROGRAM\n")?;
     job.extend_from_slice(card)?;

@@ -1,7 +1,8 @@
 use job_devices::{
-    Failed, MemorySink, MemorySource, Sink, Source, StreamSink, StreamSource, SureSink, WriteStop,
-    put_all, put_each,
+    Failed, MemorySink, MemorySource, PunchFile, Sink, Source, StreamSink, StreamSource, SureSink,
+    WriteStop, put_all, put_each,
 };
+use std::fs;
 use std::io::{self, ErrorKind, Read, Write};
 use std::test::Fail;
 
@@ -161,5 +162,20 @@ fn a_flush_that_fails_is_a_fault(rt: HostRuntime) -> Result<(), Fail> {
     assert_eq!(rt; put_all(&mut sink, b"B"), Err(WriteStop::Failed));
     put_all(&mut sink, b"C")?;
     assert_eq!(rt; taken.as_slice(), b"ABC".as_slice());
+    Ok(())
+}
+
+#[test]
+fn the_punch_file_is_created_at_the_first_write(rt: HostRuntime) -> Result<(), Fail> {
+    let mut punch = PunchFile::new(&rt);
+    fs::create_dir(&rt, "PUNCH")?;
+    assert_eq!(rt; put_all(&mut punch, b"NAME\n"), Err(WriteStop::Failed));
+    fs::remove_dir(&rt, "PUNCH")?;
+    put_each(&mut punch, &[b"NAME\n", b"ENDATA\n"])?;
+    assert_eq!(rt;
+        fs::read(&rt, "PUNCH")?.as_slice(),
+        b"NAME\nENDATA\n".as_slice()
+    );
+    fs::remove_file(&rt, "PUNCH")?;
     Ok(())
 }

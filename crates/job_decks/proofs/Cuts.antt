@@ -1,4 +1,4 @@
--- The decks of cards behind skipped cards, and of cards that begin with one that isn't skipped.
+-- The decks of cards after skipped cards, and of cards that begin with one that isn't skipped.
 use Rattle.std.proofs.Common.{◌≡◌, ℕ, suc, ◌+◌, Bool, true, false, cond, not, List, [], ◌∷◌, take, drop, map, filter, refl, ap, sym, subst, ◌∙◌, arith}
 use Rattle.std.specs.List.{onto_first, position_or_len, prefix_len}
 use Rattle.std.proofs.lemmas.Bool.{eqb-true}

@@ -25,7 +25,7 @@ numbered_at start zero (c ∷ cards) card at =
     rw (n, same) refl
 numbered_at start (suc i) (c ∷ cards) card at = let n : start + suc i ≡ start + 1 + i = omega arith in rw n (numbered_at (start + 1) i cards card at)
 
--- the card with a number stands in front of those behind it
+-- the card with a number stands in front of those after it
 pub card_at : (number : ℕ) (cards : List (List ℕ)) (card : List ℕ) → 1 ≤ number → slice_get cards (number - 1) ≡ Some card
     → cards_from number cards ≡ record { number = number; bytes = card } ∷ cards_from (number + 1) cards
 card_at number cards card from_one at =
@@ -34,7 +34,7 @@ card_at number cards card from_one at =
     numbered_at 1 (number - 1) cards card at ∙ ap (λ (n : ℕ). record { number = n; bytes = card } ∷ drop (suc (number - 1)) (numbered_cards cards)) own
     ∙ ap (λ n. record { number = number; bytes = card } ∷ drop n (numbered_cards cards)) next
 
--- there is none behind the last
+-- there is none after the last
 pub none_from : (number : ℕ) (cards : List (List ℕ)) → length cards < number → cards_from number cards ≡ []
 none_from number cards past = let beyond : length (numbered_cards cards) ≤ number - 1 = omega (arith, length-numbered 1 cards) in drop_of_length-le (numbered_cards cards) beyond
 

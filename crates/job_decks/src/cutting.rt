@@ -60,7 +60,7 @@ fn next_deck(cards: &Cards, from: u32) -> Option<Deck>
 
 /// The deck to take of the cards from this number on: the first with the name asked for, and the first of all where no name is
 /// asked for. A deck begins at the first card not yet taken that isn't skipped, ends with the first ENDATA card from there or
-/// with the last card, and has the name on its first card, if that is a NAME card. The decks left are those of the cards behind it.
+/// with the last card, and has the name on its first card, if that is a NAME card. The decks left are those of the cards after it.
 pub fn take_deck(cards: &Cards, from: u32, wanted: Option<Name>) -> Option<Deck>
     requires from_one { 1 ≤ from }
     requires within { from ≤ length cards.now + 1 }

@@ -1,4 +1,4 @@
-//! The decks of a job, cut from the cards behind its program, and the deck that a run takes. Nothing here takes memory.
+//! The decks of a job, cut from the cards after its program, and the deck that a run takes. Nothing here takes memory.
 #![tactic(auto)]
 
 mod cutting;

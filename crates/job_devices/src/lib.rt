@@ -3,8 +3,10 @@
 
 mod device;
 mod memory;
+mod punch;
 mod stream;
 
 pub use device::{Failed, NoMemory, Sink, Source, WriteStop, put_all, put_each};
 pub use memory::{MemorySink, MemorySource, SureSink, SureSource};
+pub use punch::PunchFile;
 pub use stream::{StreamSink, StreamSource};

@@ -17,7 +17,7 @@ use Rattle.listing_definitions.specs.Text.{refused_text, report_text}
 abbrev pub fault_text : ℕ → ℕ → List ℕ
 fault_text number card = concat (codes "FAULT " ∷ digits number ∷ codes " CARD " ∷ digits card ∷ [])
 
--- a number behind its word, where there is one
+-- a number after its word, where there is one
 abbrev pub labelled : List ℕ → Option ℕ → List ℕ
 labelled word None = []
 labelled word (Some number) = word ++ digits number
@@ -64,7 +64,7 @@ overflow_text overflow =
     concat (codes "STOP 20 OVERFLOW " ∷ evidence_text overflow.evidence ∷ codes " CARD " ∷ digits overflow.card ∷ codes "\n" ∷
     codes "BASIS " ∷ basis_text overflow.place ∷ codes "\n" ∷ codes "WAY " ∷ way_text overflow.place ∷ codes "\n" ∷ [])
 
--- Behind a fault of the print nothing is written.
+-- After a fault of the print nothing is written.
 abbrev pub ending_text : Ending → List ℕ
 ending_text (Ended code) = concat (codes "END " ∷ digits code ∷ codes "\n" ∷ [])
 ending_text WordsRefused = codes "STOP 4 WORDS\n"

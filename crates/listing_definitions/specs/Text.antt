@@ -1,4 +1,4 @@
--- The text of reports. A text is written as its pieces, one behind the other; each line ends with a line feed.
+-- The text of reports. A text is written as its pieces, one after another; each line ends with a line feed.
 use Rattle.std.specs.Prelude.{ℕ, ◌-◌, List, [], ◌∷◌, ◌++◌, codes, length, replicate}
 use Rattle.std.specs.List.{concat, flat_map, enumerate_from}
 use Rattle.frac128.specs.declared.Op.{Op}
@@ -27,7 +27,7 @@ at_text Lower = codes "LL"
 at_text Upper = codes "UL"
 at_text Free = codes "FR"
 
--- a fraction is its numerator, and behind a slash its denominator where that isn't 1
+-- a fraction is its numerator, and after a slash its denominator where that isn't 1
 abbrev pub value_text : Value → List ℕ
 value_text (Code at) = at_text at
 value_text (Number value) = rational_text value

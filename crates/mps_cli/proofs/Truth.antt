@@ -1,11 +1,17 @@
--- The headline of a job: what it is answered, and that each report of this answer holds of the state in which it was made.
-use Rattle.std.proofs.Common.{◌≡◌, ◌<◌, ℕ, false, List, Option, Some, refl, arith}
+-- The headline of a job: what it is answered, and that each report of this answer holds of the state in which it was made. Such an
+-- answer is complete.
+use Rattle.std.proofs.Common.{◌≡◌, ◌<◌, ℕ, List, Option, Some, refl, arith}
 use Rattle.std.specs.Io.KnownBytes.{Appends}
 use Rattle.job_devices.specs.Causes.{Rose}
+use Rattle.answer_definitions.specs.Real.{staged}
 use Rattle.run_definitions.specs.Answer.{Job, WithoutBytes, Read, Failures, words_refused, IsAnswered}
 use Rattle.run_laws.specs.Laws.{KnowsSolving}
 use Rattle.run_laws.specs.Headline.{IsTrueAnswer}
-use Rattle.run_laws.proofs.Runs.{knows_without_sweeps, answer_holds}
+use Rattle.run_laws.proofs.Runs.{knows_staged, answer_holds}
+use Rattle.run_functions.specs.Laws.{IsFunction}
+use Rattle.run_functions.specs.Complete.{IsComplete}
+use Rattle.run_functions.proofs.Runs.{is_function, answers_without_sweeps}
+use Rattle.run_functions.proofs.Complete.{answer_is_complete}
 use Rattle.control_run.specs.declared.status.Status.{Status}
 use Rattle.control_run.specs.Stage.{builds, stage}
 use Rattle.control_run.specs.Ends.{code_of}
@@ -21,7 +27,12 @@ use Rattle.mps_cli.proofs.May_end.{may_stop, answered_too}
 
 stage_knows : KnowsSolving stage
 unfolding stage
-stage_knows = knows_without_sweeps builds refl refl
+stage_knows = knows_staged builds
+
+-- no parametric run is built
+stage_is_function : IsFunction stage
+unfolding stage
+stage_is_function = is_function (staged builds) (knows_staged builds) (answers_without_sweeps builds refl refl)
 
 true_answer : {job : Job} {failures : Failures} {status : ℕ} {PrintGains PunchGains : List ℕ → Type 0} → IsAnswered stage job failures status PrintGains PunchGains →
     IsTrueAnswer stage job failures status PrintGains PunchGains
@@ -33,6 +44,12 @@ true_answer is = record {
   is_answer = is.4;
   each_holds = answer_holds stage stage_knows is.4;
 }
+
+-- a true answer is complete
+pub complete_answer : {job : Job} {failures : Failures} {status : ℕ} {PrintGains PunchGains : List ℕ → Type 0} → IsTrueAnswer stage job failures status PrintGains PunchGains →
+    IsComplete stage job failures status PrintGains PunchGains
+complete_answer {job} {failures} {status} {PrintGains} {PunchGains} is =
+    answer_is_complete stage job failures status PrintGains PunchGains is.printed is.punched stage_is_function is.print_gains is.punch_gains is.is_answer
 
 -- ---- the job that is asked for
 

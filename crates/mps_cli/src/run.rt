@@ -5,6 +5,7 @@ ghost use Rattle.job_devices.specs.Causes.{Rose};
 ghost use Rattle.job_devices.specs.Text.{AppendsFront};
 ghost use Rattle.card_reader.specs.Reading.{ReadsFront, ReadsJob};
 ghost use Rattle.run_definitions.specs.Answer.{Job};
+ghost use Rattle.run_functions.specs.Complete.{IsComplete};
 ghost use Rattle.run_laws.specs.Headline.{IsTrueAnswer};
 ghost use Rattle.control_run.specs.Stage.{stage};
 ghost use Rattle.control_run.specs.Ends.{code_of};
@@ -25,6 +26,10 @@ use std::alloc::Global;
 ///
 /// After a fault of the print, or where the print wants memory, nothing more is printed. Want of memory may end a job at
 /// any time.
+///
+/// It doesn't give up: a job whose run meets no evidence that a number is too large has one run, and gets the status, the
+/// whole listing and all the cards of this run, unless a read, a write to the print or one to the punch fails, or memory is
+/// wanted.
 pub fn run_job<S: Source, P: Sink, U: Sink>(
     alloc: Global,
     words: &[String],
@@ -39,6 +44,21 @@ pub fn run_job<S: Source, P: Sink, U: Sink>(
     // feasible point with a direction, and these prove it. So it is wherever the words, or the source, tell the job.
     ensures headline { (asked : Job) → IsAsked (length words.now) (S.left job.old) asked →
         IsTrueAnswer stage asked
+        (record {
+          read = Rose (S.faults job.old) (S.faults job.new);
+          print = Rose (P.faults print.old) (P.faults print.new);
+          punch = Rose (U.faults punch.old) (U.faults punch.new);
+          memory = Rose (P.refusals print.old) (P.refusals print.new);
+        })
+        (code_of result)
+        (Appends (P.written print.old) (P.written print.new))
+        (Appends (U.written punch.old) (U.written punch.new)) }
+
+    // Completeness. Where no evidence of an overflow holds at any moment of the run of the job's bytes, this run is the only
+    // one; the status is that of its end, the print gains its whole listing and the punch all its cards; unless a read has
+    // failed and the status is 24, or the print and it is 25, or the punch and it is 26, or it is 28, want of memory.
+    ensures complete { (asked : Job) → IsAsked (length words.now) (S.left job.old) asked →
+        IsComplete stage asked
         (record {
           read = Rose (S.faults job.old) (S.faults job.new);
           print = Rose (P.faults print.old) (P.faults print.new);

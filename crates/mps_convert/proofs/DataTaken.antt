@@ -49,7 +49,7 @@ fault_of_form seen section card kind standing unformed = by section standing
     by Bounds e = ap (λ o. option_or o (option_or (section_fault seen Bounds (reading_of Fixed card)) None)) unformed
     by Endata e = ap (λ o. option_or o (Some SectionOrder)) unformed
 
--- a data card directly behind NAME is out of order
+-- a data card directly after NAME is out of order
 pub out_of_order : (seen : Problem Name) (section : Section) (card : List ℕ) → is_section Header section ≡ true → data_card_fault seen Fixed (Some section) card ≡ Some SectionOrder
 out_of_order seen Header card e = refl
 out_of_order seen Rows card e = absurd (cc e)

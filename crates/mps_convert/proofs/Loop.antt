@@ -19,7 +19,7 @@ use Rattle.deck_fields.specs.declared.stop.DeckStop.{DeckStop}
 use Rattle.deck_fields.specs.declared.stop.DeckStop.TheVariants.{Fault, NoMemory}
 use Rattle.mps_convert.specs.State.{State, state_of, state_with, state_after, with_data, fault_at, live_fault, Stops, StopsAt}
 
--- the fault of a card behind others is that at the state behind them
+-- the fault of a card after others is that at the state after them
 fault-state : (cards : List Card) (card : List ℕ) → card_fault cards card ≡ fault_at (state_of cards) card
 unfolding card_fault
 fault-state cards card = refl
@@ -54,7 +54,7 @@ state-step cards card fine = by (is_section_card card.bytes) refl fine
 pub live-append : (xs ys : List Card) → live (xs ++ ys) ≡ live xs ++ live ys
 live-append xs ys = filter-append (λ card. not (is_skipped card.bytes)) xs ys
 
--- the first fault of one card behind others
+-- the first fault of one card after others
 alone : (before : List Card) (card : Card) → first_faulty card_fault before (card ∷ []) ≡ option_map (λ kind. record { card = card.number; kind = kind }) (fault_at (state_of before) card.bytes)
 unfolding card_fault
 alone before card = by (fault_at (state_of before) card.bytes)
@@ -90,7 +90,7 @@ state_more cards card state is fine =
     by true h = ap state_of (sym (append-nil (live cards)))
     by false h = sym (state-step (live cards) card h)
 
--- the fault of a card behind a part without a fault is that of the whole
+-- the fault of a card after a part without a fault is that of the whole
 pub stops_whole : (cards : List Card) (card : Card) (more whole : List Card) (state : State) (stop : DeckStop) → whole ≡ cards ++ card ∷ more
     → state ≡ state_of (live cards) → first_faulty card_fault [] (live cards) ≡ None → StopsAt card.number (live_fault state card.bytes) stop → Stops (live whole) stop
 stops_whole cards card more whole state NoMemory split is none holds = tt

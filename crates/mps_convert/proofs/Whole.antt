@@ -69,7 +69,7 @@ printable_live (card ∷ cards) h = by (is_skipped card.bytes) (printable_live c
     by true rest = rest
     by false rest = (h.0, rest)
 
--- what a draft shows behind the cards of a deck without a fault, under a name, is a problem
+-- what a draft shows after the cards of a deck without a fault, under a name, is a problem
 pub is_problem : (deck : List Card) (own : Name) (problem : Problem Name) → IsName own → ArePrintable deck → first_faulty card_fault [] (live deck) ≡ None → problem ≡ described [] (live deck)
     → IsProblem (numbered (record problem { name = own }))
 is_problem deck own problem named printable fine is =
@@ -82,7 +82,7 @@ converts deck name own shown problem fine ended is own_is problem_is =
     whole deck name fine ended
     ∙ ap (λ (p : Problem ℕ). Ok p) (ap (λ n. numbered (described n (live deck))) (sym own_is) ∙ ap numbered (sym (named_as own (live deck) shown is)) ∙ sym problem_is)
 
--- behind no card
+-- after no card
 pub nothing_read : (state : State) → state.section ≡ None → state.problem ≡ record { name = []; rows = []; columns = []; rhs = []; ranges = []; bounds = [] } → state ≡ state_of []
 unfolding described
 nothing_read state section problem = λ i. record { section = section i; problem = problem i }

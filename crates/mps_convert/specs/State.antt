@@ -1,4 +1,4 @@
--- What a reader of a deck knows behind the cards so far, what one more card does to it, and how reading stops.
+-- What a reader of a deck knows after the cards so far, what one more card does to it, and how reading stops.
 use Rattle.std.specs.Prelude.{◌≡◌, ℕ, List, [], Option, Some, None, if◌then◌else◌, option_map}
 use Rattle.std.specs.Option.{option_or}
 use Rattle.card_definitions.specs.Cards.{Card, is_skipped}
@@ -19,7 +19,7 @@ pub record State : Type 0 where
   pub section : Option Section
   pub problem : Problem Name
 
--- behind these cards
+-- after these cards
 abbrev pub state_of : List Card → State
 state_of cards = record { section = section_after cards; problem = described [] cards }
 

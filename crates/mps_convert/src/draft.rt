@@ -46,7 +46,7 @@ fn is_last(section: Section) -> bool
     matches!(section, Section::Endata)
 }
 
-// The section that a section card begins behind another.
+// The section that a section card begins after another.
 fn next_section(before: Option<Section>, card: &[u8]) -> Result<Section, CardStop>
     ensures section { IfOk result (λ section. named section_words (section_word card.now) ≡ Some section) }
     ensures no_fault { OnOk result (section_card_fault may_follow before card.now ≡ None) }
@@ -145,7 +145,7 @@ impl DeckDraft {
     ghost use Rattle.deck_definitions.specs.Sections.{is_section};
     ghost use Rattle.deck_definitions.specs.declared.Section.TheVariants.{Endata};
 
-    /// A draft behind no card, which grows in this memory.
+    /// A draft after no card, which grows in this memory.
     pub fn new(alloc: Global) -> DeckDraft
         ensures section { result.section ≡ None }
         ensures problem { problem_shown result ≡ record { name = []; rows = []; columns = []; rhs = []; ranges = []; bounds = [] } }

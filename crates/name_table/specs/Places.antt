@@ -1,4 +1,4 @@
--- Texts that stand in places, with blanks behind them.
+-- Texts that stand in places, with blanks after them.
 use Rattle.std.specs.Prelude.{◌≡◌, ℕ, List, length, IsTrue}
 use Rattle.std.specs.List.{list_all}
 use Rattle.card_definitions.specs.Words.{without_trailing}

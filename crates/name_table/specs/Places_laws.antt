@@ -44,7 +44,7 @@ module _ (width : ℕ) where
       let rest : width - length kept ≡ length ys = omega arith in
       ap (λ zs. kept ++ zs) (ap (λ n. replicate n 32) rest ∙ sym (all_blank ys all))
 
-  -- Places hold their text with blanks behind it.
+  -- Places hold their text with blanks after it.
   pub padded-text_in : (places : List ℕ) → length places ≡ width → padded width (text_in places) ≡ places
   padded-text_in places full = let split = trailing_split is_blank places in padded-split (text_in places) split.0 split.1 (ap length (sym split.2) ∙ full) ∙ sym split.2
 

@@ -16,7 +16,7 @@ const WIDTH: usize = 8;
 /// isn't a blank. A name may be empty.
 #[derive(Clone, Copy, Debug)]
 pub struct Name {
-    // The name with blanks behind it.
+    // The name with blanks after it.
     places: [u8; WIDTH],
 }
 

@@ -1,11 +1,11 @@
-// Texts in places, with blanks behind them.
+// Texts in places, with blanks after them.
 ghost use Rattle.std.specs.Prelude.{◌≡◌, ◌≤◌, length};
 ghost use Rattle.std.specs.List.{suffix_len};
 ghost use Rattle.card_definitions.specs.Words.{without_trailing};
 ghost use Rattle.card_definitions.specs.Cards.{is_blank};
 ghost use Rattle.card_definitions.specs.Words.{padded as the_padded};
 
-/// The text with blanks behind it.
+/// The text with blanks after it.
 #[tactic(auto, using(crate::specs::Places_laws::padded_behind))]
 pub fn padded<const WIDTH: usize>(text: &[u8]) -> [u8; WIDTH]
     requires { length text.now ≤ WIDTH }

@@ -2,3 +2,5 @@ pub mod PathStopLaws
 pub mod Calls
 pub mod Refused
 pub mod SolutionLines
+pub mod RangeLines
+pub mod RangeStops

@@ -37,11 +37,11 @@ point_number e h = let n = of_number e.formula e.term h in record { no_move = n.
 
 module _ (a : Matrix) where
   -- the basis given is the last of the list
-  within_last : (xs : List (List Status)) (s : List Status) → IsWithinOne a (basics_of s) (map basics_of (xs ++ s ∷ []))
+  pub within_last : (xs : List (List Status)) (s : List Status) → IsWithinOne a (basics_of s) (map basics_of (xs ++ s ∷ []))
   within_last [] s = inl (within_itself a (basics_of s))
   within_last (x ∷ xs) s = inr (within_last xs s)
 
-  covers_trans : (xs ys zs : List Basics) → Covers a xs ys → Covers a ys zs → Covers a xs zs
+  pub covers_trans : (xs ys zs : List Basics) → Covers a xs ys → Covers a ys zs → Covers a xs zs
   covers_trans [] ys zs first second = tt
   covers_trans (x ∷ xs) ys zs first second = (covered a x ys zs second first.0, covers_trans xs ys zs first.1 second)
 

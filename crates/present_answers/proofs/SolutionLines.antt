@@ -29,7 +29,7 @@ module _ (p : LinearProgram) (s : List Status) where
   at_free : (k : ℕ) → status_of s k ≡ Fr → asked.standing p s k ≡ (if is_fixed p k then Equal else Free)
   at_free k e = rw e refl
 
-  by_status : (w : Vector) (k : ℕ) (st : Status) → status_of s k ≡ st → printed.at_of p s w k ≡ asked.at_of p s w k
+  pub by_status : (w : Vector) (k : ℕ) (st : Status) → status_of s k ≡ st → printed.at_of p s w k ≡ asked.at_of p s w k
   by_status w k Bs e = rw e refl
   by_status w k Ll e = rw e (sym (at_lower k e))
   by_status w k Ul e = rw e (sym (at_upper k e))

@@ -1,11 +1,13 @@
--- What SOLUTION shows, in the words of the definitions of runs.
+-- What SOLUTION and RANGE show, in the words of the definitions of runs.
 --     sheet_shown sheet        the problem and the linear program
 --     AreShown p s shown       the basis and the lists of SOLUTION have their lengths
+--     AreRanged p s ranged     the basis and the point of RANGE have theirs
 use Rattle.std.specs.Prelude.{◌≡◌, length}
 use Rattle.lp_definitions.specs.LinearProgram.{LinearProgram, size}
 use Rattle.question_definitions.specs.Answers as answers
 use Rattle.report_text.specs.declared.sheet.Sheet.{Sheet}
 use Rattle.present_answers.specs.declared.solution.Shown.{Shown}
+use Rattle.present_answers.specs.declared.ranges.Ranged.{Ranged}
 
 abbrev pub sheet_shown : Sheet → answers.Sheet
 sheet_shown sheet = record { problem = sheet.problem.now; lp = sheet.lp.now }
@@ -16,3 +18,8 @@ pub record AreShown (p : LinearProgram) (s : answers.Basis) (shown : Shown) : Ty
   pub point : length shown.point ≡ size p.matrix
   pub prices : length shown.prices ≡ size p.matrix
   pub slack : length shown.slack.items ≡ p.rows
+
+-- a place for each variable
+pub record AreRanged (p : LinearProgram) (s : answers.Basis) (ranged : Ranged) : Type 0 where
+  pub basis : length s ≡ size p.matrix
+  pub point : length ranged.point ≡ size p.matrix

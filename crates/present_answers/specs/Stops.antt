@@ -1,12 +1,13 @@
--- When SOLUTION may stop with an overflow.
+-- When SOLUTION and RANGE may stop with an overflow.
 --     SolutionRefused p before s after e   the evidence of the statement at the basis s, whatever path led there
+--     RangesRefused p before s after e     the same of RANGE
 use Rattle.std.specs.Prelude.{List, [], ◌∷◌, ◌++◌, ◌≤◌, length, Some, None}
 use Rattle.lp_definitions.specs.LinearProgram.{LinearProgram}
 use Rattle.lp_definitions.specs.Basis.{Basics, basics_of}
 use Rattle.lp_definitions.specs.Waypoints.{waypoint}
 use Rattle.lp_definitions.specs.declared.Evidence.{Evidence}
 use Rattle.lp_definitions.specs.declared.Status.{Status}
-use Rattle.evidence_definitions.specs.Statements.{Solution}
+use Rattle.evidence_definitions.specs.Statements.{Solution, Range}
 use Rattle.answer_definitions.specs.Evidence.{IsEvidence}
 use Rattle.bounded_primal.specs.Calls.{LieIn}
 
@@ -16,3 +17,8 @@ pub record SolutionRefused (p : LinearProgram) (before : List Basics) (s : List 
   pub is_way : e.way ≤ length after
   pub shows : (earlier : List (List Status)) → LieIn p.matrix before (earlier ++ s ∷ []) →
       IsEvidence (Solution p) None 0 (earlier ++ s ∷ []) [] e (Some (record { basis = s; way = waypoint (basics_of s) after e.way }))
+
+pub record RangesRefused (p : LinearProgram) (before : List Basics) (s : List Status) (after : List Basics) (e : Evidence) : Type 0 where
+  pub is_way : e.way ≤ length after
+  pub shows : (earlier : List (List Status)) → LieIn p.matrix before (earlier ++ s ∷ []) →
+      IsEvidence (Range p) None 0 (earlier ++ s ∷ []) [] e (Some (record { basis = s; way = waypoint (basics_of s) after e.way }))

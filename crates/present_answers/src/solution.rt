@@ -26,7 +26,7 @@ pub struct Shown {
 }
 
 /// The basis's point.
-fn point_shown<R: Rates>(
+pub fn point_shown<R: Rates>(
     alloc: Global,
     lp: &Lp,
     basis: &Basis,

@@ -29,7 +29,7 @@ module _ {X : Type 0} (name : Name) where
       by true h rest = absurd (cc h)
       by false h rest = ap (λ list. group ∷ list) (rest h)
 
-  -- behind a group of this name there is no other
+  -- after a group of this name there is no other
   only_one : (group : Group X) (groups : List (Group X)) → IsDistinct same (group_names (group ∷ groups)) → same name group.name ≡ true → has_group groups name ≡ false
   unfolding IsDistinct
   only_one group groups distinct e =

@@ -4,3 +4,4 @@ pub mod Tables
 pub mod Values
 pub mod Verdicts
 pub mod Solutions
+pub mod RangeParts

@@ -1,4 +1,6 @@
+pub mod Intervals
 pub mod Lines
+pub mod Ranges
 pub mod Sheets
 pub mod Shown
 pub mod Solutions

@@ -2,11 +2,11 @@
 --     name_of problem k            the name of variable k
 --     at_of p s z k                where a variable stands, as it is printed
 --     lines_of problem values ks   a line for each of these variables
-use Rattle.std.specs.Prelude.{ℕ, ◌+◌, ◌-◌, Bool, not, List, [], ◌∷◌, ◌++◌, map, filter, if◌then◌else◌}
+use Rattle.std.specs.Prelude.{ℕ, ◌+◌, ◌-◌, Bool, not, ◌&&◌, nat_eq, List, [], ◌∷◌, ◌++◌, map, filter, if◌then◌else◌}
 use Rattle.exact_values.specs.Rational.{ℚ, zero_ℚ}
 use Rattle.exact_values.specs.Tests.{eq_ℚ}
 use Rattle.lp_definitions.specs.LinearProgram.{LinearProgram, Vector, value_at, numbers_from, variables, lower_of, upper_of, cost}
-use Rattle.lp_definitions.specs.Basis.{status_of}
+use Rattle.lp_definitions.specs.Basis.{is_basic, status_of}
 use Rattle.lp_definitions.specs.declared.Status.{Status}
 use Rattle.lp_definitions.specs.declared.Status.TheVariants.{Bs, Ll, Ul, Fr}
 use Rattle.path_definitions.specs.Moves.{is_fixed, is_outside}
@@ -14,7 +14,9 @@ use Rattle.problem_definitions.specs.Names.{Name, name_at}
 use Rattle.problem_definitions.specs.Problem.{Problem, row_names, group_names}
 use Rattle.listing_definitions.specs.declared.At.{At}
 use Rattle.listing_definitions.specs.declared.At.TheVariants.{Basic, Outside, Equal, Lower, Upper, Free}
-use Rattle.listing_definitions.specs.Report.{Value, Code, Number, limit_value, Line, SolutionLines}
+use Rattle.listing_definitions.specs.Report.{Value, Code, Number, limit_value, Line, SolutionLines, RangeLines}
+use Rattle.lp_model.specs.declared.reports.RangeReport.{RangeReport}
+use Rattle.report_text.specs.Intervals.{ends_at}
 
 -- the variables are the rows, and then the columns
 abbrev pub name_of : Problem ℕ → ℕ → Name
@@ -69,3 +71,40 @@ solution_lines problem p s point prices slack = record {
   rows = lines_of problem (row_values p s point slack prices) (numbers_from 1 p.rows);
   columns = lines_of problem (column_values p s point prices) (numbers_from (p.rows + 1) p.cols);
 }
+
+-- the nonbasics, and the basics other than the objective
+abbrev pub stands_at_limit : List Status → ℕ → Bool
+stands_at_limit s k = not (is_basic (status_of s k))
+
+abbrev pub stands_between : LinearProgram → List Status → ℕ → Bool
+stands_between p s k = is_basic (status_of s k) && not (nat_eq k p.objective)
+
+module _ (p : LinearProgram) (s : List Status) (point : List ℚ) (report : RangeReport) where
+  -- where a variable stands, its activity, and then other values
+  abbrev pub ranged_values : (ℕ → List Value) → ℕ → List Value
+  ranged_values values k = Code (at_of p s (value_at point) k) ∷ Number (value_at point k) ∷ values k
+
+  -- the cost of a column, and the ends of its interval
+  abbrev pub cost_values : ℕ → List Value
+  cost_values k = Number (cost p (k - p.rows)) ∷ ends_at report.costs k
+
+  abbrev pub limit_row_values : ℕ → List Value
+  limit_row_values k = ranged_values (ends_at report.limits) k
+
+  abbrev pub limit_column_values : ℕ → List Value
+  limit_column_values k = ranged_values (λ k. ends_at report.limits k ++ cost_values k) k
+
+  abbrev pub between_row_values : ℕ → List Value
+  between_row_values k = ranged_values (ends_at report.rows) k
+
+  abbrev pub between_column_values : ℕ → List Value
+  between_column_values k = ranged_values cost_values k
+
+  -- a line for each nonbasic row and column, and one for each basic row and column but the objective
+  abbrev pub range_lines : Problem ℕ → RangeLines
+  range_lines problem = record {
+    rows_at_limit = lines_of problem limit_row_values (filter (stands_at_limit s) (numbers_from 1 p.rows));
+    columns_at_limit = lines_of problem limit_column_values (filter (stands_at_limit s) (numbers_from (p.rows + 1) p.cols));
+    rows_between = lines_of problem between_row_values (filter (stands_between p s) (numbers_from 1 p.rows));
+    columns_between = lines_of problem between_column_values (filter (stands_between p s) (numbers_from (p.rows + 1) p.cols));
+  }

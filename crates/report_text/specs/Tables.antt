@@ -1,17 +1,19 @@
 -- The lines of tables, one by one.
 --     HasLine sheet table k        all that stands in the line of variable k is there
 --     line_shown sheet table k     the text of the line of variable k
-use Rattle.std.specs.Prelude.{◌≡◌, ◌<◌, ◌≤◌, ℕ, List, [], None, length, if◌then◌else◌}
+use Rattle.std.specs.Prelude.{◌≡◌, ◌<◌, ◌≤◌, ℕ, Bool, List, [], None, length, if◌then◌else◌}
 use Rattle.exact_values.specs.Rational.{zero_ℚ}
 use Rattle.exact_values.specs.Tests.{eq_ℚ}
 use Rattle.lp_definitions.specs.LinearProgram.{IsVariable, size, value_at}
+use Rattle.listing_definitions.specs.Report.{Value}
 use Rattle.listing_definitions.specs.Text.{line_text}
 use Rattle.report_text.specs.declared.sheet.Sheet.{Sheet}
 use Rattle.report_text.specs.declared.table.Standing.{Standing}
+use Rattle.report_text.specs.declared.table.Ranging.{Ranging}
 use Rattle.report_text.specs.declared.table.Table.{Table}
-use Rattle.report_text.specs.declared.table.Table.TheVariants.{Multipliers, Pairs, Rows, Columns}
+use Rattle.report_text.specs.declared.table.Table.TheVariants.{Multipliers, Pairs, Rows, Columns, LimitRows, LimitColumns, BetweenRows, BetweenColumns}
 use Rattle.report_text.specs.Sheets.{IsSheet}
-use Rattle.report_text.specs.Lines.{line_of, multiplier_values, pair_values, row_values, column_values}
+use Rattle.report_text.specs.Lines.{line_of, multiplier_values, pair_values, row_values, column_values, stands_at_limit, stands_between, limit_row_values, limit_column_values, between_row_values, between_column_values}
 
 -- a basis of the sheet's program with its lists; no row is added to the objective
 pub record IsStanding (sheet : Sheet) (standing : Standing) : Type 0 where
@@ -21,17 +23,31 @@ pub record IsStanding (sheet : Sheet) (standing : Standing) : Type 0 where
   pub slack : length standing.slack.now ≡ sheet.lp.now.matrix.rows
   pub no_change : sheet.lp.now.change ≡ None
 
+-- a basis of the sheet's program with its point; no row is added to the objective
+pub record IsRanging (sheet : Sheet) (ranging : Ranging) : Type 0 where
+  pub basis : length ranging.basis.now ≡ size sheet.lp.now.matrix
+  pub point : length ranging.point.now ≡ size sheet.lp.now.matrix
+  pub no_change : sheet.lp.now.change ≡ None
+
 -- the lists of a table have their lengths
 abbrev pub AreListed : Sheet → Table → Type 0
 AreListed sheet (Multipliers ray) = length ray.now ≡ size sheet.lp.now.matrix
 AreListed sheet (Pairs first second) = (length first.now ≡ size sheet.lp.now.matrix) × (length second.now ≡ size sheet.lp.now.matrix)
 AreListed sheet (Rows standing) = IsStanding sheet standing
 AreListed sheet (Columns standing) = IsStanding sheet standing
+AreListed sheet (LimitRows ranging) = IsRanging sheet ranging
+AreListed sheet (LimitColumns ranging) = IsRanging sheet ranging
+AreListed sheet (BetweenRows ranging) = IsRanging sheet ranging
+AreListed sheet (BetweenColumns ranging) = IsRanging sheet ranging
 
 -- the tables of rows and of columns have lines for these alone
 abbrev pub IsLined : Sheet → Table → ℕ → Type 0
 IsLined sheet (Rows standing) k = k ≤ sheet.lp.now.matrix.rows
 IsLined sheet (Columns standing) k = sheet.lp.now.matrix.rows < k
+IsLined sheet (LimitRows ranging) k = k ≤ sheet.lp.now.matrix.rows
+IsLined sheet (LimitColumns ranging) k = sheet.lp.now.matrix.rows < k
+IsLined sheet (BetweenRows ranging) k = k ≤ sheet.lp.now.matrix.rows
+IsLined sheet (BetweenColumns ranging) k = sheet.lp.now.matrix.rows < k
 IsLined sheet _ k = Unit {0}
 
 pub record HasLine (sheet : Sheet) (table : Table) (k : ℕ) : Type 0 where
@@ -40,9 +56,17 @@ pub record HasLine (sheet : Sheet) (table : Table) (k : ℕ) : Type 0 where
   pub listed : AreListed sheet table
   pub lined : IsLined sheet table k
 
--- a multiplier that is 0 has no line
+-- the values of a line of intervals
+abbrev pub ranged_line : Sheet → Bool → (ℕ → List Value) → ℕ → List ℕ
+ranged_line sheet has_line values k = if has_line then line_text (line_of sheet.problem.now values k) else []
+
+-- a multiplier that is 0 has no line, and an interval has one where the variable stands as the table says
 abbrev pub line_shown : Sheet → Table → ℕ → List ℕ
 line_shown sheet (Multipliers ray) k = if eq_ℚ (value_at ray.now k) zero_ℚ then [] else line_text (line_of sheet.problem.now (multiplier_values ray.now) k)
 line_shown sheet (Pairs first second) k = line_text (line_of sheet.problem.now (pair_values first.now second.now) k)
 line_shown sheet (Rows standing) k = line_text (line_of sheet.problem.now (row_values sheet.lp.now standing.basis.now standing.point.now standing.slack.now standing.prices.now) k)
 line_shown sheet (Columns standing) k = line_text (line_of sheet.problem.now (column_values sheet.lp.now standing.basis.now standing.point.now standing.prices.now) k)
+line_shown sheet (LimitRows ranging) k = ranged_line sheet (stands_at_limit ranging.basis.now k) (limit_row_values sheet.lp.now ranging.basis.now ranging.point.now ranging.report.now) k
+line_shown sheet (LimitColumns ranging) k = ranged_line sheet (stands_at_limit ranging.basis.now k) (limit_column_values sheet.lp.now ranging.basis.now ranging.point.now ranging.report.now) k
+line_shown sheet (BetweenRows ranging) k = ranged_line sheet (stands_between sheet.lp.now ranging.basis.now k) (between_row_values sheet.lp.now ranging.basis.now ranging.point.now ranging.report.now) k
+line_shown sheet (BetweenColumns ranging) k = ranged_line sheet (stands_between sheet.lp.now ranging.basis.now k) (between_column_values sheet.lp.now ranging.basis.now ranging.point.now ranging.report.now) k

@@ -3,12 +3,13 @@ use Rattle.std.specs.Prelude.{ℕ, List, ◌++◌, codes}
 use Rattle.listing_definitions.specs.Report as reports
 use Rattle.listing_definitions.specs.Text.{value_text}
 use Rattle.report_text.specs.declared.line.Value.{Value}
-use Rattle.report_text.specs.declared.line.Value.TheVariants.{Code, Number, Absent}
+use Rattle.report_text.specs.declared.line.Value.TheVariants.{Code, Number, Absent, Dash}
 
 abbrev pub value_shown : Value → reports.Value
 value_shown (Code at) = reports.Code at
 value_shown (Number value) = reports.Number value
 value_shown Absent = reports.Absent
+value_shown Dash = reports.Dash
 
 -- the text of a value, with the blank before it
 abbrev pub value_behind_blank : Value → List ℕ

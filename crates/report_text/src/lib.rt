@@ -2,10 +2,12 @@
 #![tactic(auto)]
 
 mod ending;
+mod intervals;
 mod line;
 mod overflow;
 mod pieces;
 mod plain;
+mod ranges;
 mod report;
 mod sheet;
 mod solution;

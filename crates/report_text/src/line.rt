@@ -21,6 +21,8 @@ pub enum Value {
     Number(Frac),
     /// A limit that isn't there.
     Absent,
+    /// A value that the variable doesn't have.
+    Dash,
 }
 
 impl Value {
@@ -60,6 +62,7 @@ fn put_value<P: Sink>(print: &mut P, value: Value) -> Result<(), WriteStop>
             put_each(print, &[b" ", text.as_str().as_bytes()])
         }
         Value::Absent => put_all(print, b" NONE"),
+        Value::Dash => put_all(print, b" -"),
     }
 }
 

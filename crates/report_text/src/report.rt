@@ -4,15 +4,16 @@ ghost use Rattle.report_text.specs.Shown.{IsReport, text_shown};
 
 use crate::ending::put_ending;
 use crate::plain::{put_converted, put_revised, put_setup, put_title};
+use crate::ranges::put_ranges;
 use crate::sheet::Sheet;
 use crate::solution::put_solution;
-use crate::table::Standing;
+use crate::table::{Ranging, Standing};
 use crate::verdict::put_verdict;
 use frac128::{Frac, Refused};
 use job_devices::{Sink, WriteStop};
 use listing_definitions::{Mark, Solver};
 use lp_definitions::{Evidence, Sense};
-use lp_model::{Basis, Outcome, Point, Prices};
+use lp_model::{Basis, Outcome, Point, Prices, RangeReport};
 use name_table::Name;
 
 /// What a statement of a run prints, or the end of the run.
@@ -56,6 +57,13 @@ pub enum Report<'a> {
         point: &'a Point,
         prices: &'a Prices,
         slack: &'a [Frac],
+    },
+    /// A basis with its point, and the intervals in which it stays optimal.
+    Ranges {
+        sheet: Sheet<'a>,
+        basis: &'a Basis,
+        point: &'a Point,
+        report: &'a RangeReport,
     },
     /// The end of the run.
     End(Ending<'a>),
@@ -157,6 +165,19 @@ pub fn text_of<P: Sink>(report: &Report<'_>, print: &mut P) -> Result<(), WriteS
                 slack,
             };
             put_solution(print, mark, sheet, standing)
+        }
+        Report::Ranges {
+            sheet,
+            basis,
+            point,
+            report,
+        } => {
+            let ranging = Ranging {
+                basis,
+                point,
+                report,
+            };
+            put_ranges(print, sheet, ranging)
         }
         Report::End(ending) => put_ending(print, ending),
     }

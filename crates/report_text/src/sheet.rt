@@ -1,10 +1,10 @@
 // A problem with the linear program that is selected from it: names, places and costs of its variables.
-ghost use Rattle.std.specs.Prelude.{◌≡◌, ◌≤◌, ◌-◌, None, length};
+ghost use Rattle.std.specs.Prelude.{◌≡◌, ◌≤◌, ◌-◌, None, not, length};
 ghost use Rattle.lp_definitions.specs.LinearProgram.{IsVariable, IsColumn, size, value_at, on_row, cost};
-ghost use Rattle.lp_definitions.specs.Basis.{status_of};
+ghost use Rattle.lp_definitions.specs.Basis.{is_basic, status_of};
 ghost use Rattle.path_definitions.specs.Moves.{is_fixed, is_below, is_above, is_outside};
 ghost use Rattle.exact_values.specs.Tests.{lt_ℚ};
-ghost use Rattle.report_text.specs.Lines.{name_of, at_by, at_of};
+ghost use Rattle.report_text.specs.Lines.{name_of, at_by, at_of, stands_between};
 ghost use Rattle.report_text.specs.Sheets.{IsSheet};
 
 use frac128::Frac;
@@ -95,6 +95,34 @@ pub fn at_of(lp: &Lp, basis: &Basis, point: &[Frac], k: u32) -> At
 {
     let is_outside = lies_outside(lp, point[k as usize - 1], k);
     at_by(basis.status(k), is_outside, stands_fixed(lp, k))
+}
+
+// Whether a status is that of a basic.
+fn is_basic(status: Status) -> bool
+    ensures { result ≡ is_basic status }
+{
+    match status {
+        Status::Bs => true,
+        Status::Ll | Status::Ul | Status::Fr => false,
+    }
+}
+
+/// Whether variable `k` is nonbasic.
+pub fn is_at_limit(basis: &Basis, k: u32) -> bool
+    requires first { 1 ≤ k }
+    requires last { k ≤ length basis.now }
+    ensures { result ≡ not (is_basic (status_of basis.now k)) }
+{
+    !is_basic(basis.status(k))
+}
+
+/// Whether variable `k` is basic, and not the objective.
+pub fn is_between(lp: &Lp, basis: &Basis, k: u32) -> bool
+    requires first { 1 ≤ k }
+    requires last { k ≤ length basis.now }
+    ensures { result ≡ stands_between lp.now basis.now k }
+{
+    is_basic(basis.status(k)) && k != lp.objective
 }
 
 // The number on this row, and 0 where there is none.

@@ -5,11 +5,12 @@ ghost use Rattle.job_devices.specs.Text.{Writes};
 ghost use Rattle.lp_definitions.specs.LinearProgram.{numbers_from};
 ghost use Rattle.report_text.specs.Tables.{HasLine, line_shown};
 
+use crate::intervals::{high_end, interval_of, low_end};
 use crate::line::{Value, put_line};
-use crate::sheet::{Sheet, at_of, cost, name_of};
+use crate::sheet::{Sheet, at_of, cost, is_at_limit, is_between, name_of};
 use frac128::Frac;
 use job_devices::{Sink, WriteStop, put_all};
-use lp_model::{Basis, Point, Prices};
+use lp_model::{Basis, Point, Prices, RangeReport};
 
 /// A basis with its point and its prices, and the slacks of its rows.
 #[derive(Clone, Copy, Debug)]
@@ -18,6 +19,14 @@ pub struct Standing<'a> {
     pub point: &'a Point,
     pub prices: &'a Prices,
     pub slack: &'a [Frac],
+}
+
+/// A basis with its point, and the intervals in which it stays optimal.
+#[derive(Clone, Copy, Debug)]
+pub struct Ranging<'a> {
+    pub basis: &'a Basis,
+    pub point: &'a Point,
+    pub report: &'a RangeReport,
 }
 
 /// What stands in the lines of a table.
@@ -31,6 +40,14 @@ pub enum Table<'a> {
     Rows(Standing<'a>),
     /// Where each column stands.
     Columns(Standing<'a>),
+    /// The interval of the limit at which each nonbasic row stands.
+    LimitRows(Ranging<'a>),
+    /// The intervals of the limit and the cost of each nonbasic column.
+    LimitColumns(Ranging<'a>),
+    /// The interval of the multiple of each basic row but the objective.
+    BetweenRows(Ranging<'a>),
+    /// The interval of the cost of each basic column.
+    BetweenColumns(Ranging<'a>),
 }
 
 fn put_multiplier<P: Sink>(
@@ -113,6 +130,115 @@ fn put_column<P: Sink>(
     put_line(print, k, name_of(sheet, k), &values)
 }
 
+// The line of a nonbasic row.
+fn put_limit_row<P: Sink>(
+    print: &mut P,
+    sheet: Sheet<'_>,
+    ranging: Ranging<'_>,
+    k: u32,
+) -> Result<(), WriteStop>
+    requires { HasLine sheet (Table.LimitRows ranging) k }
+    ensures { Writes P.written P.faults P.refusals print.old print.new result (line_shown sheet.entry (Table.LimitRows ranging.entry) k) }
+{
+    if !is_at_limit(ranging.basis, k) {
+        return put_all(print, b"");
+    }
+    let point = ranging.point.values();
+    let report = ranging.report;
+    let lp = sheet.lp;
+    let limit = interval_of(&report.limits, k);
+    let values = [
+        Value::Code(at_of(lp, ranging.basis, point, k)),
+        Value::Number(point[k as usize - 1]),
+        low_end(&limit),
+        high_end(&limit),
+    ];
+    put_line(print, k, name_of(sheet, k), &values)
+}
+
+// The line of a nonbasic column.
+fn put_limit_column<P: Sink>(
+    print: &mut P,
+    sheet: Sheet<'_>,
+    ranging: Ranging<'_>,
+    k: u32,
+) -> Result<(), WriteStop>
+    requires { HasLine sheet (Table.LimitColumns ranging) k }
+    ensures { Writes P.written P.faults P.refusals print.old print.new result (line_shown sheet.entry (Table.LimitColumns ranging.entry) k) }
+{
+    if !is_at_limit(ranging.basis, k) {
+        return put_all(print, b"");
+    }
+    let point = ranging.point.values();
+    let report = ranging.report;
+    let lp = sheet.lp;
+    let limit = interval_of(&report.limits, k);
+    let costs = interval_of(&report.costs, k);
+    let values = [
+        Value::Code(at_of(lp, ranging.basis, point, k)),
+        Value::Number(point[k as usize - 1]),
+        low_end(&limit),
+        high_end(&limit),
+        Value::Number(cost(lp, k - lp.rows)),
+        low_end(&costs),
+        high_end(&costs),
+    ];
+    put_line(print, k, name_of(sheet, k), &values)
+}
+
+// The line of a basic row but the objective.
+fn put_between_row<P: Sink>(
+    print: &mut P,
+    sheet: Sheet<'_>,
+    ranging: Ranging<'_>,
+    k: u32,
+) -> Result<(), WriteStop>
+    requires { HasLine sheet (Table.BetweenRows ranging) k }
+    ensures { Writes P.written P.faults P.refusals print.old print.new result (line_shown sheet.entry (Table.BetweenRows ranging.entry) k) }
+{
+    if !is_between(sheet.lp, ranging.basis, k) {
+        return put_all(print, b"");
+    }
+    let point = ranging.point.values();
+    let report = ranging.report;
+    let lp = sheet.lp;
+    let multiple = interval_of(&report.rows, k);
+    let values = [
+        Value::Code(at_of(lp, ranging.basis, point, k)),
+        Value::Number(point[k as usize - 1]),
+        low_end(&multiple),
+        high_end(&multiple),
+    ];
+    put_line(print, k, name_of(sheet, k), &values)
+}
+
+// The line of a basic column.
+fn put_between_column<P: Sink>(
+    print: &mut P,
+    sheet: Sheet<'_>,
+    ranging: Ranging<'_>,
+    k: u32,
+) -> Result<(), WriteStop>
+    requires { HasLine sheet (Table.BetweenColumns ranging) k }
+    ensures { Writes P.written P.faults P.refusals print.old print.new result (line_shown sheet.entry (Table.BetweenColumns ranging.entry) k) }
+{
+    if !is_between(sheet.lp, ranging.basis, k) {
+        return put_all(print, b"");
+    }
+    let point = ranging.point.values();
+    let report = ranging.report;
+    let lp = sheet.lp;
+    let costs = interval_of(&report.costs, k);
+    let values = [
+        Value::Code(at_of(lp, ranging.basis, point, k)),
+        Value::Number(point[k as usize - 1]),
+        Value::Number(cost(lp, k - lp.rows)),
+        low_end(&costs),
+        high_end(&costs),
+    ];
+    put_line(print, k, name_of(sheet, k), &values)
+}
+
 // The line of variable `k`, if it has one.
 fn put_table_line<P: Sink>(
     print: &mut P,
@@ -128,6 +254,10 @@ fn put_table_line<P: Sink>(
         Table::Pairs(first, second) => put_pair(print, sheet, first, second, k),
         Table::Rows(standing) => put_row(print, sheet, standing, k),
         Table::Columns(standing) => put_column(print, sheet, standing, k),
+        Table::LimitRows(ranging) => put_limit_row(print, sheet, ranging, k),
+        Table::LimitColumns(ranging) => put_limit_column(print, sheet, ranging, k),
+        Table::BetweenRows(ranging) => put_between_row(print, sheet, ranging, k),
+        Table::BetweenColumns(ranging) => put_between_column(print, sheet, ranging, k),
     }
 }
 

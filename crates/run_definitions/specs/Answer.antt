@@ -51,7 +51,7 @@ Gains PunchFault gained text = IsFront gained text
 Gains Memory gained text = IsFront gained text
 Gains _ gained text = gained ≡ text
 
--- the decks of a job are those of the cards behind its program
+-- the decks of a job are those of the cards after its program
 abbrev pub job_decks : Program → List ℕ → List (List Card)
 job_decks program bytes = decks_of (drop (program.decks_from - 1) (numbered_cards (cards_of bytes)))
 

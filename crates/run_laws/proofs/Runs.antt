@@ -2,7 +2,7 @@
 use Rattle.std.proofs.Common.{◌≡◌, ◌⊎◌, ℕ, Bool, false, List, [], inl, inr}
 use Rattle.std.specs.Prelude.{All}
 use Rattle.std.proofs.lemmas.List.Elements.{All-nil, All-cons}
-use Rattle.control_definitions.specs.Program.{Program, Verb, Revise, Paraobj, Pararhs}
+use Rattle.control_definitions.specs.Program.{Program, Verb, Paraobj, Pararhs}
 use Rattle.listing_definitions.specs.declared.Mark.TheVariants.{Optimal, Infeasible, Unbounded}
 use Rattle.listing_definitions.specs.declared.Solver.TheVariants.{Primal as ByPrimal, Paraobj as ByParaobj, Pararhs as ByPararhs}
 use Rattle.listing_definitions.specs.Report.{Report, Titled, Converted, Revised, SetUp, Punched, Solved, Solution, Ranges, Parametric}
@@ -15,7 +15,8 @@ use Rattle.run_definitions.specs.Run.{counted, Step, Reaches, begun, stepped, Is
 use Rattle.run_definitions.specs.Answer.{Job, Failures, Answer, IsProgramOf, job_decks, IsJobRun, card_fault, control_fault, run, MayEnd, words_refused, read_fails, by_itself, memory_at_start, memory_in_run, memory_at_punch, punch_fails, IsAnswer, whole, print_fails, print_wants_memory}
 use Rattle.run_laws.specs.Truth.{Holds}
 use Rattle.run_laws.specs.Headline.{HoldSoFar, HoldInRun, HoldInJob, HoldInEnd, HoldInAnswer}
-use Rattle.run_laws.specs.Laws.{BuildsNoSweep, SweepsKeepBases, KnowsSolving, reports_of, TellsTruth}
+use Rattle.sweep_laws.proofs.Runs.{swept_leads}
+use Rattle.run_laws.specs.Laws.{KnowsSolving, reports_of, TellsTruth}
 use Rattle.run_laws.proofs.Moves.{HasProblem, Knows, HoldsGain, Keeps, unmarked, without_setup}
 use Rattle.run_laws.proofs.Verbs.{statement_kept}
 use Rattle.run_laws.proofs.Filed.{job_reaching}
@@ -33,7 +34,7 @@ uncounted state (Solved ByPararhs verdict check) holds = tt
 uncounted state (Solution Optimal lines) holds = holds
 uncounted state (Solution Infeasible lines) holds = tt
 uncounted state (Solution Unbounded lines) holds = tt
-uncounted state (Ranges lines) holds = tt
+uncounted state (Ranges lines) holds = holds
 uncounted state (Parametric solver chain) holds = tt
 
 -- the report of a gain
@@ -52,10 +53,10 @@ module _ (S : Solving) (solving : KnowsSolving S) where
       (statement_kept S solving step.statement.verb step.statement.card (counted state) lawful (record { marked = knows.marked; bases = knows.bases })).by outcome step.gives
 
   module _ (bytes : List ℕ) (program : Program) (is_program : IsProgramOf bytes program) where
-    has_problem : (reports : List Report) (cards : List (List ℕ)) (state : State) → Reaches S program (job_decks program bytes) reports cards state → HasProblem state.setup
+    pub has_problem : (reports : List Report) (cards : List (List ℕ)) (state : State) → Reaches S program (job_decks program bytes) reports cards state → HasProblem state.setup
     has_problem reports cards state reaches = (job_reaching S bytes program reports cards state (record { is_program = is_program; reaches = reaches })).setup
 
-    known : (reports : List Report) (cards : List (List ℕ)) (state : State) → Reaches S program (job_decks program bytes) reports cards state → Knows state
+    pub known : (reports : List Report) (cards : List (List ℕ)) (state : State) → Reaches S program (job_decks program bytes) reports cards state → Knows state
     known _ _ _ begun = record { marked = unmarked _ _ _; bases = without_setup }
     known _ _ _ (stepped {reports} {cards} {state} gain after before step) =
         (step_keeps program state (Goes gain after) (has_problem reports cards state before) (known reports cards state before) step).1
@@ -101,12 +102,5 @@ module _ (S : Solving) (solving : KnowsSolving S) where
     job = job_holds;
   }
 
-module _ (builds : Verb ℕ → Bool) where
-  knows : BuildsNoSweep (staged builds) ⊎ SweepsKeepBases (staged builds) → KnowsSolving (staged builds)
-  knows sweeps = record { solves = λ sheet s limit bases verdict check solved. solved; shows = λ sheet s lines shown. shown; sweeps = sweeps }
-
-  pub knows_without_sweeps : builds Paraobj ≡ false → builds Pararhs ≡ false → KnowsSolving (staged builds)
-  knows_without_sweeps paraobj pararhs = knows (inl (record { paraobj = paraobj; pararhs = pararhs }))
-
-  pub knows_with_sweeps : SweepsKeepBases (staged builds) → KnowsSolving (staged builds)
-  knows_with_sweeps keep = knows (inr keep)
+pub knows_staged : (builds : Verb ℕ → Bool) → KnowsSolving (staged builds)
+knows_staged builds = record { solves = λ sheet s limit bases verdict check solved. solved; shows = λ sheet s lines shown. shown; ranges = λ sheet s lines ranged. ranged; sweeps = swept_leads }

@@ -1,5 +1,5 @@
 -- Each verb keeps what a run knows, and what it reports holds.
-use Rattle.std.proofs.Common.{◌⊎◌, inl, inr, ◌≡◌, ℕ, Bool, true, false, List, [], ◌∷◌, ◌++◌, refl, sym, subst, ◌∙◌}
+use Rattle.std.proofs.Common.{◌⊎◌, inl, inr, ◌≡◌, ℕ, Bool, true, false, List, [], ◌∷◌, ◌++◌, refl, sym, ap, subst, ◌∙◌}
 use Rattle.std.specs.Prelude.{Option, Some, None, Ok, option_and_then}
 use Rattle.exact_values.specs.Rational.{ℚ}
 use Rattle.lp_definitions.specs.LinearProgram.{LinearProgram}
@@ -24,19 +24,21 @@ use Rattle.listing_definitions.specs.declared.Mark.TheVariants.{Optimal, Infeasi
 use Rattle.listing_definitions.specs.declared.Solver.TheVariants.{Primal as ByPrimal}
 use Rattle.listing_definitions.specs.declared.VerbFault.{VerbFault}
 use Rattle.listing_definitions.specs.Report.{SolutionLines, RangeLines, Verdict, Check, Filed, Report, Converted, Revised, SetUp, Punched, Solved, Solution, Ranges}
-use Rattle.question_definitions.specs.Answers.{Basis, Sheet, Changing, Row, Set, sweeper, Sweep, Question, Answer, OfPath, OfSolution, OfRanges, OfSweep, PathEnd, Reached, PathLimit, SweepEnd, Opening, Chained, SweepLimit}
+use Rattle.question_definitions.specs.Answers.{Basis, Changing, Row, Set, sweeper, Sweep, Question, Answer, OfPath, OfSolution, OfRanges, OfSweep, PathEnd, Reached, PathLimit, SweepEnd, Opening, Chained, SweepLimit}
 use Rattle.question_definitions.specs.Solving.{Solving, IsRight}
 use Rattle.answer_definitions.specs.Verdicts.{verdict_of}
-use Rattle.answer_definitions.specs.Sections.{IsShown}
+use Rattle.answer_definitions.specs.Sections.{IsShown, IsRanged}
 use Rattle.control_definitions.specs.Cells.{Cells, move_name, move_number, set_demand}
 use Rattle.run_definitions.specs.State.{Present, present_basis, gone_through, State, problem_of, choice_of}
 use Rattle.run_definitions.specs.Moves.{Prints, Punches, next, Does}
-use Rattle.run_definitions.specs.Verbs.{size_of, files, not_less, change_row, change_set, asks, mark_of, mark_after, demanded, by_verdict, after_path, after_sweep, shows_present, solves, shows, ranges, sweeps, converts, revises, sets_up, punches, verb_move, if_built, statement_move}
+use Rattle.run_definitions.specs.Verbs.{size_of, files, not_less, change_row, change_set, asks, mark_of, mark_after, demanded, by_verdict, after_path, after_sweep, if_optimal, shows_present, solves, shows, ranges, sweeps, converts, revises, sets_up, punches, verb_move, if_built, statement_move}
 use Rattle.path_laws.specs.Laws.{IsNonsingularBasis}
+use Rattle.path_laws.proofs.Ends.{optimal_end}
 use Rattle.path_laws.proofs.Steps.{opening_is}
 use Rattle.path_laws.proofs.OnePath.{path_leads}
-use Rattle.run_laws.specs.Truth.{PresentProgram, ShowsBest, Holds}
-use Rattle.run_laws.specs.Laws.{KnowsSolving, BuildsNoSweep, SweepsKeepBases, gone_over}
+use Rattle.run_laws.specs.Truth.{PresentProgram, ShowsBest, ShowsRanges, Holds}
+use Rattle.sweep_laws.specs.Laws.{gone_over}
+use Rattle.run_laws.specs.Laws.{KnowsSolving, SweepsKeepBases}
 use Rattle.run_laws.proofs.Ends.{IsProvedBest, shown_is_best, path_is_true}
 use Rattle.run_laws.proofs.Selected.{selected_is_lawful, selected_has_no_change}
 use Rattle.run_laws.proofs.Moves.{HasProblem, EndsOptimally, KnowsMark, Knows, Keeps, IsKept, unmarked, HasBases, KnowsBases, without_setup, with_basis, does, may_stop, answered, unless_fault, unless_deck_fault, unless_selection_fault, selecting}
@@ -95,41 +97,64 @@ present_program setup cells present lp lawful is_setup is = record {
   is_linear_program = selected_is_lawful present.problem (choice_of cells present.options) lp (lawful present is_setup) is;
 }
 
--- ---- SOLUTION
+-- ---- SOLUTION and RANGE
+
+-- where the mark is OPTIMAL, the path has ended at the present basis, in what the cells select now
+module _ (present : Present) (lp : LinearProgram) (cells : Cells) (setup : Option Present) (known : EndsOptimally setup cells.xobj cells.xrhs) (is_setup : setup ≡ Some present)
+    (is : selected present.problem (choice_of cells present.options) ≡ Ok lp) where
+  same_present : known.present ≡ present
+  same_present = let e = sym known.is_setup ∙ is_setup in cc
+
+  moved : (selected present.problem (choice_of cells present.options) ≡ Ok known.lp) × EndsAt known.lp (present_basis present) (EndsOptimal known.point known.prices)
+  moved =
+      subst (λ (x : Present). (selected x.problem (choice_of cells x.options) ≡ Ok known.lp) × EndsAt known.lp (present_basis x) (EndsOptimal known.point known.prices))
+      same_present (known.is_selected, known.ends)
+
+  same_lp : known.lp ≡ lp
+  same_lp = let e = sym moved.0 ∙ is in cc
+
+  ends_here : EndsAt lp (present_basis present) (EndsOptimal known.point known.prices)
+  ends_here = subst (λ p. EndsAt p (present_basis present) (EndsOptimal known.point known.prices)) same_lp moved.1
 
 -- what is shown where the path ended optimal at the present basis is best
 best_shown : (present : Present) (lp : LinearProgram) (cells : Cells) (setup : Option Present) (lines : SolutionLines) → HasProblem setup →
     EndsOptimally setup cells.xobj cells.xrhs → IsNonsingularBasis lp (present_basis present) → setup ≡ Some present → selected present.problem (choice_of cells present.options) ≡ Ok lp →
     IsShown (record { problem = present.problem; lp = lp }) (present_basis present) lines → ShowsBest setup cells lines
-best_shown present lp cells setup lines lawful known at is_setup is shown = record {
-  program = program;
-  is_basis = at;
-  tableau = shown.tableau;
-  is_tableau = shown.is_tableau;
-  are_lines = shown.are_lines;
-  best = proved.best;
-  proving = proved.proving;
-}
-  where
-    program : PresentProgram setup cells
-    program = present_program setup cells present lp lawful is_setup is
+best_shown present lp cells setup lines lawful known at is_setup is shown =
+    let program : PresentProgram setup cells = present_program setup cells present lp lawful is_setup is in
+    let proved : IsProvedBest lp (present_basis present) shown.tableau =
+    shown_is_best lp (present_basis present) shown.tableau known.point known.prices shown.is_tableau (ends_here present lp cells setup known is_setup is) at program.is_linear_program in
+    record {
+      program = program;
+      is_basis = at;
+      tableau = shown.tableau;
+      is_tableau = shown.is_tableau;
+      are_lines = shown.are_lines;
+      best = proved.best;
+      proving = proved.proving;
+    }
 
-    same_present : known.present ≡ present
-    same_present = let e = sym known.is_setup ∙ is_setup in cc
+-- the basis is optimal, whose intervals are shown
+ranges_shown : (present : Present) (lp : LinearProgram) (cells : Cells) (setup : Option Present) (lines : RangeLines) → HasProblem setup →
+    EndsOptimally setup cells.xobj cells.xrhs → IsNonsingularBasis lp (present_basis present) → setup ≡ Some present → selected present.problem (choice_of cells present.options) ≡ Ok lp →
+    IsRanged (record { problem = present.problem; lp = lp }) (present_basis present) lines → ShowsRanges setup cells lines
+ranges_shown present lp cells setup lines lawful known at is_setup is ranged =
+    let program : PresentProgram setup cells = present_program setup cells present lp lawful is_setup is in
+    record {
+      program = program;
+      optimal = (optimal_end lp (present_basis present) known.point known.prices program.is_linear_program at (ends_here present lp cells setup known is_setup is)).optimal;
+      tableau = ranged.tableau;
+      is_tableau = ranged.is_tableau;
+      report = ranged.report;
+      is_report = ranged.is_report;
+      are_lines = ranged.are_lines;
+    }
 
-    moved : (selected present.problem (choice_of cells present.options) ≡ Ok known.lp) × EndsAt known.lp (present_basis present) (EndsOptimal known.point known.prices)
-    moved =
-        subst (λ (x : Present). (selected x.problem (choice_of cells x.options) ≡ Ok known.lp) × EndsAt known.lp (present_basis x) (EndsOptimal known.point known.prices))
-        same_present (known.is_selected, known.ends)
-
-    same_lp : known.lp ≡ lp
-    same_lp = let e = sym moved.0 ∙ is in cc
-
-    ends : EndsAt lp (present_basis present) (EndsOptimal known.point known.prices)
-    ends = subst (λ p. EndsAt p (present_basis present) (EndsOptimal known.point known.prices)) same_lp moved.1
-
-    proved : IsProvedBest lp (present_basis present) shown.tableau
-    proved = shown_is_best lp (present_basis present) shown.tableau known.point known.prices shown.is_tableau ends at program.is_linear_program
+-- no other mark lets RANGE go on
+optimal_alone : (mark left : Mark) → if_optimal mark ≡ Some left → mark ≡ Optimal
+optimal_alone Optimal left e = refl
+optimal_alone Infeasible left e = absurd (cc e)
+optimal_alone Unbounded left e = absurd (cc e)
 
 -- ---- cells
 
@@ -200,12 +225,13 @@ module _ (S : Solving) (solving : KnowsSolving S) where
       unless_fault S state card VerbFault.NotSolved state.mark _ (λ mark m.
       showing card state present (OfSolution mark) (Solution mark) knows (λ lp is lines shown. solution_holds mark state present lp lines lawful knows m e is (solving.shows _ _ lines shown))))
 
-  ranges_kept : (card : ℕ) (state : State) → Knows state → IsKept S state card (ranges card state)
-  ranges_kept card state knows =
+  ranges_kept : (card : ℕ) (state : State) → HasProblem state.setup → Knows state → IsKept S state card (ranges card state)
+  ranges_kept card state lawful knows =
       unless_fault S state card VerbFault.NoSetup state.setup _ (λ present e.
       unless_fault S state card VerbFault.NotSolved state.mark _ (λ mark m.
-      unless_fault S state card VerbFault.NotOptimal _ _ (λ optimal o.
-      showing card state present OfRanges Ranges knows (λ lp is lines shown. tt))))
+      unless_fault {X = Mark} S state card VerbFault.NotOptimal (if_optimal mark) _ (λ left o.
+      showing card state present OfRanges Ranges knows (λ lp is lines shown.
+      ranges_shown present lp state.cells state.setup lines lawful (knows.marked (m ∙ ap (λ (own : Mark). Some own) (optimal_alone mark left o))) ((knows.bases present e).in_each state.cells.xobj state.cells.xrhs lp is) e is (solving.ranges _ _ lines shown)))))
 
   swept : (card : ℕ) (sweep : Sweep) (present : Present) (state : State) (lp : LinearProgram) → selected present.problem (choice_of state.cells present.options) ≡ Ok lp → (end : SweepEnd) →
       IsNonsingularBasis lp (last_of (present_basis present) (gone_over end)) → Keeps state (after_sweep card sweep present state end)
@@ -267,14 +293,6 @@ module _ (S : Solving) (solving : KnowsSolving S) where
   punches_kept : (card : ℕ) (state : State) → Knows state → IsKept S state card (punches card state)
   punches_kept card state knows = unless_fault S state card VerbFault.NoProblem (problem_of state.cells.xpbname state.file) _ (λ problem e. punched card state problem.name _ _ knows)
 
-  -- a parametric verb that is built keeps to bases
-  with_sweeps : {X : Type 0} (verb : Verb ℕ) → S.builds verb ≡ true → (BuildsNoSweep S → S.builds verb ≡ false) → (SweepsKeepBases S → X) → X
-  with_sweeps {X} verb built unbuilt by = at solving.sweeps
-    where
-      at : BuildsNoSweep S ⊎ SweepsKeepBases S → X
-      at (inl none) = let e = unbuilt none in absurd (cc e)
-      at (inr keep) = by keep
-
   verb_kept : (verb : Verb ℕ) (card : ℕ) (state : State) → HasProblem state.setup → Knows state → S.builds verb ≡ true → IsKept S state card (verb_move verb card state)
   unfolding verb_move
   verb_kept Initialz card state lawful knows built = does S state card _ (tt, record { marked = unmarked _ _ _; bases = knows.bases })
@@ -289,9 +307,9 @@ module _ (S : Solving) (solving : KnowsSolving S) where
   verb_kept (Setup options) card state lawful knows built = sets_up_kept card options state
   verb_kept Primal card state lawful knows built = solving_kept card state lawful knows
   verb_kept SolutionVerb card state lawful knows built = shows_kept card state lawful knows
-  verb_kept Ranging card state lawful knows built = ranges_kept card state knows
-  verb_kept Paraobj card state lawful knows built = with_sweeps Paraobj built (λ none. none.paraobj) (λ keep. sweeps_kept card VerbFault.NoChangeRow change_row state.cells.xchrow state keep knows)
-  verb_kept Pararhs card state lawful knows built = with_sweeps Pararhs built (λ none. none.pararhs) (λ keep. sweeps_kept card VerbFault.NoChangeSet change_set state.cells.xchcol state keep knows)
+  verb_kept Ranging card state lawful knows built = ranges_kept card state lawful knows
+  verb_kept Paraobj card state lawful knows built = sweeps_kept card VerbFault.NoChangeRow change_row state.cells.xchrow state solving.sweeps knows
+  verb_kept Pararhs card state lawful knows built = sweeps_kept card VerbFault.NoChangeSet change_set state.cells.xchcol state solving.sweeps knows
   verb_kept Bcdout card state lawful knows built = punches_kept card state knows
   verb_kept Exit card state lawful knows built = does S state card _ tt
 

@@ -1,23 +1,25 @@
 -- What the reports of a run say of linear programs.
 --     PresentProgram setup cells   the linear program that is selected of the setup
 --     ShowsBest ..                 the lines of SOLUTION show what is best
+--     ShowsRanges ..               the lines of RANGE show where the basis stays optimal
 --     IsTrueOf sheet verdict       what a verdict says of a linear program
 --     Holds state report           a report that is made in a state holds of it
 use Rattle.std.specs.Prelude.{◌≡◌, List, Option, Some, Ok}
 use Rattle.exact_values.specs.Rational.{ℚ}
 use Rattle.lp_definitions.specs.LinearProgram.{LinearProgram, value_at, objective_value, IsLinearProgram}
 use Rattle.lp_definitions.specs.Solutions.{IsBest, AreProvingPrices, IsCrossed, IsRay, ProvesUnbounded, IsInfeasible, IsUnbounded}
-use Rattle.lp_definitions.specs.Basis.{basics_of, Tableau, IsTableau, price_at}
+use Rattle.lp_definitions.specs.Basis.{basics_of, Tableau, IsTableau, IsOptimalBasis, price_at}
+use Rattle.postoptimal_definitions.specs.Ranges.{RangeReport, IsRangeReport}
 use Rattle.path_laws.specs.Laws.{IsNonsingularBasis}
 use Rattle.problem_definitions.specs.Valid.{IsProblem}
 use Rattle.control_definitions.specs.Cells.{Cells}
 use Rattle.selection_definitions.specs.Selection.{selected}
 use Rattle.listing_definitions.specs.declared.Mark.TheVariants.{Optimal}
 use Rattle.listing_definitions.specs.declared.Solver.TheVariants.{Primal as ByPrimal}
-use Rattle.listing_definitions.specs.Report.{Line, SolutionLines, Verdict, OptimalAt, CrossedAt, InfeasibleBy, UnboundedBy, Report, Solved, Solution}
+use Rattle.listing_definitions.specs.Report.{Line, SolutionLines, RangeLines, Verdict, OptimalAt, CrossedAt, InfeasibleBy, UnboundedBy, Report, Solved, Solution, Ranges}
 use Rattle.question_definitions.specs.Answers.{Sheet}
 use Rattle.answer_definitions.specs.Lines.{pair_lines, ray_lines}
-use Rattle.answer_definitions.specs.Sections.{solution_lines}
+use Rattle.answer_definitions.specs.Sections.{solution_lines, range_lines}
 use Rattle.run_definitions.specs.State.{Present, present_basis, State, choice_of}
 
 -- There is a setup; and the linear program is selected of its problem with its options and with these
@@ -45,6 +47,19 @@ pub record ShowsBest (setup : Option Present) (cells : Cells) (lines : SolutionL
   pub best : IsBest program.lp tableau.point
   pub proving : AreProvingPrices program.lp tableau.point
       (price_at program.lp (basics_of (present_basis program.present)) tableau.rate)
+
+-- The lines are those of the present basis, which is optimal. They print the ends of the intervals of a
+-- report: for each limit at which a nonbasic stands, for each cost of a column, and for each basic row but
+-- the objective, a value lies between the ends exactly where the basis is optimal in the linear program
+-- that is changed by this value.
+pub record ShowsRanges (setup : Option Present) (cells : Cells) (lines : RangeLines) : Type 0 where
+  pub program : PresentProgram setup cells
+  pub optimal : IsOptimalBasis program.lp (present_basis program.present)
+  pub tableau : Tableau
+  pub is_tableau : IsTableau program.lp (present_basis program.present) tableau
+  pub report : RangeReport
+  pub is_report : IsRangeReport program.lp (present_basis program.present) report
+  pub are_lines : lines ≡ range_lines (sheet_of program) (present_basis program.present) tableau report
 
 -- the objective is that of a best point
 pub record IsBestObjective (p : LinearProgram) (objective : ℚ) : Type 0 where
@@ -77,10 +92,11 @@ IsTrueOf sheet (InfeasibleBy steps lines) = AreLinesOfRay sheet lines × IsInfea
 IsTrueOf sheet (UnboundedBy steps objective lines) = AreLinesOfDirection sheet objective lines × IsUnbounded sheet.lp
 
 -- What a report says of the linear program that is selected in the state in which it is made: SOLUTION
--- OPTIMAL shows what is best in it, and a verdict of PRIMAL is true of it. The other reports say nothing
--- of a linear program yet.
+-- OPTIMAL shows what is best in it, RANGE shows where its basis stays optimal, and a verdict of PRIMAL is
+-- true of it. The other reports say nothing of a linear program yet.
 abbrev pub Holds : State → Report → Type 0
 Holds state (Solution Optimal lines) = ShowsBest state.setup state.cells lines
+Holds state (Ranges lines) = ShowsRanges state.setup state.cells lines
 Holds state (Solved ByPrimal verdict check) =
     (program : PresentProgram state.setup state.cells) × IsTrueOf (sheet_of program) verdict
 Holds state report = Unit {0}

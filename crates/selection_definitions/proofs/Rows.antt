@@ -83,7 +83,7 @@ item row value = record { row = row; value = record { text = []; value = whole v
 set : {X : Type 0} → String → List X → Group X
 set name items = record { name = codes name; items = items }
 
--- two N rows behind a row of another type, two right-hand side sets, and one set of ranges and of bounds
+-- two N rows after a row of another type, two right-hand side sets, and one set of ranges and of bounds
 problem : Problem ℕ
 problem = record {
   name = codes "T";
@@ -109,7 +109,7 @@ no_fault : (selection_fault problem (choice None None None None) ≡ None) × (s
 unfolding problem choice selection_fault row set item bound whole
 no_fault = (refl, refl)
 
--- each fault, where those behind it hold too
+-- each fault, where those after it hold too
 faults : (selection_fault problem (choice (Some "Z") (Some "Z") (Some "Z") (Some "Z")) ≡ Some NoObjective)
     × (selection_fault problem (choice (Some "LOW") (Some "Z") (Some "Z") (Some "Z")) ≡ Some ObjectiveNotFree)
     × (selection_fault problem (choice None (Some "Z") (Some "Z") (Some "Z")) ≡ Some NoRhsSet)

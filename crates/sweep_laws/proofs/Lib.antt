@@ -6,3 +6,5 @@ pub mod Alike
 pub mod OneObjective
 pub mod OneRhs
 pub mod OneRun
+pub mod NotBoth
+pub mod OneEnd

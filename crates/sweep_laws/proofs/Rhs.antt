@@ -13,7 +13,8 @@ use Rattle.path_laws.specs.Laws.{IsNonsingularBasis}
 use Rattle.path_laws.proofs.Numbered.{get_or-listed}
 use Rattle.path_laws.proofs.Searches.{found_passes}
 use Rattle.postoptimal_definitions.specs.Chain.{FaceMoves}
-use Rattle.postoptimal_definitions.specs.RhsRun.{shift_of, shifted, rhs_family, leaves_below, leaves_above, leaving, brings_back, is_cheapest, cheapest, face_exchange, face_at, rhs_face, IsRhsFace}
+use Rattle.path_definitions.specs.DualRatio.{brings_back, is_cheapest, cheapest}
+use Rattle.postoptimal_definitions.specs.RhsRun.{shift_of, shifted, rhs_family, leaves_below, leaves_above, leaving, face_exchange, face_at, rhs_face, IsRhsFace}
 use Rattle.sweep_laws.proofs.Leads.{and_parts, IsMover, is_mover, signed_zero, MayStand, lower_apart, upper_apart, exchange_leads}
 
 -- ---- only the presence of limits counts
@@ -123,17 +124,17 @@ module _ (p : LinearProgram) (shift : List ℚ) (theta : ℚ) (s : List Status) 
   -- q brings r back to the limit that it would break
   record IsFaceExchange (m : Move) (r q : ℕ) : Type 0 where
     leaves : leaving p shift theta s t v ≡ Some r
-    enters : cheapest p shift theta s t v r (below r) ≡ Some q
+    enters : cheapest p s t r (below r) ≡ Some q
     gives : m ≡ record { enters = q; leaves = r; to = if below r then Ll else Ul }
 
-  entered_move : (m : Move) (r : ℕ) → leaving p shift theta s t v ≡ Some r → (o : Option ℕ) → cheapest p shift theta s t v r (below r) ≡ o →
+  entered_move : (m : Move) (r : ℕ) → leaving p shift theta s t v ≡ Some r → (o : Option ℕ) → cheapest p s t r (below r) ≡ o →
       face_exchange p shift theta s t v r (below r) o ≡ FaceMoves m → (r : ℕ) × (q : ℕ) × IsFaceExchange m r q
   entered_move m r leaves (Some q) enters e =
       let same : m ≡ record { enters = q; leaves = r; to = if below r then Ll else Ul } = cc in (r, q, record { leaves = leaves; enters = enters; gives = same })
   entered_move m r leaves None enters e = cc
 
   found_move : (m : Move) (o : Option ℕ) → leaving p shift theta s t v ≡ o → face_at p shift theta s t v o ≡ FaceMoves m → (r : ℕ) × (q : ℕ) × IsFaceExchange m r q
-  found_move m (Some r) leaves e = entered_move m r leaves (cheapest p shift theta s t v r (below r)) refl e
+  found_move m (Some r) leaves e = entered_move m r leaves (cheapest p s t r (below r)) refl e
   found_move m None leaves e = cc
 
   face_move : (m : Move) → rhs_face p shift theta s t v ≡ FaceMoves m → (r : ℕ) × (q : ℕ) × IsFaceExchange m r q
@@ -155,12 +156,12 @@ module _ (p : LinearProgram) (shift : List ℚ) (theta : ℚ) (s : List Status) 
           (below r) refl tests.1;
     }
 
-    entered : IsVariable p.matrix q × ((brings_back p shift theta s t v r (below r) q && is_cheapest p shift theta s t v r (below r) q) ≡ true)
-    entered = found_passes p (λ q. brings_back p shift theta s t v r (below r) q && is_cheapest p shift theta s t v r (below r) q) q move.enters
+    entered : IsVariable p.matrix q × ((brings_back p s t r (below r) q && is_cheapest p s t r (below r) q) ≡ true)
+    entered = found_passes p (λ q. brings_back p s t r (below r) q && is_cheapest p s t r (below r) q) q move.enters
 
     mover : IsMover p s (excess_rate t.rate r (below r)) q
     mover = is_mover p s (excess_rate t.rate r (below r)) q at entered.0
-        (and_parts (brings_back p shift theta s t v r (below r) q) (is_cheapest p shift theta s t v r (below r) q) entered.1).0
+        (and_parts (brings_back p s t r (below r) q) (is_cheapest p s t r (below r) q) entered.1).0
 
     pivot : t.rate r q ≢ zero_ℚ
     pivot zero = mover.rate_apart (ap (signed (not (below r))) zero ∙ signed_zero (not (below r)))

@@ -35,7 +35,7 @@ module _ (p : LinearProgram) (family : ℚ → LinearProgram) (Face : ℚ → Li
   face_path_leads theta s (next ∷ bases) at path = face_path_leads theta next bases (face_step_leads theta s next at path.0) path.1
 
   module _ (from max : ℚ) (s : List Status) (at : IsNonsingularBasis p s) where
-    reached_leads : (place : Place) (path : List (List Status)) (ends : List ℚ) → Reaches family Face from max s place path ends → IsNonsingularBasis p (basis_of place)
+    pub reached_leads : (place : Place) (path : List (List Status)) (ends : List ℚ) → Reaches family Face from max s place path ends → IsNonsingularBasis p (basis_of place)
     reached_leads _ _ _ begins = at
     reached_leads _ _ _ (path_step {now} {next} {path} before step) =
         keeps.from_family from next (step_leads (family from) now next (keeps.to_family from now (reached_leads (InOpening now) path [] before)) step)

@@ -1,19 +1,20 @@
 -- The laws of parametric runs, as the functions of src/lib.rt promise them.
 --     gone_over end                the bases that a parametric run has gone over
---     LeadsToBases p family Face   from a nonsingular basis each run of the family leads to nonsingular bases
+--     LeadsToBases p family Face   from a nonsingular basis a run leads to nonsingular bases alone
 --     HasOneReport p family Face   from a nonsingular basis there is one run, with one report
---     BasisLaws                    so do the runs of the objective, those of the right-hand side, and what the verbs print of them
-use Rattle.std.specs.Prelude.{◌≡◌, ℕ, List, []}
+--     BasisLaws                    the first: runs of the objective, of the right-hand side, and what the verbs print of them
+--     ReportLaws                   the second of the same
+use Rattle.std.specs.Prelude.{◌≡◌, ℕ, ◌≤◌, List, [], length}
 use Rattle.exact_values.specs.Rational.{ℚ}
 use Rattle.lp_definitions.specs.LinearProgram.{LinearProgram, IsRow, HasNoLimits, IsLinearProgram}
 use Rattle.lp_definitions.specs.declared.Status.{Status}
 use Rattle.path_definitions.specs.Path.{last_of}
 use Rattle.path_laws.specs.Laws.{IsNonsingularBasis}
-use Rattle.postoptimal_definitions.specs.Chain.{FaceTurn, RunReport, Place, basis_of, Reaches, IsReport}
+use Rattle.postoptimal_definitions.specs.Chain.{FaceTurn, RunReport, Place, basis_of, Reaches, IsReport, RunGoesOnFor}
 use Rattle.postoptimal_definitions.specs.ObjectiveRun.{objective_family, IsObjectiveFace}
 use Rattle.postoptimal_definitions.specs.RhsRun.{rhs_family, IsRhsFace}
-use Rattle.question_definitions.specs.Answers.{Basis, Sheet, Sweep, SweepEnd, Opening, Chained, SweepLimit}
-use Rattle.answer_definitions.specs.Sweeps.{IsSwept}
+use Rattle.question_definitions.specs.Answers.{Basis, Sheet, Changing, Row, Set, Sweep, SweepEnd, Opening, Chained, SweepLimit}
+use Rattle.answer_definitions.specs.Sweeps.{row_of, IsSwept}
 
 -- a run that hasn't ended within its limit tells of no bases
 abbrev pub gone_over : SweepEnd → List Basis
@@ -21,13 +22,19 @@ gone_over (Opening bases verdict check) = bases
 gone_over (Chained bases intervals end) = bases
 gone_over SweepLimit = []
 
--- a run that begins with a nonsingular basis of p stands at one after each step, and ends with one, be it by a failed opening or by
--- a chain
-pub record LeadsToBases (p : LinearProgram) (family : ℚ → LinearProgram) (Face : ℚ → List Status → FaceTurn → Type 0) : Type 0 where
-  pub each : (from max : ℚ) (s : List Status) (place : Place) (path : List (List Status)) (ends : List ℚ) → IsNonsingularBasis p s →
-      Reaches family Face from max s place path ends → IsNonsingularBasis p (basis_of place)
-  pub last : (from max : ℚ) (s : List Status) (report : RunReport) (path : List (List Status)) → IsNonsingularBasis p s →
-      IsReport family Face from max s report path → IsNonsingularBasis p (last_of s path)
+-- what is done at a break with this value and basis
+abbrev pub Faces : Type 1
+Faces = ℚ → List Status → FaceTurn → Type 0
+
+-- a run that begins with a nonsingular basis of p stands at one after each step, and ends with one, be
+-- it by a failed opening or by a chain
+pub record LeadsToBases (p : LinearProgram) (family : ℚ → LinearProgram) (Face : Faces) : Type 0 where
+  pub each : (from max : ℚ) (s : List Status) (place : Place) (path : List (List Status)) (ends : List ℚ) →
+      IsNonsingularBasis p s → Reaches family Face from max s place path ends →
+      IsNonsingularBasis p (basis_of place)
+  pub last : (from max : ℚ) (s : List Status) (report : RunReport) (path : List (List Status)) →
+      IsNonsingularBasis p s → IsReport family Face from max s report path →
+      IsNonsingularBasis p (last_of s path)
 
 pub record BasisLaws : Type 0 where
   -- theta times row h is added to the objective
@@ -43,13 +50,30 @@ pub record SameReports (report other : RunReport) (path further : List (List Sta
   pub same_report : report ≡ other
   pub same_path : path ≡ further
 
--- two reports of a run from a nonsingular basis of p are one, and so are its bases
-pub record HasOneReport (p : LinearProgram) (family : ℚ → LinearProgram) (Face : ℚ → List Status → FaceTurn → Type 0) : Type 0 where
-  pub one_report : (from max : ℚ) (s : List Status) (report other : RunReport) (path further : List (List Status)) → IsNonsingularBasis p s →
-      IsReport family Face from max s report path → IsReport family Face from max s other further → SameReports report other path further
+-- two reports of a run from a nonsingular basis of p are one, and so are its bases; a run that has ended
+-- within so many steps doesn't go on after them
+pub record HasOneReport (p : LinearProgram) (family : ℚ → LinearProgram) (Face : Faces) : Type 0 where
+  pub one_report : (from max : ℚ) (s : List Status) (report other : RunReport)
+      (path further : List (List Status)) → IsNonsingularBasis p s →
+      IsReport family Face from max s report path → IsReport family Face from max s other further →
+      SameReports report other path further
+  pub not_both : (from max : ℚ) (s : List Status) (report : RunReport) (path : List (List Status))
+      (steps : ℕ) → IsNonsingularBasis p s → IsReport family Face from max s report path →
+      length path ≤ steps → RunGoesOnFor family Face from max s steps → ⊥
+
+-- what PARAOBJ changes is a row without limits
+abbrev pub ChangesFreely : Sheet → Changing → Type 0
+ChangesFreely sheet (Row name) =
+    IsRow sheet.lp.matrix (row_of sheet.problem name) × HasNoLimits sheet.lp (row_of sheet.problem name)
+ChangesFreely sheet (Set name) = Unit {0}
 
 pub record ReportLaws : Type 0 where
   -- the change row is a row without limits
   pub objective : (p : LinearProgram) (h : ℕ) → IsLinearProgram p → IsRow p.matrix h → HasNoLimits p h →
       HasOneReport p (objective_family p h) (IsObjectiveFace p h)
-  pub rhs : (p : LinearProgram) (shift : List ℚ) → IsLinearProgram p → HasOneReport p (rhs_family p shift) (IsRhsFace p shift)
+  pub rhs : (p : LinearProgram) (shift : List ℚ) → IsLinearProgram p →
+      HasOneReport p (rhs_family p shift) (IsRhsFace p shift)
+  -- what PARAOBJ or PARARHS prints is one thing
+  pub one_end : (sheet : Sheet) (s : Basis) (sweep : Sweep) (end other : SweepEnd) →
+      IsLinearProgram sheet.lp → ChangesFreely sheet sweep.changing → IsNonsingularBasis sheet.lp s →
+      IsSwept sheet s sweep end → IsSwept sheet s sweep other → end ≡ other

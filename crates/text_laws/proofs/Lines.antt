@@ -29,7 +29,7 @@ no_blank_first (x ∷ a) r s all some e =
     let digit : is_digit 32 ≡ true = ap is_digit (sym (heads x 32 (a ++ r) s e).0) ∙ (both (is_digit x) (list_all is_digit a) all).0 in
     cc digit
 
--- digits at the right of some places, with a blank behind them
+-- digits at the right of some places, with a blank after them
 right_tells : (j k : ℕ) (a b r s : List ℕ) → list_all is_digit a ≡ true → list_any is_digit a ≡ true → list_all is_digit b ≡ true → list_any is_digit b ≡ true
     → replicate j 32 ++ (a ++ 32 ∷ r) ≡ replicate k 32 ++ (b ++ 32 ∷ s) → (a ≡ b) × (r ≡ s)
 right_tells zero zero a b r s a_all a_some b_all b_some e =
@@ -45,7 +45,7 @@ name_tells x y r s x_named y_named e =
     let parts = same_front (padded 8 x) (padded 8 y) r s (length-padded 8 x x_named.short ∙ sym (length-padded 8 y y_named.short)) e in
     (sym (name_in_places x x_named) ∙ ap text_in parts.0 ∙ name_in_places y y_named, parts.1)
 
--- a line with what stands behind it, in its parts
+-- a line with what stands after it, in its parts
 parted : (line : Line) (r : List ℕ) → line_text line ++ r ≡ replicate (5 - length (digits line.number)) 32 ++ (digits line.number ++ 32 ∷ (name8 line.name ++ (values_text line.values ++ 10 ∷ r)))
 parted line r = simp (append_assoc, append-nil)
 

@@ -17,7 +17,7 @@ use Rattle.text_laws.proofs.Words.{number_then, rational_then, name_then, solver
 
 -- ---- verdicts
 
--- a verdict's first line and what stands behind it: the check, and the table
+-- a verdict's first line and what stands after it: the check, and the table
 abbrev pub shown : Verdict → Check → List ℕ
 shown verdict check = verdict_head verdict ++ (codes " " ++ (check_text check ++ (codes "\n" ++ (table_text (verdict_lines verdict) ++ []))))
 
@@ -34,7 +34,7 @@ crossed_parts : (number : ℕ) (rest : List ℕ) → verdict_head (CrossedAt num
 unfolding digits
 crossed_parts number rest = simp (append_assoc, append-nil)
 
--- the steps and the objective, with what stands behind them
+-- the steps and the objective, with what stands after them
 objective_then : (m n : ℕ) (x y : ℚ) (r s : List ℕ) → digits m ++ (codes " OBJECTIVE " ++ (rational_text x ++ (codes " " ++ r))) ≡ digits n ++ (codes " OBJECTIVE " ++ (rational_text y ++ (codes " " ++ s))) → (m ≡ n) × (x ≡ y) × (r ≡ s)
 objective_then m n x y r s e =
     let steps = number_then (codes " OBJECTIVE ") m n _ _ refl e in
@@ -229,7 +229,7 @@ module _ (solver : Solver) where
 same_chain : (x y : Chain) → x.from ≡ y.from → x.change ≡ y.change → x.intervals ≡ y.intervals → x.end ≡ y.end → x ≡ y
 same_chain x y first change intervals end = λ i. record { from = first i; change = change i; intervals = intervals i; end = end i }
 
--- a run behind the first blank of its text
+-- a run after the first blank of its text
 abbrev chain_rest : Solver → Chain → List ℕ
 chain_rest solver chain =
     codes "FROM " ++ (rational_text chain.from ++ (codes " CHANGE " ++ (chain.change ++ (codes "\n" ++ run_text solver 1 chain.intervals chain.end))))

@@ -125,7 +125,7 @@ value_goes_on (Number x) = weaker is_of_number (λ byte. not (ends_value byte)) 
 value_goes_on Absent = refl
 value_goes_on Dash = refl
 
--- what stands behind a value begins with a blank or ends the line
+-- what stands after a value begins with a blank or ends the line
 record Ends (rest : List ℕ) : Type 0 where
   byte : ℕ
   bytes : List ℕ
@@ -136,7 +136,7 @@ values_end : (xs : List Value) (behind : List ℕ) → Ends (values_text xs ++ 1
 values_end [] behind = record { byte = 10; bytes = behind; is = refl; ends = refl }
 values_end (x ∷ xs) behind = record { byte = 32; bytes = (value_text x ++ values_text xs) ++ 10 ∷ behind; is = refl; ends = refl }
 
--- two values with what stands behind them
+-- two values with what stands after them
 one_value : (x y : Value) (r s : List ℕ) → Ends r → Ends s → value_text x ++ r ≡ value_text y ++ s → (x ≡ y) × (r ≡ s)
 one_value x y r s r_ends s_ends e =
     let whole : value_text x ++ r_ends.byte ∷ r_ends.bytes ≡ value_text y ++ s_ends.byte ∷ s_ends.bytes =

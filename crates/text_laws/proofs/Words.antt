@@ -32,7 +32,7 @@ stops p (x ∷ xs) = not (p x)
 twice : (p : ℕ → Bool) (x : ℕ) → p x ≡ true → not (not (p x)) ≡ true
 twice p x e = ap (λ b. not (not b)) e
 
--- two texts of bytes of a kind, each with the same word behind it, which isn't of the kind
+-- two texts of bytes of a kind, each with the same word after it, which isn't of the kind
 pub then_word : (p : ℕ → Bool) (word a b r s : List ℕ) → stops p word ≡ true → list_all p a ≡ true → list_all p b ≡ true → a ++ (word ++ r) ≡ b ++ (word ++ s) → (a ≡ b) × (r ≡ s)
 then_word p [] a b r s stop a_all b_all e = cc stop
 then_word p (c ∷ word) a b r s stop a_all b_all e =

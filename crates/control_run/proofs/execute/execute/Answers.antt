@@ -41,7 +41,7 @@ pub returns-in-Revise-clause-acts : goal.returns-in-Revise-clause-acts
 returns-in-Revise-clause-acts g c = rw c.in-Revise.is c.revise.ensures.acts
 
 pub returns-in-Ranging-clause-acts : goal.returns-in-Ranging-clause-acts
-returns-in-Ranging-clause-acts g c = rw c.in-Ranging.is (unbuilt_executes g.P.Sink.written g.P.Sink.faults g.P.Sink.refusals c.args.print.now program.Ranging c.args.card c.args.cards.now c.args.machine.now refl)
+returns-in-Ranging-clause-acts g c = rw c.in-Ranging.is (c.show_ranges.ensures.acts c.args.cards.now)
 
 pub returns-in-Paraobj-clause-acts : goal.returns-in-Paraobj-clause-acts
 returns-in-Paraobj-clause-acts g c = rw c.in-Paraobj.is (unbuilt_executes g.P.Sink.written g.P.Sink.faults g.P.Sink.refusals c.args.print.now program.Paraobj c.args.card c.args.cards.now c.args.machine.now refl)

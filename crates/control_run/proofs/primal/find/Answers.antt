@@ -2,13 +2,13 @@
 use Rattle.std.proofs.Common.{Ok, Err, refl, sym, subst}
 use Rattle.std.proofs.lemmas.Result.{err_from_is_err_and}
 use Rattle.lp_definitions.specs.LinearProgram.{LinearProgram, IsLinearProgram}
-use Rattle.question_definitions.specs.Answers.{Basis}
+use Rattle.question_definitions.specs.Answers.{Basis, Sheet}
 use Rattle.run_definitions.specs.State.{choice_of}
 use Rattle.control_run.specs.declared.machine.Setup.{Setup}
-use Rattle.control_run.specs.Engine.{Engine}
-use Rattle.control_run.specs.Standing.{IsSelected}
+use Rattle.control_run.specs.Engine.{Engine, ways}
+use Rattle.control_run.specs.Standing.{IsSolved}
 use Rattle.control_run.proofs.Selected.{no_change}
-use Rattle.control_run.proofs.Solving_steps.{as_many_rows, as_many_columns, ready_rates, ready_again, ready_solved, now_selected, refusal_told, refusal_ends, always_ends, path_told}
+use Rattle.control_run.proofs.Solving_steps.{as_many_rows, as_many_columns, ready_rates, ready_again, ready_solved, now_selected, refusal_told, refusal_ends, solved_ends, path_told}
 use Rattle.control_run.proofs.primal.find.Goals as goal
 
 pub returns-in-Err-clause-tells : goal.returns-in-Err-clause-tells
@@ -61,10 +61,7 @@ solved_setup setup lp basis engine = record { name = setup.name; options = setup
 pub returns-clause-solved : goal.returns-clause-solved
 returns-clause-solved g c =
     let after : Setup = solved_setup c.args.setup.now c.in-Ok.lp c.follow.new.basis c.follow.new.rates in
-    always_ends c.in_ok-finding.finding (IsSelected c.args.cells.now c.args.file.now after)
-    (now_selected c.args.file.now c.args.setup.now c.requires c.in-Some.problem.now (sym c.in-Some.ensures) c.args.cells.now c.in-Ok.lp c.in-Ok.ensures.selected after refl refl refl)
-
-pub returns-clause-kept : goal.returns-clause-kept
-returns-clause-kept g c = λ kept.
-    now_selected c.args.file.now c.args.setup.now c.requires c.in-Some.problem.now (sym c.in-Some.ensures) c.args.cells.now c.in-Ok.lp c.in-Ok.ensures.selected
-    (solved_setup c.args.setup.now c.in-Ok.lp c.follow.new.basis c.follow.new.rates) refl refl refl
+    let sheet : Sheet = record { problem = c.in-Some.problem.now; lp = c.in-Ok.lp } in
+    solved_ends sheet c.args.setup.now.basis c.follow.new.basis c.limit.result (ways c.args.setup.now.engine) (ways c.follow.new.rates) c.in_ok-finding.ensures.tells.gain c.in_ok-finding.finding
+    (subst IsLinearProgram c.lp.view_is c.lp.invariant) (record { is_basis = c.follow.ensures.rates.is_basis; nonsingular = c.follow.ensures.rates.nonsingular }) c.in_ok-finding.ensures.tells.holds
+    (λ mark. IsSolved mark c.args.cells.now c.args.file.now after) (λ mark optimal. record { is_selected = now_selected c.args.file.now c.args.setup.now c.requires c.in-Some.problem.now (sym c.in-Some.ensures) c.args.cells.now c.in-Ok.lp c.in-Ok.ensures.selected after refl refl refl; optimal = optimal })

@@ -1,7 +1,7 @@
 -- What is found decides what follows.
-use Rattle.std.proofs.Common.{Some}
+use Rattle.std.proofs.Common.{None, Some}
 use Rattle.std.proofs.lemmas.Result.{err_from_is_err_and}
-use Rattle.control_run.proofs.Keeping.{ready_of, sound_kept, sound_found}
+use Rattle.control_run.proofs.Keeping.{ready_of, sound_cleared, sound_found}
 use Rattle.control_run.proofs.Primal_comes.{primal_no_setup, primal_found, primal_cut}
 use Rattle.control_run.proofs.primal.solve.Goals as goal
 
@@ -14,11 +14,11 @@ returns-in_err-finding-clause-acts g c = λ cards.
     let ready = ready_of c.args.machine.now.file c.args.machine.now.setup c.in-Some.setup c.in-Some.is c.requires.ready in
     rw (p.1, p.2)
     (primal_cut c.args.card g.P.Sink.written g.P.Sink.faults g.P.Sink.refusals c.args.print.now c.find.new.print cards c.args.machine.now c.in-Some.setup c.find.new.setup c.in-Some.is ready c.requires.demands
-    (record (c.args.machine.now) { setup = Some c.find.new.setup }) c.in_err-finding.field-0.0 (c.in_err-finding.ensures.tells ready.problem ready.on_file))
+    (record (c.args.machine.now) { setup = Some c.find.new.setup; mark = None }) c.in_err-finding.field-0.0 (c.in_err-finding.ensures.tells ready.problem ready.on_file))
 
 pub returns-in_err-finding-clause-sound : goal.returns-in_err-finding-clause-sound
 returns-in_err-finding-clause-sound g c = λ cards sound.
-    sound_kept cards c.args.machine.now c.in-Some.setup c.find.new.setup c.in-Some.is c.find.ensures.ready c.find.ensures.kept sound
+    sound_cleared cards c.args.machine.now c.in-Some.setup c.find.new.setup c.find.ensures.ready sound
 
 pub returns-clause-acts : goal.returns-clause-acts
 returns-clause-acts g c = λ cards.
@@ -28,5 +28,5 @@ returns-clause-acts g c = λ cards.
 
 pub returns-clause-sound : goal.returns-clause-sound
 returns-clause-sound g c = λ cards sound.
-    sound_found cards c.args.machine.now c.in-Some.setup c.find.new.setup c.in-Some.is c.find.ensures.ready c.find.ensures.kept sound c.in_ok-finding.finding c.mark_left-machine.result c.mark_left-machine.ensures
+    sound_found cards c.args.machine.now c.in-Some.setup c.find.new.setup c.find.ensures.ready sound c.in_ok-finding.finding c.mark_left-machine.result c.mark_left-machine.ensures
     c.in_ok-finding.ensures.solved

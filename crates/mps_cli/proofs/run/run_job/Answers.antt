@@ -3,7 +3,7 @@ use Rattle.run_definitions.specs.Answer.{Read}
 use Rattle.mps_cli.specs.declared.stop.Stop.TheVariants.{Words}
 use Rattle.mps_cli.proofs.May_end.{prepared_of}
 use Rattle.mps_cli.proofs.Why.{why, ending_cause, run_cause}
-use Rattle.mps_cli.proofs.Truth.{words_headline, stop_headline, run_headline}
+use Rattle.mps_cli.proofs.Truth.{complete_answer, words_headline, stop_headline, run_headline}
 use Rattle.mps_cli.proofs.run.run_job.Goals as goal
 
 -- ---- the words are refused
@@ -12,6 +12,9 @@ pub returns-then-not-is_empty-clause-headline : goal.returns-then-not-is_empty-c
 returns-then-not-is_empty-clause-headline g c =
     words_headline (length c.args.words.now) _ c.end_job.result g.P.Sink.written g.P.Sink.faults g.P.Sink.refusals _ _ (g.U.Sink.written c.args.punch.now) (search rules) c.end_job.ensures
 
+pub returns-then-not-is_empty-clause-complete : goal.returns-then-not-is_empty-clause-complete
+returns-then-not-is_empty-clause-complete g c asked is = complete_answer (returns-then-not-is_empty-clause-headline g c asked is)
+
 -- ---- the program is run
 
 pub returns-in-Ok-clause-headline : goal.returns-in-Ok-clause-headline
@@ -19,6 +22,9 @@ returns-in-Ok-clause-headline g c =
     run_headline (length c.args.words.now) _ c.run_program.result _ _ _ _ _ _ (search rules) (λ bytes known.
     let are = prepared_of bytes c.in-Ok.prepared known c.in-Ok.ensures.prepared in
     c.run_program.ensures.answer (Read bytes) bytes refl are.1 are.0)
+
+pub returns-in-Ok-clause-complete : goal.returns-in-Ok-clause-complete
+returns-in-Ok-clause-complete g c asked is = complete_answer (returns-in-Ok-clause-headline g c asked is)
 
 pub returns-in-Ok-clause-cause : goal.returns-in-Ok-clause-cause
 returns-in-Ok-clause-cause g c =
@@ -29,6 +35,9 @@ returns-in-Ok-clause-cause g c =
 pub returns-in-Err-clause-headline : goal.returns-in-Err-clause-headline
 returns-in-Err-clause-headline g c =
     stop_headline (length c.args.words.now) _ c.end_job-in-Err.result g.P.Sink.written g.P.Sink.faults g.P.Sink.refusals _ _ (g.U.Sink.written c.args.punch.now) _ c.in-Err.stop (search rules) c.in-Err.ensures.stop c.in-Err.ensures.cause c.end_job-in-Err.ensures
+
+pub returns-in-Err-clause-complete : goal.returns-in-Err-clause-complete
+returns-in-Err-clause-complete g c asked is = complete_answer (returns-in-Err-clause-headline g c asked is)
 
 pub returns-in-Err-clause-cause : goal.returns-in-Err-clause-cause
 returns-in-Err-clause-cause g c =

@@ -1,0 +1,89 @@
+// The number of a deck's cards, which goes no further than 4,294,967,295.
+ghost use Rattle.std.specs.Prelude.{◌≡◌, ◌+◌, ℕ, min, length, sum_by, take};
+ghost use Rattle.problem_definitions.specs.Numbering.{by_names};
+ghost use Rattle.deck_definitions.specs.Written.{written};
+ghost use Rattle.bcd_out.specs.Lines.{column_count, section_count, max_counted};
+
+use problem_file::{BoundSet, ColumnDecl, Problem, RowDecl, ValueSet};
+
+// The cards that begin a deck and its sections of rows and columns, and the one that ends it.
+const ALWAYS: u32 = 4;
+
+// So many more.
+fn added(count: u32, more: usize) -> u32
+    ensures { result ≡ min (count + more) max_counted }
+{
+    count.saturating_add(u32::try_from(more).unwrap_or(u32::MAX))
+}
+
+fn column_cards(rows: &[RowDecl], column: &ColumnDecl) -> usize
+    ensures { result ≡ column_count rows.now column.now }
+{
+    if column.entries.is_empty() {
+        rows.len().min(1)
+    } else {
+        column.entries.len()
+    }
+}
+
+fn with_columns(count: u32, rows: &[RowDecl], columns: &[ColumnDecl]) -> u32
+    ensures { result ≡ min (count + sum_by (column_count rows.now) columns.now) max_counted }
+{
+    let mut total = count;
+    for column in columns {
+        total = added(total, column_cards(rows, column));
+    }
+    total
+}
+
+fn with_value_sets(count: u32, sets: &[ValueSet]) -> u32
+    ensures { result ≡ min (count + sum_by (λ set. length set.items) sets.now) max_counted }
+{
+    let mut total = count;
+    for set in sets {
+        total = added(total, set.items.len());
+    }
+    total
+}
+
+fn with_values(count: u32, sets: &[ValueSet]) -> u32
+    ensures { result ≡ min (count + section_count sets.now) max_counted }
+{
+    if sets.is_empty() {
+        count
+    } else {
+        with_value_sets(added(count, 1), sets)
+    }
+}
+
+fn with_bound_sets(count: u32, sets: &[BoundSet]) -> u32
+    ensures { result ≡ min (count + sum_by (λ set. length set.items) sets.now) max_counted }
+{
+    let mut total = count;
+    for set in sets {
+        total = added(total, set.items.len());
+    }
+    total
+}
+
+fn with_bounds(count: u32, sets: &[BoundSet]) -> u32
+    ensures { result ≡ min (count + section_count sets.now) max_counted }
+{
+    if sets.is_empty() {
+        count
+    } else {
+        with_bound_sets(added(count, 1), sets)
+    }
+}
+
+/// How many cards the deck of a problem has: at most 4,294,967,295.
+pub fn card_count(problem: &Problem) -> u32
+    ensures { result ≡ min (length (written (by_names problem.now))) max_counted }
+{
+    let rows = problem.rows();
+    let count = added(ALWAYS, rows.len());
+    let count = with_columns(count, rows, problem.columns());
+    let count = with_values(count, problem.rhs());
+    let count = with_values(count, problem.ranges());
+    with_bounds(count, problem.bounds())
+}

@@ -1,0 +1,312 @@
+// The sections of a deck.
+ghost use Rattle.std.specs.Prelude.{◌≡◌, ◌≤◌, ◌++◌, codes, map, length, take};
+ghost use Rattle.std.specs.List.{flat_map};
+ghost use Rattle.problem_definitions.specs.Names.{name_at};
+ghost use Rattle.problem_definitions.specs.Problem.{group_names};
+ghost use Rattle.deck_definitions.specs.Written.{row_kind_text, bound_kind_text};
+ghost use Rattle.job_devices.specs.Text.{Writes};
+ghost use Rattle.bcd_out.specs.Lines.{line, row_line, entry_line, zero_line, entry_lines, column_lines, bound_line, number_text, bound_lines, section_lines};
+
+use crate::card::{DataCard, put_card};
+use job_devices::{Sink, WriteStop, put_all, put_each};
+use name_table::Name;
+use problem_file::{
+    BoundItem, BoundKind, BoundSet, ColumnDecl, DeckEntry, RowDecl, RowKind, ValueSet,
+};
+
+// The word of a row's type.
+fn row_kind_word(kind: RowKind) -> &'static [u8]
+    ensures word { result.now ≡ row_kind_text kind }
+    ensures short { length result.now ≤ 2 }
+{
+    match kind {
+        RowKind::N => b"N",
+        RowKind::G => b"G",
+        RowKind::L => b"L",
+        RowKind::E => b"E",
+    }
+}
+
+// The word of a bound's type.
+fn bound_kind_word(kind: BoundKind) -> &'static [u8]
+    ensures word { result.now ≡ bound_kind_text kind }
+    ensures short { length result.now ≤ 2 }
+{
+    match kind {
+        BoundKind::Up => b"UP",
+        BoundKind::Lo => b"LO",
+        BoundKind::Fx => b"FX",
+        BoundKind::Fr => b"FR",
+        BoundKind::Mi => b"MI",
+        BoundKind::Pl => b"PL",
+    }
+}
+
+// The name of the row with this number.
+fn row_name(rows: &[RowDecl], number: u32) -> &[u8]
+    ensures name { result.now ≡ name_at (map (λ row. row.name) rows.now) number }
+    ensures short { length result.now ≤ 8 }
+{
+    match rows.get((number as usize).saturating_sub(1)) {
+        Some(row) => row.name.bytes(),
+        None => b"",
+    }
+}
+
+// The name of the column with this number.
+fn column_name(columns: &[ColumnDecl], number: u32) -> &[u8]
+    ensures name { result.now ≡ name_at (group_names columns.now) number }
+    ensures short { length result.now ≤ 8 }
+{
+    match columns.get((number as usize).saturating_sub(1)) {
+        Some(column) => column.name.bytes(),
+        None => b"",
+    }
+}
+
+fn put_row<P: Sink>(punch: &mut P, row: RowDecl) -> Result<(), WriteStop>
+    ensures { Writes P.written P.faults P.refusals punch.old punch.new result (row_line row) }
+{
+    let card = DataCard {
+        kind: row_kind_word(row.kind),
+        name1: row.name.bytes(),
+        name2: b"",
+        value: b"",
+    };
+    put_card(punch, card)
+}
+
+fn put_row_cards<P: Sink>(punch: &mut P, rows: &[RowDecl]) -> Result<(), WriteStop>
+    ensures { Writes P.written P.faults P.refusals punch.old punch.new result (flat_map row_line rows.now) }
+{
+    for row in rows {
+        put_row(punch, *row)?;
+    }
+    Ok(())
+}
+
+// An entry of a column, or an item of a set.
+fn put_entry<P: Sink>(
+    punch: &mut P,
+    rows: &[RowDecl],
+    name: Name,
+    entry: DeckEntry,
+) -> Result<(), WriteStop>
+    ensures { Writes P.written P.faults P.refusals punch.old punch.new result (entry_line (map (λ row. row.name) rows.now) name entry) }
+{
+    let card = DataCard {
+        kind: b"",
+        name1: name.bytes(),
+        name2: row_name(rows, entry.row),
+        value: entry.value.text(),
+    };
+    put_card(punch, card)
+}
+
+fn put_entries<P: Sink>(
+    punch: &mut P,
+    rows: &[RowDecl],
+    name: Name,
+    entries: &[DeckEntry],
+) -> Result<(), WriteStop>
+    ensures { Writes P.written P.faults P.refusals punch.old punch.new result (flat_map (entry_line (map (λ row. row.name) rows.now) name) entries.now) }
+{
+    for entry in entries {
+        put_entry(punch, rows, name, *entry)?;
+    }
+    Ok(())
+}
+
+// The number 0 of a column on the first row, if there is a row.
+fn put_zero<P: Sink>(punch: &mut P, rows: &[RowDecl], name: Name) -> Result<(), WriteStop>
+    ensures { Writes P.written P.faults P.refusals punch.old punch.new result (flat_map (zero_line name) (take 1 rows.now)) }
+{
+    let Some(row) = rows.first() else {
+        return put_all(punch, b"");
+    };
+    let card = DataCard {
+        kind: b"",
+        name1: name.bytes(),
+        name2: row.name.bytes(),
+        value: b"0",
+    };
+    put_card(punch, card)
+}
+
+fn put_column<P: Sink>(
+    punch: &mut P,
+    rows: &[RowDecl],
+    column: &ColumnDecl,
+) -> Result<(), WriteStop>
+    ensures { Writes P.written P.faults P.refusals punch.old punch.new result (column_lines rows.now column.now) }
+{
+    if column.entries.is_empty() {
+        put_zero(punch, rows, column.name)
+    } else {
+        put_entries(punch, rows, column.name, &column.entries)
+    }
+}
+
+fn put_column_cards<P: Sink>(
+    punch: &mut P,
+    rows: &[RowDecl],
+    columns: &[ColumnDecl],
+) -> Result<(), WriteStop>
+    ensures { Writes P.written P.faults P.refusals punch.old punch.new result (flat_map (column_lines rows.now) columns.now) }
+{
+    for column in columns {
+        put_column(punch, rows, column)?;
+    }
+    Ok(())
+}
+
+fn put_value_set<P: Sink>(punch: &mut P, rows: &[RowDecl], set: &ValueSet) -> Result<(), WriteStop>
+    ensures { Writes P.written P.faults P.refusals punch.old punch.new result (entry_lines (map (λ row. row.name) rows.now) set.now) }
+{
+    put_entries(punch, rows, set.name, &set.items)
+}
+
+fn put_value_sets<P: Sink>(
+    punch: &mut P,
+    rows: &[RowDecl],
+    sets: &[ValueSet],
+) -> Result<(), WriteStop>
+    ensures { Writes P.written P.faults P.refusals punch.old punch.new result (flat_map (entry_lines (map (λ row. row.name) rows.now)) sets.now) }
+{
+    for set in sets {
+        put_value_set(punch, rows, set)?;
+    }
+    Ok(())
+}
+
+// The sets under the card of their section.
+fn put_values_under<P: Sink>(
+    punch: &mut P,
+    word: &'static [u8],
+    rows: &[RowDecl],
+    sets: &[ValueSet],
+) -> Result<(), WriteStop>
+    ensures { Writes P.written P.faults P.refusals punch.old punch.new result (line word.now ++ flat_map (entry_lines (map (λ row. row.name) rows.now)) sets.now) }
+{
+    put_each(punch, &[word, b"\n"])?;
+    put_value_sets(punch, rows, sets)
+}
+
+fn put_bound<P: Sink>(
+    punch: &mut P,
+    columns: &[ColumnDecl],
+    name: Name,
+    bound: BoundItem,
+) -> Result<(), WriteStop>
+    ensures { Writes P.written P.faults P.refusals punch.old punch.new result (bound_line (group_names columns.now) name bound) }
+{
+    let value = match &bound.value {
+        Some(value) => value.text(),
+        None => b"",
+    };
+    let card = DataCard {
+        kind: bound_kind_word(bound.kind),
+        name1: name.bytes(),
+        name2: column_name(columns, bound.column),
+        value,
+    };
+    put_card(punch, card)
+}
+
+fn put_bounds<P: Sink>(
+    punch: &mut P,
+    columns: &[ColumnDecl],
+    name: Name,
+    bounds: &[BoundItem],
+) -> Result<(), WriteStop>
+    ensures { Writes P.written P.faults P.refusals punch.old punch.new result (flat_map (bound_line (group_names columns.now) name) bounds.now) }
+{
+    for bound in bounds {
+        put_bound(punch, columns, name, *bound)?;
+    }
+    Ok(())
+}
+
+fn put_bound_set<P: Sink>(
+    punch: &mut P,
+    columns: &[ColumnDecl],
+    set: &BoundSet,
+) -> Result<(), WriteStop>
+    ensures { Writes P.written P.faults P.refusals punch.old punch.new result (bound_lines (group_names columns.now) set.now) }
+{
+    put_bounds(punch, columns, set.name, &set.items)
+}
+
+fn put_bound_sets<P: Sink>(
+    punch: &mut P,
+    columns: &[ColumnDecl],
+    sets: &[BoundSet],
+) -> Result<(), WriteStop>
+    ensures { Writes P.written P.faults P.refusals punch.old punch.new result (flat_map (bound_lines (group_names columns.now)) sets.now) }
+{
+    for set in sets {
+        put_bound_set(punch, columns, set)?;
+    }
+    Ok(())
+}
+
+// The sets of bounds under the card of their section.
+fn put_bounds_under<P: Sink>(
+    punch: &mut P,
+    columns: &[ColumnDecl],
+    sets: &[BoundSet],
+) -> Result<(), WriteStop>
+    ensures { Writes P.written P.faults P.refusals punch.old punch.new result (line (codes "BOUNDS") ++ flat_map (bound_lines (group_names columns.now)) sets.now) }
+{
+    put_all(punch, b"BOUNDS\n")?;
+    put_bound_sets(punch, columns, sets)
+}
+
+/// Writes the section of the rows.
+pub fn put_rows<P: Sink>(punch: &mut P, rows: &[RowDecl]) -> Result<(), WriteStop>
+    ensures { Writes P.written P.faults P.refusals punch.old punch.new result (line (codes "ROWS") ++ flat_map row_line rows.now) }
+{
+    put_all(punch, b"ROWS\n")?;
+    put_row_cards(punch, rows)
+}
+
+/// Writes the section of the columns.
+pub fn put_columns<P: Sink>(
+    punch: &mut P,
+    rows: &[RowDecl],
+    columns: &[ColumnDecl],
+) -> Result<(), WriteStop>
+    ensures { Writes P.written P.faults P.refusals punch.old punch.new result (line (codes "COLUMNS") ++ flat_map (column_lines rows.now) columns.now) }
+{
+    put_all(punch, b"COLUMNS\n")?;
+    put_column_cards(punch, rows, columns)
+}
+
+/// Writes a section of right-hand sides or of ranges, if there is a set.
+pub fn put_value_section<P: Sink>(
+    punch: &mut P,
+    word: &'static [u8],
+    rows: &[RowDecl],
+    sets: &[ValueSet],
+) -> Result<(), WriteStop>
+    ensures { Writes P.written P.faults P.refusals punch.old punch.new result (section_lines word.now (entry_lines (map (λ row. row.name) rows.now)) sets.now) }
+{
+    if sets.is_empty() {
+        return put_all(punch, b"");
+    }
+    put_values_under(punch, word, rows, sets)
+}
+
+/// Writes the section of the bounds, if there is a set.
+pub fn put_bound_section<P: Sink>(
+    punch: &mut P,
+    columns: &[ColumnDecl],
+    sets: &[BoundSet],
+) -> Result<(), WriteStop>
+    ensures { Writes P.written P.faults P.refusals punch.old punch.new result (section_lines (codes "BOUNDS") (bound_lines (group_names columns.now)) sets.now) }
+{
+    if sets.is_empty() {
+        return put_all(punch, b"");
+    }
+    put_bounds_under(punch, columns, sets)
+}

@@ -1,0 +1,150 @@
+// RANGE.
+ghost use Rattle.std.specs.Prelude.{◌≡◌, ℕ, None, Some, IfSome, List};
+ghost use Rattle.problem_definitions.specs.Problem.{Problem};
+ghost use Rattle.problem_file.specs.Filed.{filed_under};
+ghost use Rattle.lp_definitions.specs.Basis.{Basics, basics_of, IsOptimalBasis};
+ghost use Rattle.lp_definitions.specs.Waypoints.{KeepsWaypoints};
+ghost use Rattle.control_definitions.specs.Program as program;
+ghost use Rattle.report_text.specs.Lines.{range_lines};
+ghost use Rattle.report_text.specs.Sheets.{IsSheet};
+ghost use Rattle.bounded_primal.specs.Calls.{HasRates};
+ghost use Rattle.answer_definitions.specs.Sections.{IsRanged};
+ghost use Rattle.present_answers.specs.Answers.{sheet_shown, AreRanged};
+ghost use Rattle.control_run.specs.Engine.{ways};
+ghost use Rattle.control_run.specs.Stage.{stage};
+ghost use Rattle.control_run.specs.Standing.{IsReady, IsSolved, IsSound};
+ghost use Rattle.control_run.specs.Statements.{Executes};
+ghost use Rattle.control_run.specs.Findings.{Tells, RangesFound, ShowsRanges, range_fault};
+
+use crate::act::{Act, Halt};
+use crate::finding::{Finding, act_of, overflow_at};
+use crate::machine::{Machine, Setup};
+use crate::selecting::Refusal;
+use job_devices::Sink;
+use listing_definitions::{Mark, VerbFault};
+use lp_model::{Basis, Rates, Stop};
+use present_answers::{Ranged, ranges_of};
+use problem_file::ProblemFile;
+use report_text::{Report, Sheet, text_of};
+use std::alloc::Global;
+
+// Prints the intervals of a basis.
+fn print_ranges<P: Sink>(
+    sheet: Sheet<'_>,
+    basis: &Basis,
+    ranged: &Ranged,
+    print: &mut P,
+) -> Result<Finding, Halt>
+    requires sheet { IsSheet sheet }
+    requires no_change { sheet.lp.now.change ≡ None }
+    requires listed { AreRanged sheet.lp.now basis.now ranged.now }
+    requires ranged { IsRanged (sheet_shown sheet) basis.now
+        (range_lines sheet.lp.now basis.now ranged.now.point ranged.now.report
+        sheet.problem.now) }
+    ensures { (before : List Basics) →
+        Tells (RangesFound (sheet_shown sheet.entry) basis.now before) P.written P.faults
+        P.refusals print.old print.new result }
+{
+    let report = Report::Ranges {
+        sheet,
+        basis,
+        point: &ranged.point,
+        report: &ranged.report,
+    };
+    text_of(&report, print)?;
+    Ok(Finding::Shown)
+}
+
+// Makes the intervals of a basis, and prints them.
+fn range_basis<P: Sink, R: Rates>(
+    alloc: Global,
+    sheet: Sheet<'_>,
+    basis: &Basis,
+    rates: &mut R,
+    print: &mut P,
+) -> Result<Finding, Halt>
+    requires sheet { IsSheet sheet }
+    requires no_change { sheet.lp.now.change ≡ None }
+    requires optimal { IsOptimalBasis sheet.lp.now basis.now }
+    requires rates { HasRates (R.matrix rates.old) (R.basics rates.old) sheet.lp.now basis.now }
+    ensures tells { Tells (RangesFound (sheet_shown sheet.entry) basis.now (R.waypoints rates.old))
+        P.written P.faults P.refusals print.old print.new result }
+    ensures rates { HasRates (R.matrix rates.new) (R.basics rates.new) sheet.entry.lp.now basis.now }
+    ensures waypoints { KeepsWaypoints sheet.entry.lp.now.matrix (basics_of basis.now)
+        (R.waypoints rates.old) (basics_of basis.now) (R.waypoints rates.new) }
+{
+    match ranges_of(alloc, sheet, basis, rates) {
+        Ok(ranged) => print_ranges(sheet, basis, &ranged, print),
+        Err(Stop::Overflow(evidence)) => overflow_at(alloc, sheet.lp, basis, rates, evidence),
+        Err(Stop::NoMemory) => Err(Halt::NoMemory),
+    }
+}
+
+// Shows the intervals of the present basis of a setup.
+fn range_setup<P: Sink>(
+    alloc: Global,
+    file: &ProblemFile,
+    setup: &mut Setup,
+    print: &mut P,
+) -> Result<Finding, Halt>
+    requires ready { IsReady file.now setup.old }
+    requires optimal { IsOptimalBasis setup.old.lp setup.old.basis }
+    ensures tells { (problem : Problem ℕ) → filed_under setup.old.name file.now ≡ Some problem →
+        Tells (ShowsRanges problem setup.old) P.written P.faults P.refusals print.old print.new
+        result }
+    ensures ready { IsReady file.now setup.new }
+    ensures name { setup.new.name ≡ setup.old.name }
+    ensures options { setup.new.options ≡ setup.old.options }
+    ensures lp { setup.new.lp ≡ setup.old.lp }
+    ensures basis { setup.new.basis ≡ setup.old.basis }
+    ensures waypoints { KeepsWaypoints setup.old.lp.matrix (basics_of setup.old.basis)
+        (ways setup.old.engine) (basics_of setup.old.basis) (ways setup.new.engine) }
+{
+    // a setup's problem stays on file
+    let Some(problem) = file.get(&setup.name) else {
+        return Ok(Finding::Refused(VerbFault::NoSetup));
+    };
+    let sheet = Sheet {
+        problem,
+        lp: &setup.lp,
+    };
+    range_basis(alloc, sheet, &setup.basis, &mut setup.engine, print)
+}
+
+// Why RANGE is refused with this mark.
+fn range_fault(mark: Option<Mark>) -> Option<VerbFault>
+    ensures { result ≡ range_fault mark }
+{
+    match mark {
+        None => Some(VerbFault::NotSolved),
+        Some(Mark::Optimal) => None,
+        Some(Mark::Infeasible | Mark::Unbounded) => Some(VerbFault::NotOptimal),
+    }
+}
+
+/// RANGE: prints the intervals in which the present basis stays optimal. It needs a setup and the mark OPTIMAL, and speaks of the linear
+/// program that PRIMAL solved.
+pub fn show_ranges<P: Sink>(
+    alloc: Global,
+    machine: &mut Machine,
+    print: &mut P,
+    card: u32,
+) -> Result<Act, Halt>
+    requires ready { IfSome machine.old.setup (IsReady machine.old.file) }
+    requires solved { IfSome machine.old.mark
+        (λ mark. IfSome machine.old.setup (IsSolved mark machine.old.cells machine.old.file)) }
+    ensures acts { (cards : List (List ℕ)) →
+        Executes stage program.Ranging card P.written P.faults P.refusals print.old print.new cards
+        machine.old machine.new result }
+    ensures sound { (cards : List (List ℕ)) → IsSound cards machine.old →
+        IsSound cards machine.new }
+{
+    let Some(setup) = &mut machine.setup else {
+        return Refusal::Fault(VerbFault::NoSetup).act(card);
+    };
+    if let Some(fault) = range_fault(machine.mark) {
+        return Refusal::Fault(fault).act(card);
+    }
+    let finding = range_setup(alloc, &machine.file, setup, print)?;
+    Ok(act_of(&machine.cells, card, finding))
+}

@@ -1,0 +1,65 @@
+-- The parts in which RANGE is written.
+use Rattle.std.proofs.Common.{◌≡◌, ◌<◌, ◌≤◌, ◌-◌, ◌+◌, ℕ, Bool, true, false, List, [], ◌∷◌, ◌++◌, filter, if◌then◌else◌, codes, refl, ◌∙◌, ap, append_assoc, arith}
+use Rattle.std.specs.List.{flat_map}
+use Rattle.std.proofs.lemmas.List.{append-nil}
+use Rattle.lp_definitions.specs.LinearProgram.{size, numbers_from}
+use Rattle.listing_definitions.specs.Report.{Value, RangeLines}
+use Rattle.listing_definitions.specs.Text.{ranges_text, line_text, table_text}
+use Rattle.report_text.specs.declared.sheet.Sheet.{Sheet}
+use Rattle.report_text.specs.declared.table.Ranging.{Ranging}
+use Rattle.report_text.specs.declared.table.Table.TheVariants.{LimitRows, LimitColumns, BetweenRows, BetweenColumns}
+use Rattle.report_text.specs.Lines.{line_of, lines_of, stands_at_limit, stands_between, limit_row_values, limit_column_values, between_row_values, between_column_values}
+use Rattle.report_text.specs.Sheets.{IsSheet}
+use Rattle.report_text.specs.Tables.{HasLine, IsRanging, line_shown, ranged_line}
+use Rattle.report_text.specs.Ranges.{ranges_shown, limit_rows_heading, limit_columns_heading, between_rows_heading, between_columns_heading}
+
+pub range_parts : (lines : RangeLines) → codes "RANGE\n" ++ ((limit_rows_heading ++ table_text lines.rows_at_limit) ++ ((limit_columns_heading ++ table_text lines.columns_at_limit) ++ ((between_rows_heading ++ table_text lines.rows_between) ++ (between_columns_heading ++ table_text lines.columns_between)))) ≡ ranges_text lines
+range_parts lines = simp (append_assoc, append-nil)
+
+-- lines that a test keeps
+kept_lines : (sheet : Sheet) (kept : ℕ → Bool) (values : ℕ → List Value) (numbers : List ℕ) → flat_map (λ k. ranged_line sheet (kept k) values k) numbers ≡ table_text (lines_of sheet.problem.now values (filter kept numbers))
+kept_lines sheet kept values [] = refl
+kept_lines sheet kept values (k ∷ ks) = by (kept k) (kept_lines sheet kept values ks)
+  where
+    by : (b : Bool) → flat_map (λ k. ranged_line sheet (kept k) values k) ks ≡ table_text (lines_of sheet.problem.now values (filter kept ks)) → ranged_line sheet b values k ++ flat_map (λ k. ranged_line sheet (kept k) values k) ks ≡ table_text (lines_of sheet.problem.now values (if b then k ∷ filter kept ks else filter kept ks))
+    by true e = ap (λ w. line_text (line_of sheet.problem.now values k) ++ w) e
+    by false e = e
+
+module _ (sheet : Sheet) (ranging : Ranging) where
+  pub limit_rows_lines : IsSheet sheet → IsRanging sheet ranging → (k : ℕ) → 0 < k → k ≤ sheet.lp.now.matrix.rows → HasLine sheet (LimitRows ranging) k
+  limit_rows_lines is_sheet is_ranging k low high = record { is_sheet = is_sheet; is_variable = (omega arith, omega arith); listed = is_ranging; lined = high }
+
+  pub limit_rows_table : (last : ℕ) → last ≡ sheet.lp.now.matrix.rows → flat_map (line_shown sheet (LimitRows ranging)) (numbers_from 1 (last - 0)) ≡ table_text (ranges_shown sheet ranging).rows_at_limit
+  limit_rows_table last counted =
+      let count : last - 0 ≡ sheet.lp.now.matrix.rows = omega arith in
+      ap (λ n. flat_map (line_shown sheet (LimitRows ranging)) (numbers_from 1 n)) count
+      ∙ kept_lines sheet (stands_at_limit ranging.basis.now) (limit_row_values sheet.lp.now ranging.basis.now ranging.point.now ranging.report.now) (numbers_from 1 sheet.lp.now.matrix.rows)
+
+  pub limit_columns_lines : IsSheet sheet → IsRanging sheet ranging → (k : ℕ) → sheet.lp.now.matrix.rows < k → k ≤ size sheet.lp.now.matrix → HasLine sheet (LimitColumns ranging) k
+  limit_columns_lines is_sheet is_ranging k low high = record { is_sheet = is_sheet; is_variable = (omega arith, high); listed = is_ranging; lined = low }
+
+  pub limit_columns_table : (first last : ℕ) → first ≡ sheet.lp.now.matrix.rows → last ≡ size sheet.lp.now.matrix → flat_map (line_shown sheet (LimitColumns ranging)) (numbers_from (first + 1) (last - first)) ≡ table_text (ranges_shown sheet ranging).columns_at_limit
+  limit_columns_table first last behind counted =
+      let count : last - first ≡ sheet.lp.now.matrix.cols = omega arith in
+      ap (λ n. flat_map (line_shown sheet (LimitColumns ranging)) (numbers_from (first + 1) n)) count
+      ∙ ap (λ n. flat_map (line_shown sheet (LimitColumns ranging)) (numbers_from (n + 1) sheet.lp.now.matrix.cols)) behind
+      ∙ kept_lines sheet (stands_at_limit ranging.basis.now) (limit_column_values sheet.lp.now ranging.basis.now ranging.point.now ranging.report.now) (numbers_from (sheet.lp.now.matrix.rows + 1) sheet.lp.now.matrix.cols)
+
+  pub between_rows_lines : IsSheet sheet → IsRanging sheet ranging → (k : ℕ) → 0 < k → k ≤ sheet.lp.now.matrix.rows → HasLine sheet (BetweenRows ranging) k
+  between_rows_lines is_sheet is_ranging k low high = record { is_sheet = is_sheet; is_variable = (omega arith, omega arith); listed = is_ranging; lined = high }
+
+  pub between_rows_table : (last : ℕ) → last ≡ sheet.lp.now.matrix.rows → flat_map (line_shown sheet (BetweenRows ranging)) (numbers_from 1 (last - 0)) ≡ table_text (ranges_shown sheet ranging).rows_between
+  between_rows_table last counted =
+      let count : last - 0 ≡ sheet.lp.now.matrix.rows = omega arith in
+      ap (λ n. flat_map (line_shown sheet (BetweenRows ranging)) (numbers_from 1 n)) count
+      ∙ kept_lines sheet (stands_between sheet.lp.now ranging.basis.now) (between_row_values sheet.lp.now ranging.basis.now ranging.point.now ranging.report.now) (numbers_from 1 sheet.lp.now.matrix.rows)
+
+  pub between_columns_lines : IsSheet sheet → IsRanging sheet ranging → (k : ℕ) → sheet.lp.now.matrix.rows < k → k ≤ size sheet.lp.now.matrix → HasLine sheet (BetweenColumns ranging) k
+  between_columns_lines is_sheet is_ranging k low high = record { is_sheet = is_sheet; is_variable = (omega arith, high); listed = is_ranging; lined = low }
+
+  pub between_columns_table : (first last : ℕ) → first ≡ sheet.lp.now.matrix.rows → last ≡ size sheet.lp.now.matrix → flat_map (line_shown sheet (BetweenColumns ranging)) (numbers_from (first + 1) (last - first)) ≡ table_text (ranges_shown sheet ranging).columns_between
+  between_columns_table first last behind counted =
+      let count : last - first ≡ sheet.lp.now.matrix.cols = omega arith in
+      ap (λ n. flat_map (line_shown sheet (BetweenColumns ranging)) (numbers_from (first + 1) n)) count
+      ∙ ap (λ n. flat_map (line_shown sheet (BetweenColumns ranging)) (numbers_from (n + 1) sheet.lp.now.matrix.cols)) behind
+      ∙ kept_lines sheet (stands_between sheet.lp.now ranging.basis.now) (between_column_values sheet.lp.now ranging.basis.now ranging.point.now ranging.report.now) (numbers_from (sheet.lp.now.matrix.rows + 1) sheet.lp.now.matrix.cols)

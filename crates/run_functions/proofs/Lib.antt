@@ -1,0 +1,10 @@
+pub mod OneAnswer
+pub mod Intervals
+pub mod OneRange
+pub mod ChangeRow
+pub mod Outcomes
+pub mod Statements
+pub mod Steps
+pub mod Stops
+pub mod Runs
+pub mod Complete

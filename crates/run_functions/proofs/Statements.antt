@@ -1,0 +1,223 @@
+-- In a state whose setup has a lawful problem and a nonsingular basis, a statement asks its question where it has one answer at most.
+use Rattle.std.proofs.Common.{◌≡◌, ℕ, Bool, true, false, List, refl, sym, ap, subst, ◌∙◌}
+use Rattle.std.specs.Prelude.{Option, Some, None, Result, Ok, Err, option_and_then, if◌then◌else◌}
+use Rattle.exact_values.specs.Rational.{ℚ}
+use Rattle.lp_definitions.specs.LinearProgram.{LinearProgram}
+use Rattle.card_definitions.specs.Cards.{Card}
+use Rattle.problem_definitions.specs.Names.{Name}
+use Rattle.problem_definitions.specs.Problem.{Problem, has_free_row, has_group}
+use Rattle.deck_definitions.specs.declared.DeckFault.{DeckFault}
+use Rattle.deck_definitions.specs.Conversion.{conversion}
+use Rattle.deck_definitions.specs.Decks.{deck_taken}
+use Rattle.revise_definitions.specs.Revision.{revision}
+use Rattle.control_definitions.specs.Program.{SetupOptions, Verb, Initialz, Title, MoveName, MoveNumber, MoveLimit, Mvadr, Goto, Convert, Setup, Primal, Revise, Ranging, Paraobj, Pararhs, Solution as SolutionVerb, Bcdout, Exit}
+use Rattle.selection_definitions.specs.declared.SelectionFault.{SelectionFault}
+use Rattle.selection_definitions.specs.Choice.{Choice}
+use Rattle.selection_definitions.specs.Selection.{selected}
+use Rattle.listing_definitions.specs.declared.Mark.{Mark}
+use Rattle.listing_definitions.specs.declared.VerbFault.{VerbFault}
+use Rattle.listing_definitions.specs.Report.{Report, Converted, Revised, Solution, Ranges}
+use Rattle.question_definitions.specs.Answers.{Changing, Row, Set, Sweep, Question, Answer, OfPath, OfSolution, OfRanges, OfSweep}
+use Rattle.question_definitions.specs.Solving.{Solving}
+use Rattle.run_definitions.specs.State.{Present, present_basis, State, problem_of, choice_of}
+use Rattle.run_definitions.specs.Moves.{Outcome, Refusals, Move, Does, MayStop, or_fault}
+use Rattle.run_definitions.specs.Verbs.{or_deck_fault, or_selection_fault, files, selects, not_less, change_row, change_set, asks, if_optimal, shows_present, solves, shows, ranges, sweeps, converts, revises, sets_up, punches, verb_move, if_built, statement_move}
+use Rattle.path_definitions.specs.Path.{EndsOptimal, EndsAt}
+use Rattle.path_laws.proofs.Ends.{optimal_end}
+use Rattle.std.proofs.lemmas.Option.{same_Some}
+use Rattle.lp_definitions.specs.Basis.{IsOptimalBasis}
+use Rattle.exact_values.specs.Tests.{lt_ℚ}
+use Rattle.listing_definitions.specs.declared.Mark.TheVariants.{Optimal, Infeasible, Unbounded}
+use Rattle.run_laws.proofs.Selected.{selected_is_lawful}
+use Rattle.run_laws.proofs.Moves.{HasProblem, EndsOptimally, Knows}
+use Rattle.run_functions.specs.Laws.{IsOfProblem, Suits, HasOneAnswer, AnswersOnce, AsksOnce}
+
+pub record IsOnce (S : Solving) (move : Move) : Type 0 where
+  pub once : AsksOnce S move
+
+-- RANGE goes on under the mark OPTIMAL alone
+is_optimal : (mark found : Mark) → if_optimal mark ≡ Some found → mark ≡ Optimal
+is_optimal Optimal found e = refl
+is_optimal Infeasible found e = absurd (cc e)
+is_optimal Unbounded found e = absurd (cc e)
+
+-- what changes is a part of the problem
+row_of_problem : (problem : Problem ℕ) (name : Name) (changing : Changing) → change_row problem name ≡ Some changing → IsOfProblem changing problem
+row_of_problem problem name changing e = by (has_free_row problem.rows name) refl e
+  where
+    by : (free : Bool) → has_free_row problem.rows name ≡ free → (if free then Some (Row name) else None) ≡ Some changing → IsOfProblem changing problem
+    by true is e = subst (λ x. IsOfProblem x problem) (same_Some (Row name) changing e) is
+    by false is e = absurd (cc e)
+
+set_of_problem : (problem : Problem ℕ) (name : Name) (changing : Changing) → change_set problem name ≡ Some changing → IsOfProblem changing problem
+set_of_problem problem name changing e = by (has_group problem.rhs name) refl e
+  where
+    by : (there : Bool) → has_group problem.rhs name ≡ there → (if there then Some (Set name) else None) ≡ Some changing → IsOfProblem changing problem
+    by true is e = subst (λ x. IsOfProblem x problem) (same_Some (Set name) changing e) is
+    by false is e = absurd (cc e)
+
+changes_part : (change : Problem ℕ → Name → Option Changing) → ((problem : Problem ℕ) (name : Name) (changing : Changing) → change problem name ≡ Some changing → IsOfProblem changing problem) →
+    (problem : Problem ℕ) (moved : Option Name) (changing : Changing) → option_and_then (change problem) moved ≡ Some changing → IsOfProblem changing problem
+changes_part change of_problem problem None changing e = absurd (cc e)
+changes_part change of_problem problem (Some name) changing e = of_problem problem name changing e
+
+-- the last value isn't less than the first
+last_no_less : (from last to : ℚ) → not_less from last ≡ Some to → lt_ℚ to from ≡ false
+last_no_less from last to e = by (lt_ℚ last from) refl e
+  where
+    by : (less : Bool) → lt_ℚ last from ≡ less → (if less then None else Some last) ≡ Some to → lt_ℚ to from ≡ false
+    by true is e = absurd (cc e)
+    by false is e = subst (λ x. lt_ℚ x from ≡ false) (same_Some last to e) is
+
+module _ (S : Solving) where
+  does : (outcome : Outcome) → IsOnce S (Does outcome)
+  does outcome = record { once = tt }
+
+  may_stop : (refusals : Refusals) (move : Move) → IsOnce S move → IsOnce S (MayStop refusals move)
+  may_stop refusals move is = record { once = is.once }
+
+  unless_fault : {X : Type 0} (card : ℕ) (fault : VerbFault) (o : Option X) (go : X → Move) → ((x : X) → o ≡ Some x → IsOnce S (go x)) → IsOnce S (or_fault card fault o go)
+  unless_fault card fault None go is = does _
+  unless_fault card fault (Some x) go is = is x refl
+
+  unless_deck_fault : (r : Result (Problem ℕ) DeckFault) (go : Problem ℕ → Move) → ((problem : Problem ℕ) → IsOnce S (go problem)) → IsOnce S (or_deck_fault r go)
+  unless_deck_fault (Err fault) go is = does _
+  unless_deck_fault (Ok problem) go is = is problem
+
+  unless_selection_fault : (card : ℕ) (r : Result LinearProgram SelectionFault) (go : LinearProgram → Move) → ((lp : LinearProgram) → r ≡ Ok lp → IsOnce S (go lp)) → IsOnce S (or_selection_fault card r go)
+  unless_selection_fault card (Err fault) go is = does _
+  unless_selection_fault card (Ok lp) go is = is lp refl
+
+  selecting : (card : ℕ) (problem : Problem ℕ) (choice : Choice) (go : LinearProgram → Move) → ((lp : LinearProgram) → selected problem choice ≡ Ok lp → IsOnce S (go lp)) → IsOnce S (selects card problem choice go)
+  selecting card problem choice go is = unless_selection_fault card (selected problem choice) _ (λ lp e. may_stop _ (go lp) (is lp e))
+
+  -- ---- verbs that ask nothing
+
+  converts_once : (card : ℕ) (state : State) → IsOnce S (converts card state)
+  converts_once card state =
+      unless_fault {X = List Card × List (List Card)} card VerbFault.DeckNotFound (deck_taken state.cells.xdata state.decks) _ (λ taken e.
+      unless_deck_fault (conversion taken.0 state.cells.xpbname) (files Converted taken.1 state) (λ problem. does _))
+
+  revises_once : (card : ℕ) (state : State) → IsOnce S (revises card state)
+  revises_once card state =
+      unless_fault card VerbFault.NoProblem (problem_of state.cells.xoldname state.file) _ (λ old o.
+      unless_fault {X = List Card × List (List Card)} card VerbFault.DeckNotFound (deck_taken state.cells.xdata state.decks) _ (λ taken e.
+      unless_deck_fault (revision old taken.0 state.cells.xpbname) (files Revised taken.1 state) (λ problem. does _)))
+
+  sets_up_once : (card : ℕ) (options : SetupOptions) (state : State) → IsOnce S (sets_up card options state)
+  sets_up_once card options state =
+      unless_fault card VerbFault.NoProblem (problem_of state.cells.xpbname state.file) _ (λ problem e.
+      selecting card problem (choice_of state.cells options) _ (λ lp is. does _))
+
+  punches_once : (card : ℕ) (state : State) → IsOnce S (punches card state)
+  punches_once card state = unless_fault card VerbFault.NoProblem (problem_of state.cells.xpbname state.file) _ (λ problem e. does _)
+
+  -- ---- verbs that ask
+
+  -- a question at the present basis of what is selected of the setup
+  asked : (question : Question) (present : Present) (state : State) (lp : LinearProgram) (go : Answer question → Outcome) → HasOneAnswer S question → HasProblem state.setup → Knows state →
+      state.setup ≡ Some present → selected present.problem (choice_of state.cells present.options) ≡ Ok lp → Suits question (record { problem = present.problem; lp = lp }) (present_basis present) →
+      IsOnce S (asks question (record { problem = present.problem; lp = lp }) present go)
+  asked question present state lp go one lawful knows e is suits = record {
+    once = λ a b first second. one (record { problem = present.problem; lp = lp }) (present_basis present) a b (record {
+      is_problem = lawful present e;
+      choice = choice_of state.cells present.options;
+      is_selected = is;
+      is_basis = (knows.bases present e).in_each state.cells.xobj state.cells.xrhs lp is;
+      suits = suits;
+    }) first second;
+  }
+
+  module _ (card : ℕ) (state : State) (lawful : HasProblem state.setup) (knows : Knows state) where
+    solves_once : HasOneAnswer S (OfPath state.cells.xiterlim) → IsOnce S (solves card state)
+    solves_once one =
+        unless_fault card VerbFault.NoSetup state.setup _ (λ present e.
+        selecting card present.problem (choice_of state.cells present.options) _ (λ lp is.
+        asked (OfPath state.cells.xiterlim) present state lp _ one lawful knows e is tt))
+
+    showing_once : (present : Present) (question : Question) (report : Answer question → Report) → HasOneAnswer S question → state.setup ≡ Some present →
+        ((lp : LinearProgram) → selected present.problem (choice_of state.cells present.options) ≡ Ok lp → Suits question (record { problem = present.problem; lp = lp }) (present_basis present)) →
+        IsOnce S (shows_present card state present question report)
+    showing_once present question report one e suits =
+        unless_selection_fault card (selected present.problem (choice_of state.cells present.options)) _ (λ lp is.
+        asked question present state lp _ one lawful knows e is (suits lp is))
+
+    shows_once : ((mark : Mark) → HasOneAnswer S (OfSolution mark)) → IsOnce S (shows card state)
+    shows_once one =
+        unless_fault card VerbFault.NoSetup state.setup _ (λ present e.
+        unless_fault card VerbFault.NotSolved state.mark _ (λ mark m.
+        showing_once present (OfSolution mark) (Solution mark) (one mark) e (λ lp is. tt)))
+
+    -- under the mark OPTIMAL the present basis is optimal in what is selected
+    optimal_now : (present : Present) (lp : LinearProgram) → state.mark ≡ Some Optimal → state.setup ≡ Some present → selected present.problem (choice_of state.cells present.options) ≡ Ok lp →
+        IsOptimalBasis lp (present_basis present)
+    optimal_now present lp m e is =
+        (optimal_end lp (present_basis present) known.point known.prices (selected_is_lawful present.problem (choice_of state.cells present.options) lp (lawful present e) is)
+        ((knows.bases present e).in_each state.cells.xobj state.cells.xrhs lp is) ends).optimal
+      where
+        known : EndsOptimally state.setup state.cells.xobj state.cells.xrhs
+        known = knows.marked m
+
+        same_present : known.present ≡ present
+        same_present = same_Some known.present present (sym known.is_setup ∙ e)
+
+        moved : (selected present.problem (choice_of state.cells present.options) ≡ Ok known.lp) × EndsAt known.lp (present_basis present) (EndsOptimal known.point known.prices)
+        moved =
+            subst (λ (x : Present). (selected x.problem (choice_of state.cells x.options) ≡ Ok known.lp) × EndsAt known.lp (present_basis x) (EndsOptimal known.point known.prices))
+            same_present (known.is_selected, known.ends)
+
+        same_lp : known.lp ≡ lp
+        same_lp = let both = sym moved.0 ∙ is in cc
+
+        ends : EndsAt lp (present_basis present) (EndsOptimal known.point known.prices)
+        ends = subst (λ p. EndsAt p (present_basis present) (EndsOptimal known.point known.prices)) same_lp moved.1
+
+    ranges_once : HasOneAnswer S OfRanges → IsOnce S (ranges card state)
+    ranges_once one =
+        unless_fault card VerbFault.NoSetup state.setup _ (λ present e.
+        unless_fault card VerbFault.NotSolved state.mark _ (λ mark m.
+        unless_fault {X = Mark} card VerbFault.NotOptimal (if_optimal mark) _ (λ optimal o.
+        showing_once present OfRanges Ranges one e (λ lp is. optimal_now present lp (m ∙ ap (λ x. Some x) (is_optimal mark optimal o)) e is))))
+
+    sweeps_once : (fault : VerbFault) (change : Problem ℕ → Name → Option Changing) (moved : Option Name) →
+        ((problem : Problem ℕ) (name : Name) (changing : Changing) → change problem name ≡ Some changing → IsOfProblem changing problem) → ((sweep : Sweep) → HasOneAnswer S (OfSweep sweep)) →
+        IsOnce S (sweeps card fault change moved state)
+    sweeps_once fault change moved of_problem one =
+        unless_fault card VerbFault.NoSetup state.setup _ (λ present e.
+        selecting card present.problem (choice_of state.cells present.options) _ (λ lp is.
+        unless_fault {X = Changing} card fault (option_and_then (change present.problem) moved) _ (λ changing c.
+        unless_fault {X = ℚ} card VerbFault.NoParmax state.cells.xparmax _ (λ last l.
+        unless_fault {X = ℚ} card VerbFault.ParmaxBelow (not_less state.cells.xparam last) _ (λ to t.
+        asked (OfSweep (record { changing = changing; from = state.cells.xparam; to = to; limit = state.cells.xiterlim })) present state lp _
+        (one (record { changing = changing; from = state.cells.xparam; to = to; limit = state.cells.xiterlim })) lawful knows e is
+        (changes_part change of_problem present.problem moved changing c, last_no_less state.cells.xparam last to t))))))
+
+  module _ (answers : AnswersOnce S) where
+    verb_once : (verb : Verb ℕ) (card : ℕ) (state : State) → HasProblem state.setup → Knows state → IsOnce S (verb_move verb card state)
+    unfolding verb_move
+    verb_once Initialz card state lawful knows = does _
+    verb_once (Title text) card state lawful knows = does _
+    verb_once (MoveName cell name) card state lawful knows = does _
+    verb_once (MoveNumber cell value) card state lawful knows = does _
+    verb_once (MoveLimit limit) card state lawful knows = does _
+    verb_once (Mvadr demand position) card state lawful knows = does _
+    verb_once (Goto position) card state lawful knows = does _
+    verb_once Convert card state lawful knows = converts_once card state
+    verb_once Revise card state lawful knows = revises_once card state
+    verb_once (Setup options) card state lawful knows = sets_up_once card options state
+    verb_once Primal card state lawful knows = solves_once card state lawful knows (answers.paths state.cells.xiterlim)
+    verb_once SolutionVerb card state lawful knows = shows_once card state lawful knows answers.solutions
+    verb_once Ranging card state lawful knows = ranges_once card state lawful knows answers.ranges
+    verb_once Paraobj card state lawful knows =
+        sweeps_once card state lawful knows VerbFault.NoChangeRow change_row state.cells.xchrow row_of_problem answers.sweeps
+    verb_once Pararhs card state lawful knows =
+        sweeps_once card state lawful knows VerbFault.NoChangeSet change_set state.cells.xchcol set_of_problem answers.sweeps
+    verb_once Bcdout card state lawful knows = punches_once card state
+    verb_once Exit card state lawful knows = does _
+
+    if_built_once : (verb : Verb ℕ) (card : ℕ) (state : State) → HasProblem state.setup → Knows state → (built : Bool) → IsOnce S (if_built built (verb_move verb card state))
+    if_built_once verb card state lawful knows true = verb_once verb card state lawful knows
+    if_built_once verb card state lawful knows false = does _
+
+    pub statement_once : (verb : Verb ℕ) (card : ℕ) (state : State) → HasProblem state.setup → Knows state → AsksOnce S (statement_move S verb card state)
+    statement_once verb card state lawful knows = (if_built_once verb card state lawful knows (S.builds verb)).once

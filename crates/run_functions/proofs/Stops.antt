@@ -1,0 +1,239 @@
+-- A statement stops with an overflow only where evidence holds, and never since a device or memory
+-- fails.
+use Rattle.std.proofs.Common.{inl, inr, ℕ, Bool, true, false, List, sym, subst}
+use Rattle.std.specs.Prelude.{Option, Some, None, Result, Ok, Err, option_and_then}
+use Rattle.exact_values.specs.Rational.{ℚ}
+use Rattle.lp_definitions.specs.LinearProgram.{LinearProgram}
+use Rattle.card_definitions.specs.Cards.{Card}
+use Rattle.problem_definitions.specs.Names.{Name}
+use Rattle.problem_definitions.specs.Problem.{Problem}
+use Rattle.deck_definitions.specs.declared.DeckFault.{DeckFault}
+use Rattle.deck_definitions.specs.Conversion.{conversion}
+use Rattle.deck_definitions.specs.Decks.{deck_taken}
+use Rattle.revise_definitions.specs.Revision.{revision}
+use Rattle.control_definitions.specs.Program.{Program, SetupOptions, Verb, Initialz, Title, MoveName, MoveNumber, MoveLimit, Mvadr, Goto, Convert, Setup, Primal, Revise, Ranging, Paraobj, Pararhs, Solution as SolutionVerb, Bcdout, Exit}
+use Rattle.selection_definitions.specs.declared.SelectionFault.{SelectionFault}
+use Rattle.selection_definitions.specs.Choice.{Choice}
+use Rattle.selection_definitions.specs.Selection.{selected}
+use Rattle.listing_definitions.specs.declared.Mark.{Mark}
+use Rattle.listing_definitions.specs.declared.Mark.TheVariants.{Optimal, Infeasible, Unbounded}
+use Rattle.listing_definitions.specs.declared.Solver.TheVariants.{Primal as ByPrimal}
+use Rattle.listing_definitions.specs.declared.VerbFault.{VerbFault}
+use Rattle.listing_definitions.specs.Report.{Report, Converted, Revised, Solved, Solution, Ranges}
+use Rattle.listing_definitions.specs.Ending.{Overflow, Ending, Ended, WordsRefused, ControlStop, VerbStop, DeckStop, CardStop, LimitStop, StatementLimit, OverflowStop, ReadFault, PrintFault, PunchFault, Memory, NotBuilt}
+use Rattle.question_definitions.specs.Answers.{Changing, sweeper, Sweep, Question, Answer, OfSolution, OfRanges, PathEnd, Reached, PathLimit, SweepEnd, Opening, Chained, SweepLimit}
+use Rattle.question_definitions.specs.Solving.{Solving}
+use Rattle.run_definitions.specs.State.{Present, gone_through, State, problem_of, choice_of}
+use Rattle.run_definitions.specs.Moves.{Gain, Outcome, Goes, Ends, Refusals, Move, Does, MayStop, Asks, Gives, or_fault}
+use Rattle.run_definitions.specs.Verbs.{or_deck_fault, or_selection_fault, files, selects, not_less, change_row, change_set, demanded, by_verdict, mark_of, if_optimal, after_path, after_sweep, shows_present, solves, shows, ranges, sweeps, converts, revises, sets_up, punches, verb_move, if_built, statement_move}
+use Rattle.run_definitions.specs.Run.{counted, at_end, at_limit, IsRun, is_over, is_ended}
+use Rattle.run_definitions.specs.Answer.{IsJobRun, card_fault, control_fault, run}
+use Rattle.run_functions.specs.Laws.{HasEvidence}
+
+-- an ending that a run has by itself, where no device and no memory fails
+abbrev pub IsOfItself : Ending → Type 0
+IsOfItself ReadFault = ⊥
+IsOfItself PrintFault = ⊥
+IsOfItself PunchFault = ⊥
+IsOfItself Memory = ⊥
+IsOfItself _ = Unit {0}
+
+-- an ending and an outcome of that kind that isn't a stop for an overflow
+abbrev IsOtherEnding : Ending → Type 0
+IsOtherEnding (OverflowStop overflow) = ⊥
+IsOtherEnding ReadFault = ⊥
+IsOtherEnding PrintFault = ⊥
+IsOtherEnding PunchFault = ⊥
+IsOtherEnding Memory = ⊥
+IsOtherEnding _ = Unit {0}
+
+abbrev IsOther : Outcome → Type 0
+IsOther (Goes gain after) = Unit {0}
+IsOther (Ends gain ending) = IsOtherEnding ending
+
+-- what a move does, or makes of an answer, isn't one
+abbrev DoesOther : Move → Type 0
+DoesOther (Does outcome) = IsOther outcome
+DoesOther (MayStop refusals move) = DoesOther move
+DoesOther (Asks question sheet s go) = (answer : Answer question) → IsOther (go answer)
+
+record NeverStops (move : Move) : Type 0 where
+  other : DoesOther move
+
+does : (outcome : Outcome) → IsOther outcome → NeverStops (Does outcome)
+does outcome other = record { other = other }
+
+may_stop : (refusals : Refusals) (move : Move) → NeverStops move → NeverStops (MayStop refusals move)
+may_stop refusals move never = record { other = never.other }
+
+unless_fault : {X : Type 0} (card : ℕ) (fault : VerbFault) (o : Option X) (go : X → Move) → ((x : X) → NeverStops (go x)) → NeverStops (or_fault card fault o go)
+unless_fault card fault None go never = does _ tt
+unless_fault card fault (Some x) go never = never x
+
+unless_deck_fault : (r : Result (Problem ℕ) DeckFault) (go : Problem ℕ → Move) → ((problem : Problem ℕ) → NeverStops (go problem)) → NeverStops (or_deck_fault r go)
+unless_deck_fault (Err fault) go never = does _ tt
+unless_deck_fault (Ok problem) go never = never problem
+
+unless_selection_fault : (card : ℕ) (r : Result LinearProgram SelectionFault) (go : LinearProgram → Move) → ((lp : LinearProgram) → NeverStops (go lp)) → NeverStops (or_selection_fault card r go)
+unless_selection_fault card (Err fault) go never = does _ tt
+unless_selection_fault card (Ok lp) go never = never lp
+
+selecting : (card : ℕ) (problem : Problem ℕ) (choice : Choice) (go : LinearProgram → Move) → ((lp : LinearProgram) → NeverStops (go lp)) → NeverStops (selects card problem choice go)
+selecting card problem choice go never = unless_selection_fault card (selected problem choice) _ (λ lp. may_stop _ (go lp) (never lp))
+
+-- ---- verbs
+
+converts_never : (card : ℕ) (state : State) → NeverStops (converts card state)
+converts_never card state =
+    unless_fault {X = List Card × List (List Card)} card VerbFault.DeckNotFound (deck_taken state.cells.xdata state.decks) _ (λ taken.
+    unless_deck_fault (conversion taken.0 state.cells.xpbname) (files Converted taken.1 state) (λ problem. does _ tt))
+
+revises_never : (card : ℕ) (state : State) → NeverStops (revises card state)
+revises_never card state =
+    unless_fault card VerbFault.NoProblem (problem_of state.cells.xoldname state.file) _ (λ old.
+    unless_fault {X = List Card × List (List Card)} card VerbFault.DeckNotFound (deck_taken state.cells.xdata state.decks) _ (λ taken.
+    unless_deck_fault (revision old taken.0 state.cells.xpbname) (files Revised taken.1 state) (λ problem. does _ tt)))
+
+sets_up_never : (card : ℕ) (options : SetupOptions) (state : State) → NeverStops (sets_up card options state)
+sets_up_never card options state =
+    unless_fault card VerbFault.NoProblem (problem_of state.cells.xpbname state.file) _ (λ problem.
+    selecting card problem (choice_of state.cells options) _ (λ lp. does _ tt))
+
+punches_never : (card : ℕ) (state : State) → NeverStops (punches card state)
+punches_never card state = unless_fault card VerbFault.NoProblem (problem_of state.cells.xpbname state.file) _ (λ problem. does _ tt)
+
+demanded_other : (position : Option ℕ) (code : ℕ) (report : Report) (state : State) → IsOther (demanded position code report state)
+demanded_other (Some position) code report state = tt
+demanded_other None code report state = tt
+
+by_verdict_other : (mark : Mark) (report : Report) (state : State) → IsOther (by_verdict mark report state)
+by_verdict_other Optimal report state = tt
+by_verdict_other Infeasible report state = demanded_other state.cells.xdonfs 1 report state
+by_verdict_other Unbounded report state = demanded_other state.cells.xdounb 2 report state
+
+after_path_other : (card : ℕ) (present : Present) (state : State) (end : PathEnd) → IsOther (after_path card present state end)
+after_path_other card present state (Reached bases verdict check) =
+    by_verdict_other (mark_of verdict) (Solved ByPrimal verdict check) (record state { setup = Some (gone_through bases present); mark = Some (mark_of verdict) })
+after_path_other card present state PathLimit = tt
+
+after_sweep_other : (card : ℕ) (sweep : Sweep) (present : Present) (state : State) (end : SweepEnd) → IsOther (after_sweep card sweep present state end)
+after_sweep_other card sweep present state (Opening bases verdict check) =
+    by_verdict_other (mark_of verdict) (Solved (sweeper sweep.changing) verdict check) (record state { setup = Some (gone_through bases present); mark = None })
+after_sweep_other card sweep present state (Chained bases intervals end) = tt
+after_sweep_other card sweep present state SweepLimit = tt
+
+module _ (card : ℕ) (state : State) where
+  solves_never : NeverStops (solves card state)
+  solves_never =
+      unless_fault card VerbFault.NoSetup state.setup _ (λ present.
+      selecting card present.problem (choice_of state.cells present.options) _ (λ lp.
+      record { other = after_path_other card present state }))
+
+  showing_never : (present : Present) (question : Question) (report : Answer question → Report) → NeverStops (shows_present card state present question report)
+  showing_never present question report = unless_selection_fault card (selected present.problem (choice_of state.cells present.options)) _ (λ lp. record { other = λ lines. tt })
+
+  shows_never : NeverStops (shows card state)
+  shows_never =
+      unless_fault card VerbFault.NoSetup state.setup _ (λ present.
+      unless_fault card VerbFault.NotSolved state.mark _ (λ mark.
+      showing_never present (OfSolution mark) (Solution mark)))
+
+  ranges_never : NeverStops (ranges card state)
+  ranges_never =
+      unless_fault card VerbFault.NoSetup state.setup _ (λ present.
+      unless_fault card VerbFault.NotSolved state.mark _ (λ mark.
+      unless_fault {X = Mark} card VerbFault.NotOptimal (if_optimal mark) _ (λ optimal.
+      showing_never present OfRanges Ranges)))
+
+  sweeps_never : (fault : VerbFault) (change : Problem ℕ → Name → Option Changing) (moved : Option Name) → NeverStops (sweeps card fault change moved state)
+  sweeps_never fault change moved =
+      unless_fault card VerbFault.NoSetup state.setup _ (λ present.
+      selecting card present.problem (choice_of state.cells present.options) _ (λ lp.
+      unless_fault {X = Changing} card fault (option_and_then (change present.problem) moved) _ (λ changing.
+      unless_fault {X = ℚ} card VerbFault.NoParmax state.cells.xparmax _ (λ last.
+      unless_fault {X = ℚ} card VerbFault.ParmaxBelow (not_less state.cells.xparam last) _ (λ to.
+      record { other = after_sweep_other card (record { changing = changing; from = state.cells.xparam; to = to; limit = state.cells.xiterlim }) present state })))))
+
+verb_never : (verb : Verb ℕ) (card : ℕ) (state : State) → NeverStops (verb_move verb card state)
+unfolding verb_move
+verb_never Initialz card state = does _ tt
+verb_never (Title text) card state = does _ tt
+verb_never (MoveName cell name) card state = does _ tt
+verb_never (MoveNumber cell value) card state = does _ tt
+verb_never (MoveLimit limit) card state = does _ tt
+verb_never (Mvadr demand position) card state = does _ tt
+verb_never (Goto position) card state = does _ tt
+verb_never Convert card state = converts_never card state
+verb_never Revise card state = revises_never card state
+verb_never (Setup options) card state = sets_up_never card options state
+verb_never Primal card state = solves_never card state
+verb_never SolutionVerb card state = shows_never card state
+verb_never Ranging card state = ranges_never card state
+verb_never Paraobj card state = sweeps_never card state VerbFault.NoChangeRow change_row state.cells.xchrow
+verb_never Pararhs card state = sweeps_never card state VerbFault.NoChangeSet change_set state.cells.xchcol
+verb_never Bcdout card state = punches_never card state
+verb_never Exit card state = does _ tt
+
+if_built_never : (built : Bool) (verb : Verb ℕ) (card : ℕ) (state : State) → NeverStops (if_built built (verb_move verb card state))
+if_built_never true verb card state = verb_never verb card state
+if_built_never false verb card state = does _ tt
+
+-- ---- so an overflow has evidence
+
+module _ (S : Solving) (card : ℕ) (gain : Gain) (overflow : Overflow) where
+  by_evidence : (move : Move) → DoesOther move → Gives S card move (Ends gain (OverflowStop overflow)) → HasEvidence S move
+  by_evidence (Does outcome) other gives = subst IsOther (sym gives) other
+  by_evidence (MayStop refusals move) other (inl gives) = inr (by_evidence move other gives)
+  by_evidence (MayStop refusals move) other (inr stop) = inl (stop.0, stop.1, stop.2)
+  by_evidence (Asks question sheet s go) other gives = subst IsOther (sym gives.2) (other gives.0)
+
+  pub statement_evidence : (verb : Verb ℕ) (state : State) → Gives S card (statement_move S verb card state) (Ends gain (OverflowStop overflow)) → HasEvidence S (statement_move S verb card state)
+  statement_evidence verb state gives = by_evidence (statement_move S verb card state) (if_built_never (S.builds verb) verb card state).other gives
+
+-- ---- and no statement ends a run as a device or memory does
+
+of_itself : (ending : Ending) → IsOtherEnding ending → IsOfItself ending
+of_itself (Ended code) other = tt
+of_itself WordsRefused other = tt
+of_itself (ControlStop fault) other = tt
+of_itself (VerbStop fault) other = tt
+of_itself (DeckStop fault) other = tt
+of_itself (CardStop fault) other = tt
+of_itself (LimitStop reached) other = tt
+of_itself StatementLimit other = tt
+of_itself (OverflowStop overflow) other = tt
+of_itself ReadFault other = other
+of_itself PrintFault other = other
+of_itself PunchFault other = other
+of_itself Memory other = other
+of_itself NotBuilt other = tt
+
+abbrev EndsOfItself : Outcome → Type 0
+EndsOfItself (Goes gain after) = Unit {0}
+EndsOfItself (Ends gain ending) = IsOfItself ending
+
+outcome_of_itself : (outcome : Outcome) → IsOther outcome → EndsOfItself outcome
+outcome_of_itself (Goes gain after) other = tt
+outcome_of_itself (Ends gain ending) other = of_itself ending other
+
+module _ (S : Solving) (card : ℕ) (given : Outcome) where
+  gives_of_itself : (move : Move) → DoesOther move → Gives S card move given → EndsOfItself given
+  gives_of_itself (Does outcome) other gives = subst EndsOfItself (sym gives) (outcome_of_itself outcome other)
+  gives_of_itself (MayStop refusals move) other (inl gives) = gives_of_itself move other gives
+  gives_of_itself (MayStop refusals move) other (inr stop) = subst EndsOfItself (sym stop.3) tt
+  gives_of_itself (Asks question sheet s go) other gives = subst EndsOfItself (sym gives.2) (outcome_of_itself (go gives.0) (other gives.0))
+
+  statement_of_itself : (verb : Verb ℕ) (state : State) → Gives S card (statement_move S verb card state) given → EndsOfItself given
+  statement_of_itself verb state gives = gives_of_itself (statement_move S verb card state) (if_built_never (S.builds verb) verb card state).other gives
+
+module _ (S : Solving) where
+  run_of_itself : (program : Program) (decks : List (List Card)) (reports : List Report) (cards : List (List ℕ)) (ending : Ending) → IsRun S program decks reports cards ending → IsOfItself ending
+  run_of_itself program decks _ _ _ (is_over came (at_end past)) = tt
+  run_of_itself program decks _ _ _ (is_over came (at_limit within limit)) = tt
+  run_of_itself program decks _ _ ending (is_ended {state = state} gain came step) = statement_of_itself S step.statement.card (Ends gain ending) step.statement.verb (counted state) step.gives
+
+  -- a run of a job, where nothing fails, ends by itself
+  pub job_of_itself : (bytes : List ℕ) (reports : List Report) (cards : List (List ℕ)) (ending : Ending) → IsJobRun S bytes reports cards ending → IsOfItself ending
+  job_of_itself bytes _ _ _ (card_fault fault is) = tt
+  job_of_itself bytes _ _ _ (control_fault fault fine is) = tt
+  job_of_itself bytes reports cards ending (run program is runs) = run_of_itself program _ reports cards ending runs

@@ -1,0 +1,12 @@
+pub mod Cards
+pub mod Accepts
+pub mod Facts
+pub mod Rows
+pub mod Sets
+pub mod Entries
+pub mod Bounds
+pub mod Numbers
+pub mod Printable
+pub mod Texts
+pub mod Decks
+pub mod Whole

@@ -1,0 +1,61 @@
+-- Names in place of numbers and numbers in place of names: the problem again.
+use Rattle.std.proofs.Common.{◌≡◌, ℕ, List, [], ◌∷◌, length, map, refl, ap, ap₂, sym, ◌∙◌, subst}
+use Rattle.std.specs.List.{AllByRecursion, IsDistinct}
+use Rattle.std.proofs.lemmas.List.{length-map}
+use Rattle.problem_definitions.specs.Names.{Name, same, number_in, name_at}
+use Rattle.problem_definitions.specs.Problem.{Entry, Bound, Group, Problem, row_names, group_names}
+use Rattle.problem_definitions.specs.Numbering.{entry_by, bound_by, group_by, numbered, by_names}
+use Rattle.problem_definitions.specs.Valid.{IsNumberOf, AreEntries, AreBounds, IsProblem}
+use Rattle.problem_definitions.proofs.Groups.{map-map}
+use Rattle.problem_definitions.proofs.Each.{each-change}
+use Rattle.problem_definitions.proofs.Lawful.{names-by}
+use Rattle.revise_laws.proofs.Places.{all-each, number_in-name_at}
+
+map-kept : {X : Type 0} (f : X → X) (xs : List X) → AllByRecursion (λ x. f x ≡ x) xs → map f xs ≡ xs
+map-kept f [] each = refl
+map-kept f (x ∷ xs) each = ap₂ (λ y ys. y ∷ ys) each.0 (map-kept f xs each.1)
+
+groups-again : {X Y : Type 0} (to : X → Y) (back : Y → X) (groups : List (Group X)) → AllByRecursion (λ group. AllByRecursion (λ item. back (to item) ≡ item) group.items) groups
+    → map (group_by back) (map (group_by to) groups) ≡ groups
+groups-again to back [] each = refl
+groups-again to back (group ∷ groups) each =
+    ap₂ (λ items rest. record { name = group.name; items = items } ∷ rest) (map-map back to group.items ∙ map-kept (λ item. back (to item)) group.items each.0) (groups-again to back groups each.1)
+
+module _ (names : List Name) (distinct : IsDistinct same names) (count : ℕ) (counted : count ≡ length names) where
+  again : (number : ℕ) → IsNumberOf count number → number_in names (name_at names number) ≡ number
+  again number is = number_in-name_at names distinct number (subst (λ n. IsNumberOf n number) counted is)
+
+  entries-again : (groups : List (Group (Entry ℕ))) → AllByRecursion (λ (group : Group (Entry ℕ)). AreEntries count group.items) groups
+      → map (group_by (entry_by (number_in names))) (map (group_by (entry_by (name_at names))) groups) ≡ groups
+  entries-again groups each = groups-again (entry_by (name_at names)) (entry_by (number_in names)) groups
+      (each-change (λ (group : Group (Entry ℕ)). AreEntries count group.items) (λ group. AllByRecursion (λ entry. entry_by (number_in names) (entry_by (name_at names) entry) ≡ entry) group.items)
+      (λ group are. each-change (λ (entry : Entry ℕ). IsNumberOf count entry.row) (λ entry. entry_by (number_in names) (entry_by (name_at names) entry) ≡ entry)
+      (λ entry is. ap (λ row. record { row = row; value = entry.value }) (again entry.row is)) group.items (all-each (λ (entry : Entry ℕ). IsNumberOf count entry.row) group.items are.on_rows)) groups each)
+
+  bounds-again : (groups : List (Group (Bound ℕ))) → AllByRecursion (λ (group : Group (Bound ℕ)). AreBounds count group.items) groups
+      → map (group_by (bound_by (number_in names))) (map (group_by (bound_by (name_at names))) groups) ≡ groups
+  bounds-again groups each = groups-again (bound_by (name_at names)) (bound_by (number_in names)) groups
+      (each-change (λ (group : Group (Bound ℕ)). AreBounds count group.items) (λ group. AllByRecursion (λ bound. bound_by (number_in names) (bound_by (name_at names) bound) ≡ bound) group.items)
+      (λ group are. each-change (λ (bound : Bound ℕ). IsNumberOf count bound.column) (λ bound. bound_by (number_in names) (bound_by (name_at names) bound) ≡ bound)
+      (λ bound is. ap (λ column. record { kind = bound.kind; column = column; value = bound.value }) (again bound.column is)) group.items (all-each (λ (bound : Bound ℕ). IsNumberOf count bound.column) group.items are.on_columns)) groups each)
+
+-- A problem by numbers comes back from its names.
+pub numbered-by_names : (p : Problem ℕ) → IsProblem p → numbered (by_names p) ≡ p
+unfolding by_names numbered
+numbered-by_names p is = λ i. record {
+  name = p.name;
+  rows = p.rows;
+  columns = by_row p.columns (all-each (λ (column : Group (Entry ℕ)). AreEntries (length p.rows) column.items) p.columns is.entries) i;
+  rhs = by_row p.rhs (all-each (λ (set : Group (Entry ℕ)). AreEntries (length p.rows) set.items) p.rhs is.rhs_items) i;
+  ranges = by_row p.ranges (all-each (λ (set : Group (Entry ℕ)). AreEntries (length p.rows) set.items) p.ranges is.range_items) i;
+  bounds = by_column i;
+}
+  where
+    by_row : (groups : List (Group (Entry ℕ))) → AllByRecursion (λ (group : Group (Entry ℕ)). AreEntries (length p.rows) group.items) groups
+        → map (group_by (entry_by (number_in (row_names p)))) (map (group_by (entry_by (name_at (row_names p)))) groups) ≡ groups
+    by_row groups each = entries-again (row_names p) is.rows.distinct (length p.rows) (sym (length-map p.rows (λ row. row.name))) groups each
+
+    by_column : map (group_by (bound_by (number_in (group_names (map (group_by (entry_by (name_at (row_names p)))) p.columns))))) (map (group_by (bound_by (name_at (group_names p.columns)))) p.bounds) ≡ p.bounds
+    by_column =
+        ap (λ names. map (group_by (bound_by (number_in names))) (map (group_by (bound_by (name_at (group_names p.columns)))) p.bounds)) (names-by (entry_by (name_at (row_names p))) p.columns)
+        ∙ bounds-again (group_names p.columns) is.columns.distinct (length p.columns) (sym (length-map p.columns (λ column. column.name))) p.bounds (all-each (λ (set : Group (Bound ℕ)). AreBounds (length p.columns) set.items) p.bounds is.bound_items)
