@@ -432,3 +432,37 @@ pub const REVISIONS: [Row; 10] = [
         listing: b"CONVERT ONE      ROWS 2 COLUMNS 1 ENTRIES 2\nSTOP 10 VERB FAULT 1 CARD 3\n",
     },
 ];
+
+/// Intervals in which a plan stays the best, and statements that ask for them too soon.
+pub const RANGES: [Row; 5] = [
+    Row {
+        name: "range two",
+        job: b"         PROGRAM\n         CONVERT\n         SETUP('BOUND','BND')\n         PRIMAL\n         RANGE\n         EXIT\n         PEND\nNAME          TWO\nROWS\n N  COST\n N  CHG\n L  LIM\nCOLUMNS\n    X         COST      -1\n    X         CHG       -1\n    X         LIM       1\n    Y         COST      -2\n    Y         LIM       1\nRHS\n    B         LIM       4\nBOUNDS\n UP BND       X         3\nENDATA\n",
+        status: 0,
+        listing: b"CONVERT TWO      ROWS 3 COLUMNS 2 ENTRIES 5\nSETUP   TWO      MIN\nPRIMAL OPTIMAL STEPS 3 OBJECTIVE -8 CHECKED\nRANGE\nSECTION 1 - ROWS AT LIMIT LEVEL\n    3 LIM      UL 4 0 NONE\nSECTION 2 - COLUMNS AT LIMIT LEVEL\n    4 X        LL 0 NONE 3 -1 -2 NONE\nSECTION 3 - ROWS AT INTERMEDIATE LEVEL\n    2 CHG      BS 0 NONE 1\nSECTION 4 - COLUMNS AT INTERMEDIATE LEVEL\n    5 Y        BS 4 -2 NONE -1\nEND 0\n",
+    },
+    Row {
+        name: "range testprob",
+        job: b"         PROGRAM\n         CONVERT\n         SETUP('BOUND','BND1')\n         PRIMAL\n         RANGE\n         EXIT\n         PEND\nNAME          TESTPROB\nROWS\n N  COST\n L  LIM1\n G  LIM2\n E  MYEQN\nCOLUMNS\n    XONE      COST      1              LIM1      1\n    XONE      LIM2      1\n    YTWO      COST      4              LIM1      1\n    YTWO      MYEQN     -1\n    ZTHREE    COST      9              LIM2      1\n    ZTHREE    MYEQN     1\nRHS\n    RHS       LIM1      5              LIM2      10\n    RHS       MYEQN     7\nBOUNDS\n UP BND1      XONE      4\n LO BND1      YTWO      -1\n UP BND1      YTWO      1\nENDATA\n",
+        status: 0,
+        listing: b"CONVERT TESTPROB ROWS 4 COLUMNS 3 ENTRIES 9\nSETUP   TESTPROB MIN\nPRIMAL OPTIMAL STEPS 3 OBJECTIVE 54 CHECKED\nRANGE\nSECTION 1 - ROWS AT LIMIT LEVEL\n    3 LIM2     LL 10 6 10\n    4 MYEQN    EQ 7 7 11\nSECTION 2 - COLUMNS AT LIMIT LEVEL\n    6 YTWO     LL -1 -1 1 4 -8 NONE\nSECTION 3 - ROWS AT INTERMEDIATE LEVEL\n    2 LIM1     BS 3 -1 NONE\nSECTION 4 - COLUMNS AT INTERMEDIATE LEVEL\n    5 XONE     BS 4 1 0 13\n    7 ZTHREE   BS 6 9 -3 NONE\nEND 0\n",
+    },
+    Row {
+        name: "unbounded demand range",
+        job: b"         PROGRAM\n         CONVERT\n         SETUP\n         MVADR(XDOUNB,LAB)\n         PRIMAL\n         EXIT\nLAB      RANGE\n         EXIT\n         PEND\nNAME          T\nROWS\n N  COST\nCOLUMNS\n    X         COST      -1\nENDATA\n",
+        status: 10,
+        listing: b"CONVERT T        ROWS 1 COLUMNS 1 ENTRIES 1\nSETUP   T        MIN\nPRIMAL UNBOUNDED STEPS 0 OBJECTIVE 0 CHECKED\n    1 COST     0 -1\n    2 X        0 1\nSTOP 10 VERB FAULT 5 CARD 7\n",
+    },
+    Row {
+        name: "range without a setup",
+        job: b"         PROGRAM\n         CONVERT\n         RANGE\n         EXIT\n         PEND\nNAME          ONE\nROWS\n N  COST\n G  LOW\nCOLUMNS\n    X         COST      1\n    X         LOW       1\nRHS\n    B         LOW       1\nENDATA\n",
+        status: 10,
+        listing: b"CONVERT ONE      ROWS 2 COLUMNS 1 ENTRIES 2\nSTOP 10 VERB FAULT 3 CARD 3\n",
+    },
+    Row {
+        name: "range without a mark",
+        job: b"         PROGRAM\n         CONVERT\n         SETUP\n         RANGE\n         EXIT\n         PEND\nNAME          ONE\nROWS\n N  COST\n G  LOW\nCOLUMNS\n    X         COST      1\n    X         LOW       1\nRHS\n    B         LOW       1\nENDATA\n",
+        status: 10,
+        listing: b"CONVERT ONE      ROWS 2 COLUMNS 1 ENTRIES 2\nSETUP   ONE      MIN\nSTOP 10 VERB FAULT 4 CARD 4\n",
+    },
+];

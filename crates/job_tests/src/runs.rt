@@ -1,7 +1,7 @@
 // Jobs without words over devices that don't fail.
 use crate::jobs::answer_of;
 use crate::rows::{
-    CONTROL_FAULTS, DECK_FAULTS, OVERFLOWS, PLANS, REVISIONS, Row, VERB_FAULTS, VERDICTS,
+    CONTROL_FAULTS, DECK_FAULTS, OVERFLOWS, PLANS, RANGES, REVISIONS, Row, VERB_FAULTS, VERDICTS,
 };
 use std::alloc::Global;
 use std::test::Fail;
@@ -30,6 +30,12 @@ fn first_untold(alloc: Global, rows: &[Row]) -> Result<Option<&'static str>, Fai
 #[test]
 fn plans_are_solved(rt: HostRuntime) -> Result<(), Fail> {
     assert_eq!(rt; first_untold(rt.alloc(), &PLANS)?, None);
+    Ok(())
+}
+
+#[test]
+fn intervals_are_exact(rt: HostRuntime) -> Result<(), Fail> {
+    assert_eq!(rt; first_untold(rt.alloc(), &RANGES)?, None);
     Ok(())
 }
 

@@ -10,7 +10,7 @@ use Rattle.run_laws.specs.Headline.{IsTrueAnswer}
 use Rattle.run_laws.proofs.Runs.{knows_staged, answer_holds}
 use Rattle.run_functions.specs.Laws.{IsFunction}
 use Rattle.run_functions.specs.Complete.{IsComplete}
-use Rattle.run_functions.proofs.Runs.{is_function, answers_without_sweeps}
+use Rattle.run_functions.proofs.Runs.{is_function, answers_once}
 use Rattle.run_functions.proofs.Complete.{answer_is_complete}
 use Rattle.control_run.specs.declared.status.Status.{Status}
 use Rattle.control_run.specs.Stage.{builds, stage}
@@ -32,7 +32,7 @@ stage_knows = knows_staged builds
 -- no parametric run is built
 stage_is_function : IsFunction stage
 unfolding stage
-stage_is_function = is_function (staged builds) (knows_staged builds) (answers_without_sweeps builds refl refl)
+stage_is_function = is_function (staged builds) (knows_staged builds) (answers_once builds)
 
 true_answer : {job : Job} {failures : Failures} {status : ℕ} {PrintGains PunchGains : List ℕ → Type 0} → IsAnswered stage job failures status PrintGains PunchGains →
     IsTrueAnswer stage job failures status PrintGains PunchGains

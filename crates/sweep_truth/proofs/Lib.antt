@@ -1,0 +1,12 @@
+pub mod Intervals
+pub mod Spans
+pub mod Chains
+pub mod ObjectiveGrowth
+pub mod Motions
+pub mod ObjectiveEnds
+pub mod RhsLimits
+pub mod RhsGrowth
+pub mod Cheapest
+pub mod StuckRays
+pub mod RhsEnds
+pub mod Runs

@@ -1,0 +1,10 @@
+pub mod Walks
+pub mod Fickle
+pub mod Numbers
+pub mod Resting
+pub mod FirstClash
+pub mod SecondClash
+pub mod Runs
+pub mod Phases
+pub mod Counts
+pub mod Ending
