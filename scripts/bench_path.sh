@@ -2,7 +2,8 @@
 # Times the path of the simplex method over the dense table: on transportation problems of 20 and of 60 sources and as many
 # destinations, on a sparse problem of 300 rows and 350 columns, and on a table of the greatest size, 1,000 rows and 5,000 columns,
 # whose path ends where it begins. Prints where each path ends, the least processor time of five runs, in seconds, and the peak
-# memory. Then it prints how many of fifty problems of 15 rows and 30 columns, with numbers of two decimals, end without an overflow.
+# memory. Where the proved program is built it also times the job of 60 by 60 from its bytes to its verdict, without and with RANGE.
+# Then it prints how many of fifty problems of 15 rows and 30 columns, with numbers of two decimals, end without an overflow.
 # Usage: scripts/bench_path.sh [PROGRAM], a program that takes the word `path` or none.
 set -eu
 here=$(cd "$(dirname "$0")" && pwd)
@@ -101,6 +102,19 @@ for size in 20 60; do
     transport "$size" >"$deck"
     python3 "$here/timed.py" "$deck" "$program" path
 done
+whole=$here/../crates/mps360/out/mps360
+if [ -x "$whole" ]; then
+    for ranging in "" "         RANGE"; do
+        {
+            printf '         %s\n' PROGRAM CONVERT SETUP PRIMAL
+            [ -z "$ranging" ] || echo "$ranging"
+            printf '         %s\n' EXIT PEND
+            transport 60
+        } >"$deck"
+        echo "the whole job of 60 by 60${ranging:+ with RANGE}:"
+        python3 "$here/timed.py" "$deck" "$whole"
+    done
+fi
 sparse >"$deck"
 python3 "$here/timed.py" "$deck" "$program" path
 greatest >"$deck"
