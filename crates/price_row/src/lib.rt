@@ -1,7 +1,7 @@
 //! The row of a basic, carried backwards through an eta file and multiplied with the columns of the deck.
 #![tactic(auto)]
 
-ghost use Rattle.std.specs.Prelude.{◌≡◌, ℕ, ◌+◌, ◌-◌, ◌≤◌, ◌<◌, length, IfOk, IfErr, OnOk};
+ghost use Rattle.std.specs.Prelude.{◌≡◌, ◌≢◌, ℕ, ◌+◌, ◌-◌, ◌≤◌, ◌<◌, length, IfOk, IfErr, OnOk};
 ghost use Rattle.lp_definitions.specs.LinearProgram.{size, value_at};
 ghost use Rattle.lp_definitions.specs.Basis.{IsBasic};
 ghost use Rattle.lp_model.specs.RatesCalls.{IsRowOf, RowOverflow};
@@ -54,6 +54,7 @@ impl PriceRow {
         requires room { self.old ≡ size file.now.matrix }
         ensures rates { OnOk result (IsRowOf file.now.matrix file.now.basics i (value_at out.new)) }
         ensures overflow { RowOverflow result file.now.matrix file.now.basics (ways_of file.now) (ways_of file.now) }
+        ensures never { IfErr result (λ stop. stop ≢ Stop.NoMemory) }
         ensures same { self.new ≡ self.old }
     {
         match carried_row(file, lp, i, out) {
