@@ -7,6 +7,7 @@ use certificate_check::{Verdict, check_optimal};
 use eta_file::ByColumns;
 use frac128::Frac;
 use lp_model::{Basis, Engine, Entry, Lp, Outcome, Sense};
+use price_row::PriceRow;
 use reinversion::{ProductForm, Reinverted};
 use std::alloc::{AllocError, Global};
 use std::test::Fail;
@@ -186,7 +187,8 @@ fn solve<E: Engine>(
     lp: &Lp,
     limit: u32,
 ) -> Result<(Result<Outcome, PrimalStop>, E), Fail>
-    ensures { IfOk result (λ found. IfOk found.0 (IsTrueOutcome lp.now)) }
+    ensures truth { IfOk result (λ found. IfOk found.0 (IsTrueOutcome lp.now)) }
+    ensures matrix { IfOk result (λ found. E.matrix found.1 ≡ lp.now.matrix) }
 {
     let mut basis = Basis::opening(alloc, lp)?;
     let mut rates = E::start(alloc, lp)?;
@@ -221,6 +223,20 @@ fn is_optimal<E: Engine>(
             && point.values() == values
             && prices.values() == costs,
     )
+}
+
+/// Whether the row of the basic `i`, carried back through the file that this many steps leave, has these rates.
+fn is_row(alloc: Global, lp: &Lp, number: u32, i: u32, costs: &[Frac]) -> Result<bool, Fail> {
+    let (_, rates) = solve::<ProductForm>(alloc, lp, number)?;
+    let file = rates.file();
+    let size = file.size();
+    if i == 0 || i > size || !file.is_basic(i) {
+        return Ok(false);
+    }
+    let mut out = vec![in alloc; Frac::whole(0); size as usize]?;
+    let mut room = PriceRow::new(alloc, lp)?;
+    let answer = room.row(file, lp, i, &mut out);
+    Ok(answer.is_ok() && out.as_slice() == costs)
 }
 
 #[test]
@@ -264,5 +280,13 @@ fn a_file_is_made_anew(rt: HostRuntime) -> Result<(), Fail> {
     assert_eq!(rt; rates.file().etas(), 2);
     assert!(rt; rates.file().entries() >= 2);
     assert_eq!(rt; rates.file().eta(1).q, 5);
+    Ok(())
+}
+
+#[test]
+fn the_row_of_the_cost_has_the_prices(rt: HostRuntime) -> Result<(), Fail> {
+    let lp = testprob(rt.alloc())?;
+    let prices = [0, 0, 1, 8, 0, 12, 0].map(whole);
+    assert!(rt; is_row(rt.alloc(), &lp, 3, 1, &prices)?);
     Ok(())
 }

@@ -61,6 +61,7 @@ fn rate_in(file: &EtaFile, i: u32, k: u32, room: &mut [Frac]) -> Result<Frac, St
     requires places { length room.old ≡ size file.now.matrix }
     ensures value { IfOk result (IsRateAt file.now i k) }
     ensures overflow { IfErr result (IsColumnStop file.now) }
+    ensures never { IfErr result (λ stop. stop ≢ Stop.NoMemory) }
 {
     let _size = file.size();
     if file.is_basic(k) {
@@ -70,7 +71,7 @@ fn rate_in(file: &EtaFile, i: u32, k: u32, room: &mut [Frac]) -> Result<Frac, St
     Ok(room[i as usize - 1])
 }
 
-/// Fills `out` with the rates of the basic `i`, by the column of each nonbasic, with room for it.
+/// Fills `out` with the rates of the basic `i`, by the column of each nonbasic, with room for it. It takes no memory.
 pub fn row_by_columns(
     file: &EtaFile,
     i: u32,
@@ -82,6 +83,7 @@ pub fn row_by_columns(
     requires room { length room.old ≡ size file.now.matrix }
     ensures rates { OnOk result (IsRowOf file.now.matrix file.now.basics i (value_at out.new)) }
     ensures overflow { RowOverflow result file.now.matrix file.now.basics (ways_of file.now) (ways_of file.now) }
+    ensures never { IfErr result (λ stop. stop ≢ Stop.NoMemory) }
 {
     for k in 0..file.size() {
         out[k as usize] = rate_in(file, i, k + 1, room)?;

@@ -15,3 +15,8 @@ pub returns-in_err-out-clause-overflow : goal.returns-in_err-out-clause-overflow
 returns-in_err-out-clause-overflow c =
     let is_err : c.from_residual.result ≡ Err c.in_err-out.field-0.0 = search rules in
     rw is_err (row_stop c.args.file.now c.in_err-out.field-0.0 c.in_err-out.ensures.overflow)
+
+pub returns-in_err-out-clause-never : goal.returns-in_err-out-clause-never
+returns-in_err-out-clause-never c =
+    let is_err : c.from_residual.result ≡ Err c.in_err-out.field-0.0 = search rules in
+    rw is_err c.in_err-out.ensures.never

@@ -1,0 +1,4 @@
+pub mod SumSteps
+pub mod OtherBasics
+pub mod CarriedBack
+pub mod RowSteps

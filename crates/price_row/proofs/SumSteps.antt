@@ -1,0 +1,58 @@
+-- One product more.
+use Rattle.std.proofs.Common.{◌≡◌, ◌≢◌, ℕ, zero, suc, ◌+◌, ◌<◌, List, [], ◌∷◌, length, take, get_or, refl, sym, ◌∙◌, ap, true, false, cond, Bool, arith, add-one}
+use Rattle.std.specs.Prelude.{nat_eq}
+use Rattle.std.proofs.lemmas.List.{get_or_default}
+use Rattle.exact_values.specs.Rational.{ℚ, ◌+ℚ◌, ◌*ℚ◌}
+use Rattle.lp_definitions.specs.LinearProgram.{value_at}
+use Rattle.lp_definitions.specs.RatesEvidence.{sum_from}
+use Rattle.lp_definitions.specs.declared.Entry.{Entry}
+use Rattle.eta_file.specs.declared.eta.EtaEntry.{EtaEntry}
+use Rattle.price_row.specs.Sums.{weighted, products}
+
+pub weighted-take : (p : ℕ) (xs : List ℚ) (es : List EtaEntry) (n : ℕ) (d : EtaEntry) (start : ℚ) → n < length es
+    → sum_from start (weighted p xs (take (suc n) es)) ≡ (λ (s : ℚ). cond (nat_eq (get_or es n d).i p) s (s +ℚ value_at xs (get_or es n d).i *ℚ (get_or es n d).rate)) (sum_from start (weighted p xs (take n es)))
+weighted-take p xs [] n d start below = absurd (omega arith)
+weighted-take p xs (e ∷ es) zero d start below = at (nat_eq e.i p)
+  where
+    at : (same : Bool) → sum_from start (cond same [] ((value_at xs e.i *ℚ e.rate) ∷ [])) ≡ cond same start (start +ℚ value_at xs e.i *ℚ e.rate)
+    at true = refl
+    at false = refl
+weighted-take p xs (e ∷ es) (suc n) d start below =
+    at (nat_eq e.i p) (weighted-take p xs es n d start (omega arith)) (weighted-take p xs es n d (start +ℚ value_at xs e.i *ℚ e.rate) (omega arith))
+  where
+    at : (same : Bool) → sum_from start (weighted p xs (take (suc n) es)) ≡ cond (nat_eq (get_or es n d).i p) (sum_from start (weighted p xs (take n es))) (sum_from start (weighted p xs (take n es)) +ℚ value_at xs (get_or es n d).i *ℚ (get_or es n d).rate)
+        → sum_from (start +ℚ value_at xs e.i *ℚ e.rate) (weighted p xs (take (suc n) es)) ≡ cond (nat_eq (get_or es n d).i p) (sum_from (start +ℚ value_at xs e.i *ℚ e.rate) (weighted p xs (take n es))) (sum_from (start +ℚ value_at xs e.i *ℚ e.rate) (weighted p xs (take n es)) +ℚ value_at xs (get_or es n d).i *ℚ (get_or es n d).rate)
+        → sum_from start (cond same (weighted p xs (take (suc n) es)) ((value_at xs e.i *ℚ e.rate) ∷ weighted p xs (take (suc n) es)))
+        ≡ cond (nat_eq (get_or es n d).i p) (sum_from start (cond same (weighted p xs (take n es)) ((value_at xs e.i *ℚ e.rate) ∷ weighted p xs (take n es))))
+        (sum_from start (cond same (weighted p xs (take n es)) ((value_at xs e.i *ℚ e.rate) ∷ weighted p xs (take n es))) +ℚ value_at xs (get_or es n d).i *ℚ (get_or es n d).rate)
+    at true skipped counted = skipped
+    at false skipped counted = counted
+
+module _ (p : ℕ) (xs : List ℚ) (es : List EtaEntry) (n : ℕ) (e : EtaEntry) (start : ℚ) (below : n < length es) (is : e ≡ get_or es n e) where
+  next_step : sum_from start (weighted p xs (take (n + 1) es)) ≡ cond (nat_eq e.i p) (sum_from start (weighted p xs (take n es))) (sum_from start (weighted p xs (take n es)) +ℚ value_at xs e.i *ℚ e.rate)
+  next_step =
+      ap (λ k. sum_from start (weighted p xs (take k es))) (add-one n) ∙ weighted-take p xs es n e start below
+      ∙ ap (λ (x : EtaEntry). cond (nat_eq x.i p) (sum_from start (weighted p xs (take n es))) (sum_from start (weighted p xs (take n es)) +ℚ value_at xs x.i *ℚ x.rate)) (sym is)
+
+  pub weighted_same : e.i ≡ p → sum_from start (weighted p xs (take (n + 1) es)) ≡ sum_from start (weighted p xs (take n es))
+  weighted_same same =
+      let here : nat_eq e.i p ≡ true = grind (arith, same) in
+      next_step ∙ ap (λ t. cond t (sum_from start (weighted p xs (take n es))) (sum_from start (weighted p xs (take n es)) +ℚ value_at xs e.i *ℚ e.rate)) here
+
+  pub weighted_more : e.i ≢ p → sum_from start (weighted p xs (take (n + 1) es)) ≡ sum_from start (weighted p xs (take n es)) +ℚ value_at xs e.i *ℚ e.rate
+  weighted_more other =
+      let away : nat_eq e.i p ≡ false = grind (arith, other) in
+      next_step ∙ ap (λ t. cond t (sum_from start (weighted p xs (take n es))) (sum_from start (weighted p xs (take n es)) +ℚ value_at xs e.i *ℚ e.rate)) away
+
+products-take : (xs : List ℚ) (c : List Entry) (n : ℕ) (d : Entry) (start : ℚ) → n < length c → sum_from start (products xs (take (suc n) c)) ≡ sum_from start (products xs (take n c)) +ℚ value_at xs (get_or c n d).row *ℚ (get_or c n d).value
+products-take xs [] n d start below = absurd (omega arith)
+products-take xs (e ∷ es) zero d start below = refl
+products-take xs (e ∷ es) (suc n) d start below = products-take xs es n d (start +ℚ value_at xs e.row *ℚ e.value) (omega arith)
+
+pub products_more : (xs : List ℚ) (c : List Entry) (n : ℕ) (e : Entry) (start : ℚ) → n < length c → e ≡ get_or c n e → sum_from start (products xs (take (n + 1) c)) ≡ sum_from start (products xs (take n c)) +ℚ value_at xs e.row *ℚ e.value
+products_more xs c n e start below is =
+    ap (λ k. sum_from start (products xs (take k c))) (add-one n) ∙ products-take xs c n e start below
+    ∙ ap (λ (x : Entry). sum_from start (products xs (take n c)) +ℚ value_at xs x.row *ℚ x.value) (sym is)
+
+pub element_at : {X : Type 0} (xs : List X) (n : ℕ) (e : X) → n < length xs → e ≡ get_or xs n e → (d : X) → get_or xs n d ≡ e
+element_at xs n e below is d = get_or_default xs n d e below ∙ sym is

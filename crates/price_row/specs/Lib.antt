@@ -1,0 +1,4 @@
+pub mod Sums
+pub mod Known
+pub mod Room
+pub mod Places

@@ -1,0 +1,174 @@
+//! The row of a basic, carried backwards through an eta file and multiplied with the columns of the deck.
+#![tactic(auto)]
+
+ghost use Rattle.std.specs.Prelude.{◌≡◌, ◌≢◌, ℕ, ◌+◌, ◌-◌, ◌≤◌, ◌<◌, length, IfOk, IfErr, OnOk};
+ghost use Rattle.lp_definitions.specs.LinearProgram.{size, value_at};
+ghost use Rattle.lp_definitions.specs.Basis.{IsBasic};
+ghost use Rattle.lp_model.specs.RatesCalls.{IsRowOf, RowOverflow};
+ghost use Rattle.eta_file.specs.Inverse.{ways_of};
+ghost use Rattle.price_row.specs.Known.{IsKnown, IsFilledFrom, IsRateOf, IsUnit, IsMultiplierAt};
+
+mod sums;
+
+use eta_file::{EtaFile, row_by_columns};
+use frac128::{Frac, Refused};
+use lp_model::{Lp, NoMemory, Stop};
+use std::alloc::Global;
+use std::marker::Model;
+use sums::{sum_of_column, sum_over};
+
+/// Rows of an inverse that is kept as an eta file, with room for a direction.
+#[derive(Drop)]
+pub struct PriceRow {
+    room: Vec<Frac>,
+}
+
+impl Model for PriceRow {
+    ghost use Rattle.std.specs.Prelude.{ℕ};
+
+    ghost Value = { ℕ };
+
+    ghost use Rattle.price_row.specs.Room.{room_of};
+
+    ghost view = { room_of };
+}
+
+impl PriceRow {
+    /// Room for rows of files of this matrix.
+    pub fn new(alloc: Global, lp: &Lp) -> Result<PriceRow, NoMemory>
+        ensures { IfOk result (λ room. room ≡ size lp.now.matrix) }
+    {
+        let size = lp.number_of_variables();
+        Ok(PriceRow {
+            room: vec![in alloc; Frac::whole(0); size as usize]?,
+        })
+    }
+
+    /// Fills `out`, which has a place for each variable, with the rates of the basic `i`: its rate at each nonbasic, and 0 at each
+    /// basic. The row is carried backwards through the file; where an operation of it is refused, it is had by the columns carried
+    /// forward. It takes no memory.
+    pub fn row(&mut self, file: &EtaFile, lp: &Lp, i: u32, out: &mut [Frac]) -> Result<(), Stop>
+        requires basic { IsBasic file.now.matrix file.now.basics i }
+        requires places { length out.old ≡ size file.now.matrix }
+        requires same_matrix { lp.now.matrix ≡ file.now.matrix }
+        requires room { self.old ≡ size file.now.matrix }
+        ensures rates { OnOk result (IsRowOf file.now.matrix file.now.basics i (value_at out.new)) }
+        ensures overflow { RowOverflow result file.now.matrix file.now.basics (ways_of file.now) (ways_of file.now) }
+        ensures never { IfErr result (λ stop. stop ≢ Stop.NoMemory) }
+        ensures same { self.new ≡ self.old }
+    {
+        match carried_row(file, lp, i, out) {
+            Ok(()) => Ok(()),
+            Err(_refused) => row_by_columns(file, i, out, &mut self.room),
+        }
+    }
+}
+
+/// The row of the basic `i` at the basics themselves: 1 at `i`, and 0 elsewhere.
+fn begin(i: u32, out: &mut [Frac])
+    requires low { 1 ≤ i }
+    requires high { i ≤ length out.old }
+    ensures { IsUnit i out.new }
+{
+    for place in out.iter_mut() {
+        *place = Frac::whole(0);
+    }
+    out[i as usize - 1] = Frac::whole(1);
+}
+
+/// The multiplier of the leaver of an eta, from those of the set after it.
+fn multiplier_at(file: &EtaFile, place: u32, row: u32, out: &[Frac]) -> Result<Frac, Refused>
+    requires within { place < length file.now.etas }
+    requires basic { IsBasic file.now.matrix file.now.basics row }
+    requires places { length out.now ≡ size file.now.matrix }
+    requires known { IsKnown file.now (place + 1) row out.now }
+    ensures value { IfOk result (IsMultiplierAt file.now place row) }
+{
+    let _size = file.size();
+    let _etas = file.etas();
+    let eta = file.eta(place + 1);
+    let pivot = file.pivot(place + 1);
+    let sum = sum_over(eta.entries, eta.p, out[eta.q as usize - 1], out)?;
+    let ratio = sum.div(pivot)?;
+    Ok(ratio.neg())
+}
+
+/// Carries the multipliers of the row back over one eta.
+fn carry_back(file: &EtaFile, place: u32, row: u32, out: &mut [Frac]) -> Result<(), Refused>
+    requires within { place < length file.now.etas }
+    requires basic { IsBasic file.now.matrix file.now.basics row }
+    requires places { length out.old ≡ size file.now.matrix }
+    requires known { IsKnown file.now (place + 1) row out.old }
+    ensures known { OnOk result (IsKnown file.now place row out.new) }
+{
+    let _size = file.size();
+    let _etas = file.etas();
+    let value = multiplier_at(file, place, row, out)?;
+    let eta = file.eta(place + 1);
+    out[eta.p as usize - 1] = value;
+    Ok(())
+}
+
+/// Carries the multipliers of the row back to the rows.
+fn carry_to_rows(file: &EtaFile, row: u32, out: &mut [Frac]) -> Result<(), Refused>
+    requires basic { IsBasic file.now.matrix file.now.basics row }
+    requires places { length out.old ≡ size file.now.matrix }
+    ensures known { OnOk result (IsKnown file.now 0 row out.new) }
+{
+    let _size = file.size();
+    begin(row, out);
+    let etas = file.etas();
+    for back in 0..etas {
+        carry_back(file, etas - 1 - back, row, out)?;
+    }
+    Ok(())
+}
+
+/// The rate of the row at the variable of a place, from the multipliers of the rows up to it.
+fn rate_at(file: &EtaFile, lp: &Lp, place: u32, row: u32, out: &[Frac]) -> Result<Frac, Refused>
+    requires within { place < size file.now.matrix }
+    requires same_matrix { lp.now.matrix ≡ file.now.matrix }
+    requires basic { IsBasic file.now.matrix file.now.basics row }
+    requires places { length out.now ≡ size file.now.matrix }
+    requires filled { IsFilledFrom file.now (place + 1) row out.now }
+    ensures rate { IfOk result (IsRateOf file.now row (place + 1)) }
+{
+    let _size = file.size();
+    let rows = file.rows();
+    if file.is_basic(place + 1) {
+        return Ok(Frac::whole(0));
+    }
+    if place < rows {
+        let multiplier = out[place as usize];
+        return Ok(multiplier.neg());
+    }
+    sum_of_column(lp.column(place + 1 - rows), out)
+}
+
+/// Fills in the rates, the last variable's first, so that the multipliers of the rows stand as long as they are needed.
+fn fill(file: &EtaFile, lp: &Lp, row: u32, out: &mut [Frac]) -> Result<(), Refused>
+    requires same_matrix { lp.now.matrix ≡ file.now.matrix }
+    requires basic { IsBasic file.now.matrix file.now.basics row }
+    requires places { length out.old ≡ size file.now.matrix }
+    requires known { IsFilledFrom file.now (size file.now.matrix) row out.old }
+    ensures filled { OnOk result (IsFilledFrom file.now 0 row out.new) }
+{
+    let size = file.size();
+    for back in 0..size {
+        let place = size - 1 - back;
+        out[place as usize] = rate_at(file, lp, place, row, out)?;
+    }
+    Ok(())
+}
+
+/// Fills `out` with the rates of the basic `row`, carried backwards through the file.
+fn carried_row(file: &EtaFile, lp: &Lp, row: u32, out: &mut [Frac]) -> Result<(), Refused>
+    requires basic { IsBasic file.now.matrix file.now.basics row }
+    requires places { length out.old ≡ size file.now.matrix }
+    requires same_matrix { lp.now.matrix ≡ file.now.matrix }
+    ensures rates { OnOk result (IsRowOf file.now.matrix file.now.basics row (value_at out.new)) }
+{
+    let _size = file.size();
+    carry_to_rows(file, row, out)?;
+    fill(file, lp, row, out)
+}
