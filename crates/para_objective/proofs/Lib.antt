@@ -1,0 +1,4 @@
+pub mod Zeros
+pub mod Reaches
+pub mod Movers
+pub mod Refusals

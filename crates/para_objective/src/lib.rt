@@ -1,0 +1,9 @@
+//! Parametric runs of the objective: a multiple theta of a change row is added to it, and the basis is followed while theta grows.
+#![tactic(auto)]
+
+mod breaks;
+mod choices;
+mod reaching;
+
+pub use breaks::face_mover;
+pub use reaching::reach;

@@ -1,0 +1,161 @@
+//! How far a basis stays optimal.
+
+ghost use Rattle.std.specs.Prelude.{◌≡◌, ◌≢◌, length, IsTrue, None, IfOk, IfErr, OnErr};
+ghost use Rattle.exact_values.specs.Rational.{zero_ℚ, ◌≤ℚ◌};
+ghost use Rattle.frac128.specs.Operations.{refuses};
+ghost use Rattle.frac128.specs.declared.Op.TheVariants.{Div};
+ghost use Rattle.lp_definitions.specs.LinearProgram.{size, value_at, IsRow, IsVariable, IsLinearProgram};
+ghost use Rattle.lp_definitions.specs.Basis.{basics_of, ArePricesOf};
+ghost use Rattle.lp_definitions.specs.RatesEvidence.{Names};
+ghost use Rattle.lp_model.specs.RatesCalls.{IsRowOf};
+ghost use Rattle.path_laws.specs.Laws.{IsNonsingularBasis};
+ghost use Rattle.ranging.specs.Refusals.{IsRefusal};
+ghost use Rattle.para_objective.specs.Reach.{zero_at, meets, IsLeast, IsWithRate, IsReachOf, IsReachFromAny, RateRefused, EndRefused};
+
+use crate::choices::{may_lower, worth};
+use frac128::{Frac, Refused};
+use lp_model::{Basis, Evidence, Lp};
+
+/// Whether the combined rate hasn't passed 0 at the theta whose product with the rate this is.
+fn meets(product: Frac, price: Frac, rate: Frac) -> bool
+    ensures { result ≡ meets product price rate }
+{
+    if rate.is_less(Frac::whole(0)) {
+        return !product.is_less(price.neg());
+    }
+    !price.neg().is_less(product)
+}
+
+/// Whether the product of `best` and the rate can be made, and the combined rate hasn't passed 0 there.
+fn stands_before(best: Frac, price: Frac, rate: Frac) -> bool
+    requires { rate ≢ zero_ℚ }
+    ensures { IsTrue result → best ≤ℚ zero_at price rate }
+{
+    match best.mul(rate) {
+        Ok(product) => meets(product, price, rate),
+        Err(_refused) => false,
+    }
+}
+
+/// The lesser of two values.
+fn lesser(best: Frac, other: Frac) -> Frac
+    ensures { IsLeast best other result }
+{
+    if other.is_less(best) {
+        return other;
+    }
+    best
+}
+
+/// The lesser of `best` and the theta at which the combined rate is 0. Where a product tells that `best` is the lesser, no quotient is
+/// made.
+fn nearer(best: Frac, price: Frac, rate: Frac) -> Result<Frac, Refused>
+    requires { rate ≢ zero_ℚ }
+    ensures nearer { IfOk result (IsLeast best (zero_at price rate)) }
+    ensures refused { IfErr result
+        (λ refused. refused ≡ record { op = Div; left = price; right = rate }) }
+    ensures decided { IfErr result (λ refused. IsTrue (refuses Div price rate)) }
+{
+    if stands_before(best, price, rate) {
+        return Ok(best);
+    }
+    let quotient = price.div(rate)?;
+    Ok(lesser(best, quotient.neg()))
+}
+
+/// Evidence of the refused quotient of `j`.
+fn evidence(j: u32, refused: Refused) -> Evidence
+    ensures names { Names result 16 0 0 0 j 0 }
+    ensures no_way { result.way ≡ 0 }
+    ensures no_theta { result.theta ≡ zero_ℚ }
+    ensures refused { result.refused ≡ refused }
+{
+    Evidence {
+        formula: 16,
+        way: 0,
+        p: 0,
+        q: 0,
+        i: 0,
+        j,
+        term: 0,
+        theta: Frac::whole(0),
+        refused,
+    }
+}
+
+/// `best`, or the end that `k` makes if that is less.
+fn with_rate(
+    lp: &Lp,
+    basis: &Basis,
+    best: Frac,
+    price: Frac,
+    rate: Frac,
+    k: u32,
+) -> Result<Frac, Evidence>
+    requires variable { IsVariable lp.now.matrix k }
+    requires counted { length basis.now ≡ size lp.now.matrix }
+    ensures nearer { IfOk result (IsWithRate lp.now basis.now price rate k best) }
+    ensures moves { OnErr result (rate ≢ zero_ℚ) }
+    ensures refused { IfErr result (IsRefusal 16 0 0 k 0 Div price rate) }
+{
+    if rate.is_zero() {
+        return Ok(best);
+    }
+    if !may_lower(lp, basis, worth(lp.sense, rate), k) {
+        return Ok(best);
+    }
+    match nearer(best, price, rate) {
+        Ok(now) => Ok(now),
+        Err(refused) => Err(evidence(k, refused)),
+    }
+}
+
+/// The least of `max` and the ends that the variables make.
+fn reach_by(
+    lp: &Lp,
+    basis: &Basis,
+    prices: &[Frac],
+    change: &[Frac],
+    max: Frac,
+) -> Result<Frac, Evidence>
+    requires counted { length basis.now ≡ size lp.now.matrix }
+    requires prices { length prices.now ≡ size lp.now.matrix }
+    requires places { length change.now ≡ size lp.now.matrix }
+    ensures reach { IfOk result (IsReachOf lp.now basis.now
+        (value_at prices.now) (value_at change.now) (size lp.now.matrix) max) }
+    ensures refused { IfErr result
+        (RateRefused (value_at prices.now) (value_at change.now) (size lp.now.matrix)) }
+{
+    let mut best = max;
+    for k in 0..lp.number_of_variables() {
+        let price = prices[k as usize];
+        let rate = change[k as usize];
+        best = with_rate(lp, basis, best, price, rate, k + 1)?;
+    }
+    Ok(best)
+}
+
+/// The greatest theta up to `max` to which the basis stays optimal, from any theta at which it is, while theta times the row `row` is
+/// added to the objective. `prices` has the basis's prices, and `change` the rates of that row. An overflow comes only with evidence
+/// of it at this basis.
+pub fn reach(
+    lp: &Lp,
+    basis: &Basis,
+    prices: &[Frac],
+    change: &[Frac],
+    row: u32,
+    max: Frac,
+) -> Result<Frac, Evidence>
+    requires lawful { IsLinearProgram lp.now }
+    requires no_change { lp.now.change ≡ None }
+    requires row { IsRow lp.now.matrix row }
+    requires basis { IsNonsingularBasis lp.now basis.now }
+    requires prices { ArePricesOf lp.now basis.now (value_at prices.now) }
+    requires change { IsRowOf lp.now.matrix (basics_of basis.now) row (value_at change.now) }
+    requires price_places { length prices.now ≡ size lp.now.matrix }
+    requires change_places { length change.now ≡ size lp.now.matrix }
+    ensures reaches { IfOk result (IsReachFromAny lp.now row basis.now max) }
+    ensures overflow { IfErr result (EndRefused lp.now row basis.now) }
+{
+    reach_by(lp, basis, prices, change, max)
+}
