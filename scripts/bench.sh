@@ -3,6 +3,7 @@
 # where the plain operations give it, and of 120, where they are refused: the least of five runs.
 # Usage: scripts/bench.sh [TURNS [PROGRAM]], where a turn is 64 operations.
 set -eu
+case ${1:-} in -h | --help) sed -n '2,4s/^# //p' "$0"; exit 0 ;; esac
 turns=${1:-20000}
 cd "$(dirname "$0")/../crates/bench"
 program=${2:-./out/bench}

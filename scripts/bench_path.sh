@@ -6,6 +6,7 @@
 # Then it prints how many of fifty problems of 15 rows and 30 columns, with numbers of two decimals, end without an overflow.
 # Usage: scripts/bench_path.sh [PROGRAM], a program that takes the word `path` or none.
 set -eu
+case ${1:-} in -h | --help) sed -n '2,7s/^# //p' "$0"; exit 0 ;; esac
 here=$(cd "$(dirname "$0")" && pwd)
 program=${1:-$here/../crates/bench/out/bench}
 [ -x "$program" ] || (cd "$here/../crates/bench" && rt run <stdin >/dev/null)

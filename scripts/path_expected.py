@@ -5,6 +5,10 @@ Usage: path_expected.py N. It takes a second for 20 and half a minute for 60."""
 from fractions import Fraction
 import sys
 
+if sys.argv[1:] in (["-h"], ["--help"]):
+    print(__doc__)
+    sys.exit(0)
+
 n = int(sys.argv[1])
 rows, columns = 2 * n + 1, n * n
 size = rows + columns
