@@ -177,6 +177,7 @@ module _ (Holds : Gain → Finding → Type 0) {P : Type 0} (written : P → Opt
   abbrev pub Tells : Result Finding Halt → Type 0
   Tells (Ok finding) = IsTold finding
   Tells (Err (halt.Print stop)) = IsTellingCut stop
+  Tells (Err (halt.Punch stop)) = ⊥
   Tells (Err halt.NoMemory) = print_new ≡ print_old
 
 -- ---- what follows

@@ -1,6 +1,6 @@
 // Words, and devices that fail.
 use crate::jobs::{Call, answer_to};
-use crate::rows::PLANS;
+use crate::rows::{DECKS, PLANS};
 use std::test::Fail;
 
 #[test]
@@ -11,6 +11,7 @@ fn no_words_are_accepted(rt: HostRuntime) -> Result<(), Fail> {
         job: b"",
         failing_reads: &[],
         failing_writes: &[],
+        failing_punches: &[],
     };
     assert!(rt; answer_to(rt.alloc(), &call)?.is(4, b"STOP 4 WORDS\n"));
     Ok(())
@@ -25,6 +26,7 @@ fn a_read_that_fails_ends_a_job(rt: HostRuntime) -> Result<(), Fail> {
             job: PLANS[0].job,
             failing_reads: &[2],
             failing_writes,
+            failing_punches: &[],
         };
         assert!(rt; answer_to(rt.alloc(), &call)?.is(status, listing));
     }
@@ -39,6 +41,7 @@ fn a_write_that_fails_cuts_the_listing_short(rt: HostRuntime) -> Result<(), Fail
             job: PLANS[0].job,
             failing_reads: &[],
             failing_writes: &[write],
+            failing_punches: &[],
         };
         let answer = answer_to(rt.alloc(), &call)?;
         assert_eq!(rt; answer.status, 25);
@@ -47,5 +50,42 @@ fn a_write_that_fails_cuts_the_listing_short(rt: HostRuntime) -> Result<(), Fail
             PLANS[0].listing.starts_with(printed) && printed.len() < PLANS[0].listing.len()
         );
     }
+    Ok(())
+}
+
+// The deck of this job is punched in 17 writes: seven cards in two, the text and the line feed, and three in one.
+#[test]
+fn a_punch_that_fails_breaks_the_deck_off(rt: HostRuntime) -> Result<(), Fail> {
+    let row = &DECKS[0];
+    for write in 1..18 {
+        let call = Call {
+            words: &[],
+            job: row.job,
+            failing_reads: &[],
+            failing_writes: &[],
+            failing_punches: &[write],
+        };
+        let answer = answer_to(rt.alloc(), &call)?;
+        let listing = b"CONVERT ONE      ROWS 2 COLUMNS 1 ENTRIES 2\nSTOP 26 PUNCH FAULT\n";
+        let cards = answer.punch.bytes();
+        assert!(rt; answer.is_punched(26, listing, cards));
+        assert!(rt; row.cards.starts_with(cards) && cards.len() < row.cards.len());
+    }
+    Ok(())
+}
+
+#[test]
+fn a_print_that_fails_behind_a_deck_leaves_it_whole(rt: HostRuntime) -> Result<(), Fail> {
+    let row = &DECKS[0];
+    let call = Call {
+        words: &[],
+        job: row.job,
+        failing_reads: &[],
+        failing_writes: &[13],
+        failing_punches: &[],
+    };
+    let answer = answer_to(rt.alloc(), &call)?;
+    let listing = b"CONVERT ONE      ROWS 2 COLUMNS 1 ENTRIES 2\nBCDOUT  ";
+    assert!(rt; answer.is_punched(25, listing, row.cards));
     Ok(())
 }

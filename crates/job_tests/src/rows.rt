@@ -466,3 +466,22 @@ pub const RANGES: [Row; 5] = [
         listing: b"CONVERT ONE      ROWS 2 COLUMNS 1 ENTRIES 2\nSETUP   ONE      MIN\nSTOP 10 VERB FAULT 4 CARD 4\n",
     },
 ];
+
+/// A worked job that punches decks.
+pub struct DeckRow {
+    /// What it shows.
+    pub name: &'static str,
+    pub job: &'static [u8],
+    pub status: u8,
+    pub listing: &'static [u8],
+    pub cards: &'static [u8],
+}
+
+/// Programs that punch decks.
+pub const DECKS: [DeckRow; 1] = [DeckRow {
+    name: "bcdout one",
+    job: b"         PROGRAM\n         CONVERT\n         BCDOUT\n         EXIT\n         PEND\nNAME          ONE\nROWS\n N  COST\n G  LOW\nCOLUMNS\n    X         COST      1\n    X         LOW       1\nRHS\n    B         LOW       1\nENDATA\n",
+    status: 0,
+    listing: b"CONVERT ONE      ROWS 2 COLUMNS 1 ENTRIES 2\nBCDOUT  ONE      CARDS 10\nEND 0\n",
+    cards: b"NAME          ONE\nROWS\n N  COST\n G  LOW\nCOLUMNS\n    X         COST      1\n    X         LOW       1\nRHS\n    B         LOW       1\nENDATA\n",
+}];

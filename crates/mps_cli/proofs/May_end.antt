@@ -1,9 +1,9 @@
 -- How a job may end, whatever fails.
-use Rattle.std.proofs.Common.{◌≡◌, ℕ, List, [], Option, Some, refl, subst}
+use Rattle.std.proofs.Common.{◌≡◌, ℕ, List, [], Option, None, Some, IfSome, refl, subst}
 use Rattle.listing_definitions.specs.Report.{Report}
 use Rattle.listing_definitions.specs.Ending.{Ending}
 use Rattle.question_definitions.specs.Solving.{Solving}
-use Rattle.run_definitions.specs.Answer.{Job, Read, Failures, Answer, MayEnd, words_refused, read_fails, by_itself, memory_at_start, memory_in_run, memory_at_punch, punch_fails, IsCutShort, IsAnswer, IsAnswered, whole, print_fails, print_wants_memory, card_fault, control_fault}
+use Rattle.run_definitions.specs.Answer.{Job, Read, Failures, Answer, IsProgramOf, MayEnd, words_refused, read_fails, by_itself, memory_at_start, memory_in_run, memory_at_punch, punch_fails, IsCutShort, IsAnswer, IsAnswered, whole, print_fails, print_wants_memory, card_fault, control_fault}
 use Rattle.mps_cli.specs.declared.prepare.Prepared.{Prepared}
 use Rattle.mps_cli.specs.declared.stop.Stop.{Stop}
 use Rattle.mps_cli.specs.declared.stop.Stop.TheVariants.{Words, ReadFault, Card, Control, Memory}
@@ -25,6 +25,11 @@ module _ (S : Solving) (bytes : List ℕ) (failures : Failures) (is_read : Type 
 
 pub prepared_of : (bytes : List ℕ) {known : Option (List ℕ)} (prepared : Prepared) → known ≡ Some bytes → ArePrepared known prepared → ArePrepared (Some bytes) prepared
 prepared_of bytes prepared is are = subst (λ (k : Option (List ℕ)). ArePrepared k prepared) is are
+
+-- the program is that of the job
+pub program_of : {known : Option (List ℕ)} (prepared : Prepared) → ArePrepared known prepared → IfSome known (λ bytes. IsProgramOf bytes prepared.program)
+program_of {None} prepared are = tt
+program_of {Some job} prepared are = are.1
 
 -- ---- what is an answer where some things have failed is one where others have failed too
 

@@ -10,7 +10,7 @@ ghost use Rattle.run_laws.specs.Headline.{IsTrueAnswer};
 ghost use Rattle.control_run.specs.Stage.{stage};
 ghost use Rattle.control_run.specs.Ends.{code_of};
 ghost use Rattle.mps_cli.specs.Asked.{IsAsked};
-ghost use Rattle.mps_cli.specs.Causes.{HasCause};
+ghost use Rattle.mps_cli.specs.Causes.{HasCause, IsPunched};
 
 use crate::end::end_job;
 use crate::prepare::prepare;
@@ -19,13 +19,14 @@ use control_run::{Status, run_program};
 use job_devices::{Sink, Source};
 use std::alloc::Global;
 
-/// Runs a job: reads it, compiles its control program, runs it and prints the listing, and answers how the job ended.
+/// Runs a job: reads it, compiles its control program, runs it, prints the listing and punches the decks, and answers how the job
+/// ended.
 ///
 /// The words are those after the program's name; none is accepted yet, and where there are any the job isn't read. The job
 /// is read to its end, or as far as byte 16,400,001.
 ///
-/// After a fault of the print, or where the print wants memory, nothing more is printed. Want of memory may end a job at
-/// any time.
+/// After a fault of the print, or where the print wants memory, nothing more is printed. A deck in which a write to the punch
+/// fails, or in which the punch wants memory, is broken off, and ends the job. Want of memory may end a job at any time.
 ///
 /// It doesn't give up: a job whose run meets no evidence that a number is too large has one run, and gets the status, the
 /// whole listing and all the cards of this run, unless a read, a write to the print or one to the punch fails, or memory is
@@ -74,13 +75,15 @@ pub fn run_job<S: Source, P: Sink, U: Sink>(
         (Rose (S.faults job.old) (S.faults job.new))
         (ReadsJob (S.left job.old) (S.left job.new))
         (Rose (P.faults print.old) (P.faults print.new))
+        (Rose (U.faults punch.old) (U.faults punch.new))
         (AppendsFront (P.written print.old) (P.written print.new))
         result }
 
-    // How far the job is read, and what stays the same.
+    // How far the job is read, and what stays the same. Nothing is punched but in the run of the job's program.
     ensures no_further { ReadsFront (S.left job.old) (S.left job.new) }
     ensures unread { 0 < length words.now → job.new ≡ job.old }
-    ensures punch { punch.new ≡ punch.old }
+    ensures punch { IsPunched (length words.now) (S.left job.old)
+        (ReadsJob (S.left job.old) (S.left job.new)) (punch.new ≡ punch.old) result }
 {
     if !words.is_empty() {
         return end_job(print, Stop::Words);

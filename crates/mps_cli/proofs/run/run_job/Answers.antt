@@ -1,7 +1,8 @@
 use Rattle.std.proofs.Common.{rules, refl, length}
 use Rattle.run_definitions.specs.Answer.{Read}
 use Rattle.mps_cli.specs.declared.stop.Stop.TheVariants.{Words}
-use Rattle.mps_cli.proofs.May_end.{prepared_of}
+use Rattle.mps_cli.specs.Causes.{nothing, in_run}
+use Rattle.mps_cli.proofs.May_end.{prepared_of, program_of}
 use Rattle.mps_cli.proofs.Why.{why, ending_cause, run_cause}
 use Rattle.mps_cli.proofs.Truth.{complete_answer, words_headline, stop_headline, run_headline}
 use Rattle.mps_cli.proofs.run.run_job.Goals as goal
@@ -28,7 +29,10 @@ returns-in-Ok-clause-complete g c asked is = complete_answer (returns-in-Ok-clau
 
 pub returns-in-Ok-clause-cause : goal.returns-in-Ok-clause-cause
 returns-in-Ok-clause-cause g c =
-    run_cause (length c.args.words.now) _ _ _ _ c.run_program.result (search rules) c.in-Ok.ensures.read c.run_program.ensures.own c.run_program.ensures.print_fault
+    run_cause (length c.args.words.now) _ _ _ _ _ c.run_program.result (search rules) c.in-Ok.ensures.read c.run_program.ensures.own c.run_program.ensures.print_fault c.run_program.ensures.punch_fault
+
+pub returns-in-Ok-clause-punch : goal.returns-in-Ok-clause-punch
+returns-in-Ok-clause-punch g c = in_run c.in-Ok.prepared.program (search rules) c.in-Ok.ensures.read (program_of c.in-Ok.prepared c.in-Ok.ensures.prepared) c.run_program.ensures.own
 
 -- ---- the job isn't read, or its program isn't compiled
 
@@ -41,9 +45,15 @@ returns-in-Err-clause-complete g c asked is = complete_answer (returns-in-Err-cl
 
 pub returns-in-Err-clause-cause : goal.returns-in-Err-clause-cause
 returns-in-Err-clause-cause g c =
-    ending_cause (length c.args.words.now) _ _ g.P.Sink.written g.P.Sink.faults g.P.Sink.refusals c.in-Err.stop c.end_job-in-Err.result
+    ending_cause (length c.args.words.now) _ _ _ g.P.Sink.written g.P.Sink.faults g.P.Sink.refusals c.in-Err.stop c.end_job-in-Err.result
     (why (length c.args.words.now) _ _ c.in-Err.stop (search rules) c.in-Err.ensures.cause) c.end_job-in-Err.ensures
 
 pub returns-then-not-is_empty-clause-cause : goal.returns-then-not-is_empty-clause-cause
 returns-then-not-is_empty-clause-cause g c =
-    ending_cause (length c.args.words.now) _ _ g.P.Sink.written g.P.Sink.faults g.P.Sink.refusals Words c.end_job.result (search rules) c.end_job.ensures
+    ending_cause (length c.args.words.now) _ _ _ g.P.Sink.written g.P.Sink.faults g.P.Sink.refusals Words c.end_job.result (search rules) c.end_job.ensures
+
+pub returns-in-Err-clause-punch : goal.returns-in-Err-clause-punch
+returns-in-Err-clause-punch g c = nothing refl
+
+pub returns-then-not-is_empty-clause-punch : goal.returns-then-not-is_empty-clause-punch
+returns-then-not-is_empty-clause-punch g c = nothing refl
