@@ -34,17 +34,34 @@ impl Answer {
     }
 }
 
-/// Runs a job.
-pub fn answer_to(alloc: Global, call: &Call) -> Result<Answer, Fail> {
-    let mut job = MemorySource::new(alloc, call.job, call.failing_reads)?;
-    let mut print = MemorySink::new(alloc, call.failing_writes)?;
-    let mut punch = MemorySink::new(alloc, call.failing_punches)?;
-    let status = run_job(alloc, call.words, &mut job, &mut print, &mut punch).code();
+/// Runs the job that a source gives, over a print and a punch whose writes with these numbers fail.
+pub fn answer_from(
+    alloc: Global,
+    words: &[String],
+    mut job: MemorySource,
+    failing_writes: &[u64],
+    failing_punches: &[u64],
+) -> Result<Answer, Fail> {
+    let mut print = MemorySink::new(alloc, failing_writes)?;
+    let mut punch = MemorySink::new(alloc, failing_punches)?;
+    let status = run_job(alloc, words, &mut job, &mut print, &mut punch).code();
     Ok(Answer {
         status,
         print,
         punch,
     })
+}
+
+/// Runs a job.
+pub fn answer_to(alloc: Global, call: &Call) -> Result<Answer, Fail> {
+    let job = MemorySource::new(alloc, call.job, call.failing_reads)?;
+    answer_from(
+        alloc,
+        call.words,
+        job,
+        call.failing_writes,
+        call.failing_punches,
+    )
 }
 
 /// Runs a job without words over devices that don't fail.
