@@ -107,6 +107,7 @@ PYTHON
     python3 scripts/faults.py --check || fail "scripts/faults.py --write makes docs/FAULTS.md"
     bash scripts/examples.sh --expected || fail "a listing of examples/"
     python3 scripts/check_tools.py || fail "a script does otherwise than it is to do"
+    python3 scripts/check_installed.py || fail "install.sh, an installed command or mps360-batch does otherwise than it is to do"
     if scripts/program.sh --fresh >/dev/null; then
         bash scripts/examples.sh || fail "the program prints other listings of examples/"
         python3 scripts/faults.py --run || fail "the program ends the jobs of examples/faults otherwise"

@@ -124,6 +124,33 @@ def try_mps(folder, program):
     check("a negative UP wants its option", ends == [65, 0, 0])
 
 
+def try_expected(folder):
+    "the listings and punched decks of scripts/known were worked out by hand"
+    punch, jobs = folder / "punch", sorted((SCRIPTS / "known").glob("*.job"))
+    check("no known jobs", jobs)
+    for job in jobs:
+        told = call(SCRIPTS / "expected_listing.py", "--punch", punch, job)
+        wanted, cards = job.with_suffix(".listing").read_bytes(), job.with_suffix(".punch")
+        check(f"expected_listing.py: {job.name}", told.stdout == wanted)
+        check(f"expected_listing.py: what {job.name} punches", cards.read_bytes() == punch.read_bytes() if cards.exists() else not punch.exists())
+        punch.unlink(missing_ok=True)
+    for words, count in ((("--itself", "0", "12"), 12), (("--itself", "--parametric", "40", "8"), 8)):
+        told = call(SCRIPTS / "random_jobs.py", *words)
+        said = told.stdout.decode()
+        check(f"random_jobs.py {words}: {said}", told.returncode == 0 and said.startswith(f"{count} jobs, 0 differ") and "optimal" in said)
+    for words in (("x",), ("1", "2", "3"), ("--itself", "--unproved")):
+        check(f"random_jobs.py: wrong use {words}", call(SCRIPTS / "random_jobs.py", *words).returncode == 64)
+    check("random_jobs.py --help", call(SCRIPTS / "random_jobs.py", "--help").returncode == 0)
+
+
+def try_random(program):
+    told = call(SCRIPTS / "random_jobs.py", "0", "20")
+    if program:
+        check(f"random_jobs.py: the program: {told.stderr.decode()}", told.returncode == 0)
+    else:
+        check("random_jobs.py: no program", told.returncode == 70 and b"scripts/build.sh" in told.stderr)
+
+
 def try_explain(folder):
     examples = runner.TOP / "examples"
     told = call(SCRIPTS / "explain", examples / "conflict.job", examples / "conflict.listing").stdout.decode()
@@ -174,6 +201,8 @@ def main():
     with tempfile.TemporaryDirectory() as folder:
         folder = pathlib.Path(folder)
         try_mps(folder, program)
+        try_expected(folder)
+        try_random(program)
         try_explain(folder)
         try_hostile(folder, program)
     return 1 if wrong else 0
