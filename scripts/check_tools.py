@@ -2,7 +2,7 @@
 """Tries the scripts on examples whose results are known from outside, and on hostile inputs. scripts/check.sh runs it.
 
 usage: check_tools.py      ends with 1 where a result is another; what needs the proved program is left out, and said, where it isn't fresh"""
-import json, os, pathlib, subprocess, sys, tempfile
+import json, os, pathlib, subprocess, sys, tempfile, xml.dom.minidom
 import runner
 
 SCRIPTS = runner.TOP / "scripts"
@@ -143,12 +143,51 @@ def try_expected(folder):
     check("random_jobs.py --help", call(SCRIPTS / "random_jobs.py", "--help").returncode == 0)
 
 
+SWEEPS = {
+    "paraobj-two-intervals": ((0, -8), (1, -8), (5, -20), "the run ends at 5"),
+    "paraobj-unbounded-past": ((0, 0), (1, 0), "no bound past 1"),
+    "pararhs-two-intervals": ((0, 1), (2, 3), (5, 9), "the run ends at 5"),
+    "pararhs-infeasible-past": ((0, 1), (2, 3), "no plan past 2"),
+    "pararhs-point-interval": ((0, 1), "the run ends at 0"),
+}
+
+
+def try_plots(folder):
+    script, picture = SCRIPTS / "plot_parametric.py", folder / "picture.svg"
+    for name, (*points, end) in SWEEPS.items():
+        listing = SCRIPTS / "known" / f"{name}.listing"
+        told = call(script, listing).stdout.decode()
+        drawn = [(int(line.split()[0]), int(line.split()[1])) for line in told.partition("change a unit\n")[2].splitlines()[:-1]]
+        check(f"plot_parametric.py: {name}: {told}", drawn == points and told.splitlines()[-1] == end)
+        call(script, "--svg", "-o", picture, input=listing.read_bytes())
+        marks = [mark.firstChild.data for mark in xml.dom.minidom.parse(str(picture)).getElementsByTagName("title")]
+        check(f"plot_parametric.py --svg: {name}: {marks}", marks == [f"{theta}: {value}" for theta, value in points])
+    for what, words, status in (("no run", (SCRIPTS / "known/range-two.listing",), 65), ("no such run", ("--run", "2", listing), 65),
+                                ("no listing", (script,), 65), ("no file", (folder / "none",), 66), ("wrong use", ("--run", "x"), 64)):
+        told = call(script, *words)
+        check(f"plot_parametric.py: {what}", told.returncode == status and told.stderr.startswith(b"plot_parametric.py: "))
+    check("plot_parametric.py --help", call(script, "--help").returncode == 0)
+
+
 def try_random(program):
     told = call(SCRIPTS / "random_jobs.py", "0", "20")
     if program:
         check(f"random_jobs.py: the program: {told.stderr.decode()}", told.returncode == 0)
     else:
         check("random_jobs.py: no program", told.returncode == 70 and b"scripts/build.sh" in told.stderr)
+
+
+def try_listings():
+    "listing2json.py on RANGE, a parametric run and a punched deck, as worked out by hand"
+    def reports(name, kind):
+        told = json.loads(call(SCRIPTS / "listing2json.py", SCRIPTS / f"known/{name}.listing").stdout)
+        return [report for report in told["reports"] if report["report"] == kind]
+    line = reports("range-testprob", "ranges")[0]["columns_at_limit"][0]
+    check(f"listing2json.py: RANGE: {line}", (line["name"], line["limit_high"], line["cost_low"], line["cost_high"]) == ("YTWO", "1", "-8", None))
+    run = reports("pararhs-infeasible-past", "parametric")[0]
+    ends = run["change"], run["end"], run["at"], run["ray"][0]["multiplier"], run["intervals"][0]["to"], run["intervals"][0]["lines"][2]["value_rate"]
+    check(f"listing2json.py: PARARHS: {ends}", ends == ("C", "infeasible", "2", "-1", "2", "1"))
+    check("listing2json.py: BCDOUT", reports("bcdout-one", "bcdout") == [{"report": "bcdout", "name": "ONE", "cards": 10}])
 
 
 def try_explain(folder):
@@ -202,7 +241,9 @@ def main():
         folder = pathlib.Path(folder)
         try_mps(folder, program)
         try_expected(folder)
+        try_plots(folder)
         try_random(program)
+        try_listings()
         try_explain(folder)
         try_hostile(folder, program)
     return 1 if wrong else 0
