@@ -80,7 +80,9 @@ most_lines=100 most_edits=220
 lines=$(wc -l <README.md)
 [ "$lines" -le "$most_lines" ] || fail "README.md has $lines lines, more than $most_lines"
 edits=$(find crates -path '*/must-fail/*.edit' | wc -l)
-echo "check: $edits must-fail edits"
+long=$(find crates -name out -prune -o -name '*.rt' -print0 | LC_ALL=C.UTF-8 xargs -0 grep -hE '^ *(requires|ensures|invariant) ' |
+    LC_ALL=C.UTF-8 grep -cE '^.{101}')
+echo "check: $edits must-fail edits; $long lines of clauses have over 100 columns"
 [ "$edits" -le "$most_edits" ] || fail "there are $edits must-fail edits, more than $most_edits"
 
 if command -v python3 >/dev/null; then
