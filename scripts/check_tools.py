@@ -75,6 +75,7 @@ BOUNDS
  PL BND X1
 ENDATA
 """
+MODULES = ("runner.py", "every_basis.py", "expected_postoptimal.py")
 DOOMED = {
     "a MARKER": ("    M1  'MARKER'  'INTORG'\n", "MARKER"),
     "a long number": ("    X  COST  0.1234567890123\n", "12 columns"),
@@ -200,6 +201,14 @@ def try_explain(folder):
     check("explain names the rows that are known", "Known rows: 'COST'" in told and "PROFIT    1" in told)
 
 
+def try_help(folder):
+    "each script says what it is for, called from another folder, and does nothing else"
+    for script in sorted(SCRIPTS.iterdir()):
+        if script.is_file() and script.name not in MODULES:
+            told = call(f"./{script.name}", "--help", cwd=SCRIPTS), call(script, "--help", cwd=folder)
+            check(f"{script.name} --help", all(one.returncode == 0 and one.stdout and not one.stderr for one in told))
+
+
 def try_hostile(folder, program):
     hostile = {"empty": b"", "binary": bytes(range(256)) * 40, "long": b"X" * 20_000_000}
     for name, content in hostile.items():
@@ -245,6 +254,7 @@ def main():
         try_random(program)
         try_listings()
         try_explain(folder)
+        try_help(folder)
         try_hostile(folder, program)
     return 1 if wrong else 0
 

@@ -5,13 +5,18 @@
 # --expected: with the latter alone, so that no program is needed. --unproved: the program as it stands, built once, where no proved
 # one is; of it the listings alone. Ends with 1 where one differs, with 70 where there is no program to compare with.
 set -u
-cd "$(dirname "$0")/.." || exit 1
 case ${1:-} in
+    "" | --expected | --unproved) ;;
     -h | --help)
         sed -n '2,6s/^# //p' "$0"
         exit 0
         ;;
+    *)
+        echo "usage: examples.sh [--expected | --unproved]" >&2
+        exit 64
+        ;;
 esac
+cd "$(dirname "$0")/.." || exit 1
 exec python3 - "${1:-}" <<'PYTHON'
 import pathlib, subprocess, sys, tempfile
 sys.path.insert(0, "scripts")
