@@ -135,6 +135,9 @@ def try_expected(folder):
         check(f"expected_listing.py: {job.name}", told.stdout == wanted)
         check(f"expected_listing.py: what {job.name} punches", cards.read_bytes() == punch.read_bytes() if cards.exists() else not punch.exists())
         punch.unlink(missing_ok=True)
+    made = call(SCRIPTS / "expected_listing.py", "--make", "2").stdout
+    check("expected_listing.py --make", made == b"CONVERT TRANSP   ROWS 5 COLUMNS 4 ENTRIES 12\nSETUP   TRANSP   MIN\n"
+          b"PRIMAL OPTIMAL STEPS 4 OBJECTIVE 180 CHECKED\nEND 0\n")
     for words, count in ((("--itself", "0", "12"), 12), (("--itself", "--parametric", "40", "8"), 8)):
         told = call(SCRIPTS / "random_jobs.py", *words)
         said = told.stdout.decode()

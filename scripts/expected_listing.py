@@ -2,7 +2,8 @@
 """Prints the listing of a lawful job, worked out apart from the program: the bounded simplex method by the least-index rule over a
 table of Python's exact fractions. The listings beside the jobs of examples/ are compared with it.
 
-usage: expected_listing.py [--punch FILE] [FILE.job]      without a file the job is read from standard input; it ends with the run's status
+usage: expected_listing.py [--punch FILE] [--make N | FILE.job]      without a file the job is read from standard input; it ends with the
+run's status. With --make N the job is the generated one: N sources with 10 each, and N destinations that want 10 each.
 
 It knows every verb (RANGE, PARAOBJ and PARARHS are worked out in expected_postoptimal.py), and the faults of statements. It looks for
 few other faults, and ends with 70 where it meets one. With --punch the punched cards go to FILE, where there are any."""
@@ -669,13 +670,30 @@ class Run:
             raise Fault(f"verb {verb}")
 
 
+def made_job(n):
+    "the generated job: a unit from source i to destination j costs (7i + 11j) mod 19, and 1"
+    item = "    {:<10}{:<10}{}".format
+    sources, destinations = ([f"{letter}{k:03}" for k in range(1, n + 1)] for letter in "SD")
+    columns = [(f"X{i:03}{j:03}", f"S{i:03}", f"D{j:03}", (7 * i + 11 * j) % 19 + 1) for i in range(1, n + 1) for j in range(1, n + 1)]
+    verbs = ("PROGRAM", "INITIALZ", "MOVE(XITERLIM,1000000)", "CONVERT", "SETUP", "PRIMAL", "EXIT", "PEND")
+    cards = [*(f"         {verb}" for verb in verbs), "NAME          TRANSP", "ROWS", " N  COST"]
+    cards += [*(f" L  {name}" for name in sources), *(f" G  {name}" for name in destinations), "COLUMNS"]
+    for name, source, destination, cost in columns:
+        cards += [item(name, "COST", cost), item(name, source, 1), item(name, destination, 1)]
+    cards += ["RHS", *(item("RHS", name, 10) for name in sources + destinations), "ENDATA"]
+    return "\n".join(cards) + "\n"
+
+
 def main(words):
     if words and words[0] in ("-h", "--help"):
         print(__doc__)
         return 0
     punch = words[1] if words[:1] == ["--punch"] and len(words) > 1 else None
     words = words[2:] if punch else words
-    text = open(words[0], encoding="latin-1").read() if words else sys.stdin.read()
+    if words[:1] == ["--make"] and len(words) == 2 and words[1].isdigit():
+        text = made_job(int(words[1]))
+    else:
+        text = open(words[0], encoding="latin-1").read() if words else sys.stdin.read()
     try:
         run = Run(text)
         status = run.run()
