@@ -52,8 +52,11 @@ if command -v python3 >/dev/null; then
     # The page of faults is that of examples/faults, and the listings of examples/ are those that are worked out apart.
     python3 scripts/faults.py --check || fail "scripts/faults.py --write makes docs/FAULTS.md"
     bash scripts/examples.sh --expected || fail "a listing of examples/"
+    # The two that take longest run side by side.
+    python3 scripts/check_installed.py &
+    installed=$!
     python3 scripts/check_tools.py || fail "a script does otherwise than it is to do"
-    python3 scripts/check_installed.py || fail "install.sh, an installed command or mps360-batch does otherwise than it is to do"
+    wait "$installed" || fail "build.sh, install.sh, an installed command or mps360-batch does otherwise than it is to do"
     if scripts/program.sh --fresh >/dev/null; then
         bash scripts/examples.sh || fail "the program prints other listings of examples/"
         python3 scripts/faults.py --run || fail "the program ends the jobs of examples/faults otherwise"
