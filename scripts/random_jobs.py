@@ -2,10 +2,10 @@
 """Compares the program with scripts/expected_listing.py on small jobs made at random: rows of each type, ranges, bounds of each type,
 MIN and MAX, RANGE, two right-hand sides in one run. Outside the gate: a run of 300 takes two minutes unproved, a few seconds else.
 
-usage: random_jobs.py [--unproved | --itself] [--parametric] [FIRST [COUNT]]      jobs FIRST, FIRST + 1, ..; 0 and 300 where nothing is said
+usage: random_jobs.py [--unproved | --itself] [--parametric] [--revise] [FIRST [COUNT]]      jobs FIRST, FIRST + 1, ..; 0 and 300 where nothing is said
 
 It prints how many differ, and the first of them whole; ends with 1 where one does, with 70 where there is no program. --unproved: the
-program as it stands, where no proved one is. --parametric: PARAOBJ and PARARHS besides. --itself: no program runs; what
+program as it stands, where no proved one is. --parametric, --revise: PARAOBJ and PARARHS, REVISE besides. --itself: no program runs; what
 expected_listing.py says is checked by the meaning of the words, where a job is small enough (scripts/every_basis.py)."""
 import collections, random, re, sys
 import every_basis, expected_listing, runner
@@ -73,10 +73,77 @@ class Deck:
         return cards + (["BOUNDS", *self.bounds] if self.bounds else []) + ["ENDATA"]
 
 
-def job(seed, is_parametric=False):
+def edits(chance, problem):
+    "an action with its cards, at random, for each section of a revision some"
+    rows, columns, sets = list(problem.rows), list(problem.columns), problem.sets
+    new = f"N{chance.randint(0, 99)}"
+
+    def acted(word, *cards, name=""):
+        return [f" {word:<13}{name}".rstrip(), *(card.rstrip() for card in cards)]
+
+    def entry(name, row):
+        return ITEM(name, row, number(chance))
+
+    yield "ROWS", acted("MODIFY", f" {chance.choice('LGE')}  {chance.choice(rows)}")
+    yield "ROWS", acted("DELETE", f"    {chance.choice(rows)}")
+    yield "ROWS", acted(chance.choice(("BEFORE", "AFTER")), f" {chance.choice('LGEN')}  {new}", f" L  {new}B", name=chance.choice([*rows, ""]))
+    if columns:
+        column, row = chance.choice(columns), chance.choice(rows)
+        yield "COLUMNS", acted("MODIFY", entry(column, row), entry(column, chance.choice(rows)))
+        yield "COLUMNS", acted("DELETE", ITEM(column, row, ""))
+        yield "COLUMNS", acted("DELETE", f"    {chance.choice(columns)}")
+    yield "COLUMNS", acted(chance.choice(("BEFORE", "AFTER")), entry(new, chance.choice(rows)), name=chance.choice([*columns, ""]))
+    for section in ("RHS", "RANGES"):
+        name = chance.choice([*sets[section], new])
+        row = chance.choice([row for row in rows if section == "RHS" or problem.rows[row] != "N"] or rows[:1])
+        if section == "RHS" or problem.rows[row] != "N":
+            yield section, acted("MODIFY", entry(name, row))
+        yield section, acted("DELETE", ITEM(name, row if chance.random() < 0.7 else "", ""))
+    if columns:
+        name, column = chance.choice([*sets["BOUNDS"], new]), chance.choice(columns)
+        kind = chance.choice(("UP", "LO", "FX", "FR", "MI", "PL"))
+        yield "BOUNDS", acted("MODIFY", f" {kind} {name:<10}{column:<10}{number(chance) if kind in ('UP', 'LO', 'FX') else ''}")
+        yield "BOUNDS", acted("DELETE", ITEM(name, column if chance.random() < 0.7 else "", ""))
+
+
+def revision(chance, problem):
+    "a deck that revises the problem, of edits that can be made one after the other, and the revised problem"
+    cards, revised, begun = ["NAME          REVISED"], problem, None
+    for section in ("ROWS", "COLUMNS", "RHS", "RANGES", "BOUNDS"):
+        for _ in range(chance.choice((0, 1, 1, 2))):
+            kind, edit = chance.choice([edit for edit in edits(chance, revised) if edit[0] == section] or [(None, [])])
+            tried = cards + ([section] if begun != section else []) + edit
+            try:
+                candidate = problem.revised([*tried, "ENDATA"])
+            except (expected_listing.Fault, KeyError, ValueError):
+                continue
+            if kind and is_lawful(candidate):
+                cards, revised, begun = tried, candidate, section
+    return [*cards, "ENDATA"], revised
+
+
+def is_lawful(problem):
+    "no row of type N has a range, and the objective is there"
+    ranged = {row for items in problem.sets["RANGES"].values() for row in items}
+    return problem.rows.get("OBJ") == "N" and all(kind != "N" or row not in ranged for row, kind in problem.rows.items())
+
+
+def revising(chance, deck):
+    "the statements that revise the deck's problem and solve what comes of it, and the deck of the revision"
+    problem = expected_listing.Problem(deck.cards())
+    cards, revised = revision(chance, problem)
+    words = [f"'{word}','{name}'" for word, section in (("RANGE", "RANGES"), ("BOUND", "BOUNDS")) for name in revised.sets[section]][:1]
+    setup = f"SETUP({','.join([*words, chance.choice(SENSES)])})"
+    return statements("REVISE", "INITIALZ", "MOVE(XOBJ,'OBJ')", setup) + solving("R"), cards
+
+
+SENSES = ("'MIN'", "'MAX'")
+
+
+def job(seed, is_parametric=False, revises=False):
     chance = random.Random(seed)
     deck = Deck(chance)
-    words = (["'RANGE','RG'"] if deck.ranges else []) + (["'BOUND','BD'"] if deck.bounds else []) + [chance.choice(("'MIN'", "'MAX'"))]
+    words = (["'RANGE','RG'"] if deck.ranges else []) + (["'BOUND','BD'"] if deck.bounds else []) + [chance.choice(SENSES)]
     program = statements("PROGRAM", "CONVERT", "MOVE(XOBJ,'OBJ')", f"SETUP({','.join(words)})") + solving("A")
     names = {name for name, _, _ in deck.values}
     if names == {"B1", "B2"}:
@@ -84,13 +151,19 @@ def job(seed, is_parametric=False):
     if is_parametric:
         program += sweeping(chance, "PARAOBJ", "MOVE(XCHROW,'CHG')")
         program += sweeping(chance, "PARARHS", f"MOVE(XCHCOL,'{max(names)}')") if names else []
-    return "\n".join([*program, *statements("EXIT", "PEND"), *deck.cards()]) + "\n"
+    cards = deck.cards()
+    if revises:
+        more, others = revising(chance, deck)
+        program, cards = program + more, cards + others
+    return "\n".join([*program, *statements("EXIT", "PEND"), *cards]) + "\n"
 
 
 def kind_of(line):
     "what is counted of a listing: verdicts, RANGE, ends of parametric runs"
     if line == "RANGE":
         return "ranges"
+    if line.startswith("REVISE "):
+        return "revised"
     found = re.match("PRIMAL (OPTIMAL|INFEASIBLE|UNBOUNDED) |(PARAOBJ|PARARHS) (ENDS|INFEASIBLE|UNBOUNDED) ", line)
     return found and " ".join(word for word in found.groups() if word).lower()
 
@@ -102,13 +175,13 @@ def by_program(jobs, expected, unproved):
 
 
 def main(words):
-    modes = {word for word in words if word in ("--unproved", "--itself", "--parametric")}
+    modes = {word for word in words if word in ("--unproved", "--itself", "--parametric", "--revise")}
     numbers = [word for word in words if word not in modes]
     if any(not word.isdigit() for word in numbers) or len(numbers) > 2 or {"--unproved", "--itself"} <= modes:
         print(__doc__)
         return 0 if words in (["-h"], ["--help"]) else 64
     first, count = [int(word) for word in numbers] + [0, 300][len(numbers):]
-    jobs = {str(seed): job(seed, "--parametric" in modes) for seed in range(first, first + count)}
+    jobs = {str(seed): job(seed, "--parametric" in modes, "--revise" in modes) for seed in range(first, first + count)}
     expected, verdicts, looked, wrong = {}, collections.Counter(), 0, {}
     for name, text in jobs.items():
         run = every_basis.Watched(text) if "--itself" in modes else expected_listing.Run(text)
