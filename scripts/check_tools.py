@@ -2,7 +2,7 @@
 """Tries the scripts on examples whose results are known from outside, and on hostile inputs. scripts/check.sh runs it.
 
 usage: check_tools.py      ends with 1 where a result is another; what needs the proved program is left out, and said, where it isn't fresh"""
-import json, os, pathlib, subprocess, sys, tempfile, xml.dom.minidom
+import json, os, pathlib, re, subprocess, sys, tempfile, xml.dom.minidom
 import runner
 
 SCRIPTS = runner.TOP / "scripts"
@@ -147,6 +147,17 @@ def try_expected(folder):
     check("random_jobs.py --help", call(SCRIPTS / "random_jobs.py", "--help").returncode == 0)
 
 
+def try_measures(folder):
+    "what the bench is to print, by the scripts that work it out: fractions, and the transportation problem of 4 by 4; a timed run"
+    printed = call(SCRIPTS / "bench_expected.py").stdout + call(SCRIPTS / "path_expected.py", "4").stdout
+    check("bench_expected.py, path_expected.py", printed == (runner.TOP / "crates/bench/stdout").read_bytes())
+    check("path_expected.py 2", call(SCRIPTS / "path_expected.py", "2").stdout == b"OPTIMAL STEPS 4 OBJECTIVE 180/1\n")
+    job = folder / "job"
+    job.write_text("a first line\nEND 0\n")
+    timed = call(SCRIPTS / "timed.py", job, "cat").stdout.decode()
+    check(f"timed.py: {timed}", re.fullmatch(r"END 0: 0\.\d{3} s, \d+\.\d MB\n", timed))
+
+
 SWEEPS = {
     "paraobj-two-intervals": ((0, -8), (1, -8), (5, -20), "the run ends at 5"),
     "paraobj-unbounded-past": ((0, 0), (1, 0), "no bound past 1"),
@@ -254,6 +265,7 @@ def main():
         try_mps(folder, program)
         try_expected(folder)
         try_plots(folder)
+        try_measures(folder)
         try_random(program)
         try_listings()
         try_explain(folder)
