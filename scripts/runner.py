@@ -17,16 +17,19 @@ def proved_program():
     return found.stdout.strip() if found.returncode == 0 else None
 
 
+def run_proved(program, job):
+    "the status, the listing and the punched deck (None where nothing is punched) of a job"
+    with tempfile.TemporaryDirectory() as folder:
+        ended = subprocess.run([program], input=job, stdout=subprocess.PIPE, cwd=folder, timeout=600)
+        punch = pathlib.Path(folder, "PUNCH")
+        return ended.returncode, ended.stdout, punch.read_bytes() if punch.exists() else None
+
+
 def run_jobs(jobs, unproved=False):
     "from names to bytes of jobs, the status and the listing of each"
     program = None if unproved else proved_program()
     if program:
-        answers = {}
-        for name, job in jobs.items():
-            with tempfile.TemporaryDirectory() as folder:
-                ended = subprocess.run([program], input=job, stdout=subprocess.PIPE, cwd=folder, timeout=120)
-            answers[name] = ended.returncode, ended.stdout
-        return answers
+        return {name: run_proved(program, job)[:2] for name, job in jobs.items()}
     if not unproved or not shutil.which("rt"):
         raise NoProgram("no proved program is there (scripts/build.sh builds it)" if not unproved else "no command rt on the path")
     with tempfile.TemporaryDirectory() as folder:
