@@ -33,11 +33,7 @@ use Rattle.run_definitions.specs.Moves.{Outcome, stops, Move, Does, MayStop, Ask
 use Rattle.run_definitions.specs.Verbs.{statement_move}
 use Rattle.run_definitions.specs.Run.{max_executed, counted, Step}
 use Rattle.run_definitions.specs.Answer.{IsJobRun, IsSoFar}
-
--- A parametric run changes a row without limits of the problem, or a right-hand side set of it.
-abbrev pub IsOfProblem : Changing → Problem ℕ → Type 0
-IsOfProblem (Row name) problem = has_free_row problem.rows name ≡ true
-IsOfProblem (Set name) problem = has_group problem.rhs name ≡ true
+use Rattle.run_laws.specs.Truth.{IsOfProblem}
 
 -- RANGE asks at an optimal basis; a parametric run changes something of the problem, and its last
 -- value isn't less than its first.
