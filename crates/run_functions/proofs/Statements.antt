@@ -1,11 +1,11 @@
 -- In a state whose setup has a lawful problem and a nonsingular basis, a statement asks its question where it has one answer at most.
 use Rattle.std.proofs.Common.{◌≡◌, ℕ, Bool, true, false, List, refl, sym, ap, subst, ◌∙◌}
-use Rattle.std.specs.Prelude.{Option, Some, None, Result, Ok, Err, option_and_then, if◌then◌else◌}
+use Rattle.std.specs.Prelude.{Option, Some, None, Result, Ok, Err, option_and_then}
 use Rattle.exact_values.specs.Rational.{ℚ}
 use Rattle.lp_definitions.specs.LinearProgram.{LinearProgram}
 use Rattle.card_definitions.specs.Cards.{Card}
 use Rattle.problem_definitions.specs.Names.{Name}
-use Rattle.problem_definitions.specs.Problem.{Problem, has_free_row, has_group}
+use Rattle.problem_definitions.specs.Problem.{Problem}
 use Rattle.deck_definitions.specs.declared.DeckFault.{DeckFault}
 use Rattle.deck_definitions.specs.Conversion.{conversion}
 use Rattle.deck_definitions.specs.Decks.{deck_taken}
@@ -17,7 +17,7 @@ use Rattle.selection_definitions.specs.Selection.{selected}
 use Rattle.listing_definitions.specs.declared.Mark.{Mark}
 use Rattle.listing_definitions.specs.declared.VerbFault.{VerbFault}
 use Rattle.listing_definitions.specs.Report.{Report, Converted, Revised, Solution, Ranges}
-use Rattle.question_definitions.specs.Answers.{Changing, Row, Set, Sweep, Question, Answer, OfPath, OfSolution, OfRanges, OfSweep}
+use Rattle.question_definitions.specs.Answers.{Changing, Sweep, Question, Answer, OfPath, OfSolution, OfRanges, OfSweep}
 use Rattle.question_definitions.specs.Solving.{Solving}
 use Rattle.run_definitions.specs.State.{Present, present_basis, State, problem_of, choice_of}
 use Rattle.run_definitions.specs.Moves.{Outcome, Refusals, Move, Does, MayStop, or_fault}
@@ -26,7 +26,6 @@ use Rattle.path_definitions.specs.Path.{EndsOptimal, EndsAt}
 use Rattle.path_laws.proofs.Ends.{optimal_end}
 use Rattle.std.proofs.lemmas.Option.{same_Some}
 use Rattle.lp_definitions.specs.Basis.{IsOptimalBasis}
-use Rattle.exact_values.specs.Tests.{lt_ℚ}
 use Rattle.listing_definitions.specs.declared.Mark.TheVariants.{Optimal, Infeasible, Unbounded}
 use Rattle.run_laws.proofs.Selected.{selected_is_lawful}
 use Rattle.run_laws.proofs.Moves.{HasProblem, EndsOptimally, Knows}

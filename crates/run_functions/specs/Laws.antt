@@ -9,13 +9,12 @@
 --     MeetsNoEvidence S bytes      no evidence holds at any moment of a run of the job
 --     AreSame, Continues           two runs are the same; the one begins with the other
 --     IsFunction S                 what is the same in two runs of one job
-use Rattle.std.specs.Prelude.{◌≡◌, ◌⊎◌, ℕ, ◌-◌, ◌<◌, Bool, true, false, List, ◌++◌, Option, None, Some, Ok, slice_get}
+use Rattle.std.specs.Prelude.{◌≡◌, ◌⊎◌, ℕ, ◌-◌, ◌<◌, Bool, false, List, ◌++◌, Option, None, Some, Ok, slice_get}
 use Rattle.exact_values.specs.Tests.{lt_ℚ}
 use Rattle.lp_definitions.specs.declared.Evidence.{Evidence}
 use Rattle.lp_definitions.specs.LinearProgram.{IsLinearProgram}
 use Rattle.lp_definitions.specs.Basis.{IsOptimalBasis}
 use Rattle.path_laws.specs.Laws.{IsNonsingularBasis}
-use Rattle.problem_definitions.specs.Problem.{Problem, has_free_row, has_group}
 use Rattle.problem_definitions.specs.Valid.{IsProblem}
 use Rattle.selection_definitions.specs.Choice.{Choice}
 use Rattle.selection_definitions.specs.Selection.{selected}
@@ -23,7 +22,7 @@ use Rattle.control_definitions.specs.Program.{Verb, Statement, Program}
 use Rattle.listing_definitions.specs.declared.Mark.{Mark}
 use Rattle.listing_definitions.specs.Report.{SolutionLines, RangeLines, Report}
 use Rattle.listing_definitions.specs.Ending.{Place, Overflow, Ending, OverflowStop}
-use Rattle.question_definitions.specs.Answers.{Basis, Sheet, Changing, Row, Set, Sweep, Question, Answer, OfPath, OfSolution, OfRanges, OfSweep, PathEnd}
+use Rattle.question_definitions.specs.Answers.{Basis, Sheet, Sweep, Question, Answer, OfPath, OfSolution, OfRanges, OfSweep, PathEnd}
 use Rattle.question_definitions.specs.Solving.{Solving, IsRight}
 use Rattle.answer_definitions.specs.Verdicts.{IsSolved}
 use Rattle.answer_definitions.specs.Sections.{IsShown, IsRanged}

@@ -1,8 +1,8 @@
 -- Each report of the run of a job holds of the state in which it was made.
-use Rattle.std.proofs.Common.{◌≡◌, ◌⊎◌, ℕ, Bool, false, List, [], inl, inr}
+use Rattle.std.proofs.Common.{ℕ, Bool, List, []}
 use Rattle.std.specs.Prelude.{All}
 use Rattle.std.proofs.lemmas.List.Elements.{All-nil, All-cons}
-use Rattle.control_definitions.specs.Program.{Program, Verb, Paraobj, Pararhs}
+use Rattle.control_definitions.specs.Program.{Program, Verb}
 use Rattle.listing_definitions.specs.declared.Mark.TheVariants.{Optimal, Infeasible, Unbounded}
 use Rattle.listing_definitions.specs.declared.Solver.TheVariants.{Primal as ByPrimal, Paraobj as ByParaobj, Pararhs as ByPararhs}
 use Rattle.listing_definitions.specs.Report.{Report, Titled, Converted, Revised, SetUp, Punched, Solved, Solution, Ranges, Parametric}

@@ -1,5 +1,5 @@
 -- Each verb keeps what a run knows, and what it reports holds.
-use Rattle.std.proofs.Common.{◌⊎◌, inl, inr, ◌≡◌, ℕ, Bool, true, false, List, [], ◌∷◌, ◌++◌, refl, sym, ap, subst, ◌∙◌}
+use Rattle.std.proofs.Common.{◌≡◌, ℕ, Bool, true, false, List, [], ◌∷◌, ◌++◌, refl, sym, ap, subst, ◌∙◌}
 use Rattle.std.specs.Prelude.{Option, Some, None, Ok, option_and_then}
 use Rattle.exact_values.specs.Rational.{ℚ}
 use Rattle.lp_definitions.specs.LinearProgram.{LinearProgram}
@@ -266,11 +266,10 @@ module _ (S : Solving) (solving : KnowsSolving S) where
       by_verdict_keeps state (mark_of verdict) (Solved (sweeper sweep.changing) verdict check) _
       (opening_holds state sweep.changing verdict check (told_of state present lp sweep lawful set is asked (ShowsOpening verdict check) (record { bases = bases; is_true = truth })))
       (record { marked = unmarked _ _ _; bases = goes_to present state.cells.xobj state.cells.xrhs lp bases is at })
-  swept card sweep present state lp lawful set is asked (Chained bases intervals end) at truth =
-      (
-        told_of state present lp sweep lawful set is asked (ShowsChain (record { from = sweep.from; change = changing_name sweep.changing; intervals = intervals; end = end })) (record { is_from = refl; is_change = refl; is_true = truth }),
-        record { marked = unmarked _ _ _; bases = goes_to present state.cells.xobj state.cells.xrhs lp bases is at },
-      )
+  swept card sweep present state lp lawful set is asked (Chained bases intervals end) at truth = (
+    told_of state present lp sweep lawful set is asked (ShowsChain (record { from = sweep.from; change = changing_name sweep.changing; intervals = intervals; end = end })) (record { is_from = refl; is_change = refl; is_true = truth }),
+    record { marked = unmarked _ _ _; bases = goes_to present state.cells.xobj state.cells.xrhs lp bases is at },
+  )
   swept card sweep present state lp lawful set is asked SweepLimit at truth = tt
 
   asked_kept : (card : ℕ) (present : Present) (state : State) (lp : LinearProgram) (sweep : Sweep) → HasProblem state.setup → HasBases present → state.setup ≡ Some present →

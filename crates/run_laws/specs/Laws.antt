@@ -3,7 +3,7 @@
 --                                  RANGE, are those of the linear program
 --     TellsTruth S                 each report of the run of a job holds of the state in which it is made
 --     FilesProblems S              every problem that is filed in the run of a job is one
-use Rattle.std.specs.Prelude.{◌≡◌, ℕ, Bool, List, [], All, Some}
+use Rattle.std.specs.Prelude.{◌≡◌, ℕ, Bool, List, All, Some}
 use Rattle.problem_definitions.specs.Valid.{IsProblem}
 use Rattle.control_definitions.specs.Program.{Verb, Program}
 use Rattle.listing_definitions.specs.Report.{SolutionLines, RangeLines, Verdict, Check, Report}
