@@ -21,7 +21,7 @@ use Rattle.run_laws.proofs.Selected.{is_chosen, selected_is_lawful}
 use Rattle.run_functions.specs.Laws.{IsAsked, MeetsNoEvidence, AnswersOnce, IsOverflow, IsOverflowStop, IsSameOrStop, AreSame, Continues, IsFunction}
 use Rattle.run_functions.proofs.Stops.{statement_evidence}
 use Rattle.run_functions.proofs.OneRange.{ranged_once}
-use Rattle.run_functions.proofs.ChangeRow.{swept_once}
+use Rattle.run_functions.proofs.Swept.{swept_once}
 use Rattle.run_functions.proofs.OneAnswer.{path_once, shown_once}
 use Rattle.run_functions.proofs.Steps.{Comes, two_outcomes, steps, GoesOn, same_so_far, goes_on, continues}
 

@@ -9,13 +9,12 @@
 --     MeetsNoEvidence S bytes      no evidence holds at any moment of a run of the job
 --     AreSame, Continues           two runs are the same; the one begins with the other
 --     IsFunction S                 what is the same in two runs of one job
-use Rattle.std.specs.Prelude.{◌≡◌, ◌⊎◌, ℕ, ◌-◌, ◌<◌, Bool, true, false, List, ◌++◌, Option, None, Some, Ok, slice_get}
+use Rattle.std.specs.Prelude.{◌≡◌, ◌⊎◌, ℕ, ◌-◌, ◌<◌, Bool, false, List, ◌++◌, Option, None, Some, Ok, slice_get}
 use Rattle.exact_values.specs.Tests.{lt_ℚ}
 use Rattle.lp_definitions.specs.declared.Evidence.{Evidence}
 use Rattle.lp_definitions.specs.LinearProgram.{IsLinearProgram}
 use Rattle.lp_definitions.specs.Basis.{IsOptimalBasis}
 use Rattle.path_laws.specs.Laws.{IsNonsingularBasis}
-use Rattle.problem_definitions.specs.Problem.{Problem, has_free_row, has_group}
 use Rattle.problem_definitions.specs.Valid.{IsProblem}
 use Rattle.selection_definitions.specs.Choice.{Choice}
 use Rattle.selection_definitions.specs.Selection.{selected}
@@ -23,7 +22,7 @@ use Rattle.control_definitions.specs.Program.{Verb, Statement, Program}
 use Rattle.listing_definitions.specs.declared.Mark.{Mark}
 use Rattle.listing_definitions.specs.Report.{SolutionLines, RangeLines, Report}
 use Rattle.listing_definitions.specs.Ending.{Place, Overflow, Ending, OverflowStop}
-use Rattle.question_definitions.specs.Answers.{Basis, Sheet, Changing, Row, Set, Sweep, Question, Answer, OfPath, OfSolution, OfRanges, OfSweep, PathEnd}
+use Rattle.question_definitions.specs.Answers.{Basis, Sheet, Sweep, Question, Answer, OfPath, OfSolution, OfRanges, OfSweep, PathEnd}
 use Rattle.question_definitions.specs.Solving.{Solving, IsRight}
 use Rattle.answer_definitions.specs.Verdicts.{IsSolved}
 use Rattle.answer_definitions.specs.Sections.{IsShown, IsRanged}
@@ -33,11 +32,7 @@ use Rattle.run_definitions.specs.Moves.{Outcome, stops, Move, Does, MayStop, Ask
 use Rattle.run_definitions.specs.Verbs.{statement_move}
 use Rattle.run_definitions.specs.Run.{max_executed, counted, Step}
 use Rattle.run_definitions.specs.Answer.{IsJobRun, IsSoFar}
-
--- A parametric run changes a row without limits of the problem, or a right-hand side set of it.
-abbrev pub IsOfProblem : Changing → Problem ℕ → Type 0
-IsOfProblem (Row name) problem = has_free_row problem.rows name ≡ true
-IsOfProblem (Set name) problem = has_group problem.rhs name ≡ true
+use Rattle.run_laws.specs.Truth.{IsOfProblem}
 
 -- RANGE asks at an optimal basis; a parametric run changes something of the problem, and its last
 -- value isn't less than its first.

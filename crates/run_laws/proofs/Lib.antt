@@ -2,6 +2,7 @@ pub mod Ends
 pub mod Selected
 pub mod Shapes
 pub mod Moves
+pub mod ChangeRow
 pub mod Verbs
 pub mod Decks
 pub mod Named
