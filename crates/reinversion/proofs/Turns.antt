@@ -1,0 +1,58 @@
+-- How long a file is after an exchange, and what is carried last where the file is made anew.
+use Rattle.std.proofs.Common.{◌≡◌, ℕ, zero, suc, ◌+◌, ◌<◌, ◌≤◌, List, [], ◌∷◌, length, drop, sym, ◌∙◌, ap, true, false, subst, arith, Option, Some, None}
+use Rattle.std.proofs.lemmas.List.{length-append}
+use Rattle.exact_values.specs.Rational.{ℚ}
+use Rattle.lp_definitions.specs.LinearProgram.{Matrix, size, value_at}
+use Rattle.lp_definitions.specs.Basis.{Basics, IsNonbasic, IsNonsingular, IsDirectionOf}
+use Rattle.lp_laws.proofs.Exchange.{marked, marked_is}
+use Rattle.eta_file.specs.Prefixes.{basic_columns}
+use Rattle.eta_file.specs.Inverse.{Inverse, IsAppended}
+use Rattle.reinversion.specs.Last.{IsCarried, IsLast}
+use Rattle.reinversion.specs.declared.last_column.LastColumn.{LastColumn}
+use Rattle.reinversion.specs.Form.{Form, IsShort, IsPrepared, not_due, is_new, is_refused, IsTurn, goes_on, made_anew, stays_long}
+
+past_at_most : (b : Basics) (m : ℕ) → marked (drop m b) ≤ marked b
+past_at_most [] zero = omega arith
+past_at_most [] (suc m) = omega arith
+past_at_most (x ∷ xs) zero = omega arith
+past_at_most (true ∷ xs) (suc m) = let rest = past_at_most xs m in omega (arith, rest)
+past_at_most (false ∷ xs) (suc m) = past_at_most xs m
+
+-- no more basic columns than rows
+pub columns_few : (a : Matrix) (b : Basics) → IsNonsingular a b → basic_columns a b ≤ a.rows
+columns_few a b one =
+    let past = past_at_most b a.rows in
+    let columns : marked (drop a.rows b) ≡ basic_columns a b = marked_is (drop a.rows b) in
+    let whole : marked b ≡ a.rows = marked_is b ∙ one.m_basics in
+    omega (arith, past, columns, whole)
+
+-- one eta more
+pub longer : (f g : Inverse) (p q : ℕ) → IsAppended f p q g → length g.etas ≡ length f.etas + 1
+longer f g p q h = ap length h.one_more ∙ length-append f.etas (h.eta ∷ [])
+
+-- an exchange after what was due
+pub turn_after : (f g h : Form) (p q : ℕ) → IsPrepared f g → IsAppended g.file p q h.file → h.since ≡ g.since + 1 → IsTurn f h
+turn_after f g h p q (not_due few same) more counted =
+    goes_on few (counted ∙ ap (λ (x : Form). x.since + 1) same) (longer g.file h.file p q more ∙ ap (λ (x : Form). length x.file.etas + 1) same)
+turn_after f g h p q (is_new due none few) more counted =
+    let long = longer g.file h.file p q more in
+    made_anew due (omega (arith, counted, none)) (omega (arith, long, few))
+turn_after f g h p q (is_refused due none same e kept) more counted =
+    stays_long due (omega (arith, counted, none)) (longer g.file h.file p q more ∙ ap (λ (x : Inverse). length x.etas + 1) same) e kept
+
+-- a direction belongs to the basics, and not to the file
+carried_same : (f g : Inverse) (o : Option ℕ) (xs : List ℚ) → g.matrix ≡ f.matrix → g.basics ≡ f.basics → IsCarried f o xs → IsCarried g o xs
+carried_same f g None xs same_matrix same_basics h = h
+carried_same f g (Some j) xs same_matrix same_basics h =
+    subst (λ (a : Matrix). IsNonbasic a g.basics j × IsDirectionOf a g.basics j (value_at xs)) (sym same_matrix)
+    (subst (λ (b : Basics). IsNonbasic f.matrix b j × IsDirectionOf f.matrix b j (value_at xs)) (sym same_basics) h)
+
+pub last_same : (f g : Inverse) (last : LastColumn) → g.matrix ≡ f.matrix → g.basics ≡ f.basics → IsLast f last → IsLast g last
+last_same f g last same_matrix same_basics h = record {
+  places = h.places ∙ ap size (sym same_matrix);
+  carried = carried_same f g last.of last.direction.items same_matrix same_basics h.carried;
+}
+
+-- the direction of the variable that was carried last
+pub last_is : (f : Inverse) (last : LastColumn) (j : ℕ) → IsLast f last → last.of ≡ Some j → IsDirectionOf f.matrix f.basics j (value_at last.direction.items)
+last_is f last j h is = (subst (λ (o : Option ℕ). IsCarried f o last.direction.items) is h.carried).1
