@@ -91,6 +91,7 @@ impl ProductForm {
         ensures since { OnOk result (self.new.since ≡ 0) }
         ensures err { OnErr result (self.new ≡ self.old) }
     {
+        let _size = self.file.size();
         match rebuild(&self.file, &mut self.room) {
             Ok(file) => {
                 self.file = file;
