@@ -1,5 +1,5 @@
 -- What a run is answered, and what its job is answered then.
-use Rattle.std.proofs.Common.{◌≡◌, ℕ, ◌≤◌, List, ◌++◌, Option, Some, Err, refl, sym, ap, subst, arith, ◌∙◌}
+use Rattle.std.proofs.Common.{◌≡◌, ℕ, ◌≤◌, List, Option, Some, Err, refl, sym, ap, subst, arith, ◌∙◌}
 use Rattle.std.specs.Io.KnownBytes.{Appends}
 use Rattle.job_devices.proofs.TextLemmas.{AppendsFront-more, writes_then}
 use Rattle.job_devices.specs.Causes.{Rose}

@@ -16,7 +16,7 @@ use Rattle.listing_definitions.specs.Report.{Punched}
 use Rattle.listing_definitions.specs.Text.{report_text}
 use Rattle.question_definitions.specs.Solving.{Solving}
 use Rattle.run_definitions.specs.State.{State, problem_of}
-use Rattle.run_definitions.specs.Moves.{Gain, Punches, punched_by, Outcome, next, Move, Does, Gives}
+use Rattle.run_definitions.specs.Moves.{Gain, Punches, punched_by, Outcome, next, Does, Gives}
 use Rattle.run_definitions.specs.Verbs.{max_counted, statement_move, verb_move}
 use Rattle.control_run.specs.declared.act.Act.{Act}
 use Rattle.control_run.specs.declared.act.Act.TheVariants.{Next, Ends}
@@ -65,7 +65,9 @@ stopped : {T P : Type 0} (written : P → Option (List ℕ)) (faults refusals : 
     Writes {T = Unit {0}} written faults refusals old new (Err stop) text
 stopped written faults refusals stop text w = record {
   bytes = w.bytes;
-  cause = record { later = w.cause.later; later_refusals = w.cause.later_refusals; 
+  cause = record {
+    later = w.cause.later;
+    later_refusals = w.cause.later_refusals;
     failed = λ h. w.cause.failed (ap (λ s. Err s) (same_stop {T = Unit {0}} (Err stop) stop Failed refl h));
     no_memory = λ h. w.cause.no_memory (ap (λ s. Err s) (same_stop {T = Unit {0}} (Err stop) stop NoMemory refl h));
   };

@@ -9,7 +9,7 @@ use Rattle.deck_definitions.specs.Decks.{decks_of}
 use Rattle.deck_definitions.specs.Written.{card_text}
 use Rattle.control_definitions.specs.Program.{Program}
 use Rattle.listing_definitions.specs.Report.{Report}
-use Rattle.listing_definitions.specs.Ending.{Ending, Ended, StatementLimit, PunchFault, Memory}
+use Rattle.listing_definitions.specs.Ending.{Ended, StatementLimit, Memory}
 use Rattle.listing_definitions.specs.Listing.{reports_text}
 use Rattle.question_definitions.specs.Solving.{Solving}
 use Rattle.run_definitions.specs.State.{State, start}
@@ -25,7 +25,7 @@ use Rattle.control_run.specs.Ends.{end_shown}
 use Rattle.control_run.specs.Standing.{IsSound, Stands}
 use Rattle.control_run.specs.Statements.{gain_text, gain_of}
 use Rattle.control_run.specs.Punching.{gain_cards}
-use Rattle.control_run.specs.Running.{decks_behind, by_itself, for_memory, for_memory_of_punch, for_punch_fault, Turns, IsStepCut, IsDeckCut, Steps, CanEndNow, RunsTo, IsRunCut, Runs}
+use Rattle.control_run.specs.Running.{decks_behind, by_itself, for_memory, for_memory_of_punch, for_punch_fault, Turns, IsStepCut, IsDeckCut, Steps, RunsTo, IsRunCut, Runs}
 use Rattle.control_run.proofs.Gains.{reports_text_more, card_text_more, gains_whole, front_of_whole, gains_front_at_fault, gains_front_for_memory}
 
 module _ (S : Solving) (program : Program) (cards : List (List ℕ)) {P U : Type 0} (written : P → Option (List ℕ)) (faults refusals : P → ℕ)
@@ -139,8 +139,7 @@ module _ (S : Solving) (program : Program) (cards : List (List ℕ)) {P U : Type
     underway_deck_cut : (stop : WriteStop) → IsDeckCut S program cards written faults refusals now later punch_written punch_faults punch_refusals punch_now punch_later u.state stop →
         Runs S program cards written faults refusals old later punch_written punch_faults punch_refusals punch_old punch_later (Err (halt.Punch stop))
     underway_deck_cut Failed t =
-        let w = punches_cut u Failed t.deck t.punches in
-        (
+        let w = punches_cut u Failed t.deck t.punches in (
           record {
             reports = u.reports;
             punched = u.punched ++ t.deck;
