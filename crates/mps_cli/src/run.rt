@@ -7,6 +7,7 @@ ghost use Rattle.card_reader.specs.Reading.{ReadsFront, ReadsJob};
 ghost use Rattle.run_definitions.specs.Answer.{Job};
 ghost use Rattle.run_functions.specs.Complete.{IsComplete};
 ghost use Rattle.run_laws.specs.Headline.{IsTrueAnswer};
+ghost use Rattle.stop_laws.specs.Stands.{StandsAfter};
 ghost use Rattle.control_run.specs.Stage.{stage};
 ghost use Rattle.control_run.specs.Ends.{code_of};
 ghost use Rattle.mps_cli.specs.Asked.{IsAsked};
@@ -69,6 +70,22 @@ pub fn run_job<S: Source, P: Sink, U: Sink>(
         (code_of result)
         (Appends (P.written print.old) (P.written print.new))
         (Appends (U.written punch.old) (U.written punch.new)) }
+
+    // What stands, by the status. With 0, 1, 2, 8, 10, 12, 13, 16, 17 and 20 the run of the job has this end; the whole
+    // listing of the run stands, and all cards that it has punched; 8 and 13 leave their line alone, and so do 4 and 24. After
+    // 26 and 28 the reports so far stand with this line, and a front of the cards; and after 25, and where the print wanted
+    // memory, a front of a listing that the job may have, and a front of its cards.
+    ensures stands { (asked : Job) → IsAsked (length words.now) (S.left job.old) asked →
+        StandsAfter stage asked
+        (record {
+          read = Rose (S.faults job.old) (S.faults job.new);
+          print = Rose (P.faults print.old) (P.faults print.new);
+          punch = Rose (U.faults punch.old) (U.faults punch.new);
+          memory = Rose (P.refusals print.old) (P.refusals print.new);
+        })
+        (Appends (P.written print.old) (P.written print.new))
+        (Appends (U.written punch.old) (U.written punch.new))
+        (code_of result) }
 
     // Why, also where the devices don't tell their bytes.
     ensures cause { HasCause (length words.now)

@@ -1,5 +1,7 @@
 use Rattle.std.proofs.Common.{rules, refl, length}
 use Rattle.run_definitions.specs.Answer.{Read}
+use Rattle.stop_laws.proofs.Standing.{stands_after}
+use Rattle.control_run.specs.Stage.{stage}
 use Rattle.mps_cli.specs.declared.stop.Stop.TheVariants.{Words}
 use Rattle.mps_cli.specs.Causes.{nothing, in_run}
 use Rattle.mps_cli.proofs.May_end.{prepared_of, program_of}
@@ -16,6 +18,9 @@ returns-then-not-is_empty-clause-headline g c =
 pub returns-then-not-is_empty-clause-complete : goal.returns-then-not-is_empty-clause-complete
 returns-then-not-is_empty-clause-complete g c asked is = complete_answer (returns-then-not-is_empty-clause-headline g c asked is)
 
+pub returns-then-not-is_empty-clause-stands : goal.returns-then-not-is_empty-clause-stands
+returns-then-not-is_empty-clause-stands g c asked is = stands_after stage (returns-then-not-is_empty-clause-headline g c asked is)
+
 -- ---- the program is run
 
 pub returns-in-Ok-clause-headline : goal.returns-in-Ok-clause-headline
@@ -26,6 +31,9 @@ returns-in-Ok-clause-headline g c =
 
 pub returns-in-Ok-clause-complete : goal.returns-in-Ok-clause-complete
 returns-in-Ok-clause-complete g c asked is = complete_answer (returns-in-Ok-clause-headline g c asked is)
+
+pub returns-in-Ok-clause-stands : goal.returns-in-Ok-clause-stands
+returns-in-Ok-clause-stands g c asked is = stands_after stage (returns-in-Ok-clause-headline g c asked is)
 
 pub returns-in-Ok-clause-cause : goal.returns-in-Ok-clause-cause
 returns-in-Ok-clause-cause g c =
@@ -42,6 +50,9 @@ returns-in-Err-clause-headline g c =
 
 pub returns-in-Err-clause-complete : goal.returns-in-Err-clause-complete
 returns-in-Err-clause-complete g c asked is = complete_answer (returns-in-Err-clause-headline g c asked is)
+
+pub returns-in-Err-clause-stands : goal.returns-in-Err-clause-stands
+returns-in-Err-clause-stands g c asked is = stands_after stage (returns-in-Err-clause-headline g c asked is)
 
 pub returns-in-Err-clause-cause : goal.returns-in-Err-clause-cause
 returns-in-Err-clause-cause g c =
