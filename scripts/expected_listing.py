@@ -313,7 +313,7 @@ class Table:
         self.rate[q] = new
 
     def path(self, most):
-        "the end of the path and the number of steps"
+        "the end of the path and the number of steps; where most is None, there is no limit"
         lp, steps = self.lp, 0
         for k in range(self.size):
             if None not in (lp.lower[k], lp.upper[k]) and lp.lower[k] > lp.upper[k]:
@@ -466,7 +466,10 @@ class Run:
                 self.reset()
             elif verb == "MOVE":
                 is_number = words[0] in ("XITERLIM", "XPARAM", "XPARMAX")
-                self.cells[words[0]] = number(words[1]) if is_number else words[1] if len(words) > 1 else ""
+                if words == ["XITERLIM", "NONE"]:
+                    self.cells["XITERLIM"] = None
+                else:
+                    self.cells[words[0]] = number(words[1]) if is_number else words[1] if len(words) > 1 else ""
                 if words[0] in ("XOBJ", "XRHS"):
                     self.mark = None
             elif verb == "MVADR":
