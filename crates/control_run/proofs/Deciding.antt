@@ -50,7 +50,7 @@ number_decides cell value card old cells e = λ cards position executed state s.
   stands_changed s (move_number cell value state.cells) cells state.mark old.mark (ap (move_number cell value) s.cells ∙ sym e) s.mark,
 )
 
-pub limit_decides : (limit card : ℕ) (old : Machine) (cells : Cells) → cells ≡ move_limit limit old.cells → Decides stage (MoveLimit limit) card old (record old { cells = cells }) Next
+pub limit_decides : (limit : Option ℕ) (card : ℕ) (old : Machine) (cells : Cells) → cells ≡ move_limit limit old.cells → Decides stage (MoveLimit limit) card old (record old { cells = cells }) Next
 unfolding stage verb_move
 limit_decides limit card old cells e = λ cards position executed state s.
     (record state { cells = move_limit limit state.cells }, refl, stands_changed s (move_limit limit state.cells) cells state.mark old.mark (ap (move_limit limit) s.cells ∙ sym e) s.mark)

@@ -3,7 +3,7 @@
 --     Comes state gain act         from this state the statement comes to this act with this gain
 --     Decides old new act          the statement prints nothing, and comes to this act
 --     Executes result              the statement punches nothing, and comes to this act, with its report printed; or it is cut off
-use Rattle.std.specs.Prelude.{◌≡◌, ℕ, ◌≤◌, List, [], Option, Result, Ok, Err}
+use Rattle.std.specs.Prelude.{◌≡◌, ℕ, ◌≤◌, List, [], Option, Result, Ok, Err, IfSome}
 use Rattle.job_devices.specs.declared.device.WriteStop.{WriteStop}
 use Rattle.job_devices.specs.Text.{Writes}
 use Rattle.control_definitions.specs.Program.{Verb, MoveLimit, Mvadr, Goto}
@@ -22,7 +22,7 @@ use Rattle.control_run.specs.Standing.{Stands}
 
 -- positions count from 1, and a verb may be allowed 1,000,000 steps
 abbrev pub IsSoundVerb : Verb ℕ → Type 0
-IsSoundVerb (MoveLimit limit) = limit ≤ 1000000
+IsSoundVerb (MoveLimit limit) = IfSome limit (λ steps. steps ≤ 1000000)
 IsSoundVerb (Mvadr demand position) = 1 ≤ position
 IsSoundVerb (Goto position) = 1 ≤ position
 IsSoundVerb _ = Unit {0}

@@ -324,7 +324,7 @@ no_change question sheet s asked = subst (λ (p : LinearProgram). p.change ≡ N
 -- what is asked has one answer
 pub answers_once : (builds : Verb ℕ → Bool) → AnswersOnce (staged builds)
 answers_once builds = record {
-  paths = λ limit sheet s a b asked first second. path_once sheet s limit (lawful_of (OfPath limit) sheet s asked) asked.is_basis a b first second;
+  paths = λ limit sheet s a b asked first second. path_once sheet s (lawful_of (OfPath limit) sheet s asked) asked.is_basis limit a b first second;
   solutions = λ mark sheet s a b asked first second. shown_once sheet s a b (lawful_of (OfSolution mark) sheet s asked) asked.is_basis first second;
   ranges = λ sheet s a b asked first second. ranged_once sheet s a b (lawful_of OfRanges sheet s asked) (no_change OfRanges sheet s asked) asked.suits first second;
   sweeps = swept_once;

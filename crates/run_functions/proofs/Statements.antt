@@ -10,6 +10,7 @@ use Rattle.deck_definitions.specs.declared.DeckFault.{DeckFault}
 use Rattle.deck_definitions.specs.Conversion.{conversion}
 use Rattle.deck_definitions.specs.Decks.{deck_taken}
 use Rattle.revise_definitions.specs.Revision.{revision}
+use Rattle.control_definitions.specs.Cells.{steps_allowed}
 use Rattle.control_definitions.specs.Program.{SetupOptions, Verb, Initialz, Title, MoveName, MoveNumber, MoveLimit, Mvadr, Goto, Convert, Setup, Primal, Revise, Ranging, Paraobj, Pararhs, Solution as SolutionVerb, Bcdout, Exit}
 use Rattle.selection_definitions.specs.declared.SelectionFault.{SelectionFault}
 use Rattle.selection_definitions.specs.Choice.{Choice}
@@ -161,8 +162,8 @@ module _ (S : Solving) where
         unless_fault {X = Changing} card fault (option_and_then (change present.problem) moved) _ (λ changing c.
         unless_fault {X = ℚ} card VerbFault.NoParmax state.cells.xparmax _ (λ last l.
         unless_fault {X = ℚ} card VerbFault.ParmaxBelow (not_less state.cells.xparam last) _ (λ to t.
-        asked (OfSweep (record { changing = changing; from = state.cells.xparam; to = to; limit = state.cells.xiterlim })) present state lp _
-        (one (record { changing = changing; from = state.cells.xparam; to = to; limit = state.cells.xiterlim })) lawful knows e is
+        asked (OfSweep (record { changing = changing; from = state.cells.xparam; to = to; limit = steps_allowed state.cells })) present state lp _
+        (one (record { changing = changing; from = state.cells.xparam; to = to; limit = steps_allowed state.cells })) lawful knows e is
         (changes_part change of_problem present.problem moved changing c, last_no_less state.cells.xparam last to t))))))
 
   module _ (answers : AnswersOnce S) where

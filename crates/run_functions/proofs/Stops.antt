@@ -11,6 +11,7 @@ use Rattle.deck_definitions.specs.declared.DeckFault.{DeckFault}
 use Rattle.deck_definitions.specs.Conversion.{conversion}
 use Rattle.deck_definitions.specs.Decks.{deck_taken}
 use Rattle.revise_definitions.specs.Revision.{revision}
+use Rattle.control_definitions.specs.Cells.{steps_allowed}
 use Rattle.control_definitions.specs.Program.{Program, SetupOptions, Verb, Initialz, Title, MoveName, MoveNumber, MoveLimit, Mvadr, Goto, Convert, Setup, Primal, Revise, Ranging, Paraobj, Pararhs, Solution as SolutionVerb, Bcdout, Exit}
 use Rattle.selection_definitions.specs.declared.SelectionFault.{SelectionFault}
 use Rattle.selection_definitions.specs.Choice.{Choice}
@@ -160,7 +161,7 @@ module _ (card : ℕ) (state : State) where
       unless_fault {X = Changing} card fault (option_and_then (change present.problem) moved) _ (λ changing.
       unless_fault {X = ℚ} card VerbFault.NoParmax state.cells.xparmax _ (λ last.
       unless_fault {X = ℚ} card VerbFault.ParmaxBelow (not_less state.cells.xparam last) _ (λ to.
-      record { other = after_sweep_other card (record { changing = changing; from = state.cells.xparam; to = to; limit = state.cells.xiterlim }) present state })))))
+      record { other = after_sweep_other card (record { changing = changing; from = state.cells.xparam; to = to; limit = steps_allowed state.cells }) present state })))))
 
 verb_never : (verb : Verb ℕ) (card : ℕ) (state : State) → NeverStops (verb_move verb card state)
 unfolding verb_move

@@ -59,7 +59,7 @@ HasOneAnswer S question = (sheet : Sheet) (s : Basis) (a b : Answer question) �
 
 -- So it is with each question that PRIMAL, SOLUTION, RANGE, PARAOBJ and PARARHS ask.
 pub record AnswersOnce (S : Solving) : Type 0 where
-  pub paths : (limit : ℕ) → HasOneAnswer S (OfPath limit)
+  pub paths : (limit : Option ℕ) → HasOneAnswer S (OfPath limit)
   pub solutions : (mark : Mark) → HasOneAnswer S (OfSolution mark)
   pub ranges : HasOneAnswer S OfRanges
   pub sweeps : (sweep : Sweep) → HasOneAnswer S (OfSweep sweep)
@@ -142,11 +142,11 @@ pub record IsFunction (S : Solving) : Type 0 where
       IsJobRun S bytes others other_cards other →
       AreSame reports others cards other_cards ending other
 
--- At a nonsingular basis of a lawful linear program a path has one end within a limit, with one
+-- At a nonsingular basis of a lawful linear program a path has one end, be there a limit or not, with one
 -- verdict and one check of it, and SOLUTION prints one list of lines; and so does RANGE at an
 -- optimal basis of a linear program without a change row.
 pub record AnswerLaws : Type 0 where
-  pub path : (sheet : Sheet) (s : Basis) (limit : ℕ) (a b : PathEnd) → IsLinearProgram sheet.lp →
+  pub path : (sheet : Sheet) (s : Basis) (limit : Option ℕ) (a b : PathEnd) → IsLinearProgram sheet.lp →
       IsNonsingularBasis sheet.lp s → IsSolved sheet s limit a → IsSolved sheet s limit b → a ≡ b
   pub solution : (sheet : Sheet) (s : Basis) (a b : SolutionLines) → IsLinearProgram sheet.lp →
       IsNonsingularBasis sheet.lp s → IsShown sheet s a → IsShown sheet s b → a ≡ b

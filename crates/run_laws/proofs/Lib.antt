@@ -8,3 +8,4 @@ pub mod Decks
 pub mod Named
 pub mod Filed
 pub mod Runs
+pub mod Unlimited

@@ -28,7 +28,7 @@ use Rattle.question_definitions.specs.Answers.{Basis, Sheet, Changing, Row, Set,
 use Rattle.question_definitions.specs.Solving.{Solving, IsRight}
 use Rattle.answer_definitions.specs.Verdicts.{verdict_of}
 use Rattle.answer_definitions.specs.Sections.{IsShown, IsRanged}
-use Rattle.control_definitions.specs.Cells.{Cells, move_name, move_number, set_demand}
+use Rattle.control_definitions.specs.Cells.{Cells, move_name, move_number, steps_allowed, set_demand}
 use Rattle.run_definitions.specs.State.{Present, present_basis, gone_through, State, problem_of, choice_of}
 use Rattle.run_definitions.specs.Moves.{Prints, Punches, next, Does}
 use Rattle.run_definitions.specs.Verbs.{size_of, files, not_less, change_row, change_set, asks, mark_of, mark_after, demanded, by_verdict, after_path, after_sweep, if_optimal, shows_present, solves, shows, ranges, sweeps, converts, revises, sets_up, punches, verb_move, if_built, statement_move}
@@ -292,7 +292,7 @@ module _ (S : Solving) (solving : KnowsSolving S) where
       unless_fault {X = Changing} S state card fault (option_and_then (change present.problem) moved) _ (λ changing c.
       unless_fault {X = ℚ} S state card VerbFault.NoParmax state.cells.xparmax _ (λ last l.
       unless_fault {X = ℚ} S state card VerbFault.ParmaxBelow (not_less state.cells.xparam last) _ (λ to t.
-      asked_kept card present state lp (record { changing = changing; from = state.cells.xparam; to = to; limit = state.cells.xiterlim }) lawful (knows.bases present e) e is
+      asked_kept card present state lp (record { changing = changing; from = state.cells.xparam; to = to; limit = steps_allowed state.cells }) lawful (knows.bases present e) e is
       (record { is_part = (named present.problem changing c).0; is_named = (named present.problem changing c).1; from_first = refl; to_last = l ∙ ap (λ (x : ℚ). Some x) (last_is state.cells.xparam last to t) }))))))
 
   files_kept : (card : ℕ) (report : Filed → Report) (decks : List (List Card)) (state : State) → ((filed : Filed) → Holds state (report filed)) → (problem : Problem ℕ) →

@@ -3,11 +3,12 @@
 --                                  RANGE, are those of the linear program
 --     TellsTruth S                 each report of the run of a job holds of the state in which it is made
 --     FilesProblems S              every problem that is filed in the run of a job is one
-use Rattle.std.specs.Prelude.{◌≡◌, ℕ, Bool, List, All, Some}
+--     EndsUnlimited S              where there is no limit on steps, PRIMAL doesn't stop at one
+use Rattle.std.specs.Prelude.{◌≡◌, ℕ, Bool, List, All, Option, None, Some}
 use Rattle.problem_definitions.specs.Valid.{IsProblem}
-use Rattle.control_definitions.specs.Program.{Verb, Program}
+use Rattle.control_definitions.specs.Program.{Verb, Primal, Program}
 use Rattle.listing_definitions.specs.Report.{SolutionLines, RangeLines, Verdict, Check, Report}
-use Rattle.listing_definitions.specs.Ending.{Ending}
+use Rattle.listing_definitions.specs.Ending.{Ending, LimitStop}
 use Rattle.question_definitions.specs.Answers.{Basis, Sheet, Sweep, Reached, SweepEnd}
 use Rattle.question_definitions.specs.Solving.{Solving}
 use Rattle.answer_definitions.specs.Verdicts.{ReachesVerdict}
@@ -15,7 +16,8 @@ use Rattle.answer_definitions.specs.Sections.{IsShown, IsRanged}
 use Rattle.answer_definitions.specs.Sweeps.{IsSwept}
 use Rattle.answer_definitions.specs.Real.{staged}
 use Rattle.run_definitions.specs.State.{Present, State}
-use Rattle.run_definitions.specs.Moves.{printed_by, Outcome, Goes, Ends}
+use Rattle.run_definitions.specs.Moves.{printed_by, Outcome, Goes, Ends, Gives}
+use Rattle.run_definitions.specs.Verbs.{statement_move}
 use Rattle.run_definitions.specs.Run.{Step}
 use Rattle.run_definitions.specs.Answer.{IsJobRun, IsSoFar}
 use Rattle.run_laws.specs.Truth.{Holds}
@@ -24,7 +26,7 @@ use Rattle.run_laws.specs.Headline.{HoldInJob}
 -- the ends of paths and of parametric runs and the lines of SOLUTION and RANGE are those of the linear
 -- program
 pub record KnowsSolving (S : Solving) : Type 0 where
-  pub solves : (sheet : Sheet) (s : Basis) (limit : ℕ) (bases : List Basis) (verdict : Verdict) (check : Check) →
+  pub solves : (sheet : Sheet) (s : Basis) (limit : Option ℕ) (bases : List Basis) (verdict : Verdict) (check : Check) →
       S.Solves sheet s limit (Reached bases verdict check) → ReachesVerdict sheet s limit bases verdict check
   pub shows : (sheet : Sheet) (s : Basis) (lines : SolutionLines) → S.Shows sheet s lines → IsShown sheet s lines
   pub ranges : (sheet : Sheet) (s : Basis) (lines : RangeLines) → S.Ranges sheet s lines → IsRanged sheet s lines
@@ -53,7 +55,18 @@ pub record FilesProblems (S : Solving) : Type 0 where
       (present : Present) → IsSoFar S bytes reports cards program state → state.setup ≡ Some present →
       IsProblem present.problem
 
+-- the run doesn't end at the limit on steps
+abbrev pub IsNoLimitStop : Outcome → Type 0
+IsNoLimitStop (Ends gain (LimitStop reached)) = ⊥
+IsNoLimitStop _ = Unit {0}
+
+-- Where there is no limit, PRIMAL doesn't stop at one.
+abbrev pub EndsUnlimited : Solving → Type 0
+EndsUnlimited S = (card : ℕ) (state : State) (outcome : Outcome) → state.cells.xiterlim ≡ None →
+    Gives S card (statement_move S Primal card state) outcome → IsNoLimitStop outcome
+
 -- whichever verbs are built
 pub record RunLaws : Type 0 where
   pub truth : (builds : Verb ℕ → Bool) → TellsTruth (staged builds)
   pub problems : (builds : Verb ℕ → Bool) → FilesProblems (staged builds)
+  pub unlimited : (builds : Verb ℕ → Bool) → EndsUnlimited (staged builds)
