@@ -207,6 +207,8 @@ class Revision:
         if self.action == "DELETE" and not row:
             del sets[name]
         elif self.action == "DELETE" and section == "BOUNDS":
+            if not any(item[1] == row for item in sets[name]):
+                raise Fault("a column without a bound in that set")
             sets[name] = [item for item in sets[name] if item[1] != row]
         elif self.action == "DELETE":
             del sets[name][row]

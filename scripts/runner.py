@@ -25,8 +25,9 @@ def run_proved(program, job):
         return ended.returncode, ended.stdout, punch.read_bytes() if punch.exists() else None
 
 
-def run_jobs(jobs, unproved=False):
-    "from names to bytes of jobs, the status and the listing of each"
+def run_jobs(jobs, unproved=False, whole=True):
+    """from names to bytes of jobs, the status and the listing of each. The unproved run may have no answer to a job: then the status is None,
+    or, where the whole is wanted, that is told as the want of a program."""
     program = None if unproved else proved_program()
     if program:
         return {name: run_proved(program, job)[:2] for name, job in jobs.items()}
@@ -42,4 +43,9 @@ def run_jobs(jobs, unproved=False):
     listings = {name.decode(): re.sub(rb"^case=.*\n?", b"", listing, flags=re.M) for name, listing in zip(parts[1::2], parts[2::2])}
     if not statuses:
         raise NoProgram("the unproved run gave no answer:\n" + text.decode(errors="replace")[-600:])
+    silent = [name for name in jobs if name not in statuses]
+    if whole and silent:
+        line = re.search(rb"^case=%s .*$" % re.escape(silent[0].encode()), text, re.M)
+        said = line[0].decode() if line else text[-300:].decode(errors="replace")
+        raise NoProgram(f"the unproved run gave no answer to {len(silent)} of {len(jobs)} jobs, as {silent[0]}: {said}")
     return {name: (statuses.get(name), re.sub(rb"cases=\d+ ended=.*\n?", b"", listings.get(name, b""))) for name in jobs}
