@@ -147,7 +147,7 @@ number_sound {cards = cards} cell value old cells e s =
     subst (λ (c : Cells). IsSound cards (record old { cells = c })) (sym e)
     (sound_alike s (move_number cell value old.cells) (demands_numbered cell value old.cells s.demands) (number_alike cell value old.cells))
 
-pub limit_sound : {cards : List (List ℕ)} (limit : ℕ) (old : Machine) (cells : Cells) → cells ≡ move_limit limit old.cells → IsSound cards old → IsSound cards (record old { cells = cells })
+pub limit_sound : {cards : List (List ℕ)} (limit : Option ℕ) (old : Machine) (cells : Cells) → cells ≡ move_limit limit old.cells → IsSound cards old → IsSound cards (record old { cells = cells })
 limit_sound {cards = cards} limit old cells e s =
     subst (λ (c : Cells). IsSound cards (record old { cells = c })) (sym e)
     (sound_alike s (move_limit limit old.cells) (record { infeasible = s.demands.infeasible; unbounded = s.demands.unbounded }) (λ options. refl))
