@@ -1,7 +1,8 @@
 // Jobs without words over devices that don't fail.
 use crate::jobs::answer_of;
 use crate::rows::{
-    CONTROL_FAULTS, DECK_FAULTS, DECKS, OVERFLOWS, PLANS, RANGES, REVISIONS, Row, VERB_FAULTS, VERDICTS,
+    CONTROL_FAULTS, DECK_FAULTS, DECKS, OVERFLOWS, PLANS, RANGES, REVISIONS, Row, VERB_FAULTS,
+    VERDICTS,
 };
 use std::alloc::Global;
 use std::test::Fail;
