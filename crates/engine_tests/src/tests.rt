@@ -182,7 +182,7 @@ fn beale(alloc: Global) -> Result<Lp, AllocError>
 }
 
 /// What the path from the opening basis answers, and the rates that it leaves.
-fn solve<E: Engine>(
+pub fn solve<E: Engine>(
     alloc: Global,
     lp: &Lp,
     limit: u32,

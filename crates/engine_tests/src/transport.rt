@@ -1,18 +1,31 @@
-//! The transportation program of 10 sources and 10 destinations, whose path takes 103 steps.
+//! The transportation program of 10 sources and 10 destinations. Its numbers are those of a table in Python's exact fractions
+//! (`scripts/path_expected.py`): 103 steps, a cost of 310, and 19 basic columns.
 
-use bounded_primal::primal;
+use crate::tests::solve;
 use card_reader::read_job;
 use frac128::Frac;
 use job_devices::SureSource;
-use lp_model::{Basis, Engine, Lp, Outcome, Sense};
+use lp_model::{Lp, Outcome, Sense};
 use lp_setup::{Choice, SetupChoice, select};
 use mps_convert::convert;
+use problem_file::Problem;
 use reinversion::{ProductForm, Reinverted};
 use std::alloc::Global;
 use std::test::Fail;
 
-/// A limit on the steps that the path doesn't reach.
-const STEPS: u32 = 1000;
+/// What a unit costs from each source to each destination: ((7i + 11j) mod 19) + 1 from the i-th to the j-th.
+const COSTS: [[u8; 10]; 10] = [
+    [19, 11, 3, 14, 6, 17, 9, 1, 12, 4],
+    [7, 18, 10, 2, 13, 5, 16, 8, 19, 11],
+    [14, 6, 17, 9, 1, 12, 4, 15, 7, 18],
+    [2, 13, 5, 16, 8, 19, 11, 3, 14, 6],
+    [9, 1, 12, 4, 15, 7, 18, 10, 2, 13],
+    [16, 8, 19, 11, 3, 14, 6, 17, 9, 1],
+    [4, 15, 7, 18, 10, 2, 13, 5, 16, 8],
+    [11, 3, 14, 6, 17, 9, 1, 12, 4, 15],
+    [18, 10, 2, 13, 5, 16, 8, 19, 11, 3],
+    [6, 17, 9, 1, 12, 4, 15, 7, 18, 10],
+];
 
 /// Adds the rows: the cost, the sources and the destinations.
 fn add_rows(alloc: Global, deck: &mut Vec<u8>) -> Result<(), Fail> {
@@ -26,12 +39,11 @@ fn add_rows(alloc: Global, deck: &mut Vec<u8>) -> Result<(), Fail> {
     Ok(())
 }
 
-/// Adds the columns: a unit from source i to destination j costs ((7i + 11j) mod 19) + 1, where both are counted from 1.
+/// Adds the columns.
 fn add_columns(alloc: Global, deck: &mut Vec<u8>) -> Result<(), Fail> {
     deck.extend_from_slice(b"COLUMNS\n")?;
-    for i in 0..10u32 {
-        for j in 0..10u32 {
-            let cost = (7 * (i + 1) + 11 * (j + 1)) % 19 + 1;
+    for (i, costs) in COSTS.iter().enumerate() {
+        for (j, cost) in costs.iter().enumerate() {
             let cards = format!(in alloc;
                 "    X{i}{j}       COST      {cost}\n    X{i}{j}       S{i}        1\n    X{i}{j}       D{j}        1\n"
             )?;
@@ -54,13 +66,17 @@ fn add_sides(alloc: Global, deck: &mut Vec<u8>) -> Result<(), Fail> {
     Ok(())
 }
 
-/// The linear program.
-fn transportation(alloc: Global) -> Result<Lp, Fail> {
+fn transportation_deck(alloc: Global) -> Result<Vec<u8>, Fail> {
     let mut deck = Vec::new(alloc);
     add_rows(alloc, &mut deck)?;
     add_columns(alloc, &mut deck)?;
     add_sides(alloc, &mut deck)?;
-    let mut source = SureSource::new(alloc, &deck)?;
+    Ok(deck)
+}
+
+/// The problem of a deck.
+fn problem_of(alloc: Global, deck: &[u8]) -> Result<Problem, Fail> {
+    let mut source = SureSource::new(alloc, deck)?;
     let cards = read_job(alloc, &mut source)?;
     let last = cards.count();
     if last == 0 {
@@ -69,6 +85,13 @@ fn transportation(alloc: Global) -> Result<Lp, Fail> {
     let problem = convert(alloc, &cards, 1, last, None)
         .ok()
         .ok_or("a problem")?;
+    Ok(problem)
+}
+
+/// The linear program.
+fn transportation(alloc: Global) -> Result<Lp, Fail> {
+    let deck = transportation_deck(alloc)?;
+    let problem = problem_of(alloc, &deck)?;
     let options = SetupChoice {
         bound: None,
         range: None,
@@ -86,46 +109,29 @@ fn transportation(alloc: Global) -> Result<Lp, Fail> {
 }
 
 /// The steps and the least cost of the path, and the product form that it leaves.
-fn solved(alloc: Global, lp: &Lp) -> Result<(u32, Frac, ProductForm), Fail> {
-    let mut basis = Basis::opening(alloc, lp)?;
-    let mut rates = ProductForm::start(alloc, lp)?;
-    let Ok(Outcome::Optimal { steps, point, .. }) = primal(alloc, lp, &mut basis, &mut rates, STEPS)
-    else {
-        return Err(Fail::from("an optimum"));
+fn solved(alloc: Global) -> Result<(u32, Frac, ProductForm), Fail> {
+    let lp = transportation(alloc)?;
+    let (answer, rates) = solve::<ProductForm>(alloc, &lp, 1000)?;
+    let Ok(Outcome::Optimal { steps, point, .. }) = answer else {
+        return Err(Fail::from("no optimum"));
     };
     let cost = point.values().first().copied().ok_or("a cost")?;
     Ok((steps, cost, rates))
 }
 
-/// The number of basic columns.
-fn basic_columns(rates: &ProductForm) -> u32 {
-    let file = rates.file();
-    let mut columns = 0;
-    for k in file.rows()..file.size() {
-        if file.is_basic(k + 1) {
-            columns += 1;
-        }
-    }
-    columns
-}
-
 #[test]
 fn the_path_ends_with_a_short_file(rt: HostRuntime) -> Result<(), Fail> {
-    let lp = transportation(rt.alloc())?;
-    let (steps, cost, rates) = solved(rt.alloc(), &lp)?;
+    let (steps, cost, rates) = solved(rt.alloc())?;
     assert_eq!(rt; (steps, cost), (103, Frac::whole(310)));
     let etas = rates.file().etas();
-    assert!(rt; 1 <= etas && etas < lp.rows + 50);
+    assert!(rt; 19 < etas && etas < 71);
     Ok(())
 }
 
 #[test]
 fn a_reinversion_has_an_eta_for_each_basic_column(rt: HostRuntime) -> Result<(), Fail> {
-    let lp = transportation(rt.alloc())?;
-    let (_, _, mut rates) = solved(rt.alloc(), &lp)?;
-    let columns = basic_columns(&rates);
-    assert!(rt; rates.file().etas() > columns);
+    let (_, _, mut rates) = solved(rt.alloc())?;
     assert_eq!(rt; rates.reinvert()?, Reinverted::Done);
-    assert_eq!(rt; rates.file().etas(), columns);
+    assert_eq!(rt; rates.file().etas(), 19);
     Ok(())
 }
