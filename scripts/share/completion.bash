@@ -2,7 +2,7 @@
 _mps360() {
     local word=${COMP_WORDS[COMP_CWORD]}
     if [[ $word == -* ]]; then
-        mapfile -t COMPREPLY < <(compgen -W "--help --version" -- "$word")
+        mapfile -t COMPREPLY < <(compgen -W "--help --make --version" -- "$word")
     else
         mapfile -t COMPREPLY < <(compgen -f -X '!*.job' -- "$word"; compgen -d -- "$word")
     fi

@@ -1,4 +1,4 @@
-// Words, and devices that fail.
+// Devices that fail.
 ghost use Rattle.std.specs.Prelude.{◌<◌};
 
 use crate::jobs::{Answer, Call, answer_from, answer_to};
@@ -11,20 +11,6 @@ const READ_FAULT: &[u8] = b"STOP 24 READ FAULT\n";
 
 // No job of these tests makes so many reads, nor so many writes.
 const MANY: u64 = 10_000;
-
-#[test]
-fn no_words_are_accepted(rt: HostRuntime) -> Result<(), Fail> {
-    let words = [String::from_str(rt.alloc(), "stray")?];
-    let call = Call {
-        words: &words,
-        job: b"",
-        failing_reads: &[],
-        failing_writes: &[],
-        failing_punches: &[],
-    };
-    assert!(rt; answer_to(rt.alloc(), &call)?.is(4, b"STOP 4 WORDS\n"));
-    Ok(())
-}
 
 #[test]
 fn a_read_that_fails_ends_a_job(rt: HostRuntime) -> Result<(), Fail> {

@@ -9,3 +9,5 @@ mod jobs;
 mod rows;
 #[cfg(test)]
 mod runs;
+#[cfg(test)]
+mod words;

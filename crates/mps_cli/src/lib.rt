@@ -7,4 +7,5 @@ mod run;
 mod stop;
 
 pub use control_run::Status;
+pub use generated_job::make_job;
 pub use run::run_job;
