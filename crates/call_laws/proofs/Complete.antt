@@ -9,6 +9,7 @@ use Rattle.lp_model.specs.declared.Stop.TheVariants as stop
 use Rattle.lp_model.specs.declared.reports.Outcome.{Outcome}
 use Rattle.lp_model.specs.declared.reports.RangeReport.{RangeReport}
 use Rattle.path_definitions.specs.Path.{Ending, last_of}
+use Rattle.path_definitions.specs.Counts.{counted_steps}
 use Rattle.path_laws.specs.Laws.{IsNonsingularBasis}
 use Rattle.path_laws.proofs.OnePath.{one_path, not_both}
 use Rattle.bounded_primal.specs.Calls.{outcome_of, RangeRefused}
@@ -21,7 +22,7 @@ pub path_answered : (p : LinearProgram) (s now : List Status) (limit : ℕ) (bef
 path_answered p s now limit before after (Ok outcome) bases ending lawful at answer goes =
     let given = answer.ends in
     let one = one_path p lawful s bases given.bases ending given.ending at goes.ends given.ends in
-    inl (ap (λ o. Ok o) (given.is_outcome ∙ sym (ap₂ (λ xs e. outcome_of (length xs) e) one.same_bases one.same_ending)), ap (last_of s) one.same_bases ∙ given.reaches)
+    inl (ap (λ o. Ok o) (given.is_outcome ∙ sym (ap₂ (λ xs e. outcome_of (counted_steps (length xs)) e) one.same_bases one.same_ending)), ap (last_of s) one.same_bases ∙ given.reaches)
 path_answered p s now limit before after (Err Limit) bases ending lawful at answer goes =
     absurd (not_both p lawful limit s at (record { bases = bases; ending = ending; ends = goes.ends; within = goes.within }) answer.stops.goes_on)
 path_answered p s now limit before after (Err (Overflow e)) bases ending lawful at answer goes = absurd (goes.no_evidence now after e answer.stops)

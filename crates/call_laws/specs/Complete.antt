@@ -15,6 +15,7 @@ use Rattle.lp_model.specs.declared.Stop.TheVariants as stop
 use Rattle.lp_model.specs.declared.reports.Outcome.{Outcome}
 use Rattle.lp_model.specs.declared.reports.RangeReport.{RangeReport}
 use Rattle.path_definitions.specs.Path.{Ending, PathEnds, last_of}
+use Rattle.path_definitions.specs.Counts.{counted_steps}
 use Rattle.path_laws.specs.Laws.{IsNonsingularBasis}
 use Rattle.postoptimal_definitions.specs.Ranges.{IsRangeReport}
 use Rattle.bounded_primal.specs.Calls.{outcome_of, CallEnds, StopsOnPath, RangeRefused}
@@ -42,7 +43,7 @@ pub record EndsUnhindered (p : LinearProgram) (s : List Status) (limit : ℕ) (b
 abbrev pub IsEndOrMemory : List Status → List (List Status) → Ending → List Status →
     Result Outcome PrimalStop → Type 0
 IsEndOrMemory s bases ending now result =
-    ((result ≡ Ok (outcome_of (length bases) ending)) × (last_of s bases ≡ now)) ⊎
+    ((result ≡ Ok (outcome_of (counted_steps (length bases)) ending)) × (last_of s bases ≡ now)) ⊎
     (result ≡ Err NoMemory)
 
 -- What `range` promises of its result at the basis s.
