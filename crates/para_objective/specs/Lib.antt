@@ -1,2 +1,3 @@
 pub mod Reach
 pub mod Breaks
+pub mod Parts

@@ -3,7 +3,10 @@
 
 mod breaks;
 mod choices;
+mod parts;
 mod reaching;
+mod rows;
 
 pub use breaks::face_mover;
+pub use parts::ParaObj;
 pub use reaching::reach;
