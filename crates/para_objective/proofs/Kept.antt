@@ -90,7 +90,7 @@ module _ (p : LinearProgram) (h : ℕ) (lawful : IsLinearProgram p) (row : IsRow
   k_is : IsVariable p.matrix k
   k_is = (stopper_some present t.point v k stops).0
 
-  pivot : t.rate k q ≢ zero_ℚ
+  pub pivot : t.rate k q ≢ zero_ℚ
   pivot zero = nothing (reaches_limit (room present t.point v k) (room present t.point v k) ((stopper_some present t.point v k stops).1 k k_is))
     where
       nothing : (x : ℚ) × (room present t.point v k ≡ Some x) → ⊥
@@ -111,18 +111,15 @@ module _ (p : LinearProgram) (h : ℕ) (lawful : IsLinearProgram p) (row : IsRow
       (by_tableau present next leads.is_basis leads.nonsingular rows (record { point = have.point; rate = rate }) (record { is_point = have.is_point; are_rates = are })).1
       (record { feasible = have.feasible; right = λ j is. by_mark j is (is_in (basics_of next) j) refl })
     where
-      abbrev worth : ℕ → ℚ
-      worth j = for_min p.sense (objective_rate present rate j)
-
-      by_kind : (j : ℕ) → IsVariable p.matrix j → IsStill rate j → lowers present next worth j ≡ false
+      by_kind : (j : ℕ) → IsVariable p.matrix j → IsStill rate j → lowers present next (λ i. for_min p.sense (objective_rate present rate i)) j ≡ false
       by_kind j is (at_zero zero) =
-          idle_at_zero (rises_from (status_of next j) && not (is_fixed present j)) (falls_from (status_of next j) && not (is_fixed present j)) (worth j) (ap (for_min p.sense) zero ∙ for_min_of_zero p.sense)
+          idle_at_zero (rises_from (status_of next j) && not (is_fixed present j)) (falls_from (status_of next j) && not (is_fixed present j)) (for_min p.sense (objective_rate present rate j)) (ap (for_min p.sense) zero ∙ for_min_of_zero p.sense)
       by_kind j is (as_it_was same stands) =
           ap₂ (λ w st. (lt_ℚ w zero_ℚ && (rises_from st && not (is_fixed present j))) || (lt_ℚ zero_ℚ w && (falls_from st && not (is_fixed present j)))) (ap (for_min p.sense) same) stands
           ∙ right_now.right j is
 
-      by_mark : (j : ℕ) → IsVariable p.matrix j → (mark : Bool) → is_in (basics_of next) j ≡ mark → lowers present next worth j ≡ false
-      by_mark j is true mark = lowers_idle present next leads worth j is mark
+      by_mark : (j : ℕ) → IsVariable p.matrix j → (mark : Bool) → is_in (basics_of next) j ≡ mark → lowers present next (λ i. for_min p.sense (objective_rate present rate i)) j ≡ false
+      by_mark j is true mark = lowers_idle present next leads (λ i. for_min p.sense (objective_rate present rate i)) j is mark
       by_mark j is false mark = by_kind j is (still j (is, mark))
 
   -- q comes to its other limit

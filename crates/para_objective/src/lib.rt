@@ -3,9 +3,11 @@
 
 mod breaks;
 mod choices;
+mod faces;
 mod parts;
 mod reaching;
 mod rows;
+mod run;
 
 pub use breaks::face_mover;
 pub use parts::ParaObj;

@@ -1,7 +1,7 @@
 //! The intervals of a run.
 
-ghost use Rattle.std.specs.Prelude.{◌≡◌, None, length, IfOk, IfErr};
-ghost use Rattle.exact_values.specs.Rational.{◌≤ℚ◌};
+ghost use Rattle.std.specs.Prelude.{◌≡◌, None, length, replicate, IfOk, IfErr};
+ghost use Rattle.exact_values.specs.Rational.{zero_ℚ, ◌≤ℚ◌};
 ghost use Rattle.lp_definitions.specs.LinearProgram.{size, value_at, IsRow, IsLinearProgram};
 ghost use Rattle.lp_definitions.specs.Basis.{basics_of, ArePricesOf, IsOptimalBasis, IsPointOf};
 ghost use Rattle.lp_model.specs.RatesCalls.{IsRowOf, IfOverflow};
@@ -30,6 +30,39 @@ fn copied(alloc: Global, values: &[Frac]) -> Result<Vec<Frac>, NoMemory>
 {
     let copy = Vec::from_slice(alloc, values)?;
     Ok(copy)
+}
+
+/// The point with these values.
+pub fn point_with(alloc: Global, values: &[Frac]) -> Result<Point, NoMemory>
+    ensures { IfOk result (λ point. point ≡ values.now) }
+{
+    let values = copied(alloc, values)?;
+    Ok(Point::new(values))
+}
+
+/// The prices with these values.
+fn prices_with(alloc: Global, values: &[Frac]) -> Result<Prices, NoMemory>
+    ensures { IfOk result (λ prices. prices ≡ values.now) }
+{
+    let values = copied(alloc, values)?;
+    Ok(Prices::new(values))
+}
+
+/// A 0 for each variable.
+pub fn zeros(alloc: Global, lp: &Lp) -> Result<Vec<Frac>, NoMemory>
+    ensures { IfOk result (λ values. values.items ≡ replicate (size lp.now.matrix) zero_ℚ) }
+{
+    let size = lp.number_of_variables() as usize;
+    let values = vec![in alloc; Frac::whole(0); size].map_err(|_| NoMemory)?;
+    Ok(values)
+}
+
+/// The rates of a point that stands still.
+fn still(alloc: Global, lp: &Lp) -> Result<Point, NoMemory>
+    ensures { IfOk result (λ rates. rates ≡ replicate (size lp.now.matrix) zero_ℚ) }
+{
+    let values = zeros(alloc, lp)?;
+    Ok(Point::new(values))
 }
 
 /// The interval of the basis that begins at `from`. Its point is the same at each value, and its prices move with the rates of the
@@ -65,12 +98,10 @@ pub fn part(
         Err(evidence) => return Err(Stop::Overflow(evidence)),
     };
     let statuses = basis.copy(alloc)?;
-    let value = Point::new(copied(alloc, point)?);
-    let size = lp.number_of_variables() as usize;
-    let still = vec![in alloc; Frac::whole(0); size].map_err(|_| NoMemory)?;
-    let value_rate = Point::new(still);
-    let price = Prices::new(copied(alloc, prices)?);
-    let price_rate = Prices::new(copied(alloc, change)?);
+    let value = point_with(alloc, point)?;
+    let value_rate = still(alloc, lp)?;
+    let price = prices_with(alloc, prices)?;
+    let price_rate = prices_with(alloc, change)?;
     Ok(ParaPart {
         from,
         to,
