@@ -1,9 +1,9 @@
 -- From the path of the opening to the run.
-use Rattle.std.proofs.Common.{◌≡◌, ℕ, ◌+◌, ◌-◌, ◌≤◌, List, [], ◌∷◌, ◌++◌, map, length, refl, sym, ap, subst, ◌∙◌, arith}
+use Rattle.std.proofs.Common.{◌≡◌, ℕ, ◌+◌, ◌-◌, List, [], ◌∷◌, ◌++◌, map, length, refl, sym, ap, subst, ◌∙◌, arith}
 use Rattle.std.specs.Prelude.{Option, Some, None}
 use Rattle.std.proofs.lemmas.List.{length-append}
 use Rattle.exact_values.specs.Rational.{ℚ}
-use Rattle.lp_definitions.specs.LinearProgram.{LinearProgram, size, value_at, IsRow, HasNoLimits, IsLinearProgram}
+use Rattle.lp_definitions.specs.LinearProgram.{LinearProgram, value_at, IsRow, HasNoLimits, IsLinearProgram}
 use Rattle.lp_definitions.specs.Basis.{Basics, basics_of, IsOptimalBasis, IsPointOf, Tableau}
 use Rattle.lp_definitions.specs.Waypoints.{waypoint}
 use Rattle.lp_definitions.specs.declared.Evidence.{Evidence}
@@ -12,21 +12,19 @@ use Rattle.lp_model.specs.declared.reports.Outcome.{Outcome}
 use Rattle.lp_model.specs.declared.reports.Outcome.TheVariants.{Optimal, Crossed, Infeasible, Unbounded}
 use Rattle.lp_model.specs.declared.reports.ParaReport.TheVariants.{Opening, Run}
 use Rattle.lp_model.specs.declared.reports.ParaRun.{ParaRun}
-use Rattle.path_definitions.specs.Path.{Ending, EndsOptimal, EndsCrossed, EndsInfeasible, EndsUnbounded, PathEnds, EndsAt, last_of}
+use Rattle.path_definitions.specs.Path.{Ending, EndsOptimal, EndsCrossed, EndsInfeasible, EndsUnbounded, EndsAt, last_of}
 use Rattle.path_laws.specs.Laws.{IsNonsingularBasis}
 use Rattle.path_laws.proofs.Ends.{optimal_end}
 use Rattle.path_laws.proofs.OnePath.{one_path, path_leads}
 use Rattle.postoptimal_definitions.specs.Chain.{InOpening, IsFailure, IsChain, IsRun, Chain as ChainReport}
 use Rattle.postoptimal_definitions.specs.ObjectiveRun.{objective_family}
-use Rattle.evidence_definitions.specs.Statements.{SolvingStatement, Paraobj, program_at}
-use Rattle.evidence_definitions.specs.Evidence.{Formula, by_exchange, by_entry, by_carried, by_point, by_slack, by_move, by_ratio, by_range, by_objective, by_slope, ShowsRefusal, IsLeaver, GoesTo, IsAhead, with_ahead, EvidenceHolds}
-use Rattle.bounded_primal.specs.Calls.{LieIn, CallEnds, WaypointsFollow, StopsOnPath, outcome_of}
-use Rattle.bounded_primal.specs.Outcomes.{IsTrueOutcome}
+use Rattle.evidence_definitions.specs.Statements.{Paraobj}
+use Rattle.evidence_definitions.specs.Evidence.{Formula, by_exchange, by_entry, by_carried, by_point, by_slack, by_move, by_ratio, by_range, by_objective, by_slope, ShowsRefusal, GoesTo, IsAhead, with_ahead, EvidenceHolds}
+use Rattle.bounded_primal.specs.Calls.{LieIn, CallEnds, WaypointsFollow, outcome_of}
 use Rattle.bounded_primal.specs.Stops.{PrimalStops}
 use Rattle.bounded_primal.specs.declared.moves.PrimalStop.{PrimalStop}
 use Rattle.bounded_primal.specs.declared.moves.PrimalStop.TheVariants.{Limit, Overflow, NoMemory}
-use Rattle.run_calls.specs.Calls.{RunEnds, IsOpeningReported, part_of, end_of}
-use Rattle.run_calls.specs.Truth.{IsTrueReported}
+use Rattle.run_calls.specs.Calls.{part_of, end_of}
 use Rattle.run_calls.specs.Walks.{HasRun}
 use Rattle.run_calls.proofs.Chains.{last_append}
 use Rattle.run_calls.proofs.Walks.{opening_reaches, opening_run, opens_first}
@@ -35,7 +33,7 @@ use Rattle.sweep_laws.proofs.OneRun.{objective_faces}
 use Rattle.sweep_laws.proofs.Objective.{to_objective}
 use Rattle.sweep_laws.proofs.OneObjective.{lawful_objective}
 use Rattle.sweep_truth.proofs.Runs.{objective_runs}
-use Rattle.para_objective.specs.Faces.{family, Face, statement}
+use Rattle.para_objective.specs.Faces.{family, Face}
 use Rattle.para_objective.specs.Runs.{StandsAt, ChainEnds, OpensFrom, ObjectiveEnds, ObjectiveStops, ObjectiveFollows, IsTrueObjective}
 use Rattle.para_objective.specs.declared.parts.ParaObj.{ParaObj}
 
