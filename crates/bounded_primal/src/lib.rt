@@ -5,6 +5,7 @@
 mod beginning;
 mod choices;
 mod formula;
+mod free_path;
 mod moves;
 mod path;
 mod point;
@@ -15,6 +16,7 @@ mod stopping;
 mod turns;
 
 pub use beginning::opening;
+pub use free_path::primal_free;
 pub use moves::{PrimalStop, Stopper};
 pub use path::primal;
 pub use point::point_of;
