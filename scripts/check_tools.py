@@ -148,8 +148,8 @@ def try_expected(folder):
 
 
 def try_measures(folder):
-    "what the bench is to print, by the scripts that work it out: fractions, and the transportation problem of 4 by 4; a timed run"
-    printed = call(SCRIPTS / "bench_expected.py").stdout + call(SCRIPTS / "path_expected.py", "4").stdout
+    "what the bench is to print, by the scripts that work it out: fractions, the transportation problem of 4 by 4 by each engine; a timed run"
+    printed = call(SCRIPTS / "bench_expected.py").stdout + 2 * call(SCRIPTS / "path_expected.py", "4").stdout
     check("bench_expected.py, path_expected.py", printed == (runner.TOP / "crates/bench/stdout").read_bytes())
     check("path_expected.py 2", call(SCRIPTS / "path_expected.py", "2").stdout == b"OPTIMAL STEPS 4 OBJECTIVE 180/1\n")
     job = folder / "job"
