@@ -235,7 +235,7 @@ def try_hostile(folder, program):
         check(f"{script}: a folder", call(SCRIPTS / script, *words, folder).returncode == 66)
         check(f"{script}: no such file", call(SCRIPTS / script, *words, folder / "none").returncode == 66)
         check(f"{script}: --help", call(SCRIPTS / script, "--help").returncode == 0)
-    check("mps360: wrong use", call(SCRIPTS / "mps360", "a", "b").returncode == 64 and call(SCRIPTS / "mps360", "--make").returncode == 64)
+    check("mps360: wrong use", call(SCRIPTS / "mps360", "a", "b").returncode == 64 and call(SCRIPTS / "mps360", "--all").returncode == 64)
     check("mps360-batch: no folder", call(SCRIPTS / "mps360-batch", folder / "none").returncode == 66)
     check("mps360: --version", call(SCRIPTS / "mps360", "--version").stdout.startswith(b"mps360 "))
     words = {**os.environ, "PATH": "/usr/bin:/bin", "MPS360_UNPROVED": "1"}
