@@ -148,8 +148,8 @@ def try_expected(folder):
 
 
 def try_measures(folder):
-    "what the bench is to print, by the scripts that work it out: fractions, and the transportation problem of 4 by 4; a timed run"
-    printed = call(SCRIPTS / "bench_expected.py").stdout + call(SCRIPTS / "path_expected.py", "4").stdout
+    "what the bench is to print, by the scripts that work it out: fractions, the transportation problem of 4 by 4 by each engine; a timed run"
+    printed = call(SCRIPTS / "bench_expected.py").stdout + 2 * call(SCRIPTS / "path_expected.py", "4").stdout
     check("bench_expected.py, path_expected.py", printed == (runner.TOP / "crates/bench/stdout").read_bytes())
     check("path_expected.py 2", call(SCRIPTS / "path_expected.py", "2").stdout == b"OPTIMAL STEPS 4 OBJECTIVE 180/1\n")
     job = folder / "job"
@@ -235,7 +235,7 @@ def try_hostile(folder, program):
         check(f"{script}: a folder", call(SCRIPTS / script, *words, folder).returncode == 66)
         check(f"{script}: no such file", call(SCRIPTS / script, *words, folder / "none").returncode == 66)
         check(f"{script}: --help", call(SCRIPTS / script, "--help").returncode == 0)
-    check("mps360: wrong use", call(SCRIPTS / "mps360", "a", "b").returncode == 64 and call(SCRIPTS / "mps360", "--make").returncode == 64)
+    check("mps360: wrong use", call(SCRIPTS / "mps360", "a", "b").returncode == 64 and call(SCRIPTS / "mps360", "--all").returncode == 64)
     check("mps360-batch: no folder", call(SCRIPTS / "mps360-batch", folder / "none").returncode == 66)
     check("mps360: --version", call(SCRIPTS / "mps360", "--version").stdout.startswith(b"mps360 "))
     words = {**os.environ, "PATH": "/usr/bin:/bin", "MPS360_UNPROVED": "1"}

@@ -1,6 +1,6 @@
 """What expected_listing.py says of a small linear program, checked by the meaning of the words and by another way than the simplex path:
 a verdict by a look at every basis, an interval of RANGE by solving the changed program anew at its ends and past them, a parametric run by
-the verdicts at its breaks, between them and past its end. random_jobs.py --itself runs it.
+the verdicts at its breaks, between them and past its end, a deck that is written out by what it converts to. random_jobs.py --itself runs it.
 
 Where a linear program has a feasible point, it has one at which each nonbasic variable stands at a limit, or at 0 where it has none; and
 where it has a best one, one of these is best. It has none where some direction that keeps all limits betters the objective."""
@@ -181,6 +181,16 @@ class Watched(expected_listing.Run):
                 program = lambda theta: lp.with_limits(shift, theta)
             self.check_intervals(told, program, start)
         return end
+
+    def punch(self):
+        "the deck that is written converts to its problem, but for columns without entries"
+        first = len(self.punched)
+        super().punch()
+        problem, again = self.filed("XPBNAME"), expected_listing.Problem(self.punched[first:])
+        columns = {name: entries for name, entries in again.columns.items() if problem.columns.get(name)}
+        wanted = {name: entries for name, entries in problem.columns.items() if entries}
+        same = (again.name, again.rows, columns, again.sets) == (problem.name, problem.rows, wanted, problem.sets)
+        self.check("the deck that is written out", same and list(columns) == list(wanted))
 
     def check_intervals(self, told, program, start):
         at = start

@@ -1,6 +1,6 @@
 #!/usr/bin/env python3
 """Compares the program with scripts/expected_listing.py on small jobs made at random: rows of each type, ranges, bounds of each type,
-MIN and MAX, RANGE, two right-hand sides in one run. Outside the gate: a run of 300 takes two minutes unproved, a few seconds else.
+MIN and MAX, RANGE, two right-hand sides in one run, the deck written out. Outside the gate: a run of 300 takes two minutes unproved, a few seconds else.
 
 usage: random_jobs.py [--unproved | --itself] [--parametric] [--revise] [FIRST [COUNT]]      jobs FIRST, FIRST + 1, ..; 0 and 300 where nothing is said
 
@@ -155,7 +155,7 @@ def job(seed, is_parametric=False, revises=False):
     if revises:
         more, others = revising(chance, deck)
         program, cards = program + more, cards + others
-    return "\n".join([*program, *statements("EXIT", "PEND"), *cards]) + "\n"
+    return "\n".join([*program, *statements("BCDOUT", "EXIT", "PEND"), *cards]) + "\n"
 
 
 def kind_of(line):
@@ -169,9 +169,14 @@ def kind_of(line):
 
 
 def by_program(jobs, expected, unproved):
-    "the names of the jobs to which the program gives another answer, and what it gives"
-    answers = runner.run_jobs({name: text.encode() for name, text in jobs.items()}, unproved)
-    return {name: answers[name][1].decode("latin-1") for name, (status, text) in expected.items() if answers[name] != (status, text.encode())}
+    "the names of the jobs to which the program gives another answer, and what it gives; punched decks are the proved program's alone"
+    program = None if unproved else runner.proved_program()
+    if program:
+        answers = {name: runner.run_proved(program, text.encode()) for name, text in jobs.items()}
+    else:
+        answers = runner.run_jobs({name: text.encode() for name, text in jobs.items()}, unproved)
+    return {name: (listing + (punch[0] or b"" if punch else b"")).decode("latin-1") for name, (status, listing, *punch) in answers.items()
+            if (status, listing.decode("latin-1"), *(deck and deck.decode("latin-1") for deck in punch)) != expected[name][:2 + len(punch)]}
 
 
 def main(words):
@@ -186,7 +191,7 @@ def main(words):
     for name, text in jobs.items():
         run = every_basis.Watched(text) if "--itself" in modes else expected_listing.Run(text)
         status = run.run()
-        expected[name] = status, "\n".join(run.lines) + "\n"
+        expected[name] = status, "\n".join(run.lines) + "\n", "\n".join(run.punched) + "\n" if run.punched else None
         verdicts.update(kind for kind in map(kind_of, run.lines) if kind)
         if "--itself" in modes:
             looked += run.looked
@@ -200,7 +205,7 @@ def main(words):
     told = f"; {looked} answers checked" if "--itself" in modes else ""
     print(f"{count} jobs, {len(wrong)} differ; {', '.join(f'{n} {kind}' for kind, n in sorted(verdicts.items()))}{told}")
     for name, text in list(wrong.items())[:1]:
-        print(f"job {name}:\n{jobs[name]}\nit gives:\n{text}\nexpected:\n{expected[name][1]}", file=sys.stderr)
+        print(f"job {name}:\n{jobs[name]}\nit gives:\n{text}\nexpected:\n{expected[name][1]}{expected[name][2] or ''}", file=sys.stderr)
     return 1 if wrong else 0
 
 
