@@ -27,9 +27,9 @@ pub prepared_of : (bytes : List ℕ) {known : Option (List ℕ)} (prepared : Pre
 prepared_of bytes prepared is are = subst (λ (k : Option (List ℕ)). ArePrepared k prepared) is are
 
 -- the program is that of the job
-pub program_of : {known : Option (List ℕ)} (prepared : Prepared) → ArePrepared known prepared → IfSome known (λ bytes. IsProgramOf bytes prepared.program)
-program_of {known = None} prepared are = tt
-program_of {known = Some job} prepared are = are.1
+pub program_of : (known : Option (List ℕ)) (prepared : Prepared) → ArePrepared known prepared → IfSome known (λ bytes. IsProgramOf bytes prepared.program)
+program_of None prepared are = tt
+program_of (Some job) prepared are = are.1
 
 -- ---- what is an answer where some things have failed is one where others have failed too
 

@@ -27,7 +27,7 @@ returns-in-Err-clause-cause g c =
     ending_cause (Some Read) _ _ _ g.P.Sink.written g.P.Sink.faults g.P.Sink.refusals c.in-Err.stop c.end_job.result (why _ _ c.in-Err.stop c.in-Err.ensures.cause) c.end_job.ensures
 
 pub returns-in-Ok-clause-punch : goal.returns-in-Ok-clause-punch
-returns-in-Ok-clause-punch g c = in_run c.in-Ok.prepared.program c.in-Ok.ensures.read (program_of c.in-Ok.prepared c.in-Ok.ensures.prepared) c.run_program.ensures.own
+returns-in-Ok-clause-punch g c = in_run c.in-Ok.prepared.program c.in-Ok.ensures.read (program_of (g.S.Source.left c.args.job.now) c.in-Ok.prepared c.in-Ok.ensures.prepared) c.run_program.ensures.own
 
 pub returns-in-Err-clause-punch : goal.returns-in-Err-clause-punch
 returns-in-Err-clause-punch g c = nothing refl
