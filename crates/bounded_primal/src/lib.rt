@@ -15,9 +15,10 @@ mod stopping;
 mod turns;
 
 pub use beginning::opening;
+pub use formula::{Formula, plus_product};
 pub use moves::{PrimalStop, Stopper};
 pub use path::primal;
 pub use point::point_of;
 pub use prices::prices_of;
-pub use step::take_step;
+pub use step::{returning, take_step};
 pub use stopping::stopper;
