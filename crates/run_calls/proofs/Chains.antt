@@ -1,0 +1,18 @@
+-- A chain that is begun, and the rest of it, make a whole chain.
+use Rattle.std.proofs.Common.{List, [], ◌∷◌, ◌++◌, sym, subst}
+use Rattle.std.proofs.lemmas.List.{append_assoc}
+use Rattle.exact_values.specs.Rational.{ℚ}
+use Rattle.lp_definitions.specs.LinearProgram.{LinearProgram}
+use Rattle.lp_definitions.specs.declared.Status.{Status}
+use Rattle.postoptimal_definitions.specs.Chain.{Part, ChainEnd, FaceTurn, IsChain, goes_on}
+use Rattle.run_calls.specs.Begun.{IsBegun, nothing, then}
+
+module _ (family : ℚ → LinearProgram) (Face : ℚ → List Status → FaceTurn → Type 0) (from max : ℚ) (s : List Status) where
+  pub closes : (parts : List Part) (theta : ℚ) (now : List Status) (path : List (List Status)) (rest : List Part) (end : ChainEnd) (later : List (List Status)) →
+      IsBegun family Face from max s parts theta now path → IsChain family Face max theta now rest end later →
+      IsChain family Face max from s (parts ++ rest) end (path ++ later)
+  closes _ _ _ _ rest end later nothing chain = chain
+  closes _ _ _ _ rest end later (then {parts} {theta} {now} {path} {part} {bases} begun is faces) chain =
+      subst (λ (xs : List (List Status)). IsChain family Face max from s ((parts ++ part ∷ []) ++ rest) end xs) (sym (append_assoc path bases later))
+      (subst (λ (xs : List Part). IsChain family Face max from s xs end (path ++ (bases ++ later))) (sym (append_assoc parts (part ∷ []) rest))
+      (closes parts theta now path (part ∷ rest) end (bases ++ later) begun (goes_on {from = theta} {s = now} {part = part} is faces chain)))
