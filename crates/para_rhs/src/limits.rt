@@ -1,6 +1,6 @@
 //! The linear program at a value of the parameter.
 
-ghost use Rattle.std.specs.Prelude.{◌≡◌, ◌≢◌, length, vec_len, option_map, IfOk, IfErr, OnErr};
+ghost use Rattle.std.specs.Prelude.{◌≡◌, [], length, IfOk, IfErr};
 ghost use Rattle.exact_values.specs.Rational.{zero_ℚ, ◌+ℚ◌, ◌*ℚ◌};
 ghost use Rattle.evidence_definitions.specs.Evidence.{ShiftHolds};
 ghost use Rattle.evidence_definitions.specs.Statements.{Pararhs};
@@ -116,8 +116,10 @@ fn limit_moved(
     if by.is_zero() {
         return Ok(Some(number));
     }
-    let now = moved(number, theta, by, i, which)?;
-    Ok(Some(now))
+    match moved(number, theta, by, i, which) {
+        Ok(now) => Ok(Some(now)),
+        Err(evidence) => Err(evidence),
+    }
 }
 
 /// The limit of `k` at theta.
@@ -149,8 +151,9 @@ fn limits_at(
     side: Side,
 ) -> Result<Vec<Option<Frac>>, Stop>
     requires { length shift.now ≡ lp.now.rows }
+    ensures lawful { IsLinearProgram lp.now }
     ensures limits { IfOk result (λ limits. limits.items ≡ shifted lp.now.matrix shift.now theta (limit_on lp.now side)) }
-    ensures overflow { IfErr result (λ stop. IfOverflow stop (SomeLimitRefused lp.now shift.now theta side)) }
+    ensures overflow { IfErr result (λ stop. IfOverflow stop (ShiftHolds (Pararhs lp.now shift.now theta) [])) }
 {
     let mut limits = Vec::new(alloc);
     for k in 0..lp.number_of_variables() {
