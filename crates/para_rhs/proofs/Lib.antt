@@ -1,3 +1,4 @@
 pub mod Listed
 pub mod Families
 pub mod ShiftStops
+pub mod SlopePrograms

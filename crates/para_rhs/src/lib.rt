@@ -3,5 +3,7 @@
 #![tactic(auto)]
 
 mod limits;
+mod slopes;
 
-pub use limits::{Side, program_at};
+pub use limits::program_at;
+pub use slopes::slope_of;
