@@ -1,0 +1,166 @@
+-- Evidence of a call on a linear program without a change row is evidence of another statement, whose program at the value that the
+-- evidence names differs in the change row alone.
+use Rattle.std.proofs.Common.{◌≡◌, ℕ, ◌≤◌, inl, inr, List, [], ◌∷◌, ◌++◌, map, true, false, refl, sym, ◌∙◌, ap, subst}
+use Rattle.std.specs.Prelude.{Option, Some, None, IsTrue, Contains}
+use Rattle.exact_values.specs.Rational.{ℚ}
+use Rattle.lp_definitions.specs.LinearProgram.{LinearProgram}
+use Rattle.lp_definitions.specs.Basis.{Basics, basics_of, exchanged, AreRates, Tableau, IsTableau}
+use Rattle.lp_definitions.specs.RatesEvidence.{ExchangeFormula, EntryFormula, CarriedFormula}
+use Rattle.lp_definitions.specs.Waypoints.{IsWithinOne, IsWaypoint, waypoint}
+use Rattle.lp_definitions.specs.declared.Change.{Change}
+use Rattle.lp_definitions.specs.declared.Evidence.{Evidence}
+use Rattle.lp_definitions.specs.declared.Status.{Status}
+use Rattle.lp_laws.proofs.Values.{clash}
+use Rattle.lp_laws.proofs.WaypointLaws.{Covers, Covers-all, covered, within_itself}
+use Rattle.path_definitions.specs.Path.{Move, after}
+use Rattle.evidence_definitions.specs.Formulas.{PointFormula, f6, f7, f10_product, f10_sum, SlackFormula, f6_slack, MoveFormula, f8, f9, IsStepTo, RatioFormula, f14, RangeFormula, f15_limit, f15_nonbasic, f15_basic, ObjectiveFormula, f16, f17_product, f17_sum, SlopeFormula, f18_product, f18_sum, f18_difference, f18_quotient}
+use Rattle.evidence_definitions.specs.Statements.{SolvingStatement, Primal, is_between, belongs, program_at, change_row, shift_at, thetas_of, MovesAt}
+use Rattle.evidence_definitions.specs.Evidence.{Formula, by_exchange, by_entry, by_carried, by_point, by_slack, by_move, by_ratio, by_range, by_objective, by_slope, ShowsRefusal, GoesTo, IsOfMove}
+use Rattle.bounded_primal.specs.Calls.{StopsAt, job_of}
+use Rattle.run_calls.specs.Walks.{EvidenceHere}
+
+-- p with any change row, or none
+abbrev changed : LinearProgram → Option Change → LinearProgram
+changed p o = record p { change = o }
+
+-- ---- formulas of a point and of a move know of no change row
+
+module _ (p : LinearProgram) (o : Option Change) (s : List Status) (t : Tableau) (e : Evidence) where
+  point_as : PointFormula p s t e → PointFormula (changed p o) s t e
+  point_as (f6 i which l names is limit refused) = f6 i which l names is limit refused
+  point_as (f7 q i which l names is out limit rate refused) = f7 q i which l names is out limit rate refused
+  point_as (f10_product i j term names is at refused) = f10_product i j term names is at refused
+  point_as (f10_sum i j term names is at refused) = f10_sum i j term names is at refused
+
+  slack_as : SlackFormula p s t e → SlackFormula (changed p o) s t e
+  slack_as (f6_slack i names is refused) = f6_slack i names is refused
+
+  step_as : (r q : ℕ) (to : Status) (step : ℚ) → IsStepTo p s t r q to step → IsStepTo (changed p o) s t r q to step
+  step_as r q to step h = record { limit = h.limit; is_limit = h.is_limit; is_variable = h.is_variable; is_nonbasic = h.is_nonbasic; moves = h.moves; is_step = h.is_step }
+
+  move_as : (to : Status) → MoveFormula p s t to e → MoveFormula (changed p o) s t to e
+  move_as to (f8 r q i step names step_to is refused) = f8 r q i step names (step_as r q to step step_to) is refused
+  move_as to (f9 r q i step names step_to is refused) = f9 r q i step names (step_as r q to step step_to) is refused
+
+  move_number : (to : Status) → MoveFormula p s t to e → is_between 8 9 e.formula ≡ true
+  move_number to (f8 r q i step names step_to is refused) = ap (is_between 8 9) names.is_formula
+  move_number to (f9 r q i step names step_to is refused) = ap (is_between 8 9) names.is_formula
+
+  -- the other formulas have greater numbers
+  ratio_number : RatioFormula p s t e → is_between 1 12 e.formula ≡ false
+  ratio_number (f14 i j names is out moves refused) = ap (is_between 1 12) names.is_formula
+
+  range_number : RangeFormula p s t e → is_between 1 12 e.formula ≡ false
+  range_number (f15_limit i j which stands l names is out at limit moves refused) = ap (is_between 1 12) names.is_formula
+  range_number (f15_nonbasic j names out column refused) = ap (is_between 1 12) names.is_formula
+  range_number (f15_basic i j names is column out moves refused) = ap (is_between 1 12) names.is_formula
+
+  objective_number : (h : ℕ) → ObjectiveFormula p s t h e → is_between 1 12 e.formula ≡ false
+  objective_number h (f16 j names out moves refused) = ap (is_between 1 12) names.is_formula
+  objective_number h (f17_product j names out refused) = ap (is_between 1 12) names.is_formula
+  objective_number h (f17_sum j names out refused) = ap (is_between 1 12) names.is_formula
+
+  slope_number : (f : ℕ → ℚ) → SlopeFormula p s t f e → is_between 1 12 e.formula ≡ false
+  slope_number f (f18_product i j term names is at refused) = ap (is_between 1 12) names.is_formula
+  slope_number f (f18_sum i j term names is at refused) = ap (is_between 1 12) names.is_formula
+  slope_number f (f18_difference i names is refused) = ap (is_between 1 12) names.is_formula
+  slope_number f (f18_quotient i which l names is limit closing refused) = ap (is_between 1 12) names.is_formula
+
+-- ---- a refusal, shown for the other statement
+
+module _ (p : LinearProgram) (o : Option Change) (other : SolvingStatement) (s : List Status) (e : Evidence) (is : changed p o ≡ program_at other e.theta)
+    (number : is_between 1 12 e.formula ≡ true) where
+  module _ (Goes Other : Status → Type 0) (goes : (to : Status) → Goes to → is_between 8 9 e.formula ≡ true → Other to) where
+    formula_as : (t : Tableau) (w : Basics) (rate : ℕ → ℕ → ℚ) → Formula (Primal p) Goes s t w rate e → Formula other Other s t w rate e
+    formula_as t w rate (by_exchange f) = by_exchange (subst (λ (q : LinearProgram). ExchangeFormula q.matrix w rate e) is f)
+    formula_as t w rate (by_entry f) = by_entry (subst (λ (q : LinearProgram). EntryFormula q.matrix (basics_of s) t.rate e) is f)
+    formula_as t w rate (by_carried f) = by_carried (subst (λ (q : LinearProgram). CarriedFormula q.matrix (basics_of s) t.rate w rate e) is f)
+    formula_as t w rate (by_point f) = by_point (subst (λ (q : LinearProgram). PointFormula q s t e) is (point_as p o s t e f))
+    formula_as t w rate (by_slack f) = by_slack (subst (λ (q : LinearProgram). SlackFormula q s t e) is (slack_as p o s t e f))
+    formula_as t w rate (by_move to may f) = by_move to (goes to may (move_number p o s t e to f)) (subst (λ (q : LinearProgram). MoveFormula q s t to e) is (move_as p o s t e to f))
+    formula_as t w rate (by_ratio f) = absurd (clash (sym number ∙ ratio_number p o s t e f))
+    formula_as t w rate (by_range f) = absurd (clash (sym number ∙ range_number p o s t e f))
+    formula_as t w rate (by_objective f) = absurd (clash (sym number ∙ objective_number p o s t e (change_row (Primal p)) f))
+    formula_as t w rate (by_slope u is_u f) = absurd (clash (sym number ∙ slope_number p o s u e (shift_at (Primal p)) f))
+
+    -- and with waypoints in wider sets
+    pub shows_as : (around wider : List Basics) (w : Basics) → Covers p.matrix around wider → ShowsRefusal (Primal p) Goes around s w e → ShowsRefusal other Other wider s w e
+    shows_as around wider w cover h = record {
+      tableau = h.tableau;
+      is_tableau = subst (λ (q : LinearProgram). IsTableau q s h.tableau) is
+          (record { is_point = record { keeps = h.is_tableau.is_point.keeps; placed = h.is_tableau.is_point.placed }; are_rates = h.is_tableau.are_rates });
+      way_rate = h.way_rate;
+      are_way_rates = subst (λ (q : LinearProgram). AreRates q.matrix w h.way_rate) is h.are_way_rates;
+      formula = formula_as h.tableau w h.way_rate h.formula;
+      is_way = subst (λ (q : LinearProgram). IsWaypoint q.matrix wider w) is (h.is_way.0, covered p.matrix w around wider cover h.is_way.1);
+      reaches = λ names. subst (λ (q : LinearProgram). IsWaypoint q.matrix wider (exchanged w e.p e.q)) is
+          (let there = h.reaches names in (there.0, covered p.matrix (exchanged w e.p e.q) around wider cover there.1));
+      no_way = h.no_way;
+    }
+
+  -- ---- at the basis s, in a run
+
+  module _ (no_change : p.change ≡ None) (break : Option ℚ) (left : ℕ) (before now : List Basics)
+      (is_theta : (ends : List ℚ) → Contains (thetas_of other ends) e.theta) (of_move : IsOfMove other break s e) (of_statement : IsTrue (belongs other e)) where
+    module _ (Goes : Status → Type 0) (goes : (to : Status) → Goes to → is_between 8 9 e.formula ≡ true → GoesTo other break s e to) where
+      shown : (around : List Basics) → StopsAt Goes p around s now e → ShowsRefusal (Primal p) Goes around s (waypoint (basics_of s) now e.way) e
+      shown around h = subst (λ (c : Option Change). ShowsRefusal (job_of p c) Goes around s (waypoint (basics_of s) now e.way) e) no_change h.shows
+
+      own_within : (xs : List (List Status)) → IsWithinOne p.matrix (basics_of s) (map basics_of (xs ++ s ∷ []))
+      own_within [] = inl (within_itself p.matrix (basics_of s))
+      own_within (x ∷ xs) = inr (own_within xs)
+
+      -- with no other basis ahead
+      pub evidence_here : StopsAt Goes p (basics_of s ∷ before) s now e → EvidenceHere other p.matrix break left s before now e
+      evidence_here h = record {
+        is_way = h.is_way;
+        shows = λ ends earlier lie. record {
+          before = earlier;
+          reached = refl;
+          ahead = None;
+          is_ahead = tt;
+          shows = shows_as Goes (GoesTo other break s e) goes (basics_of s ∷ before) (map basics_of (earlier ++ s ∷ [])) (waypoint (basics_of s) now e.way)
+              (own_within earlier, Covers-all p.matrix before (map basics_of (earlier ++ s ∷ [])) lie) (shown (basics_of s ∷ before) h);
+          is_theta = is_theta ends;
+          of_move = of_move;
+          of_statement = of_statement;
+        };
+      }
+
+      within_more : (w : Basics) (xs ys : List (List Status)) → IsWithinOne p.matrix w (map basics_of xs) → IsWithinOne p.matrix w (map basics_of (xs ++ ys))
+      within_more w [] ys h = elim h [ ]
+      within_more w (x ∷ xs) ys (inl h) = inl h
+      within_more w (x ∷ xs) ys (inr h) = inr (within_more w xs ys h)
+
+      within_next : (xs : List (List Status)) (next : List Status) → IsWithinOne p.matrix (basics_of next) (map basics_of (xs ++ next ∷ []))
+      within_next [] next = inl (within_itself p.matrix (basics_of next))
+      within_next (x ∷ xs) next = inr (within_next xs next)
+
+      covers_more : (ways : List Basics) (xs ys : List (List Status)) → Covers p.matrix ways (map basics_of xs) → Covers p.matrix ways (map basics_of (xs ++ ys))
+      covers_more [] xs ys h = tt
+      covers_more (w ∷ ways) xs ys h = (within_more w xs ys h.0, covers_more ways xs ys h.1)
+
+      -- with the basis ahead to which the move m leads
+      pub evidence_ahead : (m : Move) → MovesAt other break s m → basics_of (after s m) ≡ exchanged (basics_of s) m.leaves m.enters → 1 ≤ left →
+          StopsAt Goes p (basics_of s ∷ exchanged (basics_of s) m.leaves m.enters ∷ before) s now e → EvidenceHere other p.matrix break left s before now e
+      evidence_ahead m moves leads one_left h = record {
+        is_way = h.is_way;
+        shows = λ ends earlier lie. record {
+          before = earlier;
+          reached = refl;
+          ahead = Some (after s m);
+          is_ahead = (one_left, (m, moves, refl));
+          shows = shows_as Goes (GoesTo other break s e) goes (basics_of s ∷ exchanged (basics_of s) m.leaves m.enters ∷ before)
+              (map basics_of ((earlier ++ s ∷ []) ++ after s m ∷ [])) (waypoint (basics_of s) now e.way) (
+                within_more (basics_of s) (earlier ++ s ∷ []) (after s m ∷ []) (own_within earlier),
+                (
+                  subst (λ (b : Basics). IsWithinOne p.matrix b (map basics_of ((earlier ++ s ∷ []) ++ after s m ∷ []))) leads (within_next (earlier ++ s ∷ []) (after s m)),
+                  covers_more before (earlier ++ s ∷ []) (after s m ∷ []) (Covers-all p.matrix before (map basics_of (earlier ++ s ∷ [])) lie),
+                ),
+              )
+              (shown (basics_of s ∷ exchanged (basics_of s) m.leaves m.enters ∷ before) h);
+          is_theta = is_theta ends;
+          of_move = of_move;
+          of_statement = of_statement;
+        };
+      }
