@@ -14,7 +14,7 @@ use Rattle.path_laws.specs.Laws.{IsNonsingularBasis}
 use Rattle.path_laws.proofs.Numbered.{get_or-listed}
 use Rattle.postoptimal_definitions.specs.RhsRun.{shift_of, IsSlope}
 use Rattle.para_rhs.specs.Slopes.{shifts_of, slope_program}
-use Rattle.para_rhs.proofs.Families.{free_unshifted}
+use Rattle.sweep_truth.proofs.RhsLimits.{free_unshifted}
 
 -- a limit is there where one was
 module _ (f : ℚ → ℚ) where

@@ -1,27 +1,14 @@
 -- Evidence of a call that stays at one basis, as that of a run of the right-hand side.
---     is_quiet n                   formula n names nothing of a move
---     RefusedAt Goes .. e          the evidence shows a refusal at the basis s of p, for a run from any value
---     IsQuietAt .. e               the same, by a formula that names nothing of a move
-use Rattle.std.specs.Prelude.{◌≡◌, ℕ, ◌≤◌, Bool, not, ◌&&◌, List, ◌∷◌, length, IsTrue, nat_eq}
-use Rattle.exact_values.specs.Rational.{ℚ, zero_ℚ}
-use Rattle.evidence_definitions.specs.Evidence.{ShowsRefusal}
-use Rattle.evidence_definitions.specs.Statements.{Pararhs, is_between, belongs}
-use Rattle.lp_definitions.specs.Basis.{Basics, basics_of}
+--     RunRefused .. e      e is evidence at the basis s, for a run from any value, whatever bases led there
+use Rattle.std.specs.Prelude.{ℕ, List, Option}
+use Rattle.exact_values.specs.Rational.{ℚ}
+use Rattle.evidence_definitions.specs.Statements.{Pararhs}
+use Rattle.lp_definitions.specs.Basis.{Basics}
 use Rattle.lp_definitions.specs.LinearProgram.{LinearProgram}
-use Rattle.lp_definitions.specs.Waypoints.{waypoint}
 use Rattle.lp_definitions.specs.declared.Evidence.{Evidence}
 use Rattle.lp_definitions.specs.declared.Status.{Status}
+use Rattle.run_calls.specs.Walks.{EvidenceHere}
 
-abbrev pub is_quiet : ℕ → Bool
-is_quiet n = not (is_between 7 9 n) && not (nat_eq n 14)
-
-module _ (p : LinearProgram) (shift : List ℚ) (before : List Basics) (s : List Status) (after : List Basics) where
-  pub record RefusedAt (Goes : Status → Type 0) (around : List Basics) (e : Evidence) : Type 0 where
-    pub no_theta : e.theta ≡ zero_ℚ
-    pub is_way : e.way ≤ length after
-    pub of_run : (from : ℚ) → IsTrue (belongs (Pararhs p shift from) e)
-    pub shows : (from : ℚ) → ShowsRefusal (Pararhs p shift from) Goes around s (waypoint (basics_of s) after e.way) e
-
-  pub record IsQuietAt (e : Evidence) : Type 0 where
-    pub quiet : IsTrue (is_quiet e.formula)
-    pub refused : RefusedAt (λ to. ⊥) (basics_of s ∷ before) e
+-- with any number of steps left, at a break or where an interval begins; before and after are the waypoints of the call
+abbrev pub RunRefused : LinearProgram → List ℚ → List Status → List Basics → List Basics → Evidence → Type 0
+RunRefused p shift s before after e = (from : ℚ) (break : Option ℚ) (left : ℕ) → EvidenceHere (Pararhs p shift from) p.matrix break left s before after e

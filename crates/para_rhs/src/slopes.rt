@@ -8,7 +8,7 @@ ghost use Rattle.lp_model.specs.RatesCalls.{IfOverflow};
 ghost use Rattle.bounded_primal.specs.Calls.{HasRates};
 ghost use Rattle.postoptimal_definitions.specs.RhsRun.{shift_of, IsSlope};
 ghost use Rattle.para_rhs.specs.Limits.{limit_on};
-ghost use Rattle.para_rhs.specs.Refusals.{IsQuietAt};
+ghost use Rattle.para_rhs.specs.Refusals.{RunRefused};
 ghost use Rattle.para_rhs.specs.Slopes.{shifts_of, slope_program, slope_evidence};
 
 use crate::limits::{Side, limit_on, shift_of};
@@ -99,7 +99,7 @@ pub fn slope_of<R: Rates>(
     ensures matrix { R.matrix rates.new ≡ R.matrix rates.old }
     ensures basics { R.basics rates.new ≡ R.basics rates.old }
     ensures waypoints { KeepsWaypoints lp.now.matrix (basics_of basis.now) (R.waypoints rates.old) (basics_of basis.now) (R.waypoints rates.new) }
-    ensures overflow { IfErr result (λ stop. IfOverflow stop (IsQuietAt lp.now shift.now (R.waypoints rates.old) basis.now (R.waypoints rates.new))) }
+    ensures overflow { IfErr result (λ stop. IfOverflow stop (RunRefused lp.now shift.now basis.now (R.waypoints rates.old) (R.waypoints rates.new))) }
 {
     let moving = slope_program(alloc, lp, shift)?;
     match point_of(alloc, &moving, basis, rates, out) {
