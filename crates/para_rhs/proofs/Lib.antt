@@ -5,3 +5,6 @@ pub mod SlopePrograms
 pub mod RunEvidence
 pub mod Nonbasics
 pub mod SlopeStops
+pub mod Narrowing
+pub mod RhsPoints
+pub mod ReachStops

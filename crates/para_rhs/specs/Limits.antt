@@ -1,12 +1,13 @@
 -- Limits at a value theta of the parameter, variable by variable.
 --     limit_on p side k            the lower or the upper limit of k
 --     number_of side               the number of that limit: 1 is the lower one, 2 the upper one
+--     is_upper side                it is the upper one
 --     moved_by theta by limit      the limit with theta times its shift
 --     shift_formula i term theta   formula 13 of the row i
 --     MoveRefused                  the product of theta and the shift is refused, or the limit's sum with it
 --     LimitRefused                 the same of a limit, if it is there
 --     SomeLimitRefused             that of some row
-use Rattle.std.specs.Prelude.{◌≡◌, ◌≢◌, ℕ, List, Option, Some, option_map}
+use Rattle.std.specs.Prelude.{◌≡◌, ◌≢◌, ℕ, Bool, true, false, List, Option, Some, option_map}
 use Rattle.exact_values.specs.Rational.{ℚ, zero_ℚ, ◌+ℚ◌, ◌*ℚ◌}
 use Rattle.frac128.specs.declared.Op.TheVariants.{Add, Mul}
 use Rattle.lp_definitions.specs.LinearProgram.{LinearProgram, IsVariable, lower_of, upper_of}
@@ -24,6 +25,10 @@ limit_on p Upper k = upper_of p k
 abbrev pub number_of : Side → ℕ
 number_of Lower = 1
 number_of Upper = 2
+
+abbrev pub is_upper : Side → Bool
+is_upper Lower = false
+is_upper Upper = true
 
 abbrev pub moved_by : ℚ → ℚ → Option ℚ → Option ℚ
 moved_by theta by limit = option_map (λ l. l +ℚ theta *ℚ by) limit

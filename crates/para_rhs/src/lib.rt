@@ -3,7 +3,9 @@
 #![tactic(auto)]
 
 mod limits;
+mod reaching;
 mod slopes;
 
 pub use limits::program_at;
+pub use reaching::reach;
 pub use slopes::slope_of;

@@ -7,7 +7,7 @@ ghost use Rattle.evidence_definitions.specs.Statements.{Pararhs};
 ghost use Rattle.lp_definitions.specs.LinearProgram.{size, value_at, IsVariable, IsLinearProgram};
 ghost use Rattle.lp_model.specs.RatesCalls.{IfOverflow};
 ghost use Rattle.postoptimal_definitions.specs.RhsRun.{shift_of, shifted, rhs_family};
-ghost use Rattle.para_rhs.specs.Limits.{limit_on, number_of, moved_by, shift_formula, MoveRefused, LimitRefused, SomeLimitRefused};
+ghost use Rattle.para_rhs.specs.Limits.{limit_on, number_of, is_upper, moved_by, shift_formula, MoveRefused, LimitRefused, SomeLimitRefused};
 
 use bounded_primal::{Formula, plus_product};
 use frac128::Frac;
@@ -39,6 +39,16 @@ pub fn number_of(side: Side) -> u32
     match side {
         Side::Lower => 1,
         Side::Upper => 2,
+    }
+}
+
+/// Whether it is the upper limit.
+pub fn is_upper(side: Side) -> bool
+    ensures { result ≡ is_upper side }
+{
+    match side {
+        Side::Lower => false,
+        Side::Upper => true,
     }
 }
 
