@@ -15,6 +15,7 @@ mod stopping;
 mod turns;
 
 pub use beginning::opening;
+pub use choices::{counted, may_lower};
 pub use formula::{Formula, plus_product};
 pub use moves::{PrimalStop, Stopper};
 pub use path::primal;
