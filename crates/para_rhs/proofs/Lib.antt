@@ -8,3 +8,6 @@ pub mod SlopeStops
 pub mod Narrowing
 pub mod RhsPoints
 pub mod ReachStops
+pub mod Magnitudes
+pub mod BestRatio
+pub mod Leavers

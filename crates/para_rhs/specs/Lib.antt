@@ -2,3 +2,5 @@ pub mod Limits
 pub mod Refusals
 pub mod Slopes
 pub mod Reach
+pub mod Cheapest
+pub mod Breaks

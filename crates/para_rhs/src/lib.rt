@@ -2,10 +2,14 @@
 //! theta grows.
 #![tactic(auto)]
 
+mod breaks;
 mod limits;
+mod ratios;
 mod reaching;
 mod slopes;
 
-pub use limits::program_at;
+pub use breaks::{Leaver, face_leaver};
+pub use limits::{Side, program_at};
+pub use ratios::cheapest;
 pub use reaching::reach;
 pub use slopes::slope_of;
