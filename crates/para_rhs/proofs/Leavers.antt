@@ -163,3 +163,9 @@ module _ (p : LinearProgram) (shift : List ℚ) (theta : ℚ) (s : List Status) 
   pub leaver_at : (found : Option Leaver) → IsLeaverOf p shift theta z v found → IsLeaverAt (rhs_family p shift theta) shift theta s t w found
   leaver_at None h = same_leaver ∙ h
   leaver_at (Some l) h = (same_leaver ∙ h.0, which l.r (found_passes p (leaves p shift theta z v) l.r h.0).0 l.side h.1)
+
+-- the next variable, from its value and slope
+pub side_here : (p : LinearProgram) (shift : List ℚ) (theta : ℚ) (z v : Vector) (k : ℕ) (here rate : ℚ) → z k ≡ here → v k ≡ rate →
+    leaving_side p shift theta (λ _. here) (λ _. rate) k ≡ leaving_side p shift theta z v k
+side_here p shift theta z v k here rate here_is rate_is =
+    ap₂ (λ (a b : ℚ). leaving_on p theta a b (shift_of p.matrix shift k) k (side_ahead b (shift_of p.matrix shift k))) (sym here_is) (sym rate_is)

@@ -63,31 +63,36 @@ magnitude_positive u apart = lt_from_le (magnitude_least u) (at (magnitude_eithe
     at (inl same) e = apart (sym same ∙ sym e)
     at (inr same) e = neg_apart u apart (sym same ∙ sym e)
 
+-- a ratio, times what it is over
+pub ratio_times : (a b : ℚ) → b ≢ zero_ℚ → magnitude (a /ℚ b) *ℚ magnitude b ≡ magnitude a
+ratio_times a b apart = sym (magnitude-mul (a /ℚ b) b) ∙ ap magnitude (div-mul_cancel a b apart)
+
+pub magnitude_above : (u : ℚ) → zero_ℚ ≤ℚ u → magnitude u ≡ u
+magnitude_above u h = is_magnitude u u h (inl refl)
+
+pub magnitude_below : (u : ℚ) → u ≤ℚ zero_ℚ → magnitude u ≡ neg_ℚ u
+magnitude_below u h = is_magnitude u (neg_ℚ u) (neg_up u h) (inr refl)
+
+pub magnitude-neg : (u : ℚ) → magnitude (neg_ℚ u) ≡ magnitude u
+magnitude-neg u = is_magnitude (neg_ℚ u) (magnitude u) (magnitude_least u) (at (magnitude_either u))
+  where
+    at : (magnitude u ≡ u) ⊎ (magnitude u ≡ neg_ℚ u) → (magnitude u ≡ neg_ℚ u) ⊎ (magnitude u ≡ neg_ℚ (neg_ℚ u))
+    at (inl e) = inr (e ∙ by_ring1 u (λ u. u ≐ opposite (opposite u)) refl)
+    at (inr e) = inl e
+
 module _ (a b c d : ℚ) (b_apart : b ≢ zero_ℚ) (d_apart : d ≢ zero_ℚ) where
-  x : ℚ
-  x = magnitude (a /ℚ b)
-
-  y : ℚ
-  y = magnitude (c /ℚ d)
-
-  whole_x : magnitude (a /ℚ b) *ℚ magnitude b ≡ magnitude a
-  whole_x = sym (magnitude-mul (a /ℚ b) b) ∙ ap magnitude (div-mul_cancel a b b_apart)
-
-  whole_y : magnitude (c /ℚ d) *ℚ magnitude d ≡ magnitude c
-  whole_y = sym (magnitude-mul (c /ℚ d) d) ∙ ap magnitude (div-mul_cancel c d d_apart)
-
   both : zero_ℚ <ℚ magnitude b *ℚ magnitude d
   both = mul-positive (magnitude_positive b b_apart) (magnitude_positive d d_apart)
 
   left_is : (magnitude b *ℚ magnitude d) *ℚ magnitude (a /ℚ b) ≡ magnitude a *ℚ magnitude d
   left_is =
       by_ring3 (magnitude b) (magnitude d) (magnitude (a /ℚ b)) (λ b d x. (b ⊗ d) ⊗ x ≐ (x ⊗ b) ⊗ d) refl
-      ∙ ap (λ z. z *ℚ magnitude d) whole_x
+      ∙ ap (λ z. z *ℚ magnitude d) (ratio_times a b b_apart)
 
   right_is : (magnitude b *ℚ magnitude d) *ℚ magnitude (c /ℚ d) ≡ magnitude c *ℚ magnitude b
   right_is =
       by_ring3 (magnitude b) (magnitude d) (magnitude (c /ℚ d)) (λ b d y. (b ⊗ d) ⊗ y ≐ (y ⊗ d) ⊗ b) refl
-      ∙ ap (λ z. z *ℚ magnitude b) whole_y
+      ∙ ap (λ z. z *ℚ magnitude b) (ratio_times c d d_apart)
 
   pub ratios_by_products : le_ℚ (magnitude a *ℚ magnitude d) (magnitude c *ℚ magnitude b) ≡ le_ℚ (magnitude (a /ℚ b)) (magnitude (c /ℚ d))
   ratios_by_products = at (le_ℚ (magnitude a *ℚ magnitude d) (magnitude c *ℚ magnitude b)) refl
