@@ -2,3 +2,8 @@ pub mod Zeros
 pub mod Reaches
 pub mod Movers
 pub mod Refusals
+pub mod Kept
+pub mod IntervalFacts
+pub mod RunEvidence
+pub mod FaceFacts
+pub mod FaceWalk

@@ -26,6 +26,7 @@ module _ (p : LinearProgram) (s : List Status) (h : ℕ) (lawful : IsLinearProgr
 
   pub end_refused : (e : Evidence) → RateRefused prices change (size p.matrix) e → EndRefused p h s e
   end_refused e r = record {
+    number = r.refused.names.is_formula;
     no_way = r.refused.no_way;
     no_theta = r.refused.no_theta;
     of_run = λ from. rw r.refused.names.is_formula refl;

@@ -58,6 +58,7 @@ pub record RateRefused (prices change : Vector) (n : ℕ) (e : Evidence) : Type 
 
 -- the quotient is refused at the basis s itself, as the evidence shows for a run of the objective from any value
 pub record EndRefused (p : LinearProgram) (h : ℕ) (s : List Status) (e : Evidence) : Type 0 where
+  pub number : e.formula ≡ 16
   pub no_way : e.way ≡ 0
   pub no_theta : e.theta ≡ zero_ℚ
   pub of_run : (from : ℚ) → IsTrue (belongs (Paraobj p h from) e)

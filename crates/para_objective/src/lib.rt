@@ -3,7 +3,12 @@
 
 mod breaks;
 mod choices;
+mod faces;
+mod parts;
 mod reaching;
+mod rows;
+mod run;
 
 pub use breaks::face_mover;
+pub use parts::ParaObj;
 pub use reaching::reach;

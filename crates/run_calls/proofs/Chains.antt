@@ -1,11 +1,16 @@
 -- A chain that is begun, and the rest of it, make a whole chain.
-use Rattle.std.proofs.Common.{List, [], ◌∷◌, ◌++◌, sym, subst}
+use Rattle.std.proofs.Common.{◌≡◌, List, [], ◌∷◌, ◌++◌, refl, sym, ap, subst, ◌∙◌}
 use Rattle.std.proofs.lemmas.List.{append_assoc}
 use Rattle.exact_values.specs.Rational.{ℚ}
 use Rattle.lp_definitions.specs.LinearProgram.{LinearProgram}
 use Rattle.lp_definitions.specs.declared.Status.{Status}
+use Rattle.path_definitions.specs.Path.{last_of}
 use Rattle.postoptimal_definitions.specs.Chain.{Part, ChainEnd, FaceTurn, IsChain, goes_on}
 use Rattle.run_calls.specs.Begun.{IsBegun, nothing, then}
+
+pub last_append : (s : List Status) (first second : List (List Status)) → last_of s (first ++ second) ≡ last_of (last_of s first) second
+last_append s [] second = refl
+last_append s (next ∷ first) second = last_append next first second
 
 module _ (family : ℚ → LinearProgram) (Face : ℚ → List Status → FaceTurn → Type 0) (from max : ℚ) (s : List Status) where
   pub closes : (parts : List Part) (theta : ℚ) (now : List Status) (path : List (List Status)) (rest : List Part) (end : ChainEnd) (later : List (List Status)) →
@@ -16,3 +21,9 @@ module _ (family : ℚ → LinearProgram) (Face : ℚ → List Status → FaceTu
       subst (λ (xs : List (List Status)). IsChain family Face max from s ((parts ++ part ∷ []) ++ rest) end xs) (sym (append_assoc path bases later))
       (subst (λ (xs : List Part). IsChain family Face max from s xs end (path ++ (bases ++ later))) (sym (append_assoc parts (part ∷ []) rest))
       (closes parts theta now path (part ∷ rest) end (bases ++ later) begun (goes_on {from = theta} {s = now} {part = part} is faces chain)))
+
+  -- its face steps have reached the basis with which the next interval begins
+  pub begun_last : (parts : List Part) (theta : ℚ) (now : List Status) (path : List (List Status)) → IsBegun family Face from max s parts theta now path → last_of s path ≡ now
+  begun_last _ _ _ _ nothing = refl
+  begun_last _ _ _ _ (then {parts} {theta} {now} {path} {part} {bases} begun is faces) =
+      last_append s path bases ∙ ap (λ x. last_of x bases) (begun_last parts theta now path begun)

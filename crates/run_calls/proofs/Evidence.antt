@@ -1,9 +1,9 @@
 -- Evidence of a call on a linear program without a change row is evidence of another statement, whose program at the value that the
 -- evidence names differs in the change row alone.
-use Rattle.std.proofs.Common.{◌≡◌, ℕ, ◌≤◌, inl, inr, List, [], ◌∷◌, ◌++◌, map, true, false, refl, sym, ◌∙◌, ap, subst}
+use Rattle.std.proofs.Common.{arith, ◌≡◌, ℕ, ◌≤◌, inl, inr, List, [], ◌∷◌, ◌++◌, map, true, false, refl, sym, ◌∙◌, ap, subst}
 use Rattle.std.specs.Prelude.{Option, Some, None, IsTrue, Contains}
 use Rattle.exact_values.specs.Rational.{ℚ}
-use Rattle.lp_definitions.specs.LinearProgram.{LinearProgram}
+use Rattle.lp_definitions.specs.LinearProgram.{Matrix, LinearProgram}
 use Rattle.lp_definitions.specs.Basis.{Basics, basics_of, exchanged, AreRates, Tableau, IsTableau}
 use Rattle.lp_definitions.specs.RatesEvidence.{ExchangeFormula, EntryFormula, CarriedFormula}
 use Rattle.lp_definitions.specs.Waypoints.{IsWithinOne, IsWaypoint, waypoint}
@@ -164,3 +164,50 @@ module _ (p : LinearProgram) (o : Option Change) (other : SolvingStatement) (s :
           of_statement = of_statement;
         };
       }
+
+-- ---- a refusal of the statement's own formulas, which speak of no move
+
+module _ (statement : SolvingStatement) (Other : Status → Type 0) (s : List Status) (e : Evidence) where
+  any_move : (t : Tableau) (w : Basics) (rate : ℕ → ℕ → ℚ) → Formula statement (λ to. ⊥) s t w rate e → Formula statement Other s t w rate e
+  any_move t w rate (by_exchange f) = by_exchange f
+  any_move t w rate (by_entry f) = by_entry f
+  any_move t w rate (by_carried f) = by_carried f
+  any_move t w rate (by_point f) = by_point f
+  any_move t w rate (by_slack f) = by_slack f
+  any_move t w rate (by_move to goes f) = absurd goes
+  any_move t w rate (by_ratio f) = by_ratio f
+  any_move t w rate (by_range f) = by_range f
+  any_move t w rate (by_objective f) = by_objective f
+  any_move t w rate (by_slope u is f) = by_slope u is f
+
+module _ (statement : SolvingStatement) (a : Matrix) (s : List Status) (e : Evidence) (break : Option ℚ) (left : ℕ) (before now : List Basics)
+    (is_theta : (ends : List ℚ) → Contains (thetas_of statement ends) e.theta) (of_move : IsOfMove statement break s e) (of_statement : IsTrue (belongs statement e)) where
+  in_last : (b : Matrix) (w : Basics) → IsWithinOne b w (basics_of s ∷ []) → (xs : List (List Status)) → IsWithinOne b w (map basics_of (xs ++ s ∷ []))
+  in_last b w (inl h) [] = inl h
+  in_last b w (inr h) [] = inr h
+  in_last b w h (x ∷ xs) = inr (in_last b w h xs)
+
+  -- at the basis itself
+  pub evidence_own : e.way ≡ 0 → ShowsRefusal statement (λ to. ⊥) (basics_of s ∷ []) s (basics_of s) e → EvidenceHere statement a break left s before now e
+  evidence_own no_way h = record {
+    is_way = omega (arith, no_way);
+    shows = λ ends earlier lie. record {
+      before = earlier;
+      reached = refl;
+      ahead = None;
+      is_ahead = tt;
+      shows = subst (λ (w : Basics). ShowsRefusal statement (GoesTo statement break s e) (map basics_of (earlier ++ s ∷ [])) s w e) (sym (ap (waypoint (basics_of s) now) no_way)) (record {
+        tableau = h.tableau;
+        is_tableau = h.is_tableau;
+        way_rate = h.way_rate;
+        are_way_rates = h.are_way_rates;
+        formula = any_move statement (GoesTo statement break s e) s e h.tableau (basics_of s) h.way_rate h.formula;
+        is_way = (h.is_way.0, in_last (program_at statement e.theta).matrix (basics_of s) h.is_way.1 earlier);
+        reaches = λ names. let there = h.reaches names in (there.0, in_last (program_at statement e.theta).matrix (exchanged (basics_of s) e.p e.q) there.1 earlier);
+        no_way = h.no_way;
+      });
+      is_theta = is_theta ends;
+      of_move = of_move;
+      of_statement = of_statement;
+    };
+  }

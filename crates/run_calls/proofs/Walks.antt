@@ -118,8 +118,7 @@ module _ (family : ℚ → LinearProgram) (Face : ℚ → List Status → FaceTu
           record { place = place; path = h.path; ends = ends; reaches = h.reaches; is_now = is_now; within = omega (arith, h.taken, within) }
 
       pub follows : (limit : ℕ) → steps ≤ limit → WaypointsFollowRun family Face from max s now limit a before ways
-      unfolding stands
-      follows limit within = record { stands = stands limit within; lie = h.lie }
+      follows limit within = record { place = place; path = h.path; ends = ends; reaches = h.reaches; is_now = is_now; lie = h.lie }
 
       -- evidence at the basis is evidence on the run
       pub overflows : (statement : SolvingStatement) (limit : ℕ) (more : List Basics) (e : Evidence) → steps ≤ limit → EvidenceHere statement a (break_of place) (limit - steps) now ways more e →
@@ -206,6 +205,9 @@ module _ (family : ℚ → LinearProgram) (Face : ℚ → List Status → FaceTu
         (opened next later (path ++ next ∷ []) (path_step so_far is.0) is.1)
 
     -- a run has taken the steps of its opening path
+    pub opening_reaches : (bases : List (List Status)) → IsPath (family from) s bases → Reaches family Face from max s (InOpening (last_of s bases)) bases []
+    opening_reaches bases is = opened s bases [] begins is
+
     pub opening_run : (bases : List (List Status)) (ways : List Basics) → IsPath (family from) s bases →
         ((earlier : List (List Status)) → LieIn a before (earlier ++ s ∷ []) → LieIn a ways (earlier ++ s ∷ bases)) →
         HasRun family Face from max a s before (InOpening (last_of s bases)) [] ways (length bases)

@@ -56,12 +56,14 @@ module _ (family : ℚ → LinearProgram) (Face : ℚ → List Status → FaceTu
   IsReported (Run run) bases = IsRun family Face from max s (map part_of run.parts) (end_of run.end) bases
 
   module _ (now : List Status) (limit : ℕ) where
-    -- the steps of the opening path and of all breaks count together
-    pub record RunEnds (report : ParaReport) : Type 0 where
+    -- the steps of the opening path and of all breaks count together; for every list of bases that ends with s, in which the waypoints
+    -- lay before, they lie after in that list followed by this run
+    pub record RunEnds (a : Matrix) (before after : List Basics) (report : ParaReport) : Type 0 where
       pub bases : List (List Status)
       pub is_report : IsReported report bases
       pub reaches : last_of s bases ≡ now
       pub within : length bases ≤ limit
+      pub lie : (earlier : List (List Status)) → LieIn a before (earlier ++ s ∷ []) → LieIn a after (earlier ++ s ∷ bases)
 
     pub record StandsThere : Type 0 where
       pub place : Place
@@ -75,12 +77,16 @@ module _ (family : ℚ → LinearProgram) (Face : ℚ → List Status → FaceTu
       pub goes_on : RunGoesOnFor family Face from max s limit
       pub is_now : basis_of goes_on.place ≡ now
 
-    -- for every list of bases that ends with s, in which the waypoints lay before, they lie after in that list followed by this run
+    -- the same of a run that has stopped at now, or ended there
     pub record WaypointsFollowRun (a : Matrix) (before after : List Basics) : Type 0 where
-      pub stands : StandsThere
-      pub lie : (earlier : List (List Status)) → LieIn a before (earlier ++ s ∷ []) → LieIn a after (earlier ++ s ∷ stands.path)
+      pub place : Place
+      pub path : List (List Status)
+      pub ends : List ℚ
+      pub reaches : Reaches family Face from max s place path ends
+      pub is_now : basis_of place ≡ now
+      pub lie : (earlier : List (List Status)) → LieIn a before (earlier ++ s ∷ []) → LieIn a after (earlier ++ s ∷ path)
 
-    -- and the evidence holds on that list followed by this run
+    -- the evidence holds on each such list followed by this run
     pub record RunOverflows (statement : SolvingStatement) (a : Matrix) (before after : List Basics) (e : Evidence) : Type 0 where
       pub stands : StandsThere
       pub is_way : e.way ≤ length after

@@ -1,3 +1,4 @@
 pub mod Calls
 pub mod Begun
 pub mod Walks
+pub mod Truth

@@ -233,3 +233,15 @@ module _ (p : LinearProgram) (family : ℚ → LinearProgram) (Face : ℚ → Li
   pub not_both : (from max : ℚ) (s : List Status) (report : RunReport) (path : List (List Status)) (steps : ℕ) → IsNonsingularBasis p s → IsReport family Face from max s report path →
       length path ≤ steps → RunGoesOnFor family Face from max s steps → ⊥
   not_both from max s report path steps at is_report within on = goes_on_not from max s at report path is_report on.place on.path on.ends steps within on.taken on.reaches on.goes_on
+
+  -- a place of it after as many steps as it has is where it ends
+  pub same_path : (from max : ℚ) (s : List Status) (report : RunReport) (whole : List (List Status)) → IsNonsingularBasis p s → IsReport family Face from max s report whole →
+      (place : Place) (path : List (List Status)) (ends : List ℚ) → Reaches family Face from max s place path ends → length path ≡ length whole → path ≡ whole
+  same_path from max s report whole at is_report place path ends reaches counted =
+      let left = has_left from max s at report whole is_report place path ends reaches in by_rest left.rest left.is_whole
+    where
+      by_rest : (rest : List (List Status)) → whole ≡ path ++ rest → path ≡ whole
+      by_rest [] e = sym (e ∙ append-nil path)
+      by_rest (x ∷ rest) e =
+          let longer : length whole ≡ length path + suc (length rest) = ap length e ∙ length-append path (x ∷ rest) in
+          absurd (omega (arith, longer, counted))

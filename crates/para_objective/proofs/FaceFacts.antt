@@ -1,0 +1,158 @@
+-- What is done at a break, from what the calls there found.
+use Rattle.std.proofs.Common.{◌≡◌, ◌≢◌, ℕ, Bool, true, false, List, length, cond, refl, sym, ap, ap₂, subst, ◌∙◌, arith}
+use Rattle.std.specs.Prelude.{Option, Some, None, IsSome, IsTrue, ◌&&◌, ◌||◌, option_map, if◌then◌else◌}
+use Rattle.exact_values.specs.Rational.{ℚ, zero_ℚ}
+use Rattle.exact_values.specs.Tests.{lt_ℚ}
+use Rattle.exact_values.proofs.Order.{le_of_lt, lt_not_le}
+use Rattle.lp_definitions.specs.LinearProgram.{LinearProgram, Vector, size, value_at, IsRow, IsVariable, HasNoLimits, IsLinearProgram, for_min}
+use Rattle.lp_definitions.specs.Solutions.{IsFeasible}
+use Rattle.lp_definitions.specs.Basis.{is_in, basics_of, IsNonbasic, IsDirectionOf, IsOptimalBasis, IsPointOf, Tableau, IsTableau, objective_rate}
+use Rattle.lp_definitions.specs.declared.Status.{Status}
+use Rattle.lp_definitions.specs.declared.Status.TheVariants.{Ul, Ll}
+use Rattle.lp_laws.proofs.Uniqueness.{one_direction}
+use Rattle.lp_model.specs.RatesCalls.{IsRowOf}
+use Rattle.lp_model.specs.declared.reports.ParaEnd.{ParaEnd}
+use Rattle.path_definitions.specs.Moves.{may_rise, may_fall, lowers, goes_up, signed, stopper}
+use Rattle.path_definitions.specs.Path.{Move, after, listed, speeds, stopped_by}
+use Rattle.path_laws.specs.Laws.{IsNonsingularBasis}
+use Rattle.path_laws.proofs.Searches.{found_passes}
+use Rattle.path_laws.proofs.Stoppers.{stopper_some}
+use Rattle.path_laws.proofs.Tests.{lt_true}
+use Rattle.postoptimal_definitions.specs.Chain.{FaceMoves, FaceDone, FaceEnds, UnboundedPast}
+use Rattle.postoptimal_definitions.specs.ObjectiveRun.{objective_family, change_rate, face_mover, face_until, face_by, objective_face, IsObjectiveFace}
+use Rattle.bounded_primal.specs.Moves.{may_move, motion, stop_at, stopper_of, IsStepBy, is_stopper, move_by}
+use Rattle.bounded_primal.specs.declared.moves.Stopper.{Stopper}
+use Rattle.bounded_primal.proofs.SameChoices.{stopper_same, listed_is}
+use Rattle.run_calls.specs.Calls.{end_of}
+use Rattle.sweep_laws.proofs.Leads.{and_parts}
+use Rattle.sweep_laws.proofs.Objective.{to_objective}
+use Rattle.sweep_laws.proofs.OneObjective.{lawful_objective}
+use Rattle.sweep_truth.proofs.Intervals.{point_feasible}
+use Rattle.sweep_truth.proofs.ObjectiveEnds.{face_mover_is}
+use Rattle.para_objective.specs.Breaks.{IsFaceMover}
+use Rattle.para_objective.specs.Faces.{face_up, IsEndlessPast}
+use Rattle.para_objective.proofs.Kept.{kept_optimal, pivot}
+
+-- what lowers a quantity rises where its rate is negative, and else falls
+may_go : (a b rises falls : Bool) → ((a && rises) || (b && falls)) ≡ true → (a ≡ true → b ≡ true → ⊥) → (if a then rises else falls) ≡ true
+may_go true true rises falls e one = absurd (one refl refl)
+may_go true false true falls e one = refl
+may_go true false false falls e one = cc
+may_go false true rises true e one = refl
+may_go false true rises false e one = cc
+may_go false false rises falls e one = cc
+
+one_sign : (x : ℚ) → lt_ℚ x zero_ℚ ≡ true → lt_ℚ zero_ℚ x ≡ true → ⊥
+one_sign x low high = lt_not_le (lt_true x zero_ℚ low) (le_of_lt (lt_true zero_ℚ x high))
+
+module _ (p : LinearProgram) (h : ℕ) (lawful : IsLinearProgram p) (row : IsRow p.matrix h) (free : HasNoLimits p h) (theta : ℚ) (s : List Status) (at : IsNonsingularBasis p s)
+    (z : Vector) (point : IsPointOf p s z) (optimal : IsOptimalBasis (objective_family p h theta) s) (change : Vector) (changed : IsRowOf p.matrix (basics_of s) h change) where
+  abbrev present : LinearProgram
+  present = objective_family p h theta
+
+  abbrev t : Tableau
+  t = record { point = z; rate = changed.rate }
+
+  tab : IsTableau present s t
+  tab = record { is_point = record { keeps = point.keeps; placed = point.placed }; are_rates = changed.are_rates }
+
+  there : IsNonsingularBasis present s
+  there = to_objective p h theta s at
+
+  -- nobody moves
+  pub face_done : IsFaceMover p h theta s None → IsObjectiveFace p h theta s FaceDone
+  unfolding objective_face
+  face_done found = (t, tab, ap (face_by present h theta s t) (sym (found t tab)))
+
+  pub feasible : IsFeasible p z
+  feasible = let f = point_feasible present (lawful_objective p h lawful row free theta) s optimal z tab.is_point in record { keeps = f.keeps; within = f.within }
+
+  module _ (q : ℕ) (found : IsFaceMover p h theta s (Some q)) where
+    found_is : face_mover present h theta s t ≡ Some q
+    found_is = sym (found t tab)
+
+    pub nonbasic : IsNonbasic p.matrix (basics_of s) q
+    nonbasic = (face_mover_is present h theta s t q there found_is).mover.nonbasic
+
+    zero_rate : objective_rate present t.rate q ≡ zero_ℚ
+    zero_rate = (face_mover_is present h theta s t q there found_is).zero_rate
+
+    rate_is : change q ≡ t.rate h q
+    rate_is = changed.entries q nonbasic.0 ∙ ap (λ m. cond m zero_ℚ (changed.rate h q)) nonbasic.1
+
+    lowering : lowers present s (change_rate present h theta s t) q ≡ true
+    lowering = (and_parts _ _ (found_passes present _ q found_is).1).1
+
+    up_is : face_up p change q ≡ goes_up (change_rate present h theta s t) q
+    up_is = ap (λ r. lt_ℚ (for_min p.sense r) zero_ℚ) rate_is
+
+    pub may : IsTrue (may_move p s (face_up p change q) q)
+    may = subst (λ b. (if b then may_rise p s q else may_fall p s q) ≡ true) (sym up_is)
+        (may_go (lt_ℚ (change_rate present h theta s t q) zero_ℚ) (lt_ℚ zero_ℚ (change_rate present h theta s t q)) (may_rise p s q) (may_fall p s q) lowering (one_sign (change_rate present h theta s t q)))
+
+    module _ (d : Vector) (direction : IsDirectionOf p.matrix (basics_of s) q d) (up : Bool) (up_found : up ≡ face_up p change q) where
+      abbrev motion_of : Vector
+      motion_of = speeds t.rate (goes_up (change_rate present h theta s t) q) q
+
+      speeds_are : (k : ℕ) → IsVariable p.matrix k → motion_of k ≡ motion d up k
+      speeds_are k is =
+          ap₂ (λ b v. signed b v) (sym (up_found ∙ up_is))
+          (one_direction p.matrix (basics_of s) q (λ i. t.rate i q) d at.nonsingular (changed.are_rates q nonbasic) direction k is)
+
+      stops_same : stopper present z motion_of ≡ stopper p z (motion d up)
+      stops_same = stopper_same p z motion_of (motion d up) speeds_are
+
+      face_is : (o : Option ℕ) → stopper p z (motion d up) ≡ o → objective_face present h theta s t ≡ face_until present h theta s t q motion_of o
+      unfolding objective_face
+      face_is o stops = ap (face_by present h theta s t) found_is ∙ ap (face_until present h theta s t q motion_of) (stops_same ∙ stops)
+
+      none_stops : (o : Option ℕ) → option_map (stop_at p z d up) o ≡ None → o ≡ None
+      none_stops None e = refl
+      none_stops (Some k) e = cc
+
+      some_stops : (by : Stopper) (o : Option ℕ) → option_map (stop_at p z d up) o ≡ Some by → (k : ℕ) × (o ≡ Some k) × (stop_at p z d up k ≡ by)
+      some_stops by None e = cc
+      some_stops by (Some k) e = (k, refl, cc)
+
+      -- nothing stops q
+      pub face_ends : None ≡ stopper_of p z d up → (zs : List ℚ) → length zs ≡ size p.matrix → ((k : ℕ) → IsVariable p.matrix k → value_at zs k ≡ z k) → (end : ParaEnd) → IsEndlessPast p theta zs d up end →
+          IsObjectiveFace p h theta s (FaceEnds (end_of end))
+      face_ends none zs zs_counted zs_are end is = (
+        t,
+        tab,
+        face_is None (none_stops (stopper p z (motion d up)) (sym none))
+            ∙ ap₂ (λ xs ys. FaceEnds (UnboundedPast theta xs ys)) (sym (listed_is p.matrix zs z zs_counted zs_are)) (sym (listed_is p.matrix is.ds motion_of is.counted (λ k var. is.speeds k var ∙ sym (speeds_are k var))))
+            ∙ ap (λ e. FaceEnds (end_of e)) (sym is.is_end),
+      )
+
+      module _ (by : Stopper) (stops : Some by ≡ stopper_of p z d up) where
+        stopper_at : (k : ℕ) × (stopper p z (motion d up) ≡ Some k) × (stop_at p z d up k ≡ by)
+        stopper_at = some_stops by (stopper p z (motion d up)) (sym stops)
+
+        k_is : IsVariable p.matrix stopper_at.0
+        k_is = (stopper_some p z (motion d up) stopper_at.0 stopper_at.1).0
+
+        move_is : stopped_by q motion_of stopper_at.0 ≡ move_by q by
+        move_is =
+            ap (λ v. record { enters = q; leaves = stopper_at.0; to = if lt_ℚ zero_ℚ v then Ul else Ll }) (speeds_are stopper_at.0 k_is)
+            ∙ ap (move_by q) stopper_at.2
+
+        pub face_moves : IsObjectiveFace p h theta s (FaceMoves (move_by q by))
+        face_moves = (t, tab, face_is (Some stopper_at.0) stopper_at.1 ∙ ap FaceMoves move_is)
+
+        pub face_keeps : IsOptimalBasis (objective_family p h theta) (after s (move_by q by))
+        face_keeps =
+            subst (λ m. IsOptimalBasis (objective_family p h theta) (after s m)) move_is
+            (kept_optimal p h lawful row theta s at t tab optimal q nonbasic zero_rate (goes_up (change_rate present h theta s t) q) stopper_at.0 (stops_same ∙ stopper_at.1))
+
+        pub face_pivot : d by.p ≢ zero_ℚ
+        face_pivot zero =
+            pivot p h lawful row theta s at t tab optimal q nonbasic zero_rate (goes_up (change_rate present h theta s t) q) stopper_at.0 (stops_same ∙ stopper_at.1)
+            (one_direction p.matrix (basics_of s) q (λ i. t.rate i q) d at.nonsingular (changed.are_rates q nonbasic) direction stopper_at.0 k_is ∙ ap (λ (b : Stopper). d b.p) stopper_at.2 ∙ zero)
+
+        pub face_by_stopper : IsStepBy p s z d q by
+        face_by_stopper = is_stopper up feasible (subst (λ b. IsTrue (may_move p s b q)) (sym up_found) may) (sym stops)
+
+    -- q is what a step would move
+    pub face_enters : (u : Tableau) × IsTableau present s u × (face_mover present h theta s u ≡ Some q)
+    face_enters = (t, tab, found_is)

@@ -1,0 +1,133 @@
+-- Evidence of the calls at a basis is evidence of the run.
+use Rattle.std.proofs.Common.{zero, suc, ◌≡◌, ◌≢◌, ℕ, ◌≤◌, inl, List, [], ◌∷◌, Bool, true, false, refl, sym, ◌∙◌, ap, subst, arith}
+use Rattle.std.specs.Prelude.{Option, Some, None, IsTrue, not, ◌&&◌, ◌||◌, nat_eq, Contains}
+use Rattle.exact_values.specs.Rational.{ℚ, zero_ℚ}
+use Rattle.lp_definitions.specs.LinearProgram.{LinearProgram, Vector}
+use Rattle.lp_definitions.specs.Basis.{Basics, basics_of}
+use Rattle.lp_definitions.specs.Waypoints.{waypoint}
+use Rattle.lp_definitions.specs.declared.Change.{Change}
+use Rattle.lp_definitions.specs.declared.Evidence.{Evidence}
+use Rattle.lp_definitions.specs.declared.Status.{Status}
+use Rattle.lp_definitions.specs.declared.Status.TheVariants.{Bs}
+use Rattle.lp_laws.proofs.Values.{clash}
+use Rattle.lp_laws.proofs.Statuses.{basics_of-replaced}
+use Rattle.lp_laws.proofs.WaypointLaws.{within_itself}
+use Rattle.evidence_definitions.specs.Statements.{Primal, Paraobj, is_between, belongs, thetas_of, EntersAt, MovesAt}
+use Rattle.evidence_definitions.specs.Evidence.{ShowsRefusal, IsOfMove}
+use Rattle.bounded_primal.specs.Calls.{StopsAt, job_of, is_of_point, PointRefused}
+use Rattle.bounded_primal.specs.Moves.{StopperRefused, StepRefused, move_by}
+use Rattle.bounded_primal.specs.declared.moves.Stopper.{Stopper}
+use Rattle.bounded_primal.proofs.Covered.{stops_covered}
+use Rattle.run_calls.specs.Walks.{EvidenceHere}
+use Rattle.run_calls.proofs.Evidence.{evidence_here, evidence_ahead, evidence_own}
+use Rattle.para_objective.specs.Reach.{EndRefused}
+
+-- ---- the numbers of formulas
+
+module _ (n term : ℕ) where
+  point_number : (is_between 1 5 n || is_between 10 12 n) ≡ true → is_between 1 12 n ≡ true
+  point_number h = grind arith
+
+  point_moves_not : (is_between 1 5 n || is_between 10 12 n) ≡ true → is_between 7 9 n ≡ false
+  point_moves_not h = grind arith
+
+  point_brings_not : (is_between 1 5 n || is_between 10 12 n) ≡ true → nat_eq n 14 ≡ false
+  point_brings_not h = grind arith
+
+  point_belongs : (is_between 1 5 n || is_between 10 12 n) ≡ true → ((is_between 1 13 n || is_between 16 17 n) && (not (nat_eq n 6) || not (nat_eq term 3))) ≡ true
+  point_belongs h = grind arith
+
+  stopper_number : ((nat_eq n 6 && not (nat_eq term 3)) || nat_eq n 7) ≡ true → is_between 1 12 n ≡ true
+  stopper_number h = grind arith
+
+  stopper_moves : ((nat_eq n 6 && not (nat_eq term 3)) || nat_eq n 7) ≡ true → is_between 7 9 n ≡ true → nat_eq n 7 ≡ true
+  stopper_moves h is = grind arith
+
+  stopper_brings_not : ((nat_eq n 6 && not (nat_eq term 3)) || nat_eq n 7) ≡ true → nat_eq n 14 ≡ false
+  stopper_brings_not h = grind arith
+
+  stopper_belongs : ((nat_eq n 6 && not (nat_eq term 3)) || nat_eq n 7) ≡ true → ((is_between 1 13 n || is_between 16 17 n) && (not (nat_eq n 6) || not (nat_eq term 3))) ≡ true
+  stopper_belongs h = grind arith
+
+  step_number : (is_between 1 12 n && (not (nat_eq n 6) || not (nat_eq term 3))) ≡ true → is_between 1 12 n ≡ true
+  step_number h = grind arith
+
+  step_brings_not : (is_between 1 12 n && (not (nat_eq n 6) || not (nat_eq term 3))) ≡ true → nat_eq n 14 ≡ false
+  step_brings_not h = grind arith
+
+  step_belongs : (is_between 1 12 n && (not (nat_eq n 6) || not (nat_eq term 3))) ≡ true → ((is_between 1 13 n || is_between 16 17 n) && (not (nat_eq n 6) || not (nat_eq term 3))) ≡ true
+  step_belongs h = grind arith
+
+step_moves : (n : ℕ) → is_between 8 9 n ≡ true → is_between 7 9 n ≡ true
+step_moves n h = grind arith
+
+-- ---- a call on p, which has no change row, in a run that changes row h
+
+module _ (p : LinearProgram) (h : ℕ) (from : ℚ) (no_change : p.change ≡ None) (s : List Status) (left : ℕ) (before now : List Basics) (e : Evidence) where
+  -- the evidence names the value 0
+  zero_theta : (Goes : Status → Type 0) (around : List Basics) → StopsAt Goes p around s now e → (ends : List ℚ) → Contains (thetas_of (Paraobj p h from) ends) e.theta
+  zero_theta Goes around stops ends = first (subst (λ (c : Option Change). Contains (thetas_of (job_of p c) []) e.theta) no_change stops.is_theta)
+    where
+      first : Contains (zero_ℚ ∷ []) e.theta → Contains (zero_ℚ ∷ from ∷ ends) e.theta
+      first (zero, below, is) = (0, omega arith, is)
+      first (suc k, below, is) = absurd (omega (arith, below))
+
+  -- a point, prices, and the rates of a row or a column
+  pub of_point : (break : Option ℚ) → PointRefused p before s now e → EvidenceHere (Paraobj p h from) p.matrix break left s before now e
+  of_point break r =
+      let number : (is_between 1 5 e.formula || is_between 10 12 e.formula) ≡ true = subst (λ (c : Option Change). IsTrue (is_of_point c e.formula)) no_change r.of_call in
+      evidence_here p (Some (record { row = h; theta = e.theta })) (Paraobj p h from) s e refl (point_number e.formula e.term number) no_change break left before now
+      (zero_theta (λ to. ⊥) (basics_of s ∷ before) r.stops)
+      (record {
+        enters = λ is. absurd (clash (sym is ∙ point_moves_not e.formula e.term number));
+        brings = λ is. absurd (clash (sym is ∙ point_brings_not e.formula e.term number));
+        steps = λ is. tt;
+      })
+      (point_belongs e.formula e.term number) (λ to. ⊥) (λ to none is. absurd none) r.stops
+
+  -- an end of an interval
+  pub of_end : (break : Option ℚ) → EndRefused p h s e → EvidenceHere (Paraobj p h from) p.matrix break left s before now e
+  of_end break r =
+      evidence_own (Paraobj p h from) p.matrix s e break left before now (λ ends. (0, omega arith, sym r.no_theta))
+      (record {
+        enters = λ is. absurd (clash (sym is ∙ ap (is_between 7 9) r.number));
+        brings = λ is. absurd (clash (sym is ∙ ap (λ n. nat_eq n 14) r.number));
+        steps = λ is. tt;
+      })
+      (r.of_run from) r.no_way (r.shows from)
+
+  module _ (theta : ℚ) (q : ℕ) (enters : EntersAt (Paraobj p h from) (Some theta) s q) where
+    -- the search for what stops q
+    pub of_stopper : (z d : Vector) (up : Bool) → StopperRefused p s z d q up e → EvidenceHere (Paraobj p h from) p.matrix (Some theta) left s before now e
+    of_stopper z d up r =
+        let bound : e.way ≤ 0 = r.stops.is_way in
+        let no_way : e.way ≡ 0 = omega (arith, bound) in
+        let stops : StopsAt (λ to. ⊥) p (basics_of s ∷ []) s now e = record {
+          is_way = omega (arith, no_way);
+          is_theta = r.stops.is_theta;
+          shows = subst (λ (w : Basics). ShowsRefusal (job_of p p.change) (λ to. ⊥) (basics_of s ∷ []) s w e) (ap (waypoint (basics_of s) []) no_way ∙ sym (ap (waypoint (basics_of s) now) no_way)) r.stops.shows;
+        } in
+        let wider = stops_covered (λ to. ⊥) p (basics_of s ∷ []) (basics_of s ∷ before) s now e (inl (within_itself p.matrix (basics_of s)), tt) stops in
+        evidence_here p (Some (record { row = h; theta = e.theta })) (Paraobj p h from) s e refl (stopper_number e.formula e.term r.of_call) no_change (Some theta) left before now
+        (zero_theta (λ to. ⊥) (basics_of s ∷ before) wider)
+        (record {
+          enters = λ is. subst (EntersAt (Paraobj p h from) (Some theta) s) (sym (r.enters (stopper_moves e.formula e.term r.of_call is))) enters;
+          brings = λ is. absurd (clash (sym is ∙ stopper_brings_not e.formula e.term r.of_call));
+          steps = λ is. tt;
+        })
+        (stopper_belongs e.formula e.term r.of_call) (λ to. ⊥) (λ to none is. absurd none) wider
+
+    -- the step of q by what stops it, with the basis that it leads to ahead
+    pub of_step : (by : Stopper) → MovesAt (Paraobj p h from) (Some theta) s (move_by q by) → by.to ≢ Bs → 1 ≤ left → StepRefused p before s q by now e →
+        EvidenceHere (Paraobj p h from) p.matrix (Some theta) left s before now e
+    of_step by moves apart one_left r =
+        evidence_ahead p (Some (record { row = h; theta = e.theta })) (Paraobj p h from) s e refl (step_number e.formula e.term r.of_call) no_change (Some theta) left before now
+        (zero_theta (λ to. to ≡ by.to) (basics_of s ∷ _ ∷ before) r.stops)
+        (record {
+          enters = λ is. subst (EntersAt (Paraobj p h from) (Some theta) s) (sym (r.enters is)) enters;
+          brings = λ is. absurd (clash (sym is ∙ step_brings_not e.formula e.term r.of_call));
+          steps = λ is. tt;
+        })
+        (step_belongs e.formula e.term r.of_call) (λ to. to ≡ by.to)
+        (λ to same is. record { move = move_by q by; moves = moves; enters = sym (r.enters (step_moves e.formula is)); leaves = sym (r.leaves is); goes_to = sym same })
+        (move_by q by) moves (basics_of-replaced s by.p q by.to apart) one_left r.stops
