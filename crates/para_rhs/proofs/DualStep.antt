@@ -157,7 +157,7 @@ module _ (s : Sense) (aj aq rj rq least : ℚ) (apart : rq ≢ zero_ℚ) where
 
 module _ (p : LinearProgram) (no_change : p.change ≡ None) (s : List Status) (at : IsNonsingularBasis p s) (t : Tableau) (tab : IsTableau p s t)
     (right : (k : ℕ) → IsVariable p.matrix k → lowers p s (worth_rate p s t) k ≡ false) (r q : ℕ) (below : Bool) (leaves : IsBasic p.matrix (basics_of s) r) (q_is : IsVariable p.matrix q)
-    (brings : brings_back p s t r below q ≡ true) (least : (j : ℕ) → IsVariable p.matrix j → brings_back p s t r below j ≡ true → ratio p t r q ≤ℚ ratio p t r j) where
+    (brings : brings_back p s t r below q ≡ true) (least : (j : ℕ) → IsVariable p.matrix j → brings_back p s t r below j ≡ true → ratio p s t r q ≤ℚ ratio p s t r j) where
   abbrev pub limit_of : Status
   limit_of = if below then Ll else Ul
 
@@ -180,17 +180,17 @@ module _ (p : LinearProgram) (no_change : p.change ≡ None) (s : List Status) (
       ((lt_ℚ (for_min p.sense (t.rate p.objective k)) zero_ℚ && may_rise p s k) || (lt_ℚ zero_ℚ (for_min p.sense (t.rate p.objective k)) && may_fall p s k)) ≡ false
   right_at k is = ap (λ x. (lt_ℚ (for_min p.sense x) zero_ℚ && may_rise p s k) || (lt_ℚ zero_ℚ (for_min p.sense x) && may_fall p s k)) (sym (rate_of t.rate k)) ∙ right k is
 
-  whole : (k : ℕ) → t.rate r k ≢ zero_ℚ → ratio p t r k *ℚ magnitude (signed (not below) (t.rate r k)) ≡ magnitude (for_min p.sense (t.rate p.objective k))
+  whole : (k : ℕ) → t.rate r k ≢ zero_ℚ → ratio p s t r k *ℚ magnitude (signed (not below) (t.rate r k)) ≡ magnitude (for_min p.sense (t.rate p.objective k))
   whole k apart =
-      ap (λ y. ratio p t r k *ℚ y) (magnitude-signed (not below) (t.rate r k)) ∙ ratio_times (t.rate p.objective k) (t.rate r k) apart
+      ap (λ y. ratio p s t r k *ℚ y) (magnitude-signed (not below) (t.rate r k)) ∙ ratio_times (t.rate p.objective k) (t.rate r k) apart
       ∙ sym (magnitude-for_min p.sense (t.rate p.objective k))
 
-  some : zero_ℚ ≤ℚ ratio p t r q
+  some : zero_ℚ ≤ℚ ratio p s t r q
   some = magnitude_least (t.rate p.objective q /ℚ t.rate r q)
 
-  own : ratio p t r q *ℚ signed (not below) (t.rate r q) ≡ neg_ℚ (for_min p.sense (t.rate p.objective q))
+  own : ratio p s t r q *ℚ signed (not below) (t.rate r q) ≡ neg_ℚ (for_min p.sense (t.rate p.objective q))
   own =
-      own_ratio (for_min p.sense (t.rate p.objective q)) (signed (not below) (t.rate r q)) (ratio p t r q) (may_rise p s q) (may_fall p s q) (whole q pivot) (right_at q q_is) brings
+      own_ratio (for_min p.sense (t.rate p.objective q)) (signed (not below) (t.rate r q)) (ratio p s t r q) (may_rise p s q) (may_fall p s q) (whole q pivot) (right_at q q_is) brings
 
   to_apart : (if below then Ll else Ul) ≢ Bs
   to_apart = apart below
@@ -212,19 +212,19 @@ module _ (p : LinearProgram) (no_change : p.change ≡ None) (s : List Status) (
       || (lt_ℚ zero_ℚ (for_min p.sense (t.rate p.objective j -ℚ (t.rate r j /ℚ t.rate r q) *ℚ t.rate p.objective q)) && may_fall p next j)) ≡ false
   other_right j is stands =
       ap₂ (λ x st. (lt_ℚ x zero_ℚ && (rises_from st && not (is_fixed p j))) || (lt_ℚ zero_ℚ x && (falls_from st && not (is_fixed p j))))
-      (others_after p.sense (t.rate p.objective j) (t.rate p.objective q) (t.rate r j) (t.rate r q) (ratio p t r q) pivot below own) stands
+      (others_after p.sense (t.rate p.objective j) (t.rate p.objective q) (t.rate r j) (t.rate r q) (ratio p s t r q) pivot below own) stands
       ∙ by_rate (zero_or_not (t.rate r j))
     where
       by_rate : (t.rate r j ≡ zero_ℚ) ⊎ (t.rate r j ≢ zero_ℚ) →
-          ((lt_ℚ (for_min p.sense (t.rate p.objective j) +ℚ ratio p t r q *ℚ signed (not below) (t.rate r j)) zero_ℚ && may_rise p s j)
-          || (lt_ℚ zero_ℚ (for_min p.sense (t.rate p.objective j) +ℚ ratio p t r q *ℚ signed (not below) (t.rate r j)) && may_fall p s j)) ≡ false
+          ((lt_ℚ (for_min p.sense (t.rate p.objective j) +ℚ ratio p s t r q *ℚ signed (not below) (t.rate r j)) zero_ℚ && may_rise p s j)
+          || (lt_ℚ zero_ℚ (for_min p.sense (t.rate p.objective j) +ℚ ratio p s t r q *ℚ signed (not below) (t.rate r j)) && may_fall p s j)) ≡ false
       by_rate (inr apart) =
-          stays_right (for_min p.sense (t.rate p.objective j)) (signed (not below) (t.rate r j)) (ratio p t r j) (may_rise p s j) (may_fall p s j) (whole j apart) (right_at j is)
-          (ratio p t r q) some (λ e. least j is e)
+          stays_right (for_min p.sense (t.rate p.objective j)) (signed (not below) (t.rate r j)) (ratio p s t r j) (may_rise p s j) (may_fall p s j) (whole j apart) (right_at j is)
+          (ratio p s t r q) some (λ e. least j is e)
       by_rate (inl zero) =
           ap (λ x. (lt_ℚ x zero_ℚ && may_rise p s j) || (lt_ℚ zero_ℚ x && may_fall p s j))
-          (ap (λ y. for_min p.sense (t.rate p.objective j) +ℚ ratio p t r q *ℚ y) (ap (signed (not below)) zero ∙ signed_zero (not below))
-          ∙ by_ring2 (for_min p.sense (t.rate p.objective j)) (ratio p t r q) (λ w m. w ⊕ m ⊗ number (pos 0) ≐ w) refl)
+          (ap (λ y. for_min p.sense (t.rate p.objective j) +ℚ ratio p s t r q *ℚ y) (ap (signed (not below)) zero ∙ signed_zero (not below))
+          ∙ by_ring2 (for_min p.sense (t.rate p.objective j)) (ratio p s t r q) (λ w m. w ⊕ m ⊗ number (pos 0) ≐ w) refl)
           ∙ right_at j is
 
   -- r, which stands at its limit
@@ -235,15 +235,15 @@ module _ (p : LinearProgram) (no_change : p.change ≡ None) (s : List Status) (
       no_way : {a : Type 0} (b : Bool) → (false && b) ≡ true → a
       no_way b e = absurd (clash (sym e))
 
-      at_limit : (b : Bool) → ratio p t r q *ℚ signed (not b) (t.rate r q) ≡ neg_ℚ (for_min p.sense (t.rate p.objective q)) →
+      at_limit : (b : Bool) → ratio p s t r q *ℚ signed (not b) (t.rate r q) ≡ neg_ℚ (for_min p.sense (t.rate p.objective q)) →
           ((lt_ℚ (for_min p.sense ((one_ℚ /ℚ t.rate r q) *ℚ t.rate p.objective q)) zero_ℚ && (rises_from (if b then Ll else Ul) && not (is_fixed p r)))
           || (lt_ℚ zero_ℚ (for_min p.sense ((one_ℚ /ℚ t.rate r q) *ℚ t.rate p.objective q)) && (falls_from (if b then Ll else Ul) && not (is_fixed p r)))) ≡ false
       at_limit true own =
-          let is = own_below p.sense (t.rate p.objective q) (t.rate p.objective q) (t.rate r q) (t.rate r q) (ratio p t r q) pivot own in
+          let is = own_below p.sense (t.rate p.objective q) (t.rate p.objective q) (t.rate r q) (t.rate r q) (ratio p s t r q) pivot own in
           betters_not _ (rises_from Ll && not (is_fixed p r)) (falls_from Ll && not (is_fixed p r)) (λ _. subst (λ x. zero_ℚ ≤ℚ x) (sym is) some) (λ e. no_way (not (is_fixed p r)) e)
       at_limit false own =
-          let is = own_above p.sense (t.rate p.objective q) (t.rate p.objective q) (t.rate r q) (t.rate r q) (ratio p t r q) pivot own in
-          let down : neg_ℚ (ratio p t r q) ≤ℚ zero_ℚ = le_by_one some (by_ring1 (ratio p t r q) (λ m. number (pos 0) ≐ opposite m ⊕ (m ⊖ number (pos 0))) refl) in
+          let is = own_above p.sense (t.rate p.objective q) (t.rate p.objective q) (t.rate r q) (t.rate r q) (ratio p s t r q) pivot own in
+          let down : neg_ℚ (ratio p s t r q) ≤ℚ zero_ℚ = le_by_one some (by_ring1 (ratio p s t r q) (λ m. number (pos 0) ≐ opposite m ⊕ (m ⊖ number (pos 0))) refl) in
           betters_not _ (rises_from Ul && not (is_fixed p r)) (falls_from Ul && not (is_fixed p r)) (λ e. no_way (not (is_fixed p r)) e) (λ _. subst (λ x. x ≤ℚ zero_ℚ) (sym is) down)
 
   pub right_after : IsNonsingularBasis p next → (k : ℕ) → IsVariable p.matrix k → lowers p next (λ j. for_min p.sense (objective_rate p (exchanged_rate t.rate r q) j)) k ≡ false

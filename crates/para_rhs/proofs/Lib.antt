@@ -11,3 +11,4 @@ pub mod ReachStops
 pub mod Magnitudes
 pub mod BestRatio
 pub mod Leavers
+pub mod DualStep

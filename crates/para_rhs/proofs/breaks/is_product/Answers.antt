@@ -1,3 +1,4 @@
+use Rattle.para_rhs.proofs.DualStep.{right_after}
 use Rattle.std.proofs.Common.{rules, ◌≡◌, sym, subst, ap, ◌∙◌}
 use Rattle.exact_values.specs.Rational.{ℚ, ◌*ℚ◌}
 use Rattle.exact_values.specs.Tests.{eq_ℚ}
