@@ -23,3 +23,4 @@ pub use point::point_of;
 pub use prices::prices_of;
 pub use step::{returning, take_step};
 pub use stopping::stopper;
+pub use turns::{limit_broken, ray_of, return_of};
