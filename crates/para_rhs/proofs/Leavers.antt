@@ -31,7 +31,7 @@ use Rattle.para_rhs.proofs.RhsPoints.{points}
 
 -- ---- a product that is the distance
 
-same_tests : (a b c d : ℚ) → (a ≡ b → c ≡ d) → (c ≡ d → a ≡ b) → eq_ℚ a b ≡ eq_ℚ c d
+pub same_tests : (a b c d : ℚ) → (a ≡ b → c ≡ d) → (c ≡ d → a ≡ b) → eq_ℚ a b ≡ eq_ℚ c d
 same_tests a b c d to from = at (eq_ℚ a b) refl
   where
     at : (t : Bool) → eq_ℚ a b ≡ t → eq_ℚ a b ≡ eq_ℚ c d

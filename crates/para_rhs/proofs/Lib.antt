@@ -12,3 +12,5 @@ pub mod Magnitudes
 pub mod BestRatio
 pub mod Leavers
 pub mod DualStep
+pub mod RatioChoice
+pub mod FaceFacts
