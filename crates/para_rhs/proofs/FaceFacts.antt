@@ -1,6 +1,6 @@
 -- What is done at a break, from what the calls there found.
 use Rattle.std.proofs.Common.{◌≡◌, ◌≢◌, ℕ, Bool, true, false, List, length, cond, refl, sym, ap, ap₂, subst, ◌∙◌, pos, arith}
-use Rattle.std.specs.Prelude.{Option, Some, None, IsSome, unwrap_or, ◌&&◌, ◌||◌, not, nat_eq, option_map, if◌then◌else◌}
+use Rattle.std.specs.Prelude.{Option, Some, None, IsSome, IsTrue, unwrap_or, ◌&&◌, ◌||◌, not, nat_eq, option_map, if◌then◌else◌}
 use Rattle.exact_values.specs.Rational.{ℚ, zero_ℚ, one_ℚ, neg_ℚ, ◌-ℚ◌, ◌/ℚ◌, ◌≤ℚ◌}
 use Rattle.exact_values.specs.Tests.{eq_ℚ, lt_ℚ, le_ℚ}
 use Rattle.exact_values.proofs.Ring.{by_ring2, ◌⊕◌, ◌⊗◌, ◌≐◌, number}
@@ -37,11 +37,11 @@ use Rattle.sweep_laws.proofs.Rhs.{to_rhs, rhs_leads}
 use Rattle.sweep_truth.proofs.Intervals.{point_feasible}
 use Rattle.sweep_truth.proofs.RhsLimits.{moved, lower_is, upper_is}
 use Rattle.para_rhs.specs.Breaks.{IsFaceLeaver}
-use Rattle.para_rhs.specs.Cheapest.{cheapest_by}
+use Rattle.para_rhs.specs.Cheapest.{brings as may_bring, cheapest_by}
 use Rattle.para_rhs.specs.Limits.{is_upper}
 use Rattle.para_rhs.specs.declared.breaks.Leaver.{Leaver}
 use Rattle.para_rhs.proofs.DualStep.{enters, pivot, rates_after, right_after}
-use Rattle.para_rhs.proofs.RatioChoice.{cheapest_same}
+use Rattle.para_rhs.proofs.RatioChoice.{brings_same, cheapest_same}
 use Rattle.para_rhs.proofs.RhsPoints.{points}
 
 stands_on : (y : ℚ) (o : Option ℚ) → on_limit (λ l. eq_ℚ y l) o ≡ true → o ≡ Some y
@@ -122,6 +122,20 @@ module _ (p : LinearProgram) (shift : List ℚ) (lawful : IsLinearProgram p) (no
           by true mark e = refl
           by false true e = ap (signed (not (is_upper l.side))) (entry k is true e) ∙ signed_zero (not (is_upper l.side))
           by false false e = ap (signed (not (is_upper l.side))) (entry k is false e)
+
+      -- who may bring it back
+      pub face_brings : (j : ℕ) → IsVariable p.matrix j → may_bring p s row below j ≡ true →
+          (u : Tableau) × (w : Vector) × IsTableau (rhs_family p shift theta) s u × IsSlope (rhs_family p shift theta) s shift w × (leaving (rhs_family p shift theta) shift theta s u w ≡ Some l.r)
+          × IsTrue (brings_back (rhs_family p shift theta) s u l.r (leaves_below (rhs_family p shift theta) shift theta s u w l.r) j)
+      face_brings j is own = (
+        t,
+        v,
+        tab,
+        sloped,
+        leaver.0,
+        subst (λ b. brings_back (rhs_family p shift theta) s t l.r b j ≡ true) (sym leaver.1)
+            (sym (brings_same p shift theta s lawful no_change at prices row priced l.r basic.0 rowed (not (is_upper l.side)) (along z theta v) j is) ∙ own),
+      )
 
       -- nothing brings it back
       pub face_ends : cheapest_by p s prices row below ≡ None → (ray : List ℚ) → length ray ≡ size p.matrix → ((k : ℕ) → IsVariable p.matrix k → value_at ray k ≡ ray_from row l.r below k) →

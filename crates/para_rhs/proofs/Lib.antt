@@ -14,3 +14,5 @@ pub mod Leavers
 pub mod DualStep
 pub mod RatioChoice
 pub mod FaceFacts
+pub mod FaceWalk
+pub mod FaceEvidence

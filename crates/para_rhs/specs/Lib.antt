@@ -4,3 +4,5 @@ pub mod Slopes
 pub mod Reach
 pub mod Cheapest
 pub mod Breaks
+pub mod Parts
+pub mod Faces

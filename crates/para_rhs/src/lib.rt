@@ -3,13 +3,16 @@
 #![tactic(auto)]
 
 mod breaks;
+mod faces;
 mod limits;
+mod parts;
 mod ratios;
 mod reaching;
 mod slopes;
 
 pub use breaks::{Leaver, face_leaver};
 pub use limits::{Side, program_at};
+pub use parts::ParaRhs;
 pub use ratios::cheapest;
 pub use reaching::reach;
 pub use slopes::slope_of;
