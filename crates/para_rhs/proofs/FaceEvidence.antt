@@ -17,26 +17,30 @@ use Rattle.lp_laws.proofs.Statuses.{basics_of-replaced}
 use Rattle.lp_laws.proofs.Uniqueness.{one_direction}
 use Rattle.lp_laws.proofs.Values.{clash}
 use Rattle.lp_laws.proofs.WaypointLaws.{within_itself}
-use Rattle.lp_model.specs.RatesCalls.{IsRowOf}
+use Rattle.lp_model.specs.RatesCalls.{IsRowOf, IfOverflow}
+use Rattle.lp_model.specs.declared.Stop.{Stop}
+use Rattle.lp_model.specs.declared.Stop.TheVariants as stop
 use Rattle.path_definitions.specs.Moves.{signed}
 use Rattle.path_definitions.specs.Path.{Move}
 use Rattle.path_laws.specs.Laws.{IsNonsingularBasis}
 use Rattle.postoptimal_definitions.specs.Chain.{FaceMoves}
-use Rattle.postoptimal_definitions.specs.RhsRun.{IsSlope, IsRhsFace}
-use Rattle.bounded_primal.specs.Calls.{StopsAt}
+use Rattle.postoptimal_definitions.specs.RhsRun.{rhs_family, IsSlope, IsRhsFace}
+use Rattle.bounded_primal.specs.Calls.{StopsAt, PointRefused}
 use Rattle.bounded_primal.specs.Moves.{StepRefused, move_by}
 use Rattle.bounded_primal.specs.Steps.{ReturnRefused, of_distance, of_quotient}
+use Rattle.bounded_primal.specs.Stops.{primal_stop_of}
 use Rattle.bounded_primal.specs.Turns.{ReturnStops, by_column, by_return}
 use Rattle.bounded_primal.specs.declared.moves.Stopper.{Stopper}
 use Rattle.bounded_primal.proofs.Covered.{point_refused_later}
 use Rattle.bounded_primal.proofs.Existence.{rates_exist}
 use Rattle.bounded_primal.proofs.Refusals.{stops_at_basis}
-use Rattle.run_calls.specs.Walks.{EvidenceHere}
+use Rattle.run_calls.specs.Walks.{EvidenceHere, FaceStops}
 use Rattle.run_calls.proofs.Evidence.{evidence_ahead, evidence_own}
 use Rattle.sweep_laws.proofs.Leads.{is_mover}
 use Rattle.para_rhs.specs.Breaks.{IsFaceLeaver}
 use Rattle.para_rhs.specs.Cheapest.{SomeRatioRefused}
 use Rattle.para_rhs.specs.Limits.{is_upper}
+use Rattle.para_rhs.specs.Refusals.{RunRefused}
 use Rattle.para_rhs.specs.declared.breaks.Leaver.{Leaver}
 use Rattle.para_rhs.proofs.BestRatio.{brings_apart}
 use Rattle.para_rhs.proofs.FaceFacts.{basic, face_brings}
@@ -95,7 +99,7 @@ module _ (p : LinearProgram) (shift : List ℚ) (lawful : IsLinearProgram p) (no
       r_is = (basic p shift lawful no_change theta s at z v point slope l found).0
 
       out : IsNonbasic p.matrix (basics_of s) h.j
-      out = (is_mover p s (λ k. signed (not (is_upper l.side)) (row k)) h.j at h.is_variable h.brings_back).nonbasic
+      out = (is_mover p s (λ k. signed (not (not (is_upper l.side))) (row k)) h.j at h.is_variable h.brings_back).nonbasic
 
   -- the way back of a basic
   pub of_return : (mid : List Basics) → KeepsWaypoints p.matrix (basics_of s) before (basics_of s) mid → (q r : ℕ) (to : Status) → IsBasic p.matrix (basics_of s) r → IsNonbasic p.matrix (basics_of s) q →
@@ -153,3 +157,26 @@ module _ (p : LinearProgram) (shift : List ℚ) (lawful : IsLinearProgram p) (no
       (step_belongs e.formula e.term h.of_call) (λ to. to ≡ by.to)
       (λ to same is. record { move = move_by q by; moves = moves; enters = sym (h.enters (step_moves e.formula is)); leaves = sym (h.leaves is); goes_to = sym same })
       (move_by q by) moves (basics_of-replaced s by.p q by.to apart) one_left h.stops
+
+-- ---- stops of calls at a break
+
+module _ (p : LinearProgram) (shift : List ℚ) (lawful : IsLinearProgram p) (no_change : p.change ≡ None) (theta : ℚ) (s : List Status) (from : ℚ) (left : ℕ) (before now : List Basics) where
+  pub point_stops : (why : Stop) → IfOverflow why (PointRefused p before s now) → FaceStops (rhs_family p shift) (IsRhsFace p shift) (Pararhs p shift from) p.matrix theta s left before now (primal_stop_of why)
+  point_stops (stop.Overflow e) r = of_point p shift lawful no_change s before now e r from (Some theta) left
+  point_stops stop.NoMemory r = tt
+
+  pub motion_stops : (why : Stop) → IfOverflow why (RunRefused p shift s before now) → FaceStops (rhs_family p shift) (IsRhsFace p shift) (Pararhs p shift from) p.matrix theta s left before now (primal_stop_of why)
+  motion_stops (stop.Overflow e) r = r from (Some theta) left
+  motion_stops stop.NoMemory r = tt
+
+  module _ (at : IsNonsingularBasis p s) (z v : Vector) (point : IsPointOf p s z) (slope : IsSlope p s shift v) where
+    pub return_stops : (mid : List Basics) → KeepsWaypoints p.matrix (basics_of s) before (basics_of s) mid → (q r : ℕ) (to : Status) → IsBasic p.matrix (basics_of s) r → IsNonbasic p.matrix (basics_of s) q →
+        IsRhsFace p shift theta s (FaceMoves (record { enters = q; leaves = r; to = to })) → ((d : Vector) → IsDirectionOf p.matrix (basics_of s) q d → d r ≢ zero_ℚ) →
+        (why : Stop) → IfOverflow why (ReturnStops p s z q r to mid now) → FaceStops (rhs_family p shift) (IsRhsFace p shift) (Pararhs p shift from) p.matrix theta s left before now (primal_stop_of why)
+    return_stops mid keeps q r to is out moves pivot (stop.Overflow e) h = of_return p shift lawful no_change theta s at z v point slope from left before now e mid keeps q r to is out moves pivot h
+    return_stops mid keeps q r to is out moves pivot stop.NoMemory h = tt
+
+    pub step_stops : (q : ℕ) (by : Stopper) → IsRhsFace p shift theta s (FaceMoves (move_by q by)) → by.to ≢ Bs → 1 ≤ left → (why : Stop) → IfOverflow why (StepRefused p before s q by now) →
+        FaceStops (rhs_family p shift) (IsRhsFace p shift) (Pararhs p shift from) p.matrix theta s left before now (primal_stop_of why)
+    step_stops q by moves apart one_left (stop.Overflow e) h = of_step p shift lawful no_change theta s at z v point slope from left before now e q by moves apart one_left h
+    step_stops q by moves apart one_left stop.NoMemory h = tt

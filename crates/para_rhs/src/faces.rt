@@ -13,7 +13,7 @@ ghost use Rattle.para_rhs.specs.Faces.{family, IsStuckPast, FaceFound, FacesFoun
 ghost use Rattle.para_rhs.specs.Refusals.{RunRefused};
 
 use crate::breaks::face_leaver;
-use crate::limits::is_upper;
+use crate::limits::is_lower;
 use crate::parts::ParaRhs;
 use crate::ratios::cheapest;
 use crate::slopes::slope_of;
@@ -143,7 +143,7 @@ pub fn face_turn<R: Rates>(
     let Some(leaver) = found else {
         return Ok(Turn::Done);
     };
-    let below = !is_upper(leaver.side);
+    let below = is_lower(leaver.side);
     read_row(lp, basis, rates, leaver.r, row)?;
     let chosen = match cheapest(lp, basis, prices, row, leaver.r, below) {
         Ok(chosen) => chosen,

@@ -1,6 +1,6 @@
 //! The linear program at a value of the parameter.
 
-ghost use Rattle.std.specs.Prelude.{◌≡◌, [], length, IfOk, IfErr};
+ghost use Rattle.std.specs.Prelude.{◌≡◌, [], not, length, IfOk, IfErr};
 ghost use Rattle.exact_values.specs.Rational.{zero_ℚ, ◌+ℚ◌, ◌*ℚ◌};
 ghost use Rattle.evidence_definitions.specs.Evidence.{ShiftHolds};
 ghost use Rattle.evidence_definitions.specs.Statements.{Pararhs};
@@ -49,6 +49,16 @@ pub fn is_upper(side: Side) -> bool
     match side {
         Side::Lower => false,
         Side::Upper => true,
+    }
+}
+
+/// Whether it is the lower limit.
+pub fn is_lower(side: Side) -> bool
+    ensures { result ≡ not (is_upper side) }
+{
+    match side {
+        Side::Lower => true,
+        Side::Upper => false,
     }
 }
 
