@@ -16,3 +16,4 @@ pub mod RatioChoice
 pub mod FaceFacts
 pub mod FaceWalk
 pub mod FaceEvidence
+pub mod IntervalFacts

@@ -2,7 +2,7 @@
 
 ghost use Rattle.std.specs.Prelude.{◌≡◌, None, length, List, IfOk, IfErr};
 ghost use Rattle.exact_values.specs.Rational.{◌≤ℚ◌};
-ghost use Rattle.lp_definitions.specs.LinearProgram.{size, value_at};
+ghost use Rattle.lp_definitions.specs.LinearProgram.{size, value_at, IsLinearProgram};
 ghost use Rattle.lp_definitions.specs.Basis.{Basics, ArePricesOf, IsOptimalBasis, IsPointOf};
 ghost use Rattle.lp_model.specs.RatesCalls.{IfOverflow};
 ghost use Rattle.path_laws.specs.Laws.{IsNonsingularBasis};
@@ -77,6 +77,7 @@ pub fn part(
     run: &ParaRhs,
     from: Frac,
 ) -> Result<ParaPart, Stop>
+    requires lawful { IsLinearProgram lp.now }
     requires no_change { lp.now.change ≡ None }
     requires basis { IsNonsingularBasis lp.now basis.now }
     requires point { IsPointOf lp.now basis.now (value_at value.now) }
