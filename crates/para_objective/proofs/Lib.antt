@@ -7,3 +7,5 @@ pub mod IntervalFacts
 pub mod RunEvidence
 pub mod FaceFacts
 pub mod FaceWalk
+pub mod ChainWalk
+pub mod OpeningFacts

@@ -1,33 +1,45 @@
 -- A run of the objective, as code makes it.
+--     StandsAt                     a run stands at a basis after so many steps
 --     ChainEnds                    the chain of intervals from s has ended at now, with this run
 --     OpensFrom                    a run that may open its first interval at the basis s
 --     ChainStops, ChainFollows     what holds of each such run after a call that has stopped; where the waypoints lie then
 --     ObjectiveEnds, ObjectiveStops, ObjectiveFollows     what the whole call promises
 use Rattle.std.specs.Prelude.{◌≡◌, ℕ, ◌+◌, ◌≤◌, List, map, length}
+use Rattle.exact_values.specs.Rational.{ℚ}
 use Rattle.lp_definitions.specs.LinearProgram.{LinearProgram}
 use Rattle.lp_definitions.specs.Basis.{Basics}
 use Rattle.lp_definitions.specs.declared.Status.{Status}
 use Rattle.lp_model.specs.declared.reports.ParaReport.{ParaReport}
 use Rattle.lp_model.specs.declared.reports.ParaRun.{ParaRun}
 use Rattle.path_definitions.specs.Path.{last_of}
-use Rattle.postoptimal_definitions.specs.Chain.{IsChain}
+use Rattle.postoptimal_definitions.specs.Chain.{IsChain, Place, basis_of}
 use Rattle.bounded_primal.specs.declared.moves.PrimalStop.{PrimalStop}
 use Rattle.run_calls.specs.Calls.{part_of, end_of, RunEnds, WaypointsFollowRun, RunOverflows, RunStops}
 use Rattle.run_calls.specs.Truth.{IsTrueReported}
-use Rattle.run_calls.specs.Walks.{MayOpen}
+use Rattle.run_calls.specs.Walks.{HasRun, MayOpen}
 use Rattle.para_objective.specs.Faces.{family, Face, statement}
 use Rattle.para_objective.specs.declared.parts.ParaObj.{ParaObj}
 
 module _ (p : LinearProgram) (run : ParaObj) where
-  pub record ChainEnds (s now : List Status) (begun : ℕ) (report : ParaRun) : Type 0 where
-    pub path : List (List Status)
-    pub chain : IsChain (family p run) (Face p run) run.to run.from s (map part_of report.parts) (end_of report.end) path
-    pub reaches : last_of s path ≡ now
-    pub within : begun + length path ≤ run.limit
-
   -- a run from start whose opening has come to s after so many steps, with the waypoints ways
   abbrev pub OpensFrom : List Status → List Basics → List Status → List Basics → ℕ → Type 0
   OpensFrom start before s ways begun = MayOpen (family p run) (Face p run) run.from run.to p.matrix start before run.from s ways begun
+
+  -- it stands at now after so many steps
+  pub record StandsAt (start : List Status) (before : List Basics) (now : List Status) (ways : List Basics) (steps : ℕ) : Type 0 where
+    pub place : Place
+    pub ends : List ℚ
+    pub is_now : basis_of place ≡ now
+    pub run_there : HasRun (family p run) (Face p run) run.from run.to p.matrix start before place ends ways steps
+
+  pub record ChainEnds (s now : List Status) (begun : ℕ) (ways more : List Basics) (report : ParaRun) : Type 0 where
+    pub path : List (List Status)
+    pub chain : IsChain (family p run) (Face p run) run.to run.from s (map part_of report.parts) (end_of report.end) path
+    pub reaches : last_of s path ≡ now
+    pub steps : ℕ
+    pub taken : begun + length path ≡ steps
+    pub within : steps ≤ run.limit
+    pub stood : (start : List Status) (before : List Basics) → OpensFrom start before s ways begun → StandsAt start before now more steps
 
   abbrev pub ChainStops : List Status → List Status → ℕ → List Basics → List Basics → PrimalStop → Type 0
   ChainStops s now begun ways more stop =
@@ -41,8 +53,8 @@ module _ (p : LinearProgram) (run : ParaObj) where
       WaypointsFollowRun (family p run) (Face p run) run.from run.to start now run.limit p.matrix before more
 
   -- the run from s has ended at now within the limit, with this report
-  abbrev pub ObjectiveEnds : List Status → List Status → ParaReport → Type 0
-  ObjectiveEnds s now = RunEnds (family p run) (Face p run) run.from run.to s now run.limit
+  abbrev pub ObjectiveEnds : List Status → List Status → List Basics → List Basics → ParaReport → Type 0
+  ObjectiveEnds s now before after = RunEnds (family p run) (Face p run) run.from run.to s now run.limit p.matrix before after
 
   -- Limit comes where the run goes on after as many steps as the limit, and an overflow with its evidence
   abbrev pub ObjectiveStops : List Status → List Status → List Basics → List Basics → PrimalStop → Type 0

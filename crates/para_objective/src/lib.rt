@@ -12,3 +12,4 @@ mod run;
 pub use breaks::face_mover;
 pub use parts::ParaObj;
 pub use reaching::reach;
+pub use run::para_obj;

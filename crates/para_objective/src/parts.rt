@@ -25,7 +25,7 @@ pub struct ParaObj {
 }
 
 /// A copy.
-fn copied(alloc: Global, values: &[Frac]) -> Result<Vec<Frac>, NoMemory>
+pub fn copied(alloc: Global, values: &[Frac]) -> Result<Vec<Frac>, NoMemory>
     ensures { IfOk result (λ copy. copy.items ≡ values.now) }
 {
     let copy = Vec::from_slice(alloc, values)?;
