@@ -32,7 +32,7 @@ use Rattle.run_calls.proofs.Chains.{last_append}
 use Rattle.run_calls.proofs.Walks.{opening_reaches, opening_run, opens_first}
 use Rattle.sweep_laws.proofs.NotBoth.{same_path}
 use Rattle.sweep_laws.proofs.OneRun.{objective_faces}
-use Rattle.sweep_laws.proofs.Objective.{to_objective, from_objective}
+use Rattle.sweep_laws.proofs.Objective.{to_objective}
 use Rattle.sweep_laws.proofs.OneObjective.{lawful_objective}
 use Rattle.sweep_truth.proofs.Runs.{objective_runs}
 use Rattle.para_objective.specs.Faces.{family, Face, statement}
@@ -132,6 +132,18 @@ module _ (p : LinearProgram) (run : ParaObj) (s now : List Status) (before after
 
 -- ---- where the opening path has ended
 
+abbrev pub IsFailed : Outcome → Type 0
+IsFailed (Optimal steps point prices) = ⊥
+IsFailed (Crossed k) = Unit {0}
+IsFailed (Infeasible steps ray) = Unit {0}
+IsFailed (Unbounded steps point direction) = Unit {0}
+
+failure_by : (steps : ℕ) (ending : Ending) (outcome : Outcome) → outcome ≡ outcome_of steps ending → IsFailed outcome → IsFailure ending
+failure_by steps (EndsOptimal z y) outcome e failed = subst IsFailed e failed
+failure_by steps (EndsCrossed k) outcome e failed = tt
+failure_by steps (EndsInfeasible w) outcome e failed = tt
+failure_by steps (EndsUnbounded z d) outcome e failed = tt
+
 module _ (p : LinearProgram) (run : ParaObj) (lawful : IsLinearProgram p) (row : IsRow p.matrix run.row) (free : HasNoLimits p run.row) (s now : List Status) (at : IsNonsingularBasis p s)
     (before after : List Basics) (outcome : Outcome) (ends : CallEnds (family p run run.from) s now run.limit outcome) (follow : WaypointsFollow (family p run run.from) s now before after) where
   first_lawful : IsLinearProgram (family p run run.from)
@@ -150,7 +162,7 @@ module _ (p : LinearProgram) (run : ParaObj) (lawful : IsLinearProgram p) (row :
   lie_there earlier lie = subst (λ xs. LieIn p.matrix after (earlier ++ s ∷ xs)) same_bases (follow.lie earlier lie)
 
   -- an opening that isn't optimal ends the run
-  pub opening_ends : IsFailure ends.ending → ObjectiveEnds p run s now before after (Opening outcome)
+  opening_ends : IsFailure ends.ending → ObjectiveEnds p run s now before after (Opening outcome)
   opening_ends failure = record {
     bases = ends.bases;
     is_report = record { ending = ends.ending; opens = record { opens = ends.ends; is_failure = failure }; is_outcome = ends.is_outcome };
@@ -158,6 +170,11 @@ module _ (p : LinearProgram) (run : ParaObj) (lawful : IsLinearProgram p) (row :
     within = ends.within;
     lie = lie_there;
   }
+
+  pub opening_reported : (other : Outcome) → outcome ≡ other → IsFailed other → ObjectiveEnds p run s now before after (Opening other)
+  opening_reported other is failed =
+      subst (λ o. ObjectiveEnds p run s now before after (Opening o)) is
+      (opening_ends (failure_by (length ends.bases) ends.ending outcome ends.is_outcome (subst IsFailed (sym is) failed)))
 
   -- an optimal one is that of a basis that is optimal at the first value
   module _ (steps : ℕ) (point prices : List ℚ) (is : outcome ≡ Optimal steps point prices) where
@@ -191,9 +208,6 @@ module _ (p : LinearProgram) (run : ParaObj) (lawful : IsLinearProgram p) (row :
     first_point =
         let there = (optimal_end (family p run run.from) now at_end.z at_end.y first_lawful now_at ends_now).point in
         subst (λ z. IsPointOf p now (value_at z)) at_end.is_point (record { keeps = there.keeps; placed = there.placed })
-
-    pub first_within : steps ≤ run.limit
-    first_within = let within = ends.within in let same = at_end.is_steps in omega (arith, within, same)
 
     -- the run may open its first interval
     pub first_opens : OpensFrom p run s before now after steps

@@ -205,10 +205,38 @@ fn two_intervals(rt: HostRuntime) -> Result<(), Fail> {
     let parts = run.parts.items();
     assert_eq!(rt; parts.len(), 2);
     let (first, second) = (Status::Bs, Status::Ul);
-    assert!(rt; goes(&parts[0], 0, 1, [first, first, second, Status::Ll, first, Status::Ll]));
-    assert!(rt; shows(&parts[0], [-8, 0, 4, 0, 4, 0], [0, 0, -2, 1, 0, 0], [0, 0, 0, -1, 0, 0]));
-    assert!(rt; goes(&parts[1], 1, 5, [first, first, second, second, first, Status::Ll]));
-    assert!(rt; shows(&parts[1], [-5, -3, 4, 3, 1, 0], [0, 0, -2, 1, 0, 0], [0, 0, 0, -1, 0, 0]));
+    assert!(rt;
+        goes(
+            &parts[0],
+            0,
+            1,
+            [first, first, second, Status::Ll, first, Status::Ll]
+        )
+    );
+    assert!(rt;
+        shows(
+            &parts[0],
+            [-8, 0, 4, 0, 4, 0],
+            [0, 0, -2, 1, 0, 0],
+            [0, 0, 0, -1, 0, 0]
+        )
+    );
+    assert!(rt;
+        goes(
+            &parts[1],
+            1,
+            5,
+            [first, first, second, second, first, Status::Ll]
+        )
+    );
+    assert!(rt;
+        shows(
+            &parts[1],
+            [-5, -3, 4, 3, 1, 0],
+            [0, 0, -2, 1, 0, 0],
+            [0, 0, 0, -1, 0, 0]
+        )
+    );
     assert!(rt; matches!(run.end, ParaEnd::AtMax));
     Ok(())
 }
@@ -253,10 +281,31 @@ fn free_column(rt: HostRuntime) -> Result<(), Fail> {
     let parts = run.parts.items();
     assert_eq!(rt; parts.len(), 2);
     let (basic, lower) = (Status::Bs, Status::Ll);
-    assert!(rt; goes(&parts[0], 0, 0, [basic, basic, basic, Status::Fr, lower, lower]));
-    assert!(rt; shows(&parts[0], [0, 0, 0, 0, 0, 0], [0, 0, 0, 0, 0, 0], [0, 0, 0, 1, 0, 0]));
+    assert!(rt;
+        goes(
+            &parts[0],
+            0,
+            0,
+            [basic, basic, basic, Status::Fr, lower, lower]
+        )
+    );
+    assert!(rt;
+        shows(
+            &parts[0],
+            [0, 0, 0, 0, 0, 0],
+            [0, 0, 0, 0, 0, 0],
+            [0, 0, 0, 1, 0, 0]
+        )
+    );
     assert!(rt; goes(&parts[1], 0, 5, [basic, basic, lower, basic, lower, lower]));
-    assert!(rt; shows(&parts[1], [0, -3, -3, -3, 0, 0], [0, 0, 0, 0, 0, 0], [0, 0, 1, 0, 0, 0]));
+    assert!(rt;
+        shows(
+            &parts[1],
+            [0, -3, -3, -3, 0, 0],
+            [0, 0, 0, 0, 0, 0],
+            [0, 0, 1, 0, 0, 0]
+        )
+    );
     Ok(())
 }
 
@@ -276,9 +325,23 @@ fn three_movers(rt: HostRuntime) -> Result<(), Fail> {
     assert_eq!(rt; parts.len(), 2);
     let (basic, lower, upper) = (Status::Bs, Status::Ll, Status::Ul);
     assert!(rt; goes(&parts[0], 0, 1, [basic, basic, basic, lower, lower, lower]));
-    assert!(rt; shows(&parts[0], [0, 0, 0, 0, 0, 0], [0, 0, 0, 1, 1, 1], [0, 0, 0, -1, -1, -1]));
+    assert!(rt;
+        shows(
+            &parts[0],
+            [0, 0, 0, 0, 0, 0],
+            [0, 0, 0, 1, 1, 1],
+            [0, 0, 0, -1, -1, -1]
+        )
+    );
     assert!(rt; goes(&parts[1], 1, 4, [basic, basic, upper, upper, upper, basic]));
-    assert!(rt; shows(&parts[1], [5, -5, 5, 1, 2, 2], [0, 0, 1, 0, 0, 0], [0, 0, -1, 0, 0, 0]));
+    assert!(rt;
+        shows(
+            &parts[1],
+            [5, -5, 5, 1, 2, 2],
+            [0, 0, 1, 0, 0, 0],
+            [0, 0, -1, 0, 0, 0]
+        )
+    );
     Ok(())
 }
 
@@ -295,8 +358,22 @@ fn greatest_objective(rt: HostRuntime) -> Result<(), Fail> {
     assert_eq!(rt; parts.len(), 2);
     let (basic, lower) = (Status::Bs, Status::Ll);
     assert!(rt; goes(&parts[0], 0, 1, [basic, basic, basic, lower, lower, lower]));
-    assert!(rt; goes(&parts[1], 1, 2, [basic, basic, basic, Status::Ul, lower, lower]));
-    assert!(rt; shows(&parts[1], [-3, 3, 0, 3, 0, 0], [0, 0, 0, -1, 0, 0], [0, 0, 0, 1, 0, 0]));
+    assert!(rt;
+        goes(
+            &parts[1],
+            1,
+            2,
+            [basic, basic, basic, Status::Ul, lower, lower]
+        )
+    );
+    assert!(rt;
+        shows(
+            &parts[1],
+            [-3, 3, 0, 3, 0, 0],
+            [0, 0, 0, -1, 0, 0],
+            [0, 0, 0, 1, 0, 0]
+        )
+    );
     Ok(())
 }
 
@@ -331,9 +408,11 @@ fn opening_without_bound(rt: HostRuntime) -> Result<(), Fail> {
     let x = column(-1, 0, 0, Some(0), None);
     let lp = program(rt.alloc(), Sense::Min, None, None, x, still(), still())?;
     let report = ran(rt.alloc(), &lp, 5, 10)?;
-    assert!(rt; matches!(
-        report,
-        Some(Ok(ParaReport::Opening(Outcome::Unbounded { .. })))
-    ));
+    assert!(rt;
+        matches!(
+            report,
+            Some(Ok(ParaReport::Opening(Outcome::Unbounded { .. })))
+        )
+    );
     Ok(())
 }
