@@ -60,7 +60,7 @@ step_number n term h = grind arith
 step_brings_not : (n term : ℕ) → (is_between 1 12 n && (not (nat_eq n 6) || not (nat_eq term 3))) ≡ true → nat_eq n 14 ≡ false
 step_brings_not n term h = grind arith
 
-step_belongs : (n term : ℕ) → (is_between 1 12 n && (not (nat_eq n 6) || not (nat_eq term 3))) ≡ true → ((is_between 1 14 n || nat_eq n 18) && (not (nat_eq n 6) || not (nat_eq term 3))) ≡ true
+pub step_belongs : (n term : ℕ) → (is_between 1 12 n && (not (nat_eq n 6) || not (nat_eq term 3))) ≡ true → ((is_between 1 14 n || nat_eq n 18) && (not (nat_eq n 6) || not (nat_eq term 3))) ≡ true
 step_belongs n term h = grind arith
 
 step_moves : (n : ℕ) → is_between 8 9 n ≡ true → is_between 7 9 n ≡ true

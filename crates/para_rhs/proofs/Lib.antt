@@ -17,3 +17,5 @@ pub mod FaceFacts
 pub mod FaceWalk
 pub mod FaceEvidence
 pub mod IntervalFacts
+pub mod ChainWalk
+pub mod OpeningFacts

@@ -139,12 +139,12 @@ module _ (p : LinearProgram) (shift : List ℚ) (lawful : IsLinearProgram p) (s 
 -- past a value between the ends, those between them are those up to the upper one
 module _ (low high : Option End) (from : ℚ) (starts : IsBetweenEnds (record { low = low; high = high }) from) where
   above_low : (o : Option End) → IsBefore false o from → (x : ℚ) → from ≤ℚ x → IsBefore false o x
-  above_low None h x forward = tt
-  above_low (Some e) h x forward = le_trans h forward
+  above_low None h x after = tt
+  above_low (Some e) h x after = le_trans h after
 
   below_high : (o : Option End) (max : ℚ) → IsSome o → (x : ℚ) → IsBefore true o x ↔ (x ≤ℚ unwrap_or (option_map (λ e. e.value) o) max)
   below_high None max there x = absurd (let P : IsSome (let o : Option End = None in o) → ⊥ = λ e. cc in P there)
   below_high (Some e) max there x = (λ h. h, λ h. h)
 
   pub up_to_high : (max : ℚ) → IsSome high → (x : ℚ) → from ≤ℚ x → IsBetweenEnds (record { low = low; high = high }) x ↔ (x ≤ℚ unwrap_or (option_map (λ e. e.value) high) max)
-  up_to_high max there x forward = (λ b. (below_high high max there x).0 b.1, λ le. (above_low low starts.0 x forward, (below_high high max there x).1 le))
+  up_to_high max there x after = (λ b. (below_high high max there x).0 b.1, λ le. (above_low low starts.0 x after, (below_high high max there x).1 le))

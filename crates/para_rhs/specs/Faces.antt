@@ -86,6 +86,13 @@ module _ (p : LinearProgram) (run : ParaRhs) where
     pub prices : ArePricesOf p now y
     pub any : AnyRun theta s now ways more begun steps
 
+  -- the run ends at now, after so many steps
+  pub record FacesEnd (theta : ℚ) (s now : List Status) (begun : ℕ) (end : ParaEnd) (ways more : List Basics) : Type 0 where
+    pub steps : ℕ
+    pub reach : FacesReach theta s now begun steps
+    pub ends : Face theta now (FaceEnds (end_of end))
+    pub any : AnyRun theta s now ways more begun steps
+
   -- a stop of each run that stood at s, which has come to now
   abbrev pub FacesStop : ℚ → List Status → List Status → ℕ → List Basics → List Basics → PrimalStop → Type 0
   FacesStop theta s now begun ways more stop =
@@ -97,8 +104,7 @@ module _ (p : LinearProgram) (run : ParaRhs) where
   abbrev pub FacesFound : Result AfterFaces PrimalStop → ℚ → List Status → List Status → ℕ → Vector → Vector → Vector →
       List Basics → List Basics → Type 0
   FacesFound (Ok (faces.Done steps)) theta s now begun z v y ways more = FacesDone theta s now begun steps z v y ways more
-  FacesFound (Ok (faces.Ends end)) theta s now begun z v y ways more =
-      (steps : ℕ) × FacesReach theta s now begun steps × Face theta now (FaceEnds (end_of end))
+  FacesFound (Ok (faces.Ends end)) theta s now begun z v y ways more = FacesEnd theta s now begun end ways more
   FacesFound (Err stop) theta s now begun z v y ways more = FacesStop theta s now begun ways more stop
 
   abbrev pub FacesFollow : ℚ → List Status → List Status → ℕ → List Basics → List Basics → Type 0

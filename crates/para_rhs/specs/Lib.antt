@@ -6,3 +6,4 @@ pub mod Cheapest
 pub mod Breaks
 pub mod Parts
 pub mod Faces
+pub mod Runs

@@ -8,6 +8,7 @@ mod limits;
 mod parts;
 mod ratios;
 mod reaching;
+mod run;
 mod slopes;
 
 pub use breaks::{Leaver, face_leaver};
@@ -15,4 +16,5 @@ pub use limits::{Side, program_at};
 pub use parts::ParaRhs;
 pub use ratios::cheapest;
 pub use reaching::reach;
+pub use run::para_rhs;
 pub use slopes::slope_of;

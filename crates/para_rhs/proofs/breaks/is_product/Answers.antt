@@ -1,4 +1,3 @@
-use Rattle.para_rhs.proofs.FaceFacts.{face_done}
 use Rattle.std.proofs.Common.{rules, ◌≡◌, sym, subst, ap, ◌∙◌}
 use Rattle.exact_values.specs.Rational.{ℚ, ◌*ℚ◌}
 use Rattle.exact_values.specs.Tests.{eq_ℚ}

@@ -40,6 +40,16 @@ returns-in-Done-clause-found g c =
 pub returns-in-Done-clause-waypoints : goal.returns-in-Done-clause-waypoints
 returns-in-Done-clause-waypoints g c = any_follows c.args.lp.now c.args.run.now c.args.theta c.args.basis.now c.args.begun (g.R.Rates.waypoints c.args.rates.now) c.turns.basis (g.R.Rates.waypoints c.face_turn.new.rates) c.turns.steps (any_later c.args.lp.now c.args.run.now c.args.theta c.args.basis.now c.args.begun (g.R.Rates.waypoints c.args.rates.now) c.turns.basis (g.R.Rates.waypoints c.turns.rates) c.turns.steps c.turns.invariant.any (g.R.Rates.waypoints c.face_turn.new.rates) c.in_ok-face_turn.ensures.waypoints) c.turns.invariant.reach.within
 
+pub returns-in-Ends-clause-found : goal.returns-in-Ends-clause-found
+returns-in-Ends-clause-found g c =
+    let ends = rw c.in-Ends.is at c.in_ok-face_turn.ensures.turn in
+    record {
+      steps = c.turns.steps;
+      reach = c.turns.invariant.reach;
+      ends = ends;
+      any = any_later c.args.lp.now c.args.run.now c.args.theta c.args.basis.now c.args.begun (g.R.Rates.waypoints c.args.rates.now) c.turns.basis (g.R.Rates.waypoints c.turns.rates) c.turns.steps c.turns.invariant.any (g.R.Rates.waypoints c.face_turn.new.rates) c.in_ok-face_turn.ensures.waypoints;
+    }
+
 pub returns-in-Ends-clause-waypoints : goal.returns-in-Ends-clause-waypoints
 returns-in-Ends-clause-waypoints g c = any_follows c.args.lp.now c.args.run.now c.args.theta c.args.basis.now c.args.begun (g.R.Rates.waypoints c.args.rates.now) c.turns.basis (g.R.Rates.waypoints c.face_turn.new.rates) c.turns.steps (any_later c.args.lp.now c.args.run.now c.args.theta c.args.basis.now c.args.begun (g.R.Rates.waypoints c.args.rates.now) c.turns.basis (g.R.Rates.waypoints c.turns.rates) c.turns.steps c.turns.invariant.any (g.R.Rates.waypoints c.face_turn.new.rates) c.in_ok-face_turn.ensures.waypoints) c.turns.invariant.reach.within
 
