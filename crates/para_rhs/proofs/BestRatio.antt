@@ -1,6 +1,6 @@
 -- The best candidate, with one variable more.
-use Rattle.std.proofs.Common.{◌≡◌, ◌≢◌, ℕ, suc, ◌-◌, ◌+◌, ◌<◌, ◌≤◌, List, Bool, true, false, cond, refl, sym, ap, ap₂, subst, subst₂, ◌∙◌, ◌⊎◌, inl, inr, arith}
-use Rattle.std.specs.Prelude.{Option, Some, None, IfSome, option_map, not, ◌&&◌, ◌||◌}
+use Rattle.std.proofs.Common.{◌≡◌, ◌≢◌, ℕ, suc, ◌-◌, ◌<◌, ◌≤◌, List, Bool, true, false, cond, refl, sym, ap, ap₂, subst, subst₂, ◌∙◌, arith}
+use Rattle.std.specs.Prelude.{Option, Some, None, option_map, not, ◌&&◌, ◌||◌}
 use Rattle.std.specs.List.{list_all}
 use Rattle.exact_values.specs.Rational.{ℚ, zero_ℚ, ◌/ℚ◌}
 use Rattle.exact_values.specs.Tests.{le_ℚ, lt_ℚ, magnitude}
@@ -11,11 +11,11 @@ use Rattle.lp_definitions.specs.LinearProgram.{LinearProgram, Vector, size, vari
 use Rattle.lp_definitions.specs.declared.Evidence.{Evidence}
 use Rattle.lp_definitions.specs.declared.Status.{Status}
 use Rattle.lp_laws.proofs.Values.{clash}
-use Rattle.path_definitions.specs.Moves.{least, is_no_later, lowers, signed, may_rise, may_fall}
-use Rattle.path_laws.proofs.Numbered.{find_first, find_nothing, list_all_from, list_all_true}
+use Rattle.path_definitions.specs.Moves.{is_no_later, signed, may_rise, may_fall}
+use Rattle.path_laws.proofs.Numbered.{find_first, list_all_from, list_all_true}
 use Rattle.path_laws.proofs.Searches.{least_none}
 use Rattle.bounded_primal.specs.Formulas.{IsRefusal}
-use Rattle.bounded_primal.specs.Reach.{IsNearest, IsFirst, sooner}
+use Rattle.bounded_primal.specs.Reach.{IsNearest, sooner}
 use Rattle.bounded_primal.proofs.Nearest.{next_nearest}
 use Rattle.sweep_laws.proofs.Leads.{signed_zero}
 use Rattle.para_rhs.specs.Cheapest.{brings, ratio_of, cheapest_by, ratio_if, ratio_at, reach_by, IsCandidate, IsBest, ratio_formula, KeptRefused, of_best, of_other, SomeRatioRefused}

@@ -1,19 +1,18 @@
 -- A step of the dual method keeps the objective's rates right: a basic r goes to a limit, and of the nonbasics that may bring it there
 -- one with the least ratio takes its place.
 use Rattle.std.proofs.Common.{◌≡◌, ◌≢◌, ℕ, ◌⊎◌, inl, inr, Bool, true, false, List, length, refl, sym, ap, ap₂, subst, ◌∙◌, pos}
-use Rattle.std.specs.Prelude.{None, ◌&&◌, ◌||◌, not, eqb, cond, if◌then◌else◌}
+use Rattle.std.specs.Prelude.{None, ◌&&◌, ◌||◌, not, eqb, if◌then◌else◌}
 use Rattle.std.proofs.lemmas.Bool.Decides.{eqb_tells}
 use Rattle.std.proofs.lemmas.List.{length-set}
 use Rattle.exact_values.specs.Rational.{ℚ, zero_ℚ, one_ℚ, neg_ℚ, ◌+ℚ◌, ◌-ℚ◌, ◌*ℚ◌, ◌/ℚ◌, ◌≤ℚ◌, ◌<ℚ◌}
 use Rattle.exact_values.specs.Tests.{lt_ℚ, magnitude}
 use Rattle.exact_values.proofs.Inverse.{div-mul_cancel, zero_or_not}
-use Rattle.exact_values.proofs.Order.{le_of_lt, le_by_one, le_by_two, lt_or_le, lt_not_le, mul-le-mul_left, le_by_product}
-use Rattle.exact_values.proofs.Ring.{by_ring1, by_ring2, by_ring3, by_ring4, ◌⊕◌, ◌⊖◌, ◌⊗◌, ◌≐◌, number, opposite}
+use Rattle.exact_values.proofs.Order.{le_of_lt, le_by_one, le_by_two, lt_or_le, le_by_product}
+use Rattle.exact_values.proofs.Ring.{by_ring1, by_ring2, by_ring3, ◌⊕◌, ◌⊖◌, ◌⊗◌, ◌≐◌, number, opposite}
 use Rattle.exact_values.proofs.Tests_laws.{lt_from_test, test_from_lt}
 use Rattle.changed_programs.proofs.Booleans.{betters_not, rises_right, falls_right}
 use Rattle.lp_definitions.specs.Basis.{is_in, basics_of, status_of, with_status, exchanged, IsBasic, IsNonbasic, AreRates, Tableau, IsTableau, objective_rate}
 use Rattle.lp_definitions.specs.LinearProgram.{LinearProgram, size, IsVariable, with_change_row, for_min}
-use Rattle.lp_definitions.specs.declared.Change.{Change}
 use Rattle.lp_definitions.specs.declared.Sense.{Sense}
 use Rattle.lp_definitions.specs.declared.Sense.TheVariants.{Min, Max}
 use Rattle.lp_definitions.specs.declared.Status.{Status}
@@ -27,7 +26,7 @@ use Rattle.path_definitions.specs.Moves.{rises_from, falls_from, is_fixed, lower
 use Rattle.path_definitions.specs.Path.{after, worth_rate, excess_rate}
 use Rattle.path_laws.specs.Laws.{IsNonsingularBasis}
 use Rattle.sweep_laws.proofs.Alike.{lowers_idle}
-use Rattle.sweep_laws.proofs.Leads.{IsMover, is_mover, MayStand, exchange_leads, signed_zero}
+use Rattle.sweep_laws.proofs.Leads.{IsMover, is_mover, signed_zero}
 use Rattle.para_rhs.proofs.Magnitudes.{ratio_times, magnitude_least, magnitude_above, magnitude_below, magnitude-neg}
 
 -- ---- numbers

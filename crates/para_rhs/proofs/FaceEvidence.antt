@@ -1,10 +1,10 @@
 -- Evidence of the calls at a break is evidence of the run.
-use Rattle.std.proofs.Common.{◌≡◌, ◌≢◌, ℕ, ◌≤◌, inl, List, [], ◌∷◌, Bool, true, false, refl, sym, ◌∙◌, ap, subst, subst₂, arith}
-use Rattle.std.specs.Prelude.{Option, Some, None, IsTrue, not, ◌&&◌, ◌||◌, nat_eq, Contains}
+use Rattle.std.proofs.Common.{◌≡◌, ◌≢◌, ℕ, ◌≤◌, inl, List, ◌∷◌, true, false, refl, sym, ◌∙◌, ap, subst, subst₂, arith}
+use Rattle.std.specs.Prelude.{Some, None, not, ◌&&◌, ◌||◌, nat_eq}
 use Rattle.exact_values.specs.Rational.{ℚ, zero_ℚ, ◌-ℚ◌}
-use Rattle.evidence_definitions.specs.Evidence.{by_ratio, ShowsRefusal, IsOfMove, names_waypoint}
+use Rattle.evidence_definitions.specs.Evidence.{by_ratio, names_waypoint}
 use Rattle.evidence_definitions.specs.Formulas.{PointFormula, f6, f7, f14, number_of_limit}
-use Rattle.evidence_definitions.specs.Statements.{Primal, Pararhs, is_between, belongs, EntersAt, BringsAt}
+use Rattle.evidence_definitions.specs.Statements.{Pararhs, is_between, EntersAt, BringsAt}
 use Rattle.frac128.specs.declared.Op.TheVariants.{Div}
 use Rattle.lp_definitions.specs.Basis.{Basics, basics_of, IsBasic, IsNonbasic, IsDirectionOf, AreRates, ArePricesOf, IsPointOf, Tableau, IsTableau}
 use Rattle.lp_definitions.specs.LinearProgram.{LinearProgram, Vector, IsVariable, IsLinearProgram}
@@ -21,7 +21,6 @@ use Rattle.lp_model.specs.RatesCalls.{IsRowOf, IfOverflow}
 use Rattle.lp_model.specs.declared.Stop.{Stop}
 use Rattle.lp_model.specs.declared.Stop.TheVariants as stop
 use Rattle.path_definitions.specs.Moves.{signed}
-use Rattle.path_definitions.specs.Path.{Move}
 use Rattle.path_laws.specs.Laws.{IsNonsingularBasis}
 use Rattle.postoptimal_definitions.specs.Chain.{FaceMoves}
 use Rattle.postoptimal_definitions.specs.RhsRun.{rhs_family, IsSlope, IsRhsFace}

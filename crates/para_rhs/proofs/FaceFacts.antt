@@ -1,18 +1,18 @@
 -- What is done at a break, from what the calls there found.
-use Rattle.std.proofs.Common.{◌≡◌, ◌≢◌, ℕ, Bool, true, false, List, length, cond, refl, sym, ap, ap₂, subst, ◌∙◌, pos, arith}
-use Rattle.std.specs.Prelude.{Option, Some, None, IsSome, IsTrue, unwrap_or, ◌&&◌, ◌||◌, not, nat_eq, option_map, if◌then◌else◌}
+use Rattle.std.proofs.Common.{◌≡◌, ◌≢◌, ℕ, Bool, true, false, List, length, refl, sym, ap, subst, ◌∙◌, pos, arith}
+use Rattle.std.specs.Prelude.{Option, Some, None, IsTrue, unwrap_or, ◌&&◌, ◌||◌, not, nat_eq, option_map, if◌then◌else◌}
 use Rattle.exact_values.specs.Rational.{ℚ, zero_ℚ, one_ℚ, neg_ℚ, ◌-ℚ◌, ◌/ℚ◌, ◌≤ℚ◌}
-use Rattle.exact_values.specs.Tests.{eq_ℚ, lt_ℚ, le_ℚ}
+use Rattle.exact_values.specs.Tests.{eq_ℚ, le_ℚ}
 use Rattle.exact_values.proofs.Ring.{by_ring2, ◌⊕◌, ◌⊗◌, ◌≐◌, number}
 use Rattle.exact_values.proofs.Tests_laws.{same_from_test, le_from_test}
 use Rattle.changed_programs.specs.Changes.{ChangeIsRow, HasRows, IsRightTableau}
 use Rattle.changed_programs.proofs.Tableaus.{by_tableau}
 use Rattle.evidence_definitions.specs.Formulas.{limit_numbered, number_of_limit}
-use Rattle.lp_definitions.specs.Basis.{is_in, basics_of, status_of, with_status, IsBasic, IsNonbasic, IsDirectionOf, ArePricesOf, StandsAt, IsOptimalBasis, IsPointOf, Tableau, IsTableau}
-use Rattle.lp_definitions.specs.LinearProgram.{LinearProgram, Vector, size, value_at, variables, IsVariable, IsLinearProgram, lower_of, upper_of}
+use Rattle.lp_definitions.specs.Basis.{is_in, basics_of, IsBasic, IsNonbasic, IsDirectionOf, ArePricesOf, StandsAt, IsOptimalBasis, IsPointOf, Tableau, IsTableau}
+use Rattle.lp_definitions.specs.LinearProgram.{LinearProgram, Vector, size, value_at, IsVariable, IsLinearProgram, lower_of, upper_of}
 use Rattle.lp_definitions.specs.declared.Change.{Change}
 use Rattle.lp_definitions.specs.declared.Status.{Status}
-use Rattle.lp_definitions.specs.declared.Status.TheVariants.{Bs, Ll, Ul}
+use Rattle.lp_definitions.specs.declared.Status.TheVariants.{Ll, Ul}
 use Rattle.lp_laws.proofs.Points.{IsPointOf-replaced}
 use Rattle.lp_laws.proofs.Uniqueness.{one_direction}
 use Rattle.lp_laws.specs.Vectors.{along}
@@ -20,22 +20,19 @@ use Rattle.lp_laws.specs.Rates.{exchanged_rate}
 use Rattle.lp_model.specs.RatesCalls.{IsRowOf}
 use Rattle.path_definitions.specs.DualRatio.{brings_back, ratio, is_cheapest, cheapest}
 use Rattle.path_definitions.specs.Moves.{on_limit, signed}
-use Rattle.path_definitions.specs.Path.{Move, after, listed, ray_of}
+use Rattle.path_definitions.specs.Path.{Move, after, ray_of}
 use Rattle.path_laws.specs.Laws.{IsNonsingularBasis}
 use Rattle.path_laws.proofs.Numbered.{list_all_true}
 use Rattle.path_laws.proofs.Searches.{found_passes}
 use Rattle.postoptimal_definitions.specs.Chain.{FaceMoves, FaceDone, FaceEnds, InfeasiblePast}
-use Rattle.postoptimal_definitions.specs.RhsRun.{shift_of, rhs_family, IsSlope, leaving, leaves_below, leaves_above, face_exchange, face_at, rhs_face, IsRhsFace}
-use Rattle.bounded_primal.specs.Moves.{return_by, IsStepBy, brings, move_by}
+use Rattle.postoptimal_definitions.specs.RhsRun.{rhs_family, IsSlope, leaving, leaves_below, leaves_above, face_exchange, face_at, rhs_face, IsRhsFace}
+use Rattle.bounded_primal.specs.Moves.{return_by, IsStepBy, brings}
 use Rattle.bounded_primal.specs.Turns.{ray_from}
-use Rattle.bounded_primal.specs.declared.moves.Stopper.{Stopper}
 use Rattle.bounded_primal.proofs.Existence.{rates_exist}
 use Rattle.bounded_primal.proofs.SameChoices.{listed_is}
 use Rattle.sweep_laws.proofs.Leads.{and_parts, signed_zero}
-use Rattle.sweep_laws.proofs.OneRhs.{lawful_rhs}
 use Rattle.sweep_laws.proofs.Rhs.{to_rhs, rhs_leads}
-use Rattle.sweep_truth.proofs.Intervals.{point_feasible}
-use Rattle.sweep_truth.proofs.RhsLimits.{moved, lower_is, upper_is}
+use Rattle.sweep_truth.proofs.RhsLimits.{lower_is, upper_is}
 use Rattle.para_rhs.specs.Breaks.{IsFaceLeaver}
 use Rattle.para_rhs.specs.Cheapest.{brings as may_bring, cheapest_by}
 use Rattle.para_rhs.specs.Limits.{is_upper}

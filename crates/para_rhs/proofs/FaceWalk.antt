@@ -1,13 +1,13 @@
 -- From face step to face step, and to the next interval.
-use Rattle.std.proofs.Common.{◌≡◌, ℕ, ◌+◌, ◌-◌, ◌<◌, ◌≤◌, List, [], ◌∷◌, ◌++◌, length, refl, sym, ap, subst, ◌∙◌, arith}
+use Rattle.std.proofs.Common.{◌≡◌, ℕ, ◌+◌, ◌-◌, ◌<◌, ◌≤◌, List, [], ◌∷◌, ◌++◌, length, refl, sym, subst, arith}
 use Rattle.std.proofs.lemmas.List.{length-append}
 use Rattle.exact_values.specs.Rational.{ℚ}
-use Rattle.lp_definitions.specs.LinearProgram.{LinearProgram, Vector}
+use Rattle.lp_definitions.specs.LinearProgram.{LinearProgram}
 use Rattle.lp_definitions.specs.Basis.{Basics, basics_of}
 use Rattle.lp_definitions.specs.Waypoints.{KeepsWaypoints}
 use Rattle.lp_definitions.specs.declared.Status.{Status}
 use Rattle.lp_laws.proofs.WaypointLaws.{keeps_then}
-use Rattle.path_definitions.specs.Path.{Move, after, last_of}
+use Rattle.path_definitions.specs.Path.{Move, after}
 use Rattle.postoptimal_definitions.specs.Chain.{FaceMoves, IsFaceStep, AtBreak}
 use Rattle.bounded_primal.specs.declared.moves.PrimalStop.{PrimalStop}
 use Rattle.run_calls.specs.Walks.{FaceStops}

@@ -1,16 +1,15 @@
 -- The variable that leaves, by values and slopes, is that of each tableau.
-use Rattle.std.proofs.Common.{◌≡◌, ◌≢◌, ℕ, suc, ◌+◌, ◌-◌, ◌<◌, ◌≤◌, List, length, get_or, Bool, true, false, cond, pos, refl, sym, ap, ap₂, subst, ◌∙◌, arith}
-use Rattle.std.specs.Prelude.{Option, Some, None, IfSome, IfErr, not, ◌&&◌, ◌||◌}
-use Rattle.exact_values.specs.Rational.{ℚ, zero_ℚ, one_ℚ, ◌+ℚ◌, ◌-ℚ◌, ◌*ℚ◌, ◌≤ℚ◌}
+use Rattle.std.proofs.Common.{◌≡◌, ℕ, List, Bool, true, false, cond, pos, refl, sym, ap, ap₂, ◌∙◌, arith}
+use Rattle.std.specs.Prelude.{Option, Some, None, not, ◌&&◌, ◌||◌}
+use Rattle.exact_values.specs.Rational.{ℚ, one_ℚ, ◌+ℚ◌, ◌-ℚ◌, ◌*ℚ◌, ◌≤ℚ◌}
 use Rattle.exact_values.specs.Tests.{eq_ℚ, lt_ℚ}
 use Rattle.exact_values.proofs.Order.{le_of_eq, le_of_lt}
-use Rattle.exact_values.proofs.Ring.{by_ring5, same_by_one, number, opposite, ◌⊕◌, ◌⊖◌, ◌⊗◌, ◌≐◌}
-use Rattle.exact_values.proofs.Tests_laws.{lt_from_test, test_from_lt, lt_fails_from_le, same_from_test, test_from_same, apart_from_eq_fails, eq_fails_from_apart}
+use Rattle.exact_values.proofs.Ring.{by_ring5, same_by_one, number, ◌⊕◌, ◌⊖◌, ◌⊗◌, ◌≐◌}
+use Rattle.exact_values.proofs.Tests_laws.{test_from_lt, lt_fails_from_le, same_from_test, test_from_same, apart_from_eq_fails, eq_fails_from_apart}
 use Rattle.lp_definitions.specs.Basis.{is_in, basics_of, IsPointOf, Tableau, IsTableau}
 use Rattle.lp_definitions.specs.LinearProgram.{LinearProgram, Vector, size, IsVariable, IsLinearProgram, lower_of, upper_of}
 use Rattle.lp_definitions.specs.declared.Status.{Status}
 use Rattle.lp_laws.proofs.Uniqueness.{one_point, same_from_nonbasics}
-use Rattle.lp_laws.proofs.Values.{clash}
 use Rattle.lp_laws.specs.Vectors.{along}
 use Rattle.path_definitions.specs.Moves.{least, on_limit}
 use Rattle.path_laws.proofs.Numbered.{find_same}
@@ -19,8 +18,8 @@ use Rattle.path_laws.specs.Laws.{IsNonsingularBasis}
 use Rattle.postoptimal_definitions.specs.RhsRun.{shift_of, rhs_family, IsSlope, leaves_below, leaves_above, leaving}
 use Rattle.sweep_laws.proofs.Rhs.{to_rhs}
 use Rattle.sweep_truth.proofs.RhsLimits.{moved, lower_is, upper_is}
-use Rattle.para_rhs.specs.Breaks.{stands_at, leaving_on, leaving_side, is_there, leaves, IsLeaverOf, IsLeaverAt, IsFaceLeaver}
-use Rattle.para_rhs.specs.Limits.{limit_on, is_upper}
+use Rattle.para_rhs.specs.Breaks.{stands_at, leaving_on, leaving_side, is_there, leaves, IsLeaverOf, IsLeaverAt}
+use Rattle.para_rhs.specs.Limits.{is_upper}
 use Rattle.para_rhs.specs.Reach.{side_ahead}
 use Rattle.para_rhs.specs.declared.breaks.Leaver.{Leaver}
 use Rattle.para_rhs.specs.declared.limits.Side.{Side}

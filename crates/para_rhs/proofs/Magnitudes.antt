@@ -4,10 +4,10 @@ use Rattle.std.specs.Prelude.{cond}
 use Rattle.exact_values.specs.Rational.{ℚ, zero_ℚ, neg_ℚ, ◌*ℚ◌, ◌/ℚ◌, ◌≤ℚ◌, ◌<ℚ◌}
 use Rattle.exact_values.specs.Tests.{lt_ℚ, le_ℚ, magnitude}
 use Rattle.exact_values.proofs.Inverse.{div-mul_cancel}
-use Rattle.exact_values.proofs.Order.{le_refl, le_of_lt, le_by_one, le_antisymm, lt_from_le, lt_not_le, lt_or_le, mul-le-mul_left, le_of_mul-le-mul_left, mul-positive}
+use Rattle.exact_values.proofs.Order.{le_refl, le_of_lt, le_by_one, le_antisymm, lt_from_le, lt_not_le, mul-le-mul_left, le_of_mul-le-mul_left, mul-positive}
 use Rattle.exact_values.proofs.Ring.{by_ring1, by_ring2, by_ring3, number, opposite, ◌⊕◌, ◌⊖◌, ◌⊗◌, ◌≐◌}
 use Rattle.exact_values.proofs.Ring_laws.{zero-mul, mul-zero}
-use Rattle.exact_values.proofs.Tests_laws.{lt_from_test, test_from_lt, le_from_lt_fails, lt_fails_from_le, le_from_test, test_from_le, le_fails_from_lt, lt_from_le_fails}
+use Rattle.exact_values.proofs.Tests_laws.{lt_from_test, le_from_lt_fails, le_from_test, test_from_le, le_fails_from_lt}
 
 neg_up : (u : ℚ) → u ≤ℚ zero_ℚ → zero_ℚ ≤ℚ neg_ℚ u
 neg_up u h = le_by_one h (by_ring1 u (λ u. opposite u ≐ number (pos 0) ⊕ (number (pos 0) ⊖ u)) refl)

@@ -1,14 +1,14 @@
 -- What one variable leaves of the values up to an end.
-use Rattle.std.proofs.Common.{◌≡◌, ◌≢◌, ℕ, ◌+◌, ◌≤◌, List, arith, cond, pos, refl, sym, subst, subst₂, ap, ◌∙◌, ◌<◌, ◌⊎◌, inl, inr, Bool, true, false}
-use Rattle.std.specs.Prelude.{◌↔◌, Option, Some, None, IfSome, IsSome, option_map, eqb}
+use Rattle.std.proofs.Common.{◌≡◌, ◌≢◌, ℕ, ◌+◌, List, arith, cond, pos, refl, sym, subst, subst₂, ap, ◌∙◌, ◌<◌, ◌⊎◌, inl, inr, Bool, true, false}
+use Rattle.std.specs.Prelude.{◌↔◌, Option, Some, None, IfSome, option_map, eqb}
 use Rattle.std.proofs.lemmas.Bool.Decides.{eqb_tells}
 use Rattle.exact_values.specs.Rational.{ℚ, zero_ℚ, neg_ℚ, ◌+ℚ◌, ◌-ℚ◌, ◌*ℚ◌, ◌≤ℚ◌, ◌<ℚ◌}
 use Rattle.exact_values.specs.Tests.{lt_ℚ}
 use Rattle.exact_values.proofs.Order.{le_by_one, lt_by_one, le_of_lt, le_refl, le_antisymm, lt_irrefl}
-use Rattle.exact_values.proofs.Ring.{by_ring1, by_ring2, by_ring4, same_by_one, number, opposite, ◌⊕◌, ◌⊖◌, ◌⊗◌, ◌≐◌}
+use Rattle.exact_values.proofs.Ring.{by_ring1, by_ring2, by_ring4, number, opposite, ◌⊕◌, ◌⊖◌, ◌⊗◌, ◌≐◌}
 use Rattle.exact_values.proofs.Tests_laws.{lt_from_test, le_from_lt_fails}
 use Rattle.affine_conditions.specs.Conditions.{Condition, Holds}
-use Rattle.affine_conditions.specs.Ends.{IsBetweenEnds, IsTightened}
+use Rattle.affine_conditions.specs.Ends.{IsTightened}
 use Rattle.affine_conditions.specs.declared.tightening.Ends.{Ends}
 use Rattle.affine_conditions.proofs.Single.{holds_on}
 use Rattle.changed_programs.specs.Changes.{SidesHold, condition}

@@ -1,6 +1,6 @@
 -- The list of the nonbasics, and sums over its first members.
-use Rattle.std.proofs.Common.{◌≡◌, ℕ, zero, suc, ◌+◌, ◌<◌, ◌≤◌, List, [], ◌∷◌, map, take, length, Bool, true, false, cond, refl, sym, ap, ap₂, ◌∙◌, arith}
-use Rattle.std.specs.Prelude.{Some, None, not, filter, slice_get}
+use Rattle.std.proofs.Common.{◌≡◌, ℕ, zero, suc, ◌+◌, ◌<◌, ◌≤◌, List, [], ◌∷◌, map, take, Bool, true, false, cond, refl, sym, ap, ap₂, ◌∙◌, arith}
+use Rattle.std.specs.Prelude.{Some, not, filter, slice_get}
 use Rattle.exact_values.specs.Rational.{ℚ, zero_ℚ}
 use Rattle.evidence_definitions.specs.Formulas.{nonbasics}
 use Rattle.lp_definitions.specs.Basis.{Basics, is_in, IsNonbasic}

@@ -1,5 +1,5 @@
 -- From the path of the opening to the run.
-use Rattle.std.proofs.Common.{◌≡◌, ℕ, ◌+◌, ◌-◌, ◌≤◌, inl, inr, true, false, List, [], ◌∷◌, ◌++◌, map, length, refl, sym, ap, subst, ◌∙◌, arith}
+use Rattle.std.proofs.Common.{◌≡◌, ℕ, ◌+◌, ◌-◌, inl, inr, true, false, List, [], ◌∷◌, ◌++◌, map, length, refl, sym, ap, subst, ◌∙◌, arith}
 use Rattle.std.specs.Prelude.{Option, Some, None, nat_eq, not, ◌&&◌, ◌||◌}
 use Rattle.std.proofs.lemmas.List.{length-append}
 use Rattle.exact_values.specs.Rational.{ℚ}
@@ -19,22 +19,20 @@ use Rattle.lp_model.specs.declared.reports.Outcome.TheVariants.{Optimal, Crossed
 use Rattle.lp_model.specs.declared.reports.ParaReport.TheVariants.{Opening, Run}
 use Rattle.lp_model.specs.declared.reports.ParaRun.{ParaRun}
 use Rattle.lp_laws.proofs.Values.{clash}
-use Rattle.path_definitions.specs.Path.{Ending, EndsOptimal, EndsCrossed, EndsInfeasible, EndsUnbounded, PathEnds, EndsAt, last_of}
+use Rattle.path_definitions.specs.Path.{Ending, EndsOptimal, EndsCrossed, EndsInfeasible, EndsUnbounded, EndsAt, last_of}
 use Rattle.path_laws.specs.Laws.{IsNonsingularBasis}
 use Rattle.path_laws.proofs.Ends.{optimal_end}
 use Rattle.path_laws.proofs.OnePath.{one_path, path_leads}
 use Rattle.postoptimal_definitions.specs.Chain.{InOpening, begins, IsFailure, IsChain, IsRun, Chain as ChainReport}
 use Rattle.postoptimal_definitions.specs.RhsRun.{rhs_family}
-use Rattle.evidence_definitions.specs.Statements.{SolvingStatement, Primal, Pararhs, is_between, shift_at}
+use Rattle.evidence_definitions.specs.Statements.{Primal, Pararhs, is_between, shift_at}
 use Rattle.evidence_definitions.specs.Formulas.{PointFormula, f6, f7, f10_product, f10_sum, SlackFormula, f6_slack, MoveFormula, f8, f9, RatioFormula, f14, RangeFormula, f15_limit, f15_nonbasic, f15_basic, ObjectiveFormula, f16, f17_product, f17_sum, SlopeFormula, f18_product, f18_sum, f18_difference, f18_quotient}
-use Rattle.evidence_definitions.specs.Evidence.{Formula, by_exchange, by_entry, by_carried, by_point, by_slack, by_move, by_ratio, by_range, by_objective, by_slope, ShowsRefusal, IsLeaver, GoesTo, IsAhead, with_ahead, EvidenceHolds, ShiftHolds}
+use Rattle.evidence_definitions.specs.Evidence.{Formula, by_exchange, by_entry, by_carried, by_point, by_slack, by_move, by_ratio, by_range, by_objective, by_slope, ShowsRefusal, GoesTo, IsAhead, with_ahead, EvidenceHolds, ShiftHolds}
 use Rattle.bounded_primal.specs.Calls.{HasRates, LieIn, CallEnds, WaypointsFollow, job_of, outcome_of}
-use Rattle.bounded_primal.specs.Outcomes.{IsTrueOutcome}
 use Rattle.bounded_primal.specs.Stops.{PrimalStops, primal_stop_of}
 use Rattle.bounded_primal.specs.declared.moves.PrimalStop.{PrimalStop}
 use Rattle.bounded_primal.specs.declared.moves.PrimalStop.TheVariants.{Limit, Overflow, NoMemory}
-use Rattle.run_calls.specs.Calls.{RunEnds, RunStops, RunOverflows, IsOpeningReported, part_of, end_of}
-use Rattle.run_calls.specs.Truth.{IsTrueReported}
+use Rattle.run_calls.specs.Calls.{RunStops, RunOverflows, part_of, end_of}
 use Rattle.run_calls.specs.Walks.{HasRun}
 use Rattle.run_calls.proofs.Chains.{last_append}
 use Rattle.run_calls.proofs.Walks.{opening_reaches, opening_run, opens_first}

@@ -1,5 +1,5 @@
 -- By the prices of a basis and a row, the ratio test is that of its tableau at each value of the parameter.
-use Rattle.std.proofs.Common.{◌≡◌, ℕ, ◌+◌, ◌<◌, ◌≤◌, Bool, true, false, List, cond, refl, sym, ap, ap₂, ◌∙◌, pos, arith}
+use Rattle.std.proofs.Common.{◌≡◌, ℕ, Bool, true, false, List, cond, refl, sym, ap, ap₂, ◌∙◌, pos, arith}
 use Rattle.std.specs.Prelude.{Option, Some, None, not, ◌&&◌, ◌||◌}
 use Rattle.std.specs.List.{list_all}
 use Rattle.exact_values.specs.Rational.{ℚ, zero_ℚ, one_ℚ, ◌+ℚ◌, ◌*ℚ◌, ◌/ℚ◌}
@@ -12,7 +12,7 @@ use Rattle.lp_definitions.specs.declared.Status.{Status}
 use Rattle.lp_laws.proofs.Uniqueness.{one_table}
 use Rattle.lp_model.specs.RatesCalls.{IsRowOf}
 use Rattle.path_definitions.specs.DualRatio.{brings_back, ratio, cheapest}
-use Rattle.path_definitions.specs.Moves.{is_fixed, on_limits, rises_from, falls_from, lowers, signed}
+use Rattle.path_definitions.specs.Moves.{on_limits, rises_from, falls_from, lowers, signed}
 use Rattle.path_laws.proofs.Numbered.{find_same, list_all_same}
 use Rattle.path_laws.specs.Laws.{IsNonsingularBasis}
 use Rattle.postoptimal_definitions.specs.RhsRun.{shift_of, rhs_family}

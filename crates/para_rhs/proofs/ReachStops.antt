@@ -1,13 +1,13 @@
 -- A refused operation of a variable is evidence of a run.
-use Rattle.std.proofs.Common.{◌≡◌, ◌≢◌, ℕ, ◌≤◌, inl, List, [], ◌∷◌, map, take, length, Bool, true, false, refl, sym, ap, subst, subst₂, ◌∙◌, arith}
-use Rattle.std.specs.Prelude.{Option, Some, None, IsTrue, not, ◌&&◌, ◌||◌, nat_eq}
+use Rattle.std.proofs.Common.{◌≡◌, ◌≢◌, ℕ, List, map, length, Bool, true, false, refl, sym, ap, subst, ◌∙◌, arith}
+use Rattle.std.specs.Prelude.{IsTrue, nat_eq}
 use Rattle.std.proofs.lemmas.List.{take_all}
 use Rattle.exact_values.specs.Rational.{ℚ, zero_ℚ, ◌-ℚ◌, ◌*ℚ◌}
 use Rattle.evidence_definitions.specs.Evidence.{Formula, by_point, by_slope, ShowsRefusal, names_waypoint}
-use Rattle.evidence_definitions.specs.Formulas.{nonbasics, nonbasic_sum, closing, PointFormula, f6, SlopeFormula, f18_difference, f18_quotient}
+use Rattle.evidence_definitions.specs.Formulas.{nonbasics, nonbasic_sum, PointFormula, f6, SlopeFormula, f18_difference, f18_quotient}
 use Rattle.evidence_definitions.specs.Statements.{Pararhs, belongs}
 use Rattle.frac128.specs.declared.Op.TheVariants.{Sub, Div}
-use Rattle.lp_definitions.specs.Basis.{Basics, basics_of, is_in, IsBasic, IsNonbasic, AreRates, IsPointOf, Tableau, IsTableau}
+use Rattle.lp_definitions.specs.Basis.{Basics, basics_of, is_in, IsBasic, AreRates, IsPointOf, Tableau, IsTableau}
 use Rattle.lp_definitions.specs.LinearProgram.{LinearProgram, Vector, IsVariable, IsLinearProgram}
 use Rattle.lp_definitions.specs.RatesEvidence.{Refuses, sum_from}
 use Rattle.lp_definitions.specs.Waypoints.{IsWithinOne, waypoint}
@@ -16,11 +16,10 @@ use Rattle.lp_definitions.specs.declared.Status.{Status}
 use Rattle.lp_laws.proofs.Combination.{by_nonbasics}
 use Rattle.lp_laws.proofs.Ordered.{combination_in_order}
 use Rattle.lp_laws.proofs.Values.{clash}
-use Rattle.lp_laws.proofs.WaypointLaws.{Covers}
 use Rattle.path_laws.specs.Laws.{IsNonsingularBasis}
 use Rattle.postoptimal_definitions.specs.RhsRun.{shift_of, IsSlope}
 use Rattle.bounded_primal.proofs.Existence.{rates_exist}
-use Rattle.para_rhs.specs.Limits.{limit_on, number_of}
+use Rattle.para_rhs.specs.Limits.{number_of}
 use Rattle.para_rhs.specs.Reach.{VariableRefused, of_closing, of_distance, of_quotient, SomeVariableRefused}
 use Rattle.para_rhs.specs.Refusals.{RunRefused}
 use Rattle.para_rhs.specs.declared.limits.Side.{Side}

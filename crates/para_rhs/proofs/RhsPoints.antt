@@ -1,5 +1,5 @@
 -- The points of a basis at all values of the parameter, from that at 0 and the slope; where the basis is optimal.
-use Rattle.std.proofs.Common.{◌≡◌, ◌≢◌, ℕ, List, pos, refl, sym, ap, ap₂, subst, subst₂, ◌∙◌, ◌⊎◌, inl, inr, Bool, true, false}
+use Rattle.std.proofs.Common.{◌≡◌, ℕ, List, pos, refl, sym, ap, ap₂, subst₂, ◌∙◌, ◌⊎◌, inl, inr, true, false}
 use Rattle.std.specs.Prelude.{◌↔◌, Option, Some, None, IfSome, IsSome, unwrap_or, option_map}
 use Rattle.exact_values.specs.Rational.{ℚ, zero_ℚ, ◌+ℚ◌, ◌-ℚ◌, ◌*ℚ◌, ◌≤ℚ◌, ◌<ℚ◌}
 use Rattle.exact_values.proofs.Order.{le_refl, le_trans, le_of_lt, le_by_one, lt_or_le}
@@ -7,8 +7,7 @@ use Rattle.exact_values.proofs.Ring.{by_ring1, by_ring5, number, ◌⊕◌, ◌�
 use Rattle.changed_programs.specs.Changes.{SidesHold}
 use Rattle.changed_programs.proofs.Limits.{sides_of_value}
 use Rattle.lp_definitions.specs.LinearProgram.{LinearProgram, Vector, size, IsVariable, IsLinearProgram, lower_of, upper_of, for_min}
-use Rattle.lp_definitions.specs.Basis.{is_basic, is_in, basics_of, status_of, StandsAt, IsNonbasic, IsPointOf, IsOptimalBasis, IsFixed, IsRightAt, objective_rate}
-use Rattle.lp_definitions.specs.Solutions.{IsFeasible}
+use Rattle.lp_definitions.specs.Basis.{status_of, StandsAt, IsPointOf, IsOptimalBasis, IsFixed, IsRightAt, objective_rate}
 use Rattle.lp_definitions.specs.declared.Status.{Status}
 use Rattle.lp_definitions.specs.declared.Status.TheVariants.{Bs, Ll, Ul, Fr}
 use Rattle.lp_laws.proofs.Equations.{KeepsEquations-along}
@@ -24,7 +23,7 @@ use Rattle.sweep_truth.proofs.RhsLimits.{moved, lower_is, upper_is, fixed_at, fr
 use Rattle.affine_conditions.specs.Ends.{IsBefore, IsBetweenEnds}
 use Rattle.affine_conditions.specs.declared.tightening.End.{End}
 use Rattle.affine_conditions.specs.declared.tightening.Ends.{Ends}
-use Rattle.para_rhs.specs.Reach.{limit_sides, StaysTo, IsReachOf, high_of}
+use Rattle.para_rhs.specs.Reach.{limit_sides, StaysTo, IsReachOf}
 
 abbrev IsWithin : Option ℚ → Option ℚ → ℚ → Type 0
 IsWithin low high y = IfSome low (λ l. l ≤ℚ y) × IfSome high (λ u. y ≤ℚ u)

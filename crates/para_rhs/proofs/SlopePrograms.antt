@@ -1,10 +1,10 @@
 -- The program whose limits are the shifts, and its basis's point.
-use Rattle.std.proofs.Common.{◌≡◌, ℕ, ◌-◌, ◌+◌, List, length, get_or, map, refl, sym, ap, subst, subst₂, ◌∙◌, arith, Bool, true, false}
+use Rattle.std.proofs.Common.{◌≡◌, ℕ, ◌-◌, List, length, get_or, refl, sym, ap, subst₂, ◌∙◌, arith, false}
 use Rattle.std.specs.Prelude.{Option, Some, None, IsSome, option_map}
 use Rattle.std.proofs.lemmas.List.{length-map}
 use Rattle.exact_values.specs.Rational.{ℚ, zero_ℚ}
-use Rattle.lp_definitions.specs.LinearProgram.{Matrix, LinearProgram, Vector, size, IsRow, IsVariable, IsLinearProgram, HasNoLimits, ChangeIsFree, lower_of, upper_of}
-use Rattle.lp_definitions.specs.Basis.{is_basic, basics_of, status_of, IsAllowed, StandsAt, IsBasis, IsNonbasic, IsPointOf}
+use Rattle.lp_definitions.specs.LinearProgram.{LinearProgram, Vector, size, IsRow, IsVariable, IsLinearProgram, HasNoLimits, ChangeIsFree, lower_of, upper_of}
+use Rattle.lp_definitions.specs.Basis.{is_basic, status_of, IsAllowed, StandsAt, IsBasis, IsPointOf}
 use Rattle.lp_definitions.specs.declared.Change.{Change}
 use Rattle.lp_definitions.specs.declared.Status.{Status}
 use Rattle.lp_definitions.specs.declared.Status.TheVariants.{Bs, Ll, Ul, Fr}

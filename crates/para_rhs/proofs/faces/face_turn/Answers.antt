@@ -1,16 +1,15 @@
-use Rattle.std.proofs.Common.{◌≡◌, ◌≢◌, ℕ, ◌-◌, ◌≤◌, List, Bool, true, false, refl, sym, ap, subst, ◌∙◌, arith}
-use Rattle.std.specs.Prelude.{Option, Some, None, IsSome, not, if◌then◌else◌}
+use Rattle.std.proofs.Common.{◌≡◌, ◌≢◌, ◌-◌, List, Bool, refl, sym, ap, subst, ◌∙◌, arith}
+use Rattle.std.specs.Prelude.{Option, Some, IsSome, not, if◌then◌else◌}
 use Rattle.std.proofs.lemmas.Result.{err_from_is_err_and}
 use Rattle.exact_values.specs.Rational.{ℚ, zero_ℚ}
 use Rattle.evidence_definitions.specs.Formulas.{limit_numbered, number_of_limit}
 use Rattle.lp_definitions.specs.Basis.{basics_of, IsOptimalBasis}
-use Rattle.lp_definitions.specs.LinearProgram.{size, value_at, IsVariable}
-use Rattle.lp_definitions.specs.declared.Evidence.{Evidence}
+use Rattle.lp_definitions.specs.LinearProgram.{value_at}
 use Rattle.lp_definitions.specs.declared.Status.{Status}
 use Rattle.lp_definitions.specs.declared.Status.TheVariants.{Ll, Ul}
 use Rattle.lp_laws.proofs.WaypointLaws.{keeps_then}
 use Rattle.lp_model.specs.declared.reports.ParaEnd.{ParaEnd}
-use Rattle.path_definitions.specs.Path.{Move, after}
+use Rattle.path_definitions.specs.Path.{after}
 use Rattle.postoptimal_definitions.specs.Chain.{FaceEnds, FaceMoves}
 use Rattle.postoptimal_definitions.specs.RhsRun.{rhs_family, IsRhsFace}
 use Rattle.run_calls.specs.Calls.{end_of}

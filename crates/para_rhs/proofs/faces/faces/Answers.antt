@@ -2,7 +2,6 @@ use Rattle.std.proofs.Common.{◌+◌, ◌-◌, List, sym, subst, arith}
 use Rattle.std.proofs.lemmas.Result.{err_from_is_err_and}
 use Rattle.lp_definitions.specs.LinearProgram.{value_at}
 use Rattle.lp_definitions.specs.Basis.{basics_of, IsOptimalBasis}
-use Rattle.lp_laws.proofs.WaypointLaws.{keeps_then}
 use Rattle.exact_values.specs.Rational.{ℚ}
 use Rattle.lp_model.specs.RatesCalls.{IfOverflow}
 use Rattle.postoptimal_definitions.specs.RhsRun.{IsSlope}

@@ -1,7 +1,7 @@
 use Rattle.std.proofs.Common.{rules, vec_len, ◌≡◌, List, length, sym, subst₂, ap, ◌∙◌}
 use Rattle.std.specs.Prelude.{Option}
 use Rattle.exact_values.specs.Rational.{ℚ}
-use Rattle.lp_definitions.specs.LinearProgram.{size, HasNoLimits, ChangeIsFree, with_limits}
+use Rattle.lp_definitions.specs.LinearProgram.{HasNoLimits, ChangeIsFree, with_limits}
 use Rattle.sweep_laws.proofs.OneRhs.{lawful_rhs}
 use Rattle.para_rhs.proofs.limits.program_at.Goals as goal
 

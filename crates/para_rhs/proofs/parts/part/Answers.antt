@@ -1,7 +1,5 @@
-use Rattle.std.proofs.Common.{rules, List, subst}
+use Rattle.std.proofs.Common.{List, subst}
 use Rattle.exact_values.specs.Rational.{ℚ}
-use Rattle.lp_definitions.specs.LinearProgram.{value_at}
-use Rattle.lp_definitions.specs.Basis.{Basics}
 use Rattle.para_rhs.specs.Reach.{IsReachFromAny}
 use Rattle.para_rhs.specs.Refusals.{RunRefused}
 use Rattle.para_rhs.proofs.IntervalFacts.{interval}

@@ -1,6 +1,6 @@
-use Rattle.std.proofs.Common.{◌≡◌, ◌-◌, Bool, true, false, sym, ◌∙◌, ap, subst, arith}
+use Rattle.std.proofs.Common.{◌≡◌, ◌-◌, true, false, sym, ◌∙◌, ap, subst, arith}
 use Rattle.std.specs.Prelude.{Option, not}
-use Rattle.exact_values.specs.Rational.{ℚ, zero_ℚ}
+use Rattle.exact_values.specs.Rational.{ℚ}
 use Rattle.lp_definitions.specs.LinearProgram.{value_at}
 use Rattle.path_definitions.specs.Moves.{lowers, signed}
 use Rattle.bounded_primal.proofs.Skips.{value_read}

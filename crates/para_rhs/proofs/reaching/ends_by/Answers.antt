@@ -1,10 +1,7 @@
-use Rattle.std.proofs.Common.{rules, ◌≡◌, ℕ, Err, sym, ◌∙◌, ap, subst₂, arith}
-use Rattle.exact_values.specs.Rational.{ℚ}
+use Rattle.std.proofs.Common.{rules, ◌≡◌, Err, arith}
 use Rattle.lp_definitions.specs.LinearProgram.{value_at}
 use Rattle.bounded_primal.proofs.Skips.{value_next}
-use Rattle.postoptimal_definitions.specs.RhsRun.{shift_of}
-use Rattle.para_rhs.specs.Reach.{VariableRefused}
-use Rattle.para_rhs.proofs.Narrowing.{no_reach, next_reach, refused_at}
+use Rattle.para_rhs.proofs.Narrowing.{next_reach, refused_at}
 use Rattle.para_rhs.proofs.reaching.ends_by.Goals as goal
 
 pub returns-in_err-ends-clause-refused : goal.returns-in_err-ends-clause-refused

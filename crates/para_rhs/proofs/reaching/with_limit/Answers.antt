@@ -4,9 +4,8 @@ use Rattle.frac128.specs.declared.Op.TheVariants.{Sub, Div}
 use Rattle.postoptimal_definitions.specs.RhsRun.{shift_of}
 use Rattle.bounded_primal.specs.Formulas.{IsRefusal}
 use Rattle.bounded_primal.specs.declared.formula.Formula.{Formula}
-use Rattle.lp_definitions.specs.declared.Evidence.{Evidence}
 use Rattle.para_rhs.specs.Limits.{number_of}
-use Rattle.para_rhs.specs.Reach.{VariableRefused, of_distance, of_quotient, basic_formula}
+use Rattle.para_rhs.specs.Reach.{of_distance, of_quotient, basic_formula}
 use Rattle.para_rhs.proofs.Narrowing.{apart_if_ahead, closing_apart}
 use Rattle.para_rhs.proofs.reaching.with_limit.Goals as goal
 

@@ -9,7 +9,6 @@ use Rattle.postoptimal_definitions.specs.RhsRun.{rhs_family}
 use Rattle.bounded_primal.specs.Calls.{HasRates}
 use Rattle.bounded_primal.specs.Outcomes.{IsTrueOutcome}
 use Rattle.bounded_primal.specs.Stops.{PrimalStops}
-use Rattle.para_rhs.specs.Runs.{RhsStops}
 use Rattle.para_rhs.proofs.OpeningFacts.{to_first, from_first, opening_stops, no_opening}
 use Rattle.para_rhs.proofs.run.open.Goals as goal
 

@@ -1,11 +1,10 @@
-use Rattle.std.proofs.Common.{◌≡◌, sym, ◌∙◌, subst, subst₂}
+use Rattle.std.proofs.Common.{sym, subst}
 use Rattle.lp_definitions.specs.Basis.{basics_of, IsPointOf}
 use Rattle.lp_definitions.specs.LinearProgram.{LinearProgram, value_at}
 use Rattle.lp_definitions.specs.declared.Evidence.{Evidence}
 use Rattle.bounded_primal.specs.Calls.{HasRates, PointRefused}
 use Rattle.bounded_primal.proofs.Covered.{keeps_same}
 use Rattle.para_rhs.specs.Refusals.{RunRefused}
-use Rattle.para_rhs.specs.Slopes.{slope_program}
 use Rattle.para_rhs.proofs.SlopePrograms.{to_slope, is_slope}
 use Rattle.para_rhs.proofs.SlopeStops.{slope_refused}
 use Rattle.para_rhs.proofs.slopes.slope_of.Goals as goal
