@@ -1,7 +1,10 @@
 #!/usr/bin/env bash
 # Times a whole run over a deck of the greatest size: 1,000 rows, 5,000 columns and 50,000 entries, whose opening basis is
-# optimal. Prints the last line of its listing, the least processor time of five runs, in seconds, and the peak memory.
+# optimal. Prints the last line of its listing, the least processor time of five runs, in seconds, and the peak memory. The program
+# is proved and built first, where it isn't fresh.
+# usage: bench_converting.sh
 set -eu
+case ${1:-} in -h | --help) sed -n '2,6s/^# //p' "$0"; exit 0 ;; esac
 program=$("$(dirname "$0")/program.sh")
 job=$(mktemp)
 trap 'rm -f "$job"' EXIT

@@ -1,12 +1,13 @@
 #!/usr/bin/env bash
-# Times the path of the simplex method over the dense table: on transportation problems of 20 and of 60 sources and as many
-# destinations, on a sparse problem of 300 rows and 350 columns, and on a table of the greatest size, 1,000 rows and 5,000 columns,
-# whose path ends where it begins. Prints where each path ends, the least processor time of five runs, in seconds, and the peak
-# memory. Where the proved program is built it also times the job of 60 by 60 from its bytes to its verdict, without and with RANGE.
-# Then it prints how many of fifty problems of 15 rows and 30 columns, with numbers of two decimals, end without an overflow.
-# Usage: scripts/bench_path.sh [PROGRAM], a program that takes the word `path` or none.
+# Times the path of the simplex method by each engine, the dense table and the product form: on transportation problems of 10, 20 .. 60
+# sources and as many destinations, on a sparse problem of 300 rows and 350 columns, and on a problem of the greatest size, 1,000
+# rows and 5,000 columns, whose path ends where it begins. Prints where each path ends, the least processor time of five runs, in
+# seconds, and the peak memory. Where the proved program is built it also times the job of 60 by 60 from its bytes to its verdict,
+# without and with RANGE. Then it prints how many of fifty problems of 15 rows and 30 columns, with numbers of two decimals, end
+# without an overflow by each engine.
+# Usage: scripts/bench_path.sh [PROGRAM], a program that takes the words `path table` and `path product`.
 set -eu
-case ${1:-} in -h | --help) sed -n '2,7s/^# //p' "$0"; exit 0 ;; esac
+case ${1:-} in -h | --help) sed -n '2,8s/^# //p' "$0"; exit 0 ;; esac
 here=$(cd "$(dirname "$0")" && pwd)
 program=${1:-$here/../crates/bench/out/bench}
 [ -x "$program" ] || (cd "$here/../crates/bench" && rt run <stdin >/dev/null)
@@ -99,9 +100,17 @@ greatest() {
     }'
 }
 
-for size in 20 60; do
+# The path of the deck by each engine.
+by_each() {
+    for engine in table product; do
+        echo "$1 by $engine:"
+        python3 "$here/timed.py" "$deck" "$program" path "$engine"
+    done
+}
+
+for size in 10 20 30 40 50 60; do
     transport "$size" >"$deck"
-    python3 "$here/timed.py" "$deck" "$program" path
+    by_each "transportation $size by $size"
 done
 whole=$here/../crates/mps360/out/mps360
 if [ -x "$whole" ]; then
@@ -117,12 +126,14 @@ if [ -x "$whole" ]; then
     done
 fi
 sparse >"$deck"
-python3 "$here/timed.py" "$deck" "$program" path
+by_each "sparse"
 greatest >"$deck"
-python3 "$here/timed.py" "$deck" "$program" path
-ended=0
-for seed in $(seq 50); do
-    dense "$seed" >"$deck"
-    if ! "$program" path <"$deck" | grep -q OVERFLOW; then ended=$((ended + 1)); fi
+by_each "the greatest size"
+for engine in table product; do
+    ended=0
+    for seed in $(seq 50); do
+        dense "$seed" >"$deck"
+        if ! "$program" path "$engine" <"$deck" | grep -q OVERFLOW; then ended=$((ended + 1)); fi
+    done
+    echo "fifty problems with numbers of two decimals by $engine: $ended end without an overflow"
 done
-echo "fifty problems with numbers of two decimals: $ended end without an overflow"

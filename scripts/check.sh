@@ -35,78 +35,28 @@ if command -v git >/dev/null && git rev-parse --git-dir >/dev/null 2>&1; then
     [ -z "$(git ls-files | grep -E '(^|/)out/')" ] || fail "files of an out/ are committed"
 fi
 
-# The repository stands alone: no text, comment or edit cites a paper by number.
-if command -v python3 >/dev/null; then
-    python3 - <<'PYTHON' || fail "a paper is cited by number"
-import pathlib, re, sys
-
-CITED = re.compile(
-    r"\b0[1-4]-[0-9]{1,2}\b"
-    r"|\b(?:document|paper|demand|request|stage|rung)s? [0-9]+"
-    r"|\b[DRTW][0-9]{1,2}(?:\.[0-9]+)?\b"
-)
-
-def prose(path):
-    "the lines of prose of a file: all but its code"
-    fenced = False
-    for number, line in enumerate(path.read_text(encoding="utf-8").splitlines(), 1):
-        if path.suffix == ".md":
-            if line.lstrip().startswith("```"):
-                fenced = not fenced
-                continue
-            if not fenced:
-                yield number, re.sub(r"`[^`]*`", "", line)
-        else:
-            mark = "//" if path.suffix in (".rt", ".edit") else "--"
-            code, found, comment = re.sub(r'"(?:[^"\\]|\\.)*"', '""', line).partition(mark)
-            if found:
-                yield number, re.sub(r"`[^`]*`", "", comment)
-
-bad = 0
-for path in sorted(pathlib.Path(".").rglob("*")):
-    if path.suffix not in (".rt", ".antt", ".md", ".edit") or "out" in path.parts or ".git" in path.parts:
-        continue
-    for number, text in prose(path):
-        found = CITED.search(text)
-        if found:
-            print(f"{path}:{number}: {found.group()}", file=sys.stderr)
-            bad = 1
-sys.exit(bad)
-PYTHON
-fi
-
 # README.md is short, and the edits that must fail are few.
 most_lines=100 most_edits=220
 lines=$(wc -l <README.md)
 [ "$lines" -le "$most_lines" ] || fail "README.md has $lines lines, more than $most_lines"
 edits=$(find crates -path '*/must-fail/*.edit' | wc -l)
-echo "check: $edits must-fail edits"
+long=$(find crates -name out -prune -o -name '*.rt' -print0 | LC_ALL=C.UTF-8 xargs -0 grep -hE '^ *(requires|ensures|invariant) ' |
+    LC_ALL=C.UTF-8 grep -cE '^.{101}')
+echo "check: $edits must-fail edits; $long lines of clauses have over 100 columns"
 [ "$edits" -le "$most_edits" ] || fail "there are $edits must-fail edits, more than $most_edits"
 
 if command -v python3 >/dev/null; then
-    # Each path that a document names is there.
-    python3 - <<'PYTHON' || fail "a document names what isn't there"
-import pathlib, re, sys
-
-NAMED = re.compile(r"`((?:\.ci|scripts|docs|examples|crates)/[^`\s]*)|\]\(([^)#\s]+)(?:#[^)]*)?\)")
-bad = 0
-for page in [*pathlib.Path(".").glob("*.md"), *pathlib.Path("docs").glob("*.md"), *pathlib.Path("examples").glob("*.md")]:
-    for number, line in enumerate(page.read_text(encoding="utf-8").splitlines(), 1):
-        for found in NAMED.finditer(line):
-            name = (found[1] or "").rstrip(".,:)") or found[2]
-            if "://" in name or re.search(r"NAME|[A-Z]+\.job|<|\.\.\.", name) or "/out/" in name:
-                continue
-            base = pathlib.Path(".") if found[1] else page.parent
-            if not (list(base.glob(name)) if re.search(r"[*?]", name) else (base / name).exists()):
-                print(f"{page}:{number}: {name}", file=sys.stderr)
-                bad = 1
-sys.exit(bad)
-PYTHON
+    # No text cites a paper by number; paths, definitions, calls and clauses that documents name are there.
+    python3 scripts/check_documents.py || fail "a document says what isn't so"
 
     # The page of faults is that of examples/faults, and the listings of examples/ are those that are worked out apart.
     python3 scripts/faults.py --check || fail "scripts/faults.py --write makes docs/FAULTS.md"
     bash scripts/examples.sh --expected || fail "a listing of examples/"
+    # The two that take longest run side by side.
+    python3 scripts/check_installed.py &
+    installed=$!
     python3 scripts/check_tools.py || fail "a script does otherwise than it is to do"
+    wait "$installed" || fail "build.sh, install.sh, an installed command or mps360-batch does otherwise than it is to do"
     if scripts/program.sh --fresh >/dev/null; then
         bash scripts/examples.sh || fail "the program prints other listings of examples/"
         python3 scripts/faults.py --run || fail "the program ends the jobs of examples/faults otherwise"

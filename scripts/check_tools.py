@@ -2,7 +2,7 @@
 """Tries the scripts on examples whose results are known from outside, and on hostile inputs. scripts/check.sh runs it.
 
 usage: check_tools.py      ends with 1 where a result is another; what needs the proved program is left out, and said, where it isn't fresh"""
-import json, os, pathlib, subprocess, sys, tempfile
+import json, os, pathlib, re, subprocess, sys, tempfile, xml.dom.minidom
 import runner
 
 SCRIPTS = runner.TOP / "scripts"
@@ -75,6 +75,7 @@ BOUNDS
  PL BND X1
 ENDATA
 """
+MODULES = ("runner.py", "every_basis.py", "expected_postoptimal.py")
 DOOMED = {
     "a MARKER": ("    M1  'MARKER'  'INTORG'\n", "MARKER"),
     "a long number": ("    X  COST  0.1234567890123\n", "12 columns"),
@@ -124,6 +125,86 @@ def try_mps(folder, program):
     check("a negative UP wants its option", ends == [65, 0, 0])
 
 
+def try_expected(folder):
+    "the listings and punched decks of scripts/known were worked out by hand"
+    punch, jobs = folder / "punch", sorted((SCRIPTS / "known").glob("*.job"))
+    check("no known jobs", jobs)
+    for job in jobs:
+        told = call(SCRIPTS / "expected_listing.py", "--punch", punch, job)
+        wanted, cards = job.with_suffix(".listing").read_bytes(), job.with_suffix(".punch")
+        check(f"expected_listing.py: {job.name}", told.stdout == wanted)
+        check(f"expected_listing.py: what {job.name} punches", cards.read_bytes() == punch.read_bytes() if cards.exists() else not punch.exists())
+        punch.unlink(missing_ok=True)
+    made = call(SCRIPTS / "expected_listing.py", "--make", "2").stdout
+    check("expected_listing.py --make", made == b"CONVERT TRANSP   ROWS 5 COLUMNS 4 ENTRIES 12\nSETUP   TRANSP   MIN\n"
+          b"PRIMAL OPTIMAL STEPS 4 OBJECTIVE 180 CHECKED\nEND 0\n")
+    for words, count in ((("--itself", "0", "12"), 12), (("--itself", "--parametric", "--revise", "40", "8"), 8)):
+        told = call(SCRIPTS / "random_jobs.py", *words)
+        said = told.stdout.decode()
+        check(f"random_jobs.py {words}: {said}", told.returncode == 0 and said.startswith(f"{count} jobs, 0 differ") and "optimal" in said)
+    for words in (("x",), ("1", "2", "3"), ("--itself", "--unproved")):
+        check(f"random_jobs.py: wrong use {words}", call(SCRIPTS / "random_jobs.py", *words).returncode == 64)
+    check("random_jobs.py --help", call(SCRIPTS / "random_jobs.py", "--help").returncode == 0)
+
+
+def try_measures(folder):
+    "what the bench is to print, by the scripts that work it out: fractions, and the transportation problem of 4 by 4; a timed run"
+    printed = call(SCRIPTS / "bench_expected.py").stdout + call(SCRIPTS / "path_expected.py", "4").stdout
+    check("bench_expected.py, path_expected.py", printed == (runner.TOP / "crates/bench/stdout").read_bytes())
+    check("path_expected.py 2", call(SCRIPTS / "path_expected.py", "2").stdout == b"OPTIMAL STEPS 4 OBJECTIVE 180/1\n")
+    job = folder / "job"
+    job.write_text("a first line\nEND 0\n")
+    timed = call(SCRIPTS / "timed.py", job, "cat").stdout.decode()
+    check(f"timed.py: {timed}", re.fullmatch(r"END 0: 0\.\d{3} s, \d+\.\d MB\n", timed))
+
+
+SWEEPS = {
+    "paraobj-two-intervals": ((0, -8), (1, -8), (5, -20), "the run ends at 5"),
+    "paraobj-unbounded-past": ((0, 0), (1, 0), "no bound past 1"),
+    "pararhs-two-intervals": ((0, 1), (2, 3), (5, 9), "the run ends at 5"),
+    "pararhs-infeasible-past": ((0, 1), (2, 3), "no plan past 2"),
+    "pararhs-point-interval": ((0, 1), "the run ends at 0"),
+}
+
+
+def try_plots(folder):
+    script, picture = SCRIPTS / "plot_parametric.py", folder / "picture.svg"
+    for name, (*points, end) in SWEEPS.items():
+        listing = SCRIPTS / "known" / f"{name}.listing"
+        told = call(script, listing).stdout.decode()
+        drawn = [(int(line.split()[0]), int(line.split()[1])) for line in told.partition("change a unit\n")[2].splitlines()[:-1]]
+        check(f"plot_parametric.py: {name}: {told}", drawn == points and told.splitlines()[-1] == end)
+        call(script, "--svg", "-o", picture, input=listing.read_bytes())
+        marks = [mark.firstChild.data for mark in xml.dom.minidom.parse(str(picture)).getElementsByTagName("title")]
+        check(f"plot_parametric.py --svg: {name}: {marks}", marks == [f"{theta}: {value}" for theta, value in points])
+    for what, words, status in (("no run", (SCRIPTS / "known/range-two.listing",), 65), ("no such run", ("--run", "2", listing), 65),
+                                ("no listing", (script,), 65), ("no file", (folder / "none",), 66), ("wrong use", ("--run", "x"), 64)):
+        told = call(script, *words)
+        check(f"plot_parametric.py: {what}", told.returncode == status and told.stderr.startswith(b"plot_parametric.py: "))
+    check("plot_parametric.py --help", call(script, "--help").returncode == 0)
+
+
+def try_random(program):
+    told = call(SCRIPTS / "random_jobs.py", "0", "20")
+    if program:
+        check(f"random_jobs.py: the program: {told.stderr.decode()}", told.returncode == 0)
+    else:
+        check("random_jobs.py: no program", told.returncode == 70 and b"scripts/build.sh" in told.stderr)
+
+
+def try_listings():
+    "listing2json.py on RANGE, a parametric run and a punched deck, as worked out by hand"
+    def reports(name, kind):
+        told = json.loads(call(SCRIPTS / "listing2json.py", SCRIPTS / f"known/{name}.listing").stdout)
+        return [report for report in told["reports"] if report["report"] == kind]
+    line = reports("range-testprob", "ranges")[0]["columns_at_limit"][0]
+    check(f"listing2json.py: RANGE: {line}", (line["name"], line["limit_high"], line["cost_low"], line["cost_high"]) == ("YTWO", "1", "-8", None))
+    run = reports("pararhs-infeasible-past", "parametric")[0]
+    ends = run["change"], run["end"], run["at"], run["ray"][0]["multiplier"], run["intervals"][0]["to"], run["intervals"][0]["lines"][2]["value_rate"]
+    check(f"listing2json.py: PARARHS: {ends}", ends == ("C", "infeasible", "2", "-1", "2", "1"))
+    check("listing2json.py: BCDOUT", reports("bcdout-one", "bcdout") == [{"report": "bcdout", "name": "ONE", "cards": 10}])
+
+
 def try_explain(folder):
     examples = runner.TOP / "examples"
     told = call(SCRIPTS / "explain", examples / "conflict.job", examples / "conflict.listing").stdout.decode()
@@ -132,6 +213,14 @@ def try_explain(folder):
     listing.write_text("STOP 12 DECK FAULT 6 CARD 12\n")
     told = call(SCRIPTS / "explain", examples / "faults/deck-06.job", listing).stdout.decode()
     check("explain names the rows that are known", "Known rows: 'COST'" in told and "PROFIT    1" in told)
+
+
+def try_help(folder):
+    "each script says what it is for, called from another folder, and does nothing else"
+    for script in sorted(SCRIPTS.iterdir()):
+        if script.is_file() and script.name not in MODULES:
+            told = call(f"./{script.name}", "--help", cwd=SCRIPTS), call(script, "--help", cwd=folder)
+            check(f"{script.name} --help", all(one.returncode == 0 and one.stdout and not one.stderr for one in told))
 
 
 def try_hostile(folder, program):
@@ -174,7 +263,13 @@ def main():
     with tempfile.TemporaryDirectory() as folder:
         folder = pathlib.Path(folder)
         try_mps(folder, program)
+        try_expected(folder)
+        try_plots(folder)
+        try_measures(folder)
+        try_random(program)
+        try_listings()
         try_explain(folder)
+        try_help(folder)
         try_hostile(folder, program)
     return 1 if wrong else 0
 

@@ -2,14 +2,17 @@
 """Prints the listing of a lawful job, worked out apart from the program: the bounded simplex method by the least-index rule over a
 table of Python's exact fractions. The listings beside the jobs of examples/ are compared with it.
 
-usage: expected_listing.py [FILE.job]      without a file the job is read from standard input; it ends with the run's status
+usage: expected_listing.py [--punch FILE] [--make N | FILE.job]      without a file the job is read from standard input; it ends with the
+run's status. With --make N the job is the generated one: N sources with 10 each, and N destinations that want 10 each.
 
-It knows TITLE, MOVE, MVADR, GOTO, INITIALZ, CONVERT, REVISE, SETUP, PRIMAL, SOLUTION and EXIT, in jobs without a fault. It looks for
-few faults itself, and ends with 70 where it meets one, or another verb."""
+It knows every verb (RANGE, PARAOBJ and PARARHS are worked out in expected_postoptimal.py), and the faults of statements. It looks for
+few other faults, and ends with 70 where it meets one. With --punch the punched cards go to FILE, where there are any."""
 import copy
 from fractions import Fraction
 import re
 import sys
+
+import expected_postoptimal
 
 SECTIONS = ("NAME", "ROWS", "COLUMNS", "RHS", "RANGES", "BOUNDS", "ENDATA")
 NUMBER = re.compile(r"([+-]?(?:\d+\.?\d*|\.\d+))(?:[EeDd]([+-]?\d+))?$")
@@ -19,11 +22,26 @@ class Fault(Exception):
     "a job that is not lawful, or asks for what is not known here"
 
 
+class VerbFault(Exception):
+    "a statement that can't be done, with the number of its fault"
+
+
 def number(text):
     found = NUMBER.match(text.strip())
     if not found:
         raise Fault(f"not a number: {text!r}")
     return Fraction(found[1].rstrip(".") if found[1].endswith(".") else found[1]) * Fraction(10) ** int(found[2] or 0)
+
+
+class Written(Fraction):
+    "a number as a card has it: its value, and its text"
+    def __new__(cls, text):
+        self = super().__new__(cls, number(text))
+        self.text = text.strip()
+        return self
+
+    def __deepcopy__(self, _):
+        return self
 
 
 def is_skipped(card):
@@ -39,12 +57,12 @@ def fields(card):
 def pairs(field):
     "the rows and values of a card"
     both = [(field[2], field[3])] + ([(field[4], field[5])] if field[4] or field[5] else [])
-    return {row: number(text) for row, text in both}
+    return {row: Written(text) for row, text in both}
 
 
 def bound(field):
     kind = field[0].strip()
-    return kind, field[2], number(field[3]) if kind in ("UP", "LO", "FX") else None
+    return kind, field[2], Written(field[3]) if kind in ("UP", "LO", "FX") else None
 
 
 def ends(kind):
@@ -89,6 +107,29 @@ class Problem:
 
     def entries(self):
         return sum(len(entries) for entries in self.columns.values())
+
+    def deck(self):
+        "the cards that BCDOUT punches"
+        def card(kind, *names, value=None):
+            text = " {:<2} {:<10}{:<10}".format(kind, *names, *[""] * (2 - len(names))) + (value.text if value is not None else "")
+            return text.rstrip()
+
+        yield f"NAME          {self.name}".rstrip()
+        yield "ROWS"
+        yield from (card(kind, name) for name, kind in self.rows.items())
+        yield "COLUMNS"
+        for name, entries in self.columns.items():
+            if not entries and self.rows:
+                entries = {next(iter(self.rows)): Written("0")}
+            yield from (card("", name, row, value=value) for row, value in entries.items())
+        for section in ("RHS", "RANGES"):
+            if self.sets[section]:
+                yield section
+            yield from (card("", name, row, value=value) for name, items in self.sets[section].items() for row, value in items.items())
+        if self.sets["BOUNDS"]:
+            yield "BOUNDS"
+        yield from (card(kind, name, column, value=value) for name, items in self.sets["BOUNDS"].items() for kind, column, value in items)
+        yield "ENDATA"
 
     def revised(self, cards):
         "what the deck of a revision makes of it; the problem itself stays as it is"
@@ -166,6 +207,8 @@ class Revision:
         if self.action == "DELETE" and not row:
             del sets[name]
         elif self.action == "DELETE" and section == "BOUNDS":
+            if not any(item[1] == row for item in sets[name]):
+                raise Fault("a column without a bound in that set")
             sets[name] = [item for item in sets[name] if item[1] != row]
         elif self.action == "DELETE":
             del sets[name][row]
@@ -194,11 +237,14 @@ class LinearProgram:
         self.m, self.n = len(problem.rows), len(problem.columns)
         place = {name: k for k, name in enumerate(problem.rows)}
         free = [name for name, kind in problem.rows.items() if kind == "N"]
-        chosen = objective if objective is not None else free[0]
-        if chosen not in free:
-            raise Fault("the objective")
-        self.objective, self.sense = place[chosen], options["sense"]
+        chosen = objective if objective is not None else next(iter(free), None)
         sets = problem.sets["RHS"]
+        for fault, is_there in ((10, chosen in problem.rows), (11, chosen in free), (12, rhs is None or rhs in sets),
+                                (13, options["range"] is None or options["range"] in problem.sets["RANGES"]),
+                                (14, options["bound"] is None or options["bound"] in problem.sets["BOUNDS"])):
+            if not is_there:
+                raise VerbFault(fault)
+        self.objective, self.sense, self.change = place[chosen], options["sense"], None
         values = sets[rhs] if rhs is not None else next(iter(sets.values()), {})
         self.rhs = [values.get(name, Fraction(0)) for name in problem.rows]
         ranges = problem.sets["RANGES"][options["range"]] if options["range"] is not None else {}
@@ -224,6 +270,30 @@ class LinearProgram:
                 self.lower[k] = value if kind in ("LO", "FX") else None
             if kind in ("UP", "FX", "FR", "PL"):
                 self.upper[k] = value if kind in ("UP", "FX") else None
+
+    def better(self):
+        "1 where the objective is to rise, -1 where it is to fall"
+        return 1 if self.sense == "MAX" else -1
+
+    def worth(self):
+        "the rows that are made best, each with its factor: the objective, and a change row where there is one"
+        rows = {self.objective: Fraction(1)}
+        if self.change:
+            row, theta = self.change
+            rows[row] = rows.get(row, Fraction(0)) + theta
+        return rows
+
+    def with_change(self, row, theta):
+        "the same with theta times a row's activity added to the objective"
+        changed = copy.copy(self)
+        changed.change = row, theta
+        return changed
+
+    def with_limits(self, shift, theta):
+        "the same with theta times its shift added to each limit"
+        changed = copy.copy(self)
+        changed.lower, changed.upper = ([end if end is None else end + theta * by for end, by in zip(ends, shift)] for ends in (self.lower, self.upper))
+        return changed
 
 
 # ---- a basis, with its table: each basic as a sum of nonbasics
@@ -252,8 +322,13 @@ class Table:
             value[i] = sum((line[k] * value[k] for k in range(self.size) if k not in self.rate and line[k]), Fraction(0))
         return value
 
+    def rates_of(self, rows):
+        "the rates of a sum of basic rows, each with its factor, at each nonbasic variable"
+        return [Fraction(0) if k in self.rate else sum((factor * self.rate[row][k] for row, factor in rows.items()), Fraction(0))
+                for k in range(self.size)]
+
     def prices(self):
-        return [Fraction(0) if k in self.rate else self.rate[self.lp.objective][k] for k in range(self.size)]
+        return self.rates_of({self.lp.objective: 1})
 
     def is_outside(self, k, value):
         lp = self.lp
@@ -331,7 +406,7 @@ class Table:
                     return ("RAY", ray), steps
                 to = "LL" if below else "UL"
             else:
-                line, better = self.rate[lp.objective], -1 if lp.sense == "MIN" else 1
+                line, better = self.rates_of(lp.worth()), lp.better()
                 q = self.entering(lambda k: better * line[k])
                 if q is None:
                     return ("OPTIMAL", value), steps
@@ -342,7 +417,7 @@ class Table:
                     return ("UNBOUNDED", value, direction if up else [-x for x in direction]), steps
                 p, to = found
             if steps == most:
-                return ("LIMIT",), steps
+                return ("LIMIT", most), steps
             self.exchange(p, q, to)
             steps += 1
 
@@ -367,12 +442,12 @@ class Run:
         if any(len(card) > 80 or re.search(r"[^ -~]", card) for card in self.cards):
             raise Fault("a card of more than 80 bytes, or with a byte that isn't printable")
         self.statements, self.labels, self.place = [], {}, 0
-        self.problems, self.last, self.setup, self.mark, self.lines = {}, None, None, None, []
+        self.problems, self.last, self.setup, self.mark, self.lines, self.punched = {}, None, None, None, [], []
         self.compile()
         self.reset()
 
     def reset(self):
-        self.cells, self.demands, self.mark = {"XITERLIM": Fraction(10000)}, {}, None
+        self.cells, self.demands, self.mark = {"XITERLIM": Fraction(10000), "XPARAM": Fraction(0)}, {}, None
 
     def compile(self):
         for place, card in enumerate(self.cards, 1):
@@ -402,7 +477,7 @@ class Run:
                 if taken[-1].split(" ")[0] == "ENDATA":
                     break
             if not taken:
-                raise Fault("no deck")
+                raise VerbFault(1)
             if self.cells.get("XDATA", deck_name(taken)) == deck_name(taken):
                 return taken
 
@@ -410,31 +485,88 @@ class Run:
         return f"{k + 1:5} {self.lp.names[k]:<8} " + " ".join(str(value) if isinstance(value, str) else shown(value) for value in values)
 
     def select(self):
+        if self.setup is None:
+            raise VerbFault(3)
         problem, options = self.setup
         self.lp = LinearProgram(problem, self.cells.get("XOBJ"), self.cells.get("XRHS"), options)
+
+    def filed(self, cell):
+        name = self.cells.get(cell, self.last)
+        if name not in self.problems:
+            raise VerbFault(2)
+        return self.problems[name]
+
+    def needs_mark(self, *marks):
+        if self.setup is None or self.mark is None or self.mark not in marks:
+            raise VerbFault(3 if self.setup is None else 4 if self.mark is None else 5)
 
     def primal(self):
         self.select()
         self.table.take(self.lp)
         end, steps = self.table.path(self.cells["XITERLIM"])
+        if end[0] != "LIMIT":
+            self.mark = self.verdict("PRIMAL", end, steps)
+        return end
+
+    def verdict(self, verb, end, steps):
+        "the lines on the end of a path, and the mark"
         kind, say = end[0], self.lines.append
-        if kind == "LIMIT":
-            return "LIMIT"
-        if kind == "OPTIMAL":
-            say(f"PRIMAL OPTIMAL STEPS {steps} OBJECTIVE {end[1][self.lp.objective]} CHECKED")
-            self.mark = "OPTIMAL"
-        elif kind == "UNBOUNDED":
-            say(f"PRIMAL UNBOUNDED STEPS {steps} OBJECTIVE {end[1][self.lp.objective]} CHECKED")
-            self.lines += [self.table_line(k, pair) for k, pair in enumerate(zip(end[1], end[2]))]
-            self.mark = "UNBOUNDED"
+        if kind in ("OPTIMAL", "UNBOUNDED"):
+            say(f"{verb} {kind} STEPS {steps} OBJECTIVE {end[1][self.lp.objective]} CHECKED")
+            self.lines += [self.table_line(k, pair) for k, pair in enumerate(zip(*end[1:]))] if kind == "UNBOUNDED" else []
+            return kind
+        if kind == "CROSSED":
+            say(f"{verb} INFEASIBLE STEPS {steps} CROSSED {end[1] + 1} CHECKED")
         else:
-            self.mark = "INFEASIBLE"
-            if kind == "CROSSED":
-                say(f"PRIMAL INFEASIBLE STEPS {steps} CROSSED {end[1] + 1} CHECKED")
-            else:
-                say(f"PRIMAL INFEASIBLE STEPS {steps} RAY CHECKED")
-                self.lines += [self.table_line(k, [value]) for k, value in enumerate(end[1]) if value]
-        return self.mark
+            say(f"{verb} INFEASIBLE STEPS {steps} RAY CHECKED")
+            self.lines += self.factors(end[1])
+        return "INFEASIBLE"
+
+    def factors(self, ray):
+        return [self.table_line(k, [value]) for k, value in enumerate(ray) if value]
+
+    def parametric(self, verb):
+        "PARAOBJ or PARARHS, from XPARAM to XPARMAX"
+        self.select()
+        problem, cells = self.setup[0], self.cells
+        change = cells.get("XCHROW" if verb == "PARAOBJ" else "XCHCOL")
+        if verb == "PARAOBJ" and problem.rows.get(change) != "N":
+            raise VerbFault(6)
+        if verb == "PARARHS" and change not in problem.sets["RHS"]:
+            raise VerbFault(7)
+        if "XPARMAX" not in cells or cells["XPARMAX"] < cells["XPARAM"]:
+            raise VerbFault(9 if "XPARMAX" in cells else 8)
+        self.mark, most = None, 1_000_000 if cells["XITERLIM"] is None else cells["XITERLIM"]
+        if verb == "PARAOBJ":
+            changes = expected_postoptimal.OfObjective(self.lp, list(problem.rows).index(change))
+        else:
+            values = problem.sets["RHS"][change]
+            changes = expected_postoptimal.OfLimits(self.lp, [values.get(name, Fraction(0)) for name in problem.rows] + [Fraction(0)] * self.lp.n)
+        run = expected_postoptimal.Sweep(self.table, changes, most)
+        opening, steps = run.opening(cells["XPARAM"])
+        if opening[0] != "OPTIMAL":
+            if opening[0] != "LIMIT":
+                self.verdict(verb, opening, steps)
+            return opening
+        parts, end = run.intervals(cells["XPARAM"], cells["XPARMAX"])
+        if end[0] == "LIMIT":
+            return end
+        self.lines.append(f"{verb} FROM {cells['XPARAM']} CHANGE {change}")
+        for number, (first, last, table) in enumerate(parts, 1):
+            self.lines.append(f"INTERVAL {number} FROM {first} TO {last}")
+            self.lines += [self.table_line(k, line) for k, line in enumerate(table)]
+        cells["XPARAM"] = parts[-1][1]
+        self.lines.append(f"{verb} {end[0]} {cells['XPARAM']}")
+        if end[0] == "UNBOUNDED PAST":
+            self.lines += [self.table_line(k, pair) for k, pair in enumerate(zip(*end[1:]))]
+        elif end[0] == "INFEASIBLE PAST":
+            self.lines += self.factors(end[1])
+        return ("OPTIMAL",)
+
+    def ranges(self):
+        self.lines += ["RANGE"]
+        for title, lines in expected_postoptimal.ranges(self.table):
+            self.lines += [title, *(self.table_line(k, line) for k, line in lines)]
 
     def solution(self):
         lp, table, value, prices = self.lp, self.table, self.table.value(), self.table.prices()
@@ -447,6 +579,40 @@ class Run:
         if not lp.n:
             self.lines += ["SECTION 2 - COLUMNS", "NUMBER COLUMN AT ACTIVITY COST LOWER UPPER REDUCED"]
 
+    def move(self, cell, value):
+        if cell == "XITERLIM" and value == "NONE":
+            self.cells[cell] = None
+        else:
+            self.cells[cell] = number(value) if cell in ("XITERLIM", "XPARAM", "XPARMAX") else value
+        if cell in ("XOBJ", "XRHS"):
+            self.mark = None
+
+    def file(self, verb):
+        "CONVERT and REVISE"
+        old = self.filed("XOLDNAME") if verb == "REVISE" else None
+        problem = old.revised(self.deck()) if old else Problem(self.deck())
+        problem.name = self.cells.get("XPBNAME", problem.name)
+        self.problems[problem.name], self.last, self.setup, self.mark = problem, problem.name, None, None
+        counts = len(problem.rows), len(problem.columns), problem.entries()
+        self.lines.append("{:<7} {:<8} ROWS {} COLUMNS {} ENTRIES {}".format(verb, problem.name, *counts))
+
+    def set_up(self, words):
+        options = {"bound": None, "range": None, "sense": "MAX" if "MAX" in words else "MIN"}
+        for kind in ("BOUND", "RANGE"):
+            if kind in words:
+                options[kind.lower()] = words[words.index(kind) + 1]
+        problem = self.filed("XPBNAME")
+        self.setup = problem, options
+        self.select()
+        self.mark, self.table = None, Table(self.lp)
+        self.lines.append(f"SETUP   {problem.name:<8} {options['sense']}")
+
+    def punch(self):
+        problem = self.filed("XPBNAME")
+        cards = list(problem.deck())
+        self.punched += cards
+        self.lines.append(f"BCDOUT  {problem.name:<8} CARDS {len(cards)}")
+
     def run(self):
         at = executed = 0
         while at < len(self.statements):
@@ -456,64 +622,80 @@ class Run:
             card, verb, words = self.statements[at]
             at, executed = at + 1, executed + 1
             words = [word.strip("'") for word in words]
-            if verb == "EXIT":
-                break
-            if verb == "GOTO":
-                at = self.labels[words[0]]
-            elif verb == "TITLE":
-                self.lines.append("TITLE " + (words[0] if words else ""))
-            elif verb == "INITIALZ":
-                self.reset()
-            elif verb == "MOVE":
-                is_number = words[0] in ("XITERLIM", "XPARAM", "XPARMAX")
-                self.cells[words[0]] = number(words[1]) if is_number else words[1] if len(words) > 1 else ""
-                if words[0] in ("XOBJ", "XRHS"):
-                    self.mark = None
-            elif verb == "MVADR":
-                self.demands[words[0]] = self.labels[words[1]]
-            elif verb in ("CONVERT", "REVISE"):
-                if verb == "CONVERT":
-                    problem = Problem(self.deck())
+            try:
+                if verb == "EXIT":
+                    break
+                if verb == "GOTO":
+                    at = self.labels[words[0]]
+                elif verb in ("PRIMAL", "PARAOBJ", "PARARHS"):
+                    end = self.primal() if verb == "PRIMAL" else self.parametric(verb)
+                    if end[0] == "LIMIT":
+                        self.lines.append(f"STOP 16 ITERATION LIMIT {end[1]} CARD {card}")
+                        return 16
+                    if end[0] != "OPTIMAL":
+                        demand, status = ("XDOUNB", 2) if end[0] == "UNBOUNDED" else ("XDONFS", 1)
+                        if demand not in self.demands:
+                            self.lines.append(f"END {status}")
+                            return status
+                        at = self.demands[demand]
                 else:
-                    problem = self.problems[self.cells.get("XOLDNAME", self.last)].revised(self.deck())
-                problem.name = self.cells.get("XPBNAME", problem.name)
-                self.problems[problem.name], self.last, self.setup, self.mark = problem, problem.name, None, None
-                counts = len(problem.rows), len(problem.columns), problem.entries()
-                self.lines.append("{:<7} {:<8} ROWS {} COLUMNS {} ENTRIES {}".format(verb, problem.name, *counts))
-            elif verb == "SETUP":
-                options = {"bound": None, "range": None, "sense": "MAX" if "MAX" in words else "MIN"}
-                for kind in ("BOUND", "RANGE"):
-                    if kind in words:
-                        options[kind.lower()] = words[words.index(kind) + 1]
-                problem = self.problems[self.cells.get("XPBNAME", self.last)]
-                self.setup, self.mark = (problem, options), None
-                self.select()
-                self.table = Table(self.lp)
-                self.lines.append(f"SETUP   {problem.name:<8} {options['sense']}")
-            elif verb == "PRIMAL":
-                end = self.primal()
-                if end == "LIMIT":
-                    self.lines.append(f"STOP 16 ITERATION LIMIT {self.cells['XITERLIM']} CARD {card}")
-                    return 16
-                if end != "OPTIMAL":
-                    demand, status = ("XDONFS", 1) if end == "INFEASIBLE" else ("XDOUNB", 2)
-                    if demand not in self.demands:
-                        self.lines.append(f"END {status}")
-                        return status
-                    at = self.demands[demand]
-            elif verb == "SOLUTION":
-                self.solution()
-            else:
-                raise Fault(f"verb {verb}")
+                    self.execute(verb, words)
+            except VerbFault as fault:
+                self.lines.append(f"STOP 10 VERB FAULT {fault} CARD {card}")
+                return 10
         self.lines.append("END 0")
         return 0
+
+    def execute(self, verb, words):
+        "a statement after which the next one follows"
+        if verb == "TITLE":
+            self.lines.append("TITLE " + (words[0] if words else ""))
+        elif verb == "INITIALZ":
+            self.reset()
+        elif verb == "MOVE":
+            self.move(words[0], words[1] if len(words) > 1 else "")
+        elif verb == "MVADR":
+            self.demands[words[0]] = self.labels[words[1]]
+        elif verb in ("CONVERT", "REVISE"):
+            self.file(verb)
+        elif verb == "SETUP":
+            self.set_up(words)
+        elif verb == "SOLUTION":
+            self.needs_mark("OPTIMAL", "INFEASIBLE", "UNBOUNDED")
+            self.solution()
+        elif verb == "RANGE":
+            self.needs_mark("OPTIMAL")
+            self.ranges()
+        elif verb == "BCDOUT":
+            self.punch()
+        else:
+            raise Fault(f"verb {verb}")
+
+
+def made_job(n):
+    "the generated job: a unit from source i to destination j costs (7i + 11j) mod 19, and 1"
+    item = "    {:<10}{:<10}{}".format
+    sources, destinations = ([f"{letter}{k:03}" for k in range(1, n + 1)] for letter in "SD")
+    columns = [(f"X{i:03}{j:03}", f"S{i:03}", f"D{j:03}", (7 * i + 11 * j) % 19 + 1) for i in range(1, n + 1) for j in range(1, n + 1)]
+    verbs = ("PROGRAM", "INITIALZ", "MOVE(XITERLIM,1000000)", "CONVERT", "SETUP", "PRIMAL", "EXIT", "PEND")
+    cards = [*(f"         {verb}" for verb in verbs), "NAME          TRANSP", "ROWS", " N  COST"]
+    cards += [*(f" L  {name}" for name in sources), *(f" G  {name}" for name in destinations), "COLUMNS"]
+    for name, source, destination, cost in columns:
+        cards += [item(name, "COST", cost), item(name, source, 1), item(name, destination, 1)]
+    cards += ["RHS", *(item("RHS", name, 10) for name in sources + destinations), "ENDATA"]
+    return "\n".join(cards) + "\n"
 
 
 def main(words):
     if words and words[0] in ("-h", "--help"):
         print(__doc__)
         return 0
-    text = open(words[0], encoding="latin-1").read() if words else sys.stdin.read()
+    punch = words[1] if words[:1] == ["--punch"] and len(words) > 1 else None
+    words = words[2:] if punch else words
+    if words[:1] == ["--make"] and len(words) == 2 and words[1].isdigit():
+        text = made_job(int(words[1]))
+    else:
+        text = open(words[0], encoding="latin-1").read() if words else sys.stdin.read()
     try:
         run = Run(text)
         status = run.run()
@@ -521,6 +703,9 @@ def main(words):
         print(f"expected_listing.py: not a job that is known here: {fault}", file=sys.stderr)
         return 70
     print("\n".join(run.lines))
+    if punch and run.punched:
+        with open(punch, "w", encoding="latin-1") as file:
+            file.write("\n".join(run.punched) + "\n")
     return status
 
 

@@ -19,9 +19,13 @@ RANGES = (("rows_at_limit", "SECTION 1 - ROWS AT LIMIT LEVEL", ("at", "activity"
            ("at", "activity", "limit_low", "limit_high", "cost", "cost_low", "cost_high")),
           ("rows_between", "SECTION 3 - ROWS AT INTERMEDIATE LEVEL", ("at", "activity", "factor_low", "factor_high")),
           ("columns_between", "SECTION 4 - COLUMNS AT INTERMEDIATE LEVEL", ("at", "activity", "cost", "cost_low", "cost_high")))
+PART = ("at", "value", "value_rate", "price", "price_rate")
 NUMBER = r"-?\d+(?:/\d+)?"
 VERDICT = re.compile(
     rf"(PRIMAL|PARAOBJ|PARARHS) (OPTIMAL|INFEASIBLE|UNBOUNDED) STEPS (\d+) (?:OBJECTIVE ({NUMBER})|CROSSED (\d+)|RAY) (CHECKED|UNCHECKED .*)$")
+SWEEP = re.compile(rf"(PARAOBJ|PARARHS) FROM ({NUMBER}) CHANGE (.*)$")
+INTERVAL = re.compile(rf"INTERVAL (\d+) FROM ({NUMBER}) TO ({NUMBER})$")
+SWEPT = re.compile(rf"(?:PARAOBJ|PARARHS) (ENDS AT|UNBOUNDED PAST|INFEASIBLE PAST) ({NUMBER})$")
 TABLE = re.compile(r"( *\d+) (.{8}) (.+)$")
 
 
@@ -51,6 +55,25 @@ def parse(text):
             at += 1
         return taken
 
+    def sweep(found):
+        "a parametric run: its intervals, and how it ends"
+        nonlocal at
+        report = {"report": "parametric", "by": found[1].lower(), "from": found[2], "change": found[3], "intervals": []}
+        while at < len(lines) and (interval := INTERVAL.match(lines[at])):
+            at += 1
+            report["intervals"].append({"from": interval[2], "to": interval[3], "lines": table(PART)})
+        if at < len(lines):
+            end = SWEPT.match(lines[at])
+            if not end or not report["intervals"]:
+                raise NoListing(f"line {at + 1}: no end of a parametric run")
+            at += 1
+            report |= {"end": end[1].split()[0].lower(), "at": end[2]}
+            if end[1] == "UNBOUNDED PAST":
+                report["direction"] = table(("activity", "direction"))
+            elif end[1] == "INFEASIBLE PAST":
+                report["ray"] = table(("multiplier",))
+        return report
+
     while at < len(lines):
         line = lines[at]
         at += 1
@@ -62,6 +85,10 @@ def parse(text):
         elif counts:
             reports.append({"report": counts[1].strip().lower(), "name": counts[2].rstrip(), "rows": int(counts[3]), "columns": int(counts[4]),
                             "entries": int(counts[5])})
+        elif punched := re.match(r"BCDOUT  (.{8}) CARDS (\d+)$", line):
+            reports.append({"report": "bcdout", "name": punched[1].rstrip(), "cards": int(punched[2])})
+        elif found := SWEEP.match(line):
+            reports.append(sweep(found))
         elif setup:
             reports.append({"report": "setup", "name": setup[1].rstrip(), "sense": setup[2]})
         elif verdict:
@@ -112,6 +139,9 @@ def each_line(report):
         if isinstance(report.get(key), list):
             for line in report[key]:
                 yield key, line
+    for interval in report.get("intervals", []):
+        for line in interval["lines"]:
+            yield "intervals", line
 
 
 def name_back(listing, names):
@@ -122,6 +152,9 @@ def name_back(listing, names):
         for _, line in each_line(report):
             table = names.get("rows" if rows is None or line["number"] <= rows else "columns", {})
             line["name"] = table.get(line["name"], line["name"])
+        if "change" in report:
+            table = names.get("rows", {}) if report["by"] == "paraobj" else {}
+            report["change"] = table.get(report["change"], report["change"])
         constants = list(names.get("constants", {}).values())
         if "objective" in report and len(constants) == 1:
             report["objective_with_constant"] = str(Fraction(report["objective"]) + Fraction(constants[0]))
@@ -130,7 +163,7 @@ def name_back(listing, names):
 def add_decimals(listing):
     for report in listing["reports"]:
         lines = [line for _, line in each_line(report)]
-        for place in [report, *lines]:
+        for place in [report, *report.get("intervals", []), *lines]:
             for key, value in list(place.items()):
                 if key not in ("name", "text") and isinstance(value, str) and re.fullmatch(NUMBER, value):
                     place[key + "_decimal"] = float(Fraction(value))

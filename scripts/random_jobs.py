@@ -1,12 +1,14 @@
 #!/usr/bin/env python3
 """Compares the program with scripts/expected_listing.py on small jobs made at random: rows of each type, ranges, bounds of each type,
-MIN and MAX, two right-hand sides in one run. Outside the gate: a run of 300 takes two minutes unproved, a few seconds else.
+MIN and MAX, RANGE, two right-hand sides in one run. Outside the gate: a run of 300 takes two minutes unproved, a few seconds else.
 
-usage: random_jobs.py [--unproved] [FIRST [COUNT]]      jobs FIRST, FIRST + 1, ..; 0 and 300 where nothing is said
+usage: random_jobs.py [--unproved | --itself] [--parametric] [--revise] [FIRST [COUNT]]      jobs FIRST, FIRST + 1, ..; 0 and 300 where nothing is said
 
-It prints how many differ, and the first of them whole; ends with 1 where one does, with 70 where there is no program."""
-import collections, random, sys
-import expected_listing, runner
+It prints how many differ, and the first of them whole; ends with 1 where one does, with 70 where there is no program. --unproved: the
+program as it stands, where no proved one is. --parametric, --revise: PARAOBJ and PARARHS, REVISE besides. --itself: no program runs; what
+expected_listing.py says is checked by the meaning of the words, where a job is small enough (scripts/every_basis.py)."""
+import collections, random, re, sys
+import every_basis, expected_listing, runner
 
 
 def number(chance):
@@ -16,56 +18,189 @@ def number(chance):
     return f"{chance.randint(-99, 99) / 10}" if kind < 0.8 else f"{chance.randint(-999, 999)}E{chance.randint(-2, 1)}"
 
 
-def job(seed):
+ITEM = "    {:<10}{:<10}{}".format
+
+
+def statements(*lines):
+    "cards of the program; a label stands before a colon"
+    return ["{:<8} {}".format(*line.rpartition(":")[::2]) for line in lines]
+
+
+def solving(name):
+    "PRIMAL and what it leaves, as labels with this letter"
+    return statements(f"MVADR(XDONFS,{name}NOT)", f"MVADR(XDOUNB,{name}NOT)", "PRIMAL", "SOLUTION", "RANGE", f"GOTO({name}END)",
+                      f"{name}NOT:SOLUTION", f"{name}END:TITLE('NEXT')")
+
+
+def sweeping(chance, verb, change):
+    "a parametric run, after which the next one goes on"
+    first = chance.randint(-9, 9)
+    return statements(change, f"MOVE(XPARAM,{first})", f"MOVE(XPARMAX,{first + chance.choice((0, 1, 5, 20, 999))})", f"MVADR(XDONFS,{verb}N)",
+                      f"MVADR(XDOUNB,{verb}N)", verb, f"{verb}N:TITLE('NEXT')")
+
+
+class Deck:
+    """the sections of a deck made at random. A friendly one has whole entries and a plan that keeps most of its limits, so that more of its jobs
+    have a best plan."""
+    def __init__(self, chance):
+        self.rows = [("N", "OBJ"), ("N", "CHG")]
+        self.rows += [(chance.choice("LGELGN" if chance.random() < 0.2 else "LGE"), f"R{k}") for k in range(chance.randint(1, 4))]
+        chance.shuffle(self.rows)
+        is_friendly = chance.random() < 0.7
+        plan = {f"C{j}": chance.randint(0, 5) for j in range(chance.randint(0, 6))}
+        entries = {(column, row): chance.randint(-9, 9) if is_friendly else number(chance)
+                   for column in plan for _, row in self.rows if chance.random() < 0.7}
+        self.entries = [(column, row, value) for (column, row), value in entries.items()]
+        self.values, self.bounds = [], []
+        for name in ("B1", "B2"):
+            for kind, row in self.rows:
+                if chance.random() < 0.8:
+                    kept = sum(value * plan[column] for (column, other), value in entries.items() if other == row) if is_friendly else 0
+                    room = {"L": chance.randint(0, 9), "G": -chance.randint(0, 9)}.get(kind, 0)
+                    self.values.append((name, row, kept + room if is_friendly else number(chance)))
+        self.ranges = [("RG", row, number(chance)) for kind, row in self.rows if kind != "N" and chance.random() < 0.3]
+        for column in dict.fromkeys(column for column, _ in entries):
+            if chance.random() < 0.55:
+                for kind in chance.choice((["UP"], ["LO"], ["FX"], ["FR"], ["MI"], ["LO", "UP"])):
+                    room = {"LO": -chance.randint(0, 5), "UP": chance.randint(0, 5)}.get(kind, 0)
+                    value = "" if kind in ("FR", "MI") else plan[column] + room if is_friendly else number(chance)
+                    self.bounds.append(f" {kind} {'BD':<10}{column:<10}{value}".rstrip())
+
+    def cards(self):
+        cards = ["NAME          RANDOM", "ROWS", *(f" {kind}  {row}" for kind, row in self.rows), "COLUMNS"]
+        cards += [ITEM(*entry) for entry in self.entries] + ["RHS", *(ITEM(*value) for value in self.values)]
+        cards += ["RANGES", *(ITEM(*value) for value in self.ranges)] if self.ranges else []
+        return cards + (["BOUNDS", *self.bounds] if self.bounds else []) + ["ENDATA"]
+
+
+def edits(chance, problem):
+    "an action with its cards, at random, for each section of a revision some"
+    rows, columns, sets = list(problem.rows), list(problem.columns), problem.sets
+    new = f"N{chance.randint(0, 99)}"
+
+    def acted(word, *cards, name=""):
+        return [f" {word:<13}{name}".rstrip(), *(card.rstrip() for card in cards)]
+
+    def entry(name, row):
+        return ITEM(name, row, number(chance))
+
+    yield "ROWS", acted("MODIFY", f" {chance.choice('LGE')}  {chance.choice(rows)}")
+    yield "ROWS", acted("DELETE", f"    {chance.choice(rows)}")
+    yield "ROWS", acted(chance.choice(("BEFORE", "AFTER")), f" {chance.choice('LGEN')}  {new}", f" L  {new}B", name=chance.choice([*rows, ""]))
+    if columns:
+        column, row = chance.choice(columns), chance.choice(rows)
+        yield "COLUMNS", acted("MODIFY", entry(column, row), entry(column, chance.choice(rows)))
+        yield "COLUMNS", acted("DELETE", ITEM(column, row, ""))
+        yield "COLUMNS", acted("DELETE", f"    {chance.choice(columns)}")
+    yield "COLUMNS", acted(chance.choice(("BEFORE", "AFTER")), entry(new, chance.choice(rows)), name=chance.choice([*columns, ""]))
+    for section in ("RHS", "RANGES"):
+        name = chance.choice([*sets[section], new])
+        row = chance.choice([row for row in rows if section == "RHS" or problem.rows[row] != "N"] or rows[:1])
+        if section == "RHS" or problem.rows[row] != "N":
+            yield section, acted("MODIFY", entry(name, row))
+        yield section, acted("DELETE", ITEM(name, row if chance.random() < 0.7 else "", ""))
+    if columns:
+        name, column = chance.choice([*sets["BOUNDS"], new]), chance.choice(columns)
+        kind = chance.choice(("UP", "LO", "FX", "FR", "MI", "PL"))
+        yield "BOUNDS", acted("MODIFY", f" {kind} {name:<10}{column:<10}{number(chance) if kind in ('UP', 'LO', 'FX') else ''}")
+        yield "BOUNDS", acted("DELETE", ITEM(name, column if chance.random() < 0.7 else "", ""))
+
+
+def revision(chance, problem):
+    "a deck that revises the problem, of edits that can be made one after the other, and the revised problem"
+    cards, revised, begun = ["NAME          REVISED"], problem, None
+    for section in ("ROWS", "COLUMNS", "RHS", "RANGES", "BOUNDS"):
+        for _ in range(chance.choice((0, 1, 1, 2))):
+            kind, edit = chance.choice([edit for edit in edits(chance, revised) if edit[0] == section] or [(None, [])])
+            tried = cards + ([section] if begun != section else []) + edit
+            try:
+                candidate = problem.revised([*tried, "ENDATA"])
+            except (expected_listing.Fault, KeyError, ValueError):
+                continue
+            if kind and is_lawful(candidate):
+                cards, revised, begun = tried, candidate, section
+    return [*cards, "ENDATA"], revised
+
+
+def is_lawful(problem):
+    "no row of type N has a range, and the objective is there"
+    ranged = {row for items in problem.sets["RANGES"].values() for row in items}
+    return problem.rows.get("OBJ") == "N" and all(kind != "N" or row not in ranged for row, kind in problem.rows.items())
+
+
+def revising(chance, deck):
+    "the statements that revise the deck's problem and solve what comes of it, and the deck of the revision"
+    problem = expected_listing.Problem(deck.cards())
+    cards, revised = revision(chance, problem)
+    words = [f"'{word}','{name}'" for word, section in (("RANGE", "RANGES"), ("BOUND", "BOUNDS")) for name in revised.sets[section]][:1]
+    setup = f"SETUP({','.join([*words, chance.choice(SENSES)])})"
+    return statements("REVISE", "INITIALZ", "MOVE(XOBJ,'OBJ')", setup) + solving("R"), cards
+
+
+SENSES = ("'MIN'", "'MAX'")
+
+
+def job(seed, is_parametric=False, revises=False):
     chance = random.Random(seed)
-    item = "    {:<10}{:<10}{}".format
-    rows = [("N", "OBJ")] + [(chance.choice("LGELGN" if chance.random() < 0.2 else "LGE"), f"R{k}") for k in range(chance.randint(1, 5))]
-    chance.shuffle(rows)
-    entries = [(f"C{j}", row) for j in range(chance.randint(0, 6)) for _, row in rows if chance.random() < 0.7]
-    values = [(name, row) for name in ("B1", "B2") for _, row in rows if chance.random() < 0.8]
-    ranges = [row for kind, row in rows if kind != "N" and chance.random() < 0.3]
-    bounds = []
-    for column in dict.fromkeys(column for column, _ in entries):
-        if chance.random() < 0.55:
-            for kind in chance.choice((["UP"], ["LO"], ["FX"], ["FR"], ["MI"], ["LO", "UP"])):
-                bounds.append(f" {kind} {'BD':<10}{column:<10}{number(chance) if kind not in ('FR', 'MI') else ''}".rstrip())
-    words = (["'RANGE','RG'"] if ranges else []) + (["'BOUND','BD'"] if bounds else []) + [chance.choice(("'MIN'", "'MAX'"))]
-    program = ["         PROGRAM", "         MVADR(XDONFS,NEXT)", "         MVADR(XDOUNB,NEXT)", "         CONVERT",
-               "         MOVE(XOBJ,'OBJ')", f"         SETUP({','.join(words)})", "         PRIMAL", "NEXT     SOLUTION"]
-    if len({name for name, _ in values}) == 2:
-        program += ["         MOVE(XRHS,'B2')", "         MVADR(XDONFS,LAST)", "         MVADR(XDOUNB,LAST)", "         PRIMAL", "LAST     SOLUTION"]
-    deck = ["NAME          RANDOM", "ROWS", *(f" {kind}  {row}" for kind, row in rows), "COLUMNS"]
-    deck += [item(column, row, number(chance)) for column, row in entries] + ["RHS"]
-    deck += [item(name, row, number(chance)) for name, row in values]
-    deck += ["RANGES", *(item("RG", row, number(chance)) for row in ranges)] if ranges else []
-    deck += ["BOUNDS", *bounds] if bounds else []
-    return "\n".join([*program, "         EXIT", "         PEND", *deck, "ENDATA"]) + "\n"
+    deck = Deck(chance)
+    words = (["'RANGE','RG'"] if deck.ranges else []) + (["'BOUND','BD'"] if deck.bounds else []) + [chance.choice(SENSES)]
+    program = statements("PROGRAM", "CONVERT", "MOVE(XOBJ,'OBJ')", f"SETUP({','.join(words)})") + solving("A")
+    names = {name for name, _, _ in deck.values}
+    if names == {"B1", "B2"}:
+        program += statements("MOVE(XRHS,'B2')") + solving("B")
+    if is_parametric:
+        program += sweeping(chance, "PARAOBJ", "MOVE(XCHROW,'CHG')")
+        program += sweeping(chance, "PARARHS", f"MOVE(XCHCOL,'{max(names)}')") if names else []
+    cards = deck.cards()
+    if revises:
+        more, others = revising(chance, deck)
+        program, cards = program + more, cards + others
+    return "\n".join([*program, *statements("EXIT", "PEND"), *cards]) + "\n"
+
+
+def kind_of(line):
+    "what is counted of a listing: verdicts, RANGE, ends of parametric runs"
+    if line == "RANGE":
+        return "ranges"
+    if line.startswith("REVISE "):
+        return "revised"
+    found = re.match("PRIMAL (OPTIMAL|INFEASIBLE|UNBOUNDED) |(PARAOBJ|PARARHS) (ENDS|INFEASIBLE|UNBOUNDED) ", line)
+    return found and " ".join(word for word in found.groups() if word).lower()
+
+
+def by_program(jobs, expected, unproved):
+    "the names of the jobs to which the program gives another answer, and what it gives"
+    answers = runner.run_jobs({name: text.encode() for name, text in jobs.items()}, unproved)
+    return {name: answers[name][1].decode("latin-1") for name, (status, text) in expected.items() if answers[name] != (status, text.encode())}
 
 
 def main(words):
-    unproved = "--unproved" in words
-    numbers = [word for word in words if word != "--unproved"]
-    if any(not word.isdigit() for word in numbers) or len(numbers) > 2:
+    modes = {word for word in words if word in ("--unproved", "--itself", "--parametric", "--revise")}
+    numbers = [word for word in words if word not in modes]
+    if any(not word.isdigit() for word in numbers) or len(numbers) > 2 or {"--unproved", "--itself"} <= modes:
         print(__doc__)
-        return 0 if numbers in (["-h"], ["--help"]) else 64
+        return 0 if words in (["-h"], ["--help"]) else 64
     first, count = [int(word) for word in numbers] + [0, 300][len(numbers):]
-    jobs = {str(seed): job(seed) for seed in range(first, first + count)}
-    wanted, verdicts = {}, collections.Counter()
+    jobs = {str(seed): job(seed, "--parametric" in modes, "--revise" in modes) for seed in range(first, first + count)}
+    expected, verdicts, looked, wrong = {}, collections.Counter(), 0, {}
     for name, text in jobs.items():
-        run = expected_listing.Run(text)
+        run = every_basis.Watched(text) if "--itself" in modes else expected_listing.Run(text)
         status = run.run()
-        wanted[name] = status, ("\n".join(run.lines) + "\n").encode()
-        verdicts.update(line.split()[1].lower() for line in run.lines if line.startswith("PRIMAL "))
-    try:
-        answers = runner.run_jobs({name: text.encode() for name, text in jobs.items()}, unproved)
-    except runner.NoProgram as cause:
-        print(f"random_jobs.py: {cause}", file=sys.stderr)
-        return 70
-    wrong = [name for name in jobs if answers[name] != wanted[name]]
-    print(f"{count} jobs, {len(wrong)} differ; verdicts: {', '.join(f'{n} {kind}' for kind, n in sorted(verdicts.items()))}")
-    if wrong:
-        for text in (f"job {wrong[0]}:", jobs[wrong[0]], "the program:", answers[wrong[0]][1].decode("latin-1"), "expected:", wanted[wrong[0]][1].decode()):
-            print(text, file=sys.stderr)
+        expected[name] = status, "\n".join(run.lines) + "\n"
+        verdicts.update(kind for kind in map(kind_of, run.lines) if kind)
+        if "--itself" in modes:
+            looked += run.looked
+            wrong.update({name: "\n".join(run.differences)} if run.differences else {})
+    if "--itself" not in modes:
+        try:
+            wrong = by_program(jobs, expected, "--unproved" in modes)
+        except runner.NoProgram as cause:
+            print(f"random_jobs.py: {cause}", file=sys.stderr)
+            return 70
+    told = f"; {looked} answers checked" if "--itself" in modes else ""
+    print(f"{count} jobs, {len(wrong)} differ; {', '.join(f'{n} {kind}' for kind, n in sorted(verdicts.items()))}{told}")
+    for name, text in list(wrong.items())[:1]:
+        print(f"job {name}:\n{jobs[name]}\nit gives:\n{text}\nexpected:\n{expected[name][1]}", file=sys.stderr)
     return 1 if wrong else 0
 
 

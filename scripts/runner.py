@@ -17,16 +17,20 @@ def proved_program():
     return found.stdout.strip() if found.returncode == 0 else None
 
 
-def run_jobs(jobs, unproved=False):
-    "from names to bytes of jobs, the status and the listing of each"
+def run_proved(program, job):
+    "the status, the listing and the punched deck (None where nothing is punched) of a job"
+    with tempfile.TemporaryDirectory() as folder:
+        ended = subprocess.run([program], input=job, stdout=subprocess.PIPE, cwd=folder, timeout=600)
+        punch = pathlib.Path(folder, "PUNCH")
+        return ended.returncode, ended.stdout, punch.read_bytes() if punch.exists() else None
+
+
+def run_jobs(jobs, unproved=False, whole=True):
+    """from names to bytes of jobs, the status and the listing of each. The unproved run may have no answer to a job: then the status is None,
+    or, where the whole is wanted, that is told as the want of a program."""
     program = None if unproved else proved_program()
     if program:
-        answers = {}
-        for name, job in jobs.items():
-            with tempfile.TemporaryDirectory() as folder:
-                ended = subprocess.run([program], input=job, stdout=subprocess.PIPE, cwd=folder, timeout=120)
-            answers[name] = ended.returncode, ended.stdout
-        return answers
+        return {name: run_proved(program, job)[:2] for name, job in jobs.items()}
     if not unproved or not shutil.which("rt"):
         raise NoProgram("no proved program is there (scripts/build.sh builds it)" if not unproved else "no command rt on the path")
     with tempfile.TemporaryDirectory() as folder:
@@ -39,4 +43,9 @@ def run_jobs(jobs, unproved=False):
     listings = {name.decode(): re.sub(rb"^case=.*\n?", b"", listing, flags=re.M) for name, listing in zip(parts[1::2], parts[2::2])}
     if not statuses:
         raise NoProgram("the unproved run gave no answer:\n" + text.decode(errors="replace")[-600:])
+    silent = [name for name in jobs if name not in statuses]
+    if whole and silent:
+        line = re.search(rb"^case=%s .*$" % re.escape(silent[0].encode()), text, re.M)
+        said = line[0].decode() if line else text[-300:].decode(errors="replace")
+        raise NoProgram(f"the unproved run gave no answer to {len(silent)} of {len(jobs)} jobs, as {silent[0]}: {said}")
     return {name: (statuses.get(name), re.sub(rb"cases=\d+ ended=.*\n?", b"", listings.get(name, b""))) for name in jobs}

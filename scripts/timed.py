@@ -1,3 +1,4 @@
+#!/usr/bin/env python3
 """Runs a program five times on a job. Prints the last line of its listing, the least processor time and the peak memory.
 usage: timed.py JOB PROGRAM [WORD..]"""
 import resource, subprocess, sys

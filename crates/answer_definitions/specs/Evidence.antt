@@ -1,7 +1,7 @@
 -- When a solving statement may stop with an overflow.
 --     OverflowsAt question sheet bases e place     the evidence holds at a basis that the path in hand has reached, where these are the
 --                                                  bases of the path up to the statement
-use Rattle.std.specs.Prelude.{◌≡◌, ℕ, ◌+◌, Bool, List, [], ◌∷◌, ◌++◌, length, Option, Some, None}
+use Rattle.std.specs.Prelude.{◌≡◌, ℕ, ◌+◌, Bool, List, [], ◌∷◌, ◌++◌, length, Option, Some, None, IfSome}
 use Rattle.exact_values.specs.Rational.{ℚ}
 use Rattle.lp_definitions.specs.declared.Evidence.{Evidence}
 use Rattle.path_definitions.specs.Path.{IsPath, last_of}
@@ -24,12 +24,12 @@ pub record IsEvidence (statement : SolvingStatement) (break : Option ℚ) (left 
   pub holds : EvidenceHolds statement break left bases ends basis way e
   pub is_place : place ≡ Some (record { basis = basis; way = way })
 
--- PRIMAL has gone over these bases in this statement, and has so many steps left
-pub record OverflowsOnPath (sheet : Sheet) (bases : List Basis) (limit : ℕ) (e : Evidence) (place : Option Place) : Type 0 where
+-- PRIMAL has gone over these bases in this statement, and has so many steps left; without a limit any number is left
+pub record OverflowsOnPath (sheet : Sheet) (bases : List Basis) (limit : Option ℕ) (e : Evidence) (place : Option Place) : Type 0 where
   pub steps : List Basis
   pub is_path : IsPath sheet.lp (last_basis bases) steps
   pub left : ℕ
-  pub is_left : length steps + left ≡ limit
+  pub is_left : IfSome limit (λ most. length steps + left ≡ most)
   pub is_evidence : IsEvidence (Primal sheet.lp) None left (bases ++ steps) [] e place
 
 -- the statement of a parametric run

@@ -2,21 +2,22 @@
 --     verdict_of sheet steps ending        the verdict of an end after so many steps
 --     IsVerdict sheet steps ending ..      the verdict, and how its check went
 --     IsSolved sheet s limit end           the path from the basis s ends so
-use Rattle.std.specs.Prelude.{◌≡◌, ℕ, ◌≤◌, List, length}
+use Rattle.std.specs.Prelude.{◌≡◌, ℕ, ◌≤◌, List, length, Option, None, Some, IfSome}
 use Rattle.lp_definitions.specs.LinearProgram.{LinearProgram, value_at}
 use Rattle.check_definitions.specs.declared.Verdict.{Verdict as CheckVerdict}
 use Rattle.check_definitions.specs.Checks.{optimal_check, crossed_check, infeasible_check, unbounded_check}
 use Rattle.path_definitions.specs.Path.{Ending, EndsOptimal, EndsCrossed, EndsInfeasible, EndsUnbounded, PathEnds, GoesOnFor}
+use Rattle.path_definitions.specs.Counts.{counted_steps}
 use Rattle.listing_definitions.specs.Report.{Verdict, OptimalAt, CrossedAt, InfeasibleBy, UnboundedBy, Check, Checked, Unchecked}
 use Rattle.question_definitions.specs.Answers.{Basis, Sheet, PathEnd, Reached, PathLimit}
 use Rattle.answer_definitions.specs.Lines.{pair_lines, ray_lines}
 
--- the objective is the activity of the objective row
+-- the objective is the activity of the objective row; the count of steps stands still at its last value
 abbrev pub verdict_of : Sheet → ℕ → Ending → Verdict
-verdict_of sheet steps (EndsOptimal point prices) = OptimalAt steps (value_at point sheet.lp.objective)
+verdict_of sheet steps (EndsOptimal point prices) = OptimalAt (counted_steps steps) (value_at point sheet.lp.objective)
 verdict_of sheet steps (EndsCrossed k) = CrossedAt k
-verdict_of sheet steps (EndsInfeasible ray) = InfeasibleBy steps (ray_lines sheet ray)
-verdict_of sheet steps (EndsUnbounded point direction) = UnboundedBy steps (value_at point sheet.lp.objective) (pair_lines sheet point direction)
+verdict_of sheet steps (EndsInfeasible ray) = InfeasibleBy (counted_steps steps) (ray_lines sheet ray)
+verdict_of sheet steps (EndsUnbounded point direction) = UnboundedBy (counted_steps steps) (value_at point sheet.lp.objective) (pair_lines sheet point direction)
 
 -- the check of an end
 abbrev pub check_of : LinearProgram → Ending → CheckVerdict
@@ -34,13 +35,15 @@ pub record IsVerdict (sheet : Sheet) (steps : ℕ) (ending : Ending) (verdict : 
   pub is_verdict : verdict ≡ verdict_of sheet steps ending
   pub is_check : check_of sheet.lp ending ≡ found check
 
--- the path goes over these bases, within its limit, and ends with this verdict
-pub record ReachesVerdict (sheet : Sheet) (s : Basis) (limit : ℕ) (bases : List Basis) (verdict : Verdict) (check : Check) : Type 0 where
+-- the path goes over these bases, within its limit if it has one, and ends with this verdict
+pub record ReachesVerdict (sheet : Sheet) (s : Basis) (limit : Option ℕ) (bases : List Basis) (verdict : Verdict) (check : Check) : Type 0 where
   pub ending : Ending
   pub ends : PathEnds sheet.lp s bases ending
-  pub within_limit : length bases ≤ limit
+  pub within_limit : IfSome limit (λ most. length bases ≤ most)
   pub is_verdict : IsVerdict sheet (length bases) ending verdict check
 
-abbrev pub IsSolved : Sheet → Basis → ℕ → PathEnd → Type 0
+-- only a limit stops a path that goes on
+abbrev pub IsSolved : Sheet → Basis → Option ℕ → PathEnd → Type 0
 IsSolved sheet s limit (Reached bases verdict check) = ReachesVerdict sheet s limit bases verdict check
-IsSolved sheet s limit PathLimit = GoesOnFor sheet.lp s limit
+IsSolved sheet s (Some limit) PathLimit = GoesOnFor sheet.lp s limit
+IsSolved sheet s None PathLimit = ⊥

@@ -1,4 +1,4 @@
-//! The deck of a problem, written out card by card. Nothing here takes memory.
+//! The deck of a problem, and single cards, written out. Nothing here takes memory.
 #![tactic(auto)]
 
 mod card;
@@ -6,4 +6,5 @@ mod count;
 mod deck;
 mod sections;
 
+pub use card::{DataCard, put_card};
 pub use deck::deck_of;

@@ -1,19 +1,29 @@
-//! The path of the linear program that the deck on standard input describes, from the basis of its rows. The objective is the first
-//! N row, and the right-hand sides are the first set.
+//! The path of the linear program that the deck on standard input describes, from the basis of its rows, by either engine. The
+//! objective is the first N row, and the right-hand sides are the first set.
 
 use bounded_primal::{PrimalStop, opening, primal};
 use card_reader::{Cards, read_job};
 use frac128::Frac;
 use job_devices::StreamSource;
-use lp_model::{Lp, NoMemory, Outcome, Sense};
+use lp_model::{Engine, Lp, NoMemory, Outcome, Sense};
 use lp_setup::{Choice, SetupChoice, select};
 use mps_convert::convert;
 use rates_dense::Dense;
+use reinversion::ProductForm;
 use std::alloc::Global;
 use std::io;
 
 /// The path takes at most so many steps.
 const STEPS: u32 = 1_000_000;
+
+/// What keeps the rates of a path.
+#[derive(Clone, Copy)]
+pub enum By {
+    /// The table of all rates.
+    Table,
+    /// The product form of the inverse.
+    ProductForm,
+}
 
 /// Where a path has ended, and what its objective is there.
 #[derive(Clone, Copy)]
@@ -65,8 +75,8 @@ fn end_of(lp: &Lp, outcome: &Outcome) -> End {
 }
 
 /// Where the path of a linear program ends.
-fn path_of(alloc: Global, lp: &Lp) -> Result<End, NoMemory> {
-    let (mut basis, mut rates) = opening::<Dense>(alloc, lp)?;
+fn path_of<E: Engine>(alloc: Global, lp: &Lp) -> Result<End, NoMemory> {
+    let (mut basis, mut rates) = opening::<E>(alloc, lp)?;
     match primal(alloc, lp, &mut basis, &mut rates, STEPS) {
         Ok(outcome) => Ok(end_of(lp, &outcome)),
         Err(PrimalStop::Limit) => Ok(End::Limit),
@@ -75,11 +85,12 @@ fn path_of(alloc: Global, lp: &Lp) -> Result<End, NoMemory> {
     }
 }
 
-/// Where the path of the job on standard input ends.
-fn solved(alloc: Global, cards: &Cards) -> End {
-    match program_of(alloc, cards) {
-        Ok(lp) => path_of(alloc, &lp).unwrap_or(End::NoMemory),
-        Err(end) => end,
+/// Where the path of the job's linear program ends.
+fn solved(alloc: Global, cards: &Cards, by: By) -> End {
+    match (program_of(alloc, cards), by) {
+        (Ok(lp), By::Table) => path_of::<Dense>(alloc, &lp).unwrap_or(End::NoMemory),
+        (Ok(lp), By::ProductForm) => path_of::<ProductForm>(alloc, &lp).unwrap_or(End::NoMemory),
+        (Err(end), _) => end,
     }
 }
 
@@ -102,12 +113,14 @@ fn report(rt: &impl Print, end: End) -> io::Result<()> {
     }
 }
 
-/// Prints where the path of the job on standard input ends.
-pub fn follow(rt: &HostRuntime) -> io::Result<()> {
+/// Prints where the path of the job on standard input ends, by each of these.
+pub fn follow(rt: &HostRuntime, engines: &[By]) -> io::Result<()> {
     let mut source = StreamSource::new(rt.reader());
-    let end = match read_job(rt.alloc(), &mut source) {
-        Ok(cards) => solved(rt.alloc(), &cards),
-        Err(_) => End::NoDeck,
+    let Ok(cards) = read_job(rt.alloc(), &mut source) else {
+        return report(rt, End::NoDeck);
     };
-    report(rt, end)
+    for by in engines {
+        report(rt, solved(rt.alloc(), &cards, *by))?;
+    }
+    Ok(())
 }

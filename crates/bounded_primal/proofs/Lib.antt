@@ -20,3 +20,4 @@ pub mod TurnCalls
 pub mod TurnCases
 pub mod WalkCases
 pub mod TrueOutcomes
+pub mod FreeWalk

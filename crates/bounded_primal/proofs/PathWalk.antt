@@ -10,6 +10,7 @@ use Rattle.lp_definitions.specs.declared.Status.{Status}
 use Rattle.lp_model.specs.declared.reports.Outcome.{Outcome}
 use Rattle.lp_laws.proofs.WaypointLaws.{within_itself, within_by}
 use Rattle.path_definitions.specs.Path.{IsStep, EndsAt, IsPath, last_of}
+use Rattle.path_definitions.specs.Counts.{counted_steps}
 use Rattle.evidence_definitions.specs.Evidence.{EvidenceHolds}
 use Rattle.bounded_primal.specs.Calls.{CallEnds, LieIn, WaypointsFollow, job_of, outcome_of}
 use Rattle.bounded_primal.specs.Stops.{PathFrom, PrimalStops}
@@ -116,14 +117,14 @@ module _ (p : LinearProgram) (s : List Status) (before : List Basics) where
             (within_suffix p.matrix (basics_of next) (earlier ++ s ∷ h.bases) (next ∷ []) (inl (within_itself p.matrix (basics_of next))))
 
     -- the path ends
-    pub ends_there : (limit : ℕ) (outcome : Outcome) → steps ≤ limit → EndsHere p now steps outcome → CallEnds p s now limit outcome
-    ends_there limit outcome within e = record {
+    pub ends_there : (limit told : ℕ) (outcome : Outcome) → steps ≤ limit → told ≡ counted_steps steps → EndsHere p now told outcome → CallEnds p s now limit outcome
+    ends_there limit told outcome within is_told e = record {
       bases = h.bases;
       ending = e.ending;
       ends = record { is_path = h.path.0; ends = subst (λ (x : List Status). EndsAt p x e.ending) (sym h.path.1) e.ends };
       reaches = h.path.1;
       within = omega (arith, h.taken, within);
-      is_outcome = subst (λ (n : ℕ). outcome ≡ outcome_of n e.ending) (sym h.taken) e.is_outcome;
+      is_outcome = subst (λ (n : ℕ). outcome ≡ outcome_of n e.ending) (is_told ∙ ap counted_steps (sym h.taken)) e.is_outcome;
     }
 
     -- or stops

@@ -1,5 +1,5 @@
 -- What an outcome of the path says of the linear program is true.
-use Rattle.std.proofs.Common.{◌≡◌, ℕ, List, length, sym, ◌∙◌, ap, subst, arith}
+use Rattle.std.proofs.Common.{◌≡◌, ℕ, List, length, refl, sym, ◌∙◌, ap, subst, arith}
 use Rattle.std.proofs.lemmas.List.{length-map}
 use Rattle.std.specs.Prelude.{Some, Result, Ok, Err, IfOk}
 use Rattle.lp_definitions.specs.LinearProgram.{Matrix, LinearProgram, Vector, size, variables, value_at, IsLinearProgram}
@@ -19,10 +19,10 @@ use Rattle.path_laws.proofs.Ends.{optimal_end}
 use Rattle.path_laws.proofs.Endless.{crossed_end, unbounded_end}
 use Rattle.path_laws.proofs.Rays.{infeasible_end}
 use Rattle.path_laws.proofs.OnePath.{path_leads}
+use Rattle.path_definitions.specs.Counts.{counted_steps}
 use Rattle.bounded_primal.specs.Calls.{HasRates, CallEnds, outcome_of}
 use Rattle.bounded_primal.specs.Outcomes.{IsTrueOutcome}
 use Rattle.bounded_primal.specs.Turns.{EndsHere}
-use Rattle.bounded_primal.specs.declared.moves.PrimalStop.{PrimalStop}
 use Rattle.bounded_primal.proofs.PathWalk.{begins, ends_there}
 use Rattle.bounded_primal.proofs.TurnChoices.{crossed_ends}
 
@@ -77,10 +77,10 @@ module _ (p : LinearProgram) (lawful : IsLinearProgram p) where
 
     pub true_outcome : (now : List Status) (limit : ℕ) (outcome : Outcome) → CallEnds p s now limit outcome → IsTrueOutcome p outcome
     true_outcome now limit outcome h =
-        subst (IsTrueOutcome p) (sym h.is_outcome) (true_end (last_of s h.bases) (path_leads p s h.bases begun h.ends.is_path) (length h.bases) h.ending h.ends.ends)
+        subst (IsTrueOutcome p) (sym h.is_outcome) (true_end (last_of s h.bases) (path_leads p s h.bases begun h.ends.is_path) (counted_steps (length h.bases)) h.ending h.ends.ends)
 
     -- of a call that may have stopped
-    pub true_result : (now : List Status) (limit : ℕ) (result : Result Outcome PrimalStop) → IfOk result (CallEnds p s now limit) → IfOk result (IsTrueOutcome p)
+    pub true_result : {E : Type 0} (now : List Status) (limit : ℕ) (result : Result Outcome E) → IfOk result (CallEnds p s now limit) → IfOk result (IsTrueOutcome p)
     true_result now limit (Ok outcome) h = true_outcome now limit outcome h
     true_result now limit (Err stop) h = tt
 
@@ -90,7 +90,7 @@ module _ (p : LinearProgram) (matrix : Matrix) (basics : Basics) (s : List Statu
   ended = crossed_ends p s k 0 has.is_basis has.nonsingular found
 
   pub crossed_call : (limit : ℕ) (before : List Basics) → CallEnds p s s limit (Crossed k)
-  crossed_call limit before = ends_there p s before s before 0 (begins p s before) limit (Crossed k) (omega arith) ended
+  crossed_call limit before = ends_there p s before s before 0 (begins p s before) limit 0 (Crossed k) (omega arith) refl ended
 
   pub crossed_truth : IsTrueOutcome p (Crossed k)
   crossed_truth = record { crossed = crossing; infeasible = infeasible_by_crossed p k crossing }

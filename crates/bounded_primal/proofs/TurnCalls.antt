@@ -1,5 +1,5 @@
 -- What the calls of a turn give: where it ends or moves, and the evidence where it stops.
-use Rattle.std.proofs.Common.{◌≡◌, ℕ, ◌-◌, inl, inr, List, [], ◌∷◌, ◌++◌, map, get_or, refl, ◌∙◌, arith}
+use Rattle.std.proofs.Common.{◌≡◌, ℕ, inl, inr, List, [], ◌∷◌, ◌++◌, map, get_or, refl, ◌∙◌, arith}
 use Rattle.std.specs.Prelude.{Some, None, Bool, true, false, not, ◌&&◌, Result, Ok, Err, if◌then◌else◌}
 use Rattle.std.proofs.lemmas.List.Elements.{All-contains}
 use Rattle.lp_definitions.specs.LinearProgram.{Matrix, LinearProgram, Vector, size}
@@ -57,10 +57,10 @@ module _ (p : LinearProgram) (s : List Status) (before mid now : List Basics) (k
   stops_later left NoMemory h = h
   stops_later left (Overflow e) h = record { is_way = h.is_way; shows = λ earlier lie. h.shows earlier (lie_later earlier lie) }
 
-  pub found_later : (result : Result Turn PrimalStop) (steps limit : ℕ) (z d : Vector) → TurnFound result p s steps limit z d mid now → TurnFound result p s steps limit z d before now
-  found_later (Ok (Ends outcome)) steps limit z d h = h
-  found_later (Ok (Moves q by)) steps limit z d h = h
-  found_later (Err stop) steps limit z d h = stops_later (limit - steps) stop h
+  pub found_later : (result : Result Turn PrimalStop) (steps left : ℕ) (z d : Vector) → TurnFound result p s steps left z d mid now → TurnFound result p s steps left z d before now
+  found_later (Ok (Ends outcome)) steps left z d h = h
+  found_later (Ok (Moves q by)) steps left z d h = h
+  found_later (Err stop) steps left z d h = stops_later left stop h
 
 -- ---- evidence of a phase
 

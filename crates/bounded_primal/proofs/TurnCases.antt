@@ -1,5 +1,5 @@
 -- What each exit of a turn gives, from what the calls before it gave.
-use Rattle.std.proofs.Common.{◌≡◌, ◌≢◌, ℕ, ◌<◌, List, length, Bool, sym, ap, subst, ◌∙◌}
+use Rattle.std.proofs.Common.{◌≡◌, ◌≤◌, ◌≢◌, ℕ, List, length, Bool, sym, ap, subst, ◌∙◌}
 use Rattle.std.specs.Prelude.{Some, None, IsSome, IsTrue, not, if◌then◌else◌}
 use Rattle.exact_values.specs.Rational.{ℚ, zero_ℚ}
 use Rattle.lp_definitions.specs.LinearProgram.{Matrix, LinearProgram, Vector, size, value_at, IsVariable}
@@ -63,10 +63,10 @@ module _ (p : LinearProgram) (s : List Status) (z : Vector) (a : Matrix) (b : Ba
             stops_later p s before mid now keeps left (primal_stop_of why) (turn_stops p s left mid now why (ReturnStops p s z q r to mid now)
             (λ e x. return_evidence p s z has.is_basis has.nonsingular point uncrossed left mid now e r xs row broken q found_is (subst (λ (t : Status). ReturnStops p s z q r t mid now e) (sym limit_is) x)) h)
 
-        pub first_moves : (d : Vector) → IsDirectionOf p.matrix (basics_of s) q d → (by : Stopper) → by ≡ return_by p z d r to → (steps limit : ℕ) → steps < limit → MovesOn p s z d q by steps limit
-        first_moves d direction by by_is steps limit left =
-            subst (λ (x : Stopper). MovesOn p s z d q x steps limit) (ap (λ (t : Status). return_by p z d r t) limit_is ∙ sym by_is)
-            (return_on p s z has.is_basis has.nonsingular point uncrossed r xs row broken q found_is d direction steps limit left)
+        pub first_moves : (d : Vector) → IsDirectionOf p.matrix (basics_of s) q d → (by : Stopper) → by ≡ return_by p z d r to → (left : ℕ) → 1 ≤ left → MovesOn p s z d q by left
+        first_moves d direction by by_is left was_left =
+            subst (λ (x : Stopper). MovesOn p s z d q x left) (ap (λ (t : Status). return_by p z d r t) limit_is ∙ sym by_is)
+            (return_on p s z has.is_basis has.nonsingular point uncrossed r xs row broken q found_is d direction left was_left)
 
   -- ---- the second phase
 
@@ -96,5 +96,5 @@ module _ (p : LinearProgram) (s : List Status) (z : Vector) (a : Matrix) (b : Ba
         pub run_at_limit : (left : ℕ) (before now : List Basics) (by : Stopper) → Some by ≡ stopper_of p z d m.up → left ≡ 0 → TurnStops p s left before now Limit
         run_at_limit left before now by stops none = (none, step_of p s (move_by m.q by) (run_move p s z has.is_basis has.nonsingular point uncrossed moves.price moves.prices inside m moves.chosen d direction by stops))
 
-        pub run_moves : (by : Stopper) (steps limit : ℕ) → Some by ≡ stopper_of p z d m.up → steps < limit → MovesOn p s z d m.q by steps limit
-        run_moves by steps limit stops left = run_on p s z has.is_basis has.nonsingular point uncrossed moves.price moves.prices inside m moves.chosen d direction by steps limit stops left
+        pub run_moves : (by : Stopper) (left : ℕ) → Some by ≡ stopper_of p z d m.up → 1 ≤ left → MovesOn p s z d m.q by left
+        run_moves by left stops was_left = run_on p s z has.is_basis has.nonsingular point uncrossed moves.price moves.prices inside m moves.chosen d direction by left stops was_left

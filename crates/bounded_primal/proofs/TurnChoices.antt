@@ -1,5 +1,5 @@
 -- Which turn the path makes at a basis, from the point, the rates of a row, the prices and a direction.
-use Rattle.std.proofs.Common.{◌≡◌, ◌≢◌, ℕ, ◌<◌, List, length, Bool, true, false, refl, sym, ap, ap₂, ◌∙◌, subst, pos, arith}
+use Rattle.std.proofs.Common.{◌≡◌, ◌≤◌, ◌≢◌, ℕ, List, length, Bool, true, false, refl, sym, ap, ap₂, ◌∙◌, subst, pos, arith}
 use Rattle.std.specs.Prelude.{Option, Some, None, IsSome, IsTrue, not, ◌&&◌, ◌||◌, option_map, unwrap_or, if◌then◌else◌, nat_eq}
 use Rattle.exact_values.specs.Rational.{ℚ, zero_ℚ, one_ℚ, neg_ℚ, ◌-ℚ◌, ◌/ℚ◌, ◌<ℚ◌}
 use Rattle.exact_values.specs.Tests.{lt_ℚ}
@@ -131,15 +131,15 @@ module _ (p : LinearProgram) (s : List Status) (z : Vector) (basis : IsBasis p s
             rate_apart p s (excess_rate row.rate r below) q entered
             (ap (signed (not below)) (one_direction p.matrix (basics_of s) q (λ i. row.rate i q) d nonsingular (row.are_rates q entered.nonbasic) direction r returner_basic.0 ∙ vanishes) ∙ signed_zero (not below))
 
-        pub return_on : (steps limit : ℕ) → steps < limit → MovesOn p s z d q (return_by p z d r to_limit) steps limit
-        return_on steps limit left = record {
+        pub return_on : (left : ℕ) → 1 ≤ left → MovesOn p s z d q (return_by p z d r to_limit) left
+        return_on left was_left = record {
           enters = return_enters;
           moves = return_move;
           nonbasic = returner_nonbasic;
           direction = direction;
           pivot = return_pivot;
           step = brings limit_there.0 returner_basic limit_there.1 (ap (λ o. (unwrap_or o zero_ℚ -ℚ z r) /ℚ d r) limit_there.1);
-          was_left = left;
+          was_left = was_left;
         }
 
   -- ---- the second phase
@@ -283,15 +283,15 @@ module _ (p : LinearProgram) (s : List Status) (z : Vector) (basis : IsBasis p s
             moves_ahead (lower_of p at.0) (upper_of p at.0) (motion d m.up at.0) there.0 (lt_ℚ zero_ℚ (motion d m.up at.0)) (lt_ℚ (motion d m.up at.0) zero_ℚ) refl refl there.1
             (ap (signed m.up) same ∙ signed_zero m.up)
 
-        pub run_on : (by : Stopper) (steps limit : ℕ) → Some by ≡ stopper_of p z d m.up → steps < limit → MovesOn p s z d m.q by steps limit
-        run_on by steps limit stops left = record {
+        pub run_on : (by : Stopper) (left : ℕ) → Some by ≡ stopper_of p z d m.up → 1 ≤ left → MovesOn p s z d m.q by left
+        run_on by left stops was_left = record {
           enters = better_enters;
           moves = run_move by stops;
           nonbasic = better_nonbasic;
           direction = direction;
           pivot = run_pivot by stops;
           step = run_step by stops;
-          was_left = left;
+          was_left = was_left;
         }
 
 -- the prices count the objective as the sense does

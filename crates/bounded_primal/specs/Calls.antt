@@ -16,6 +16,7 @@ use Rattle.lp_definitions.specs.declared.Status.{Status}
 use Rattle.lp_model.specs.declared.reports.Outcome.{Outcome}
 use Rattle.lp_model.specs.declared.reports.Outcome.TheVariants.{Optimal, Crossed, Infeasible, Unbounded}
 use Rattle.path_definitions.specs.Path.{Ending, EndsOptimal, EndsCrossed, EndsInfeasible, EndsUnbounded, IsPath, PathEnds, GoesOnFor, last_of}
+use Rattle.path_definitions.specs.Counts.{counted_steps}
 use Rattle.lp_definitions.specs.declared.Change.{Change}
 use Rattle.evidence_definitions.specs.Statements.{SolvingStatement, Primal, Paraobj, Range, belongs, is_between, thetas_of}
 use Rattle.evidence_definitions.specs.Evidence.{ShowsRefusal, EvidenceHolds}
@@ -34,14 +35,14 @@ outcome_of steps (EndsCrossed k) = Crossed k
 outcome_of steps (EndsInfeasible w) = Infeasible steps w
 outcome_of steps (EndsUnbounded z d) = Unbounded steps z d
 
--- the path from s to now has ended within the limit
+-- the path from s to now has ended within the limit, and the outcome has the count of its steps
 pub record CallEnds (p : LinearProgram) (s now : List Status) (limit : ℕ) (outcome : Outcome) : Type 0 where
   pub bases : List (List Status)
   pub ending : Ending
   pub ends : PathEnds p s bases ending
   pub reaches : last_of s bases ≡ now
   pub within : length bases ≤ limit
-  pub is_outcome : outcome ≡ outcome_of (length bases) ending
+  pub is_outcome : outcome ≡ outcome_of (counted_steps (length bases)) ending
 
 -- after as many steps as the limit, there is one more
 pub record PathGoesOn (p : LinearProgram) (s now : List Status) (limit : ℕ) : Type 0 where

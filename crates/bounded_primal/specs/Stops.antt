@@ -7,6 +7,7 @@ use Rattle.lp_model.specs.declared.Stop.{Stop}
 use Rattle.lp_model.specs.declared.Stop.TheVariants as stop
 use Rattle.lp_model.specs.RatesCalls.{IfOverflow}
 use Rattle.path_definitions.specs.Path.{IsPath, last_of}
+use Rattle.termination_laws.specs.Laws.{lists_of}
 use Rattle.bounded_primal.specs.Calls.{PathGoesOn, StopsOnPath, PointRefused, RangeRefused}
 use Rattle.bounded_primal.specs.declared.moves.PrimalStop.{PrimalStop}
 use Rattle.bounded_primal.specs.declared.moves.PrimalStop.TheVariants.{Limit, Overflow, NoMemory}
@@ -24,6 +25,10 @@ abbrev pub PrimalStops : LinearProgram → List Status → List Status → ℕ �
 PrimalStops p s now limit before after Limit = PathGoesOn p s now limit
 PrimalStops p s now limit before after (Overflow e) = StopsOnPath p s now limit before after e
 PrimalStops p s now limit before after NoMemory = (bases : List (List Status)) × PathFrom p s now bases × (length bases ≤ limit)
+
+-- what stops a path without a limit: the path has fewer steps than there are status lists, so as many would never be reached
+abbrev pub FreeStops : LinearProgram → List Status → List Status → List Basics → List Basics → Stop → Type 0
+FreeStops p s now before after stop = PrimalStops p s now (lists_of p) before after (primal_stop_of stop)
 
 -- an overflow of `point_of` and `prices_of`, and one of `range`
 abbrev pub PointOverflow : Result (Unit {0}) Stop → LinearProgram → List Status → List Basics → List Basics → Type 0

@@ -5,7 +5,8 @@
 --     mover_by p s y               the variable that betters the objective, by the prices y, and whether it rises
 --     EvidenceAt                   the evidence of a turn at s, whatever path led there
 --     TurnFound result             the path ends at s, or moves a variable, or the call stops
-use Rattle.std.specs.Prelude.{◌≡◌, ◌≢◌, ℕ, Bool, ◌-◌, ◌<◌, ◌≤◌, ◌&&◌, List, [], ◌∷◌, ◌++◌, length, Option, Some, None, option_map, Result, Ok, Err, nat_eq, if◌then◌else◌}
+--     FreeTurnFound result         the same where a step is always left
+use Rattle.std.specs.Prelude.{◌≡◌, ◌≢◌, ℕ, Bool, ◌≤◌, ◌&&◌, List, [], ◌∷◌, ◌++◌, length, Option, Some, None, option_map, Result, Ok, Err, nat_eq, if◌then◌else◌}
 use Rattle.exact_values.specs.Rational.{ℚ, zero_ℚ, one_ℚ, neg_ℚ}
 use Rattle.lp_definitions.specs.LinearProgram.{LinearProgram, Vector, size, value_at, IsVariable, for_min}
 use Rattle.lp_definitions.specs.Basis.{Basics, basics_of, is_in, IsNonbasic, IsDirectionOf, ArePricesOf}
@@ -18,6 +19,8 @@ use Rattle.path_definitions.specs.Moves.{least, is_crossed, is_outside, signed, 
 use Rattle.path_definitions.specs.Path.{Ending, IsStep, EndsAt}
 use Rattle.evidence_definitions.specs.Statements.{PathMoves, PathEnters}
 use Rattle.evidence_definitions.specs.Evidence.{EvidenceHolds}
+use Rattle.lp_model.specs.declared.Stop.{Stop}
+use Rattle.bounded_primal.specs.Stops.{primal_stop_of}
 use Rattle.bounded_primal.specs.Calls.{LieIn, job_of, outcome_of, PointRefused}
 use Rattle.bounded_primal.specs.Moves.{motion, IsStepBy, move_by, StopperRefused}
 use Rattle.bounded_primal.specs.Steps.{ReturnRefused}
@@ -77,14 +80,14 @@ pub record EndsHere (p : LinearProgram) (s : List Status) (steps : ℕ) (outcome
   pub is_outcome : outcome ≡ outcome_of steps ending
 
 -- it moves q by what stops it, and a step is left
-pub record MovesOn (p : LinearProgram) (s : List Status) (z d : Vector) (q : ℕ) (by : Stopper) (steps limit : ℕ) : Type 0 where
+pub record MovesOn (p : LinearProgram) (s : List Status) (z d : Vector) (q : ℕ) (by : Stopper) (left : ℕ) : Type 0 where
   pub enters : PathEnters p s q
   pub moves : PathMoves p s (move_by q by)
   pub nonbasic : IsNonbasic p.matrix (basics_of s) q
   pub direction : IsDirectionOf p.matrix (basics_of s) q d
   pub pivot : d by.p ≢ zero_ℚ
   pub step : IsStepBy p s z d q by
-  pub was_left : steps < limit
+  pub was_left : 1 ≤ left
 
 -- for every list of bases that ends with s, and in which the waypoints lay before the call, the evidence holds on that list
 pub record EvidenceAt (p : LinearProgram) (s : List Status) (left : ℕ) (before after : List Basics) (e : Evidence) : Type 0 where
@@ -97,7 +100,13 @@ TurnStops p s left before after Limit = (left ≡ 0) × ((next : List Status) ×
 TurnStops p s left before after (Overflow e) = EvidenceAt p s left before after e
 TurnStops p s left before after NoMemory = Unit {0}
 
+-- after so many steps, where so many more are allowed
 abbrev pub TurnFound : Result Turn PrimalStop → LinearProgram → List Status → ℕ → ℕ → Vector → Vector → List Basics → List Basics → Type 0
-TurnFound (Ok (Ends outcome)) p s steps limit z d before after = EndsHere p s steps outcome
-TurnFound (Ok (Moves q by)) p s steps limit z d before after = MovesOn p s z d q by steps limit
-TurnFound (Err stop) p s steps limit z d before after = TurnStops p s (limit - steps) before after stop
+TurnFound (Ok (Ends outcome)) p s steps left z d before after = EndsHere p s steps outcome
+TurnFound (Ok (Moves q by)) p s steps left z d before after = MovesOn p s z d q by left
+TurnFound (Err stop) p s steps left z d before after = TurnStops p s left before after stop
+
+-- the same where a step is always left
+abbrev pub FreeTurnFound : Result Turn Stop → LinearProgram → List Status → ℕ → Vector → Vector → List Basics → List Basics → Type 0
+FreeTurnFound (Ok turn) p s steps z d before after = TurnFound (Ok turn) p s steps 1 z d before after
+FreeTurnFound (Err stop) p s steps z d before after = TurnStops p s 1 before after (primal_stop_of stop)

@@ -5,6 +5,7 @@
 mod beginning;
 mod choices;
 mod formula;
+mod free_path;
 mod moves;
 mod path;
 mod point;
@@ -17,6 +18,7 @@ mod turns;
 pub use beginning::opening;
 pub use choices::{counted, may_lower};
 pub use formula::{Formula, plus_product};
+pub use free_path::primal_free;
 pub use moves::{PrimalStop, Stopper};
 pub use path::primal;
 pub use point::point_of;

@@ -1,11 +1,12 @@
 //! The path of the bounded simplex method.
 
-ghost use Rattle.std.specs.Prelude.{◌≡◌, length, IfOk, IfErr};
+ghost use Rattle.std.specs.Prelude.{◌≡◌, ◌<◌, length, vec_len, IfOk, IfErr, IsErrOf};
 ghost use Rattle.lp_definitions.specs.LinearProgram.{size, IsLinearProgram};
 ghost use Rattle.bounded_primal.specs.Calls.{HasRates, CallEnds, WaypointsFollow};
 ghost use Rattle.bounded_primal.specs.Outcomes.{IsTrueOutcome};
 ghost use Rattle.bounded_primal.specs.Stops.{PrimalStops};
 ghost use Rattle.bounded_primal.specs.Turns.{IsUncrossed};
+ghost use Rattle.termination_laws.specs.Laws.{lists_of};
 
 use crate::choices::crossed;
 use crate::moves::PrimalStop;
@@ -15,6 +16,13 @@ use crate::turns::{Turn, next_turn};
 use frac128::Frac;
 use lp_model::{Basis, Lp, NoMemory, Outcome, Rates};
 use std::alloc::Global;
+
+/// Room for so many values.
+pub fn room(alloc: Global, size: usize) -> Result<Vec<Frac>, NoMemory>
+    ensures { IfOk result (λ room. vec_len room ≡ size) }
+{
+    vec![in alloc; Frac::whole(0); size].map_err(|_| NoMemory)
+}
 
 /// Makes the basis's point, and goes from basis to basis with it. `point`, `row` and `direction` are room.
 fn walk<R: Rates>(
@@ -41,7 +49,17 @@ fn walk<R: Rates>(
     point_of(alloc, lp, basis, rates, point)?;
     let mut steps = 0;
     loop {
-        match next_turn(alloc, lp, basis, rates, point, row, direction, steps, limit)? {
+        match next_turn(
+            alloc,
+            lp,
+            basis,
+            rates,
+            point,
+            row,
+            direction,
+            steps,
+            limit - steps,
+        )? {
             Turn::Ends(outcome) => return Ok(outcome),
             Turn::Moves { q, by } => take_step(lp, basis, rates, point, direction, q, &by)?,
         }
@@ -66,14 +84,16 @@ pub fn primal<R: Rates>(
     ensures rates { HasRates (R.matrix rates.new) (R.basics rates.new) lp.now basis.new }
     ensures waypoints { WaypointsFollow lp.now basis.old basis.new (R.waypoints rates.old) (R.waypoints rates.new) }
     ensures truth { IfOk result (IsTrueOutcome lp.now) }
+    // No path has as many steps as there are status lists, three for each variable.
+    ensures limited { IsErrOf result PrimalStop.Limit → limit < lists_of lp.now }
 {
     if let Some(k) = crossed(lp) {
         return Ok(Outcome::Crossed { k });
     }
     let size = lp.number_of_variables() as usize;
-    let mut point = vec![in alloc; Frac::whole(0); size].map_err(|_| NoMemory)?;
-    let mut row = vec![in alloc; Frac::whole(0); size].map_err(|_| NoMemory)?;
-    let mut direction = vec![in alloc; Frac::whole(0); size].map_err(|_| NoMemory)?;
+    let mut point = room(alloc, size)?;
+    let mut row = room(alloc, size)?;
+    let mut direction = room(alloc, size)?;
     walk(
         alloc,
         lp,

@@ -227,7 +227,7 @@ fn first_phase<R: Rates>(
     direction: &mut [Frac],
     r: u32,
     steps: u32,
-    limit: u32,
+    left: u32,
 ) -> Result<Turn, PrimalStop>
     requires rates { HasRates (R.matrix rates.old) (R.basics rates.old) lp.now basis.now }
     requires point_places { length point.now ≡ size lp.now.matrix }
@@ -236,8 +236,7 @@ fn first_phase<R: Rates>(
     requires point { IsPointOf lp.now basis.now (value_at point.now) }
     requires uncrossed { IsUncrossed lp.now }
     requires outside { least_outside lp.now basis.now (value_at point.now) ≡ Some r }
-    requires within { steps ≤ limit }
-    ensures turn { TurnFound result lp.now basis.now steps limit (value_at point.now) (value_at direction.new) (R.waypoints rates.old) (R.waypoints rates.new) }
+    ensures turn { TurnFound result lp.now basis.now steps left (value_at point.now) (value_at direction.new) (R.waypoints rates.old) (R.waypoints rates.new) }
     ensures rates { HasRates (R.matrix rates.new) (R.basics rates.new) lp.now basis.now }
     ensures waypoints { KeepsWaypoints lp.now.matrix (basics_of basis.now) (R.waypoints rates.old) (basics_of basis.now) (R.waypoints rates.new) }
 {
@@ -246,7 +245,7 @@ fn first_phase<R: Rates>(
         let ray = ray_of(alloc, lp, row, r, below)?;
         return Ok(Turn::Ends(Outcome::Infeasible { steps, ray }));
     };
-    if steps == limit {
+    if left == 0 {
         return Err(PrimalStop::Limit);
     }
     let by = return_of(
@@ -306,7 +305,7 @@ fn run<R: Rates>(
     direction: &mut [Frac],
     moved: Mover,
     steps: u32,
-    limit: u32,
+    left: u32,
 ) -> Result<Turn, PrimalStop>
     requires rates { HasRates (R.matrix rates.old) (R.basics rates.old) lp.now basis.now }
     requires point_places { length point.now ≡ size lp.now.matrix }
@@ -314,19 +313,18 @@ fn run<R: Rates>(
     requires point { IsPointOf lp.now basis.now (value_at point.now) }
     requires uncrossed { IsUncrossed lp.now }
     requires inside { least_outside lp.now basis.now (value_at point.now) ≡ None }
-    requires within { steps ≤ limit }
     requires moves { Betters lp.now basis.now moved }
-    ensures turn { TurnFound result lp.now basis.now steps limit (value_at point.now) (value_at direction.new) (R.waypoints rates.old) (R.waypoints rates.new) }
+    ensures turn { TurnFound result lp.now basis.now steps left (value_at point.now) (value_at direction.new) (R.waypoints rates.old) (R.waypoints rates.new) }
     ensures rates { HasRates (R.matrix rates.new) (R.basics rates.new) lp.now basis.now }
     ensures waypoints { KeepsWaypoints lp.now.matrix (basics_of basis.now) (R.waypoints rates.old) (basics_of basis.now) (R.waypoints rates.new) }
 {
     match stopper_of(lp, basis, rates, point, direction, moved.q, moved.up)? {
         None => Ok(Turn::Ends(endless(alloc, lp, point, direction, moved.up, steps)?)),
         Some(by) => {
-            if steps < limit {
-                Ok(Turn::Moves { q: moved.q, by })
-            } else {
+            if left == 0 {
                 Err(PrimalStop::Limit)
+            } else {
+                Ok(Turn::Moves { q: moved.q, by })
             }
         }
     }
@@ -343,7 +341,7 @@ fn second_phase<R: Rates>(
     row: &mut [Frac],
     direction: &mut [Frac],
     steps: u32,
-    limit: u32,
+    left: u32,
 ) -> Result<Turn, PrimalStop>
     requires lawful { IsLinearProgram lp.now }
     requires rates { HasRates (R.matrix rates.old) (R.basics rates.old) lp.now basis.now }
@@ -353,8 +351,7 @@ fn second_phase<R: Rates>(
     requires point { IsPointOf lp.now basis.now (value_at point.now) }
     requires uncrossed { IsUncrossed lp.now }
     requires inside { least_outside lp.now basis.now (value_at point.now) ≡ None }
-    requires within { steps ≤ limit }
-    ensures turn { TurnFound result lp.now basis.now steps limit (value_at point.now) (value_at direction.new) (R.waypoints rates.old) (R.waypoints rates.new) }
+    ensures turn { TurnFound result lp.now basis.now steps left (value_at point.now) (value_at direction.new) (R.waypoints rates.old) (R.waypoints rates.new) }
     ensures rates { HasRates (R.matrix rates.new) (R.basics rates.new) lp.now basis.now }
     ensures waypoints { KeepsWaypoints lp.now.matrix (basics_of basis.now) (R.waypoints rates.old) (basics_of basis.now) (R.waypoints rates.new) }
 {
@@ -362,7 +359,7 @@ fn second_phase<R: Rates>(
     match bettering(lp, basis, row) {
         None => Ok(Turn::Ends(best(alloc, point, row, steps)?)),
         Some(moved) => run(
-            alloc, lp, basis, rates, point, direction, moved, steps, limit,
+            alloc, lp, basis, rates, point, direction, moved, steps, left,
         ),
     }
 }
@@ -377,7 +374,7 @@ pub fn next_turn<R: Rates>(
     row: &mut [Frac],
     direction: &mut [Frac],
     steps: u32,
-    limit: u32,
+    left: u32,
 ) -> Result<Turn, PrimalStop>
     requires lawful { IsLinearProgram lp.now }
     requires rates { HasRates (R.matrix rates.old) (R.basics rates.old) lp.now basis.now }
@@ -386,15 +383,14 @@ pub fn next_turn<R: Rates>(
     requires direction_places { length direction.old ≡ size lp.now.matrix }
     requires point { IsPointOf lp.now basis.now (value_at point.now) }
     requires uncrossed { IsUncrossed lp.now }
-    requires within { steps ≤ limit }
-    ensures turn { TurnFound result lp.now basis.now steps limit (value_at point.now) (value_at direction.new) (R.waypoints rates.old) (R.waypoints rates.new) }
+    ensures turn { TurnFound result lp.now basis.now steps left (value_at point.now) (value_at direction.new) (R.waypoints rates.old) (R.waypoints rates.new) }
     ensures rates { HasRates (R.matrix rates.new) (R.basics rates.new) lp.now basis.now }
     ensures waypoints { KeepsWaypoints lp.now.matrix (basics_of basis.now) (R.waypoints rates.old) (basics_of basis.now) (R.waypoints rates.new) }
 {
     match outside(lp, basis, point) {
         Some(r) => first_phase(
-            alloc, lp, basis, rates, point, row, direction, r, steps, limit,
+            alloc, lp, basis, rates, point, row, direction, r, steps, left,
         ),
-        None => second_phase(alloc, lp, basis, rates, point, row, direction, steps, limit),
+        None => second_phase(alloc, lp, basis, rates, point, row, direction, steps, left),
     }
 }

@@ -5,7 +5,7 @@ use Rattle.control_definitions.specs.Program.{Verb, MoveLimit, Program, label_ar
 
 -- the number of steps that a verb moves
 abbrev pub moved_limit : {L : Type 0} → Verb L → Option ℕ
-moved_limit (MoveLimit limit) = Some limit
+moved_limit (MoveLimit limit) = limit
 moved_limit _ = None
 
 -- a position is the number of a statement, from 1, or one more than their count

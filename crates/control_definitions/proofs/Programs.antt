@@ -103,13 +103,25 @@ empty_title : said "TITLE('')" ≡ Some (Title [])
 unfolding said verb_of label_of statement_of
 empty_title = refl
 
-whole_limit : said "MOVE(XITERLIM,5.)" ≡ Some (MoveLimit 5)
+whole_limit : said "MOVE(XITERLIM,5.)" ≡ Some (MoveLimit (Some 5))
 unfolding said verb_of label_of statement_of number_of number_fault value_of fraction gcd
 whole_limit = refl
 
-greatest_limit : said "MOVE(XITERLIM,+.1D7)" ≡ Some (MoveLimit 1000000)
+greatest_limit : said "MOVE(XITERLIM,+.1D7)" ≡ Some (MoveLimit (Some 1000000))
 unfolding said verb_of label_of statement_of number_of number_fault value_of fraction gcd
 greatest_limit = refl
+
+no_limit : said "MOVE(XITERLIM,'NONE')" ≡ Some (MoveLimit None)
+unfolding said verb_of label_of statement_of number_of number_fault value_of fraction gcd
+no_limit = refl
+
+another_text : said "MOVE(XITERLIM,'SOME')" ≡ None
+unfolding said verb_of label_of statement_of number_of number_fault value_of fraction gcd
+another_text = refl
+
+no_quotes : said "MOVE(XITERLIM,NONE)" ≡ None
+unfolding said verb_of label_of statement_of number_of number_fault value_of fraction gcd
+no_quotes = refl
 
 bound_and_range : said "SETUP('BOUND','MIN','MAX','RANGE','BOUND')" ≡ options (Some (codes "MIN")) (Some (codes "BOUND"))
 unfolding said options verb_of label_of statement_of

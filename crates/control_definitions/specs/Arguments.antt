@@ -47,8 +47,12 @@ abbrev pub steps_of : ℤ → ℕ → Option ℕ
 steps_of (pos n) denominator = if denominator == 1 && nat_le n MAX_STEPS then Some n else None
 steps_of (negsuc n) denominator = None
 
-abbrev pub limit_argument : List ℕ → Option ℕ
-limit_argument argument = option_and_then (λ value. steps_of value.numerator value.denominator) (number_argument argument)
+abbrev pub steps_argument : List ℕ → Option ℕ
+steps_argument argument = option_and_then (λ value. steps_of value.numerator value.denominator) (number_argument argument)
+
+-- a limit on steps is such a number, or none, which is said by the text 'NONE'
+abbrev pub limit_argument : List ℕ → Option (Option ℕ)
+limit_argument argument = if bytes_eq argument (codes "'NONE'") then Some None else option_map (λ steps. Some steps) (steps_argument argument)
 
 -- ---- labels
 

@@ -1,11 +1,13 @@
 -- The cells and demands of a run.
 --     default_cells                         what they are at the start of a run, and after INITIALZ
 --     move_name, move_number, move_limit    a cell that was moved
+--     steps_allowed                         how many steps a verb with a limit may take
 --     set_demand                            a demand that was set to a position
 --     name_in, demand_in                    what a cell and a demand hold
-use Rattle.std.specs.Prelude.{ℕ, Option, Some, None}
+use Rattle.std.specs.Prelude.{ℕ, Option, Some, None, unwrap_or}
 use Rattle.exact_values.specs.Rational.{ℚ, zero_ℚ}
 use Rattle.problem_definitions.specs.Names.{Name}
+use Rattle.control_definitions.specs.declared.TheConstants.{MAX_STEPS}
 use Rattle.control_definitions.specs.declared.NameCell.{NameCell}
 use Rattle.control_definitions.specs.declared.NameCell.TheVariants.{Xdata, Xpbname, Xobj, Xrhs, Xoldname, Xchrow, Xchcol}
 use Rattle.control_definitions.specs.declared.NumberCell.{NumberCell}
@@ -24,7 +26,7 @@ pub record Cells : Type 0 where
   pub xchcol : Option Name
   pub xparam : ℚ
   pub xparmax : Option ℚ
-  pub xiterlim : ℕ
+  pub xiterlim : Option ℕ
   pub xdonfs : Option ℕ
   pub xdounb : Option ℕ
 
@@ -40,7 +42,7 @@ default_cells = record {
   xchcol = None;
   xparam = zero_ℚ;
   xparmax = None;
-  xiterlim = 10000;
+  xiterlim = Some 10000;
   xdonfs = None;
   xdounb = None;
 }
@@ -58,8 +60,13 @@ abbrev pub move_number : NumberCell → ℚ → Cells → Cells
 move_number Xparam value cells = record cells { xparam = value }
 move_number Xparmax value cells = record cells { xparmax = Some value }
 
-abbrev pub move_limit : ℕ → Cells → Cells
+-- a limit on steps, or none
+abbrev pub move_limit : Option ℕ → Cells → Cells
 move_limit limit cells = record cells { xiterlim = limit }
+
+-- how many steps a verb may take: without a limit PRIMAL takes any number, and every other verb 1,000,000
+abbrev pub steps_allowed : Cells → ℕ
+steps_allowed cells = unwrap_or cells.xiterlim MAX_STEPS
 
 abbrev pub set_demand : Demand → ℕ → Cells → Cells
 set_demand Xdonfs position cells = record cells { xdonfs = Some position }

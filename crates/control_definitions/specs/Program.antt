@@ -21,7 +21,7 @@ pub data Verb (L : Type 0) : Type 0 where
   Title : List ℕ → Verb L
   MoveName : NameCell → List ℕ → Verb L
   MoveNumber : NumberCell → ℚ → Verb L
-  MoveLimit : ℕ → Verb L
+  MoveLimit : Option ℕ → Verb L
   Mvadr : Demand → L → Verb L
   Goto : L → Verb L
   Convert : Verb L

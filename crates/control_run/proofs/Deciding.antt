@@ -50,7 +50,7 @@ number_decides cell value card old cells e = λ cards position executed state s.
   stands_changed s (move_number cell value state.cells) cells state.mark old.mark (ap (move_number cell value) s.cells ∙ sym e) s.mark,
 )
 
-pub limit_decides : (limit card : ℕ) (old : Machine) (cells : Cells) → cells ≡ move_limit limit old.cells → Decides stage (MoveLimit limit) card old (record old { cells = cells }) Next
+pub limit_decides : (limit : Option ℕ) (card : ℕ) (old : Machine) (cells : Cells) → cells ≡ move_limit limit old.cells → Decides stage (MoveLimit limit) card old (record old { cells = cells }) Next
 unfolding stage verb_move
 limit_decides limit card old cells e = λ cards position executed state s.
     (record state { cells = move_limit limit state.cells }, refl, stands_changed s (move_limit limit state.cells) cells state.mark old.mark (ap (move_limit limit) s.cells ∙ sym e) s.mark)
@@ -147,7 +147,7 @@ number_sound {cards = cards} cell value old cells e s =
     subst (λ (c : Cells). IsSound cards (record old { cells = c })) (sym e)
     (sound_alike s (move_number cell value old.cells) (demands_numbered cell value old.cells s.demands) (number_alike cell value old.cells))
 
-pub limit_sound : {cards : List (List ℕ)} (limit : ℕ) (old : Machine) (cells : Cells) → cells ≡ move_limit limit old.cells → IsSound cards old → IsSound cards (record old { cells = cells })
+pub limit_sound : {cards : List (List ℕ)} (limit : Option ℕ) (old : Machine) (cells : Cells) → cells ≡ move_limit limit old.cells → IsSound cards old → IsSound cards (record old { cells = cells })
 limit_sound {cards = cards} limit old cells e s =
     subst (λ (c : Cells). IsSound cards (record old { cells = c })) (sym e)
     (sound_alike s (move_limit limit old.cells) (record { infeasible = s.demands.infeasible; unbounded = s.demands.unbounded }) (λ options. refl))

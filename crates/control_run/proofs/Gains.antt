@@ -1,11 +1,17 @@
--- The texts of gains.
-use Rattle.std.proofs.Common.{◌≡◌, List, ◌++◌, refl, sym, ap, ◌∙◌, append-nil}
+-- The texts of gains, and what the punch gains by an end.
+use Rattle.std.proofs.Common.{◌≡◌, ℕ, List, [], ◌∷◌, ◌++◌, Option, refl, sym, ap, ◌∙◌, append-nil}
+use Rattle.std.specs.Io.KnownBytes.{Appends}
 use Rattle.std.proofs.lemmas.List.Concat.{flat_map-append}
+use Rattle.job_devices.specs.Text.{IsFront, AppendsFront}
+use Rattle.deck_definitions.specs.Written.{card_text}
 use Rattle.listing_definitions.specs.Report.{Report}
+use Rattle.listing_definitions.specs.Ending.{Ending, Ended, WordsRefused, ControlStop, VerbStop, DeckStop, CardStop, LimitStop, StatementLimit, OverflowStop, ReadFault, PrintFault, PunchFault, Memory, NotBuilt}
 use Rattle.listing_definitions.specs.Text.{report_text}
 use Rattle.listing_definitions.specs.Listing.{reports_text}
 use Rattle.run_definitions.specs.Moves.{Gain, Nothing, Prints, Punches, printed_by}
+use Rattle.run_definitions.specs.Answer.{Gains}
 use Rattle.control_run.specs.Statements.{gain_text}
+use Rattle.control_run.specs.Running.{GainsBy}
 
 pub printed_text : (gain : Gain) → reports_text (printed_by gain) ≡ gain_text gain
 printed_text Nothing = refl
@@ -15,3 +21,59 @@ printed_text (Punches report cards) = append-nil (report_text report)
 -- the reports so far, and what a gain adds
 pub reports_text_more : (reports : List Report) (gain : Gain) → reports_text reports ++ gain_text gain ≡ reports_text (reports ++ printed_by gain)
 reports_text_more reports gain = ap (λ t. reports_text reports ++ t) (sym (printed_text gain)) ∙ sym (flat_map-append report_text reports (printed_by gain))
+
+-- the text of some cards and of more
+pub card_text_more : (cards more : List (List ℕ)) → card_text cards ++ card_text more ≡ card_text (cards ++ more)
+card_text_more cards more = sym (flat_map-append (λ (card : List ℕ). card ++ 10 ∷ []) cards more)
+
+-- ---- the punch
+
+-- by any end all may be gained
+gains_all : (ending : Ending) (text : List ℕ) → Gains ending text text
+gains_all PunchFault text = ([], append-nil text)
+gains_all Memory text = ([], append-nil text)
+gains_all (Ended code) text = refl
+gains_all WordsRefused text = refl
+gains_all (ControlStop fault) text = refl
+gains_all (VerbStop fault) text = refl
+gains_all (DeckStop fault) text = refl
+gains_all (CardStop fault) text = refl
+gains_all (LimitStop reached) text = refl
+gains_all StatementLimit text = refl
+gains_all (OverflowStop overflow) text = refl
+gains_all ReadFault text = refl
+gains_all PrintFault text = refl
+gains_all NotBuilt text = refl
+
+pub gains_whole : (ending : Ending) (old new : Option (List ℕ)) (text : List ℕ) → Appends old new text → GainsBy ending old new text
+gains_whole ending old new text appends = (text, appends, gains_all ending text)
+
+pub front_of_whole : (old new : Option (List ℕ)) (text : List ℕ) → Appends old new text → AppendsFront old new text
+front_of_whole old new text appends = (text, ([], append-nil text), appends)
+
+-- where a deck is broken off a front is gained
+pub gains_front_at_fault : (old new : Option (List ℕ)) (text : List ℕ) → AppendsFront old new text → GainsBy PunchFault old new text
+gains_front_at_fault old new text front = (front.0, front.2, front.1)
+
+pub gains_front_for_memory : (old new : Option (List ℕ)) (text : List ℕ) → AppendsFront old new text → GainsBy Memory old new text
+gains_front_for_memory old new text front = (front.0, front.2, front.1)
+
+-- what is gained by an end is a front
+is_front : (ending : Ending) (gained text : List ℕ) → Gains ending gained text → IsFront gained text
+is_front PunchFault gained text gains = gains
+is_front Memory gained text gains = gains
+is_front (Ended code) gained text gains = ([], append-nil gained ∙ gains)
+is_front WordsRefused gained text gains = ([], append-nil gained ∙ gains)
+is_front (ControlStop fault) gained text gains = ([], append-nil gained ∙ gains)
+is_front (VerbStop fault) gained text gains = ([], append-nil gained ∙ gains)
+is_front (DeckStop fault) gained text gains = ([], append-nil gained ∙ gains)
+is_front (CardStop fault) gained text gains = ([], append-nil gained ∙ gains)
+is_front (LimitStop reached) gained text gains = ([], append-nil gained ∙ gains)
+is_front StatementLimit gained text gains = ([], append-nil gained ∙ gains)
+is_front (OverflowStop overflow) gained text gains = ([], append-nil gained ∙ gains)
+is_front ReadFault gained text gains = ([], append-nil gained ∙ gains)
+is_front PrintFault gained text gains = ([], append-nil gained ∙ gains)
+is_front NotBuilt gained text gains = ([], append-nil gained ∙ gains)
+
+pub front_gained : (ending : Ending) (old new : Option (List ℕ)) (text : List ℕ) → GainsBy ending old new text → AppendsFront old new text
+front_gained ending old new text gains = (gains.0, is_front ending gains.0 text gains.2, gains.1)

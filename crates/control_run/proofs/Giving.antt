@@ -1,9 +1,12 @@
 -- How a statement comes to something.
-use Rattle.std.proofs.Common.{◌≡◌, ℕ, List, [], Option, None, Some, Result, Ok, Err, refl, sym, subst}
+use Rattle.std.proofs.Common.{◌≡◌, ℕ, List, [], Option, None, Some, Result, Ok, Err, refl, sym, ap, subst, ◌∙◌}
 use Rattle.job_devices.proofs.TextLemmas.{writes_nothing}
 use Rattle.job_devices.specs.declared.device.WriteStop.{WriteStop}
 use Rattle.job_devices.specs.Text.{Writes}
 use Rattle.lp_definitions.specs.LinearProgram.{LinearProgram}
+use Rattle.problem_definitions.specs.Names.{Name}
+use Rattle.problem_definitions.specs.Problem.{Problem}
+use Rattle.control_definitions.specs.Cells.{Cells}
 use Rattle.control_definitions.specs.Program.{Verb}
 use Rattle.selection_definitions.specs.declared.SelectionFault.{SelectionFault}
 use Rattle.listing_definitions.specs.declared.VerbFault.{VerbFault}
@@ -11,15 +14,20 @@ use Rattle.listing_definitions.specs.Report.{Report}
 use Rattle.listing_definitions.specs.Text.{report_text}
 use Rattle.listing_definitions.specs.Ending.{VerbStop}
 use Rattle.question_definitions.specs.Solving.{Solving}
-use Rattle.run_definitions.specs.State.{State}
+use Rattle.run_definitions.specs.State.{State, problem_of}
 use Rattle.run_definitions.specs.Moves.{Gain, Nothing, Prints, punched_by, Outcome, stops, Move, Gives, or_fault}
 use Rattle.run_definitions.specs.Verbs.{or_selection_fault, selection_verb_fault, statement_move}
 use Rattle.control_run.specs.declared.act.Act.{Act}
 use Rattle.control_run.specs.declared.act.Halt.TheVariants as halt
 use Rattle.control_run.specs.declared.machine.Machine.{Machine}
-use Rattle.control_run.specs.Standing.{Stands}
+use Rattle.control_run.specs.Standing.{filed, Stands}
 use Rattle.control_run.specs.Statements.{Comes, Executes, gain_of, gain_text}
 use Rattle.control_run.specs.Stage.{stage}
+
+-- the problem that a cell names, or the one filed last, is the same in the state
+pub problem_shown : {cards : List (List ℕ)} {machine : Machine} {position executed : ℕ} {state : State} → Stands cards machine position executed state → (cell : Cells → Option Name) (found : Option (Problem ℕ)) →
+    filed (cell machine.cells) machine.file ≡ found → problem_of (cell state.cells) state.file ≡ found
+problem_shown {machine = machine} {state = state} s cell found e = s.file (cell state.cells) ∙ ap (λ (c : Cells). filed (cell c) machine.file) s.cells ∙ e
 
 -- a verb fault
 pub gives_fault : {X : Type 0} (card : ℕ) (fault : VerbFault) (found : Option X) (go : X → Move) → found ≡ None →

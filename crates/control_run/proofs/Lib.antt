@@ -1,5 +1,6 @@
 pub mod Deciding
 pub mod Gains
+pub mod Punching
 pub mod Underway
 pub mod Answering
 pub mod Clamping

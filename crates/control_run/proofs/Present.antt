@@ -106,7 +106,7 @@ module _ (a : Matrix) where
 
 -- ---- the path that a verdict ends is the one that the waypoints follow
 
-pub path_reached : (sheet : Sheet) (s now : Basis) (limit : ℕ) (before after : List Basics) (report : PathReport) (a : Matrix) (b : Basics) → IsLinearProgram sheet.lp.now → HasRates a b sheet.lp.now s →
+pub path_reached : (sheet : Sheet) (s now : Basis) (limit : Option ℕ) (before after : List Basics) (report : PathReport) (a : Matrix) (b : Basics) → IsLinearProgram sheet.lp.now → HasRates a b sheet.lp.now s →
     (r : IsReached sheet s now limit report) → WaypointsFollow sheet.lp.now s now before after →
     PathReaches (sheet_shown sheet) s now limit before after r.bases (verdict_shown sheet report.outcome) (check_shown report.refused)
 path_reached sheet s now limit before after report a b lawful has r w =

@@ -5,7 +5,7 @@ use Rattle.lp_definitions.specs.declared.Evidence.{Evidence}
 use Rattle.problem_definitions.specs.Problem.{Problem}
 use Rattle.problem_file.specs.Filed.{filed_under}
 use Rattle.control_definitions.specs.Program.{Primal}
-use Rattle.control_definitions.specs.Cells.{Cells}
+use Rattle.control_definitions.specs.Cells.{Cells, steps_allowed}
 use Rattle.selection_definitions.specs.Selection.{selected}
 use Rattle.listing_definitions.specs.declared.Mark.{Mark}
 use Rattle.listing_definitions.specs.declared.Mark.TheVariants.{Optimal, Infeasible, Unbounded}
@@ -174,7 +174,7 @@ module _ (card : ℕ) (cards : List (List ℕ)) (old : Machine) (setup new : Set
       verdict_comes (statement_move stage Primal card state) (mark_of verdict) (Solved ByPrimal verdict check) (record state { setup = Some (gone_through bases present); mark = Some (mark_of verdict) })
       (after_stands lp ok same_name same_options bases verdict check r (mark_of verdict)) (path_gives lp ok (Reached bases verdict check) r.reaches)
   found_comes _ _ (solved {lp = lp} ok same_name same_options (at_limit right)) =
-      subst (λ (c : Cells). Gives stage card (statement_move stage Primal card state) (stops (endings.LimitStop (record { limit = c.xiterlim; card = card })))) s.cells (path_gives lp ok PathLimit right)
+      subst (λ (c : Cells). Gives stage card (statement_move stage Primal card state) (stops (endings.LimitStop (record { limit = steps_allowed c; card = card })))) s.cells (path_gives lp ok PathLimit right)
   found_comes _ _ (solved {lp = lp} ok same_name same_options (overflows {e = e} {place = place} h)) = overflow_gives lp ok e (option_map place_shown place) h
 
 module _ (card : ℕ) {P : Type 0} (written : P → Option (List ℕ)) (faults refusals : P → ℕ) (print_old print_new : P) (cards : List (List ℕ)) (old : Machine) (setup new : Setup) (is_setup : old.setup ≡ Some setup)

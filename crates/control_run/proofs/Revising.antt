@@ -22,18 +22,13 @@ use Rattle.control_run.specs.declared.machine.Machine.{Machine}
 use Rattle.control_run.specs.Stage.{stage}
 use Rattle.control_run.specs.Standing.{filed, Stands}
 use Rattle.control_run.specs.Describing.{decks_from, Describes, described_as}
-use Rattle.control_run.proofs.Giving.{gives_fault, gives_found}
+use Rattle.control_run.proofs.Giving.{problem_shown, gives_fault, gives_found}
 use Rattle.control_run.proofs.Filing.{takes, takes_nothing, takes_refused, takes_problem, filed_behind}
 
 module _ (card : ℕ) (cards : List (List ℕ)) (machine : Machine) where
-  -- the old problem is the same in the state
-  old_shown : {position executed : ℕ} {state : State} → Stands cards machine position executed state → (found : Option (Problem ℕ)) → filed machine.cells.xoldname machine.file ≡ found →
-      problem_of state.cells.xoldname state.file ≡ found
-  old_shown {state = state} s found e = s.file state.cells.xoldname ∙ ap (λ (c : Cells). filed c.xoldname machine.file) s.cells ∙ e
-
   pub finds_no_problem : filed machine.cells.xoldname machine.file ≡ None → Describes stage Revise card cards machine (Ok (described.Ends (Verb NoProblem card)))
   unfolding stage verb_move
-  finds_no_problem none = λ position executed state s. gives_fault card NoProblem (problem_of state.cells.xoldname state.file) _ (old_shown s None none)
+  finds_no_problem none = λ position executed state s. gives_fault card NoProblem (problem_of state.cells.xoldname state.file) _ (problem_shown s (λ (c : Cells). c.xoldname) None none)
 
   module _ (old : Problem ℕ) (on_file : filed machine.cells.xoldname machine.file ≡ Some old) (wanted : Option Name) (same_name : wanted ≡ machine.cells.xdata) where
     -- what follows where the old problem is on file
@@ -41,7 +36,7 @@ module _ (card : ℕ) (cards : List (List ℕ)) (machine : Machine) where
         Gives stage card (takes card (λ deck. revision old deck state.cells.xpbname) reports.Revised state) outcome → Gives stage card (revises card state) outcome
     gives_revised {state = state} s outcome given =
         gives_found card NoProblem (problem_of state.cells.xoldname state.file) (λ old. takes card (λ deck. revision old deck state.cells.xpbname) reports.Revised state) old outcome
-        (old_shown s (Some old) on_file) given
+        (problem_shown s (λ (c : Cells). c.xoldname) (Some old) on_file) given
 
     pub finds_no_revision : deck_taken wanted (decks_from machine.decks_from cards) ≡ None → Describes stage Revise card cards machine (Ok (described.Ends (Verb DeckNotFound card)))
     unfolding stage verb_move

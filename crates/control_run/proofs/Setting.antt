@@ -33,7 +33,7 @@ use Rattle.control_run.specs.Standing.{Stands, named, filed}
 use Rattle.control_run.specs.Statements.{Executes}
 use Rattle.control_run.specs.Choosing.{refused_act, HasSelectionFault, HasRangeOverflow, IsUnselected, IsOpened, IsSetupFault, no_problem, not_selected, IsNotOpened}
 use Rattle.control_run.proofs.Selected.{same_matrix}
-use Rattle.control_run.proofs.Giving.{gives_fault, gives_found, gives_selected, gives_unselected, quietly, loudly, cut_off}
+use Rattle.control_run.proofs.Giving.{problem_shown, gives_fault, gives_found, gives_selected, gives_unselected, quietly, loudly, cut_off}
 
 -- the problem that is wanted is on file
 pub filed_by : (wanted : Option Name) (file : Filed) (name : Name) (found : Option (Problem ℕ)) → named wanted file ≡ Some name → filed_under name file ≡ found → filed wanted file ≡ found
@@ -90,26 +90,21 @@ module _ (card : ℕ) (options : SetupOptions) (state : State) where
       (gives_selected card (selected problem (choice_of state.cells options)) (go_selected problem) lp (outcome_of problem options (opening_statuses lp) state) s (inl refl))
 
 module _ (card : ℕ) {P : Type 0} (written : P → Option (List ℕ)) (faults refusals : P → ℕ) (cards : List (List ℕ)) (machine : Machine) (options : SetupOptions) where
-  -- the problem that is wanted is the same in the state
-  on_file : {position executed : ℕ} {state : State} → Stands cards machine position executed state → (found : Option (Problem ℕ)) → filed machine.cells.xpbname machine.file ≡ found →
-      problem_of state.cells.xpbname state.file ≡ found
-  on_file {state = state} s found e = s.file state.cells.xpbname ∙ ap (λ (c : Cells). filed c.xpbname machine.file) s.cells ∙ e
-
   fault_by : (fault : VerbFault) → IsSetupFault machine.cells machine.file options (Fault fault) → {position executed : ℕ} {state : State} → Stands cards machine position executed state →
       Gives stage card (statement_move stage (SetupVerb options) card state) (stops (VerbStop (record { fault = fault; card = card })))
   fault_by fault (no_problem is none) {state = state} s =
       let same : fault ≡ verb_fault.NoProblem = cc in
       subst (λ (f : VerbFault). Gives stage card (statement_move stage (SetupVerb options) card state) (stops (VerbStop (record { fault = f; card = card })))) (sym same)
-      (gives_no_problem card options state (on_file s None none))
+      (gives_no_problem card options state (problem_shown s (λ (c : Cells). c.xpbname) None none))
   fault_by fault (not_selected problem some h) {state = state} s =
-      gives_refused card options state problem fault (on_file s (Some problem) some)
+      gives_refused card options state problem fault (problem_shown s (λ (c : Cells). c.xpbname) (Some problem) some)
       (subst (λ (c : Cells). HasSelectionFault problem (choice_of c options) fault) (sym s.cells) h)
 
   overflow_by : (e : Evidence) → IsSetupFault machine.cells machine.file options (Overflow e) → {position executed : ℕ} {state : State} → Stands cards machine position executed state →
       Gives stage card (statement_move stage (SetupVerb options) card state) (stops (OverflowStop (record { evidence = e; place = None; card = card })))
   overflow_by e (no_problem is none) {state = state} s = cc
   overflow_by e (not_selected problem some h) {state = state} s =
-      gives_overflow card options state problem e (on_file s (Some problem) some)
+      gives_overflow card options state problem e (problem_shown s (λ (c : Cells). c.xpbname) (Some problem) some)
       (subst (λ (c : Cells). HasRangeOverflow problem (choice_of c options) e) (sym s.cells) h)
 
   pub setup_refused : (print : P) (refusal : Refusal) → IsNotOpened machine.cells machine.file options refusal →
@@ -122,7 +117,7 @@ module _ (card : ℕ) {P : Type 0} (written : P → Option (List ℕ)) (faults r
     gives_opened : {position executed : ℕ} {state : State} → Stands cards machine position executed state →
         Gives stage card (statement_move stage (SetupVerb options) card state) (outcome_of o.problem options (opening_statuses opened.setup.lp) state)
     gives_opened {state = state} s =
-        gives_set_up card options state o.problem opened.setup.lp (on_file s (Some o.problem) (filed_by machine.cells.xpbname machine.file opened.setup.name (Some o.problem) o.is_named o.is_filed))
+        gives_set_up card options state o.problem opened.setup.lp (problem_shown s (λ (c : Cells). c.xpbname) (Some o.problem) (filed_by machine.cells.xpbname machine.file opened.setup.name (Some o.problem) o.is_named o.is_filed))
         (ap (λ (c : Cells). selected o.problem (choice_of c options)) s.cells ∙ o.is_selected)
 
     stands_set_up : {position executed : ℕ} {state : State} → Stands cards machine position executed state →

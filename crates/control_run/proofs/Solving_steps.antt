@@ -22,11 +22,11 @@ use Rattle.listing_definitions.specs.declared.Solver.TheVariants.{Primal as ByPr
 use Rattle.listing_definitions.specs.Report.{Verdict, Check, Solved}
 use Rattle.listing_definitions.specs.Text.{report_text}
 use Rattle.listing_definitions.specs.Ending as endings
-use Rattle.question_definitions.specs.Answers.{Basis, Sheet}
-use Rattle.answer_definitions.specs.Verdicts.{verdict_of}
+use Rattle.question_definitions.specs.Answers.{Basis, Sheet, PathLimit}
+use Rattle.answer_definitions.specs.Verdicts.{verdict_of, IsSolved}
 use Rattle.answer_definitions.specs.Evidence.{OverflowsOnPath}
 use Rattle.report_text.specs.declared.sheet.Sheet.{Sheet as OwnSheet}
-use Rattle.present_answers.specs.Reports.{sheet_shown, OverflowsThere}
+use Rattle.present_answers.specs.Reports.{sheet_shown, OverflowsThere, PassesLimit}
 use Rattle.run_definitions.specs.State.{choice_of}
 use Rattle.run_definitions.specs.Moves.{Gain, Nothing, Prints}
 use Rattle.run_definitions.specs.Verbs.{mark_of}
@@ -50,7 +50,7 @@ use Rattle.control_run.proofs.Present.{one_problem}
 
 -- ---- the path
 
-module _ {P : Type 0} (written : P → Option (List ℕ)) (faults refusals : P → ℕ) (sheet : Sheet) (s now : Basis) (limit : ℕ) (before after : List Basics) (bases : List Basis) (verdict : Verdict) (check : Check)
+module _ {P : Type 0} (written : P → Option (List ℕ)) (faults refusals : P → ℕ) (sheet : Sheet) (s now : Basis) (limit : Option ℕ) (before after : List Basics) (bases : List Basis) (verdict : Verdict) (check : Check)
     (r : PathReaches sheet s now limit before after bases verdict check) where
   -- its verdict is printed or broken off
   pub verdict_told : (mark : Mark) {print_old print_new : P} → mark ≡ mark_of verdict → Writes {T = Unit {0}} written faults refusals print_old print_new (Ok tt) (report_text (Solved ByPrimal verdict check)) →
@@ -65,7 +65,12 @@ module _ {P : Type 0} (written : P → Option (List ℕ)) (faults refusals : P �
       Tells (PathFinds sheet s now limit before after) written faults refusals print_old print_new (Err (halt.Print stop))
   verdict_cut stop writes = record { gain = Prints (Solved ByPrimal verdict check); finding = Ended (mark_of verdict); holds = reached r; writes = writes }
 
-pub path_overflows : (sheet : OwnSheet) (s now : Basis) (limit : ℕ) (before after : List Basics) (e : Evidence) → OverflowsThere sheet s now limit before after e →
+-- only a limit is passed
+pub limit_passed : (sheet : OwnSheet) (s now : Basis) (limit : Option ℕ) → PassesLimit sheet s now limit → IsSolved (sheet_shown sheet) s limit PathLimit
+limit_passed sheet s now (Some most) h = h.goes_on
+limit_passed sheet s now None h = h
+
+pub path_overflows : (sheet : OwnSheet) (s now : Basis) (limit : Option ℕ) (before after : List Basics) (e : Evidence) → OverflowsThere sheet s now limit before after e →
     (place : OwnPlace) → place_shown place ≡ record { basis = now; way = waypoint (basics_of now) after e.way } → PathFinds (sheet_shown sheet) s now limit before after Nothing (Overflow e (Some place))
 path_overflows sheet s now limit before after e o place is =
     overflows (λ earlier lie. subst (λ (p : endings.Place). OverflowsOnPath (sheet_shown sheet) (earlier ++ s ∷ []) limit e (Some p)) (sym is) (o.overflows earlier lie))
@@ -146,7 +151,7 @@ optimal_ending p now sheet steps (EndsCrossed k) lawful at ends is = absurd (cc 
 optimal_ending p now sheet steps (EndsInfeasible w) lawful at ends is = absurd (cc is)
 optimal_ending p now sheet steps (EndsUnbounded z d) lawful at ends is = absurd (cc is)
 
-pub solved_ends : (sheet : Sheet) (s now : Basis) (limit : ℕ) (before after : List Basics) (gain : Gain) (finding : Finding) → IsLinearProgram sheet.lp → IsNonsingularBasis sheet.lp now → PathFinds sheet s now limit before after gain finding →
+pub solved_ends : (sheet : Sheet) (s now : Basis) (limit : Option ℕ) (before after : List Basics) (gain : Gain) (finding : Finding) → IsLinearProgram sheet.lp → IsNonsingularBasis sheet.lp now → PathFinds sheet s now limit before after gain finding →
     (Fact : Mark → Type 0) → ((mark : Mark) → (mark ≡ Optimal → IsOptimalBasis sheet.lp now) → Fact mark) → IfEnded finding Fact
 solved_ends sheet s now limit before after _ _ lawful at (reached {bases = bases} {verdict = verdict} r) Fact gives =
     gives (mark_of verdict) (λ is. optimal_ending sheet.lp now sheet (length bases) r.reaches.ending lawful at (subst (λ (b : Basis). EndsAt sheet.lp b r.reaches.ending) r.leads r.reaches.ends.ends)
@@ -165,7 +170,7 @@ module _ {P : Type 0} (written : P → Option (List ℕ)) (faults refusals : P �
   refusal_told print refusal u =
       at_problem print print (refused_finding refusal) (tells_quietly written faults refusals (Finds there cells setup new) print (refused_finding refusal) (refusal_found there cells setup new refusal u))
 
-  pub path_told : (lp : LinearProgram) (limit : ℕ) (print_old print_new : P) (result : Result Finding Halt) → limit ≡ cells.xiterlim → selected there (choice_of cells setup.options) ≡ Ok lp →
+  pub path_told : (lp : LinearProgram) (limit : Option ℕ) (print_old print_new : P) (result : Result Finding Halt) → limit ≡ cells.xiterlim → selected there (choice_of cells setup.options) ≡ Ok lp →
       new.name ≡ setup.name → new.options ≡ setup.options →
       Tells (PathFinds (record { problem = there; lp = lp }) setup.basis new.basis limit (ways setup.engine) (ways new.engine)) written faults refusals print_old print_new result →
       (problem : Problem ℕ) → filed_under setup.name file ≡ Some problem → Tells (Finds problem cells setup new) written faults refusals print_old print_new result
@@ -173,4 +178,4 @@ module _ {P : Type 0} (written : P → Option (List ℕ)) (faults refusals : P �
       at_problem print_old print_new result
       (tells_more written faults refusals (PathFinds (record { problem = there; lp = lp }) setup.basis new.basis limit (ways setup.engine) (ways new.engine)) (Finds there cells setup new) print_old print_new
       (λ gain finding f. solved ok same_name same_options
-      (subst (λ (n : ℕ). PathFinds (record { problem = there; lp = lp }) setup.basis new.basis n (ways setup.engine) (ways new.engine) gain finding) within f)) result t)
+      (subst (λ (n : Option ℕ). PathFinds (record { problem = there; lp = lp }) setup.basis new.basis n (ways setup.engine) (ways new.engine) gain finding) within f)) result t)

@@ -1,10 +1,9 @@
 -- A statement at a position, and where it leads.
 use Rattle.std.proofs.Common.{◌≡◌, ℕ, ◌+◌, ◌-◌, ◌<◌, List, Option, Some, Ok, Err, slice_get, refl, sym, ap, subst, arith}
-use Rattle.job_devices.specs.declared.device.WriteStop.{WriteStop}
 use Rattle.control_definitions.specs.Program.{Statement, Program}
 use Rattle.question_definitions.specs.Solving.{Solving}
 use Rattle.run_definitions.specs.State.{State}
-use Rattle.run_definitions.specs.Moves.{Gain, Outcome, Gives}
+use Rattle.run_definitions.specs.Moves.{Gain, Punches, Outcome, Goes as GoesOn, Gives}
 use Rattle.run_definitions.specs.Verbs.{statement_move}
 use Rattle.run_definitions.specs.Run.{counted, Step}
 use Rattle.control_run.specs.declared.act.Act.{Act}
@@ -14,7 +13,8 @@ use Rattle.control_run.specs.declared.act.Halt.TheVariants as halt
 use Rattle.control_run.specs.declared.act.Turn.{Turn}
 use Rattle.control_run.specs.declared.machine.Machine.{Machine}
 use Rattle.control_run.specs.Standing.{Stands}
-use Rattle.control_run.specs.Statements.{Comes, Executes}
+use Rattle.control_run.specs.Statements.{Comes}
+use Rattle.control_run.specs.Punching.{Performs}
 use Rattle.control_run.specs.Running.{Leads, Steps}
 use Rattle.control_run.specs.Turning.{turn_of}
 
@@ -59,25 +59,30 @@ module _ (S : Solving) (program : Program) (cards : List (List ℕ)) (position :
   leads_by old new s within gain (act.Jump to) c = (record (c.0) { position = to }, step_of s within _ c.1, placed_stands to to c.2 refl, c.3)
   leads_by old new s within gain (act.Ends end) c = step_of s within _ c
 
-  module _ {P : Type 0} (written : P → Option (List ℕ)) (faults refusals : P → ℕ) (old new : Machine) where
-    pub steps_to : {print_old print_new : P} (act : Act) (turn : Turn) → turn ≡ turn_of position act → Executes S statement.verb statement.card written faults refusals print_old print_new cards old new (Ok act) →
-        Steps S program cards written faults refusals print_old print_new position old new (Ok turn)
-    steps_to act turn is executes = λ executed state within s.
-        let a = executes position (executed + 1) (counted state) (counted_stands s) in
+  module _ {P U : Type 0} (written : P → Option (List ℕ)) (faults refusals : P → ℕ) (punch_written : U → Option (List ℕ)) (punch_faults punch_refusals : U → ℕ) (old new : Machine) where
+    pub steps_to : {print_old print_new : P} {punch_old punch_new : U} (act : Act) (turn : Turn) → turn ≡ turn_of position act →
+        Performs S statement.verb statement.card written faults refusals print_old print_new punch_written punch_faults punch_refusals punch_old punch_new cards old new (Ok act) →
+        Steps S program cards written faults refusals print_old print_new punch_written punch_faults punch_refusals punch_old punch_new position old new (Ok turn)
+    steps_to act turn is performs = λ executed state within s.
+        let a = performs position (executed + 1) (counted state) (counted_stands s) in
         record {
           gain = a.gain;
-          no_cards = a.no_cards;
           leads = subst (λ (t : Turn). Leads S program cards executed state new a.gain t) (sym is) (leads_by old new s within a.gain act a.comes);
-          writes = a.writes;
+          prints = a.prints;
+          punches = a.punches;
         }
 
-    pub steps_cut : {print_old print_new : P} (stop : WriteStop) → Executes S statement.verb statement.card written faults refusals print_old print_new cards old new (Err (halt.Print stop)) →
-        Steps S program cards written faults refusals print_old print_new position old new (Err (halt.Print stop))
-    steps_cut stop executes = λ executed state within s.
-        let a = executes position (executed + 1) (counted state) (counted_stands s) in
-        record { outcome = a.outcome; no_cards = a.no_cards; step = step_of s within a.outcome a.gives; writes = a.writes }
-
-    pub steps_err : (from to : P) (h : Halt) → Executes S statement.verb statement.card written faults refusals from to cards old new (Err h) →
-        Steps S program cards written faults refusals from to position old new (Err h)
-    steps_err from to (halt.Print stop) executes = steps_cut stop executes
-    steps_err from to halt.NoMemory executes = executes
+    pub steps_err : (from to : P) (punch_from punch_to : U) (h : Halt) → Performs S statement.verb statement.card written faults refusals from to punch_written punch_faults punch_refusals punch_from punch_to cards old new (Err h) →
+        Steps S program cards written faults refusals from to punch_written punch_faults punch_refusals punch_from punch_to position old new (Err h)
+    steps_err from to punch_from punch_to (halt.Print stop) performs = λ executed state within s.
+        let a = performs position (executed + 1) (counted state) (counted_stands s) in
+        record { outcome = a.outcome; step = step_of s within a.outcome a.gives; prints = a.prints; punches = a.punches }
+    steps_err from to punch_from punch_to (halt.Punch stop) performs = λ executed state within s.
+        let a = performs position (executed + 1) (counted state) (counted_stands s) in
+        record {
+          deck = a.deck;
+          punching = record { report = a.report; after = a.after; step = step_of s within (GoesOn (Punches a.report a.deck) a.after) a.gives };
+          punches = a.punches;
+          is_quiet = a.is_quiet;
+        }
+    steps_err from to punch_from punch_to halt.NoMemory performs = performs

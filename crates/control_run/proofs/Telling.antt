@@ -30,6 +30,7 @@ module _ {P : Type 0} (written : P → Option (List ℕ)) (faults refusals : P �
       Tells F written faults refusals print_old print_new result → Tells G written faults refusals print_old print_new result
   tells_more F G print_old print_new more (Ok finding) t = record { gain = t.gain; holds = more t.gain finding t.holds; writes = t.writes }
   tells_more F G print_old print_new more (Err (halt.Print stop)) t = record { gain = t.gain; finding = t.finding; holds = more t.gain t.finding t.holds; writes = t.writes }
+  tells_more F G print_old print_new more (Err (halt.Punch stop)) t = absurd t
   tells_more F G print_old print_new more (Err halt.NoMemory) t = t
 
   -- what is found prints nothing, or there is no memory
@@ -38,6 +39,10 @@ module _ {P : Type 0} (written : P → Option (List ℕ)) (faults refusals : P �
   tells_quietly F print (Err (halt.Print stop)) t = absurd (by t)
     where
       by : halt.Print stop ≡ halt.NoMemory → ⊥
+      by e = cc
+  tells_quietly F print (Err (halt.Punch stop)) t = absurd (by t)
+    where
+      by : halt.Punch stop ≡ halt.NoMemory → ⊥
       by e = cc
   tells_quietly F print (Err halt.NoMemory) t = refl
 
@@ -78,4 +83,5 @@ module _ (verb : Verb ℕ) (card : ℕ) {P : Type 0} (written : P → Option (Li
         gives = o.1;
         writes = subst (λ (g : Gain). Writes {T = Unit {0}} written faults refusals print_old print_new (Err stop) (gain_text g)) (sym o.2) t.writes;
       }
+  cut_executes print_old print_new any (halt.Punch stop) t = absurd t
   cut_executes print_old print_new any halt.NoMemory t = t

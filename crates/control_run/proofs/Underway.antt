@@ -1,10 +1,12 @@
 -- A run that is underway, and what each statement makes of it.
-use Rattle.std.proofs.Common.{◌≡◌, ℕ, ◌+◌, ◌-◌, ◌≤◌, ◌<◌, List, [], ◌++◌, Option, Ok, Err, MatchResult, drop, length, sym, subst, arith}
+use Rattle.std.proofs.Common.{◌≡◌, ℕ, ◌+◌, ◌-◌, ◌≤◌, ◌<◌, List, [], ◌++◌, Option, Ok, Err, drop, length, refl, sym, subst, arith}
 use Rattle.job_devices.proofs.TextLemmas.{writes_then, writes_same, writes_nothing}
 use Rattle.job_devices.specs.declared.device.WriteStop.{WriteStop}
+use Rattle.job_devices.specs.declared.device.WriteStop.TheVariants.{Failed, NoMemory}
 use Rattle.job_devices.specs.Text.{Writes}
 use Rattle.card_definitions.specs.Cards.{numbered_cards}
 use Rattle.deck_definitions.specs.Decks.{decks_of}
+use Rattle.deck_definitions.specs.Written.{card_text}
 use Rattle.control_definitions.specs.Program.{Program}
 use Rattle.listing_definitions.specs.Report.{Report}
 use Rattle.listing_definitions.specs.Ending.{Ended, StatementLimit, Memory}
@@ -12,7 +14,7 @@ use Rattle.listing_definitions.specs.Listing.{reports_text}
 use Rattle.question_definitions.specs.Solving.{Solving}
 use Rattle.run_definitions.specs.State.{State, start}
 use Rattle.run_definitions.specs.Moves.{Gain, printed_by, punched_by, Outcome, Goes as GoesOn, Ends as EndsRun}
-use Rattle.run_definitions.specs.Run.{Step, Reaches, begun, stepped, IsRun, is_over, is_ended, at_end, at_limit}
+use Rattle.run_definitions.specs.Run.{Step, Reaches, begun, stepped, is_over, is_ended, at_end, at_limit}
 use Rattle.control_run.specs.declared.act.Halt.{Halt}
 use Rattle.control_run.specs.declared.act.Halt.TheVariants as halt
 use Rattle.control_run.specs.declared.act.Turn.{Turn}
@@ -20,140 +22,201 @@ use Rattle.control_run.specs.declared.act.Turn.TheVariants.{Goes, Ends}
 use Rattle.control_run.specs.declared.end.End.{End}
 use Rattle.control_run.specs.declared.machine.Machine.{Machine}
 use Rattle.control_run.specs.Ends.{end_shown}
-use Rattle.control_run.specs.Turning.{end_of_halt}
 use Rattle.control_run.specs.Standing.{IsSound, Stands}
 use Rattle.control_run.specs.Statements.{gain_text, gain_of}
-use Rattle.control_run.specs.Running.{decks_behind, by_itself, for_memory, Turns, IsStepCut, Steps, RunsTo, IsRunCut}
-use Rattle.control_run.proofs.Gains.{reports_text_more}
+use Rattle.control_run.specs.Punching.{gain_cards}
+use Rattle.control_run.specs.Running.{decks_behind, by_itself, for_memory, for_memory_of_punch, for_punch_fault, Turns, IsStepCut, IsDeckCut, Steps, RunsTo, IsRunCut, Runs}
+use Rattle.control_run.proofs.Gains.{reports_text_more, card_text_more, gains_whole, front_of_whole, gains_front_at_fault, gains_front_for_memory}
 
--- the run has come to a state that the machine shows, and its reports so far are printed
-pub record IsUnderway (S : Solving) (program : Program) (cards : List (List ℕ)) {P : Type 0} (written : P → Option (List ℕ)) (faults refusals : P → ℕ) (print_old print_now : P) (machine : Machine) (position executed : ℕ) : Type 0 where
-  pub sound : IsSound cards machine
-  pub first : 1 ≤ position
-  pub within : executed ≤ 100000
-  pub state : State
-  pub stands : Stands cards machine position executed state
-  pub reports : List Report
-  pub reaches : Reaches S program (decks_behind program cards) reports [] state
-  pub writes : Writes {T = Unit {0}} written faults refusals print_old print_now (Ok tt) (reports_text reports)
+module _ (S : Solving) (program : Program) (cards : List (List ℕ)) {P U : Type 0} (written : P → Option (List ℕ)) (faults refusals : P → ℕ)
+    (punch_written : U → Option (List ℕ)) (punch_faults punch_refusals : U → ℕ) where
+  -- the run has come to a state that the machine shows, its reports so far are printed, and its decks so far are punched
+  pub record IsUnderway (print_old print_now : P) (punch_old punch_now : U) (machine : Machine) (position executed : ℕ) : Type 0 where
+    pub sound : IsSound cards machine
+    pub first : 1 ≤ position
+    pub within : executed ≤ 100000
+    pub state : State
+    pub stands : Stands cards machine position executed state
+    pub reports : List Report
+    pub punched : List (List ℕ)
+    pub reaches : Reaches S program (decks_behind program cards) reports punched state
+    pub prints : Writes {T = Unit {0}} written faults refusals print_old print_now (Ok tt) (reports_text reports)
+    pub punches : Writes {T = Unit {0}} punch_written punch_faults punch_refusals punch_old punch_now (Ok tt) (card_text punched)
 
-module _ (S : Solving) (program : Program) (cards : List (List ℕ)) where
-  -- no card is punched
-  reaches_more : {reports : List Report} {state after : State} (gain : Gain) → punched_by gain ≡ [] → Reaches S program (decks_behind program cards) reports [] state →
-      Step S program state (GoesOn gain after) → Reaches S program (decks_behind program cards) (reports ++ printed_by gain) [] after
-  reaches_more {reports = reports} {after = after} gain none reach step =
-      subst (λ (punched : List (List ℕ)). Reaches S program (decks_behind program cards) (reports ++ printed_by gain) punched after) none (stepped gain after reach step)
+  -- a machine at the start of the run
+  pub underway_first : (print : P) (punch : U) (machine : Machine) (decks_from : ℕ) → drop (decks_from - 1) (numbered_cards cards) ≡ drop (program.decks_from - 1) (numbered_cards cards) →
+      IsSound cards machine → Stands cards machine 1 0 (start (decks_of (drop (decks_from - 1) (numbered_cards cards)))) →
+      IsUnderway print print punch punch machine 1 0
+  underway_first print punch machine decks_from same sound stands = record {
+    sound = sound;
+    first = omega arith;
+    within = omega arith;
+    state = start (decks_behind program cards);
+    stands = subst (λ d. Stands cards machine 1 0 (start (decks_of d))) same stands;
+    reports = [];
+    punched = [];
+    reaches = begun;
+    prints = writes_nothing written faults refusals print tt;
+    punches = writes_nothing punch_written punch_faults punch_refusals punch tt;
+  }
 
-  ends_more : {reports : List Report} {state : State} (gain : Gain) (end : End) → punched_by gain ≡ [] → Reaches S program (decks_behind program cards) reports [] state →
-      Step S program state (EndsRun gain (end_shown end)) → IsRun S program (decks_behind program cards) (reports ++ printed_by gain) [] (end_shown end)
-  ends_more {reports = reports} gain end none reach step =
-      subst (λ (punched : List (List ℕ)). IsRun S program (decks_behind program cards) (reports ++ printed_by gain) punched (end_shown end)) none (is_ended gain reach step)
+  module _ {old now : P} {punch_old punch_now : U} {machine : Machine} {position executed : ℕ} (u : IsUnderway old now punch_old punch_now machine position executed) where
+    -- the run with one more statement, which goes on
+    reaches_more : {after : State} (gain : Gain) → Step S program u.state (GoesOn gain after) →
+        Reaches S program (decks_behind program cards) (u.reports ++ printed_by gain) (u.punched ++ punched_by gain) after
+    reaches_more {after = after} gain step = stepped gain after u.reaches step
 
-  module _ {P : Type 0} (written : P → Option (List ℕ)) (faults refusals : P → ℕ) where
-    -- a machine at the start of the run
-    pub underway_first : (print : P) (machine : Machine) (decks_from : ℕ) → drop (decks_from - 1) (numbered_cards cards) ≡ drop (program.decks_from - 1) (numbered_cards cards) →
-        IsSound cards machine → Stands cards machine 1 0 (start (decks_of (drop (decks_from - 1) (numbered_cards cards)))) →
-        IsUnderway S program cards written faults refusals print print machine 1 0
-    underway_first print machine decks_from same sound stands = record {
-      sound = sound;
-      first = omega arith;
-      within = omega arith;
-      state = start (decks_behind program cards);
-      stands = subst (λ d. Stands cards machine 1 0 (start (decks_of d))) same stands;
-      reports = [];
-      reaches = begun;
-      writes = writes_nothing written faults refusals print tt;
-    }
+    punches_more : {punch_later : U} (gain : Gain) → Writes {T = Unit {0}} punch_written punch_faults punch_refusals punch_now punch_later (Ok tt) (gain_cards gain) →
+        Writes {T = Unit {0}} punch_written punch_faults punch_refusals punch_old punch_later (Ok tt) (card_text (u.punched ++ punched_by gain))
+    punches_more gain w = writes_same (card_text_more u.punched (punched_by gain)) (writes_then u.punches w)
 
+    -- the punch stops in a deck
+    punches_cut : {punch_later : U} (stop : WriteStop) (deck : List (List ℕ)) → Writes {T = Unit {0}} punch_written punch_faults punch_refusals punch_now punch_later (Err stop) (card_text deck) →
+        Writes {T = Unit {0}} punch_written punch_faults punch_refusals punch_old punch_later (Err stop) (card_text (u.punched ++ deck))
+    punches_cut stop deck w = writes_same (card_text_more u.punched deck) (writes_then u.punches w)
+
+    -- what is printed stays as it was
+    prints_same : (later : P) → later ≡ now → Writes {T = Unit {0}} written faults refusals old later (Ok tt) (reports_text u.reports)
+    prints_same later same = subst (λ (p : P). Writes {T = Unit {0}} written faults refusals old p (Ok tt) (reports_text u.reports)) (sym same) u.prints
+
+  module _ {old now : P} (later : P) {punch_old punch_now : U} (punch_later : U) {machine : Machine} {position executed : ℕ} (u : IsUnderway old now punch_old punch_now machine position executed) where
     -- one more statement leads to another
-    pub underway_more : {old now later : P} {machine new : Machine} {position executed to : ℕ} (u : IsUnderway S program cards written faults refusals old now machine position executed) →
-        executed < 100000 → IsSound cards new → Turns S program cards written faults refusals now later executed u.state new (Goes to) →
-        IsUnderway S program cards written faults refusals old later new to (executed + 1)
-    underway_more u within sound t = record {
+    underway_more : {new : Machine} {to : ℕ} → executed < 100000 → IsSound cards new →
+        Turns S program cards written faults refusals now later punch_written punch_faults punch_refusals punch_now punch_later executed u.state new (Goes to) →
+        IsUnderway old later punch_old punch_later new to (executed + 1)
+    underway_more within sound t = record {
       sound = sound;
       first = t.leads.3;
       within = omega arith;
       state = t.leads.0;
       stands = t.leads.2;
       reports = u.reports ++ printed_by t.gain;
-      reaches = reaches_more t.gain t.no_cards u.reaches t.leads.1;
-      writes = writes_same (reports_text_more u.reports t.gain) (writes_then u.writes t.writes);
+      punched = u.punched ++ punched_by t.gain;
+      reaches = reaches_more u t.gain t.leads.1;
+      prints = writes_same (reports_text_more u.reports t.gain) (writes_then u.prints t.prints);
+      punches = punches_more u t.gain t.punches;
     }
 
     -- one more statement ends the run
-    pub underway_ended : {old now later : P} {machine new : Machine} {position executed : ℕ} (end : End) (u : IsUnderway S program cards written faults refusals old now machine position executed) →
-        Turns S program cards written faults refusals now later executed u.state new (Ends end) → RunsTo S program cards written faults refusals old later (end_shown end)
-    underway_ended end u t = record {
+    underway_ended : {new : Machine} (end : End) →
+        Turns S program cards written faults refusals now later punch_written punch_faults punch_refusals punch_now punch_later executed u.state new (Ends end) →
+        RunsTo S program cards written faults refusals old later punch_written punch_faults punch_refusals punch_old punch_later (end_shown end)
+    underway_ended end t = record {
       reports = u.reports ++ printed_by t.gain;
-      can_end = by_itself (ends_more t.gain end t.no_cards u.reaches t.leads);
-      writes = writes_same (reports_text_more u.reports t.gain) (writes_then u.writes t.writes);
-    }
-
-    -- the program's end
-    pub underway_over : {old now : P} {machine : Machine} {position executed : ℕ} (u : IsUnderway S program cards written faults refusals old now machine position executed) →
-        length program.statements < position → RunsTo S program cards written faults refusals old now (Ended 0)
-    underway_over u over = record {
-      reports = u.reports;
-      can_end = by_itself (is_over u.reaches (at_end (rw u.stands.is_position over)));
-      writes = u.writes;
-    }
-
-    -- the statement limit
-    pub underway_at_limit : {old now : P} {machine : Machine} {position executed : ℕ} (u : IsUnderway S program cards written faults refusals old now machine position executed) →
-        position ≤ length program.statements → 100000 ≤ executed → RunsTo S program cards written faults refusals old now StatementLimit
-    underway_at_limit u within most = record {
-      reports = u.reports;
-      can_end = by_itself (is_over u.reaches (at_limit (rw u.stands.is_position within) (rw u.stands.is_executed most)));
-      writes = u.writes;
-    }
-
-    -- a statement finds no memory
-    pub underway_without_memory : {old now later : P} {machine : Machine} {position executed : ℕ} (u : IsUnderway S program cards written faults refusals old now machine position executed) →
-        later ≡ now → RunsTo S program cards written faults refusals old later Memory
-    underway_without_memory {old = old} u same = record {
-      reports = u.reports;
-      can_end = for_memory u.reaches;
-      writes = subst (λ (p : P). Writes {T = Unit {0}} written faults refusals old p (Ok tt) (reports_text u.reports)) (sym same) u.writes;
+      punched = u.punched ++ punched_by t.gain;
+      can_end = by_itself (is_ended t.gain u.reaches t.leads);
+      prints = writes_same (reports_text_more u.reports t.gain) (writes_then u.prints t.prints);
+      gains = gains_whole (end_shown end) (punch_written punch_old) (punch_written punch_later) (card_text (u.punched ++ punched_by t.gain)) (punches_more u t.gain t.punches).bytes;
     }
 
     -- the print stops
-    pub underway_cut : {old now later : P} {machine : Machine} {position executed : ℕ} (stop : WriteStop) (u : IsUnderway S program cards written faults refusals old now machine position executed) →
-        IsStepCut S program cards written faults refusals now later u.state stop → IsRunCut S program cards written faults refusals old later stop
-    underway_cut {old = old} {now = now} {later = later} stop u t = by t.outcome t.no_cards t.step t.writes
+    underway_cut : (stop : WriteStop) → IsStepCut S program cards written faults refusals now later punch_written punch_faults punch_refusals punch_now punch_later u.state stop →
+        IsRunCut S program cards written faults refusals old later punch_written punch_faults punch_refusals punch_old punch_later stop
+    underway_cut stop t = by t.outcome t.step t.prints t.punches
       where
-        by : (outcome : Outcome) → punched_by (gain_of outcome) ≡ [] → Step S program u.state outcome →
-            Writes {T = Unit {0}} written faults refusals now later (Err stop) (gain_text (gain_of outcome)) → IsRunCut S program cards written faults refusals old later stop
-        by (GoesOn gain after) none step writes = record {
+        by : (outcome : Outcome) → Step S program u.state outcome →
+            Writes {T = Unit {0}} written faults refusals now later (Err stop) (gain_text (gain_of outcome)) →
+            Writes {T = Unit {0}} punch_written punch_faults punch_refusals punch_now punch_later (Ok tt) (gain_cards (gain_of outcome)) →
+            IsRunCut S program cards written faults refusals old later punch_written punch_faults punch_refusals punch_old punch_later stop
+        by (GoesOn gain after) step prints punches = record {
           reports = u.reports ++ printed_by gain;
+          punched = u.punched ++ punched_by gain;
           ending = Memory;
-          can_end = for_memory (reaches_more gain none u.reaches step);
-          writes = writes_same (reports_text_more u.reports gain) (writes_then u.writes writes);
+          can_end = for_memory (reaches_more u gain step);
+          prints = writes_same (reports_text_more u.reports gain) (writes_then u.prints prints);
+          gains = front_of_whole (punch_written punch_old) (punch_written punch_later) (card_text (u.punched ++ punched_by gain)) (punches_more u gain punches).bytes;
         }
-        by (EndsRun gain ending) none step writes = record {
+        by (EndsRun gain ending) step prints punches = record {
           reports = u.reports ++ printed_by gain;
+          punched = u.punched ++ punched_by gain;
           ending = ending;
-          can_end = by_itself (subst (λ (punched : List (List ℕ)). IsRun S program (decks_behind program cards) (u.reports ++ printed_by gain) punched ending) none (is_ended gain u.reaches step));
-          writes = writes_same (reports_text_more u.reports gain) (writes_then u.writes writes);
+          can_end = by_itself (is_ended gain u.reaches step);
+          prints = writes_same (reports_text_more u.reports gain) (writes_then u.prints prints);
+          gains = front_of_whole (punch_written punch_old) (punch_written punch_later) (card_text (u.punched ++ punched_by gain)) (punches_more u gain punches).bytes;
         }
 
-    -- ---- by what a statement's result is
+    -- the punch stops in a deck
+    underway_deck_cut : (stop : WriteStop) → IsDeckCut S program cards written faults refusals now later punch_written punch_faults punch_refusals punch_now punch_later u.state stop →
+        Runs S program cards written faults refusals old later punch_written punch_faults punch_refusals punch_old punch_later (Err (halt.Punch stop))
+    underway_deck_cut Failed t =
+        let w = punches_cut u Failed t.deck t.punches in (
+          record {
+            reports = u.reports;
+            punched = u.punched ++ t.deck;
+            can_end = for_punch_fault t.deck (w.cause.failed refl) u.reaches t.punching;
+            prints = prints_same u later t.is_quiet;
+            gains = gains_front_at_fault (punch_written punch_old) (punch_written punch_later) (card_text (u.punched ++ t.deck)) w.bytes;
+          },
+          w.cause.failed refl,
+        )
+    underway_deck_cut NoMemory t =
+        let w = punches_cut u NoMemory t.deck t.punches in
+        record {
+          reports = u.reports;
+          punched = u.punched ++ t.deck;
+          can_end = for_memory_of_punch t.deck (w.cause.no_memory refl) u.reaches t.punching;
+          prints = prints_same u later t.is_quiet;
+          gains = gains_front_for_memory (punch_written punch_old) (punch_written punch_later) (card_text (u.punched ++ t.deck)) w.bytes;
+        }
 
-    pub underway_goes : {old now later : P} {machine new : Machine} {position executed to : ℕ} (turn : Turn) → turn ≡ Goes to →
-        (u : IsUnderway S program cards written faults refusals old now machine position executed) → executed < 100000 → IsSound cards new →
-        Steps S program cards written faults refusals now later position machine new (Ok turn) → IsUnderway S program cards written faults refusals old later new to (executed + 1)
-    underway_goes {now = now} {later = later} {new = new} {executed = executed} turn is u within sound steps =
-        underway_more u within sound (subst (λ (t : Turn). Turns S program cards written faults refusals now later executed u.state new t) is (steps executed u.state within u.stands))
+    -- a statement finds no memory
+    underway_without_memory : later ≡ now → punch_later ≡ punch_now → RunsTo S program cards written faults refusals old later punch_written punch_faults punch_refusals punch_old punch_later Memory
+    underway_without_memory same same_punch = record {
+      reports = u.reports;
+      punched = u.punched;
+      can_end = for_memory u.reaches;
+      prints = prints_same u later same;
+      gains = gains_whole Memory (punch_written punch_old) (punch_written punch_later) (card_text u.punched)
+          (subst (λ (q : U). Writes {T = Unit {0}} punch_written punch_faults punch_refusals punch_old q (Ok tt) (card_text u.punched)) (sym same_punch) u.punches).bytes;
+    }
 
-    pub underway_ends : {old now later : P} {machine : Machine} (new : Machine) {position executed : ℕ} (turn : Turn) (end : End) → turn ≡ Ends end →
-        (u : IsUnderway S program cards written faults refusals old now machine position executed) → executed < 100000 →
-        Steps S program cards written faults refusals now later position machine new (Ok turn) → RunsTo S program cards written faults refusals old later (end_shown end)
-    underway_ends {now = now} {later = later} new {executed = executed} turn end is u within steps =
-        underway_ended {new = new} end u (subst (λ (t : Turn). Turns S program cards written faults refusals now later executed u.state new t) is (steps executed u.state within u.stands))
+  -- ---- the run is over
 
-    -- a statement comes to nothing
-    pub underway_halted : {old now : P} (later : P) {machine : Machine} (new : Machine) {position executed : ℕ} (h : Halt) →
-        (u : IsUnderway S program cards written faults refusals old now machine position executed) → executed < 100000 →
-        Steps S program cards written faults refusals now later position machine new (Err h) →
-        MatchResult (end_of_halt h) (λ end. RunsTo S program cards written faults refusals old later (end_shown end)) (IsRunCut S program cards written faults refusals old later)
-    underway_halted later new halt.NoMemory u within steps = underway_without_memory u steps
-    underway_halted later new {executed = executed} (halt.Print stop) u within steps = underway_cut stop u (steps executed u.state within u.stands)
+  module _ {old now : P} {punch_old punch_now : U} {machine : Machine} {position executed : ℕ} (u : IsUnderway old now punch_old punch_now machine position executed) where
+    -- the program's end
+    pub underway_over : length program.statements < position → RunsTo S program cards written faults refusals old now punch_written punch_faults punch_refusals punch_old punch_now (Ended 0)
+    underway_over over = record {
+      reports = u.reports;
+      punched = u.punched;
+      can_end = by_itself (is_over u.reaches (at_end (rw u.stands.is_position over)));
+      prints = u.prints;
+      gains = gains_whole (Ended 0) (punch_written punch_old) (punch_written punch_now) (card_text u.punched) u.punches.bytes;
+    }
+
+    -- the statement limit
+    pub underway_at_limit : position ≤ length program.statements → 100000 ≤ executed →
+        RunsTo S program cards written faults refusals old now punch_written punch_faults punch_refusals punch_old punch_now StatementLimit
+    underway_at_limit within most = record {
+      reports = u.reports;
+      punched = u.punched;
+      can_end = by_itself (is_over u.reaches (at_limit (rw u.stands.is_position within) (rw u.stands.is_executed most)));
+      prints = u.prints;
+      gains = gains_whole StatementLimit (punch_written punch_old) (punch_written punch_now) (card_text u.punched) u.punches.bytes;
+    }
+
+  -- ---- by what a statement's result is
+
+  pub underway_goes : {old now later : P} {punch_old punch_now punch_later : U} {machine new : Machine} {position executed to : ℕ} (turn : Turn) → turn ≡ Goes to →
+      (u : IsUnderway old now punch_old punch_now machine position executed) → executed < 100000 → IsSound cards new →
+      Steps S program cards written faults refusals now later punch_written punch_faults punch_refusals punch_now punch_later position machine new (Ok turn) →
+      IsUnderway old later punch_old punch_later new to (executed + 1)
+  underway_goes {now = now} {later = later} {punch_now = punch_now} {punch_later = punch_later} {new = new} {executed = executed} turn is u within sound steps =
+      underway_more later punch_later u within sound
+      (subst (λ (t : Turn). Turns S program cards written faults refusals now later punch_written punch_faults punch_refusals punch_now punch_later executed u.state new t) is (steps executed u.state within u.stands))
+
+  pub underway_ends : {old now later : P} {punch_old punch_now punch_later : U} {machine : Machine} (new : Machine) {position executed : ℕ} (turn : Turn) (end : End) → turn ≡ Ends end →
+      (u : IsUnderway old now punch_old punch_now machine position executed) → executed < 100000 →
+      Steps S program cards written faults refusals now later punch_written punch_faults punch_refusals punch_now punch_later position machine new (Ok turn) →
+      RunsTo S program cards written faults refusals old later punch_written punch_faults punch_refusals punch_old punch_later (end_shown end)
+  underway_ends {now = now} {later = later} {punch_now = punch_now} {punch_later = punch_later} new {executed = executed} turn end is u within steps =
+      underway_ended later punch_later u {new = new} end
+      (subst (λ (t : Turn). Turns S program cards written faults refusals now later punch_written punch_faults punch_refusals punch_now punch_later executed u.state new t) is (steps executed u.state within u.stands))
+
+  -- a statement comes to nothing
+  pub underway_halted : {old now : P} (later : P) {punch_old punch_now : U} (punch_later : U) {machine : Machine} (new : Machine) {position executed : ℕ} (h : Halt) →
+      (u : IsUnderway old now punch_old punch_now machine position executed) → executed < 100000 →
+      Steps S program cards written faults refusals now later punch_written punch_faults punch_refusals punch_now punch_later position machine new (Err h) →
+      Runs S program cards written faults refusals old later punch_written punch_faults punch_refusals punch_old punch_later (Err h)
+  underway_halted later punch_later new halt.NoMemory u within steps = underway_without_memory later punch_later u steps.0 steps.1
+  underway_halted later punch_later new {executed = executed} (halt.Print stop) u within steps = underway_cut later punch_later u stop (steps executed u.state within u.stands)
+  underway_halted later punch_later new {executed = executed} (halt.Punch stop) u within steps = underway_deck_cut later punch_later u stop (steps executed u.state within u.stands)

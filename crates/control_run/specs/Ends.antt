@@ -45,11 +45,10 @@ code_of status.PunchFault = 26
 code_of status.Memory = 28
 code_of status.NotBuilt = 30
 
--- Words, control cards and the cards of a job are refused before its program runs, and the job is read before; nothing is punched.
+-- Words, control cards and the cards of a job are refused before its program runs, and the job is read before.
 abbrev pub IsStatusOfRun : Status → Type 0
 IsStatusOfRun status.Words = ⊥
 IsStatusOfRun status.Control = ⊥
 IsStatusOfRun status.Card = ⊥
 IsStatusOfRun status.ReadFault = ⊥
-IsStatusOfRun status.PunchFault = ⊥
 IsStatusOfRun _ = Unit {0}

@@ -2,20 +2,21 @@
 --     Engine                       what keeps the rates
 --     matrix, basics               whose rates they are
 --     ways                         the sets that the inverse has passed through
-use Rattle.std.specs.Prelude.{List, []}
+use Rattle.std.specs.Prelude.{List}
 use Rattle.lp_definitions.specs.LinearProgram.{Matrix}
 use Rattle.lp_definitions.specs.Basis.{Basics}
-use Rattle.rates_dense.specs.Inverse.{Inverse}
+use Rattle.eta_file.specs.Inverse.{ways_of}
+use Rattle.reinversion.specs.Form.{Form}
 
 abbrev pub Engine : Type 0
-Engine = Inverse
+Engine = Form
 
 abbrev pub matrix : Engine → Matrix
-matrix engine = engine.matrix
+matrix engine = engine.file.matrix
 
 abbrev pub basics : Engine → Basics
-basics engine = engine.basics
+basics engine = engine.file.basics
 
--- a whole table passes through none
+-- those of the eta file
 abbrev pub ways : Engine → List Basics
-ways engine = []
+ways engine = ways_of engine.file

@@ -16,7 +16,7 @@ use Rattle.lp_definitions.specs.LinearProgram.{LinearProgram}
 use Rattle.lp_definitions.specs.Basis.{Basics, basics_of}
 use Rattle.lp_definitions.specs.Waypoints.{waypoint}
 use Rattle.lp_definitions.specs.declared.Evidence.{Evidence}
-use Rattle.path_definitions.specs.Path.{last_of, GoesOnFor}
+use Rattle.path_definitions.specs.Path.{last_of}
 use Rattle.evidence_definitions.specs.Statements.{Solution as SolutionStatement, Range as RangeStatement}
 use Rattle.problem_definitions.specs.Problem.{Problem}
 use Rattle.selection_definitions.specs.Selection.{selected}
@@ -27,9 +27,9 @@ use Rattle.listing_definitions.specs.declared.VerbFault.TheVariants.{NotSolved, 
 use Rattle.listing_definitions.specs.declared.Solver.TheVariants.{Primal as ByPrimal}
 use Rattle.listing_definitions.specs.Report.{Verdict, Check, Solved, Solution, SolutionLines, Ranges, RangeLines}
 use Rattle.listing_definitions.specs.Ending.{Place}
-use Rattle.control_definitions.specs.Cells.{Cells}
-use Rattle.question_definitions.specs.Answers.{Basis, Sheet}
-use Rattle.answer_definitions.specs.Verdicts.{ReachesVerdict}
+use Rattle.control_definitions.specs.Cells.{Cells, steps_allowed}
+use Rattle.question_definitions.specs.Answers.{Basis, Sheet, PathLimit}
+use Rattle.answer_definitions.specs.Verdicts.{ReachesVerdict, IsSolved}
 use Rattle.answer_definitions.specs.Sections.{IsShown, IsRanged}
 use Rattle.answer_definitions.specs.Evidence.{IsEvidence, OverflowsOnPath}
 use Rattle.bounded_primal.specs.Calls.{LieIn}
@@ -65,7 +65,7 @@ pub data IsOverflowAt (s : Basis) (after : List Basics) (e : Evidence) : Result 
 
 -- ---- the path
 
-module _ (sheet : Sheet) (s now : Basis) (limit : ℕ) (before after : List Basics) where
+module _ (sheet : Sheet) (s now : Basis) (limit : Option ℕ) (before after : List Basics) where
   -- The path from s goes over these bases to now, and ends there with this verdict. For every list of bases that ends with s, in which
   -- the waypoints lay before, they lie after in that list followed by these bases.
   pub record PathReaches (bases : List Basis) (verdict : Verdict) (check : Check) : Type 0 where
@@ -85,7 +85,7 @@ module _ (sheet : Sheet) (s now : Basis) (limit : ℕ) (before after : List Basi
     reached : {bases : List Basis} {verdict : Verdict} {check : Check} →
         PathReaches bases verdict check →
         PathFinds (Prints (Solved ByPrimal verdict check)) (Ended (mark_of verdict))
-    at_limit : GoesOnFor sheet.lp s limit → PathFinds Nothing Limit
+    at_limit : IsSolved sheet s limit PathLimit → PathFinds Nothing Limit
     overflows : {e : Evidence} {place : Option OwnPlace} →
         PathOverflows e (option_map place_shown place) → PathFinds Nothing (Overflow e place)
 
@@ -177,6 +177,7 @@ module _ (Holds : Gain → Finding → Type 0) {P : Type 0} (written : P → Opt
   abbrev pub Tells : Result Finding Halt → Type 0
   Tells (Ok finding) = IsTold finding
   Tells (Err (halt.Print stop)) = IsTellingCut stop
+  Tells (Err (halt.Punch stop)) = ⊥
   Tells (Err halt.NoMemory) = print_new ≡ print_old
 
 -- ---- what follows
@@ -191,7 +192,7 @@ demanded_act None end = Ends end
 abbrev pub act_of : Cells → ℕ → Finding → Act
 act_of cells card (Refused fault) = Ends (end.Verb fault card)
 act_of cells card (Overflow e place) = Ends (end.Overflow e place card)
-act_of cells card Limit = Ends (end.Limit cells.xiterlim card)
+act_of cells card Limit = Ends (end.Limit (steps_allowed cells) card)
 act_of cells card (Ended Optimal) = Next
 act_of cells card (Ended Infeasible) = demanded_act cells.xdonfs end.Infeasible
 act_of cells card (Ended Unbounded) = demanded_act cells.xdounb end.Unbounded

@@ -4,8 +4,11 @@ use Rattle.job_devices.specs.declared.device.WriteStop.{WriteStop}
 use Rattle.job_devices.specs.declared.device.WriteStop.TheVariants.{Failed, NoMemory}
 use Rattle.job_devices.specs.Text.{Writes}
 use Rattle.listing_definitions.specs.Ending.{Ending, status_of}
+use Rattle.listing_definitions.specs.Ending as endings
 use Rattle.listing_definitions.specs.Listing.{ending_text}
 use Rattle.run_definitions.specs.Answer.{Failures}
+use Rattle.control_run.specs.declared.act.Halt.{Halt}
+use Rattle.control_run.specs.declared.act.Halt.TheVariants as halt
 use Rattle.control_run.specs.declared.status.Status.{Status}
 use Rattle.control_run.specs.declared.status.Status.TheVariants.{PrintFault, Memory}
 use Rattle.control_run.specs.Ends.{code_of}
@@ -19,6 +22,13 @@ cut_status NoMemory = Memory
 pub data Finishes {P : Type 0} (written : P → Option (List ℕ)) (faults refusals : P → ℕ) (old new : P) (ending : Ending) (status : Status) : Type 0 where
   printed : code_of status ≡ status_of ending → Writes {T = Unit {0}} written faults refusals old new (Ok tt) (ending_text ending) → Finishes written faults refusals old new ending status
   cut_off : (stop : WriteStop) → status ≡ cut_status stop → Writes {T = Unit {0}} written faults refusals old new (Err stop) (ending_text ending) → Finishes written faults refusals old new ending status
+
+-- Where the print took no more, nothing is printed; else the listing ends with a fault of the punch or with want of memory.
+abbrev pub FinishesHalted : {P : Type 0} (written : P → Option (List ℕ)) (faults refusals : P → ℕ) (old new : P) → Halt → Status → Type 0
+FinishesHalted written faults refusals old new (halt.Print stop) status = (status ≡ cut_status stop) × (new ≡ old)
+FinishesHalted written faults refusals old new (halt.Punch Failed) status = Finishes written faults refusals old new endings.PunchFault status
+FinishesHalted written faults refusals old new (halt.Punch NoMemory) status = Finishes written faults refusals old new endings.Memory status
+FinishesHalted written faults refusals old new halt.NoMemory status = Finishes written faults refusals old new endings.Memory status
 
 -- The job is read before its program runs: no read fails in a run.
 abbrev pub failures_in_run : (print punch memory : Type 0) → Failures

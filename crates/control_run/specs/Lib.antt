@@ -3,6 +3,7 @@ pub mod Engine
 pub mod Ends
 pub mod Standing
 pub mod Statements
+pub mod Punching
 pub mod Turning
 pub mod Describing
 pub mod Choosing

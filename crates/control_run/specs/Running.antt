@@ -1,35 +1,45 @@
--- What a program's run has printed, and how it may be answered.
+-- What a program's run has printed and punched, and how it may be answered.
 --     Leads state turn             executing a statement of the program leads there
---     Steps result                 a statement leads somewhere, with its report printed; or it is cut off
---     CanEnd reports ending        the run ends so by itself, or for want of memory
---     Runs result                  the run ends, with its reports printed; or it is cut off
+--     Steps result                 a statement leads somewhere, with its report printed and its deck punched; or it is cut off
+--     CanEnd reports punched ending     the run ends so by itself, for want of memory, or since the punch takes no more
+--     Runs result                  the run ends, with its reports printed and its decks punched; or it is cut off
 --     IsRunAnswer status ..        what a run may be answered
-use Rattle.std.specs.Prelude.{◌≡◌, ℕ, ◌+◌, ◌-◌, ◌<◌, ◌≤◌, List, [], Option, Result, Ok, Err, drop}
+use Rattle.std.specs.Prelude.{◌≡◌, ℕ, ◌+◌, ◌-◌, ◌<◌, ◌≤◌, List, ◌++◌, Option, Result, Ok, Err, drop}
 use Rattle.std.specs.Io.KnownBytes.{Appends}
 use Rattle.job_devices.specs.declared.device.WriteStop.{WriteStop}
+use Rattle.job_devices.specs.declared.device.WriteStop.TheVariants.{Failed, NoMemory}
+use Rattle.job_devices.specs.Causes.{Rose}
 use Rattle.job_devices.specs.Text.{Writes, AppendsFront}
 use Rattle.card_definitions.specs.Cards.{Card, numbered_cards}
 use Rattle.deck_definitions.specs.Decks.{decks_of}
+use Rattle.deck_definitions.specs.Written.{card_text}
 use Rattle.control_definitions.specs.Program.{Program}
 use Rattle.listing_definitions.specs.Report.{Report}
-use Rattle.listing_definitions.specs.Ending.{Ending, PrintFault, Memory, status_of}
+use Rattle.listing_definitions.specs.Ending.{Ending, PrintFault, PunchFault, Memory, status_of}
 use Rattle.listing_definitions.specs.Listing.{reports_text, listing}
 use Rattle.question_definitions.specs.Solving.{Solving}
 use Rattle.run_definitions.specs.State.{State}
-use Rattle.run_definitions.specs.Moves.{Gain, punched_by, Outcome, Goes as GoesOn, Ends as EndsRun}
+use Rattle.run_definitions.specs.Moves.{Gain, Outcome, Goes as GoesOn, Ends as EndsRun}
 use Rattle.run_definitions.specs.Run.{max_executed, Step, Reaches, IsRun}
+use Rattle.run_definitions.specs.Answer.{Gains, IsPunching}
 use Rattle.control_run.specs.declared.act.Halt.{Halt}
 use Rattle.control_run.specs.declared.act.Halt.TheVariants as halt
 use Rattle.control_run.specs.declared.act.Turn.{Turn}
 use Rattle.control_run.specs.declared.act.Turn.TheVariants.{Goes, Ends}
+use Rattle.control_run.specs.declared.end.End.{End}
 use Rattle.control_run.specs.declared.machine.Machine.{Machine}
 use Rattle.control_run.specs.Ends.{end_shown}
 use Rattle.control_run.specs.Standing.{Stands}
 use Rattle.control_run.specs.Statements.{gain_text, gain_of}
+use Rattle.control_run.specs.Punching.{gain_cards}
 
 -- the decks of the cards behind a program
 abbrev pub decks_behind : Program → List (List ℕ) → List (List Card)
 decks_behind program cards = decks_of (drop (program.decks_from - 1) (numbered_cards cards))
+
+-- known bytes grow by what the punch gains of a text by this end: all of it, or a front where its deck may be broken off
+abbrev pub GainsBy : Ending → Option (List ℕ) → Option (List ℕ) → List ℕ → Type 0
+GainsBy ending old new text = (gained : List ℕ) × Appends old new gained × Gains ending gained text
 
 module _ (S : Solving) (program : Program) (cards : List (List ℕ)) where
   -- the run goes on at a position, with a state that the machine shows; or it ends
@@ -37,54 +47,88 @@ module _ (S : Solving) (program : Program) (cards : List (List ℕ)) where
   Leads executed state new gain (Goes to) = (after : State) × Step S program state (GoesOn gain after) × Stands cards new to (executed + 1) after × (1 ≤ to)
   Leads executed state new gain (Ends end) = Step S program state (EndsRun gain (end_shown end))
 
-  -- The run ends so by itself; or it has come so far, and there is no memory.
-  pub data CanEnd : List Report → Ending → Type 0 where
-    by_itself : {reports : List Report} {ending : Ending} → IsRun S program (decks_behind program cards) reports [] ending → CanEnd reports ending
-    for_memory : {reports : List Report} {state : State} → Reaches S program (decks_behind program cards) reports [] state → CanEnd reports Memory
+  module _ (punch_failed punch_wanted : Type 0) where
+    -- The run ends so by itself; or it has come so far, and there is no memory; or it has come to a statement that punches a deck, and
+    -- the punch wants memory itself, or has failed. Then that deck is the last of the cards.
+    pub data CanEnd : List Report → List (List ℕ) → Ending → Type 0 where
+      by_itself : {reports : List Report} {punched : List (List ℕ)} {ending : Ending} →
+          IsRun S program (decks_behind program cards) reports punched ending → CanEnd reports punched ending
+      for_memory : {reports : List Report} {punched : List (List ℕ)} {state : State} →
+          Reaches S program (decks_behind program cards) reports punched state → CanEnd reports punched Memory
+      for_memory_of_punch : {reports : List Report} {punched : List (List ℕ)} {state : State} (deck : List (List ℕ)) → punch_wanted →
+          Reaches S program (decks_behind program cards) reports punched state → IsPunching S program state deck → CanEnd reports (punched ++ deck) Memory
+      for_punch_fault : {reports : List Report} {punched : List (List ℕ)} {state : State} (deck : List (List ℕ)) → punch_failed →
+          Reaches S program (decks_behind program cards) reports punched state → IsPunching S program state deck → CanEnd reports (punched ++ deck) PunchFault
 
-  -- What a run may be answered: the status of an end, with the whole listing; or the print has failed, or wanted memory itself, and
-  -- has gained a front of a listing.
-  pub data IsRunAnswer (failed wanted : Type 0) (status : ℕ) (old new : Option (List ℕ)) : Type 0 where
-    whole : {reports : List Report} {ending : Ending} → CanEnd reports ending →
-        status ≡ status_of ending → Appends old new (listing reports ending) → IsRunAnswer failed wanted status old new
-    print_fails : {reports : List Report} {ending : Ending} → failed → CanEnd reports ending →
-        status ≡ status_of PrintFault →
-        AppendsFront old new (listing reports ending) → IsRunAnswer failed wanted status old new
-    print_wants_memory : {reports : List Report} {ending : Ending} → wanted →
-        CanEnd reports ending → status ≡ status_of Memory →
-        AppendsFront old new (listing reports ending) → IsRunAnswer failed wanted status old new
+  -- What a run may be answered: the status of an end, with the whole listing, and with all that is punched by then, or a front of it
+  -- where the deck in hand isn't whole; or the print has failed, or wanted memory itself, and print and punch have gained fronts of
+  -- a listing and of its cards.
+  pub data IsRunAnswer (print_failed print_wanted punch_failed punch_wanted : Type 0) (status : ℕ) (old new punch_old punch_new : Option (List ℕ)) : Type 0 where
+    whole : {reports : List Report} {punched : List (List ℕ)} {ending : Ending} → CanEnd punch_failed punch_wanted reports punched ending →
+        status ≡ status_of ending → Appends old new (listing reports ending) → GainsBy ending punch_old punch_new (card_text punched) →
+        IsRunAnswer print_failed print_wanted punch_failed punch_wanted status old new punch_old punch_new
+    print_fails : {reports : List Report} {punched : List (List ℕ)} {ending : Ending} → print_failed → CanEnd punch_failed punch_wanted reports punched ending →
+        status ≡ status_of PrintFault → AppendsFront old new (listing reports ending) → AppendsFront punch_old punch_new (card_text punched) →
+        IsRunAnswer print_failed print_wanted punch_failed punch_wanted status old new punch_old punch_new
+    print_wants_memory : {reports : List Report} {punched : List (List ℕ)} {ending : Ending} → print_wanted → CanEnd punch_failed punch_wanted reports punched ending →
+        status ≡ status_of Memory → AppendsFront old new (listing reports ending) → AppendsFront punch_old punch_new (card_text punched) →
+        IsRunAnswer print_failed print_wanted punch_failed punch_wanted status old new punch_old punch_new
 
-  module _ {P : Type 0} (written : P → Option (List ℕ)) (faults refusals : P → ℕ) (print_old print_new : P) where
-    -- with some gain, which is printed, the statement leads there
+  module _ {P U : Type 0} (written : P → Option (List ℕ)) (faults refusals : P → ℕ) (print_old print_new : P) (punch_written : U → Option (List ℕ)) (punch_faults punch_refusals : U → ℕ) (punch_old punch_new : U) where
+    -- with some gain, which is printed and punched, the statement leads there
     pub record Turns (executed : ℕ) (state : State) (new : Machine) (turn : Turn) : Type 0 where
       pub gain : Gain
-      pub no_cards : punched_by gain ≡ []
       pub leads : Leads executed state new gain turn
-      pub writes : Writes {T = Unit {0}} written faults refusals print_old print_new (Ok tt) (gain_text gain)
+      pub prints : Writes {T = Unit {0}} written faults refusals print_old print_new (Ok tt) (gain_text gain)
+      pub punches : Writes {T = Unit {0}} punch_written punch_faults punch_refusals punch_old punch_new (Ok tt) (gain_cards gain)
 
     -- the statement leads somewhere, and the print stops before all that it gains is printed
     pub record IsStepCut (state : State) (stop : WriteStop) : Type 0 where
       pub outcome : Outcome
-      pub no_cards : punched_by (gain_of outcome) ≡ []
       pub step : Step S program state outcome
-      pub writes : Writes {T = Unit {0}} written faults refusals print_old print_new (Err stop) (gain_text (gain_of outcome))
+      pub prints : Writes {T = Unit {0}} written faults refusals print_old print_new (Err stop) (gain_text (gain_of outcome))
+      pub punches : Writes {T = Unit {0}} punch_written punch_faults punch_refusals punch_old punch_new (Ok tt) (gain_cards (gain_of outcome))
+
+    -- the statement would punch this deck, and the punch stops before all of it is punched; nothing is printed
+    pub record IsDeckCut (state : State) (stop : WriteStop) : Type 0 where
+      pub deck : List (List ℕ)
+      pub punching : IsPunching S program state deck
+      pub punches : Writes {T = Unit {0}} punch_written punch_faults punch_refusals punch_old punch_new (Err stop) (card_text deck)
+      pub is_quiet : print_new ≡ print_old
 
     -- What executing the statement at a position does from each state that the machine showed. Where there is no memory, nothing is
-    -- printed.
+    -- printed and nothing is punched.
     abbrev pub Steps : ℕ → Machine → Machine → Result Turn Halt → Type 0
     Steps position old new (Ok turn) = (executed : ℕ) (state : State) → executed < max_executed → Stands cards old position executed state → Turns executed state new turn
     Steps position old new (Err (halt.Print stop)) = (executed : ℕ) (state : State) → executed < max_executed → Stands cards old position executed state → IsStepCut state stop
-    Steps position old new (Err halt.NoMemory) = print_new ≡ print_old
+    Steps position old new (Err (halt.Punch stop)) = (executed : ℕ) (state : State) → executed < max_executed → Stands cards old position executed state → IsDeckCut state stop
+    Steps position old new (Err halt.NoMemory) = (print_new ≡ print_old) × (punch_new ≡ punch_old)
 
-    -- the reports are printed up to this end
+    -- how the run can end, where the punch has failed or wanted memory only as its counts tell
+    abbrev pub CanEndNow : List Report → List (List ℕ) → Ending → Type 0
+    CanEndNow = CanEnd (Rose (punch_faults punch_old) (punch_faults punch_new)) (Rose (punch_refusals punch_old) (punch_refusals punch_new))
+
+    -- the reports are printed up to this end, and the decks are punched
     pub record RunsTo (ending : Ending) : Type 0 where
       pub reports : List Report
-      pub can_end : CanEnd reports ending
-      pub writes : Writes {T = Unit {0}} written faults refusals print_old print_new (Ok tt) (reports_text reports)
+      pub punched : List (List ℕ)
+      pub can_end : CanEndNow reports punched ending
+      pub prints : Writes {T = Unit {0}} written faults refusals print_old print_new (Ok tt) (reports_text reports)
+      pub gains : GainsBy ending (punch_written punch_old) (punch_written punch_new) (card_text punched)
 
     -- the print stops before all reports are printed
     pub record IsRunCut (stop : WriteStop) : Type 0 where
       pub reports : List Report
+      pub punched : List (List ℕ)
       pub ending : Ending
-      pub can_end : CanEnd reports ending
-      pub writes : Writes {T = Unit {0}} written faults refusals print_old print_new (Err stop) (reports_text reports)
+      pub can_end : CanEndNow reports punched ending
+      pub prints : Writes {T = Unit {0}} written faults refusals print_old print_new (Err stop) (reports_text reports)
+      pub gains : AppendsFront (punch_written punch_old) (punch_written punch_new) (card_text punched)
+
+    -- The run ends; or the print stops it; or the punch has failed, and stops it; or there is no memory.
+    abbrev pub Runs : Result End Halt → Type 0
+    Runs (Ok end) = RunsTo (end_shown end)
+    Runs (Err (halt.Print stop)) = IsRunCut stop
+    Runs (Err (halt.Punch Failed)) = RunsTo PunchFault × Rose (punch_faults punch_old) (punch_faults punch_new)
+    Runs (Err (halt.Punch NoMemory)) = RunsTo Memory
+    Runs (Err halt.NoMemory) = RunsTo Memory

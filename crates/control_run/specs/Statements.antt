@@ -2,8 +2,8 @@
 --     Follows S move gain act      the move comes to this act with this gain
 --     Comes state gain act         from this state the statement comes to this act with this gain
 --     Decides old new act          the statement prints nothing, and comes to this act
---     Executes result              the statement comes to this act, with its report printed; or it is cut off
-use Rattle.std.specs.Prelude.{◌≡◌, ℕ, ◌≤◌, List, [], Option, Result, Ok, Err}
+--     Executes result              the statement punches nothing, and comes to this act, with its report printed; or it is cut off
+use Rattle.std.specs.Prelude.{◌≡◌, ℕ, ◌≤◌, List, [], Option, Result, Ok, Err, IfSome}
 use Rattle.job_devices.specs.declared.device.WriteStop.{WriteStop}
 use Rattle.job_devices.specs.Text.{Writes}
 use Rattle.control_definitions.specs.Program.{Verb, MoveLimit, Mvadr, Goto}
@@ -22,7 +22,7 @@ use Rattle.control_run.specs.Standing.{Stands}
 
 -- positions count from 1, and a verb may be allowed 1,000,000 steps
 abbrev pub IsSoundVerb : Verb ℕ → Type 0
-IsSoundVerb (MoveLimit limit) = limit ≤ 1000000
+IsSoundVerb (MoveLimit limit) = IfSome limit (λ steps. steps ≤ 1000000)
 IsSoundVerb (Mvadr demand position) = 1 ≤ position
 IsSoundVerb (Goto position) = 1 ≤ position
 IsSoundVerb _ = Unit {0}
@@ -67,8 +67,10 @@ module _ (S : Solving) (verb : Verb ℕ) (card : ℕ) where
       pub gives : Gives S card (statement_move S verb card state) outcome
       pub writes : Writes {T = Unit {0}} written faults refusals print_old print_new (Err stop) (gain_text (gain_of outcome))
 
-    -- What a statement does from each state that the machine showed. Where it finds no memory, nothing is printed.
+    -- What a statement that punches nothing does from each state that the machine showed. Where it finds no memory, nothing is
+    -- printed.
     abbrev pub Executes : List (List ℕ) → Machine → Machine → Result Act Halt → Type 0
     Executes cards old new (Ok act) = (position executed : ℕ) (state : State) → Stands cards old position executed state → Acts cards position executed state new act
     Executes cards old new (Err (halt.Print stop)) = (position executed : ℕ) (state : State) → Stands cards old position executed state → IsCutOff state stop
+    Executes cards old new (Err (halt.Punch stop)) = ⊥
     Executes cards old new (Err halt.NoMemory) = print_new ≡ print_old

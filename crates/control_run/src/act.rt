@@ -45,6 +45,8 @@ impl Act {
 pub enum Halt {
     /// The print took no more.
     Print(WriteStop),
+    /// The punch took no more of a deck.
+    Punch(WriteStop),
     /// Memory ran out.
     NoMemory,
 }

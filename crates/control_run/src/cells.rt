@@ -1,5 +1,5 @@
 // The statements that set cells and demands, and those that choose the next statement.
-ghost use Rattle.std.specs.Prelude.{◌≡◌, ◌≤◌, ℕ, List};
+ghost use Rattle.std.specs.Prelude.{◌≡◌, ◌≤◌, ℕ, List, IfSome};
 ghost use Rattle.control_definitions.specs.Program as program;
 ghost use Rattle.run_definitions.specs.Verbs.{mark_after};
 ghost use Rattle.control_run.specs.Stage.{stage};
@@ -59,9 +59,9 @@ impl Machine {
         Act::Next
     }
 
-    /// MOVE of the number of steps that a verb may take.
-    pub fn move_limit(&mut self, limit: u32) -> Act
-        requires { limit ≤ 1000000 }
+    /// MOVE of the number of steps that a verb may take, or of no limit on them.
+    pub fn move_limit(&mut self, limit: Option<u32>) -> Act
+        requires { IfSome limit (λ steps. steps ≤ 1000000) }
         ensures acts { (card : ℕ) → Decides stage (program.MoveLimit limit) card self.old self.new result }
         ensures sound { (cards : List (List ℕ)) → IsSound cards self.old → IsSound cards self.new }
     {

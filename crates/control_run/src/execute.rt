@@ -4,7 +4,8 @@ ghost use Rattle.control_verbs.specs.Shown.{shown};
 ghost use Rattle.control_compiler.specs.Valid.{IsProgram};
 ghost use Rattle.control_run.specs.Stage.{stage};
 ghost use Rattle.control_run.specs.Standing.{IsSound};
-ghost use Rattle.control_run.specs.Statements.{IsSoundVerb, Executes};
+ghost use Rattle.control_run.specs.Statements.{IsSoundVerb};
+ghost use Rattle.control_run.specs.Punching.{Performs};
 ghost use Rattle.control_run.specs.Running.{Steps};
 
 use crate::act::{Act, Halt, Turn};
@@ -21,17 +22,20 @@ use job_devices::Sink;
 use std::alloc::Global;
 
 /// Does what the statement of a verb on a card says.
-fn execute<P: Sink>(
+fn execute<P: Sink, U: Sink>(
     alloc: Global,
     machine: &mut Machine,
     cards: &Cards,
     print: &mut P,
+    punch: &mut U,
     card: u32,
     verb: &Verb<u32>,
 ) -> Result<Act, Halt>
     requires sound { IsSound cards.now machine.old }
     requires verb { IsSoundVerb (shown verb.now) }
-    ensures acts { Executes stage (shown verb.now) card P.written P.faults P.refusals print.old print.new cards.now machine.old machine.new result }
+    ensures acts { Performs stage (shown verb.now) card
+        P.written P.faults P.refusals print.old print.new U.written U.faults U.refusals punch.old punch.new
+        cards.now machine.old machine.new result }
     ensures sound { IsSound cards.now machine.new }
 {
     match verb {
@@ -50,28 +54,31 @@ fn execute<P: Sink>(
         Verb::Ranging => show_ranges(alloc, machine, print, card),
         Verb::Paraobj => Ok(Act::Ends(End::NotBuilt)),
         Verb::Pararhs => Ok(Act::Ends(End::NotBuilt)),
-        Verb::Bcdout => Ok(Act::Ends(End::NotBuilt)),
+        Verb::Bcdout => machine.punch_problem(print, punch, card),
         Verb::Exit => Ok(machine.exit()),
     }
 }
 
 /// Executes the statement at a position.
-pub fn step<P: Sink>(
+pub fn step<P: Sink, U: Sink>(
     alloc: Global,
     machine: &mut Machine,
     program: &Program,
     cards: &Cards,
     print: &mut P,
+    punch: &mut U,
     position: u32,
 ) -> Result<Turn, Halt>
     requires valid { IsProgram program.now }
     requires first { 1 ≤ position }
     requires within { position ≤ length program.now.statements }
     requires sound { IsSound cards.now machine.old }
-    ensures steps { Steps stage program.now cards.now P.written P.faults P.refusals print.old print.new position machine.old machine.new result }
+    ensures steps { Steps stage program.now cards.now
+        P.written P.faults P.refusals print.old print.new U.written U.faults U.refusals punch.old punch.new
+        position machine.old machine.new result }
     ensures sound { IsSound cards.now machine.new }
 {
     let next = program.statement(position);
-    let act = execute(alloc, machine, cards, print, next.card, &next.verb)?;
+    let act = execute(alloc, machine, cards, print, punch, next.card, &next.verb)?;
     Ok(act.turn(position))
 }

@@ -98,7 +98,7 @@ pub fn act_of(cells: &Cells, card: u32, finding: Finding) -> Act
             card,
         }),
         Finding::Limit => Act::Ends(End::Limit {
-            limit: cells.limit(),
+            limit: cells.steps_allowed(),
             card,
         }),
         Finding::Ended(Mark::Optimal) | Finding::Shown => Act::Next,

@@ -4,11 +4,13 @@ ghost use Rattle.job_devices.specs.Causes.{Rose};
 ghost use Rattle.job_devices.specs.declared.device.WriteStop as stops;
 ghost use Rattle.report_text.specs.Shown.{IsEnding, ending_shown, verb_fault, IsVerbFault};
 ghost use Rattle.run_definitions.specs.Verbs.{deck_fault_number, number_fault_of, column_of};
+ghost use Rattle.control_run.specs.declared.act.Halt.TheVariants as halts;
 ghost use Rattle.control_run.specs.declared.end.End.TheVariants as ends;
 ghost use Rattle.control_run.specs.Ends.{end_shown, code_of, IsStatusOfRun};
-ghost use Rattle.control_run.specs.Finishing.{Finishes, cut_status};
-ghost use Rattle.listing_definitions.specs.Ending.{status_of};
+ghost use Rattle.control_run.specs.Finishing.{Finishes, FinishesHalted, cut_status};
+ghost use Rattle.listing_definitions.specs.Ending.{status_of, PunchFault};
 
+use crate::act::Halt;
 use crate::end::{End, Place};
 use crate::status::Status;
 use card_definitions::NumberFault;
@@ -170,8 +172,8 @@ fn status_of(end: &End) -> Status
     }
 }
 
-/// The status where the print took no more.
-pub fn status_of_cut(stop: WriteStop) -> Status
+// The status where the print took no more.
+fn status_of_cut(stop: WriteStop) -> Status
     ensures cut { result ≡ cut_status stop }
     ensures own { IsStatusOfRun result }
 {
@@ -189,5 +191,40 @@ pub fn finish<P: Sink>(print: &mut P, end: &End) -> Status
     match text_of(&Report::End(ending_of(end)), print) {
         Ok(()) => status_of(end),
         Err(stop) => status_of_cut(stop),
+    }
+}
+
+// Ends the listing after a fault of the punch.
+fn finish_punch_fault<P: Sink>(print: &mut P) -> Status
+    ensures finishes { Finishes P.written P.faults P.refusals print.old print.new PunchFault result }
+    ensures own { IsStatusOfRun result }
+{
+    match text_of(&Report::End(Ending::PunchFault), print) {
+        Ok(()) => Status::PunchFault,
+        Err(stop) => status_of_cut(stop),
+    }
+}
+
+// Ends the listing where the punch took no more of a deck.
+fn finish_punch_cut<P: Sink>(print: &mut P, stop: WriteStop) -> Status
+    ensures finishes { FinishesHalted P.written P.faults P.refusals print.old print.new (halts.Punch stop) result }
+    ensures own { IsStatusOfRun result }
+{
+    match stop {
+        WriteStop::Failed => finish_punch_fault(print),
+        WriteStop::NoMemory => finish(print, &End::Memory),
+    }
+}
+
+/// Ends the listing where a statement comes to nothing, and answers how the run ended. Where the print took no more, nothing is
+/// printed.
+pub fn finish_halted<P: Sink>(print: &mut P, halt: Halt) -> Status
+    ensures finishes { FinishesHalted P.written P.faults P.refusals print.old print.new halt result }
+    ensures own { IsStatusOfRun result }
+{
+    match halt {
+        Halt::Print(stop) => status_of_cut(stop),
+        Halt::Punch(stop) => finish_punch_cut(print, stop),
+        Halt::NoMemory => finish(print, &End::Memory),
     }
 }

@@ -2,6 +2,7 @@
 #![tactic(auto)]
 
 mod act;
+mod bcdout;
 mod cells;
 mod convert;
 mod end;

@@ -11,12 +11,12 @@ use lp_model::{Basis, Lp};
 use lp_setup::SetupChoice;
 use name_table::Name;
 use problem_file::ProblemFile;
-use rates_dense::Dense;
+use reinversion::ProductForm;
 use run_cells::Cells;
 use std::alloc::Global;
 
 /// What keeps the rates of a setup's basis. Contracts see it by `specs/Engine`.
-pub type RunEngine = Dense;
+pub type RunEngine = ProductForm;
 
 /// What SETUP keeps, and PRIMAL goes on with: the name under which the problem is on file, the options, the linear program that was
 /// selected last, the present basis, and the engine with its rates.

@@ -1,5 +1,5 @@
 // PRIMAL.
-ghost use Rattle.std.specs.Prelude.{◌≡◌, ℕ, List, None, Some, IfSome, IfOk};
+ghost use Rattle.std.specs.Prelude.{◌≡◌, ℕ, List, Option, None, Some, IfSome, IfOk};
 ghost use Rattle.problem_definitions.specs.Problem.{Problem};
 ghost use Rattle.problem_file.specs.Filed.{filed_under};
 ghost use Rattle.control_definitions.specs.Program as program;
@@ -63,7 +63,7 @@ fn print_verdict<P: Sink>(
     print: &mut P,
 ) -> Result<Finding, Halt>
     requires { IsOutcome sheet report.now.outcome }
-    ensures { (s reached : answers.Basis) (limit : ℕ) (before after : List Basics)
+    ensures { (s reached : answers.Basis) (limit : Option ℕ) (before after : List Basics)
         (bases : List answers.Basis) →
         PathReaches (sheet_shown sheet.entry) s reached limit before after bases
         (verdict_shown sheet.entry report.now.outcome) (check_shown report.now.refused) →
@@ -86,7 +86,7 @@ fn follow<P: Sink, R: Rates>(
     sheet: Sheet<'_>,
     basis: &mut Basis,
     rates: &mut R,
-    limit: u32,
+    limit: Option<u32>,
     print: &mut P,
 ) -> Result<Finding, Halt>
     requires sheet { IsSheet sheet }
@@ -149,7 +149,7 @@ fn find<P: Sink>(
 /// leaves its mark. An optimal verdict goes on with the next statement, and any other with the position of its demand, if that is set.
 ///
 /// The statement is refused where there is no setup, and where the cells select nothing. It ends the run where the path goes on past
-/// the limit of steps, and where an operation is refused. Where there is no memory, nothing is printed.
+/// the limit of steps, if there is one, and where an operation is refused. Where there is no memory, nothing is printed.
 pub fn solve<P: Sink>(
     alloc: Global,
     machine: &mut Machine,

@@ -1,9 +1,8 @@
 // REVISE.
 ghost use Rattle.std.specs.Prelude.{◌≡◌, ◌≤◌, length};
-ghost use Rattle.std.specs.Option.{option_copied};
 ghost use Rattle.control_definitions.specs.Program as program;
 ghost use Rattle.control_run.specs.Stage.{stage};
-ghost use Rattle.control_run.specs.Standing.{IsSound, filed};
+ghost use Rattle.control_run.specs.Standing.{IsSound};
 ghost use Rattle.control_run.specs.Statements.{Executes};
 ghost use Rattle.control_run.specs.Describing.{Describes};
 ghost use Rattle.control_run.specs.declared.taking.DeckVerb.TheVariants as deck_verb;
@@ -11,32 +10,22 @@ ghost use Rattle.control_run.specs.declared.taking.DeckVerb.TheVariants as deck_
 use crate::act::{Act, Halt};
 use crate::end::End;
 use crate::machine::Machine;
-use crate::setup::wanted_name;
 use crate::taking::{DeckVerb, Described, described_as, next_card};
 use card_reader::Cards;
 use control_definitions::NameCell;
 use job_decks::take_deck;
 use job_devices::Sink;
 use listing_definitions::VerbFault;
-use problem_file::Problem;
 use revise_deck::revise;
 use std::alloc::Global;
 
 impl Machine {
-    // The problem that XOLDNAME names, or else the one filed last.
-    fn old_problem(&self) -> Option<&Problem>
-        ensures { option_copied result ≡ filed self.now.cells.xoldname self.now.file }
-    {
-        let name = wanted_name(self.cells.name(NameCell::Xoldname), &self.file)?;
-        self.file.get(&name)
-    }
-
     // Takes a deck, and revises the old problem by it.
     fn revised(&self, alloc: Global, cards: &Cards, card: u32) -> Result<Described, Halt>
         requires { IsSound cards.now self.now }
         ensures { Describes stage deck_verb.Revise card cards.now self.now result }
     {
-        let Some(old) = self.old_problem() else {
+        let Some(old) = self.problem_in(NameCell::Xoldname) else {
             return Ok(Described::Ends(End::Verb {
                 fault: VerbFault::NoProblem,
                 card,

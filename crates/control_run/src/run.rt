@@ -1,24 +1,23 @@
 // The run of a program.
-ghost use Rattle.std.specs.Prelude.{◌≡◌, ◌≤◌, ◌-◌, ◌+◌, ℕ, List, length, drop, Some, MatchResult};
+ghost use Rattle.std.specs.Prelude.{◌≡◌, ◌≤◌, ◌-◌, ◌+◌, ℕ, List, length, drop, Some};
 ghost use Rattle.card_definitions.specs.Cards.{cards_of, numbered_cards};
 ghost use Rattle.std.specs.Io.KnownBytes.{Appends};
 ghost use Rattle.job_devices.specs.Causes.{Rose};
 ghost use Rattle.run_definitions.specs.Answer.{Job, bytes_of, IsProgramOf, IsAnswered};
 ghost use Rattle.control_run.specs.Stage.{stage};
-ghost use Rattle.control_run.specs.Ends.{end_shown, code_of, IsStatusOfRun};
+ghost use Rattle.control_run.specs.Ends.{code_of, IsStatusOfRun};
 ghost use Rattle.control_run.specs.Finishing.{failures_in_run};
-ghost use Rattle.control_run.specs.Turning.{end_of_halt};
-ghost use Rattle.control_run.specs.Running.{RunsTo, IsRunCut, IsRunAnswer};
+ghost use Rattle.control_run.specs.Running.{Runs, IsRunAnswer};
 
 use crate::act::{Halt, Turn};
 use crate::end::End;
 use crate::execute::step;
-use crate::finish::{finish, status_of_cut};
+use crate::finish::{finish, finish_halted};
 use crate::machine::Machine;
 use crate::status::Status;
 use card_reader::Cards;
 use control_compiler::Program;
-use job_devices::{Sink, WriteStop};
+use job_devices::Sink;
 use std::alloc::Global;
 
 /// A run executes at most so many statements.
@@ -33,26 +32,17 @@ fn first_behind(program: &Program, cards: &Cards) -> u32
     program.decks_from().max(1).min(cards.count() + 1)
 }
 
-// How the run ends where a statement comes to nothing.
-fn end_of(halt: Halt) -> Result<End, WriteStop>
-    ensures { result ≡ end_of_halt halt }
-{
-    match halt {
-        Halt::NoMemory => Ok(End::Memory),
-        Halt::Print(stop) => Err(stop),
-    }
-}
-
 // Executes the statements of a program until the run ends.
-fn run<P: Sink>(
+fn run<P: Sink, U: Sink>(
     alloc: Global,
     program: &Program,
     cards: &Cards,
     print: &mut P,
-) -> Result<End, WriteStop>
-    ensures { MatchResult result
-        (λ end. RunsTo stage program.now cards.now P.written P.faults P.refusals print.old print.new (end_shown end))
-        (IsRunCut stage program.now cards.now P.written P.faults P.refusals print.old print.new) }
+    punch: &mut U,
+) -> Result<End, Halt>
+    ensures { Runs stage program.now cards.now
+        P.written P.faults P.refusals print.old print.new U.written U.faults U.refusals punch.old punch.new
+        result }
 {
     let mut machine = Machine::new(alloc, first_behind(program, cards));
     let mut position = 1;
@@ -62,35 +52,47 @@ fn run<P: Sink>(
             return Ok(End::Statements);
         }
         executed += 1;
-        match step(alloc, &mut machine, program, cards, print, position) {
+        match step(alloc, &mut machine, program, cards, print, punch, position) {
             Ok(Turn::Goes(to)) => position = to,
             Ok(Turn::Ends(end)) => return Ok(end),
-            Err(halt) => return end_of(halt),
+            Err(halt) => return Err(halt),
         }
     }
     Ok(End::Done)
 }
 
 // Runs a program to its end, and prints that end too.
-fn run_to_end<P: Sink>(alloc: Global, program: &Program, cards: &Cards, print: &mut P) -> Status
+fn run_to_end<P: Sink, U: Sink>(
+    alloc: Global,
+    program: &Program,
+    cards: &Cards,
+    print: &mut P,
+    punch: &mut U,
+) -> Status
     ensures answer { IsRunAnswer stage program.now cards.now
         (Rose (P.faults print.old) (P.faults print.new))
         (Rose (P.refusals print.old) (P.refusals print.new))
-        (code_of result) (P.written print.old) (P.written print.new) }
+        (Rose (U.faults punch.old) (U.faults punch.new))
+        (Rose (U.refusals punch.old) (U.refusals punch.new))
+        (code_of result) (P.written print.old) (P.written print.new)
+        (U.written punch.old) (U.written punch.new) }
     ensures print_fault { result ≡ Status.PrintFault →
         Rose (P.faults print.old) (P.faults print.new) }
+    ensures punch_fault { result ≡ Status.PunchFault →
+        Rose (U.faults punch.old) (U.faults punch.new) }
     ensures own { IsStatusOfRun result }
 {
-    match run(alloc, program, cards, print) {
+    match run(alloc, program, cards, print, punch) {
         Ok(end) => finish(print, &end),
-        Err(stop) => status_of_cut(stop),
+        Err(halt) => finish_halted(print, halt),
     }
 }
 
-/// Runs a compiled program over the cards of its job: prints the listing, and answers how the run ended.
+/// Runs a compiled program over the cards of its job: prints the listing, punches the decks, and answers how the run ended.
 ///
-/// A run ends by itself; where memory is wanted the listing ends with that, if it can. After a fault of the print, or where the
-/// print itself wants memory, nothing more is printed. Nothing is punched.
+/// A run ends by itself; where memory is wanted, or a write to the punch fails, the listing ends with that, if it can. After a
+/// fault of the print, or where the print itself wants memory, nothing more is printed. After a fault of the punch, or where it
+/// wants memory, nothing more is punched: it has gained all that was punched so far, and a front of the deck in hand.
 pub fn run_program<P: Sink, U: Sink>(
     alloc: Global,
     program: &Program,
@@ -102,7 +104,10 @@ pub fn run_program<P: Sink, U: Sink>(
     ensures run { IsRunAnswer stage program.now cards.now
         (Rose (P.faults print.old) (P.faults print.new))
         (Rose (P.refusals print.old) (P.refusals print.new))
-        (code_of result) (P.written print.old) (P.written print.new) }
+        (Rose (U.faults punch.old) (U.faults punch.new))
+        (Rose (U.refusals punch.old) (U.refusals punch.new))
+        (code_of result) (P.written print.old) (P.written print.new)
+        (U.written punch.old) (U.written punch.new) }
     // for those of a job
     ensures answer { (job : Job) (bytes : List ℕ) → bytes_of job ≡ Some bytes →
         IsProgramOf bytes program.now → cards.now ≡ cards_of bytes →
@@ -114,9 +119,9 @@ pub fn run_program<P: Sink, U: Sink>(
         (Appends (U.written punch.old) (U.written punch.new)) }
     ensures print_fault { result ≡ Status.PrintFault →
         Rose (P.faults print.old) (P.faults print.new) }
+    ensures punch_fault { result ≡ Status.PunchFault →
+        Rose (U.faults punch.old) (U.faults punch.new) }
     ensures own { IsStatusOfRun result }
-    ensures punch { punch.new ≡ punch.old }
 {
-    let _ = punch;
-    run_to_end(alloc, program, cards, print)
+    run_to_end(alloc, program, cards, print, punch)
 }

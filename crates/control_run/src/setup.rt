@@ -1,9 +1,11 @@
 // SETUP.
 ghost use Rattle.std.specs.Prelude.{◌≡◌, ℕ, List, IfOk, IfErr};
+ghost use Rattle.std.specs.Option.{option_copied};
+ghost use Rattle.control_definitions.specs.Cells.{name_in};
 ghost use Rattle.control_definitions.specs.Program as program;
 ghost use Rattle.control_verbs.specs.Shown.{options_shown};
 ghost use Rattle.control_run.specs.Stage.{stage};
-ghost use Rattle.control_run.specs.Standing.{IsSound, named};
+ghost use Rattle.control_run.specs.Standing.{IsSound, named, filed};
 ghost use Rattle.control_run.specs.Statements.{Executes};
 ghost use Rattle.control_run.specs.Choosing.{IsOpened, IsNotOpened};
 
@@ -16,7 +18,7 @@ use job_devices::Sink;
 use listing_definitions::VerbFault;
 use lp_setup::SetupChoice;
 use name_table::Name;
-use problem_file::ProblemFile;
+use problem_file::{Problem, ProblemFile};
 use report_text::{Report, text_of};
 use run_cells::{Cells, NameCell};
 use std::alloc::Global;
@@ -46,6 +48,16 @@ pub fn wanted_name(moved: Option<Name>, file: &ProblemFile) -> Option<Name>
     match moved {
         Some(name) => Some(name),
         None => file.last(),
+    }
+}
+
+impl Machine {
+    /// The problem that this cell names, or else the one filed last.
+    pub fn problem_in(&self, cell: NameCell) -> Option<&Problem>
+        ensures { option_copied result ≡ filed (name_in cell self.now.cells) self.now.file }
+    {
+        let name = wanted_name(self.cells.name(cell), &self.file)?;
+        self.file.get(&name)
     }
 }
 

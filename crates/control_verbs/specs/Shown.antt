@@ -1,5 +1,5 @@
 -- What the types of this crate stand for in the definitions.
-use Rattle.std.specs.Prelude.{◌≡◌, ℕ, ◌≤◌, false, List, take, drop}
+use Rattle.std.specs.Prelude.{◌≡◌, ℕ, ◌≤◌, false, List, take, drop, IfSome}
 use Rattle.card_definitions.specs.Words.{is_empty}
 use Rattle.control_definitions.specs.declared.TheConstants.{MAX_STEPS}
 use Rattle.control_definitions.specs.Program as program
@@ -37,9 +37,9 @@ shown Solution = program.Solution
 shown Bcdout = program.Bcdout
 shown Exit = program.Exit
 
--- the limit that a verb moves is at most 1,000,000, and the label that it names isn't empty
+-- a limit that a verb moves, if it is a number, is at most 1,000,000, and the label that it names isn't empty
 abbrev pub IsLawful : program.Verb (List ℕ) → Type 0
-IsLawful (program.MoveLimit limit) = limit ≤ MAX_STEPS
+IsLawful (program.MoveLimit limit) = IfSome limit (λ steps. steps ≤ MAX_STEPS)
 IsLawful (program.Mvadr demand label) = is_empty label ≡ false
 IsLawful (program.Goto label) = is_empty label ≡ false
 IsLawful _ = Unit {0}

@@ -2,7 +2,7 @@
 ghost use Rattle.std.specs.Prelude.{◌≡◌, ◌≤◌, false, IfSome};
 ghost use Rattle.std.specs.List.{list_all};
 ghost use Rattle.card_definitions.specs.Words.{is_empty};
-ghost use Rattle.control_definitions.specs.Arguments.{title_argument, quoted_name, number_argument, limit_argument, steps_of, is_label, is_label_byte, label_text, if_passes, is_name};
+ghost use Rattle.control_definitions.specs.Arguments.{title_argument, quoted_name, number_argument, steps_argument, limit_argument, steps_of, is_label, is_label_byte, label_text, if_passes, is_name};
 
 use crate::parts::quotation;
 use crate::text::Text;
@@ -61,12 +61,24 @@ fn steps_in(value: Frac) -> Option<u32>
     }
 }
 
-/// A number of steps, at most 1,000,000.
-pub fn limit_in(argument: &[u8]) -> Option<u32>
-    ensures limit { result ≡ limit_argument argument.now }
+// A number of steps, at most 1,000,000.
+fn steps_argument(argument: &[u8]) -> Option<u32>
+    ensures steps { result ≡ steps_argument argument.now }
     ensures at_most { IfSome result (λ steps. steps ≤ 1000000) }
 {
     steps_in(number_in(argument)?)
+}
+
+/// A limit on steps: a number of them, at most 1,000,000, or none, which is said by the text 'NONE'.
+pub fn limit_in(argument: &[u8]) -> Option<Option<u32>>
+    ensures limit { result ≡ limit_argument argument.now }
+    ensures at_most { IfSome result (λ limit. IfSome limit (λ steps. steps ≤ 1000000)) }
+{
+    if argument == b"'NONE'".as_slice() {
+        return Some(None);
+    }
+    let steps = steps_argument(argument)?;
+    Some(Some(steps))
 }
 
 // Whether a text has the bytes of labels alone.

@@ -23,7 +23,7 @@ pub enum Verb<L> {
     MoveName(NameCell, Name),
     MoveNumber(NumberCell, Frac),
     /// The steps that one verb may take.
-    MoveLimit(u32),
+    MoveLimit(Option<u32>),
     Mvadr(Demand, L),
     Goto(L),
     Convert,

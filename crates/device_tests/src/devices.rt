@@ -84,6 +84,19 @@ fn a_listed_read_fails_and_the_next_goes_on(rt: HostRuntime) -> Result<(), Fail>
 }
 
 #[test]
+fn a_read_gives_a_piece_at_most(rt: HostRuntime) -> Result<(), Fail> {
+    let mut source = MemorySource::in_pieces(rt.alloc(), b"cards", &[2], 3)?;
+    let mut buf = [b'.'; 4];
+    assert_eq!(rt; source.read(&mut buf), Ok(3));
+    assert_eq!(rt; buf, *b"car.");
+    assert_eq!(rt; source.read(&mut buf), Err(Failed));
+    assert_eq!(rt; source.read(&mut buf), Ok(2));
+    assert_eq!(rt; buf, *b"dsr.");
+    assert_eq!(rt; source.read(&mut buf), Ok(0));
+    Ok(())
+}
+
+#[test]
 fn pieces_stand_one_after_another(rt: HostRuntime) -> Result<(), Fail> {
     let mut sink = SureSink::new(rt.alloc())?;
     put_each(&mut sink, &[b"END ", b"0", b"\n"])?;

@@ -1,5 +1,7 @@
-//! Sources and sinks of bytes, tried with reads and writes that fail.
+//! Sources and sinks of bytes, tried with reads and writes that fail, and over real files.
 #![tactic(auto)]
 
 #[cfg(test)]
 mod devices;
+#[cfg(test)]
+mod files;

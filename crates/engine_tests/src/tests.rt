@@ -182,7 +182,7 @@ fn beale(alloc: Global) -> Result<Lp, AllocError>
 }
 
 /// What the path from the opening basis answers, and the rates that it leaves.
-fn solve<E: Engine>(
+pub fn solve<E: Engine>(
     alloc: Global,
     lp: &Lp,
     limit: u32,
@@ -235,7 +235,7 @@ fn is_row(alloc: Global, lp: &Lp, number: u32, i: u32, costs: &[Frac]) -> Result
     }
     let mut out = vec![in alloc; Frac::whole(0); size as usize]?;
     let mut room = PriceRow::new(alloc, lp)?;
-    let answer = room.row(file, lp, i, &mut out);
+    let answer = room.row(file, i, &mut out);
     Ok(answer.is_ok() && out.as_slice() == costs)
 }
 

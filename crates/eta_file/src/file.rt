@@ -161,8 +161,8 @@ impl EtaFile {
         self.marks[k as usize - 1]
     }
 
-    /// The numbers of column `j`, from 1.
-    fn numbers(&self, j: u32) -> &[Entry]
+    /// The numbers of column `j`, from 1, in the order of the deck.
+    pub fn numbers(&self, j: u32) -> &[Entry]
         requires { IsColumn self.now.matrix j }
         ensures { result.now ≡ column self.now.matrix j }
     {

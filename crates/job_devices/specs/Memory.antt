@@ -9,6 +9,10 @@ use Rattle.job_devices.specs.declared.memory.SureSink.{SureSink}
 abbrev pub source_left : MemorySource → List ℕ
 source_left source = drop source.at source.bytes.items
 
+-- how many bytes a read gives at most
+abbrev pub piece_limit : MemorySource → ℕ
+piece_limit source = source.piece
+
 -- the numbers of the reads that fail
 abbrev pub failing_reads : MemorySource → List ℕ
 failing_reads source = source.fails.items

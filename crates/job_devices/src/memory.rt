@@ -1,20 +1,22 @@
 // Sources and sinks in memory, for tests and for whoever has the whole job at hand.
-ghost use Rattle.std.specs.Prelude.{◌≡◌, ◌↔◌, ◌≤◌, [], ◌++◌, List, Option, Some, length, take, min, if◌then◌else◌, is_err, Contains, IfOk, IsOk, OnOk, OnErr, IsErr, IsErrOf};
+ghost use Rattle.std.specs.Prelude.{◌≡◌, ◌↔◌, ◌<◌, ◌≤◌, ◌-◌, ◌^◌, [], ◌++◌, List, Option, Some, length, take, min, if◌then◌else◌, is_err, Contains, IfOk, IsOk, OnOk, OnErr, IsErr, IsErrOf};
 ghost use Rattle.std.specs.Io.{ReadsAtMost, WritesAtMost};
 ghost use Rattle.std.specs.Io.KnownBytes.{ReadConsumes, WriteAppends};
 
 use crate::{Failed, NoMemory, Sink, Source, WriteStop};
 use std::alloc::Global;
 
-/// Gives the bytes that it holds. The reads whose numbers are listed fail.
+/// Gives the bytes that it holds, so many at a read at most. The reads whose numbers are listed fail.
 #[derive(Drop)]
 pub struct MemorySource {
     bytes: Vec<u8>,
     at: usize,
+    piece: usize,
     fails: Vec<u64>,
     reads: u64,
     faults: u64,
     ghost in_range: { at ≤ length bytes.items },
+    ghost some: { 0 < piece },
 }
 
 /// Gives the bytes that it holds, and never fails.
@@ -42,23 +44,42 @@ pub struct SureSink {
     refusals: u64,
 }
 
-// Copies as much of the front as there is room for, and says how much.
-fn copy_front(from: &[u8], buf: &mut [u8]) -> usize
-    ensures count { result ≡ min (length from.now) (length buf.old) }
+// Copies as much of the front as there is room for, but no more than `most` bytes, and says how much.
+fn copy_front(from: &[u8], buf: &mut [u8], most: usize) -> usize
+    ensures count { result ≡ min (min (length from.now) (length buf.old)) most }
     ensures length { length buf.new ≡ length buf.old }
     ensures copied { take result buf.new ≡ take result from.now }
 {
-    let count = from.len().min(buf.len());
+    let count = from.len().min(buf.len()).min(most);
     buf[..count].copy_from_slice(&from[..count]);
     count
 }
 
 impl MemorySource {
-    ghost use Rattle.job_devices.specs.Memory.{source_left, failing_reads, reads_made, reads_failed};
+    ghost use Rattle.job_devices.specs.Memory.{source_left, failing_reads, reads_made, reads_failed, piece_limit};
 
-    /// A source of a copy of these bytes, whose reads with these numbers fail.
+    /// A source of a copy of these bytes, whose reads with these numbers fail, and whose others give as much as there is room
+    /// for.
     pub fn new(alloc: Global, bytes: &[u8], fails: &[u64]) -> Result<MemorySource, NoMemory>
         ensures bytes { IfOk result (λ source. source_left source ≡ bytes.now) }
+        ensures piece { IfOk result (λ source. piece_limit source ≡ 2 ^ 64 - 1) }
+        ensures fails { IfOk result (λ source. failing_reads source ≡ fails.now) }
+        ensures reads { IfOk result (λ source. reads_made source ≡ 0) }
+        ensures faults { IfOk result (λ source. reads_failed source ≡ 0) }
+    {
+        MemorySource::in_pieces(alloc, bytes, fails, usize::MAX)
+    }
+
+    /// As `new`, but a read gives at most `piece` bytes.
+    pub fn in_pieces(
+        alloc: Global,
+        bytes: &[u8],
+        fails: &[u64],
+        piece: usize,
+    ) -> Result<MemorySource, NoMemory>
+        requires { 0 < piece }
+        ensures bytes { IfOk result (λ source. source_left source ≡ bytes.now) }
+        ensures piece { IfOk result (λ source. piece_limit source ≡ piece) }
         ensures fails { IfOk result (λ source. failing_reads source ≡ fails.now) }
         ensures reads { IfOk result (λ source. reads_made source ≡ 0) }
         ensures faults { IfOk result (λ source. reads_failed source ≡ 0) }
@@ -66,6 +87,7 @@ impl MemorySource {
         Ok(MemorySource {
             bytes: Vec::from_slice(alloc, bytes)?,
             at: 0,
+            piece,
             fails: Vec::from_slice(alloc, fails)?,
             reads: 0,
             faults: 0,
@@ -75,7 +97,7 @@ impl MemorySource {
 
 impl Source for MemorySource {
     ghost use Rattle.job_devices.specs.Causes.{HasReadCause, next_count};
-    ghost use Rattle.job_devices.specs.Memory.{source_left, failing_reads, reads_made, reads_failed};
+    ghost use Rattle.job_devices.specs.Memory.{source_left, failing_reads, reads_made, reads_failed, piece_limit};
 
     ghost left = { λ s. Some (source_left s) };
 
@@ -85,6 +107,12 @@ impl Source for MemorySource {
         ensures bound { ReadsAtMost result buf.new }
         ensures bytes { ReadConsumes (Some (source_left self.old)) (Some (source_left self.new)) result buf.new }
         ensures cause { HasReadCause (reads_failed self.old) (reads_failed self.new) result }
+
+        // All that is left is given, as far as the buffer has room for it and a piece may have so many bytes.
+        ensures size { IfOk result (λ count.
+            count ≡ min (min (length (source_left self.old)) (length buf.old))
+            (piece_limit self.old)) }
+        ensures piece { piece_limit self.new ≡ piece_limit self.old }
 
         // The listed reads fail, and no others.
         ensures listed { IsErr result ↔ Contains (failing_reads self.old) (reads_made self.new) }
@@ -97,7 +125,7 @@ impl Source for MemorySource {
             self.faults = self.faults.saturating_add(1);
             return Err(Failed);
         }
-        let count = copy_front(&self.bytes[self.at..], buf);
+        let count = copy_front(&self.bytes[self.at..], buf, self.piece);
         self.at += count;
         Ok(count)
     }
@@ -125,7 +153,7 @@ impl Source for SureSource {
     ghost faults = { λ _. 0 };
 
     fn read(&mut self, buf: &mut [u8]) -> Result<usize, Failed> {
-        let count = copy_front(&self.bytes[self.at..], buf);
+        let count = copy_front(&self.bytes[self.at..], buf, usize::MAX);
         self.at += count;
         Ok(count)
     }

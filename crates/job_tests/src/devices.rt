@@ -1,7 +1,16 @@
 // Words, and devices that fail.
-use crate::jobs::{Call, answer_to};
-use crate::rows::PLANS;
+ghost use Rattle.std.specs.Prelude.{◌<◌};
+
+use crate::jobs::{Answer, Call, answer_from, answer_to};
+use crate::rows::{DECKS, PLANS, Row};
+use job_devices::MemorySource;
+use std::alloc::Global;
 use std::test::Fail;
+
+const READ_FAULT: &[u8] = b"STOP 24 READ FAULT\n";
+
+// No job of these tests makes so many reads, nor so many writes.
+const MANY: u64 = 10_000;
 
 #[test]
 fn no_words_are_accepted(rt: HostRuntime) -> Result<(), Fail> {
@@ -11,6 +20,7 @@ fn no_words_are_accepted(rt: HostRuntime) -> Result<(), Fail> {
         job: b"",
         failing_reads: &[],
         failing_writes: &[],
+        failing_punches: &[],
     };
     assert!(rt; answer_to(rt.alloc(), &call)?.is(4, b"STOP 4 WORDS\n"));
     Ok(())
@@ -18,34 +28,121 @@ fn no_words_are_accepted(rt: HostRuntime) -> Result<(), Fail> {
 
 #[test]
 fn a_read_that_fails_ends_a_job(rt: HostRuntime) -> Result<(), Fail> {
-    let cases: [(&[u64], u8, &[u8]); 2] = [(&[], 24, b"STOP 24 READ FAULT\n"), (&[1], 25, b"")];
-    for (failing_writes, status, listing) in cases {
+    let cases: [(&[u64], &[u64], u8, &[u8]); 3] = [
+        (&[2], &[], 24, READ_FAULT),
+        (&[2], &[1], 25, b""),
+        (&[1], &[1], 25, b""),
+    ];
+    for (failing_reads, failing_writes, status, listing) in cases {
         let call = Call {
             words: &[],
             job: PLANS[0].job,
-            failing_reads: &[2],
+            failing_reads,
             failing_writes,
+            failing_punches: &[],
         };
         assert!(rt; answer_to(rt.alloc(), &call)?.is(status, listing));
     }
     Ok(())
 }
 
+// A row that comes in pieces, of whose reads these fail.
+fn in_pieces(alloc: Global, row: &Row, piece: usize, failing: &[u64]) -> Result<Answer, Fail>
+    requires { 0 < piece }
+{
+    let job = MemorySource::in_pieces(alloc, row.job, failing, piece)?;
+    answer_from(alloc, &[], job, &[], &[])
+}
+
+// How many reads a row makes that comes in pieces: with each of them failing the job ends with a fault of the read, and with the
+// next one it goes on as if none had failed. None where it is answered otherwise.
+fn reads_made(alloc: Global, row: &Row, piece: usize) -> Result<Option<u64>, Fail>
+    requires { 0 < piece }
+{
+    for made in 0..MANY {
+        let answer = in_pieces(alloc, row, piece, &[made + 1])?;
+        if answer.is(row.status, row.listing) {
+            return Ok(Some(made));
+        }
+        if !answer.is(24, READ_FAULT) {
+            return Ok(None);
+        }
+    }
+    Ok(None)
+}
+
+// There is a read for each piece, and one that finds the end.
 #[test]
-fn a_write_that_fails_cuts_the_listing_short(rt: HostRuntime) -> Result<(), Fail> {
-    for write in 1..12 {
+fn each_read_of_a_job_may_fail(rt: HostRuntime) -> Result<(), Fail> {
+    let plan = &PLANS[0];
+    assert_eq!(rt; plan.job.len(), 607);
+    assert_eq!(rt; reads_made(rt.alloc(), plan, 1)?, Some(608));
+    assert_eq!(rt; reads_made(rt.alloc(), plan, 7)?, Some(88));
+    assert_eq!(rt; reads_made(rt.alloc(), plan, 100)?, Some(8));
+    Ok(())
+}
+
+// How many writes a row makes: with each of them failing the listing is cut short, and with the next one it is whole. None where
+// it is answered otherwise.
+fn writes_made(alloc: Global, row: &Row) -> Result<Option<u64>, Fail> {
+    for made in 0..MANY {
+        let job = MemorySource::new(alloc, row.job, &[])?;
+        let answer = answer_from(alloc, &[], job, &[made + 1], &[])?;
+        if answer.is(row.status, row.listing) {
+            return Ok(Some(made));
+        }
+        if !is_cut_short(row, &answer) {
+            return Ok(None);
+        }
+    }
+    Ok(None)
+}
+
+// Whether a fault of the print has left a front of a row's listing, and less than all of it.
+fn is_cut_short(row: &Row, answer: &Answer) -> bool {
+    let printed = answer.print.bytes();
+    answer.status == 25 && row.listing.starts_with(printed) && printed.len() < row.listing.len()
+}
+
+#[test]
+fn each_write_of_a_listing_may_fail(rt: HostRuntime) -> Result<(), Fail> {
+    assert!(rt; writes_made(rt.alloc(), &PLANS[0])?.is_some());
+    Ok(())
+}
+
+// The deck of this job is punched in 17 writes: seven cards in two, the text and the line feed, and three in one.
+#[test]
+fn a_punch_that_fails_breaks_the_deck_off(rt: HostRuntime) -> Result<(), Fail> {
+    let row = &DECKS[0];
+    for write in 1..18 {
         let call = Call {
             words: &[],
-            job: PLANS[0].job,
+            job: row.job,
             failing_reads: &[],
-            failing_writes: &[write],
+            failing_writes: &[],
+            failing_punches: &[write],
         };
         let answer = answer_to(rt.alloc(), &call)?;
-        assert_eq!(rt; answer.status, 25);
-        let printed = answer.print.bytes();
-        assert!(rt;
-            PLANS[0].listing.starts_with(printed) && printed.len() < PLANS[0].listing.len()
-        );
+        let listing = b"CONVERT ONE      ROWS 2 COLUMNS 1 ENTRIES 2\nSTOP 26 PUNCH FAULT\n";
+        let cards = answer.punch.bytes();
+        assert!(rt; answer.is_punched(26, listing, cards));
+        assert!(rt; row.cards.starts_with(cards) && cards.len() < row.cards.len());
     }
+    Ok(())
+}
+
+#[test]
+fn a_print_that_fails_behind_a_deck_leaves_it_whole(rt: HostRuntime) -> Result<(), Fail> {
+    let row = &DECKS[0];
+    let call = Call {
+        words: &[],
+        job: row.job,
+        failing_reads: &[],
+        failing_writes: &[13],
+        failing_punches: &[],
+    };
+    let answer = answer_to(rt.alloc(), &call)?;
+    let listing = b"CONVERT ONE      ROWS 2 COLUMNS 1 ENTRIES 2\nBCDOUT  ";
+    assert!(rt; answer.is_punched(25, listing, row.cards));
     Ok(())
 }

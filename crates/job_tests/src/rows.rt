@@ -10,7 +10,7 @@ pub struct Row {
 }
 
 /// Plans that are solved, and programs that come to their end.
-pub const PLANS: [Row; 15] = [
+pub const PLANS: [Row; 16] = [
     Row {
         name: "testprob primal",
         job: b"         PROGRAM\n         CONVERT\n         SETUP('BOUND','BND1')\n         PRIMAL\n         SOLUTION\n         EXIT\n         PEND\nNAME          TESTPROB\nROWS\n N  COST\n L  LIM1\n G  LIM2\n E  MYEQN\nCOLUMNS\n    XONE      COST      1              LIM1      1\n    XONE      LIM2      1\n    YTWO      COST      4              LIM1      1\n    YTWO      MYEQN     -1\n    ZTHREE    COST      9              LIM2      1\n    ZTHREE    MYEQN     1\nRHS\n    RHS       LIM1      5              LIM2      10\n    RHS       MYEQN     7\nBOUNDS\n UP BND1      XONE      4\n LO BND1      YTWO      -1\n UP BND1      YTWO      1\nENDATA\n",
@@ -20,6 +20,12 @@ pub const PLANS: [Row; 15] = [
     Row {
         name: "beale cycling",
         job: b"         PROGRAM\n         CONVERT\n         SETUP\n         PRIMAL\n         SOLUTION\n         EXIT\n         PEND\nNAME          BEALE\nROWS\n N  COST\n L  R1\n L  R2\n L  R3\nCOLUMNS\n    X1        COST      -.75\n    X1        R1        .25\n    X1        R2        .5\n    X2        COST      150\n    X2        R1        -60\n    X2        R2        -90\n    X3        COST      -.02\n    X3        R1        -.04\n    X3        R2        -.02\n    X3        R3        1\n    X4        COST      6\n    X4        R1        9\n    X4        R2        3\nRHS\n    B         R3        1\nENDATA\n",
+        status: 0,
+        listing: b"CONVERT BEALE    ROWS 4 COLUMNS 4 ENTRIES 13\nSETUP   BEALE    MIN\nPRIMAL OPTIMAL STEPS 6 OBJECTIVE -1/20 CHECKED\nSOLUTION OPTIMAL\nSECTION 1 - ROWS\nNUMBER ROW AT ACTIVITY SLACK LOWER UPPER DUAL\n    1 COST     BS -1/20 1/20 NONE NONE 0\n    2 R1       BS -3/100 3/100 NONE 0 0\n    3 R2       UL 0 0 NONE 0 -3/2\n    4 R3       UL 1 0 NONE 1 -1/20\nSECTION 2 - COLUMNS\nNUMBER COLUMN AT ACTIVITY COST LOWER UPPER REDUCED\n    5 X1       BS 1/25 -3/4 0 NONE 0\n    6 X2       LL 0 150 0 NONE 15\n    7 X3       BS 1 -1/50 0 NONE 0\n    8 X4       LL 0 6 0 NONE 21/2\nEND 0\n",
+    },
+    Row {
+        name: "no iteration limit",
+        job: b"         PROGRAM\n         CONVERT\n         SETUP\n         MOVE(XITERLIM,'NONE')\n         PRIMAL\n         SOLUTION\n         EXIT\n         PEND\nNAME          BEALE\nROWS\n N  COST\n L  R1\n L  R2\n L  R3\nCOLUMNS\n    X1        COST      -.75\n    X1        R1        .25\n    X1        R2        .5\n    X2        COST      150\n    X2        R1        -60\n    X2        R2        -90\n    X3        COST      -.02\n    X3        R1        -.04\n    X3        R2        -.02\n    X3        R3        1\n    X4        COST      6\n    X4        R1        9\n    X4        R2        3\nRHS\n    B         R3        1\nENDATA\n",
         status: 0,
         listing: b"CONVERT BEALE    ROWS 4 COLUMNS 4 ENTRIES 13\nSETUP   BEALE    MIN\nPRIMAL OPTIMAL STEPS 6 OBJECTIVE -1/20 CHECKED\nSOLUTION OPTIMAL\nSECTION 1 - ROWS\nNUMBER ROW AT ACTIVITY SLACK LOWER UPPER DUAL\n    1 COST     BS -1/20 1/20 NONE NONE 0\n    2 R1       BS -3/100 3/100 NONE 0 0\n    3 R2       UL 0 0 NONE 0 -3/2\n    4 R3       UL 1 0 NONE 1 -1/20\nSECTION 2 - COLUMNS\nNUMBER COLUMN AT ACTIVITY COST LOWER UPPER REDUCED\n    5 X1       BS 1/25 -3/4 0 NONE 0\n    6 X2       LL 0 150 0 NONE 15\n    7 X3       BS 1 -1/50 0 NONE 0\n    8 X4       LL 0 6 0 NONE 21/2\nEND 0\n",
     },
@@ -104,7 +110,7 @@ pub const PLANS: [Row; 15] = [
 ];
 
 /// Runs that end with a verdict, or at a limit.
-pub const VERDICTS: [Row; 6] = [
+pub const VERDICTS: [Row; 7] = [
     Row {
         name: "negative upper crossed",
         job: b"         PROGRAM\n         CONVERT\n         SETUP('BOUND','BND')\n         PRIMAL\n         SOLUTION\n         EXIT\n         PEND\nNAME          T\nROWS\n N  COST\nCOLUMNS\n    X         COST      1\nBOUNDS\n UP BND       X         -1\nENDATA\n",
@@ -134,6 +140,12 @@ pub const VERDICTS: [Row; 6] = [
         job: b"         PROGRAM\n         CONVERT\n         SETUP('BOUND','BND1')\n         MOVE(XITERLIM,2)\n         PRIMAL\n         SOLUTION\n         EXIT\n         PEND\nNAME          TESTPROB\nROWS\n N  COST\n L  LIM1\n G  LIM2\n E  MYEQN\nCOLUMNS\n    XONE      COST      1              LIM1      1\n    XONE      LIM2      1\n    YTWO      COST      4              LIM1      1\n    YTWO      MYEQN     -1\n    ZTHREE    COST      9              LIM2      1\n    ZTHREE    MYEQN     1\nRHS\n    RHS       LIM1      5              LIM2      10\n    RHS       MYEQN     7\nBOUNDS\n UP BND1      XONE      4\n LO BND1      YTWO      -1\n UP BND1      YTWO      1\nENDATA\n",
         status: 16,
         listing: b"CONVERT TESTPROB ROWS 4 COLUMNS 3 ENTRIES 9\nSETUP   TESTPROB MIN\nSTOP 16 ITERATION LIMIT 2 CARD 5\n",
+    },
+    Row {
+        name: "a limit after none",
+        job: b"         PROGRAM\n         CONVERT\n         SETUP\n         MOVE(XITERLIM,'NONE')\n         MOVE(XITERLIM,5)\n         PRIMAL\n         SOLUTION\n         EXIT\n         PEND\nNAME          BEALE\nROWS\n N  COST\n L  R1\n L  R2\n L  R3\nCOLUMNS\n    X1        COST      -.75\n    X1        R1        .25\n    X1        R2        .5\n    X2        COST      150\n    X2        R1        -60\n    X2        R2        -90\n    X3        COST      -.02\n    X3        R1        -.04\n    X3        R2        -.02\n    X3        R3        1\n    X4        COST      6\n    X4        R1        9\n    X4        R2        3\nRHS\n    B         R3        1\nENDATA\n",
+        status: 16,
+        listing: b"CONVERT BEALE    ROWS 4 COLUMNS 4 ENTRIES 13\nSETUP   BEALE    MIN\nSTOP 16 ITERATION LIMIT 5 CARD 6\n",
     },
     Row {
         name: "statement limit",
@@ -466,3 +478,22 @@ pub const RANGES: [Row; 5] = [
         listing: b"CONVERT ONE      ROWS 2 COLUMNS 1 ENTRIES 2\nSETUP   ONE      MIN\nSTOP 10 VERB FAULT 4 CARD 4\n",
     },
 ];
+
+/// A worked job that punches decks.
+pub struct DeckRow {
+    /// What it shows.
+    pub name: &'static str,
+    pub job: &'static [u8],
+    pub status: u8,
+    pub listing: &'static [u8],
+    pub cards: &'static [u8],
+}
+
+/// Programs that punch decks.
+pub const DECKS: [DeckRow; 1] = [DeckRow {
+    name: "bcdout one",
+    job: b"         PROGRAM\n         CONVERT\n         BCDOUT\n         EXIT\n         PEND\nNAME          ONE\nROWS\n N  COST\n G  LOW\nCOLUMNS\n    X         COST      1\n    X         LOW       1\nRHS\n    B         LOW       1\nENDATA\n",
+    status: 0,
+    listing: b"CONVERT ONE      ROWS 2 COLUMNS 1 ENTRIES 2\nBCDOUT  ONE      CARDS 10\nEND 0\n",
+    cards: b"NAME          ONE\nROWS\n N  COST\n G  LOW\nCOLUMNS\n    X         COST      1\n    X         LOW       1\nRHS\n    B         LOW       1\nENDATA\n",
+}];

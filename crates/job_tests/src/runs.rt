@@ -1,7 +1,8 @@
 // Jobs without words over devices that don't fail.
 use crate::jobs::answer_of;
 use crate::rows::{
-    CONTROL_FAULTS, DECK_FAULTS, OVERFLOWS, PLANS, RANGES, REVISIONS, Row, VERB_FAULTS, VERDICTS,
+    CONTROL_FAULTS, DECK_FAULTS, DECKS, OVERFLOWS, PLANS, RANGES, REVISIONS, Row, VERB_FAULTS,
+    VERDICTS,
 };
 use std::alloc::Global;
 use std::test::Fail;
@@ -77,6 +78,15 @@ fn long_jobs_are_refused(rt: HostRuntime) -> Result<(), Fail> {
     for (byte, count) in [(b'\n', 200_001), (b'X', 16_400_001)] {
         let job = repeated(rt.alloc(), byte, count)?;
         assert!(rt; answer_of(rt.alloc(), &job)?.is(13, b"STOP 13 CARD FAULT 2\n"));
+    }
+    Ok(())
+}
+
+#[test]
+fn decks_are_punched(rt: HostRuntime) -> Result<(), Fail> {
+    for row in &DECKS {
+        let answer = answer_of(rt.alloc(), row.job)?;
+        assert!(rt; answer.is_punched(row.status, row.listing, row.cards));
     }
     Ok(())
 }

@@ -1,9 +1,9 @@
 -- How a job may end, whatever fails.
-use Rattle.std.proofs.Common.{◌≡◌, ℕ, List, [], Option, Some, refl, subst}
+use Rattle.std.proofs.Common.{◌≡◌, ℕ, List, [], Option, None, Some, IfSome, refl, subst}
 use Rattle.listing_definitions.specs.Report.{Report}
 use Rattle.listing_definitions.specs.Ending.{Ending}
 use Rattle.question_definitions.specs.Solving.{Solving}
-use Rattle.run_definitions.specs.Answer.{Job, Read, Failures, Answer, MayEnd, words_refused, read_fails, by_itself, memory_at_start, memory_in_run, memory_at_punch, punch_fails, IsCutShort, IsAnswer, IsAnswered, whole, print_fails, print_wants_memory, card_fault, control_fault}
+use Rattle.run_definitions.specs.Answer.{Job, Read, bytes_of, Failures, Answer, IsProgramOf, MayEnd, words_refused, read_fails, by_itself, memory_at_start, memory_in_run, memory_at_punch, punch_fails, IsCutShort, IsAnswer, IsAnswered, whole, print_fails, print_wants_memory, card_fault, control_fault}
 use Rattle.mps_cli.specs.declared.prepare.Prepared.{Prepared}
 use Rattle.mps_cli.specs.declared.stop.Stop.{Stop}
 use Rattle.mps_cli.specs.declared.stop.Stop.TheVariants.{Words, ReadFault, Card, Control, Memory}
@@ -12,19 +12,24 @@ use Rattle.mps_cli.specs.Causes.{HasStopCause}
 
 -- ---- a job may end with what stops it
 
-module _ (S : Solving) (bytes : List ℕ) (failures : Failures) (is_read : Type 0) where
-  told : (stop : Stop) → Tells (Some bytes) stop → HasStopCause failures.read is_read stop → MayEnd S (Read bytes) failures [] [] (stop_shown stop)
+module _ (S : Solving) (job : Job) (bytes : List ℕ) (failures : Failures) (is_read : Type 0) (has : bytes_of job ≡ Some bytes) (read : failures.read → job ≡ Read bytes) where
+  told : (stop : Stop) → Tells (Some bytes) stop → HasStopCause failures.read is_read stop → MayEnd S job failures [] [] (stop_shown stop)
   told Words tells cause = absurd tells
-  told ReadFault tells cause = read_fails bytes refl cause
-  told (Card fault) tells cause = by_itself bytes refl (card_fault fault tells)
-  told (Control fault) tells cause = by_itself bytes refl (control_fault fault tells.0 tells.1)
+  told ReadFault tells cause = read_fails bytes (read cause) cause
+  told (Card fault) tells cause = by_itself bytes has (card_fault fault tells)
+  told (Control fault) tells cause = by_itself bytes has (control_fault fault tells.0 tells.1)
   told Memory tells cause = memory_at_start
 
-  pub may_stop : {known : Option (List ℕ)} (stop : Stop) → known ≡ Some bytes → Tells known stop → HasStopCause failures.read is_read stop → MayEnd S (Read bytes) failures [] [] (stop_shown stop)
+  pub may_stop : {known : Option (List ℕ)} (stop : Stop) → known ≡ Some bytes → Tells known stop → HasStopCause failures.read is_read stop → MayEnd S job failures [] [] (stop_shown stop)
   may_stop stop is tells cause = told stop (subst (λ (k : Option (List ℕ)). Tells k stop) is tells) cause
 
 pub prepared_of : (bytes : List ℕ) {known : Option (List ℕ)} (prepared : Prepared) → known ≡ Some bytes → ArePrepared known prepared → ArePrepared (Some bytes) prepared
 prepared_of bytes prepared is are = subst (λ (k : Option (List ℕ)). ArePrepared k prepared) is are
+
+-- the program is that of the job
+pub program_of : {known : Option (List ℕ)} (prepared : Prepared) → ArePrepared known prepared → IfSome known (λ bytes. IsProgramOf bytes prepared.program)
+program_of {known = None} prepared are = tt
+program_of {known = Some job} prepared are = are.1
 
 -- ---- what is an answer where some things have failed is one where others have failed too
 

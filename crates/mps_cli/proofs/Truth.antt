@@ -1,10 +1,11 @@
 -- The headline of a job: what it is answered, and that each report of this answer holds of the state in which it was made. Such an
 -- answer is complete.
-use Rattle.std.proofs.Common.{◌≡◌, ◌<◌, ℕ, List, Option, Some, refl, arith}
+use Rattle.std.proofs.Common.{◌≡◌, ℕ, List, Option, None, Some, refl, subst}
 use Rattle.std.specs.Io.KnownBytes.{Appends}
 use Rattle.job_devices.specs.Causes.{Rose}
 use Rattle.answer_definitions.specs.Real.{staged}
-use Rattle.run_definitions.specs.Answer.{Job, WithoutBytes, Read, Failures, words_refused, IsAnswered}
+use Rattle.deck_definitions.specs.Transport.{made_job}
+use Rattle.run_definitions.specs.Answer.{Job, WithoutBytes, Read, Made, Failures, words_refused, memory_at_start, IsAnswered}
 use Rattle.run_laws.specs.Laws.{KnowsSolving}
 use Rattle.run_laws.specs.Headline.{IsTrueAnswer}
 use Rattle.run_laws.proofs.Runs.{knows_staged, answer_holds}
@@ -12,18 +13,21 @@ use Rattle.run_functions.specs.Laws.{IsFunction}
 use Rattle.run_functions.specs.Complete.{IsComplete}
 use Rattle.run_functions.proofs.Runs.{is_function, answers_once}
 use Rattle.run_functions.proofs.Complete.{answer_is_complete}
+use Rattle.command_line.specs.declared.request.Request.{Request}
+use Rattle.command_line.specs.declared.request.Request.TheVariants as request
 use Rattle.control_run.specs.declared.status.Status.{Status}
 use Rattle.control_run.specs.Stage.{builds, stage}
 use Rattle.control_run.specs.Ends.{code_of}
 use Rattle.control_run.specs.Finishing.{failures_in_run}
 use Rattle.mps_cli.specs.declared.stop.Stop.{Stop}
-use Rattle.mps_cli.specs.declared.stop.Stop.TheVariants.{Words}
-use Rattle.mps_cli.specs.Stops.{Tells}
-use Rattle.mps_cli.specs.Causes.{HasStopCause}
+use Rattle.mps_cli.specs.declared.stop.Stop.TheVariants.{Words, Memory}
+use Rattle.command_line.specs.declared.request.WordsStop.{WordsStop}
+use Rattle.command_line.specs.declared.request.WordsStop.TheVariants as stops
+use Rattle.mps_cli.specs.Stops.{stop_of_words}
 use Rattle.mps_cli.specs.Endings.{EndsWith}
-use Rattle.mps_cli.specs.Asked.{IsAsked, refused, from_source}
+use Rattle.mps_cli.specs.Asked.{IsAsked, refused, from_source, generated, IsGiven}
 use Rattle.mps_cli.proofs.Ending_answers.{ending_answer}
-use Rattle.mps_cli.proofs.May_end.{may_stop, answered_too}
+use Rattle.mps_cli.proofs.May_end.{answered_too}
 
 stage_knows : KnowsSolving stage
 unfolding stage
@@ -53,38 +57,64 @@ complete_answer {job} {failures} {status} {PrintGains} {PunchGains} is =
 
 -- ---- the job that is asked for
 
-by_words : (P : Job → Type 0) (words : ℕ) (told : Option (List ℕ)) → 0 < words → P WithoutBytes → (asked : Job) → IsAsked words told asked → P asked
-by_words P words told some holds _ (refused are) = holds
-by_words P words told some holds _ (from_source bytes none is) = absurd (omega (arith, some, none))
+module _ (P : Job → Type 0) (asked : Option Request) (told : Option (List ℕ)) where
+  by_words : asked ≡ None → P WithoutBytes → (job : Job) → IsAsked asked told job → P job
+  by_words none holds _ (refused also) = holds
+  by_words none holds _ (from_source bytes is known) = absurd (cc)
+  by_words none holds _ (generated size is) = absurd (cc)
 
-by_source : (P : Job → Type 0) (words : ℕ) (told : Option (List ℕ)) → words ≡ 0 → ((bytes : List ℕ) → told ≡ Some bytes → P (Read bytes)) → (asked : Job) → IsAsked words told asked → P asked
-by_source P words told none holds _ (refused are) = absurd (omega (arith, none, are))
-by_source P words told none holds _ (from_source bytes also is) = holds bytes is
+  by_source : asked ≡ Some request.Read → ((bytes : List ℕ) → told ≡ Some bytes → P (Read bytes)) → (job : Job) → IsAsked asked told job → P job
+  by_source read holds _ (refused none) = absurd (cc)
+  by_source read holds _ (from_source bytes is known) = holds bytes known
+  by_source read holds _ (generated size is) = absurd (cc)
 
--- ---- the three ways in which a job goes
+  by_size : (size : ℕ) → asked ≡ Some (request.Make size) → P (Made (made_job size)) → (job : Job) → IsAsked asked told job → P job
+  by_size size made holds _ (refused none) = absurd (cc)
+  by_size size made holds _ (from_source bytes is known) = absurd (cc)
+  by_size size made holds _ (generated other is) = let same : size ≡ other = cc in subst (λ (n : ℕ). P (Made (made_job n))) same holds
 
-module _ (words : ℕ) (told : Option (List ℕ)) (status : Status) where
+-- ---- the four ways in which a job goes
+
+module _ (asked : Option Request) (told : Option (List ℕ)) (status : Status) where
   module _ {P : Type 0} (written : P → Option (List ℕ)) (faults refusals : P → ℕ) {old new : P} (read_failed punch_failed : Type 0) (punch : Option (List ℕ)) where
     -- the words are refused
-    pub words_headline : 0 < words → EndsWith written faults refusals old new Words status → (asked : Job) → IsAsked words told asked →
-        IsTrueAnswer stage asked (record { read = read_failed; print = Rose (faults old) (faults new); punch = punch_failed; memory = Rose (refusals old) (refusals new) })
+    words_headline : asked ≡ None → EndsWith written faults refusals old new Words status → (job : Job) → IsAsked asked told job →
+        IsTrueAnswer stage job (record { read = read_failed; print = Rose (faults old) (faults new); punch = punch_failed; memory = Rose (refusals old) (refusals new) })
         (code_of status) (Appends (written old) (written new)) (Appends punch punch)
-    words_headline some ends =
-        by_words _ words told some (true_answer (ending_answer stage WithoutBytes _ Words (words_refused refl) written faults refusals punch status (λ e. e) (λ e. e) ends))
+    words_headline none ends =
+        by_words _ asked told none (true_answer (ending_answer stage WithoutBytes _ Words (words_refused refl) written faults refusals punch status (λ e. e) (λ e. e) ends))
 
-    -- the job isn't read, or its program isn't compiled
-    pub stop_headline : (is_read : Type 0) (stop : Stop) → words ≡ 0 → Tells told stop → HasStopCause read_failed is_read stop → EndsWith written faults refusals old new stop status →
-        (asked : Job) → IsAsked words told asked →
-        IsTrueAnswer stage asked (record { read = read_failed; print = Rose (faults old) (faults new); punch = punch_failed; memory = Rose (refusals old) (refusals new) })
+    -- memory is wanted while the words are read
+    memory_headline : EndsWith written faults refusals old new Memory status → (job : Job) → IsAsked asked told job →
+        IsTrueAnswer stage job (record { read = read_failed; print = Rose (faults old) (faults new); punch = punch_failed; memory = Rose (refusals old) (refusals new) })
         (code_of status) (Appends (written old) (written new)) (Appends punch punch)
-    stop_headline is_read stop none tells cause ends =
-        by_source _ words told none (λ bytes is. true_answer (ending_answer stage (Read bytes) _ stop (may_stop stage bytes _ is_read stop is tells cause) written faults refusals punch status (λ e. e) (λ e. e) ends))
+    memory_headline ends job is = true_answer (ending_answer stage job _ Memory memory_at_start written faults refusals punch status (λ e. e) (λ e. e) ends)
 
-  -- its program is run
-  pub run_headline : (read_failed print_failed punch_failed memory_wanted : Type 0) (PrintGains PunchGains : List ℕ → Type 0) → words ≡ 0 →
-      ((bytes : List ℕ) → told ≡ Some bytes → IsAnswered stage (Read bytes) (failures_in_run print_failed punch_failed memory_wanted) (code_of status) PrintGains PunchGains) →
-      (asked : Job) → IsAsked words told asked →
-      IsTrueAnswer stage asked (record { read = read_failed; print = print_failed; punch = punch_failed; memory = memory_wanted }) (code_of status) PrintGains PunchGains
-  run_headline read_failed print_failed punch_failed memory_wanted PrintGains PunchGains none answers =
-      by_source _ words told none (λ bytes is. true_answer
-      (answered_too stage (Read bytes) (failures_in_run print_failed punch_failed memory_wanted) _ (λ e. absurd e) (λ e. e) (λ e. e) (λ e. e) (code_of status) PrintGains PunchGains (answers bytes is)))
+    -- the words ask for nothing
+    pub stopped_headline : (stop : WordsStop) → (stop ≡ stops.Refused → asked ≡ None) → EndsWith written faults refusals old new (stop_of_words stop) status → (job : Job) → IsAsked asked told job →
+        IsTrueAnswer stage job (record { read = read_failed; print = Rose (faults old) (faults new); punch = punch_failed; memory = Rose (refusals old) (refusals new) })
+        (code_of status) (Appends (written old) (written new)) (Appends punch punch)
+    stopped_headline stops.Refused are_refused ends = words_headline (are_refused refl) ends
+    stopped_headline stops.NoMemory are_refused ends = memory_headline ends
+
+  -- the job is read
+  pub read_headline : (failures : Failures) (PrintGains PunchGains : List ℕ → Type 0) → asked ≡ Some request.Read →
+      ((given : Job) (bytes : List ℕ) → IsGiven told failures.read given bytes → IsAnswered stage given failures (code_of status) PrintGains PunchGains) →
+      (job : Job) → IsAsked asked told job → IsTrueAnswer stage job failures (code_of status) PrintGains PunchGains
+  read_headline failures PrintGains PunchGains read answers =
+      by_source _ asked told read (λ bytes known. true_answer (answers (Read bytes) bytes (record { has_bytes = refl; is_told = known; is_read = λ failed. refl })))
+
+  -- the job is made
+  pub made_headline : (read_failed print_failed punch_failed memory_wanted : Type 0) (PrintGains PunchGains : List ℕ → Type 0) (size : ℕ) → asked ≡ Some (request.Make size) →
+      IsAnswered stage (Made (made_job size)) (failures_in_run print_failed punch_failed memory_wanted) (code_of status) PrintGains PunchGains →
+      (job : Job) → IsAsked asked told job →
+      IsTrueAnswer stage job (record { read = read_failed; print = print_failed; punch = punch_failed; memory = memory_wanted }) (code_of status) PrintGains PunchGains
+  made_headline read_failed print_failed punch_failed memory_wanted PrintGains PunchGains size made answer =
+      by_size _ asked told size made (true_answer
+      (answered_too stage (Made (made_job size)) (failures_in_run print_failed punch_failed memory_wanted) _ (λ e. absurd e) (λ e. e) (λ e. e) (λ e. e) (code_of status) PrintGains PunchGains answer))
+
+  -- a job that is asked for as a request is
+  pub same_headline : (failures : Failures) (PrintGains PunchGains : List ℕ → Type 0) (request : Request) → asked ≡ Some request →
+      ((job : Job) → IsAsked (Some request) told job → IsTrueAnswer stage job failures (code_of status) PrintGains PunchGains) →
+      (job : Job) → IsAsked asked told job → IsTrueAnswer stage job failures (code_of status) PrintGains PunchGains
+  same_headline failures PrintGains PunchGains request is answers job asks = answers job (subst (λ (o : Option Request). IsAsked o told job) is asks)

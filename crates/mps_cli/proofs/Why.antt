@@ -1,5 +1,8 @@
 -- Why a job ends with its status.
-use Rattle.std.proofs.Common.{◌≡◌, ℕ, ◌<◌, List, Option, Err, refl, sym, ap, subst}
+use Rattle.std.proofs.Common.{◌≡◌, ℕ, List, Option, None, Some, Err, refl, sym, ap, subst}
+use Rattle.std.specs.Prelude.{IfSome}
+use Rattle.deck_definitions.specs.Transport.{made_job}
+use Rattle.run_definitions.specs.Answer.{IsProgramOf}
 use Rattle.job_devices.specs.Causes.{Rose}
 use Rattle.job_devices.specs.Text.{AppendsFront}
 use Rattle.job_devices.specs.declared.device.WriteStop.{WriteStop}
@@ -9,72 +12,163 @@ use Rattle.control_run.specs.declared.status.Status.{Status}
 use Rattle.control_run.specs.declared.status.Status.TheVariants as status
 use Rattle.control_run.specs.Ends.{IsStatusOfRun}
 use Rattle.control_run.specs.Finishing.{cut_status}
+use Rattle.command_line.specs.declared.request.Request.{Request}
+use Rattle.command_line.specs.declared.request.Request.TheVariants as request
 use Rattle.mps_cli.specs.declared.stop.Stop.{Stop}
 use Rattle.mps_cli.specs.declared.stop.Stop.TheVariants.{Words, ReadFault, Card, Control, Memory}
-use Rattle.mps_cli.specs.Stops.{stop_shown, status_at}
+use Rattle.command_line.specs.declared.request.WordsStop.{WordsStop}
+use Rattle.command_line.specs.declared.request.WordsStop.TheVariants as words
+use Rattle.mps_cli.specs.Stops.{stop_shown, status_at, stop_of_words}
 use Rattle.mps_cli.specs.Endings.{EndsWith, printed, cut_off}
-use Rattle.mps_cli.specs.Causes.{IsPrintedAfter, reading, refused_words, a_read_fault, no_memory, HasCause, HasStopCause}
+use Rattle.mps_cli.specs.Causes.{IsAtHand, IsPrintedAfter, at_hand, refused_words, a_read_fault, no_memory, HasCause, IsPunched, nothing, in_run, HasStopCause}
 
-module _ (words : ℕ) (read_failed is_read : Type 0) where
+module _ (asked : Option Request) (read_failed is_read : Type 0) where
   -- why a job is stopped before its program runs
   abbrev pub IsWhy : Stop → Type 0
-  IsWhy Words = 0 < words
-  IsWhy ReadFault = (words ≡ 0) × read_failed
-  IsWhy (Card fault) = (words ≡ 0) × is_read
-  IsWhy (Control fault) = (words ≡ 0) × is_read
-  IsWhy Memory = words ≡ 0
+  IsWhy Words = asked ≡ None
+  IsWhy ReadFault = (asked ≡ Some request.Read) × read_failed
+  IsWhy (Card fault) = IsAtHand asked is_read
+  IsWhy (Control fault) = IsAtHand asked is_read
+  IsWhy Memory = Unit {0}
 
-  pub why : (stop : Stop) → words ≡ 0 → HasStopCause read_failed is_read stop → IsWhy stop
-  why Words none cause = absurd cause
-  why ReadFault none cause = (none, cause)
-  why (Card fault) none cause = (none, cause)
-  why (Control fault) none cause = (none, cause)
-  why Memory none cause = none
+  printed_cause : (print_failed punch_failed : Type 0) (GainsFrontOf : List ℕ → Type 0) (stop : Stop) → IsWhy stop → HasCause asked read_failed is_read print_failed punch_failed GainsFrontOf (status_at stop)
+  printed_cause print_failed punch_failed GainsFrontOf Words is = is
+  printed_cause print_failed punch_failed GainsFrontOf ReadFault is = is
+  printed_cause print_failed punch_failed GainsFrontOf (Card fault) is = is
+  printed_cause print_failed punch_failed GainsFrontOf (Control fault) is = is
+  printed_cause print_failed punch_failed GainsFrontOf Memory is = tt
 
-  printed_cause : (print_failed : Type 0) (GainsFrontOf : List ℕ → Type 0) (stop : Stop) → IsWhy stop → HasCause words read_failed is_read print_failed GainsFrontOf (status_at stop)
-  printed_cause print_failed GainsFrontOf Words is = is
-  printed_cause print_failed GainsFrontOf ReadFault is = is
-  printed_cause print_failed GainsFrontOf (Card fault) is = is
-  printed_cause print_failed GainsFrontOf (Control fault) is = is
-  printed_cause print_failed GainsFrontOf Memory is = tt
-
-  after : (GainsFrontOf : List ℕ → Type 0) (stop : Stop) → IsWhy stop → GainsFrontOf (ending_text (stop_shown stop)) → IsPrintedAfter words read_failed is_read GainsFrontOf
+  after : (GainsFrontOf : List ℕ → Type 0) (stop : Stop) → IsWhy stop → GainsFrontOf (ending_text (stop_shown stop)) → IsPrintedAfter asked read_failed is_read GainsFrontOf
   after GainsFrontOf Words is front = refused_words is front
   after GainsFrontOf ReadFault is front = a_read_fault is.0 is.1 front
-  after GainsFrontOf (Card fault) is front = reading is.0 is.1
-  after GainsFrontOf (Control fault) is front = reading is.0 is.1
-  after GainsFrontOf Memory is front = no_memory is front
+  after GainsFrontOf (Card fault) is front = at_hand is
+  after GainsFrontOf (Control fault) is front = at_hand is
+  after GainsFrontOf Memory is front = no_memory front
 
-  cut_cause : (print_failed : Type 0) (GainsFrontOf : List ℕ → Type 0) (stop : Stop) → IsWhy stop → (cause : WriteStop) → (cause ≡ Failed → print_failed) → GainsFrontOf (ending_text (stop_shown stop)) →
-      HasCause words read_failed is_read print_failed GainsFrontOf (cut_status cause)
-  cut_cause print_failed GainsFrontOf stop is Failed failed front = (failed refl, after GainsFrontOf stop is front)
-  cut_cause print_failed GainsFrontOf stop is NoMemory failed front = tt
+  cut_cause : (print_failed punch_failed : Type 0) (GainsFrontOf : List ℕ → Type 0) (stop : Stop) → IsWhy stop → (cause : WriteStop) → (cause ≡ Failed → print_failed) → GainsFrontOf (ending_text (stop_shown stop)) →
+      HasCause asked read_failed is_read print_failed punch_failed GainsFrontOf (cut_status cause)
+  cut_cause print_failed punch_failed GainsFrontOf stop is Failed failed front = (failed refl, after GainsFrontOf stop is front)
+  cut_cause print_failed punch_failed GainsFrontOf stop is NoMemory failed front = tt
 
   -- of a job whose listing is the end of a stop alone
-  pub ending_cause : {P : Type 0} (written : P → Option (List ℕ)) (faults refusals : P → ℕ) {old new : P} (stop : Stop) (ended : Status) → IsWhy stop → EndsWith written faults refusals old new stop ended →
-      HasCause words read_failed is_read (Rose (faults old) (faults new)) (AppendsFront (written old) (written new)) ended
-  ending_cause written faults refusals {old} {new} stop ended is (printed same writes) =
-      subst (HasCause words read_failed is_read (Rose (faults old) (faults new)) (AppendsFront (written old) (written new))) (sym same) (printed_cause _ _ stop is)
-  ending_cause written faults refusals {old} {new} stop ended is (cut_off cause same writes) =
-      subst (HasCause words read_failed is_read (Rose (faults old) (faults new)) (AppendsFront (written old) (written new))) (sym same)
-      (cut_cause _ _ stop is cause (λ e. writes.cause.failed (ap (λ s. Err s) e)) writes.bytes)
+  pub ending_cause : (punch_failed : Type 0) {P : Type 0} (written : P → Option (List ℕ)) (faults refusals : P → ℕ) {old new : P} (stop : Stop) (ended : Status) → IsWhy stop → EndsWith written faults refusals old new stop ended →
+      HasCause asked read_failed is_read (Rose (faults old) (faults new)) punch_failed (AppendsFront (written old) (written new)) ended
+  ending_cause punch_failed written faults refusals {old} {new} stop ended is (printed same writes) =
+      subst (HasCause asked read_failed is_read (Rose (faults old) (faults new)) punch_failed (AppendsFront (written old) (written new))) (sym same) (printed_cause _ _ _ stop is)
+  ending_cause punch_failed written faults refusals {old} {new} stop ended is (cut_off cause same writes) =
+      subst (HasCause asked read_failed is_read (Rose (faults old) (faults new)) punch_failed (AppendsFront (written old) (written new))) (sym same)
+      (cut_cause _ _ _ stop is cause (λ e. writes.cause.failed (ap (λ s. Err s) e)) writes.bytes)
 
   -- of a job whose program has run
-  pub run_cause : (print_failed : Type 0) (GainsFrontOf : List ℕ → Type 0) (ended : Status) → words ≡ 0 → is_read → IsStatusOfRun ended → (ended ≡ status.PrintFault → print_failed) →
-      HasCause words read_failed is_read print_failed GainsFrontOf ended
-  run_cause print_failed GainsFrontOf status.Done none is own failed = (none, is)
-  run_cause print_failed GainsFrontOf status.Infeasible none is own failed = (none, is)
-  run_cause print_failed GainsFrontOf status.Unbounded none is own failed = (none, is)
-  run_cause print_failed GainsFrontOf status.Words none is own failed = absurd own
-  run_cause print_failed GainsFrontOf status.Control none is own failed = absurd own
-  run_cause print_failed GainsFrontOf status.Verb none is own failed = (none, is)
-  run_cause print_failed GainsFrontOf status.Deck none is own failed = (none, is)
-  run_cause print_failed GainsFrontOf status.Card none is own failed = absurd own
-  run_cause print_failed GainsFrontOf status.Limit none is own failed = (none, is)
-  run_cause print_failed GainsFrontOf status.Statements none is own failed = (none, is)
-  run_cause print_failed GainsFrontOf status.Overflow none is own failed = (none, is)
-  run_cause print_failed GainsFrontOf status.ReadFault none is own failed = absurd own
-  run_cause print_failed GainsFrontOf status.PrintFault none is own failed = (failed refl, reading none is)
-  run_cause print_failed GainsFrontOf status.PunchFault none is own failed = absurd own
-  run_cause print_failed GainsFrontOf status.Memory none is own failed = tt
-  run_cause print_failed GainsFrontOf status.NotBuilt none is own failed = (none, is)
+  pub run_cause : (print_failed punch_failed : Type 0) (GainsFrontOf : List ℕ → Type 0) (ended : Status) → IsAtHand asked is_read → IsStatusOfRun ended → (ended ≡ status.PrintFault → print_failed) → (ended ≡ status.PunchFault → punch_failed) →
+      HasCause asked read_failed is_read print_failed punch_failed GainsFrontOf ended
+  run_cause print_failed punch_failed GainsFrontOf status.Done is own failed stopped = is
+  run_cause print_failed punch_failed GainsFrontOf status.Infeasible is own failed stopped = is
+  run_cause print_failed punch_failed GainsFrontOf status.Unbounded is own failed stopped = is
+  run_cause print_failed punch_failed GainsFrontOf status.Words is own failed stopped = absurd own
+  run_cause print_failed punch_failed GainsFrontOf status.Control is own failed stopped = absurd own
+  run_cause print_failed punch_failed GainsFrontOf status.Verb is own failed stopped = is
+  run_cause print_failed punch_failed GainsFrontOf status.Deck is own failed stopped = is
+  run_cause print_failed punch_failed GainsFrontOf status.Card is own failed stopped = absurd own
+  run_cause print_failed punch_failed GainsFrontOf status.Limit is own failed stopped = is
+  run_cause print_failed punch_failed GainsFrontOf status.Statements is own failed stopped = is
+  run_cause print_failed punch_failed GainsFrontOf status.Overflow is own failed stopped = is
+  run_cause print_failed punch_failed GainsFrontOf status.ReadFault is own failed stopped = absurd own
+  run_cause print_failed punch_failed GainsFrontOf status.PrintFault is own failed stopped = (failed refl, at_hand is)
+  run_cause print_failed punch_failed GainsFrontOf status.PunchFault is own failed stopped = (is, stopped refl)
+  run_cause print_failed punch_failed GainsFrontOf status.Memory is own failed stopped = tt
+  run_cause print_failed punch_failed GainsFrontOf status.NotBuilt is own failed stopped = is
+
+-- of a job that is read
+pub why : (read_failed is_read : Type 0) (stop : Stop) → HasStopCause read_failed is_read stop → IsWhy (Some request.Read) read_failed is_read stop
+why read_failed is_read Words cause = absurd cause
+why read_failed is_read ReadFault cause = (refl, cause)
+why read_failed is_read (Card fault) cause = cause
+why read_failed is_read (Control fault) cause = cause
+why read_failed is_read Memory cause = tt
+
+-- ---- the cause of one job is that of another, which ends likewise
+
+module _ (asked other : Option Request) (read_failed is_read other_failed other_read : Type 0) (none : asked ≡ None → other ≡ None)
+    (read : asked ≡ Some request.Read → read_failed → (other ≡ Some request.Read) × other_failed) (hand : IsAtHand asked is_read → IsAtHand other other_read) (print_failed punch_failed : Type 0) (GainsFrontOf : List ℕ → Type 0) where
+  printed_likewise : IsPrintedAfter asked read_failed is_read GainsFrontOf → IsPrintedAfter other other_failed other_read GainsFrontOf
+  printed_likewise (at_hand is) = at_hand (hand is)
+  printed_likewise (refused_words is front) = refused_words (none is) front
+  printed_likewise (a_read_fault is failed front) = let p = read is failed in a_read_fault p.0 p.1 front
+  printed_likewise (no_memory front) = no_memory front
+
+  pub likewise : (ended : Status) → HasCause asked read_failed is_read print_failed punch_failed GainsFrontOf ended → HasCause other other_failed other_read print_failed punch_failed GainsFrontOf ended
+  likewise status.Done is = hand is
+  likewise status.Infeasible is = hand is
+  likewise status.Unbounded is = hand is
+  likewise status.Words is = none is
+  likewise status.Control is = hand is
+  likewise status.Verb is = hand is
+  likewise status.Deck is = hand is
+  likewise status.Card is = hand is
+  likewise status.Limit is = hand is
+  likewise status.Statements is = hand is
+  likewise status.Overflow is = hand is
+  likewise status.ReadFault is = read is.0 is.1
+  likewise status.PrintFault is = (is.0, printed_likewise is.1)
+  likewise status.PunchFault is = (hand is.0, is.1)
+  likewise status.Memory is = tt
+  likewise status.NotBuilt is = hand is
+
+-- a job that is asked for as another is
+pub same_cause : {asked : Option Request} (request : Request) (read_failed is_read print_failed punch_failed : Type 0) (GainsFrontOf : List ℕ → Type 0) (ended : Status) → asked ≡ Some request →
+    HasCause (Some request) read_failed is_read print_failed punch_failed GainsFrontOf ended → HasCause asked read_failed is_read print_failed punch_failed GainsFrontOf ended
+same_cause request read_failed is_read print_failed punch_failed GainsFrontOf ended is cause =
+    subst (λ (o : Option Request). HasCause o read_failed is_read print_failed punch_failed GainsFrontOf ended) (sym is) cause
+
+-- of a job that is read
+pub read_cause : (read_failed is_read print_failed punch_failed : Type 0) (GainsFrontOf : List ℕ → Type 0) (ended : Status) {wanted : Request} → wanted ≡ request.Read →
+    HasCause (Some request.Read) read_failed is_read print_failed punch_failed GainsFrontOf ended → HasCause (Some wanted) read_failed is_read print_failed punch_failed GainsFrontOf ended
+read_cause read_failed is_read print_failed punch_failed GainsFrontOf ended is cause = same_cause request.Read read_failed is_read print_failed punch_failed GainsFrontOf ended (ap (λ (r : Request). Some r) is) cause
+
+-- of a job that is made: nothing is read
+pub made_cause : (read_failed is_read print_failed punch_failed : Type 0) (GainsFrontOf : List ℕ → Type 0) (ended : Status) (size : ℕ) {wanted : Request} → wanted ≡ request.Make size →
+    HasCause (Some (request.Make size)) ⊥ (Unit {0}) print_failed punch_failed GainsFrontOf ended → HasCause (Some wanted) read_failed is_read print_failed punch_failed GainsFrontOf ended
+made_cause read_failed is_read print_failed punch_failed GainsFrontOf ended size is cause =
+    same_cause (request.Make size) read_failed is_read print_failed punch_failed GainsFrontOf ended (ap (λ (r : Request). Some r) is)
+    (likewise (Some (request.Make size)) (Some (request.Make size)) ⊥ (Unit {0}) read_failed is_read
+    (λ e. e) (λ e failed. absurd failed) (λ here. tt) print_failed punch_failed GainsFrontOf ended cause)
+
+-- of a job that is made, from that of its source, which doesn't fail
+pub source_cause : (read_failed is_read print_failed punch_failed : Type 0) (GainsFrontOf : List ℕ → Type 0) (ended : Status) (size : ℕ) → (read_failed → ⊥) →
+    HasCause (Some request.Read) read_failed is_read print_failed punch_failed GainsFrontOf ended → HasCause (Some (request.Make size)) ⊥ (Unit {0}) print_failed punch_failed GainsFrontOf ended
+source_cause read_failed is_read print_failed punch_failed GainsFrontOf ended size sure cause =
+    likewise (Some request.Read) (Some (request.Make size)) read_failed is_read ⊥ (Unit {0})
+    (λ e. absurd (cc)) (λ e failed. absurd (sure failed)) (λ here. tt) print_failed punch_failed GainsFrontOf ended cause
+
+-- why the words ask for nothing
+pub why_words : (asked : Option Request) (read_failed is_read : Type 0) (stop : WordsStop) → (stop ≡ words.Refused → asked ≡ None) → IsWhy asked read_failed is_read (stop_of_words stop)
+why_words asked read_failed is_read words.Refused are_refused = are_refused refl
+why_words asked read_failed is_read words.NoMemory are_refused = tt
+
+-- ---- where something may be punched
+
+-- the punch of a job that is asked for as a request is
+pub same_punch : {asked : Option Request} (request : Request) (told : Option (List ℕ)) (is_read is_same : Type 0) (ended : Status) → asked ≡ Some request →
+    IsPunched (Some request) told is_read is_same ended → IsPunched asked told is_read is_same ended
+same_punch request told is_read is_same ended is punched = subst (λ (o : Option Request). IsPunched o told is_read is_same ended) (sym is) punched
+
+pub read_punch : (told : Option (List ℕ)) (is_read is_same : Type 0) (ended : Status) {wanted : Request} → wanted ≡ request.Read →
+    IsPunched (Some request.Read) told is_read is_same ended → IsPunched (Some wanted) told is_read is_same ended
+read_punch told is_read is_same ended is punched = same_punch request.Read told is_read is_same ended (ap (λ (r : Request). Some r) is) punched
+
+-- of a job that is made, whose source tells its bytes
+pub source_punch : (size : ℕ) (source told : Option (List ℕ)) (source_read is_read is_same : Type 0) (ended : Status) → source ≡ Some (made_job size) →
+    IsPunched (Some request.Read) source source_read is_same ended → IsPunched (Some (request.Make size)) told is_read is_same ended
+source_punch size source told source_read is_read is_same ended tells (nothing same) = nothing same
+source_punch size source told source_read is_read is_same ended tells (in_run program here known own) =
+    in_run program tt (subst (λ (o : Option (List ℕ)). IfSome o (λ bytes. IsProgramOf bytes program)) tells known) own
+
+pub made_punch : (told other : Option (List ℕ)) (is_read other_read is_same : Type 0) (ended : Status) (size : ℕ) {wanted : Request} → wanted ≡ request.Make size →
+    IsPunched (Some (request.Make size)) told is_read is_same ended → IsPunched (Some wanted) other other_read is_same ended
+made_punch told other is_read other_read is_same ended size is punched =
+    same_punch (request.Make size) other other_read is_same ended (ap (λ (r : Request). Some r) is) (moved punched)
+  where
+    moved : IsPunched (Some (request.Make size)) told is_read is_same ended → IsPunched (Some (request.Make size)) other other_read is_same ended
+    moved (nothing same) = nothing same
+    moved (in_run program here known own) = in_run program tt known own

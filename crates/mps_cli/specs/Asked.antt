@@ -1,9 +1,20 @@
 -- The job that is asked for, where the words or the source tell it.
---     IsAsked words told job       so many words, and the bytes that the source tells, ask for this job
-use Rattle.std.specs.Prelude.{◌≡◌, ◌<◌, ℕ, List, Option, Some}
-use Rattle.run_definitions.specs.Answer.{Job, WithoutBytes, Read}
+--     IsAsked request told job       what the words ask for, and the bytes that the source tells, ask for this job
+--     IsGiven told .. job bytes      the source that is read tells the bytes of this job
+use Rattle.std.specs.Prelude.{◌≡◌, ℕ, List, Option, None, Some}
+use Rattle.deck_definitions.specs.Transport.{made_job}
+use Rattle.run_definitions.specs.Answer.{Job, WithoutBytes, Read, Made, bytes_of}
+use Rattle.command_line.specs.declared.request.Request.{Request}
+use Rattle.command_line.specs.declared.request.Request.TheVariants as request
 
--- No words are accepted: where there are any, they are refused. Else the job is what the source tells.
-pub data IsAsked (words : ℕ) (told : Option (List ℕ)) : Job → Type 0 where
-  refused : 0 < words → IsAsked words told WithoutBytes
-  from_source : (bytes : List ℕ) → words ≡ 0 → told ≡ Some bytes → IsAsked words told (Read bytes)
+-- The words are refused; or the job is what the source tells; or it is the generated job of a size.
+pub data IsAsked (asked : Option Request) (told : Option (List ℕ)) : Job → Type 0 where
+  refused : asked ≡ None → IsAsked asked told WithoutBytes
+  from_source : (bytes : List ℕ) → asked ≡ Some request.Read → told ≡ Some bytes → IsAsked asked told (Read bytes)
+  generated : (size : ℕ) → asked ≡ Some (request.Make size) → IsAsked asked told (Made (made_job size))
+
+-- Where this source tells the job's bytes; and only a job that is read may end since a read has failed.
+pub record IsGiven (told : Option (List ℕ)) (read_failed : Type 0) (job : Job) (bytes : List ℕ) : Type 0 where
+  pub has_bytes : bytes_of job ≡ Some bytes
+  pub is_told : told ≡ Some bytes
+  pub is_read : read_failed → job ≡ Read bytes

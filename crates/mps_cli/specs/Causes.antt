@@ -1,32 +1,58 @@
--- Why a job ends with a status, told by the words and by what the devices count and gain.
---     HasCause words .. status     why a job ends with a status
---     HasStopCause .. stop         why the program of a job isn't run
-use Rattle.std.specs.Prelude.{◌≡◌, ℕ, ◌<◌, List}
+-- Why a job ends with a status, told by what the words ask for and by what the devices count and gain.
+--     HasCause request .. status     why a job ends with a status
+--     IsPunched request .. status    nothing is punched but in a run
+--     HasStopCause .. stop           why the program of a job isn't run
+use Rattle.std.specs.Prelude.{◌≡◌, ℕ, List, Option, None, Some, IfSome}
+use Rattle.deck_definitions.specs.Transport.{made_job}
+use Rattle.control_definitions.specs.Program.{Program}
 use Rattle.listing_definitions.specs.Ending.{Ending, WordsRefused}
 use Rattle.listing_definitions.specs.Ending as endings
 use Rattle.listing_definitions.specs.Listing.{ending_text}
+use Rattle.run_definitions.specs.Answer.{IsProgramOf}
+use Rattle.control_run.specs.Ends.{IsStatusOfRun}
 use Rattle.control_run.specs.declared.status.Status.{Status}
 use Rattle.control_run.specs.declared.status.Status.TheVariants.{Words, ReadFault, PrintFault, PunchFault, Memory}
+use Rattle.command_line.specs.declared.request.Request.{Request}
+use Rattle.command_line.specs.declared.request.Request.TheVariants as request
 use Rattle.mps_cli.specs.declared.stop.Stop.{Stop}
 use Rattle.mps_cli.specs.declared.stop.Stop.TheVariants as stop
 
--- Where a write to the print fails, the job is read before; unless what was being printed is that the words are refused, that a read
--- has failed, or that there is no memory: then all that the print has gained is a front of that line.
-pub data IsPrintedAfter (words : ℕ) (read_failed is_read : Type 0) (GainsFrontOf : List ℕ → Type 0) : Type 0 where
-  reading : words ≡ 0 → is_read → IsPrintedAfter words read_failed is_read GainsFrontOf
-  refused_words : 0 < words → GainsFrontOf (ending_text WordsRefused) → IsPrintedAfter words read_failed is_read GainsFrontOf
-  a_read_fault : words ≡ 0 → read_failed → GainsFrontOf (ending_text endings.ReadFault) → IsPrintedAfter words read_failed is_read GainsFrontOf
-  no_memory : words ≡ 0 → GainsFrontOf (ending_text endings.Memory) → IsPrintedAfter words read_failed is_read GainsFrontOf
+-- the whole job is at hand: it is read, or made
+abbrev pub IsAtHand : Option Request → Type 0 → Type 0
+IsAtHand None is_read = ⊥
+IsAtHand (Some request.Read) is_read = is_read
+IsAtHand (Some (request.Make size)) is_read = Unit {0}
 
--- The words are refused where there are any. Without words the job is read, and a read may fail; whatever else ends the job comes
--- after the reading of the whole job. A write to the print may fail, and memory may be wanted, at any time. Nothing is punched.
-abbrev pub HasCause : ℕ → Type 0 → Type 0 → Type 0 → (List ℕ → Type 0) → Status → Type 0
-HasCause words read_failed is_read print_failed GainsFrontOf Words = 0 < words
-HasCause words read_failed is_read print_failed GainsFrontOf ReadFault = (words ≡ 0) × read_failed
-HasCause words read_failed is_read print_failed GainsFrontOf PrintFault = print_failed × IsPrintedAfter words read_failed is_read GainsFrontOf
-HasCause words read_failed is_read print_failed GainsFrontOf PunchFault = ⊥
-HasCause words read_failed is_read print_failed GainsFrontOf Memory = Unit {0}
-HasCause words read_failed is_read print_failed GainsFrontOf status = (words ≡ 0) × is_read
+-- Where a write to the print fails, the whole job is at hand before; unless what was being printed is that the words are refused, that a
+-- read has failed, or that there is no memory: then all that the print has gained is a front of that line.
+pub data IsPrintedAfter (asked : Option Request) (read_failed is_read : Type 0) (GainsFrontOf : List ℕ → Type 0) : Type 0 where
+  at_hand : IsAtHand asked is_read → IsPrintedAfter asked read_failed is_read GainsFrontOf
+  refused_words : asked ≡ None → GainsFrontOf (ending_text WordsRefused) → IsPrintedAfter asked read_failed is_read GainsFrontOf
+  a_read_fault : asked ≡ Some request.Read → read_failed → GainsFrontOf (ending_text endings.ReadFault) → IsPrintedAfter asked read_failed is_read GainsFrontOf
+  no_memory : GainsFrontOf (ending_text endings.Memory) → IsPrintedAfter asked read_failed is_read GainsFrontOf
+
+-- The words may be refused. A job that they ask to read is read, and a read may fail; whatever else ends a job comes when the whole job
+-- is at hand, and so does a write to the punch that fails. A write to the print may fail, and memory may be wanted, at any time.
+abbrev pub HasCause : Option Request → Type 0 → Type 0 → Type 0 → Type 0 → (List ℕ → Type 0) → Status → Type 0
+HasCause asked read_failed is_read print_failed punch_failed GainsFrontOf Words = asked ≡ None
+HasCause asked read_failed is_read print_failed punch_failed GainsFrontOf ReadFault = (asked ≡ Some request.Read) × read_failed
+HasCause asked read_failed is_read print_failed punch_failed GainsFrontOf PrintFault = print_failed × IsPrintedAfter asked read_failed is_read GainsFrontOf
+HasCause asked read_failed is_read print_failed punch_failed GainsFrontOf PunchFault = IsAtHand asked is_read × punch_failed
+HasCause asked read_failed is_read print_failed punch_failed GainsFrontOf Memory = Unit {0}
+HasCause asked read_failed is_read print_failed punch_failed GainsFrontOf status = IsAtHand asked is_read
+
+-- the bytes of the job, where they are known: those that the source tells, or those of the generated job
+abbrev pub bytes_at_hand : Option Request → Option (List ℕ) → Option (List ℕ)
+bytes_at_hand None told = None
+bytes_at_hand (Some request.Read) told = told
+bytes_at_hand (Some (request.Make size)) told = Some (made_job size)
+
+-- The punch is as it was; or the whole job is at hand, its cards begin with a program, where they are known, and the status is one that
+-- the run of a program may have.
+pub data IsPunched (asked : Option Request) (told : Option (List ℕ)) (is_read is_same : Type 0) (status : Status) : Type 0 where
+  nothing : is_same → IsPunched asked told is_read is_same status
+  in_run : (program : Program) → IsAtHand asked is_read → IfSome (bytes_at_hand asked told) (λ bytes. IsProgramOf bytes program) →
+      IsStatusOfRun status → IsPunched asked told is_read is_same status
 
 -- why the program of a job that is read isn't run
 abbrev pub HasStopCause : Type 0 → Type 0 → Stop → Type 0

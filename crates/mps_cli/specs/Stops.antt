@@ -7,6 +7,8 @@ use Rattle.card_definitions.specs.declared.CardFault.TheVariants as fault
 use Rattle.card_definitions.specs.Cards.{cards_of, job_fault}
 use Rattle.card_reader.specs.declared.stop.ReadStop.{ReadStop}
 use Rattle.card_reader.specs.declared.stop.ReadStop.TheVariants as reading
+use Rattle.command_line.specs.declared.request.WordsStop.{WordsStop}
+use Rattle.command_line.specs.declared.request.WordsStop.TheVariants as words
 use Rattle.control_definitions.specs.Compiled.{compiled}
 use Rattle.control_compiler.specs.declared.stop.CompileStop.{CompileStop}
 use Rattle.control_compiler.specs.declared.stop.CompileStop.TheVariants as compiling
@@ -33,6 +35,11 @@ status_at ReadFault = status.ReadFault
 status_at (Card fault) = status.Card
 status_at (Control fault) = status.Control
 status_at Memory = status.Memory
+
+-- where the words ask for nothing
+abbrev pub stop_of_words : WordsStop → Stop
+stop_of_words words.Refused = Words
+stop_of_words words.NoMemory = Memory
 
 -- where the job isn't read
 abbrev pub stop_of_reading : ReadStop → Stop

@@ -1,31 +1,151 @@
 // The top call.
-ghost use Rattle.std.specs.Prelude.{◌≡◌, ◌<◌, length};
+ghost use Rattle.std.specs.Prelude.{◌≡◌, ◌≢◌, ◌≤◌, List, ℕ, Some, IfOk, map, string_bytes};
 ghost use Rattle.std.specs.Io.KnownBytes.{Appends};
 ghost use Rattle.job_devices.specs.Causes.{Rose};
+ghost use Rattle.job_devices.specs.Memory.{sure_left};
 ghost use Rattle.job_devices.specs.Text.{AppendsFront};
 ghost use Rattle.card_reader.specs.Reading.{ReadsFront, ReadsJob};
-ghost use Rattle.run_definitions.specs.Answer.{Job};
+ghost use Rattle.deck_definitions.specs.Transport.{made_job};
+ghost use Rattle.run_definitions.specs.Answer.{Job, Made, IsAnswered};
 ghost use Rattle.run_functions.specs.Complete.{IsComplete};
 ghost use Rattle.run_laws.specs.Headline.{IsTrueAnswer};
+ghost use Rattle.stop_laws.specs.Stands.{StandsAfter};
+ghost use Rattle.command_line.specs.Sizes.{max_size};
+ghost use Rattle.command_line.specs.Requests.{HasSize};
+ghost use Rattle.command_line.specs.Requests as requests;
 ghost use Rattle.control_run.specs.Stage.{stage};
 ghost use Rattle.control_run.specs.Ends.{code_of};
-ghost use Rattle.mps_cli.specs.Asked.{IsAsked};
-ghost use Rattle.mps_cli.specs.Causes.{HasCause};
+ghost use Rattle.control_run.specs.Finishing.{failures_in_run};
+ghost use Rattle.mps_cli.specs.Asked.{IsAsked, IsGiven};
+ghost use Rattle.mps_cli.specs.Causes.{HasCause, IsPunched};
 
 use crate::end::end_job;
 use crate::prepare::prepare;
 use crate::stop::Stop;
+use command_line::{Request, request_of};
 use control_run::{Status, run_program};
-use job_devices::{Sink, Source};
+use generated_job::make_job;
+use job_devices::{NoMemory, Sink, Source, SureSource};
 use std::alloc::Global;
 
-/// Runs a job: reads it, compiles its control program, runs it and prints the listing, and answers how the job ended.
+// Runs the job of a source.
+fn run_source<S: Source, P: Sink, U: Sink>(
+    alloc: Global,
+    job: &mut S,
+    print: &mut P,
+    punch: &mut U,
+) -> Status
+    ensures answer { (given : Job) (bytes : List ℕ) →
+        IsGiven (S.left job.old) (Rose (S.faults job.old) (S.faults job.new)) given bytes →
+        IsAnswered stage given
+        (record {
+          read = Rose (S.faults job.old) (S.faults job.new);
+          print = Rose (P.faults print.old) (P.faults print.new);
+          punch = Rose (U.faults punch.old) (U.faults punch.new);
+          memory = Rose (P.refusals print.old) (P.refusals print.new);
+        })
+        (code_of result)
+        (Appends (P.written print.old) (P.written print.new))
+        (Appends (U.written punch.old) (U.written punch.new)) }
+    ensures cause { HasCause (Some Request.Read)
+        (Rose (S.faults job.old) (S.faults job.new))
+        (ReadsJob (S.left job.old) (S.left job.new))
+        (Rose (P.faults print.old) (P.faults print.new))
+        (Rose (U.faults punch.old) (U.faults punch.new))
+        (AppendsFront (P.written print.old) (P.written print.new))
+        result }
+    ensures no_further { ReadsFront (S.left job.old) (S.left job.new) }
+    ensures punch { IsPunched (Some Request.Read) (S.left job.old)
+        (ReadsJob (S.left job.old) (S.left job.new)) (punch.new ≡ punch.old) result }
+{
+    match prepare(alloc, job) {
+        Ok(prepared) => run_program(alloc, &prepared.program, &prepared.cards, print, punch),
+        Err(stop) => end_job(print, stop),
+    }
+}
+
+// A source of the generated job of a size.
+fn made_source(alloc: Global, size: u32) -> Result<SureSource, NoMemory>
+    requires least { 1 ≤ size }
+    requires most { size ≤ max_size }
+    ensures { IfOk result (λ source. sure_left source ≡ made_job size) }
+{
+    let job = make_job(alloc, size)?;
+    SureSource::new(alloc, &job)
+}
+
+// Runs the generated job of a size.
+fn run_made<P: Sink, U: Sink>(alloc: Global, size: u32, print: &mut P, punch: &mut U) -> Status
+    requires least { 1 ≤ size }
+    requires most { size ≤ max_size }
+    ensures answer { IsAnswered stage (Made (made_job size))
+        (failures_in_run (Rose (P.faults print.old) (P.faults print.new))
+        (Rose (U.faults punch.old) (U.faults punch.new))
+        (Rose (P.refusals print.old) (P.refusals print.new)))
+        (code_of result)
+        (Appends (P.written print.old) (P.written print.new))
+        (Appends (U.written punch.old) (U.written punch.new)) }
+    ensures cause { HasCause (Some (Request.Make size)) ⊥ (Unit {0})
+        (Rose (P.faults print.old) (P.faults print.new))
+        (Rose (U.faults punch.old) (U.faults punch.new))
+        (AppendsFront (P.written print.old) (P.written print.new))
+        result }
+    ensures punch { IsPunched (Some (Request.Make size)) None (Unit {0}) (punch.new ≡ punch.old)
+        result }
+{
+    match made_source(alloc, size) {
+        Ok(mut job) => run_source(alloc, &mut job, print, punch),
+        Err(NoMemory) => end_job(print, Stop::Memory),
+    }
+}
+
+// Runs the job that is asked for.
+fn run_request<S: Source, P: Sink, U: Sink>(
+    alloc: Global,
+    request: Request,
+    job: &mut S,
+    print: &mut P,
+    punch: &mut U,
+) -> Status
+    requires { HasSize request }
+    ensures headline { (asked : Job) → IsAsked (Some request) (S.left job.old) asked →
+        IsTrueAnswer stage asked
+        (record {
+          read = Rose (S.faults job.old) (S.faults job.new);
+          print = Rose (P.faults print.old) (P.faults print.new);
+          punch = Rose (U.faults punch.old) (U.faults punch.new);
+          memory = Rose (P.refusals print.old) (P.refusals print.new);
+        })
+        (code_of result)
+        (Appends (P.written print.old) (P.written print.new))
+        (Appends (U.written punch.old) (U.written punch.new)) }
+    ensures cause { HasCause (Some request)
+        (Rose (S.faults job.old) (S.faults job.new))
+        (ReadsJob (S.left job.old) (S.left job.new))
+        (Rose (P.faults print.old) (P.faults print.new))
+        (Rose (U.faults punch.old) (U.faults punch.new))
+        (AppendsFront (P.written print.old) (P.written print.new))
+        result }
+    ensures no_further { ReadsFront (S.left job.old) (S.left job.new) }
+    ensures unread { request ≢ Request.Read → job.new ≡ job.old }
+    ensures punch { IsPunched (Some request) (S.left job.old)
+        (ReadsJob (S.left job.old) (S.left job.new)) (punch.new ≡ punch.old) result }
+{
+    match request {
+        Request::Read => run_source(alloc, job, print, punch),
+        Request::Make(size) => run_made(alloc, size, print, punch),
+    }
+}
+
+/// Runs a job: reads it, compiles its control program, runs it, prints the listing and punches the decks, and answers how the job
+/// ended.
 ///
-/// The words are those after the program's name; none is accepted yet, and where there are any the job isn't read. The job
-/// is read to its end, or as far as byte 16,400,001.
+/// The words are those after the program's name. Without words the job is read to its end, or as far as byte 16,400,001.
+/// With `--make N` or `--make=N`, where N is a whole number from 1 to 60, nothing is read, and the generated job of this
+/// size is run. All other words are refused, and nothing is read.
 ///
-/// After a fault of the print, or where the print wants memory, nothing more is printed. Want of memory may end a job at
-/// any time.
+/// After a fault of the print, or where the print wants memory, nothing more is printed. A deck in which a write to the punch
+/// fails, or in which the punch wants memory, is broken off, and ends the job. Want of memory may end a job at any time.
 ///
 /// It doesn't give up: a job whose run meets no evidence that a number is too large has one run, and gets the status, the
 /// whole listing and all the cards of this run, unless a read, a write to the print or one to the punch fails, or memory is
@@ -42,7 +162,8 @@ pub fn run_job<S: Source, P: Sink, U: Sink>(
     // OPTIMAL is a feasible point that no feasible point betters, with prices that prove it; a verdict OPTIMAL has the
     // objective of such a point; a verdict of infeasibility prints a crossed variable or a ray, and one of unboundedness a
     // feasible point with a direction, and these prove it. So it is wherever the words, or the source, tell the job.
-    ensures headline { (asked : Job) → IsAsked (length words.now) (S.left job.old) asked →
+    ensures headline { (asked : Job) →
+        IsAsked (requests.asked (map string_bytes words.now)) (S.left job.old) asked →
         IsTrueAnswer stage asked
         (record {
           read = Rose (S.faults job.old) (S.faults job.new);
@@ -57,7 +178,8 @@ pub fn run_job<S: Source, P: Sink, U: Sink>(
     // Completeness. Where no evidence of an overflow holds at any moment of the run of the job's bytes, this run is the only
     // one; the status is that of its end, the print gains its whole listing and the punch all its cards; unless a read has
     // failed and the status is 24, or the print and it is 25, or the punch and it is 26, or it is 28, want of memory.
-    ensures complete { (asked : Job) → IsAsked (length words.now) (S.left job.old) asked →
+    ensures complete { (asked : Job) →
+        IsAsked (requests.asked (map string_bytes words.now)) (S.left job.old) asked →
         IsComplete stage asked
         (record {
           read = Rose (S.faults job.old) (S.faults job.new);
@@ -69,24 +191,41 @@ pub fn run_job<S: Source, P: Sink, U: Sink>(
         (Appends (P.written print.old) (P.written print.new))
         (Appends (U.written punch.old) (U.written punch.new)) }
 
+    // What stands, by the status. With 0, 1, 2, 8, 10, 12, 13, 16, 17 and 20 the run of the job has this end; the whole
+    // listing of the run stands, and all cards that it has punched; 8 and 13 leave their line alone, and so do 4 and 24. After
+    // 26 and 28 the reports so far stand with this line, and a front of the cards; and after 25, and where the print wanted
+    // memory, a front of a listing that the job may have, and a front of its cards.
+    ensures stands { (asked : Job) →
+        IsAsked (requests.asked (map string_bytes words.now)) (S.left job.old) asked →
+        StandsAfter stage asked
+        (record {
+          read = Rose (S.faults job.old) (S.faults job.new);
+          print = Rose (P.faults print.old) (P.faults print.new);
+          punch = Rose (U.faults punch.old) (U.faults punch.new);
+          memory = Rose (P.refusals print.old) (P.refusals print.new);
+        })
+        (Appends (P.written print.old) (P.written print.new))
+        (Appends (U.written punch.old) (U.written punch.new))
+        (code_of result) }
+
     // Why, also where the devices don't tell their bytes.
-    ensures cause { HasCause (length words.now)
+    ensures cause { HasCause (requests.asked (map string_bytes words.now))
         (Rose (S.faults job.old) (S.faults job.new))
         (ReadsJob (S.left job.old) (S.left job.new))
         (Rose (P.faults print.old) (P.faults print.new))
+        (Rose (U.faults punch.old) (U.faults punch.new))
         (AppendsFront (P.written print.old) (P.written print.new))
         result }
 
-    // How far the job is read, and what stays the same.
+    // How far the job is read, and what stays the same. Nothing is punched but in the run of the job's program.
     ensures no_further { ReadsFront (S.left job.old) (S.left job.new) }
-    ensures unread { 0 < length words.now → job.new ≡ job.old }
-    ensures punch { punch.new ≡ punch.old }
+    ensures unread { requests.asked (map string_bytes words.now) ≢ Some Request.Read →
+        job.new ≡ job.old }
+    ensures punch { IsPunched (requests.asked (map string_bytes words.now)) (S.left job.old)
+        (ReadsJob (S.left job.old) (S.left job.new)) (punch.new ≡ punch.old) result }
 {
-    if !words.is_empty() {
-        return end_job(print, Stop::Words);
-    }
-    match prepare(alloc, job) {
-        Ok(prepared) => run_program(alloc, &prepared.program, &prepared.cards, print, punch),
-        Err(stop) => end_job(print, stop),
+    match request_of(alloc, words) {
+        Ok(request) => run_request(alloc, request, job, print, punch),
+        Err(stop) => end_job(print, Stop::from(stop)),
     }
 }

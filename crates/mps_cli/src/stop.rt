@@ -5,6 +5,7 @@ ghost use Rattle.report_text.specs.Shown.{IsEnding, ending_shown};
 
 use card_definitions::CardFault;
 use card_reader::ReadStop;
+use command_line::WordsStop;
 use control_compiler::{CompileStop, ControlFault};
 use control_run::Status;
 use report_text::Ending;
@@ -22,6 +23,19 @@ pub enum Stop {
     Control(ControlFault),
     /// There is no memory.
     Memory,
+}
+
+impl From<WordsStop> for Stop {
+    ghost use Rattle.mps_cli.specs.Stops.{stop_of_words};
+
+    ghost from_gives = { λ stop given. given ≡ stop_of_words stop };
+
+    fn from(stop: WordsStop) -> Stop {
+        match stop {
+            WordsStop::Refused => Stop::Words,
+            WordsStop::NoMemory => Stop::Memory,
+        }
+    }
 }
 
 impl From<ReadStop> for Stop {

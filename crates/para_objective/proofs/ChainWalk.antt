@@ -1,11 +1,10 @@
 -- From interval to interval.
-use Rattle.std.proofs.Common.{◌≡◌, ◌≢◌, ℕ, zero, suc, ◌+◌, ◌-◌, ◌<◌, ◌≤◌, ◌⊎◌, inl, inr, List, [], ◌∷◌, ◌++◌, map, length, true, false, None, refl, sym, ap, subst, ◌∙◌, arith}
-use Rattle.std.specs.Prelude.{Option}
+use Rattle.std.proofs.Common.{◌≡◌, ℕ, ◌+◌, ◌-◌, ◌<◌, ◌≤◌, ◌⊎◌, inl, inr, List, [], ◌∷◌, ◌++◌, map, length, false, None, refl, sym, ap, subst, ◌∙◌, arith}
 use Rattle.std.proofs.lemmas.List.{append-nil, length-append, map-append}
 use Rattle.exact_values.specs.Rational.{ℚ, ◌≤ℚ◌, ◌<ℚ◌}
 use Rattle.exact_values.specs.Tests.{eq_ℚ}
 use Rattle.exact_values.proofs.Order.{le_refl, le_trans, le_of_lt, lt_or_le, lt_irrefl, lt_from_le}
-use Rattle.exact_values.proofs.Tests_laws.{same_from_test, apart_from_eq_fails}
+use Rattle.exact_values.proofs.Tests_laws.{apart_from_eq_fails}
 use Rattle.lp_definitions.specs.LinearProgram.{LinearProgram, IsRow, HasNoLimits, IsLinearProgram}
 use Rattle.lp_definitions.specs.Basis.{Basics, basics_of, IsOptimalBasis}
 use Rattle.lp_definitions.specs.Waypoints.{KeepsWaypoints}
@@ -18,7 +17,7 @@ use Rattle.lp_model.specs.declared.reports.ParaEnd.TheVariants as end
 use Rattle.lp_model.specs.declared.reports.ParaPart.{ParaPart}
 use Rattle.path_definitions.specs.Path.{last_of}
 use Rattle.path_laws.specs.Laws.{IsNonsingularBasis}
-use Rattle.postoptimal_definitions.specs.Chain.{Part, AtBreak, FaceDone, FaceEnds, IsPart, FacesTo, IsChain, at_max, past_break}
+use Rattle.postoptimal_definitions.specs.Chain.{Part, AtBreak, FaceDone, FaceEnds, IsPart, IsChain, at_max, past_break}
 use Rattle.postoptimal_definitions.specs.ObjectiveRun.{objective_family}
 use Rattle.bounded_primal.specs.Calls.{PointRefused}
 use Rattle.bounded_primal.specs.Stops.{primal_stop_of}

@@ -1,19 +1,19 @@
 -- What is done at a break, from what the calls there found.
-use Rattle.std.proofs.Common.{◌≡◌, ◌≢◌, ℕ, Bool, true, false, List, length, cond, refl, sym, ap, ap₂, subst, ◌∙◌, arith}
-use Rattle.std.specs.Prelude.{Option, Some, None, IsSome, IsTrue, ◌&&◌, ◌||◌, option_map, if◌then◌else◌}
+use Rattle.std.proofs.Common.{◌≡◌, ◌≢◌, ℕ, Bool, true, false, List, length, cond, refl, sym, ap, ap₂, subst, ◌∙◌}
+use Rattle.std.specs.Prelude.{Option, Some, None, IsTrue, ◌&&◌, ◌||◌, option_map, if◌then◌else◌}
 use Rattle.exact_values.specs.Rational.{ℚ, zero_ℚ}
 use Rattle.exact_values.specs.Tests.{lt_ℚ}
 use Rattle.exact_values.proofs.Order.{le_of_lt, lt_not_le}
 use Rattle.lp_definitions.specs.LinearProgram.{LinearProgram, Vector, size, value_at, IsRow, IsVariable, HasNoLimits, IsLinearProgram, for_min}
 use Rattle.lp_definitions.specs.Solutions.{IsFeasible}
-use Rattle.lp_definitions.specs.Basis.{is_in, basics_of, IsNonbasic, IsDirectionOf, IsOptimalBasis, IsPointOf, Tableau, IsTableau, objective_rate}
+use Rattle.lp_definitions.specs.Basis.{basics_of, IsNonbasic, IsDirectionOf, IsOptimalBasis, IsPointOf, Tableau, IsTableau, objective_rate}
 use Rattle.lp_definitions.specs.declared.Status.{Status}
 use Rattle.lp_definitions.specs.declared.Status.TheVariants.{Ul, Ll}
 use Rattle.lp_laws.proofs.Uniqueness.{one_direction}
 use Rattle.lp_model.specs.RatesCalls.{IsRowOf}
 use Rattle.lp_model.specs.declared.reports.ParaEnd.{ParaEnd}
 use Rattle.path_definitions.specs.Moves.{may_rise, may_fall, lowers, goes_up, signed, stopper}
-use Rattle.path_definitions.specs.Path.{Move, after, listed, speeds, stopped_by}
+use Rattle.path_definitions.specs.Path.{after, speeds, stopped_by}
 use Rattle.path_laws.specs.Laws.{IsNonsingularBasis}
 use Rattle.path_laws.proofs.Searches.{found_passes}
 use Rattle.path_laws.proofs.Stoppers.{stopper_some}

@@ -1,5 +1,5 @@
 -- From face step to face step, and to the next interval.
-use Rattle.std.proofs.Common.{◌≡◌, ℕ, ◌+◌, ◌-◌, ◌<◌, ◌≤◌, List, [], ◌∷◌, ◌++◌, length, refl, sym, ap, subst, ◌∙◌, arith}
+use Rattle.std.proofs.Common.{◌≡◌, ℕ, ◌+◌, ◌-◌, ◌<◌, ◌≤◌, List, [], ◌∷◌, ◌++◌, length, refl, sym, subst, arith}
 use Rattle.std.specs.Prelude.{Some, None, Result, Ok, Err, OnOk}
 use Rattle.std.proofs.lemmas.List.{length-append}
 use Rattle.exact_values.specs.Rational.{ℚ}
@@ -11,11 +11,11 @@ use Rattle.lp_laws.proofs.WaypointLaws.{keeps_then}
 use Rattle.lp_model.specs.RatesCalls.{IfOverflow}
 use Rattle.lp_model.specs.declared.Stop.{Stop}
 use Rattle.lp_model.specs.declared.Stop.TheVariants as stop
-use Rattle.path_definitions.specs.Path.{Move, after, last_of}
+use Rattle.path_definitions.specs.Path.{Move, after}
 use Rattle.postoptimal_definitions.specs.Chain.{FaceMoves, IsFaceStep, AtBreak}
 use Rattle.evidence_definitions.specs.Statements.{EntersAt}
 use Rattle.bounded_primal.specs.Calls.{PointRefused}
-use Rattle.bounded_primal.specs.Moves.{move_by, StepRefused}
+use Rattle.bounded_primal.specs.Moves.{StepRefused}
 use Rattle.bounded_primal.specs.Stops.{primal_stop_of}
 use Rattle.bounded_primal.specs.Turns.{RunStops, by_direction, by_stopper}
 use Rattle.bounded_primal.specs.declared.moves.PrimalStop.{PrimalStop}

@@ -4,8 +4,8 @@ use Rattle.std.specs.Prelude.{slice_index_or}
 use Rattle.std.proofs.lemmas.List.{length-replicate}
 use Rattle.exact_values.specs.Rational.{ℚ, zero_ℚ, ◌+ℚ◌, ◌*ℚ◌}
 use Rattle.exact_values.proofs.Ring.{by_ring2, by_ring1, ◌⊕◌, ◌⊗◌, ◌≐◌, number}
-use Rattle.lp_definitions.specs.LinearProgram.{LinearProgram, Vector, size, value_at, IsRow, IsVariable, IsLinearProgram}
-use Rattle.lp_definitions.specs.Basis.{basics_of, is_in, ArePricesOf, IsPointOf, price_at, objective_rate}
+use Rattle.lp_definitions.specs.LinearProgram.{LinearProgram, size, value_at, IsRow, IsVariable, IsLinearProgram}
+use Rattle.lp_definitions.specs.Basis.{basics_of, is_in, ArePricesOf, IsPointOf, objective_rate}
 use Rattle.lp_definitions.specs.declared.Status.{Status}
 use Rattle.lp_model.specs.RatesCalls.{IsRowOf}
 use Rattle.path_laws.specs.Laws.{IsNonsingularBasis}

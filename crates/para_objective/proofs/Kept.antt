@@ -1,12 +1,12 @@
 -- A face step keeps the basis optimal at its break.
-use Rattle.std.proofs.Common.{◌≡◌, ◌≢◌, ℕ, ◌-◌, ◌⊎◌, inl, inr, Bool, true, false, List, refl, sym, ap, ap₂, subst, ◌∙◌, pos, arith}
+use Rattle.std.proofs.Common.{◌≡◌, ◌≢◌, ℕ, ◌-◌, ◌⊎◌, inl, inr, Bool, true, false, List, refl, sym, ap, ap₂, subst, ◌∙◌, pos}
 use Rattle.std.specs.Prelude.{Option, Some, None, ◌&&◌, ◌||◌, not, option_map, if◌then◌else◌, eqb}
 use Rattle.std.proofs.lemmas.Bool.Decides.{eqb_tells}
 use Rattle.std.proofs.lemmas.List.{set-set}
 use Rattle.exact_values.specs.Rational.{ℚ, zero_ℚ, one_ℚ, ◌+ℚ◌, ◌-ℚ◌, ◌*ℚ◌, ◌/ℚ◌}
 use Rattle.exact_values.specs.Tests.{lt_ℚ}
 use Rattle.exact_values.proofs.Order.{le_refl}
-use Rattle.exact_values.proofs.Ring.{same_by_one, by_ring4, by_ring5, ◌⊕◌, ◌⊖◌, ◌⊗◌, ◌≐◌, number, opposite}
+use Rattle.exact_values.proofs.Ring.{same_by_one, by_ring4, by_ring5, ◌⊕◌, ◌⊖◌, ◌⊗◌, ◌≐◌, number}
 use Rattle.exact_values.proofs.Tests_laws.{lt_fails_from_le}
 use Rattle.lp_definitions.specs.LinearProgram.{LinearProgram, IsRow, IsVariable, IsLinearProgram, lower_of, upper_of, for_min}
 use Rattle.lp_definitions.specs.Basis.{is_in, basics_of, status_of, with_status, is_basic, exchanged, IsBasic, IsNonbasic, AreRates, IsOptimalBasis, Tableau, IsTableau, objective_rate}
@@ -19,7 +19,7 @@ use Rattle.lp_laws.proofs.Values.{clash, sub-zero}
 use Rattle.lp_laws.proofs.Exchange.{AreRates-exchanged, was_nonbasic}
 use Rattle.lp_laws.proofs.Statuses.{basics_of-replaced, basics_of-flipped, changed_other, status_of_nonbasic}
 use Rattle.path_definitions.specs.Moves.{rises_from, falls_from, is_fixed, lowers, signed, room, reached, stopper}
-use Rattle.path_definitions.specs.Path.{after, speeds, stopped_by, worth_rate}
+use Rattle.path_definitions.specs.Path.{after, speeds, stopped_by}
 use Rattle.path_laws.specs.Laws.{IsNonsingularBasis}
 use Rattle.path_laws.proofs.Stoppers.{stopper_some, reaches_limit}
 use Rattle.postoptimal_definitions.specs.ObjectiveRun.{objective_family}

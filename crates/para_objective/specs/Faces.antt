@@ -7,7 +7,7 @@
 --     AnyRun                       each run that stood at s stands at now
 --     FacesFound result            what the face steps at a break come to
 --     FacesFollow                  where the waypoints lie then
-use Rattle.std.specs.Prelude.{◌≡◌, ◌≢◌, ℕ, ◌+◌, ◌-◌, ◌<◌, ◌≤◌, Bool, List, length, Option, Some, Result, Ok, Err}
+use Rattle.std.specs.Prelude.{◌≡◌, ◌≢◌, ℕ, ◌+◌, ◌-◌, ◌<◌, ◌≤◌, Bool, List, length, Some, Result, Ok, Err}
 use Rattle.exact_values.specs.Rational.{ℚ, zero_ℚ}
 use Rattle.lp_definitions.specs.LinearProgram.{LinearProgram, Vector, size, value_at, IsVariable, for_min}
 use Rattle.lp_definitions.specs.Basis.{Basics, basics_of, IsNonbasic, IsDirectionOf, ArePricesOf, IsOptimalBasis, IsPointOf}

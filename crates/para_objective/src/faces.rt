@@ -93,7 +93,8 @@ fn stopper_of<R: Rates>(
     ensures waypoints { KeepsWaypoints lp.now.matrix (basics_of basis.now) (R.waypoints rates.old)
         (basics_of basis.now) (R.waypoints rates.new) }
     ensures overflow { IfErr result (λ stop. IfOverflow stop
-        (RunStops lp.now basis.now (value_at point.now) q up (R.waypoints rates.old) (R.waypoints rates.new))) }
+        (RunStops lp.now basis.now (value_at point.now) q up
+        (R.waypoints rates.old) (R.waypoints rates.new))) }
 {
     read_column(lp, basis, rates, q, direction)?;
     match stopper(lp, basis, point, direction, q, up) {
@@ -145,7 +146,8 @@ pub fn face_turn<R: Rates>(
     requires free { HasNoLimits lp.now run.now.row }
     requires point { IsPointOf lp.now basis.now (value_at point.now) }
     requires prices { ArePricesOf lp.now basis.now (value_at prices.now) }
-    requires change { IsRowOf lp.now.matrix (basics_of basis.now) run.now.row (value_at change.now) }
+    requires change { IsRowOf lp.now.matrix (basics_of basis.now) run.now.row
+        (value_at change.now) }
     requires point_places { length point.now ≡ size lp.now.matrix }
     requires price_places { length prices.now ≡ size lp.now.matrix }
     requires change_places { length change.now ≡ size lp.now.matrix }
@@ -153,7 +155,8 @@ pub fn face_turn<R: Rates>(
     requires optimal { IsOptimalBasis (family lp.now run.now theta) basis.now }
     requires within { steps ≤ run.now.limit }
     ensures turn { FaceFound lp.now run.now result theta basis.now steps
-        (value_at point.now) (value_at direction.new) (R.waypoints rates.old) (R.waypoints rates.new) }
+        (value_at point.now) (value_at direction.new)
+        (R.waypoints rates.old) (R.waypoints rates.new) }
     ensures rates { HasRates (R.matrix rates.new) (R.basics rates.new) lp.now basis.now }
     ensures waypoints { KeepsWaypoints lp.now.matrix (basics_of basis.now) (R.waypoints rates.old)
         (basics_of basis.now) (R.waypoints rates.new) }
@@ -196,7 +199,8 @@ pub fn faces<R: Rates>(
     requires free { HasNoLimits lp.now run.now.row }
     requires point { IsPointOf lp.now basis.old (value_at point.old) }
     requires prices { ArePricesOf lp.now basis.old (value_at prices.old) }
-    requires change { IsRowOf lp.now.matrix (basics_of basis.old) run.now.row (value_at change.old) }
+    requires change { IsRowOf lp.now.matrix (basics_of basis.old) run.now.row
+        (value_at change.old) }
     requires point_places { length point.old ≡ size lp.now.matrix }
     requires price_places { length prices.old ≡ size lp.now.matrix }
     requires change_places { length change.old ≡ size lp.now.matrix }

@@ -83,7 +83,8 @@ pub fn part(
     requires basis { IsNonsingularBasis lp.now basis.now }
     requires point { IsPointOf lp.now basis.now (value_at point.now) }
     requires prices { ArePricesOf lp.now basis.now (value_at prices.now) }
-    requires change { IsRowOf lp.now.matrix (basics_of basis.now) run.now.row (value_at change.now) }
+    requires change { IsRowOf lp.now.matrix (basics_of basis.now) run.now.row
+        (value_at change.now) }
     requires point_places { length point.now ≡ size lp.now.matrix }
     requires price_places { length prices.now ≡ size lp.now.matrix }
     requires change_places { length change.now ≡ size lp.now.matrix }

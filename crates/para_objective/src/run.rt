@@ -7,6 +7,7 @@ ghost use Rattle.lp_definitions.specs.LinearProgram.{size, value_at, IsRow, HasN
 ghost use Rattle.lp_definitions.specs.Basis.{IsOptimalBasis, IsPointOf};
 ghost use Rattle.bounded_primal.specs.Calls.{HasRates, CallEnds, WaypointsFollow};
 ghost use Rattle.bounded_primal.specs.Outcomes.{IsTrueOutcome};
+ghost use Rattle.path_definitions.specs.Counts.{last_count};
 ghost use Rattle.para_objective.specs.Faces.{family};
 ghost use Rattle.para_objective.specs.Runs.{ChainEnds, ChainStops, ChainFollows, ObjectiveEnds, ObjectiveStops, ObjectiveFollows, IsTrueObjective};
 
@@ -184,6 +185,14 @@ fn open<R: Rates>(
     primal(alloc, &program, basis, rates, run.limit)
 }
 
+/// The limit of steps, which is a count of 32 bits.
+fn limit_of(run: &ParaObj) -> u32
+    ensures small { run.now.limit ≤ last_count }
+    ensures limit { result ≡ run.now.limit }
+{
+    run.limit
+}
+
 /// A parametric run of the objective: theta times the row `run.row` is added to it, while theta goes from `run.from` to `run.to`. The
 /// opening path goes from the basis to the end of the path of the linear program at the first value. Where that is optimal, the
 /// intervals follow, each as far as its basis stays optimal (Gass and Saaty, The Computational Algorithm for the Parametric Objective
@@ -212,6 +221,7 @@ pub fn para_obj<R: Rates>(
     ensures truth { IfOk result (IsTrueObjective lp.now run.now) }
 {
     let _size = lp.number_of_variables();
+    let _limit = limit_of(run);
     let outcome = open(alloc, lp, basis, rates, run)?;
     match outcome {
         Outcome::Optimal {

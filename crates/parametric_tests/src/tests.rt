@@ -181,7 +181,19 @@ fn shows(part: &ParaPart, value: [i32; 6], price: [i32; 6], price_rate: [i32; 6]
         && are(part.price_rate.values(), price_rate)
 }
 
-fn column(cost: i32, change: i32, entry: i32, low: Option<i32>, high: Option<i32>) -> Column {
+/// Whether the run ends past `past` without a bound, by this point and this direction.
+fn ends_past(end: &ParaEnd, past: i32, point: [i32; 6], direction: [i32; 6]) -> bool {
+    match end {
+        ParaEnd::Unbounded {
+            past: at,
+            point: shown,
+            direction: way,
+        } => *at == whole(past) && are(shown.values(), point) && are(way.values(), direction),
+        _ => false,
+    }
+}
+
+fn column_of(cost: i32, change: i32, entry: i32, low: Option<i32>, high: Option<i32>) -> Column {
     Column {
         cost,
         change,
@@ -195,8 +207,8 @@ fn column(cost: i32, change: i32, entry: i32, low: Option<i32>, high: Option<i32
 // this is best up to theta = 1; past it x = 3 and y = 1.
 #[test]
 fn two_intervals(rt: HostRuntime) -> Result<(), Fail> {
-    let x = column(-1, -1, 1, Some(0), Some(3));
-    let y = column(-2, 0, 1, Some(0), None);
+    let x = column_of(-1, -1, 1, Some(0), Some(3));
+    let y = column_of(-2, 0, 1, Some(0), None);
     let lp = program(rt.alloc(), Sense::Min, None, Some(4), x, y, still())?;
     let Some(run) = chain_of(rt.alloc(), &lp, 5, 10)? else {
         assert!(rt; false);
@@ -244,8 +256,8 @@ fn two_intervals(rt: HostRuntime) -> Result<(), Fail> {
 // The same run to theta = 1 has no break: its only interval ends at the last value.
 #[test]
 fn break_at_the_last_value(rt: HostRuntime) -> Result<(), Fail> {
-    let x = column(-1, -1, 1, Some(0), Some(3));
-    let y = column(-2, 0, 1, Some(0), None);
+    let x = column_of(-1, -1, 1, Some(0), Some(3));
+    let y = column_of(-2, 0, 1, Some(0), None);
     let lp = program(rt.alloc(), Sense::Min, None, Some(4), x, y, still())?;
     let Some(run) = chain_of(rt.alloc(), &lp, 1, 10)? else {
         assert!(rt; false);
@@ -259,8 +271,8 @@ fn break_at_the_last_value(rt: HostRuntime) -> Result<(), Fail> {
 // The opening path takes three steps: x rises to 3, y enters for r3, x falls to 0. The break at 1 takes the fourth: x rises to 3.
 #[test]
 fn limit_of_steps(rt: HostRuntime) -> Result<(), Fail> {
-    let x = column(-1, -1, 1, Some(0), Some(3));
-    let y = column(-2, 0, 1, Some(0), None);
+    let x = column_of(-1, -1, 1, Some(0), Some(3));
+    let y = column_of(-2, 0, 1, Some(0), None);
     let lp = program(rt.alloc(), Sense::Min, None, Some(4), x, y, still())?;
     assert!(rt; matches!(ran(rt.alloc(), &lp, 5, 2)?, Some(Err(PrimalStop::Limit))));
     assert!(rt; matches!(ran(rt.alloc(), &lp, 5, 3)?, Some(Err(PrimalStop::Limit))));
@@ -272,7 +284,7 @@ fn limit_of_steps(rt: HostRuntime) -> Result<(), Fail> {
 // interval is a point. There x falls until r3 stops it, and r3 has the price theta.
 #[test]
 fn free_column(rt: HostRuntime) -> Result<(), Fail> {
-    let x = column(0, 1, 1, None, None);
+    let x = column_of(0, 1, 1, None, None);
     let lp = program(rt.alloc(), Sense::Min, Some(-3), None, x, still(), still())?;
     let Some(run) = chain_of(rt.alloc(), &lp, 5, 10)? else {
         assert!(rt; false);
@@ -313,9 +325,9 @@ fn free_column(rt: HostRuntime) -> Result<(), Fail> {
 // 1, y to 2, and z until r3 is 5. Then the objective is (1 - theta) r3.
 #[test]
 fn three_movers(rt: HostRuntime) -> Result<(), Fail> {
-    let x = column(1, -1, 1, Some(0), Some(1));
-    let y = column(1, -1, 1, Some(0), Some(2));
-    let z = column(1, -1, 1, Some(0), Some(3));
+    let x = column_of(1, -1, 1, Some(0), Some(1));
+    let y = column_of(1, -1, 1, Some(0), Some(2));
+    let z = column_of(1, -1, 1, Some(0), Some(3));
     let lp = program(rt.alloc(), Sense::Min, None, Some(5), x, y, z)?;
     let Some(run) = chain_of(rt.alloc(), &lp, 4, 3)? else {
         assert!(rt; false);
@@ -348,7 +360,7 @@ fn three_movers(rt: HostRuntime) -> Result<(), Fail> {
 // The greatest (theta - 1) x, where 0 <= x <= 3: x stands at 0 up to theta = 1, and at 3 past it.
 #[test]
 fn greatest_objective(rt: HostRuntime) -> Result<(), Fail> {
-    let x = column(-1, 1, 0, Some(0), Some(3));
+    let x = column_of(-1, 1, 0, Some(0), Some(3));
     let lp = program(rt.alloc(), Sense::Max, None, None, x, still(), still())?;
     let Some(run) = chain_of(rt.alloc(), &lp, 2, 10)? else {
         assert!(rt; false);
@@ -380,32 +392,21 @@ fn greatest_objective(rt: HostRuntime) -> Result<(), Fail> {
 // The least (1 - theta) x, where x >= 0: past theta = 1 there is no bound, as x rises from 0.
 #[test]
 fn without_bound(rt: HostRuntime) -> Result<(), Fail> {
-    let x = column(1, -1, 0, Some(0), None);
+    let x = column_of(1, -1, 0, Some(0), None);
     let lp = program(rt.alloc(), Sense::Min, None, None, x, still(), still())?;
     let Some(run) = chain_of(rt.alloc(), &lp, 5, 10)? else {
         assert!(rt; false);
         return Ok(());
     };
     assert_eq!(rt; run.parts.items().len(), 1);
-    let ParaEnd::Unbounded {
-        past,
-        point,
-        direction,
-    } = run.end
-    else {
-        assert!(rt; false);
-        return Ok(());
-    };
-    assert_eq!(rt; past, whole(1));
-    assert!(rt; are(point.values(), [0, 0, 0, 0, 0, 0]));
-    assert!(rt; are(direction.values(), [1, -1, 0, 1, 0, 0]));
+    assert!(rt; ends_past(&run.end, 1, [0, 0, 0, 0, 0, 0], [1, -1, 0, 1, 0, 0]));
     Ok(())
 }
 
 // The least -x, where x >= 0, has no bound at theta = 0 already.
 #[test]
 fn opening_without_bound(rt: HostRuntime) -> Result<(), Fail> {
-    let x = column(-1, 0, 0, Some(0), None);
+    let x = column_of(-1, 0, 0, Some(0), None);
     let lp = program(rt.alloc(), Sense::Min, None, None, x, still(), still())?;
     let report = ran(rt.alloc(), &lp, 5, 10)?;
     assert!(rt;

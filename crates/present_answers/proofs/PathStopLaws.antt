@@ -1,5 +1,7 @@
 -- Where a call stops, PRIMAL stops.
-use Rattle.std.proofs.Common.{◌≡◌, ℕ, ◌-◌, List, [], ◌∷◌, ◌++◌, None, length, refl, sym, subst, arith}
+use Rattle.std.proofs.Common.{◌≡◌, ℕ, ◌+◌, ◌-◌, ◌≤◌, List, [], ◌∷◌, ◌++◌, Some, None, length, refl, sym, subst, arith}
+use Rattle.std.specs.Prelude.{Option, IsSome, IfSome}
+use Rattle.lp_definitions.specs.LinearProgram.{LinearProgram}
 use Rattle.lp_definitions.specs.Basis.{Basics, basics_of}
 use Rattle.lp_definitions.specs.Waypoints.{waypoint}
 use Rattle.lp_definitions.specs.declared.Evidence.{Evidence}
@@ -9,11 +11,11 @@ use Rattle.evidence_definitions.specs.Evidence.{EvidenceHolds}
 use Rattle.question_definitions.specs.Answers.{Basis}
 use Rattle.answer_definitions.specs.Evidence.{last_basis}
 use Rattle.report_text.specs.declared.sheet.Sheet.{Sheet}
-use Rattle.bounded_primal.specs.Calls.{StopsOnPath, job_of}
+use Rattle.bounded_primal.specs.Calls.{PathGoesOn, StopsOnPath, job_of}
 use Rattle.bounded_primal.specs.Stops.{PrimalStops}
 use Rattle.bounded_primal.specs.declared.moves.PrimalStop.{PrimalStop}
 use Rattle.bounded_primal.specs.declared.moves.PrimalStop.TheVariants.{Limit, Overflow, NoMemory}
-use Rattle.present_answers.specs.Reports.{OverflowsThere, PathStops}
+use Rattle.present_answers.specs.Reports.{most_steps, OverflowsThere, PassesLimit, PathStops}
 
 -- the last of a list that ends with s
 last_after : (first : Basis) (earlier : List Basis) (s : Basis) → last_of first (earlier ++ s ∷ []) ≡ s
@@ -29,8 +31,16 @@ then_more : (earlier : List Basis) (s : Basis) (bases : List Basis) → (earlier
 then_more [] s bases = refl
 then_more (first ∷ earlier) s bases = λ i. first ∷ then_more earlier s bases i
 
-module _ (sheet : Sheet) (no_change : sheet.lp.now.change ≡ None) (s now : Basis) (limit : ℕ) (before after : List Basics) where
-  overflows : (e : Evidence) → StopsOnPath sheet.lp.now s now limit before after e → OverflowsThere sheet s now limit before after e
+-- without a limit any number of steps is left
+left_is : (p : LinearProgram) (limit : Option ℕ) (steps : ℕ) → steps ≤ most_steps p limit → IfSome limit (λ most. steps + (most_steps p limit - steps) ≡ most)
+left_is p None steps within = tt
+left_is p (Some most) steps within = omega (arith, within)
+
+module _ (sheet : Sheet) (no_change : sheet.lp.now.change ≡ None) (s now : Basis) (limit : Option ℕ) (before after : List Basics) where
+  abbrev most : ℕ
+  most = most_steps sheet.lp.now limit
+
+  overflows : (e : Evidence) → StopsOnPath sheet.lp.now s now most before after e → OverflowsThere sheet s now limit before after e
   overflows e stop = record {
     bases = stop.bases;
     goes = (stop.is_path, stop.reaches);
@@ -38,21 +48,25 @@ module _ (sheet : Sheet) (no_change : sheet.lp.now.change ≡ None) (s now : Bas
     overflows = λ earlier lie. record {
       steps = stop.bases;
       is_path = subst (λ (b : Basis). IsPath sheet.lp.now b stop.bases) (sym (last_is earlier s)) stop.is_path;
-      left = limit - length stop.bases;
-      is_left = omega (arith, stop.within);
+      left = most - length stop.bases;
+      is_left = left_is sheet.lp.now limit (length stop.bases) stop.within;
       is_evidence = record {
         basis = now;
         way = waypoint (basics_of now) after e.way;
         holds =
-            subst (λ (bs : List Basis). EvidenceHolds (Primal sheet.lp.now) None (limit - length stop.bases) bs [] now (waypoint (basics_of now) after e.way) e) (sym (then_more earlier s stop.bases))
-            (subst (λ change. EvidenceHolds (job_of sheet.lp.now change) None (limit - length stop.bases) (earlier ++ s ∷ stop.bases) [] now (waypoint (basics_of now) after e.way) e) no_change
+            subst (λ (bs : List Basis). EvidenceHolds (Primal sheet.lp.now) None (most - length stop.bases) bs [] now (waypoint (basics_of now) after e.way) e) (sym (then_more earlier s stop.bases))
+            (subst (λ change. EvidenceHolds (job_of sheet.lp.now change) None (most - length stop.bases) (earlier ++ s ∷ stop.bases) [] now (waypoint (basics_of now) after e.way) e) no_change
             (stop.shows earlier lie));
         is_place = refl;
       };
     };
   }
 
-  pub stops : (stop : PrimalStop) → PrimalStops sheet.lp.now s now limit before after stop → PathStops sheet s now limit before after stop
-  stops Limit h = h
-  stops (Overflow e) h = overflows e h
-  stops NoMemory h = (h.0, h.1)
+  pub stops : (stop : PrimalStop) → PrimalStops sheet.lp.now s now most before after stop → (stop ≡ Limit → IsSome limit) → PathStops sheet s now limit before after stop
+  stops Limit h some = passes limit h (some refl)
+    where
+      passes : (limit : Option ℕ) → PathGoesOn sheet.lp.now s now (most_steps sheet.lp.now limit) → IsSome limit → PassesLimit sheet s now limit
+      passes (Some steps) h some = h
+      passes None h some = absurd (cc some)
+  stops (Overflow e) h some = overflows e h
+  stops NoMemory h some = (h.0, h.1)

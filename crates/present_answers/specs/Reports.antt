@@ -1,9 +1,10 @@
 -- What the path from a basis answers, in the words of the definitions of runs.
 --     sheet_shown sheet                    the problem and the linear program
+--     most_steps p limit                   how many steps a path may take
 --     IsCheckedSo p outcome verdict        the verdict is that of the outcome's check
 --     IsReached sheet s now limit report   the path from s ends at now, and the report tells its end and the check of it
 --     PathStops sheet s now limit ..       the path from s has come to now, where this stops it
-use Rattle.std.specs.Prelude.{◌≡◌, ℕ, ◌≤◌, List, [], ◌∷◌, ◌++◌, length, Some}
+use Rattle.std.specs.Prelude.{◌≡◌, ℕ, ◌≤◌, List, [], ◌∷◌, ◌++◌, length, Option, None, Some, unwrap_or}
 use Rattle.lp_definitions.specs.LinearProgram.{LinearProgram, value_at}
 use Rattle.lp_definitions.specs.Basis.{Basics, basics_of}
 use Rattle.lp_definitions.specs.Waypoints.{waypoint}
@@ -13,6 +14,7 @@ use Rattle.lp_model.specs.declared.reports.Outcome.TheVariants.{Optimal, Crossed
 use Rattle.check_definitions.specs.declared.Verdict.{Verdict}
 use Rattle.check_definitions.specs.Checks.{optimal_check, crossed_check, infeasible_check, unbounded_check}
 use Rattle.path_definitions.specs.Path.{last_of}
+use Rattle.termination_laws.specs.Laws.{lists_of}
 use Rattle.question_definitions.specs.Answers as answers
 use Rattle.question_definitions.specs.Answers.{Basis}
 use Rattle.answer_definitions.specs.Verdicts.{ReachesVerdict}
@@ -25,6 +27,10 @@ use Rattle.bounded_primal.specs.declared.moves.PrimalStop.{PrimalStop}
 use Rattle.bounded_primal.specs.declared.moves.PrimalStop.TheVariants.{Limit, Overflow, NoMemory}
 use Rattle.present_answers.specs.declared.path.PathReport.{PathReport}
 
+-- how many steps a path of p may take: as many as its limit says, and else as many as there are status lists, which none has
+abbrev pub most_steps : LinearProgram → Option ℕ → ℕ
+most_steps p limit = unwrap_or limit (lists_of p)
+
 abbrev pub sheet_shown : Sheet → answers.Sheet
 sheet_shown sheet = record { problem = sheet.problem.now; lp = sheet.lp.now }
 
@@ -36,22 +42,27 @@ IsCheckedSo p (Infeasible steps ray) verdict = verdict ≡ infeasible_check p (v
 IsCheckedSo p (Unbounded steps point direction) verdict = verdict ≡ unbounded_check p (value_at point) (value_at direction)
 
 -- the path goes over these bases, of which the last is now, and its end has the verdict and the check that are told
-pub record IsReached (sheet : Sheet) (s now : Basis) (limit : ℕ) (report : PathReport) : Type 0 where
+pub record IsReached (sheet : Sheet) (s now : Basis) (limit : Option ℕ) (report : PathReport) : Type 0 where
   pub bases : List Basis
   pub leads : last_of s bases ≡ now
   pub reaches : ReachesVerdict (sheet_shown sheet) s limit bases (verdict_shown sheet report.outcome) (check_shown report.refused)
 
 -- The path goes over these bases, of which the last is now. For every list of bases that ends with s, in which the waypoints lay
 -- before the call, the statement may stop with this evidence at now, and at one of the waypoints that are there after the call.
-pub record OverflowsThere (sheet : Sheet) (s now : Basis) (limit : ℕ) (before after : List Basics) (e : Evidence) : Type 0 where
+pub record OverflowsThere (sheet : Sheet) (s now : Basis) (limit : Option ℕ) (before after : List Basics) (e : Evidence) : Type 0 where
   pub bases : List Basis
   pub goes : PathFrom sheet.lp.now s now bases
   pub is_way : e.way ≤ length after
   pub overflows : (earlier : List Basis) → LieIn sheet.lp.now.matrix before (earlier ++ s ∷ []) →
       OverflowsOnPath (sheet_shown sheet) (earlier ++ s ∷ []) limit e (Some (record { basis = now; way = waypoint (basics_of now) after e.way }))
 
--- the limit stops only a path that goes on; want of memory stops it anywhere
-abbrev pub PathStops : Sheet → Basis → Basis → ℕ → List Basics → List Basics → PrimalStop → Type 0
-PathStops sheet s now limit before after Limit = PathGoesOn sheet.lp.now s now limit
+-- a path goes on after as many steps as its limit allows, and now is where it is then
+abbrev pub PassesLimit : Sheet → Basis → Basis → Option ℕ → Type 0
+PassesLimit sheet s now (Some limit) = PathGoesOn sheet.lp.now s now limit
+PassesLimit sheet s now None = ⊥
+
+-- the limit, if there is one, stops only a path that goes on; want of memory stops it anywhere
+abbrev pub PathStops : Sheet → Basis → Basis → Option ℕ → List Basics → List Basics → PrimalStop → Type 0
+PathStops sheet s now limit before after Limit = PassesLimit sheet s now limit
 PathStops sheet s now limit before after (Overflow e) = OverflowsThere sheet s now limit before after e
 PathStops sheet s now limit before after NoMemory = (bases : List Basis) × PathFrom sheet.lp.now s now bases

@@ -1,15 +1,17 @@
 //! The path from the present basis.
 
-ghost use Rattle.std.specs.Prelude.{◌≡◌, None, IfOk, IfErr};
-ghost use Rattle.bounded_primal.specs.Calls.{HasRates, WaypointsFollow};
+ghost use Rattle.std.specs.Prelude.{◌≡◌, None, IsSome, IfOk, IfErr, IsErrOf};
+ghost use Rattle.bounded_primal.specs.Calls.{HasRates, CallEnds, WaypointsFollow};
+ghost use Rattle.bounded_primal.specs.Outcomes.{IsTrueOutcome};
+ghost use Rattle.bounded_primal.specs.Stops.{PrimalStops};
 ghost use Rattle.report_text.specs.Sheets.{IsSheet};
 ghost use Rattle.report_text.specs.Verdicts.{IsOutcome};
-ghost use Rattle.present_answers.specs.Reports.{IsReached, PathStops};
+ghost use Rattle.present_answers.specs.Reports.{most_steps, IsReached, PathStops};
 
 use crate::check::{check_of, refused_of};
-use bounded_primal::{PrimalStop, primal};
+use bounded_primal::{PrimalStop, primal, primal_free};
 use frac128::Refused;
-use lp_model::{Basis, Outcome, Rates};
+use lp_model::{Basis, Lp, Outcome, Rates};
 use report_text::Sheet;
 use std::alloc::Global;
 
@@ -20,14 +22,37 @@ pub struct PathReport {
     pub refused: Option<Refused>,
 }
 
-/// Follows the path from the basis to its end, for at most `limit` steps, and checks what it came to. The basis and the rates are
+/// Follows the path from the basis to its end, for at most `limit` steps if there is a limit.
+fn outcome_from<R: Rates>(
+    alloc: Global,
+    lp: &Lp,
+    basis: &mut Basis,
+    rates: &mut R,
+    limit: Option<u32>,
+) -> Result<Outcome, PrimalStop>
+    requires { HasRates (R.matrix rates.old) (R.basics rates.old) lp.now basis.old }
+    ensures ends { IfOk result (CallEnds lp.now basis.old basis.new (most_steps lp.now limit)) }
+    ensures stops { IfErr result (PrimalStops lp.now basis.old basis.new (most_steps lp.now limit)
+        (R.waypoints rates.old) (R.waypoints rates.new)) }
+    ensures limited { IsErrOf result PrimalStop.Limit → IsSome limit }
+    ensures rates { HasRates (R.matrix rates.new) (R.basics rates.new) lp.now basis.new }
+    ensures waypoints { WaypointsFollow lp.now basis.old basis.new (R.waypoints rates.old) (R.waypoints rates.new) }
+    ensures truth { IfOk result (IsTrueOutcome lp.now) }
+{
+    match limit {
+        Some(limit) => primal(alloc, lp, basis, rates, limit),
+        None => Ok(primal_free(alloc, lp, basis, rates)?),
+    }
+}
+
+/// Follows the path from the basis to its end, for at most `limit` steps if there is a limit, and checks what it came to. The basis and the rates are
 /// those that the path has reached, after a stop too.
 pub fn path_from<R: Rates>(
     alloc: Global,
     sheet: Sheet<'_>,
     basis: &mut Basis,
     rates: &mut R,
-    limit: u32,
+    limit: Option<u32>,
 ) -> Result<PathReport, PrimalStop>
     requires sheet { IsSheet sheet }
     requires no_change { sheet.lp.now.change ≡ None }
@@ -38,7 +63,7 @@ pub fn path_from<R: Rates>(
     ensures rates { HasRates (R.matrix rates.new) (R.basics rates.new) sheet.entry.lp.now basis.new }
     ensures waypoints { WaypointsFollow sheet.entry.lp.now basis.old basis.new (R.waypoints rates.old) (R.waypoints rates.new) }
 {
-    let outcome = primal(alloc, sheet.lp, basis, rates, limit)?;
+    let outcome = outcome_from(alloc, sheet.lp, basis, rates, limit)?;
     let refused = refused_of(check_of(sheet.lp, &outcome));
     Ok(PathReport { outcome, refused })
 }

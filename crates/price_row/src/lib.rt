@@ -47,17 +47,16 @@ impl PriceRow {
     /// Fills `out`, which has a place for each variable, with the rates of the basic `i`: its rate at each nonbasic, and 0 at each
     /// basic. The row is carried backwards through the file; where an operation of it is refused, it is had by the columns carried
     /// forward. It takes no memory.
-    pub fn row(&mut self, file: &EtaFile, lp: &Lp, i: u32, out: &mut [Frac]) -> Result<(), Stop>
+    pub fn row(&mut self, file: &EtaFile, i: u32, out: &mut [Frac]) -> Result<(), Stop>
         requires basic { IsBasic file.now.matrix file.now.basics i }
         requires places { length out.old ≡ size file.now.matrix }
-        requires same_matrix { lp.now.matrix ≡ file.now.matrix }
         requires room { self.old ≡ size file.now.matrix }
         ensures rates { OnOk result (IsRowOf file.now.matrix file.now.basics i (value_at out.new)) }
         ensures overflow { RowOverflow result file.now.matrix file.now.basics (ways_of file.now) (ways_of file.now) }
         ensures never { IfErr result (λ stop. stop ≢ Stop.NoMemory) }
         ensures same { self.new ≡ self.old }
     {
-        match carried_row(file, lp, i, out) {
+        match carried_row(file, i, out) {
             Ok(()) => Ok(()),
             Err(_refused) => row_by_columns(file, i, out, &mut self.room),
         }
@@ -125,9 +124,8 @@ fn carry_to_rows(file: &EtaFile, row: u32, out: &mut [Frac]) -> Result<(), Refus
 }
 
 /// The rate of the row at the variable of a place, from the multipliers of the rows up to it.
-fn rate_at(file: &EtaFile, lp: &Lp, place: u32, row: u32, out: &[Frac]) -> Result<Frac, Refused>
+fn rate_at(file: &EtaFile, place: u32, row: u32, out: &[Frac]) -> Result<Frac, Refused>
     requires within { place < size file.now.matrix }
-    requires same_matrix { lp.now.matrix ≡ file.now.matrix }
     requires basic { IsBasic file.now.matrix file.now.basics row }
     requires places { length out.now ≡ size file.now.matrix }
     requires filled { IsFilledFrom file.now (place + 1) row out.now }
@@ -142,12 +140,11 @@ fn rate_at(file: &EtaFile, lp: &Lp, place: u32, row: u32, out: &[Frac]) -> Resul
         let multiplier = out[place as usize];
         return Ok(multiplier.neg());
     }
-    sum_of_column(lp.column(place + 1 - rows), out)
+    sum_of_column(file.numbers(place + 1 - rows), out)
 }
 
 /// Fills in the rates, the last variable's first, so that the multipliers of the rows stand as long as they are needed.
-fn fill(file: &EtaFile, lp: &Lp, row: u32, out: &mut [Frac]) -> Result<(), Refused>
-    requires same_matrix { lp.now.matrix ≡ file.now.matrix }
+fn fill(file: &EtaFile, row: u32, out: &mut [Frac]) -> Result<(), Refused>
     requires basic { IsBasic file.now.matrix file.now.basics row }
     requires places { length out.old ≡ size file.now.matrix }
     requires known { IsFilledFrom file.now (size file.now.matrix) row out.old }
@@ -156,19 +153,18 @@ fn fill(file: &EtaFile, lp: &Lp, row: u32, out: &mut [Frac]) -> Result<(), Refus
     let size = file.size();
     for back in 0..size {
         let place = size - 1 - back;
-        out[place as usize] = rate_at(file, lp, place, row, out)?;
+        out[place as usize] = rate_at(file, place, row, out)?;
     }
     Ok(())
 }
 
 /// Fills `out` with the rates of the basic `row`, carried backwards through the file.
-fn carried_row(file: &EtaFile, lp: &Lp, row: u32, out: &mut [Frac]) -> Result<(), Refused>
+fn carried_row(file: &EtaFile, row: u32, out: &mut [Frac]) -> Result<(), Refused>
     requires basic { IsBasic file.now.matrix file.now.basics row }
     requires places { length out.old ≡ size file.now.matrix }
-    requires same_matrix { lp.now.matrix ≡ file.now.matrix }
     ensures rates { OnOk result (IsRowOf file.now.matrix file.now.basics row (value_at out.new)) }
 {
     let _size = file.size();
     carry_to_rows(file, row, out)?;
-    fill(file, lp, row, out)
+    fill(file, row, out)
 }

@@ -20,7 +20,7 @@ fn plainly_added(sum: Frac, x: Frac, y: Frac) -> Result<Frac, Refused>
     sum.add(product)
 }
 
-/// The same, where the product or the sum doesn't fit from the product's parts.
+/// The same, from the product's parts where the product or the sum doesn't fit.
 fn added(sum: Frac, x: Frac, y: Frac) -> Result<Frac, Refused>
     ensures value { IfOk result (λ next. next ≡ sum +ℚ x *ℚ y) }
     ensures refused { IfErr result (IsStepRefused sum x y) }
@@ -28,12 +28,9 @@ fn added(sum: Frac, x: Frac, y: Frac) -> Result<Frac, Refused>
     if x.is_zero() {
         return Ok(sum);
     }
-    match plainly_added(sum, x, y) {
-        Ok(next) => Ok(next),
-        Err(refused) => match sum.sub_product(x.neg(), y) {
-            Some(next) => Ok(next),
-            None => Err(refused),
-        },
+    match sum.sub_product(x.neg(), y) {
+        Some(next) => Ok(next),
+        None => plainly_added(sum, x, y),
     }
 }
 

@@ -2,7 +2,7 @@
 --     Sheet                 a problem, which has the names, and the linear program that is selected from it
 --     PathEnd, SweepEnd     where a path or a parametric run ends
 --     Question, Answer      what a statement asks, and what an answer to it is
-use Rattle.std.specs.Prelude.{ℕ, List}
+use Rattle.std.specs.Prelude.{ℕ, List, Option}
 use Rattle.exact_values.specs.Rational.{ℚ}
 use Rattle.lp_definitions.specs.declared.Status.{Status}
 use Rattle.lp_definitions.specs.LinearProgram.{LinearProgram}
@@ -54,9 +54,9 @@ pub data SweepEnd : Type 0 where
   Chained : List Basis → List Interval → ChainEnd → SweepEnd
   SweepLimit : SweepEnd
 
--- a statement asks for a path in at most so many steps, for the lines of SOLUTION after a verdict with this mark or of RANGE, or for a parametric run
+-- a statement asks for a path in at most so many steps, or in any number of them, for the lines of SOLUTION after a verdict with this mark or of RANGE, or for a parametric run
 pub data Question : Type 0 where
-  OfPath : ℕ → Question
+  OfPath : Option ℕ → Question
   OfSolution : Mark → Question
   OfRanges : Question
   OfSweep : Sweep → Question

@@ -13,8 +13,8 @@ use Rattle.question_definitions.specs.Answers.{Basis, Sheet, Sweep, Question, Of
 pub record Solving : Type 1 where
   -- whether a verb with these arguments is built
   pub builds : Verb ℕ → Bool
-  -- the path from a basis ends so, where it may take so many steps
-  pub Solves : Sheet → Basis → ℕ → PathEnd → Type 0
+  -- the path from a basis ends so, where it may take so many steps, or any number of them
+  pub Solves : Sheet → Basis → Option ℕ → PathEnd → Type 0
   -- the parametric run from a basis ends so
   pub Sweeps : Sheet → Basis → Sweep → SweepEnd → Type 0
   -- SOLUTION prints these lines of a basis

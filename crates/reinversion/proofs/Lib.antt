@@ -1,3 +1,4 @@
 pub mod Marks
 pub mod Rebuilding
 pub mod Keeping
+pub mod Turns

@@ -1,23 +1,25 @@
 //! The product form: rates that are carried through an eta file, which is made anew from time to time.
 
-ghost use Rattle.std.specs.Prelude.{◌≡◌, ◌≤◌, length, All, IfOk, OnOk, OnErr};
+ghost use Rattle.std.specs.Prelude.{◌≡◌, ◌≢◌, ◌+◌, ◌<◌, ◌≤◌, false, length, All, IfOk, OnOk, OnErr};
 ghost use Rattle.lp_definitions.specs.LinearProgram.{size, value_at};
 ghost use Rattle.lp_definitions.specs.Basis.{IsBasic, IsNonbasic, IsDirectionOf, exchanged, row_basics};
 ghost use Rattle.lp_definitions.specs.Waypoints.{KeepsWaypoints, waypoint};
 ghost use Rattle.lp_model.specs.RatesCalls.{IsRowOf, HasPivot, ColumnOverflow, RowOverflow, ExchangeOverflow};
 ghost use Rattle.eta_file.specs.Prefixes.{basic_columns};
-ghost use Rattle.eta_file.specs.Inverse.{ways_of};
+ghost use Rattle.eta_file.specs.Inverse.{ways_of, IsAppended};
 ghost use Rattle.reinversion.specs.Rebuilt.{KeptRefused};
-ghost use Rattle.reinversion.specs.Form.{IfDone, IfKept, AnswersStop};
+ghost use Rattle.reinversion.specs.Form.{IfDone, IfKept, IsShort, IsPrepared, IsTurn};
 
+use crate::last_column::LastColumn;
 use crate::rebuild::rebuild;
-use eta_file::{EtaFile, row_by_columns};
+use eta_file::EtaFile;
 use frac128::Frac;
 use lp_model::{Engine, Evidence, Lp, NoMemory, Rates, Stop};
+use price_row::PriceRow;
 use std::alloc::Global;
 use std::marker::Model;
 
-/// How many exchanges are made before the file is made anew.
+/// Each of so many exchanges makes the file anew first, counted from the last time.
 const EXCHANGES: u32 = 50;
 
 /// How a reinversion ended.
@@ -29,54 +31,50 @@ pub enum Reinverted {
     Kept(Evidence),
 }
 
-/// A set of basics with an eta file of it.
+/// A set of basics with an eta file of it, the direction that was carried last, and the number of exchanges since a reinversion.
 #[derive(Drop)]
 pub struct ProductForm {
     file: EtaFile,
+    last: LastColumn,
+    price: PriceRow,
     room: Vec<Frac>,
     since: u32,
+    kept: bool,
 }
 
 impl Model for ProductForm {
-    ghost use Rattle.eta_file.specs.Inverse.{Inverse};
+    ghost use Rattle.reinversion.specs.Form.{Form, form_of, IsForm};
 
-    ghost Value = { Inverse };
-
-    ghost use Rattle.reinversion.specs.Form.{form_of, HasRoom};
+    ghost Value = { Form };
 
     ghost view = { form_of };
 
-    ghost invariant = { HasRoom };
-}
-
-/// What a reinversion that stopped answers.
-fn stopped(stop: Stop) -> Result<Reinverted, NoMemory>
-    ensures { AnswersStop stop result }
-{
-    match stop {
-        Stop::Overflow(evidence) => Ok(Reinverted::Kept(evidence)),
-        Stop::NoMemory => Err(NoMemory),
-    }
+    ghost invariant = { IsForm };
 }
 
 impl ProductForm {
     /// All rows are basic.
     pub fn new(alloc: Global, lp: &Lp) -> Result<ProductForm, NoMemory>
-        ensures matrix { IfOk result (λ form. form.matrix ≡ lp.now.matrix) }
-        ensures basics { IfOk result (λ form. form.basics ≡ row_basics lp.now.matrix) }
-        ensures ways { IfOk result (λ form. All (λ w. w ≡ row_basics lp.now.matrix) (ways_of form)) }
+        ensures matrix { IfOk result (λ form. form.file.matrix ≡ lp.now.matrix) }
+        ensures basics { IfOk result (λ form. form.file.basics ≡ row_basics lp.now.matrix) }
+        ensures ways { IfOk result (λ form. All (λ w. w ≡ row_basics lp.now.matrix) (ways_of form.file)) }
     {
         let size = lp.number_of_variables();
         Ok(ProductForm {
             file: EtaFile::new(alloc, lp)?,
+            last: LastColumn::new(alloc, lp)?,
+            price: PriceRow::new(alloc, lp)?,
             room: vec![in alloc; Frac::whole(0); size as usize]?,
             since: 0,
+            kept: false,
         })
     }
 
-    /// The file, whose basics are the object's own.
+    /// The file, whose basics are the object's own. Unless the last reinversion was refused, it has at most one eta for each row, and
+    /// one for each exchange since.
     pub fn file(&self) -> &EtaFile
-        ensures { result.now ≡ self.now }
+        ensures file { result.now ≡ self.now.file }
+        ensures short { IsShort self.now }
     {
         &self.file
     }
@@ -84,31 +82,40 @@ impl ProductForm {
     /// Makes the file anew, with one eta for each basic column. The basics stay the same. Where a number is too large, or there is no
     /// memory, the file stays as it was.
     pub fn reinvert(&mut self) -> Result<Reinverted, NoMemory>
-        ensures same_matrix { self.new.matrix ≡ self.old.matrix }
-        ensures same_basics { self.new.basics ≡ self.old.basics }
-        ensures waypoints { KeepsWaypoints self.old.matrix self.old.basics (ways_of self.old) self.new.basics (ways_of self.new) }
-        ensures done { IfOk result (IfDone (length self.new.etas ≤ basic_columns self.new.matrix self.new.basics)) }
-        ensures kept { IfOk result (IfKept (KeptRefused self.old.matrix self.old.basics)) }
-        ensures same { IfOk result (IfKept (λ _. self.new ≡ self.old)) }
+        ensures same_matrix { self.new.file.matrix ≡ self.old.file.matrix }
+        ensures same_basics { self.new.file.basics ≡ self.old.file.basics }
+        ensures waypoints { KeepsWaypoints self.old.file.matrix self.old.file.basics (ways_of self.old.file) self.new.file.basics (ways_of self.new.file) }
+        ensures done { IfOk result (IfDone (length self.new.file.etas ≤ basic_columns self.new.file.matrix self.new.file.basics)) }
+        ensures kept { IfOk result (IfKept (KeptRefused self.old.file.matrix self.old.file.basics)) }
+        ensures same { IfOk result (IfKept (λ _. self.new.file ≡ self.old.file)) }
+        ensures since { OnOk result (self.new.since ≡ 0) }
         ensures err { OnErr result (self.new ≡ self.old) }
     {
-        self.since = 0;
+        let _size = self.file.size();
         match rebuild(&self.file, &mut self.room) {
             Ok(file) => {
                 self.file = file;
+                self.since = 0;
+                self.kept = false;
                 Ok(Reinverted::Done)
             }
-            Err(stop) => stopped(stop),
+            Err(Stop::Overflow(evidence)) => {
+                self.since = 0;
+                self.kept = true;
+                Ok(Reinverted::Kept(evidence))
+            }
+            Err(Stop::NoMemory) => Err(NoMemory),
         }
     }
 
     /// Makes the file anew before each 50th exchange.
     fn reinvert_if_due(&mut self) -> Result<(), NoMemory>
-        ensures same_matrix { self.new.matrix ≡ self.old.matrix }
-        ensures same_basics { self.new.basics ≡ self.old.basics }
-        ensures waypoints { KeepsWaypoints self.old.matrix self.old.basics (ways_of self.old) self.new.basics (ways_of self.new) }
+        ensures same_matrix { self.new.file.matrix ≡ self.old.file.matrix }
+        ensures same_basics { self.new.file.basics ≡ self.old.file.basics }
+        ensures waypoints { KeepsWaypoints self.old.file.matrix self.old.file.basics (ways_of self.old.file) self.new.file.basics (ways_of self.new.file) }
+        ensures prepared { OnOk result (IsPrepared self.old self.new) }
     {
-        if self.since >= EXCHANGES - 1 {
+        if self.since + 1 >= EXCHANGES {
             self.reinvert()?;
         }
         Ok(())
@@ -116,81 +123,80 @@ impl ProductForm {
 
     /// Makes the exchange in the file, and counts it.
     fn exchange_in_file(&mut self, p: u32, q: u32) -> Result<(), Stop>
-        requires leaves { IsBasic self.old.matrix self.old.basics p }
-        requires enters { IsNonbasic self.old.matrix self.old.basics q }
-        requires pivot { HasPivot self.old.matrix self.old.basics p q }
-        ensures ok { OnOk result (self.new.basics ≡ exchanged self.old.basics p q) }
+        requires leaves { IsBasic self.old.file.matrix self.old.file.basics p }
+        requires enters { IsNonbasic self.old.file.matrix self.old.file.basics q }
+        requires pivot { HasPivot self.old.file.matrix self.old.file.basics p q }
+        requires not_due { self.old.since + 1 < 50 }
+        ensures ok { OnOk result (IsAppended self.old.file p q self.new.file) }
         ensures err { OnErr result (self.new ≡ self.old) }
-        ensures same_matrix { self.new.matrix ≡ self.old.matrix }
-        ensures waypoints { KeepsWaypoints self.old.matrix self.old.basics (ways_of self.old) self.new.basics (ways_of self.new) }
-        ensures overflow { ExchangeOverflow result self.old.matrix self.old.basics p q (ways_of self.old) (ways_of self.new) }
+        ensures counted { OnOk result (self.new.since ≡ self.old.since + 1) }
+        ensures same_matrix { self.new.file.matrix ≡ self.old.file.matrix }
+        ensures waypoints { KeepsWaypoints self.old.file.matrix self.old.file.basics (ways_of self.old.file) self.new.file.basics (ways_of self.new.file) }
+        ensures overflow { ExchangeOverflow result self.old.file.matrix self.old.file.basics p q (ways_of self.old.file) (ways_of self.new.file) }
     {
         let _size = self.file.size();
-        self.file.append_in(p, q, &mut self.room)?;
-        self.count();
+        self.last.carry(&self.file, q)?;
+        self.file.append_carried(p, q, &self.last.direction)?;
+        self.last.of = None;
+        self.since += 1;
         Ok(())
-    }
-
-    /// One exchange more since the file was made anew.
-    fn count(&mut self)
-        ensures { self.new ≡ self.old }
-    {
-        if self.since < EXCHANGES {
-            self.since += 1;
-        }
     }
 }
 
 impl Rates for ProductForm {
-    ghost matrix = { λ form. form.matrix };
+    ghost matrix = { λ form. form.file.matrix };
 
-    ghost basics = { λ form. form.basics };
+    ghost basics = { λ form. form.file.basics };
 
-    ghost waypoints = { ways_of };
+    ghost waypoints = { λ form. ways_of form.file };
 
-    /// Takes no memory.
+    /// Takes no memory. The direction is kept for the exchange.
     fn column(&mut self, j: u32, out: &mut [Frac]) -> Result<(), Stop>
-        requires nonbasic { IsNonbasic self.old.matrix self.old.basics j }
-        requires places { length out.old ≡ size self.old.matrix }
-        ensures direction { OnOk result (IsDirectionOf self.old.matrix self.old.basics j (value_at out.new)) }
-        ensures overflow { ColumnOverflow result self.old.matrix self.old.basics (ways_of self.old) (ways_of self.old) }
+        requires nonbasic { IsNonbasic self.old.file.matrix self.old.file.basics j }
+        requires places { length out.old ≡ size self.old.file.matrix }
+        ensures direction { OnOk result (IsDirectionOf self.old.file.matrix self.old.file.basics j (value_at out.new)) }
+        ensures overflow { ColumnOverflow result self.old.file.matrix self.old.file.basics (ways_of self.old.file) (ways_of self.old.file) }
         ensures same { self.new ≡ self.old }
-        ensures waypoints { KeepsWaypoints self.old.matrix self.old.basics (ways_of self.old) self.new.basics (ways_of self.new) }
+        ensures waypoints { KeepsWaypoints self.old.file.matrix self.old.file.basics (ways_of self.old.file) self.new.file.basics (ways_of self.new.file) }
     {
-        self.file.column(j, out)
+        let _size = self.file.size();
+        self.last.carry(&self.file, j)?;
+        out.copy_from_slice(&self.last.direction);
+        Ok(())
     }
 
-    /// Takes no memory. The row is had by the column of each nonbasic.
+    /// Takes no memory. The row is carried backwards through the file.
     fn row(&mut self, i: u32, out: &mut [Frac]) -> Result<(), Stop>
-        requires basic { IsBasic self.old.matrix self.old.basics i }
-        requires places { length out.old ≡ size self.old.matrix }
-        ensures rates { OnOk result (IsRowOf self.old.matrix self.old.basics i (value_at out.new)) }
-        ensures overflow { RowOverflow result self.old.matrix self.old.basics (ways_of self.old) (ways_of self.old) }
+        requires basic { IsBasic self.old.file.matrix self.old.file.basics i }
+        requires places { length out.old ≡ size self.old.file.matrix }
+        ensures rates { OnOk result (IsRowOf self.old.file.matrix self.old.file.basics i (value_at out.new)) }
+        ensures overflow { RowOverflow result self.old.file.matrix self.old.file.basics (ways_of self.old.file) (ways_of self.old.file) }
         ensures same { self.new ≡ self.old }
-        ensures waypoints { KeepsWaypoints self.old.matrix self.old.basics (ways_of self.old) self.new.basics (ways_of self.new) }
+        ensures waypoints { KeepsWaypoints self.old.file.matrix self.old.file.basics (ways_of self.old.file) self.new.file.basics (ways_of self.new.file) }
     {
-        row_by_columns(&self.file, i, out, &mut self.room)
+        self.price.row(&self.file, i, out)
     }
 
     /// Each 50th exchange makes the file anew first. After a Stop the basics are as before.
     fn exchange(&mut self, p: u32, q: u32) -> Result<(), Stop>
-        requires leaves { IsBasic self.old.matrix self.old.basics p }
-        requires enters { IsNonbasic self.old.matrix self.old.basics q }
-        requires pivot { HasPivot self.old.matrix self.old.basics p q }
-        ensures ok { OnOk result (self.new.basics ≡ exchanged self.old.basics p q) }
-        ensures err { OnErr result (self.new.basics ≡ self.old.basics) }
-        ensures same_matrix { self.new.matrix ≡ self.old.matrix }
-        ensures waypoints { KeepsWaypoints self.old.matrix self.old.basics (ways_of self.old) self.new.basics (ways_of self.new) }
-        ensures overflow { ExchangeOverflow result self.old.matrix self.old.basics p q (ways_of self.old) (ways_of self.new) }
+        requires leaves { IsBasic self.old.file.matrix self.old.file.basics p }
+        requires enters { IsNonbasic self.old.file.matrix self.old.file.basics q }
+        requires pivot { HasPivot self.old.file.matrix self.old.file.basics p q }
+        ensures ok { OnOk result (self.new.file.basics ≡ exchanged self.old.file.basics p q) }
+        ensures err { OnErr result (self.new.file.basics ≡ self.old.file.basics) }
+        ensures turn { OnOk result (IsTurn self.old self.new) }
+        ensures same_matrix { self.new.file.matrix ≡ self.old.file.matrix }
+        ensures waypoints { KeepsWaypoints self.old.file.matrix self.old.file.basics (ways_of self.old.file) self.new.file.basics (ways_of self.new.file) }
+        ensures overflow { ExchangeOverflow result self.old.file.matrix self.old.file.basics p q (ways_of self.old.file) (ways_of self.new.file) }
     {
         self.reinvert_if_due()?;
         self.exchange_in_file(p, q)
     }
 
     fn way_basics(&self, way: u32, out: &mut [bool])
-        requires is_way { way ≤ length (ways_of self.now) }
-        requires places { length out.old ≡ size self.now.matrix }
-        ensures { out.new ≡ waypoint self.now.basics (ways_of self.now) way }
+        requires is_way { way ≤ length (ways_of self.now.file) }
+        requires places { length out.old ≡ size self.now.file.matrix }
+        ensures { out.new ≡ waypoint self.now.file.basics (ways_of self.now.file) way }
     {
         self.file.way_basics(way, out);
     }

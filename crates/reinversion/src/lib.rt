@@ -2,6 +2,7 @@
 #![tactic(auto)]
 
 mod form;
+mod last_column;
 mod rebuild;
 
 pub use form::{ProductForm, Reinverted};

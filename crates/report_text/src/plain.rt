@@ -89,3 +89,21 @@ pub fn put_setup<P: Sink>(print: &mut P, name: Name, sense: Sense) -> Result<(),
         ],
     )
 }
+
+pub fn put_punched<P: Sink>(print: &mut P, name: Name, cards: u32) -> Result<(), WriteStop>
+    ensures { Writes P.written P.faults P.refusals print.old print.new result (report_text (reports.Punched name cards)) }
+{
+    let mut card_digits = Buffer::new();
+    let letters = name.bytes();
+    put_each(
+        print,
+        &[
+            b"BCDOUT  ",
+            letters,
+            blanks(NAME_PLACES, letters.len()),
+            b" CARDS ",
+            decimal(&mut card_digits, cards).as_bytes(),
+            b"\n",
+        ],
+    )
+}

@@ -3,7 +3,7 @@ ghost use Rattle.job_devices.specs.Text.{Writes};
 ghost use Rattle.report_text.specs.Shown.{IsReport, text_shown};
 
 use crate::ending::put_ending;
-use crate::plain::{put_converted, put_revised, put_setup, put_title};
+use crate::plain::{put_converted, put_punched, put_revised, put_setup, put_title};
 use crate::ranges::put_ranges;
 use crate::sheet::Sheet;
 use crate::solution::put_solution;
@@ -41,6 +41,11 @@ pub enum Report<'a> {
     SetUp {
         name: Name,
         sense: Sense,
+    },
+    /// A problem that was punched, with the number of its cards.
+    Punched {
+        name: Name,
+        cards: u32,
     },
     /// How the path of a solving verb ended, with the first operation that its check was refused, if one was.
     Solved {
@@ -144,6 +149,7 @@ pub fn text_of<P: Sink>(report: &Report<'_>, print: &mut P) -> Result<(), WriteS
             entries,
         } => put_revised(print, name, rows, columns, entries),
         Report::SetUp { name, sense } => put_setup(print, name, sense),
+        Report::Punched { name, cards } => put_punched(print, name, cards),
         Report::Solved {
             by,
             sheet,

@@ -20,6 +20,7 @@ use Rattle.lp_model.specs.declared.reports.ParaEnd.TheVariants as ends
 use Rattle.lp_model.specs.declared.reports.ParaPart.{ParaPart}
 use Rattle.lp_model.specs.declared.reports.ParaReport.{ParaReport}
 use Rattle.lp_model.specs.declared.reports.ParaReport.TheVariants.{Opening, Run}
+use Rattle.path_definitions.specs.Counts.{counted_steps}
 use Rattle.path_definitions.specs.Path.{Ending, last_of}
 use Rattle.postoptimal_definitions.specs.Chain.{Part, ChainEnd, AtMax, UnboundedPast, InfeasiblePast, FaceTurn, IsRun, IsFailedOpening, Place, break_of, basis_of, Reaches, RunGoesOnFor}
 use Rattle.evidence_definitions.specs.Statements.{SolvingStatement}
@@ -45,11 +46,11 @@ end_of (ends.Unbounded past point direction) = UnboundedPast past point directio
 end_of (ends.Infeasible past ray) = InfeasiblePast past ray
 
 module _ (family : ℚ → LinearProgram) (Face : ℚ → List Status → FaceTurn → Type 0) (from max : ℚ) (s : List Status) where
-  -- the opening path ends otherwise than optimal, and the outcome tells its end
+  -- the opening path ends otherwise than optimal, and the outcome tells its end and the count of its steps
   pub record IsOpeningReported (outcome : Outcome) (bases : List (List Status)) : Type 0 where
     pub ending : Ending
     pub opens : IsFailedOpening family Face from s ending bases
-    pub is_outcome : outcome ≡ outcome_of (length bases) ending
+    pub is_outcome : outcome ≡ outcome_of (counted_steps (length bases)) ending
 
   abbrev pub IsReported : ParaReport → List (List Status) → Type 0
   IsReported (Opening outcome) bases = IsOpeningReported outcome bases

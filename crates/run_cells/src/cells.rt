@@ -1,8 +1,8 @@
 // The cells of a run and its demands.
-ghost use Rattle.std.specs.Prelude.{◌≡◌, ◌≤◌};
-ghost use Rattle.control_definitions.specs.Cells.{default_cells, move_name, move_number, move_limit, set_demand, name_in, demand_in};
+ghost use Rattle.std.specs.Prelude.{◌≡◌, ◌≤◌, IfSome};
+ghost use Rattle.control_definitions.specs.Cells.{default_cells, move_name, move_number, move_limit, steps_allowed, set_demand, name_in, demand_in};
 
-use control_definitions::{Demand, NameCell, NumberCell};
+use control_definitions::{Demand, MAX_STEPS, NameCell, NumberCell};
 use frac128::Frac;
 use name_table::Name;
 use std::marker::Model;
@@ -19,13 +19,14 @@ pub struct Cells {
     xchcol: Option<Name>,
     xparam: Frac,
     xparmax: Option<Frac>,
-    xiterlim: u32,
+    xiterlim: Option<u32>,
     xdonfs: Option<u32>,
     xdounb: Option<u32>,
 }
 
 impl Model for Cells {
     ghost use Rattle.std.specs.Prelude.{◌≤◌};
+    ghost use Rattle.std.specs.Option.{ForSome};
     ghost use Rattle.control_definitions.specs.Cells.{Cells as Values};
 
     ghost Value = { Values };
@@ -45,7 +46,7 @@ impl Model for Cells {
       xdounb = c.xdounb;
     } };
 
-    ghost invariant = { λ c. c.xiterlim ≤ 1000000 };
+    ghost invariant = { λ c. ForSome c.xiterlim (λ steps. steps ≤ 1000000) };
 
     ghost inverse = { λ v. record {
       xdata = v.xdata;
@@ -79,7 +80,7 @@ impl Cells {
             xchcol: None,
             xparam: Frac::whole(0),
             xparmax: None,
-            xiterlim: 10_000,
+            xiterlim: Some(10_000),
             xdonfs: None,
             xdounb: None,
         }
@@ -111,9 +112,9 @@ impl Cells {
         }
     }
 
-    /// Moves the number of steps that one verb may take, at most 1,000,000.
-    pub fn move_limit(&mut self, limit: u32)
-        requires { limit ≤ 1000000 }
+    /// Moves the number of steps that one verb may take, at most 1,000,000, or that there is no limit.
+    pub fn move_limit(&mut self, limit: Option<u32>)
+        requires { IfSome limit (λ steps. steps ≤ 1000000) }
         ensures { self.new ≡ move_limit limit self.old }
     {
         self.xiterlim = limit;
@@ -158,12 +159,20 @@ impl Cells {
         self.xparmax
     }
 
-    /// The number of steps that one verb may take.
-    pub fn limit(&self) -> u32
+    /// The number of steps that one verb may take, or none where there is no limit.
+    pub fn limit(&self) -> Option<u32>
         ensures limit { result ≡ self.now.xiterlim }
-        ensures at_most { result ≤ 1000000 }
+        ensures at_most { IfSome result (λ steps. steps ≤ 1000000) }
     {
         self.xiterlim
+    }
+
+    /// The number of steps that a verb may take which always has a limit: 1,000,000 where there is none.
+    pub fn steps_allowed(&self) -> u32
+        ensures steps { result ≡ steps_allowed self.now }
+        ensures at_most { result ≤ 1000000 }
+    {
+        self.xiterlim.unwrap_or(MAX_STEPS)
     }
 
     /// The position that a demand was set to last.

@@ -31,7 +31,7 @@ use Rattle.listing_definitions.specs.Report.{SolutionLines, RangeLines, Verdict,
 use Rattle.listing_definitions.specs.Ending.{Place, Ending, Ended, VerbStop, DeckStop, LimitStop, NotBuilt}
 use Rattle.question_definitions.specs.Answers.{Basis, Sheet, Changing, Row, Set, changing_name, sweeper, Sweep, Question, Answer, OfPath, OfSolution, OfRanges, OfSweep, PathEnd, Reached, PathLimit, SweepEnd, Opening, Chained, SweepLimit}
 use Rattle.question_definitions.specs.Solving.{Solving}
-use Rattle.control_definitions.specs.Cells.{default_cells, move_name, move_number, move_limit, set_demand}
+use Rattle.control_definitions.specs.Cells.{default_cells, move_name, move_number, move_limit, steps_allowed, set_demand}
 use Rattle.run_definitions.specs.State.{Present, present_basis, path_of, gone_through, State, problem_of, choice_of}
 use Rattle.run_definitions.specs.Moves.{Nothing, Prints, Punches, Outcome, Ends, next, jump, stops, InSelection, InAnswer, Move, Does, MayStop, Asks, or_fault}
 
@@ -167,7 +167,7 @@ by_verdict Infeasible report state = demanded state.cells.xdonfs 1 report state
 by_verdict Unbounded report state = demanded state.cells.xdounb 2 report state
 
 abbrev pub limit_stop : ℕ → State → Outcome
-limit_stop card state = stops (LimitStop (record { limit = state.cells.xiterlim; card = card }))
+limit_stop card state = stops (LimitStop (record { limit = steps_allowed state.cells; card = card }))
 
 -- ---- parametric runs
 
@@ -259,7 +259,7 @@ sweeps card fault change moved state =
     or_fault card NoParmax state.cells.xparmax (λ last.
     or_fault card ParmaxBelow (not_less state.cells.xparam last) (λ to.
     let sheet : Sheet = record { problem = present.problem; lp = lp } in
-    let sweep : Sweep = record { changing = changing; from = state.cells.xparam; to = to; limit = state.cells.xiterlim } in
+    let sweep : Sweep = record { changing = changing; from = state.cells.xparam; to = to; limit = steps_allowed state.cells } in
     asks (OfSweep sweep) sheet present (after_sweep card sweep present state))))))
 
 -- What the statement of a verb on a card does.

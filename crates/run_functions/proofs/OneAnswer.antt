@@ -1,6 +1,6 @@
 -- A path has one end within a limit, with one verdict and one check, and SOLUTION prints one list of lines of a basis.
 use Rattle.std.proofs.Common.{◌≡◌, ℕ, ◌+◌, ◌-◌, List, [], ◌∷◌, ◌++◌, length, refl, sym, ap, ap₂, ◌∙◌, arith, Bool, true, false}
-use Rattle.std.specs.Prelude.{if◌then◌else◌}
+use Rattle.std.specs.Prelude.{Option, None, Some, if◌then◌else◌}
 use Rattle.exact_values.specs.Rational.{ℚ, zero_ℚ, ◌-ℚ◌}
 use Rattle.lp_definitions.specs.LinearProgram.{IsVariable, IsLinearProgram, value_at, cost, lower_of, upper_of}
 use Rattle.lp_definitions.specs.Basis.{is_in, basics_of, Tableau, IsTableau, objective_rate, price_at}
@@ -34,16 +34,18 @@ module _ (sheet : Sheet) where
       let checks : c ≡ d = check_same c d (sym first.is_check ∙ ap (check_of sheet.lp) alike ∙ second.is_check) in
       cc
 
-  module _ (s : Basis) (limit : ℕ) (lawful : IsLinearProgram sheet.lp) (at : IsNonsingularBasis sheet.lp s) where
-    pub path_once : (a b : PathEnd) → IsSolved sheet s limit a → IsSolved sheet s limit b → a ≡ b
-    path_once (Reached bases v c) (Reached others w d) first second =
+  module _ (s : Basis) (lawful : IsLinearProgram sheet.lp) (at : IsNonsingularBasis sheet.lp s) where
+    pub path_once : (limit : Option ℕ) (a b : PathEnd) → IsSolved sheet s limit a → IsSolved sheet s limit b → a ≡ b
+    path_once limit (Reached bases v c) (Reached others w d) first second =
         let one = one_path sheet.lp lawful s bases others first.ending second.ending at first.ends second.ends in
         reached_same bases others first.ending second.ending v w c d one.same_bases one.same_ending first.is_verdict second.is_verdict
-    path_once (Reached bases v c) PathLimit first second =
-        absurd (not_both sheet.lp lawful limit s at (record { bases = bases; ending = first.ending; ends = first.ends; within = first.within_limit }) second)
-    path_once PathLimit (Reached bases v c) first second =
-        absurd (not_both sheet.lp lawful limit s at (record { bases = bases; ending = second.ending; ends = second.ends; within = second.within_limit }) first)
-    path_once PathLimit PathLimit first second = refl
+    path_once None (Reached bases v c) PathLimit first second = absurd second
+    path_once (Some most) (Reached bases v c) PathLimit first second =
+        absurd (not_both sheet.lp lawful most s at (record { bases = bases; ending = first.ending; ends = first.ends; within = first.within_limit }) second)
+    path_once None PathLimit (Reached bases v c) first second = absurd first
+    path_once (Some most) PathLimit (Reached bases v c) first second =
+        absurd (not_both sheet.lp lawful most s at (record { bases = bases; ending = second.ending; ends = second.ends; within = second.within_limit }) first)
+    path_once limit PathLimit PathLimit first second = refl
 
 -- ---- the lines of SOLUTION
 

@@ -21,7 +21,7 @@ use Rattle.run_laws.proofs.Selected.{is_chosen, selected_is_lawful}
 use Rattle.run_functions.specs.Laws.{IsAsked, MeetsNoEvidence, AnswersOnce, IsOverflow, IsOverflowStop, IsSameOrStop, AreSame, Continues, IsFunction}
 use Rattle.run_functions.proofs.Stops.{statement_evidence}
 use Rattle.run_functions.proofs.OneRange.{ranged_once}
-use Rattle.run_functions.proofs.ChangeRow.{swept_once}
+use Rattle.run_functions.proofs.Swept.{swept_once}
 use Rattle.run_functions.proofs.OneAnswer.{path_once, shown_once}
 use Rattle.run_functions.proofs.Steps.{Comes, two_outcomes, steps, GoesOn, same_so_far, goes_on, continues}
 
@@ -324,7 +324,7 @@ no_change question sheet s asked = subst (λ (p : LinearProgram). p.change ≡ N
 -- what is asked has one answer
 pub answers_once : (builds : Verb ℕ → Bool) → AnswersOnce (staged builds)
 answers_once builds = record {
-  paths = λ limit sheet s a b asked first second. path_once sheet s limit (lawful_of (OfPath limit) sheet s asked) asked.is_basis a b first second;
+  paths = λ limit sheet s a b asked first second. path_once sheet s (lawful_of (OfPath limit) sheet s asked) asked.is_basis limit a b first second;
   solutions = λ mark sheet s a b asked first second. shown_once sheet s a b (lawful_of (OfSolution mark) sheet s asked) asked.is_basis first second;
   ranges = λ sheet s a b asked first second. ranged_once sheet s a b (lawful_of OfRanges sheet s asked) (no_change OfRanges sheet s asked) asked.suits first second;
   sweeps = swept_once;

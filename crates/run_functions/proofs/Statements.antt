@@ -1,15 +1,16 @@
 -- In a state whose setup has a lawful problem and a nonsingular basis, a statement asks its question where it has one answer at most.
 use Rattle.std.proofs.Common.{◌≡◌, ℕ, Bool, true, false, List, refl, sym, ap, subst, ◌∙◌}
-use Rattle.std.specs.Prelude.{Option, Some, None, Result, Ok, Err, option_and_then, if◌then◌else◌}
+use Rattle.std.specs.Prelude.{Option, Some, None, Result, Ok, Err, option_and_then}
 use Rattle.exact_values.specs.Rational.{ℚ}
 use Rattle.lp_definitions.specs.LinearProgram.{LinearProgram}
 use Rattle.card_definitions.specs.Cards.{Card}
 use Rattle.problem_definitions.specs.Names.{Name}
-use Rattle.problem_definitions.specs.Problem.{Problem, has_free_row, has_group}
+use Rattle.problem_definitions.specs.Problem.{Problem}
 use Rattle.deck_definitions.specs.declared.DeckFault.{DeckFault}
 use Rattle.deck_definitions.specs.Conversion.{conversion}
 use Rattle.deck_definitions.specs.Decks.{deck_taken}
 use Rattle.revise_definitions.specs.Revision.{revision}
+use Rattle.control_definitions.specs.Cells.{steps_allowed}
 use Rattle.control_definitions.specs.Program.{SetupOptions, Verb, Initialz, Title, MoveName, MoveNumber, MoveLimit, Mvadr, Goto, Convert, Setup, Primal, Revise, Ranging, Paraobj, Pararhs, Solution as SolutionVerb, Bcdout, Exit}
 use Rattle.selection_definitions.specs.declared.SelectionFault.{SelectionFault}
 use Rattle.selection_definitions.specs.Choice.{Choice}
@@ -17,7 +18,7 @@ use Rattle.selection_definitions.specs.Selection.{selected}
 use Rattle.listing_definitions.specs.declared.Mark.{Mark}
 use Rattle.listing_definitions.specs.declared.VerbFault.{VerbFault}
 use Rattle.listing_definitions.specs.Report.{Report, Converted, Revised, Solution, Ranges}
-use Rattle.question_definitions.specs.Answers.{Changing, Row, Set, Sweep, Question, Answer, OfPath, OfSolution, OfRanges, OfSweep}
+use Rattle.question_definitions.specs.Answers.{Changing, Sweep, Question, Answer, OfPath, OfSolution, OfRanges, OfSweep}
 use Rattle.question_definitions.specs.Solving.{Solving}
 use Rattle.run_definitions.specs.State.{Present, present_basis, State, problem_of, choice_of}
 use Rattle.run_definitions.specs.Moves.{Outcome, Refusals, Move, Does, MayStop, or_fault}
@@ -26,11 +27,12 @@ use Rattle.path_definitions.specs.Path.{EndsOptimal, EndsAt}
 use Rattle.path_laws.proofs.Ends.{optimal_end}
 use Rattle.std.proofs.lemmas.Option.{same_Some}
 use Rattle.lp_definitions.specs.Basis.{IsOptimalBasis}
-use Rattle.exact_values.specs.Tests.{lt_ℚ}
 use Rattle.listing_definitions.specs.declared.Mark.TheVariants.{Optimal, Infeasible, Unbounded}
 use Rattle.run_laws.proofs.Selected.{selected_is_lawful}
 use Rattle.run_laws.proofs.Moves.{HasProblem, EndsOptimally, Knows}
-use Rattle.run_functions.specs.Laws.{IsOfProblem, Suits, HasOneAnswer, AnswersOnce, AsksOnce}
+use Rattle.run_laws.specs.Truth.{IsOfProblem}
+use Rattle.run_laws.proofs.ChangeRow.{row_of_problem, set_of_problem, changes_part, last_no_less}
+use Rattle.run_functions.specs.Laws.{Suits, HasOneAnswer, AnswersOnce, AsksOnce}
 
 pub record IsOnce (S : Solving) (move : Move) : Type 0 where
   pub once : AsksOnce S move
@@ -40,34 +42,6 @@ is_optimal : (mark found : Mark) → if_optimal mark ≡ Some found → mark ≡
 is_optimal Optimal found e = refl
 is_optimal Infeasible found e = absurd (cc e)
 is_optimal Unbounded found e = absurd (cc e)
-
--- what changes is a part of the problem
-row_of_problem : (problem : Problem ℕ) (name : Name) (changing : Changing) → change_row problem name ≡ Some changing → IsOfProblem changing problem
-row_of_problem problem name changing e = by (has_free_row problem.rows name) refl e
-  where
-    by : (free : Bool) → has_free_row problem.rows name ≡ free → (if free then Some (Row name) else None) ≡ Some changing → IsOfProblem changing problem
-    by true is e = subst (λ x. IsOfProblem x problem) (same_Some (Row name) changing e) is
-    by false is e = absurd (cc e)
-
-set_of_problem : (problem : Problem ℕ) (name : Name) (changing : Changing) → change_set problem name ≡ Some changing → IsOfProblem changing problem
-set_of_problem problem name changing e = by (has_group problem.rhs name) refl e
-  where
-    by : (there : Bool) → has_group problem.rhs name ≡ there → (if there then Some (Set name) else None) ≡ Some changing → IsOfProblem changing problem
-    by true is e = subst (λ x. IsOfProblem x problem) (same_Some (Set name) changing e) is
-    by false is e = absurd (cc e)
-
-changes_part : (change : Problem ℕ → Name → Option Changing) → ((problem : Problem ℕ) (name : Name) (changing : Changing) → change problem name ≡ Some changing → IsOfProblem changing problem) →
-    (problem : Problem ℕ) (moved : Option Name) (changing : Changing) → option_and_then (change problem) moved ≡ Some changing → IsOfProblem changing problem
-changes_part change of_problem problem None changing e = absurd (cc e)
-changes_part change of_problem problem (Some name) changing e = of_problem problem name changing e
-
--- the last value isn't less than the first
-last_no_less : (from last to : ℚ) → not_less from last ≡ Some to → lt_ℚ to from ≡ false
-last_no_less from last to e = by (lt_ℚ last from) refl e
-  where
-    by : (less : Bool) → lt_ℚ last from ≡ less → (if less then None else Some last) ≡ Some to → lt_ℚ to from ≡ false
-    by true is e = absurd (cc e)
-    by false is e = subst (λ x. lt_ℚ x from ≡ false) (same_Some last to e) is
 
 module _ (S : Solving) where
   does : (outcome : Outcome) → IsOnce S (Does outcome)
@@ -188,8 +162,8 @@ module _ (S : Solving) where
         unless_fault {X = Changing} card fault (option_and_then (change present.problem) moved) _ (λ changing c.
         unless_fault {X = ℚ} card VerbFault.NoParmax state.cells.xparmax _ (λ last l.
         unless_fault {X = ℚ} card VerbFault.ParmaxBelow (not_less state.cells.xparam last) _ (λ to t.
-        asked (OfSweep (record { changing = changing; from = state.cells.xparam; to = to; limit = state.cells.xiterlim })) present state lp _
-        (one (record { changing = changing; from = state.cells.xparam; to = to; limit = state.cells.xiterlim })) lawful knows e is
+        asked (OfSweep (record { changing = changing; from = state.cells.xparam; to = to; limit = steps_allowed state.cells })) present state lp _
+        (one (record { changing = changing; from = state.cells.xparam; to = to; limit = steps_allowed state.cells })) lawful knows e is
         (changes_part change of_problem present.problem moved changing c, last_no_less state.cells.xparam last to t))))))
 
   module _ (answers : AnswersOnce S) where

@@ -1,6 +1,6 @@
 -- A statement stops with an overflow only where evidence holds, and never since a device or memory
 -- fails.
-use Rattle.std.proofs.Common.{inl, inr, ℕ, Bool, true, false, List, sym, subst}
+use Rattle.std.proofs.Common.{inl, inr, ℕ, ◌≤◌, lit≤, Bool, true, false, List, sym, subst}
 use Rattle.std.specs.Prelude.{Option, Some, None, Result, Ok, Err, option_and_then}
 use Rattle.exact_values.specs.Rational.{ℚ}
 use Rattle.lp_definitions.specs.LinearProgram.{LinearProgram}
@@ -11,6 +11,7 @@ use Rattle.deck_definitions.specs.declared.DeckFault.{DeckFault}
 use Rattle.deck_definitions.specs.Conversion.{conversion}
 use Rattle.deck_definitions.specs.Decks.{deck_taken}
 use Rattle.revise_definitions.specs.Revision.{revision}
+use Rattle.control_definitions.specs.Cells.{steps_allowed}
 use Rattle.control_definitions.specs.Program.{Program, SetupOptions, Verb, Initialz, Title, MoveName, MoveNumber, MoveLimit, Mvadr, Goto, Convert, Setup, Primal, Revise, Ranging, Paraobj, Pararhs, Solution as SolutionVerb, Bcdout, Exit}
 use Rattle.selection_definitions.specs.declared.SelectionFault.{SelectionFault}
 use Rattle.selection_definitions.specs.Choice.{Choice}
@@ -38,14 +39,22 @@ IsOfItself PunchFault = ⊥
 IsOfItself Memory = ⊥
 IsOfItself _ = Unit {0}
 
+-- an ending of a run of a program: by itself it ends with 0, 1 or 2; words, control cards and the cards of a job are refused before
+-- it begins
+abbrev pub IsEndOfRun : Ending → Type 0
+IsEndOfRun (Ended code) = code ≤ 2
+IsEndOfRun (VerbStop fault) = Unit {0}
+IsEndOfRun (DeckStop fault) = Unit {0}
+IsEndOfRun (LimitStop reached) = Unit {0}
+IsEndOfRun StatementLimit = Unit {0}
+IsEndOfRun (OverflowStop overflow) = Unit {0}
+IsEndOfRun NotBuilt = Unit {0}
+IsEndOfRun _ = ⊥
+
 -- an ending and an outcome of that kind that isn't a stop for an overflow
 abbrev IsOtherEnding : Ending → Type 0
 IsOtherEnding (OverflowStop overflow) = ⊥
-IsOtherEnding ReadFault = ⊥
-IsOtherEnding PrintFault = ⊥
-IsOtherEnding PunchFault = ⊥
-IsOtherEnding Memory = ⊥
-IsOtherEnding _ = Unit {0}
+IsOtherEnding ending = IsEndOfRun ending
 
 abbrev IsOther : Outcome → Type 0
 IsOther (Goes gain after) = Unit {0}
@@ -102,14 +111,14 @@ sets_up_never card options state =
 punches_never : (card : ℕ) (state : State) → NeverStops (punches card state)
 punches_never card state = unless_fault card VerbFault.NoProblem (problem_of state.cells.xpbname state.file) _ (λ problem. does _ tt)
 
-demanded_other : (position : Option ℕ) (code : ℕ) (report : Report) (state : State) → IsOther (demanded position code report state)
-demanded_other (Some position) code report state = tt
-demanded_other None code report state = tt
+demanded_other : (position : Option ℕ) (code : ℕ) (report : Report) (state : State) → code ≤ 2 → IsOther (demanded position code report state)
+demanded_other (Some position) code report state within = tt
+demanded_other None code report state within = within
 
 by_verdict_other : (mark : Mark) (report : Report) (state : State) → IsOther (by_verdict mark report state)
 by_verdict_other Optimal report state = tt
-by_verdict_other Infeasible report state = demanded_other state.cells.xdonfs 1 report state
-by_verdict_other Unbounded report state = demanded_other state.cells.xdounb 2 report state
+by_verdict_other Infeasible report state = demanded_other state.cells.xdonfs 1 report state (lit≤ tt)
+by_verdict_other Unbounded report state = demanded_other state.cells.xdounb 2 report state (lit≤ tt)
 
 after_path_other : (card : ℕ) (present : Present) (state : State) (end : PathEnd) → IsOther (after_path card present state end)
 after_path_other card present state (Reached bases verdict check) =
@@ -152,7 +161,7 @@ module _ (card : ℕ) (state : State) where
       unless_fault {X = Changing} card fault (option_and_then (change present.problem) moved) _ (λ changing.
       unless_fault {X = ℚ} card VerbFault.NoParmax state.cells.xparmax _ (λ last.
       unless_fault {X = ℚ} card VerbFault.ParmaxBelow (not_less state.cells.xparam last) _ (λ to.
-      record { other = after_sweep_other card (record { changing = changing; from = state.cells.xparam; to = to; limit = state.cells.xiterlim }) present state })))))
+      record { other = after_sweep_other card (record { changing = changing; from = state.cells.xparam; to = to; limit = steps_allowed state.cells }) present state })))))
 
 verb_never : (verb : Verb ℕ) (card : ℕ) (state : State) → NeverStops (verb_move verb card state)
 unfolding verb_move
@@ -172,7 +181,7 @@ verb_never Ranging card state = ranges_never card state
 verb_never Paraobj card state = sweeps_never card state VerbFault.NoChangeRow change_row state.cells.xchrow
 verb_never Pararhs card state = sweeps_never card state VerbFault.NoChangeSet change_set state.cells.xchcol
 verb_never Bcdout card state = punches_never card state
-verb_never Exit card state = does _ tt
+verb_never Exit card state = does _ (lit≤ tt)
 
 if_built_never : (built : Bool) (verb : Verb ℕ) (card : ℕ) (state : State) → NeverStops (if_built built (verb_move verb card state))
 if_built_never true verb card state = verb_never verb card state
@@ -192,48 +201,64 @@ module _ (S : Solving) (card : ℕ) (gain : Gain) (overflow : Overflow) where
 
 -- ---- and no statement ends a run as a device or memory does
 
-of_itself : (ending : Ending) → IsOtherEnding ending → IsOfItself ending
-of_itself (Ended code) other = tt
-of_itself WordsRefused other = tt
-of_itself (ControlStop fault) other = tt
-of_itself (VerbStop fault) other = tt
-of_itself (DeckStop fault) other = tt
-of_itself (CardStop fault) other = tt
-of_itself (LimitStop reached) other = tt
-of_itself StatementLimit other = tt
-of_itself (OverflowStop overflow) other = tt
-of_itself ReadFault other = other
-of_itself PrintFault other = other
-of_itself PunchFault other = other
-of_itself Memory other = other
-of_itself NotBuilt other = tt
+other_end : (ending : Ending) → IsOtherEnding ending → IsEndOfRun ending
+other_end (Ended code) other = other
+other_end WordsRefused other = other
+other_end (ControlStop fault) other = other
+other_end (VerbStop fault) other = other
+other_end (DeckStop fault) other = other
+other_end (CardStop fault) other = other
+other_end (LimitStop reached) other = other
+other_end StatementLimit other = other
+other_end (OverflowStop overflow) other = tt
+other_end ReadFault other = other
+other_end PrintFault other = other
+other_end PunchFault other = other
+other_end Memory other = other
+other_end NotBuilt other = other
 
-abbrev EndsOfItself : Outcome → Type 0
-EndsOfItself (Goes gain after) = Unit {0}
-EndsOfItself (Ends gain ending) = IsOfItself ending
+abbrev EndsAsRun : Outcome → Type 0
+EndsAsRun (Goes gain after) = Unit {0}
+EndsAsRun (Ends gain ending) = IsEndOfRun ending
 
-outcome_of_itself : (outcome : Outcome) → IsOther outcome → EndsOfItself outcome
-outcome_of_itself (Goes gain after) other = tt
-outcome_of_itself (Ends gain ending) other = of_itself ending other
+outcome_as_run : (outcome : Outcome) → IsOther outcome → EndsAsRun outcome
+outcome_as_run (Goes gain after) other = tt
+outcome_as_run (Ends gain ending) other = other_end ending other
 
 module _ (S : Solving) (card : ℕ) (given : Outcome) where
-  gives_of_itself : (move : Move) → DoesOther move → Gives S card move given → EndsOfItself given
-  gives_of_itself (Does outcome) other gives = subst EndsOfItself (sym gives) (outcome_of_itself outcome other)
-  gives_of_itself (MayStop refusals move) other (inl gives) = gives_of_itself move other gives
-  gives_of_itself (MayStop refusals move) other (inr stop) = subst EndsOfItself (sym stop.3) tt
-  gives_of_itself (Asks question sheet s go) other gives = subst EndsOfItself (sym gives.2) (outcome_of_itself (go gives.0) (other gives.0))
+  gives_as_run : (move : Move) → DoesOther move → Gives S card move given → EndsAsRun given
+  gives_as_run (Does outcome) other gives = subst EndsAsRun (sym gives) (outcome_as_run outcome other)
+  gives_as_run (MayStop refusals move) other (inl gives) = gives_as_run move other gives
+  gives_as_run (MayStop refusals move) other (inr stop) = subst EndsAsRun (sym stop.3) tt
+  gives_as_run (Asks question sheet s go) other gives = subst EndsAsRun (sym gives.2) (outcome_as_run (go gives.0) (other gives.0))
 
-  statement_of_itself : (verb : Verb ℕ) (state : State) → Gives S card (statement_move S verb card state) given → EndsOfItself given
-  statement_of_itself verb state gives = gives_of_itself (statement_move S verb card state) (if_built_never (S.builds verb) verb card state).other gives
+  statement_as_run : (verb : Verb ℕ) (state : State) → Gives S card (statement_move S verb card state) given → EndsAsRun given
+  statement_as_run verb state gives = gives_as_run (statement_move S verb card state) (if_built_never (S.builds verb) verb card state).other gives
+
+of_itself : (ending : Ending) → IsEndOfRun ending → IsOfItself ending
+of_itself (Ended code) own = tt
+of_itself WordsRefused own = tt
+of_itself (ControlStop fault) own = tt
+of_itself (VerbStop fault) own = tt
+of_itself (DeckStop fault) own = tt
+of_itself (CardStop fault) own = tt
+of_itself (LimitStop reached) own = tt
+of_itself StatementLimit own = tt
+of_itself (OverflowStop overflow) own = tt
+of_itself ReadFault own = own
+of_itself PrintFault own = own
+of_itself PunchFault own = own
+of_itself Memory own = own
+of_itself NotBuilt own = tt
 
 module _ (S : Solving) where
-  run_of_itself : (program : Program) (decks : List (List Card)) (reports : List Report) (cards : List (List ℕ)) (ending : Ending) → IsRun S program decks reports cards ending → IsOfItself ending
-  run_of_itself program decks _ _ _ (is_over came (at_end past)) = tt
-  run_of_itself program decks _ _ _ (is_over came (at_limit within limit)) = tt
-  run_of_itself program decks _ _ ending (is_ended {state = state} gain came step) = statement_of_itself S step.statement.card (Ends gain ending) step.statement.verb (counted state) step.gives
+  pub end_of_run : (program : Program) (decks : List (List Card)) (reports : List Report) (cards : List (List ℕ)) (ending : Ending) → IsRun S program decks reports cards ending → IsEndOfRun ending
+  end_of_run program decks _ _ _ (is_over came (at_end past)) = lit≤ tt
+  end_of_run program decks _ _ _ (is_over came (at_limit within limit)) = tt
+  end_of_run program decks _ _ ending (is_ended {state = state} gain came step) = statement_as_run S step.statement.card (Ends gain ending) step.statement.verb (counted state) step.gives
 
   -- a run of a job, where nothing fails, ends by itself
   pub job_of_itself : (bytes : List ℕ) (reports : List Report) (cards : List (List ℕ)) (ending : Ending) → IsJobRun S bytes reports cards ending → IsOfItself ending
   job_of_itself bytes _ _ _ (card_fault fault is) = tt
   job_of_itself bytes _ _ _ (control_fault fault fine is) = tt
-  job_of_itself bytes reports cards ending (run program is runs) = run_of_itself program _ reports cards ending runs
+  job_of_itself bytes reports cards ending (run program is runs) = of_itself ending (end_of_run program _ reports cards ending runs)

@@ -9,13 +9,12 @@
 --     MeetsNoEvidence S bytes      no evidence holds at any moment of a run of the job
 --     AreSame, Continues           two runs are the same; the one begins with the other
 --     IsFunction S                 what is the same in two runs of one job
-use Rattle.std.specs.Prelude.{◌≡◌, ◌⊎◌, ℕ, ◌-◌, ◌<◌, Bool, true, false, List, ◌++◌, Option, None, Some, Ok, slice_get}
+use Rattle.std.specs.Prelude.{◌≡◌, ◌⊎◌, ℕ, ◌-◌, ◌<◌, Bool, false, List, ◌++◌, Option, None, Some, Ok, slice_get}
 use Rattle.exact_values.specs.Tests.{lt_ℚ}
 use Rattle.lp_definitions.specs.declared.Evidence.{Evidence}
 use Rattle.lp_definitions.specs.LinearProgram.{IsLinearProgram}
 use Rattle.lp_definitions.specs.Basis.{IsOptimalBasis}
 use Rattle.path_laws.specs.Laws.{IsNonsingularBasis}
-use Rattle.problem_definitions.specs.Problem.{Problem, has_free_row, has_group}
 use Rattle.problem_definitions.specs.Valid.{IsProblem}
 use Rattle.selection_definitions.specs.Choice.{Choice}
 use Rattle.selection_definitions.specs.Selection.{selected}
@@ -23,7 +22,7 @@ use Rattle.control_definitions.specs.Program.{Verb, Statement, Program}
 use Rattle.listing_definitions.specs.declared.Mark.{Mark}
 use Rattle.listing_definitions.specs.Report.{SolutionLines, RangeLines, Report}
 use Rattle.listing_definitions.specs.Ending.{Place, Overflow, Ending, OverflowStop}
-use Rattle.question_definitions.specs.Answers.{Basis, Sheet, Changing, Row, Set, Sweep, Question, Answer, OfPath, OfSolution, OfRanges, OfSweep, PathEnd}
+use Rattle.question_definitions.specs.Answers.{Basis, Sheet, Sweep, Question, Answer, OfPath, OfSolution, OfRanges, OfSweep, PathEnd}
 use Rattle.question_definitions.specs.Solving.{Solving, IsRight}
 use Rattle.answer_definitions.specs.Verdicts.{IsSolved}
 use Rattle.answer_definitions.specs.Sections.{IsShown, IsRanged}
@@ -33,11 +32,7 @@ use Rattle.run_definitions.specs.Moves.{Outcome, stops, Move, Does, MayStop, Ask
 use Rattle.run_definitions.specs.Verbs.{statement_move}
 use Rattle.run_definitions.specs.Run.{max_executed, counted, Step}
 use Rattle.run_definitions.specs.Answer.{IsJobRun, IsSoFar}
-
--- A parametric run changes a row without limits of the problem, or a right-hand side set of it.
-abbrev pub IsOfProblem : Changing → Problem ℕ → Type 0
-IsOfProblem (Row name) problem = has_free_row problem.rows name ≡ true
-IsOfProblem (Set name) problem = has_group problem.rhs name ≡ true
+use Rattle.run_laws.specs.Truth.{IsOfProblem}
 
 -- RANGE asks at an optimal basis; a parametric run changes something of the problem, and its last
 -- value isn't less than its first.
@@ -64,7 +59,7 @@ HasOneAnswer S question = (sheet : Sheet) (s : Basis) (a b : Answer question) �
 
 -- So it is with each question that PRIMAL, SOLUTION, RANGE, PARAOBJ and PARARHS ask.
 pub record AnswersOnce (S : Solving) : Type 0 where
-  pub paths : (limit : ℕ) → HasOneAnswer S (OfPath limit)
+  pub paths : (limit : Option ℕ) → HasOneAnswer S (OfPath limit)
   pub solutions : (mark : Mark) → HasOneAnswer S (OfSolution mark)
   pub ranges : HasOneAnswer S OfRanges
   pub sweeps : (sweep : Sweep) → HasOneAnswer S (OfSweep sweep)
@@ -147,11 +142,11 @@ pub record IsFunction (S : Solving) : Type 0 where
       IsJobRun S bytes others other_cards other →
       AreSame reports others cards other_cards ending other
 
--- At a nonsingular basis of a lawful linear program a path has one end within a limit, with one
+-- At a nonsingular basis of a lawful linear program a path has one end, be there a limit or not, with one
 -- verdict and one check of it, and SOLUTION prints one list of lines; and so does RANGE at an
 -- optimal basis of a linear program without a change row.
 pub record AnswerLaws : Type 0 where
-  pub path : (sheet : Sheet) (s : Basis) (limit : ℕ) (a b : PathEnd) → IsLinearProgram sheet.lp →
+  pub path : (sheet : Sheet) (s : Basis) (limit : Option ℕ) (a b : PathEnd) → IsLinearProgram sheet.lp →
       IsNonsingularBasis sheet.lp s → IsSolved sheet s limit a → IsSolved sheet s limit b → a ≡ b
   pub solution : (sheet : Sheet) (s : Basis) (a b : SolutionLines) → IsLinearProgram sheet.lp →
       IsNonsingularBasis sheet.lp s → IsShown sheet s a → IsShown sheet s b → a ≡ b

@@ -33,7 +33,7 @@ use Rattle.listing_definitions.specs.declared.VerbFault.{VerbFault}
 use Rattle.listing_definitions.specs.Report.{Report, Converted, Revised, Solution, Ranges}
 use Rattle.question_definitions.specs.Answers.{Basis, Sheet, Changing, Sweep, Question, Answer, OfPath, OfSolution, OfRanges, OfSweep, PathEnd, Reached, PathLimit, SweepEnd, Opening, Chained, SweepLimit}
 use Rattle.question_definitions.specs.Solving.{Solving}
-use Rattle.control_definitions.specs.Cells.{Cells, move_name, move_number, set_demand}
+use Rattle.control_definitions.specs.Cells.{Cells, move_name, move_number, steps_allowed, set_demand}
 use Rattle.run_definitions.specs.State.{Present, gone_through, State, problem_of, choice_of}
 use Rattle.run_definitions.specs.Moves.{Outcome, Goes, Ends, Refusals, Move, Does, MayStop, Asks, Gives, or_fault}
 use Rattle.run_definitions.specs.Verbs.{revises, or_deck_fault, or_selection_fault, files, selects, not_less, change_row, change_set, asks, demanded, by_verdict, if_optimal, after_path, after_sweep, shows_present, solves, shows, ranges, sweeps, converts, sets_up, punches, verb_move, if_built, statement_move}
@@ -235,7 +235,7 @@ module _ (S : Solving) where
       unless_fault {X = Changing} S card fault (option_and_then (change present.problem) moved) _ (λ changing c.
       unless_fault {X = ℚ} S card VerbFault.NoParmax state.cells.xparmax _ (λ last l.
       unless_fault {X = ℚ} S card VerbFault.ParmaxBelow (not_less state.cells.xparam last) _ (λ to t.
-      asked_led card present state lp (record { changing = changing; from = state.cells.xparam; to = to; limit = state.cells.xiterlim }) lawful (lawful.setup present e))))))
+      asked_led card present state lp (record { changing = changing; from = state.cells.xparam; to = to; limit = steps_allowed state.cells }) lawful (lawful.setup present e))))))
 
   verb_led : (verb : Verb ℕ) (card : ℕ) (state : State) → MovesName verb → AreLawful state → S.builds verb ≡ true → IsLed S card (verb_move verb card state)
   unfolding verb_move

@@ -2,8 +2,10 @@ pub mod Ends
 pub mod Selected
 pub mod Shapes
 pub mod Moves
+pub mod ChangeRow
 pub mod Verbs
 pub mod Decks
 pub mod Named
 pub mod Filed
 pub mod Runs
+pub mod Unlimited

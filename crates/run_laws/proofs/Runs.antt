@@ -1,8 +1,8 @@
 -- Each report of the run of a job holds of the state in which it was made.
-use Rattle.std.proofs.Common.{◌≡◌, ◌⊎◌, ℕ, Bool, false, List, [], inl, inr}
+use Rattle.std.proofs.Common.{ℕ, Bool, List, []}
 use Rattle.std.specs.Prelude.{All}
 use Rattle.std.proofs.lemmas.List.Elements.{All-nil, All-cons}
-use Rattle.control_definitions.specs.Program.{Program, Verb, Paraobj, Pararhs}
+use Rattle.control_definitions.specs.Program.{Program, Verb}
 use Rattle.listing_definitions.specs.declared.Mark.TheVariants.{Optimal, Infeasible, Unbounded}
 use Rattle.listing_definitions.specs.declared.Solver.TheVariants.{Primal as ByPrimal, Paraobj as ByParaobj, Pararhs as ByPararhs}
 use Rattle.listing_definitions.specs.Report.{Report, Titled, Converted, Revised, SetUp, Punched, Solved, Solution, Ranges, Parametric}
@@ -15,7 +15,6 @@ use Rattle.run_definitions.specs.Run.{counted, Step, Reaches, begun, stepped, Is
 use Rattle.run_definitions.specs.Answer.{Job, Failures, Answer, IsProgramOf, job_decks, IsJobRun, card_fault, control_fault, run, MayEnd, words_refused, read_fails, by_itself, memory_at_start, memory_in_run, memory_at_punch, punch_fails, IsAnswer, whole, print_fails, print_wants_memory}
 use Rattle.run_laws.specs.Truth.{Holds}
 use Rattle.run_laws.specs.Headline.{HoldSoFar, HoldInRun, HoldInJob, HoldInEnd, HoldInAnswer}
-use Rattle.sweep_laws.proofs.Runs.{swept_leads}
 use Rattle.run_laws.specs.Laws.{KnowsSolving, reports_of, TellsTruth}
 use Rattle.run_laws.proofs.Moves.{HasProblem, Knows, HoldsGain, Keeps, unmarked, without_setup}
 use Rattle.run_laws.proofs.Verbs.{statement_kept}
@@ -29,13 +28,13 @@ uncounted state (Revised filed) holds = tt
 uncounted state (SetUp name sense) holds = tt
 uncounted state (Punched name cards) holds = tt
 uncounted state (Solved ByPrimal verdict check) holds = holds
-uncounted state (Solved ByParaobj verdict check) holds = tt
-uncounted state (Solved ByPararhs verdict check) holds = tt
+uncounted state (Solved ByParaobj verdict check) holds = holds
+uncounted state (Solved ByPararhs verdict check) holds = holds
 uncounted state (Solution Optimal lines) holds = holds
 uncounted state (Solution Infeasible lines) holds = tt
 uncounted state (Solution Unbounded lines) holds = tt
 uncounted state (Ranges lines) holds = holds
-uncounted state (Parametric solver chain) holds = tt
+uncounted state (Parametric solver chain) holds = holds
 
 -- the report of a gain
 printed_holds : (state : State) (gain : Gain) → HoldsGain (counted state) gain → All (Holds state) (printed_by gain)
@@ -103,4 +102,4 @@ module _ (S : Solving) (solving : KnowsSolving S) where
   }
 
 pub knows_staged : (builds : Verb ℕ → Bool) → KnowsSolving (staged builds)
-knows_staged builds = record { solves = λ sheet s limit bases verdict check solved. solved; shows = λ sheet s lines shown. shown; ranges = λ sheet s lines ranged. ranged; sweeps = swept_leads }
+knows_staged builds = record { solves = λ sheet s limit bases verdict check solved. solved; shows = λ sheet s lines shown. shown; ranges = λ sheet s lines ranged. ranged; sweeps = λ sheet s sweep end ran. ran }

@@ -1,5 +1,5 @@
 -- Each verb keeps what a run knows, and what it reports holds.
-use Rattle.std.proofs.Common.{◌⊎◌, inl, inr, ◌≡◌, ℕ, Bool, true, false, List, [], ◌∷◌, ◌++◌, refl, sym, ap, subst, ◌∙◌}
+use Rattle.std.proofs.Common.{◌≡◌, ℕ, Bool, true, false, List, [], ◌∷◌, ◌++◌, refl, sym, ap, subst, ◌∙◌}
 use Rattle.std.specs.Prelude.{Option, Some, None, Ok, option_and_then}
 use Rattle.exact_values.specs.Rational.{ℚ}
 use Rattle.lp_definitions.specs.LinearProgram.{LinearProgram}
@@ -24,11 +24,11 @@ use Rattle.listing_definitions.specs.declared.Mark.TheVariants.{Optimal, Infeasi
 use Rattle.listing_definitions.specs.declared.Solver.TheVariants.{Primal as ByPrimal}
 use Rattle.listing_definitions.specs.declared.VerbFault.{VerbFault}
 use Rattle.listing_definitions.specs.Report.{SolutionLines, RangeLines, Verdict, Check, Filed, Report, Converted, Revised, SetUp, Punched, Solved, Solution, Ranges}
-use Rattle.question_definitions.specs.Answers.{Basis, Changing, Row, Set, sweeper, Sweep, Question, Answer, OfPath, OfSolution, OfRanges, OfSweep, PathEnd, Reached, PathLimit, SweepEnd, Opening, Chained, SweepLimit}
+use Rattle.question_definitions.specs.Answers.{Basis, Sheet, Changing, Row, Set, changing_name, sweeper, Sweep, Question, Answer, OfPath, OfSolution, OfRanges, OfSweep, PathEnd, Reached, PathLimit, SweepEnd, Opening, Chained, SweepLimit}
 use Rattle.question_definitions.specs.Solving.{Solving, IsRight}
 use Rattle.answer_definitions.specs.Verdicts.{verdict_of}
 use Rattle.answer_definitions.specs.Sections.{IsShown, IsRanged}
-use Rattle.control_definitions.specs.Cells.{Cells, move_name, move_number, set_demand}
+use Rattle.control_definitions.specs.Cells.{Cells, move_name, move_number, steps_allowed, set_demand}
 use Rattle.run_definitions.specs.State.{Present, present_basis, gone_through, State, problem_of, choice_of}
 use Rattle.run_definitions.specs.Moves.{Prints, Punches, next, Does}
 use Rattle.run_definitions.specs.Verbs.{size_of, files, not_less, change_row, change_set, asks, mark_of, mark_after, demanded, by_verdict, after_path, after_sweep, if_optimal, shows_present, solves, shows, ranges, sweeps, converts, revises, sets_up, punches, verb_move, if_built, statement_move}
@@ -36,9 +36,13 @@ use Rattle.path_laws.specs.Laws.{IsNonsingularBasis}
 use Rattle.path_laws.proofs.Ends.{optimal_end}
 use Rattle.path_laws.proofs.Steps.{opening_is}
 use Rattle.path_laws.proofs.OnePath.{path_leads}
-use Rattle.run_laws.specs.Truth.{PresentProgram, ShowsBest, ShowsRanges, Holds}
+use Rattle.run_laws.specs.Truth.{PresentProgram, ShowsBest, ShowsRanges, IsOfProblem, named_by, TellsOfRun, ShowsOpening, ShowsChain, Holds}
 use Rattle.sweep_laws.specs.Laws.{gone_over}
-use Rattle.run_laws.specs.Laws.{KnowsSolving, SweepsKeepBases}
+use Rattle.sweep_laws.proofs.Runs.{swept_leads}
+use Rattle.sweep_truth.specs.Printed.{IsTrueSweep}
+use Rattle.sweep_truth.proofs.Runs.{swept_true}
+use Rattle.run_laws.specs.Laws.{KnowsSolving}
+use Rattle.run_laws.proofs.ChangeRow.{changes_freely, row_named, set_named, last_is}
 use Rattle.run_laws.proofs.Ends.{IsProvedBest, shown_is_best, path_is_true}
 use Rattle.run_laws.proofs.Selected.{selected_is_lawful, selected_has_no_change}
 use Rattle.run_laws.proofs.Moves.{HasProblem, EndsOptimally, KnowsMark, Knows, Keeps, IsKept, unmarked, HasBases, KnowsBases, without_setup, with_basis, does, may_stop, answered, unless_fault, unless_deck_fault, unless_selection_fault, selecting}
@@ -178,10 +182,32 @@ moved_demand : (demand : Demand) (position : ℕ) (cells : Cells) (mark : Option
 moved_demand Xdonfs position cells mark setup knows = knows
 moved_demand Xdounb position cells mark setup knows = knows
 
--- a verdict of another solver says nothing
-by_sweep : (state : State) (changing : Changing) (verdict : Verdict) (check : Check) → Holds state (Solved (sweeper changing) verdict check)
-by_sweep state (Row name) verdict check = tt
-by_sweep state (Set name) verdict check = tt
+-- ---- parametric runs
+
+-- what the opening path of a run prints holds, and so do its intervals
+opening_holds : (state : State) (changing : Changing) (verdict : Verdict) (check : Check) → TellsOfRun state.setup state.cells (sweeper changing) (ShowsOpening verdict check) → Holds state (Solved (sweeper changing) verdict check)
+opening_holds state (Row name) verdict check told = told
+opening_holds state (Set name) verdict check told = told
+
+-- what is asked of a run by the cells
+pub record IsAskedFor (state : State) (present : Present) (sweep : Sweep) : Type 0 where
+  pub is_part : IsOfProblem sweep.changing present.problem
+  pub is_named : named_by state.cells sweep.changing ≡ Some (changing_name sweep.changing)
+  pub from_first : sweep.from ≡ state.cells.xparam
+  pub to_last : state.cells.xparmax ≡ Some sweep.to
+
+told_of : (state : State) (present : Present) (lp : LinearProgram) (sweep : Sweep) (lawful : HasProblem state.setup) (set : state.setup ≡ Some present) (is : selected present.problem (choice_of state.cells present.options) ≡ Ok lp) →
+    IsAskedFor state present sweep → (Tells : Sheet → Sweep → Type 0) → Tells (record { problem = present.problem; lp = lp }) sweep → TellsOfRun state.setup state.cells (sweeper sweep.changing) Tells
+told_of state present lp sweep lawful set is asked Tells tells = record {
+  program = present_program state.setup state.cells present lp lawful set is;
+  sweep = sweep;
+  is_solver = refl;
+  is_part = asked.is_part;
+  is_named = asked.is_named;
+  from_first = asked.from_first;
+  to_last = asked.to_last;
+  tells = tells;
+}
 
 module _ (S : Solving) (solving : KnowsSolving S) where
   pathed : (card : ℕ) (present : Present) (state : State) (lp : LinearProgram) → HasProblem state.setup → selected present.problem (choice_of state.cells present.options) ≡ Ok lp → state.setup ≡ Some present → HasBases present →
@@ -233,29 +259,41 @@ module _ (S : Solving) (solving : KnowsSolving S) where
       showing card state present OfRanges Ranges knows (λ lp is lines shown.
       ranges_shown present lp state.cells state.setup lines lawful (knows.marked (m ∙ ap (λ (own : Mark). Some own) (optimal_alone mark left o))) ((knows.bases present e).in_each state.cells.xobj state.cells.xrhs lp is) e is (solving.ranges _ _ lines shown)))))
 
-  swept : (card : ℕ) (sweep : Sweep) (present : Present) (state : State) (lp : LinearProgram) → selected present.problem (choice_of state.cells present.options) ≡ Ok lp → (end : SweepEnd) →
-      IsNonsingularBasis lp (last_of (present_basis present) (gone_over end)) → Keeps state (after_sweep card sweep present state end)
-  swept card sweep present state lp is (Opening bases verdict check) at =
-      by_verdict_keeps state (mark_of verdict) (Solved (sweeper sweep.changing) verdict check) _ (by_sweep state sweep.changing verdict check)
+  swept : (card : ℕ) (sweep : Sweep) (present : Present) (state : State) (lp : LinearProgram) → HasProblem state.setup → state.setup ≡ Some present → selected present.problem (choice_of state.cells present.options) ≡ Ok lp →
+      IsAskedFor state present sweep → (end : SweepEnd) → IsNonsingularBasis lp (last_of (present_basis present) (gone_over end)) → IsTrueSweep (record { problem = present.problem; lp = lp }) sweep end →
+      Keeps state (after_sweep card sweep present state end)
+  swept card sweep present state lp lawful set is asked (Opening bases verdict check) at truth =
+      by_verdict_keeps state (mark_of verdict) (Solved (sweeper sweep.changing) verdict check) _
+      (opening_holds state sweep.changing verdict check (told_of state present lp sweep lawful set is asked (ShowsOpening verdict check) (record { bases = bases; is_true = truth })))
       (record { marked = unmarked _ _ _; bases = goes_to present state.cells.xobj state.cells.xrhs lp bases is at })
-  swept card sweep present state lp is (Chained bases intervals end) at =
-      (tt, record { marked = unmarked _ _ _; bases = goes_to present state.cells.xobj state.cells.xrhs lp bases is at })
-  swept card sweep present state lp is SweepLimit at = tt
+  swept card sweep present state lp lawful set is asked (Chained bases intervals end) at truth = (
+    told_of state present lp sweep lawful set is asked (ShowsChain (record { from = sweep.from; change = changing_name sweep.changing; intervals = intervals; end = end })) (record { is_from = refl; is_change = refl; is_true = truth }),
+    record { marked = unmarked _ _ _; bases = goes_to present state.cells.xobj state.cells.xrhs lp bases is at },
+  )
+  swept card sweep present state lp lawful set is asked SweepLimit at truth = tt
 
-  asked_kept : (card : ℕ) (present : Present) (state : State) (lp : LinearProgram) (sweep : Sweep) → SweepsKeepBases S → HasBases present → selected present.problem (choice_of state.cells present.options) ≡ Ok lp →
+  asked_kept : (card : ℕ) (present : Present) (state : State) (lp : LinearProgram) (sweep : Sweep) → HasProblem state.setup → HasBases present → state.setup ≡ Some present →
+      selected present.problem (choice_of state.cells present.options) ≡ Ok lp → IsAskedFor state present sweep →
       IsKept S state card (asks (OfSweep sweep) (record { problem = present.problem; lp = lp }) present (after_sweep card sweep present state))
-  asked_kept card present state lp sweep keep has is = may_stop S state card _ _ (answered S state card (OfSweep sweep) _ _ _ (λ end right.
-      swept card sweep present state lp is end (keep (record { problem = present.problem; lp = lp }) (present_basis present) sweep end right (has.in_each state.cells.xobj state.cells.xrhs lp is))))
+  asked_kept card present state lp sweep lawful has set is asked = may_stop S state card _ _ (answered S state card (OfSweep sweep) _ _ _ (λ end right.
+      let sheet : Sheet = record { problem = present.problem; lp = lp } in
+      let at = has.in_each state.cells.xobj state.cells.xrhs lp is in
+      let ran = solving.sweeps sheet (present_basis present) sweep end right in
+      let free = changes_freely sheet (choice_of state.cells present.options) sweep.changing (lawful present set) is asked.is_part in
+      swept card sweep present state lp lawful set is asked end (swept_leads sheet (present_basis present) sweep end ran at)
+      (swept_true sheet (present_basis present) sweep end (selected_is_lawful present.problem (choice_of state.cells present.options) lp (lawful present set) is) free at ran)))
 
-  sweeps_kept : (card : ℕ) (fault : VerbFault) (change : Problem ℕ → Name → Option Changing) (moved : Option Name) (state : State) → SweepsKeepBases S → Knows state →
-      IsKept S state card (sweeps card fault change moved state)
-  sweeps_kept card fault change moved state keep knows =
+  sweeps_kept : (card : ℕ) (fault : VerbFault) (change : Problem ℕ → Name → Option Changing) (moved : Option Name) (state : State) →
+      ((problem : Problem ℕ) (changing : Changing) → option_and_then (change problem) moved ≡ Some changing → IsOfProblem changing problem × (named_by state.cells changing ≡ Some (changing_name changing))) →
+      HasProblem state.setup → Knows state → IsKept S state card (sweeps card fault change moved state)
+  sweeps_kept card fault change moved state named lawful knows =
       unless_fault S state card VerbFault.NoSetup state.setup _ (λ present e.
       selecting S state card present.problem _ _ (λ lp is.
       unless_fault {X = Changing} S state card fault (option_and_then (change present.problem) moved) _ (λ changing c.
       unless_fault {X = ℚ} S state card VerbFault.NoParmax state.cells.xparmax _ (λ last l.
       unless_fault {X = ℚ} S state card VerbFault.ParmaxBelow (not_less state.cells.xparam last) _ (λ to t.
-      asked_kept card present state lp (record { changing = changing; from = state.cells.xparam; to = to; limit = state.cells.xiterlim }) keep (knows.bases present e) is)))))
+      asked_kept card present state lp (record { changing = changing; from = state.cells.xparam; to = to; limit = steps_allowed state.cells }) lawful (knows.bases present e) e is
+      (record { is_part = (named present.problem changing c).0; is_named = (named present.problem changing c).1; from_first = refl; to_last = l ∙ ap (λ (x : ℚ). Some x) (last_is state.cells.xparam last to t) }))))))
 
   files_kept : (card : ℕ) (report : Filed → Report) (decks : List (List Card)) (state : State) → ((filed : Filed) → Holds state (report filed)) → (problem : Problem ℕ) →
       IsKept S state card (files report decks state problem)
@@ -308,8 +346,8 @@ module _ (S : Solving) (solving : KnowsSolving S) where
   verb_kept Primal card state lawful knows built = solving_kept card state lawful knows
   verb_kept SolutionVerb card state lawful knows built = shows_kept card state lawful knows
   verb_kept Ranging card state lawful knows built = ranges_kept card state lawful knows
-  verb_kept Paraobj card state lawful knows built = sweeps_kept card VerbFault.NoChangeRow change_row state.cells.xchrow state solving.sweeps knows
-  verb_kept Pararhs card state lawful knows built = sweeps_kept card VerbFault.NoChangeSet change_set state.cells.xchcol state solving.sweeps knows
+  verb_kept Paraobj card state lawful knows built = sweeps_kept card VerbFault.NoChangeRow change_row state.cells.xchrow state (row_named state.cells) lawful knows
+  verb_kept Pararhs card state lawful knows built = sweeps_kept card VerbFault.NoChangeSet change_set state.cells.xchcol state (set_named state.cells) lawful knows
   verb_kept Bcdout card state lawful knows built = punches_kept card state knows
   verb_kept Exit card state lawful knows built = does S state card _ tt
 

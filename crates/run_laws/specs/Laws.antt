@@ -1,41 +1,36 @@
 -- The law of whole runs, as the function of src/lib.rt promises it.
---     KnowsSolving S               the ends of paths and the lines of SOLUTION and RANGE are those of the
---                                  linear program
+--     KnowsSolving S               the ends of paths and of parametric runs, and the lines of SOLUTION and
+--                                  RANGE, are those of the linear program
 --     TellsTruth S                 each report of the run of a job holds of the state in which it is made
 --     FilesProblems S              every problem that is filed in the run of a job is one
-use Rattle.std.specs.Prelude.{◌≡◌, ℕ, Bool, List, [], All, Some}
+--     EndsUnlimited S              where there is no limit on steps, PRIMAL doesn't stop at one
+use Rattle.std.specs.Prelude.{◌≡◌, ℕ, Bool, List, All, Option, None, Some}
 use Rattle.problem_definitions.specs.Valid.{IsProblem}
-use Rattle.control_definitions.specs.Program.{Verb, Program}
-use Rattle.path_definitions.specs.Path.{last_of}
-use Rattle.path_laws.specs.Laws.{IsNonsingularBasis}
+use Rattle.control_definitions.specs.Program.{Verb, Primal, Program}
 use Rattle.listing_definitions.specs.Report.{SolutionLines, RangeLines, Verdict, Check, Report}
-use Rattle.listing_definitions.specs.Ending.{Ending}
+use Rattle.listing_definitions.specs.Ending.{Ending, LimitStop}
 use Rattle.question_definitions.specs.Answers.{Basis, Sheet, Sweep, Reached, SweepEnd}
 use Rattle.question_definitions.specs.Solving.{Solving}
 use Rattle.answer_definitions.specs.Verdicts.{ReachesVerdict}
 use Rattle.answer_definitions.specs.Sections.{IsShown, IsRanged}
+use Rattle.answer_definitions.specs.Sweeps.{IsSwept}
 use Rattle.answer_definitions.specs.Real.{staged}
 use Rattle.run_definitions.specs.State.{Present, State}
-use Rattle.run_definitions.specs.Moves.{printed_by, Outcome, Goes, Ends}
+use Rattle.run_definitions.specs.Moves.{printed_by, Outcome, Goes, Ends, Gives}
+use Rattle.run_definitions.specs.Verbs.{statement_move}
 use Rattle.run_definitions.specs.Run.{Step}
 use Rattle.run_definitions.specs.Answer.{IsJobRun, IsSoFar}
-use Rattle.sweep_laws.specs.Laws.{gone_over}
 use Rattle.run_laws.specs.Truth.{Holds}
 use Rattle.run_laws.specs.Headline.{HoldInJob}
 
--- a parametric run leads from a nonsingular basis to a nonsingular basis
-abbrev pub SweepsKeepBases : Solving → Type 0
-SweepsKeepBases S = (sheet : Sheet) (s : Basis) (sweep : Sweep) (end : SweepEnd) → S.Sweeps sheet s sweep end →
-    IsNonsingularBasis sheet.lp s → IsNonsingularBasis sheet.lp (last_of s (gone_over end))
-
--- the ends of paths and the lines of SOLUTION and RANGE are those of the linear program, and parametric
--- runs keep to bases
+-- the ends of paths and of parametric runs and the lines of SOLUTION and RANGE are those of the linear
+-- program
 pub record KnowsSolving (S : Solving) : Type 0 where
-  pub solves : (sheet : Sheet) (s : Basis) (limit : ℕ) (bases : List Basis) (verdict : Verdict) (check : Check) →
+  pub solves : (sheet : Sheet) (s : Basis) (limit : Option ℕ) (bases : List Basis) (verdict : Verdict) (check : Check) →
       S.Solves sheet s limit (Reached bases verdict check) → ReachesVerdict sheet s limit bases verdict check
   pub shows : (sheet : Sheet) (s : Basis) (lines : SolutionLines) → S.Shows sheet s lines → IsShown sheet s lines
   pub ranges : (sheet : Sheet) (s : Basis) (lines : RangeLines) → S.Ranges sheet s lines → IsRanged sheet s lines
-  pub sweeps : SweepsKeepBases S
+  pub sweeps : (sheet : Sheet) (s : Basis) (sweep : Sweep) (end : SweepEnd) → S.Sweeps sheet s sweep end → IsSwept sheet s sweep end
 
 -- what a statement prints, where the run goes on and where it ends
 abbrev pub reports_of : Outcome → List Report
@@ -60,7 +55,18 @@ pub record FilesProblems (S : Solving) : Type 0 where
       (present : Present) → IsSoFar S bytes reports cards program state → state.setup ≡ Some present →
       IsProblem present.problem
 
+-- the run doesn't end at the limit on steps
+abbrev pub IsNoLimitStop : Outcome → Type 0
+IsNoLimitStop (Ends gain (LimitStop reached)) = ⊥
+IsNoLimitStop _ = Unit {0}
+
+-- Where there is no limit, PRIMAL doesn't stop at one.
+abbrev pub EndsUnlimited : Solving → Type 0
+EndsUnlimited S = (card : ℕ) (state : State) (outcome : Outcome) → state.cells.xiterlim ≡ None →
+    Gives S card (statement_move S Primal card state) outcome → IsNoLimitStop outcome
+
 -- whichever verbs are built
 pub record RunLaws : Type 0 where
   pub truth : (builds : Verb ℕ → Bool) → TellsTruth (staged builds)
   pub problems : (builds : Verb ℕ → Bool) → FilesProblems (staged builds)
+  pub unlimited : (builds : Verb ℕ → Bool) → EndsUnlimited (staged builds)

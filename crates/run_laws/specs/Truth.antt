@@ -3,23 +3,29 @@
 --     ShowsBest ..                 the lines of SOLUTION show what is best
 --     ShowsRanges ..               the lines of RANGE show where the basis stays optimal
 --     IsTrueOf sheet verdict       what a verdict says of a linear program
+--     TellsOfRun ..                what PARAOBJ or PARARHS prints is of the run that the cells ask for
+--     ShowsOpening, ShowsChain     a verdict of its opening path; its intervals and its end
 --     Holds state report           a report that is made in a state holds of it
-use Rattle.std.specs.Prelude.{◌≡◌, List, Option, Some, Ok}
+use Rattle.std.specs.Prelude.{◌≡◌, ℕ, true, List, Option, Some, Ok}
 use Rattle.exact_values.specs.Rational.{ℚ}
 use Rattle.lp_definitions.specs.LinearProgram.{LinearProgram, value_at, objective_value, IsLinearProgram}
 use Rattle.lp_definitions.specs.Solutions.{IsBest, AreProvingPrices, IsCrossed, IsRay, ProvesUnbounded, IsInfeasible, IsUnbounded}
 use Rattle.lp_definitions.specs.Basis.{basics_of, Tableau, IsTableau, IsOptimalBasis, price_at}
 use Rattle.postoptimal_definitions.specs.Ranges.{RangeReport, IsRangeReport}
 use Rattle.path_laws.specs.Laws.{IsNonsingularBasis}
+use Rattle.problem_definitions.specs.Names.{Name}
+use Rattle.problem_definitions.specs.Problem.{Problem, has_free_row, has_group}
 use Rattle.problem_definitions.specs.Valid.{IsProblem}
 use Rattle.control_definitions.specs.Cells.{Cells}
 use Rattle.selection_definitions.specs.Selection.{selected}
 use Rattle.listing_definitions.specs.declared.Mark.TheVariants.{Optimal}
+use Rattle.listing_definitions.specs.declared.Solver.{Solver}
 use Rattle.listing_definitions.specs.declared.Solver.TheVariants.{Primal as ByPrimal}
-use Rattle.listing_definitions.specs.Report.{Line, SolutionLines, RangeLines, Verdict, OptimalAt, CrossedAt, InfeasibleBy, UnboundedBy, Report, Solved, Solution, Ranges}
-use Rattle.question_definitions.specs.Answers.{Sheet}
+use Rattle.listing_definitions.specs.Report.{Line, SolutionLines, RangeLines, Verdict, OptimalAt, CrossedAt, InfeasibleBy, UnboundedBy, Check, Chain, Report, Solved, Solution, Ranges, Parametric}
+use Rattle.question_definitions.specs.Answers.{Basis, Sheet, Changing, Row, Set, changing_name, sweeper, Sweep}
 use Rattle.answer_definitions.specs.Lines.{pair_lines, ray_lines}
 use Rattle.answer_definitions.specs.Sections.{solution_lines, range_lines}
+use Rattle.sweep_truth.specs.Printed.{IsTrueOpening, IsTrueChain}
 use Rattle.run_definitions.specs.State.{Present, present_basis, State, choice_of}
 
 -- There is a setup; and the linear program is selected of its problem with its options and with these
@@ -91,12 +97,50 @@ IsTrueOf sheet (CrossedAt k) = IsCrossed sheet.lp k × IsInfeasible sheet.lp
 IsTrueOf sheet (InfeasibleBy steps lines) = AreLinesOfRay sheet lines × IsInfeasible sheet.lp
 IsTrueOf sheet (UnboundedBy steps objective lines) = AreLinesOfDirection sheet objective lines × IsUnbounded sheet.lp
 
+-- a parametric run changes a row without limits of the problem, or a right-hand side set of it
+abbrev pub IsOfProblem : Changing → Problem ℕ → Type 0
+IsOfProblem (Row name) problem = has_free_row problem.rows name ≡ true
+IsOfProblem (Set name) problem = has_group problem.rhs name ≡ true
+
+-- the name that was moved to XCHROW, where a row changes, or to XCHCOL, where a set does
+abbrev pub named_by : Cells → Changing → Option Name
+named_by cells (Row name) = cells.xchrow
+named_by cells (Set name) = cells.xchcol
+
+-- The parametric run of a verb in the linear program that is selected of the setup with these cells: from
+-- XPARAM to XPARMAX, with what changes as the cells name it. Something is told of it.
+pub record TellsOfRun (setup : Option Present) (cells : Cells) (solver : Solver) (Tells : Sheet → Sweep → Type 0) : Type 0 where
+  pub program : PresentProgram setup cells
+  pub sweep : Sweep
+  pub is_solver : solver ≡ sweeper sweep.changing
+  pub is_part : IsOfProblem sweep.changing program.present.problem
+  pub is_named : named_by cells sweep.changing ≡ Some (changing_name sweep.changing)
+  pub from_first : sweep.from ≡ cells.xparam
+  pub to_last : cells.xparmax ≡ Some sweep.to
+  pub tells : Tells (sheet_of program) sweep
+
+-- the opening path isn't optimal, and its verdict is proved at the first value
+pub record ShowsOpening (verdict : Verdict) (check : Check) (sheet : Sheet) (sweep : Sweep) : Type 0 where
+  pub bases : List Basis
+  pub is_true : IsTrueOpening sheet sweep bases verdict check
+
+-- At every value of the parameter in an interval that is printed the printed point is best and the printed
+-- prices prove it; the intervals leave no gap; and the last one ends at the last value, or what is printed
+-- proves for every greater value that there is no best point.
+pub record ShowsChain (chain : Chain) (sheet : Sheet) (sweep : Sweep) : Type 0 where
+  pub is_from : chain.from ≡ sweep.from
+  pub is_change : chain.change ≡ changing_name sweep.changing
+  pub is_true : IsTrueChain sheet sweep chain.intervals chain.end
+
 -- What a report says of the linear program that is selected in the state in which it is made: SOLUTION
--- OPTIMAL shows what is best in it, RANGE shows where its basis stays optimal, and a verdict of PRIMAL is
--- true of it. The other reports say nothing of a linear program yet.
+-- OPTIMAL shows what is best in it, RANGE shows where its basis stays optimal, a verdict of PRIMAL is true
+-- of it, and what PARAOBJ and PARARHS print is true at every value of the parameter of which it speaks.
+-- The other reports say nothing of a linear program.
 abbrev pub Holds : State → Report → Type 0
 Holds state (Solution Optimal lines) = ShowsBest state.setup state.cells lines
 Holds state (Ranges lines) = ShowsRanges state.setup state.cells lines
 Holds state (Solved ByPrimal verdict check) =
     (program : PresentProgram state.setup state.cells) × IsTrueOf (sheet_of program) verdict
+Holds state (Solved solver verdict check) = TellsOfRun state.setup state.cells solver (ShowsOpening verdict check)
+Holds state (Parametric solver chain) = TellsOfRun state.setup state.cells solver (ShowsChain chain)
 Holds state report = Unit {0}

@@ -2,6 +2,8 @@
 #![tactic(auto)]
 
 #[cfg(test)]
+mod cycling_tests;
+#[cfg(test)]
 mod table_tests;
 #[cfg(test)]
 mod tests;

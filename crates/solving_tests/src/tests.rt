@@ -10,11 +10,11 @@ use rates_dense::Dense;
 use std::alloc::{AllocError, Global};
 use std::test::Fail;
 
-fn whole(n: i32) -> Frac {
+pub fn whole(n: i32) -> Frac {
     Frac::whole(n as i128)
 }
 
-fn limit(n: i32) -> Option<Frac> {
+pub fn limit(n: i32) -> Option<Frac> {
     Some(whole(n))
 }
 
@@ -125,7 +125,7 @@ fn testprob(alloc: Global) -> Result<Lp, AllocError>
 }
 
 /// Beale's problem, at which a path without the least-index rule comes back to where it began.
-fn beale(alloc: Global) -> Result<Lp, AllocError>
+pub fn beale(alloc: Global) -> Result<Lp, AllocError>
     ensures { IfOk result (λ lp. size lp.matrix ≡ 8) }
 {
     let first = vec![in alloc;

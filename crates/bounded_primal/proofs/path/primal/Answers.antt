@@ -2,6 +2,7 @@ use Rattle.std.proofs.Common.{rules}
 use Rattle.lp_definitions.specs.LinearProgram.{IsLinearProgram}
 use Rattle.bounded_primal.proofs.TrueOutcomes.{true_result, crossed_call, crossed_truth}
 use Rattle.bounded_primal.proofs.PathWalk.{stays}
+use Rattle.bounded_primal.proofs.FreeWalk.{limit_below}
 use Rattle.bounded_primal.proofs.path.primal.Goals as goal
 
 pub returns-in-Some-clause-ends : goal.returns-in-Some-clause-ends
@@ -26,3 +27,8 @@ returns-in_err-row-clause-waypoints g c = stays c.args.lp.now c.args.basis.now (
 
 pub returns-in_err-direction-clause-waypoints : goal.returns-in_err-direction-clause-waypoints
 returns-in_err-direction-clause-waypoints g c = stays c.args.lp.now c.args.basis.now (g.R.Rates.waypoints c.args.rates.now)
+
+pub returns-clause-limited : goal.returns-clause-limited
+returns-clause-limited g c =
+    let lawful : IsLinearProgram c.args.lp.now = search rules in
+    limit_below c.args.lp.now lawful (g.R.Rates.matrix c.args.rates.now) (g.R.Rates.basics c.args.rates.now) c.args.basis.now c.requires c.walk.new.basis c.args.limit (g.R.Rates.waypoints c.args.rates.now) (g.R.Rates.waypoints c.walk.new.rates) c.walk.result c.walk.ensures.stops

@@ -1,10 +1,11 @@
-use Rattle.std.proofs.Common.{◌∙◌, arith}
+use Rattle.std.proofs.Common.{◌≡◌, ◌-◌, ◌∙◌, refl, arith}
 use Rattle.std.proofs.lemmas.Result.{err_from_is_err_and}
 use Rattle.lp_definitions.specs.LinearProgram.{value_at}
 use Rattle.lp_definitions.specs.Basis.{basics_of}
 use Rattle.lp_laws.proofs.WaypointLaws.{keeps_then}
-use Rattle.bounded_primal.proofs.PathWalk.{begins_at, stops_there, follows, follows_later}
+use Rattle.bounded_primal.proofs.PathWalk.{begins_at, ends_there, stops_there, follows, follows_later}
 use Rattle.bounded_primal.proofs.WalkCases.{stops_at_once, walk_more, walk_stops}
+use Rattle.path_definitions.specs.Counts.{counted_steps}
 use Rattle.bounded_primal.proofs.path.walk.Goals as goal
 
 pub returns-in_err-point_of-clause-stops : goal.returns-in_err-point_of-clause-stops
@@ -39,7 +40,7 @@ pub returns-in_err-take_step-in-Moves-clause-stops : goal.returns-in_err-take_st
 returns-in_err-take_step-in-Moves-clause-stops g c =
     let p = err_from_is_err_and c.from_residual-in_err-take_step-in-Moves.result c.from_residual-in_err-take_step-in-Moves.ensures.1 in
     let moves = rw c.in-Moves.is at c.in_ok-outcome.ensures.turn in
-    rw (p.1, p.2, c.in_err-take_step-in-Moves.ensures.unchanged) (walk_stops c.args.lp.now c.loop-outcome.basis (value_at c.loop-outcome.point) (value_at c.next_turn.new.direction) c.in-Moves.q c.in-Moves.by c.loop-outcome.steps c.args.limit moves c.args.basis.now (g.R.Rates.waypoints c.args.rates.now) (g.R.Rates.waypoints c.loop-outcome.rates) c.loop-outcome.invariant.reached (g.R.Rates.waypoints c.next_turn.new.rates) (g.R.Rates.waypoints c.take_step.new.rates) c.in_err-take_step-in-Moves.field-0.0 c.loop-outcome.invariant.within c.in_ok-outcome.ensures.waypoints c.in_err-take_step-in-Moves.ensures.overflow)
+    rw (p.1, p.2, c.in_err-take_step-in-Moves.ensures.unchanged) (walk_stops c.args.lp.now c.loop-outcome.basis (value_at c.loop-outcome.point) (value_at c.next_turn.new.direction) c.in-Moves.q c.in-Moves.by (c.args.limit - c.loop-outcome.steps) moves c.args.basis.now (g.R.Rates.waypoints c.args.rates.now) (g.R.Rates.waypoints c.loop-outcome.rates) c.loop-outcome.steps c.loop-outcome.invariant.reached (g.R.Rates.waypoints c.next_turn.new.rates) (g.R.Rates.waypoints c.take_step.new.rates) c.in_err-take_step-in-Moves.field-0.0 c.args.limit c.loop-outcome.invariant.within refl c.in_ok-outcome.ensures.waypoints c.in_err-take_step-in-Moves.ensures.overflow)
 
 pub loop-outcome-preserved : goal.loop-outcome-preserved
 loop-outcome-preserved g c =
@@ -48,7 +49,7 @@ loop-outcome-preserved g c =
       rates = c.in_ok-take_step-in-Moves.ensures.rates;
       point = c.in_ok-take_step-in-Moves.ensures.point;
       within = omega (arith, moves.was_left);
-      reached = walk_more c.args.lp.now c.loop-outcome.basis (value_at c.loop-outcome.point) (value_at c.next_turn.new.direction) c.in-Moves.q c.in-Moves.by c.loop-outcome.steps c.args.limit moves c.args.basis.now (g.R.Rates.waypoints c.args.rates.now) (g.R.Rates.waypoints c.loop-outcome.rates) c.loop-outcome.invariant.reached c.take_step.new.basis (g.R.Rates.waypoints c.next_turn.new.rates) (g.R.Rates.waypoints c.take_step.new.rates) c.in_ok-take_step-in-Moves.ensures.basis c.in_ok-outcome.ensures.waypoints c.in_ok-take_step-in-Moves.ensures.waypoints;
+      reached = walk_more c.args.lp.now c.loop-outcome.basis (value_at c.loop-outcome.point) (value_at c.next_turn.new.direction) c.in-Moves.q c.in-Moves.by (c.args.limit - c.loop-outcome.steps) moves c.args.basis.now (g.R.Rates.waypoints c.args.rates.now) (g.R.Rates.waypoints c.loop-outcome.rates) c.loop-outcome.steps c.loop-outcome.invariant.reached c.take_step.new.basis (g.R.Rates.waypoints c.next_turn.new.rates) (g.R.Rates.waypoints c.take_step.new.rates) c.in_ok-take_step-in-Moves.ensures.basis c.in_ok-outcome.ensures.waypoints c.in_ok-take_step-in-Moves.ensures.waypoints;
     }
 
 pub returns-in_err-point_of-clause-waypoints : goal.returns-in_err-point_of-clause-waypoints
@@ -72,3 +73,10 @@ returns-in_err-take_step-in-Moves-clause-waypoints g c =
     (g.R.Rates.waypoints c.take_step.new.rates)
     (keeps_then c.args.lp.now.matrix (basics_of c.loop-outcome.basis) (g.R.Rates.waypoints c.loop-outcome.rates) (basics_of c.loop-outcome.basis) (g.R.Rates.waypoints c.next_turn.new.rates) (g.R.Rates.waypoints c.take_step.new.rates)
     c.in_ok-outcome.ensures.waypoints (rw (c.in_err-take_step-in-Moves.ensures.unchanged) at c.in_err-take_step-in-Moves.ensures.waypoints)))
+
+pub returns-in-Ends-clause-ends : goal.returns-in-Ends-clause-ends
+returns-in-Ends-clause-ends g c =
+    let ends = rw c.in-Ends.is at c.in_ok-outcome.ensures.turn in
+    let counted : c.loop-outcome.steps ≡ counted_steps c.loop-outcome.steps = omega (arith, c.loop-outcome.invariant.within) in
+    ends_there c.args.lp.now c.args.basis.now (g.R.Rates.waypoints c.args.rates.now) c.loop-outcome.basis (g.R.Rates.waypoints c.loop-outcome.rates) c.loop-outcome.steps c.loop-outcome.invariant.reached
+    c.args.limit c.loop-outcome.steps c.in-Ends.outcome c.loop-outcome.invariant.within counted ends

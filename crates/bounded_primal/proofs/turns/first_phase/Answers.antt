@@ -1,4 +1,4 @@
-use Rattle.std.proofs.Common.{◌-◌, sym, ◌∙◌, arith}
+use Rattle.std.proofs.Common.{sym, ◌∙◌, arith}
 use Rattle.std.proofs.lemmas.Result.{err_from_is_err_and}
 use Rattle.lp_definitions.specs.LinearProgram.{value_at}
 use Rattle.lp_definitions.specs.Basis.{basics_of}
@@ -16,13 +16,13 @@ returner-requires-clause-basic g c = outside_basic c.args.lp.now c.args.basis.no
 pub returns-in_err-q-clause-turn : goal.returns-in_err-q-clause-turn
 returns-in_err-q-clause-turn g c =
     let p = err_from_is_err_and c.from_residual.result c.from_residual.ensures.1 in
-    rw (p.1, p.2) (point_stops c.args.lp.now c.args.basis.now (c.args.limit - c.args.steps) (g.R.Rates.waypoints c.args.rates.now) (g.R.Rates.waypoints c.returner.new.rates) c.in_err-q.field-0.0 c.in_err-q.ensures.overflow)
+    rw (p.1, p.2) (point_stops c.args.lp.now c.args.basis.now c.args.left (g.R.Rates.waypoints c.args.rates.now) (g.R.Rates.waypoints c.returner.new.rates) c.in_err-q.field-0.0 c.in_err-q.ensures.overflow)
 
 pub returns-in_default-clause-turn : goal.returns-in_default-clause-turn
 returns-in_default-clause-turn g c = first_ends c.args.lp.now c.args.basis.now (value_at c.args.point.now) (g.R.Rates.matrix c.args.rates.now) (g.R.Rates.basics c.args.rates.now) c.requires.rates c.requires.point c.requires.uncrossed c.args.r c.requires.outside (value_at c.returner.new.row) c.in_ok-q.ensures.row c.lies_below-below.result c.lies_below-below.ensures c.in_ok-ray.ray c.args.steps (sym c.in_default.is ∙ c.in_ok-q.ensures.found) c.in_ok-ray.ensures.places c.in_ok-ray.ensures.ray
 
-pub returns-then-steps-limit-clause-turn : goal.returns-then-steps-limit-clause-turn
-returns-then-steps-limit-clause-turn g c = first_at_limit c.args.lp.now c.args.basis.now (value_at c.args.point.now) (g.R.Rates.matrix c.args.rates.now) (g.R.Rates.basics c.args.rates.now) c.requires.rates c.requires.point c.requires.uncrossed c.args.r c.requires.outside (value_at c.returner.new.row) c.in_ok-q.ensures.row c.lies_below-below.result c.lies_below-below.ensures c.in-Some.q (sym c.in-Some.is ∙ c.in_ok-q.ensures.found) (c.args.limit - c.args.steps) (g.R.Rates.waypoints c.args.rates.now) (g.R.Rates.waypoints c.returner.new.rates) (omega (arith, c.if-steps-limit.true))
+pub returns-then-left-eq0-clause-turn : goal.returns-then-left-eq0-clause-turn
+returns-then-left-eq0-clause-turn g c = first_at_limit c.args.lp.now c.args.basis.now (value_at c.args.point.now) (g.R.Rates.matrix c.args.rates.now) (g.R.Rates.basics c.args.rates.now) c.requires.rates c.requires.point c.requires.uncrossed c.args.r c.requires.outside (value_at c.returner.new.row) c.in_ok-q.ensures.row c.lies_below-below.result c.lies_below-below.ensures c.in-Some.q (sym c.in-Some.is ∙ c.in_ok-q.ensures.found) c.args.left (g.R.Rates.waypoints c.args.rates.now) (g.R.Rates.waypoints c.returner.new.rates) c.if-left-eq0.true
 
 pub return_of-requires-clause-nonbasic : goal.return_of-requires-clause-nonbasic
 return_of-requires-clause-nonbasic g c = first_nonbasic c.args.lp.now c.args.basis.now (value_at c.args.point.now) (g.R.Rates.matrix c.args.rates.now) (g.R.Rates.basics c.args.rates.now) c.requires.rates c.requires.point c.requires.uncrossed c.args.r c.requires.outside (value_at c.returner.new.row) c.in_ok-q.ensures.row c.lies_below-below.result c.lies_below-below.ensures c.in-Some.q (sym c.in-Some.is ∙ c.in_ok-q.ensures.found)
@@ -39,10 +39,10 @@ return_of-requires-clause-pivot g c = first_pivot c.args.lp.now c.args.basis.now
 pub returns-in_err-by-clause-turn : goal.returns-in_err-by-clause-turn
 returns-in_err-by-clause-turn g c =
     let p = err_from_is_err_and c.from_residual-in_err-by.result c.from_residual-in_err-by.ensures.1 in
-    rw (p.1, p.2) (first_stops c.args.lp.now c.args.basis.now (value_at c.args.point.now) (g.R.Rates.matrix c.args.rates.now) (g.R.Rates.basics c.args.rates.now) c.requires.rates c.requires.point c.requires.uncrossed c.args.r c.requires.outside (value_at c.returner.new.row) c.in_ok-q.ensures.row c.lies_below-below.result c.lies_below-below.ensures c.in-Some.q (sym c.in-Some.is ∙ c.in_ok-q.ensures.found) c.limit_broken.result c.limit_broken.ensures (c.args.limit - c.args.steps) (g.R.Rates.waypoints c.args.rates.now) (g.R.Rates.waypoints c.returner.new.rates) (g.R.Rates.waypoints c.return_of.new.rates) c.in_err-by.field-0.0 c.returner.ensures.waypoints c.in_err-by.ensures.overflow)
+    rw (p.1, p.2) (first_stops c.args.lp.now c.args.basis.now (value_at c.args.point.now) (g.R.Rates.matrix c.args.rates.now) (g.R.Rates.basics c.args.rates.now) c.requires.rates c.requires.point c.requires.uncrossed c.args.r c.requires.outside (value_at c.returner.new.row) c.in_ok-q.ensures.row c.lies_below-below.result c.lies_below-below.ensures c.in-Some.q (sym c.in-Some.is ∙ c.in_ok-q.ensures.found) c.limit_broken.result c.limit_broken.ensures c.args.left (g.R.Rates.waypoints c.args.rates.now) (g.R.Rates.waypoints c.returner.new.rates) (g.R.Rates.waypoints c.return_of.new.rates) c.in_err-by.field-0.0 c.returner.ensures.waypoints c.in_err-by.ensures.overflow)
 
 pub returns-clause-turn : goal.returns-clause-turn
-returns-clause-turn g c = first_moves c.args.lp.now c.args.basis.now (value_at c.args.point.now) (g.R.Rates.matrix c.args.rates.now) (g.R.Rates.basics c.args.rates.now) c.requires.rates c.requires.point c.requires.uncrossed c.args.r c.requires.outside (value_at c.returner.new.row) c.in_ok-q.ensures.row c.lies_below-below.result c.lies_below-below.ensures c.in-Some.q (sym c.in-Some.is ∙ c.in_ok-q.ensures.found) c.limit_broken.result c.limit_broken.ensures (value_at c.return_of.new.direction) c.in_ok-by.ensures.direction c.in_ok-by.by c.in_ok-by.ensures.stopper c.args.steps c.args.limit (omega (arith, c.requires.within, c.if-steps-limit.false))
+returns-clause-turn g c = first_moves c.args.lp.now c.args.basis.now (value_at c.args.point.now) (g.R.Rates.matrix c.args.rates.now) (g.R.Rates.basics c.args.rates.now) c.requires.rates c.requires.point c.requires.uncrossed c.args.r c.requires.outside (value_at c.returner.new.row) c.in_ok-q.ensures.row c.lies_below-below.result c.lies_below-below.ensures c.in-Some.q (sym c.in-Some.is ∙ c.in_ok-q.ensures.found) c.limit_broken.result c.limit_broken.ensures (value_at c.return_of.new.direction) c.in_ok-by.ensures.direction c.in_ok-by.by c.in_ok-by.ensures.stopper c.args.left (omega (arith, c.if-left-eq0.false))
 
 pub returns-in_err-by-clause-waypoints : goal.returns-in_err-by-clause-waypoints
 returns-in_err-by-clause-waypoints g c = keeps_then c.args.lp.now.matrix (basics_of c.args.basis.now) (g.R.Rates.waypoints c.args.rates.now) (basics_of c.args.basis.now) (g.R.Rates.waypoints c.returner.new.rates) (g.R.Rates.waypoints c.return_of.new.rates) c.returner.ensures.waypoints c.return_of.ensures.waypoints

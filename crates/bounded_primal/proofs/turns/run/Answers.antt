@@ -1,4 +1,4 @@
-use Rattle.std.proofs.Common.{◌-◌, refl, sym, ◌∙◌, arith}
+use Rattle.std.proofs.Common.{refl, sym, ◌∙◌, arith}
 use Rattle.std.proofs.lemmas.Result.{err_from_is_err_and}
 use Rattle.lp_definitions.specs.LinearProgram.{value_at}
 use Rattle.bounded_primal.proofs.TurnCases.{run_feasible, run_nonbasic, run_may, run_stops, run_ends, run_at_limit, run_moves}
@@ -16,13 +16,13 @@ stopper_of-requires-clause-may g c = run_may c.args.lp.now c.args.basis.now (val
 pub returns-in_err-stopper_of-clause-turn : goal.returns-in_err-stopper_of-clause-turn
 returns-in_err-stopper_of-clause-turn g c =
     let p = err_from_is_err_and c.from_residual.result c.from_residual.ensures.1 in
-    rw (p.1, p.2) (run_stops c.args.lp.now c.args.basis.now (value_at c.args.point.now) (g.R.Rates.matrix c.args.rates.now) (g.R.Rates.basics c.args.rates.now) c.requires.rates c.requires.point c.requires.uncrossed c.requires.inside c.args.moved c.requires.moves (c.args.limit - c.args.steps) (g.R.Rates.waypoints c.args.rates.now) (g.R.Rates.waypoints c.stopper_of.new.rates) c.in_err-stopper_of.field-0.0 c.in_err-stopper_of.ensures.overflow)
+    rw (p.1, p.2) (run_stops c.args.lp.now c.args.basis.now (value_at c.args.point.now) (g.R.Rates.matrix c.args.rates.now) (g.R.Rates.basics c.args.rates.now) c.requires.rates c.requires.point c.requires.uncrossed c.requires.inside c.args.moved c.requires.moves c.args.left (g.R.Rates.waypoints c.args.rates.now) (g.R.Rates.waypoints c.stopper_of.new.rates) c.in_err-stopper_of.field-0.0 c.in_err-stopper_of.ensures.overflow)
 
 pub returns-in_ok-endless-in-None-clause-turn : goal.returns-in_ok-endless-in-None-clause-turn
 returns-in_ok-endless-in-None-clause-turn g c = run_ends c.args.lp.now c.args.basis.now (value_at c.args.point.now) (g.R.Rates.matrix c.args.rates.now) (g.R.Rates.basics c.args.rates.now) c.requires.rates c.requires.point c.requires.uncrossed c.requires.inside c.args.moved c.requires.moves (value_at c.stopper_of.new.direction) c.in_ok-stopper_of.ensures.direction c.args.point.now c.args.steps c.in_ok-endless-in-None.field-0 (sym c.in-None.is ∙ c.in_ok-stopper_of.ensures.stopper) c.requires.point_places (λ k is. refl) c.in_ok-endless-in-None.ensures
 
-pub returns-then-steps-limit-clause-turn : goal.returns-then-steps-limit-clause-turn
-returns-then-steps-limit-clause-turn g c = run_moves c.args.lp.now c.args.basis.now (value_at c.args.point.now) (g.R.Rates.matrix c.args.rates.now) (g.R.Rates.basics c.args.rates.now) c.requires.rates c.requires.point c.requires.uncrossed c.requires.inside c.args.moved c.requires.moves (value_at c.stopper_of.new.direction) c.in_ok-stopper_of.ensures.direction c.in-Some.by c.args.steps c.args.limit (sym c.in-Some.is ∙ c.in_ok-stopper_of.ensures.stopper) c.if-steps-limit.true
+pub returns-else-left-eq0-clause-turn : goal.returns-else-left-eq0-clause-turn
+returns-else-left-eq0-clause-turn g c = run_moves c.args.lp.now c.args.basis.now (value_at c.args.point.now) (g.R.Rates.matrix c.args.rates.now) (g.R.Rates.basics c.args.rates.now) c.requires.rates c.requires.point c.requires.uncrossed c.requires.inside c.args.moved c.requires.moves (value_at c.stopper_of.new.direction) c.in_ok-stopper_of.ensures.direction c.in-Some.by c.args.left (sym c.in-Some.is ∙ c.in_ok-stopper_of.ensures.stopper) (omega (arith, c.if-left-eq0.false))
 
-pub returns-else-steps-limit-clause-turn : goal.returns-else-steps-limit-clause-turn
-returns-else-steps-limit-clause-turn g c = run_at_limit c.args.lp.now c.args.basis.now (value_at c.args.point.now) (g.R.Rates.matrix c.args.rates.now) (g.R.Rates.basics c.args.rates.now) c.requires.rates c.requires.point c.requires.uncrossed c.requires.inside c.args.moved c.requires.moves (value_at c.stopper_of.new.direction) c.in_ok-stopper_of.ensures.direction (c.args.limit - c.args.steps) (g.R.Rates.waypoints c.args.rates.now) (g.R.Rates.waypoints c.stopper_of.new.rates) c.in-Some.by (sym c.in-Some.is ∙ c.in_ok-stopper_of.ensures.stopper) (omega (arith, c.requires.within, c.if-steps-limit.false))
+pub returns-then-left-eq0-clause-turn : goal.returns-then-left-eq0-clause-turn
+returns-then-left-eq0-clause-turn g c = run_at_limit c.args.lp.now c.args.basis.now (value_at c.args.point.now) (g.R.Rates.matrix c.args.rates.now) (g.R.Rates.basics c.args.rates.now) c.requires.rates c.requires.point c.requires.uncrossed c.requires.inside c.args.moved c.requires.moves (value_at c.stopper_of.new.direction) c.in_ok-stopper_of.ensures.direction c.args.left (g.R.Rates.waypoints c.args.rates.now) (g.R.Rates.waypoints c.stopper_of.new.rates) c.in-Some.by (sym c.in-Some.is ∙ c.in_ok-stopper_of.ensures.stopper) c.if-left-eq0.true

@@ -5,7 +5,7 @@ use Rattle.control_run.specs.declared.finding.Finding.TheVariants.{Limit}
 use Rattle.control_run.specs.Findings.{PathFinds, at_limit}
 use Rattle.control_run.proofs.Telling.{tells_quietly, overflow_tells}
 use Rattle.control_run.proofs.Present.{path_reached}
-use Rattle.control_run.proofs.Solving_steps.{path_overflows}
+use Rattle.control_run.proofs.Solving_steps.{limit_passed, path_overflows}
 use Rattle.control_run.proofs.primal.follow.Goals as goal
 
 pub returns-in-Ok-clause-tells : goal.returns-in-Ok-clause-tells
@@ -18,7 +18,7 @@ pub returns-in-Err-Limit-clause-tells : goal.returns-in-Err-Limit-clause-tells
 returns-in-Err-Limit-clause-tells g c =
     let t = subst (PathStops c.args.sheet c.args.basis.now c.path_from.new.basis c.args.limit (g.R.Rates.waypoints c.args.rates.now) (g.R.Rates.waypoints c.path_from.new.rates)) c.in-Err-Limit.field-0-is c.in-Err-Limit.ensures.stops in
     tells_quietly g.P.Sink.written g.P.Sink.faults g.P.Sink.refusals
-    (PathFinds (sheet_shown c.args.sheet) c.args.basis.now c.path_from.new.basis c.args.limit (g.R.Rates.waypoints c.args.rates.now) (g.R.Rates.waypoints c.path_from.new.rates)) c.args.print.now (Ok Limit) (at_limit t.goes_on)
+    (PathFinds (sheet_shown c.args.sheet) c.args.basis.now c.path_from.new.basis c.args.limit (g.R.Rates.waypoints c.args.rates.now) (g.R.Rates.waypoints c.path_from.new.rates)) c.args.print.now (Ok Limit) (at_limit (limit_passed c.args.sheet c.args.basis.now c.path_from.new.basis c.args.limit t))
 
 pub returns-in-Err-Overflow-clause-tells : goal.returns-in-Err-Overflow-clause-tells
 returns-in-Err-Overflow-clause-tells g c =

@@ -7,6 +7,6 @@ use Rattle.control_run.proofs.run.run_program.Goals as goal
 pub returns-clause-answer : goal.returns-clause-answer
 returns-clause-answer g c = λ job bytes of_job is_program same.
     job_answered stage c.args.program.now c.args.cards.now
-    (failures_in_run (Rose (g.P.Sink.faults c.args.print.now) (g.P.Sink.faults c.run_to_end.new.print)) (Rose (g.U.Sink.faults c.args.punch.now) (g.U.Sink.faults c.args.punch.now))
+    (failures_in_run (Rose (g.P.Sink.faults c.args.print.now) (g.P.Sink.faults c.run_to_end.new.print)) (Rose (g.U.Sink.faults c.args.punch.now) (g.U.Sink.faults c.run_to_end.new.punch))
     (Rose (g.P.Sink.refusals c.args.print.now) (g.P.Sink.refusals c.run_to_end.new.print)))
-    (g.U.Sink.written c.args.punch.now) (λ h. h) (λ h. h) c.run_to_end.ensures.answer job bytes of_job is_program same
+    (λ h. h) (λ h. h) (λ h. h) c.run_to_end.ensures.answer job bytes of_job is_program same

@@ -1,49 +1,55 @@
-use Rattle.std.proofs.Common.{rules, refl, length}
-use Rattle.run_definitions.specs.Answer.{Read}
-use Rattle.mps_cli.specs.declared.stop.Stop.TheVariants.{Words}
-use Rattle.mps_cli.proofs.May_end.{prepared_of}
-use Rattle.mps_cli.proofs.Why.{why, ending_cause, run_cause}
-use Rattle.mps_cli.proofs.Truth.{complete_answer, words_headline, stop_headline, run_headline}
+use Rattle.std.proofs.Common.{map, string_bytes, refl, ap, subst, ◌∙◌, Some, Err}
+use Rattle.command_line.specs.Requests.{asked}
+use Rattle.command_line.specs.declared.request.Request.{Request}
+use Rattle.mps_cli.specs.declared.stop.Stop.{Stop}
+use Rattle.mps_cli.specs.Endings.{EndsWith}
+use Rattle.stop_laws.proofs.Standing.{stands_after}
+use Rattle.control_run.specs.Stage.{stage}
+use Rattle.mps_cli.specs.Causes.{nothing}
+use Rattle.mps_cli.proofs.Why.{why_words, ending_cause, same_cause, same_punch}
+use Rattle.mps_cli.proofs.Truth.{complete_answer, stopped_headline, same_headline}
 use Rattle.mps_cli.proofs.run.run_job.Goals as goal
 
--- ---- the words are refused
-
-pub returns-then-not-is_empty-clause-headline : goal.returns-then-not-is_empty-clause-headline
-returns-then-not-is_empty-clause-headline g c =
-    words_headline (length c.args.words.now) _ c.end_job.result g.P.Sink.written g.P.Sink.faults g.P.Sink.refusals _ _ (g.U.Sink.written c.args.punch.now) (search rules) c.end_job.ensures
-
-pub returns-then-not-is_empty-clause-complete : goal.returns-then-not-is_empty-clause-complete
-returns-then-not-is_empty-clause-complete g c asked is = complete_answer (returns-then-not-is_empty-clause-headline g c asked is)
-
--- ---- the program is run
+-- ---- a job is asked for
 
 pub returns-in-Ok-clause-headline : goal.returns-in-Ok-clause-headline
 returns-in-Ok-clause-headline g c =
-    run_headline (length c.args.words.now) _ c.run_program.result _ _ _ _ _ _ (search rules) (λ bytes known.
-    let are = prepared_of bytes c.in-Ok.prepared known c.in-Ok.ensures.prepared in
-    c.run_program.ensures.answer (Read bytes) bytes refl are.1 are.0)
+    same_headline (asked (map string_bytes c.args.words.now)) (g.S.Source.left c.args.job.now) c.run_request.result _ _ _ c.in-Ok.request c.in-Ok.ensures.accepted c.run_request.ensures.headline
 
 pub returns-in-Ok-clause-complete : goal.returns-in-Ok-clause-complete
-returns-in-Ok-clause-complete g c asked is = complete_answer (returns-in-Ok-clause-headline g c asked is)
+returns-in-Ok-clause-complete g c job is = complete_answer (returns-in-Ok-clause-headline g c job is)
+
+pub returns-in-Ok-clause-stands : goal.returns-in-Ok-clause-stands
+returns-in-Ok-clause-stands g c job is = stands_after stage (returns-in-Ok-clause-headline g c job is)
+
+pub returns-in-Ok-clause-punch : goal.returns-in-Ok-clause-punch
+returns-in-Ok-clause-punch g c = same_punch c.in-Ok.request _ _ _ c.run_request.result c.in-Ok.ensures.accepted c.run_request.ensures.punch
 
 pub returns-in-Ok-clause-cause : goal.returns-in-Ok-clause-cause
-returns-in-Ok-clause-cause g c =
-    run_cause (length c.args.words.now) _ _ _ _ c.run_program.result (search rules) c.in-Ok.ensures.read c.run_program.ensures.own c.run_program.ensures.print_fault
+returns-in-Ok-clause-cause g c = same_cause c.in-Ok.request _ _ _ _ _ c.run_request.result c.in-Ok.ensures.accepted c.run_request.ensures.cause
 
--- ---- the job isn't read, or its program isn't compiled
+pub returns-in-Ok-clause-unread : goal.returns-in-Ok-clause-unread
+returns-in-Ok-clause-unread g c differs = c.run_request.ensures.unread (λ e. differs (c.in-Ok.ensures.accepted ∙ ap (λ (r : Request). Some r) e))
+
+-- ---- the words ask for nothing
 
 pub returns-in-Err-clause-headline : goal.returns-in-Err-clause-headline
 returns-in-Err-clause-headline g c =
-    stop_headline (length c.args.words.now) _ c.end_job-in-Err.result g.P.Sink.written g.P.Sink.faults g.P.Sink.refusals _ _ (g.U.Sink.written c.args.punch.now) _ c.in-Err.stop (search rules) c.in-Err.ensures.stop c.in-Err.ensures.cause c.end_job-in-Err.ensures
+    stopped_headline (asked (map string_bytes c.args.words.now)) (g.S.Source.left c.args.job.now) c.end_job.result g.P.Sink.written g.P.Sink.faults g.P.Sink.refusals _ _ (g.U.Sink.written c.args.punch.now)
+    c.in-Err.stop (λ e. c.in-Err.ensures.refused (ap (λ s. Err s) e))
+    (subst (λ (stop : Stop). EndsWith g.P.Sink.written g.P.Sink.faults g.P.Sink.refusals c.args.print.now c.end_job.new.print stop c.end_job.result) c.from.ensures c.end_job.ensures)
 
 pub returns-in-Err-clause-complete : goal.returns-in-Err-clause-complete
-returns-in-Err-clause-complete g c asked is = complete_answer (returns-in-Err-clause-headline g c asked is)
+returns-in-Err-clause-complete g c job is = complete_answer (returns-in-Err-clause-headline g c job is)
+
+pub returns-in-Err-clause-stands : goal.returns-in-Err-clause-stands
+returns-in-Err-clause-stands g c job is = stands_after stage (returns-in-Err-clause-headline g c job is)
+
+pub returns-in-Err-clause-punch : goal.returns-in-Err-clause-punch
+returns-in-Err-clause-punch g c = nothing refl
 
 pub returns-in-Err-clause-cause : goal.returns-in-Err-clause-cause
 returns-in-Err-clause-cause g c =
-    ending_cause (length c.args.words.now) _ _ g.P.Sink.written g.P.Sink.faults g.P.Sink.refusals c.in-Err.stop c.end_job-in-Err.result
-    (why (length c.args.words.now) _ _ c.in-Err.stop (search rules) c.in-Err.ensures.cause) c.end_job-in-Err.ensures
-
-pub returns-then-not-is_empty-clause-cause : goal.returns-then-not-is_empty-clause-cause
-returns-then-not-is_empty-clause-cause g c =
-    ending_cause (length c.args.words.now) _ _ g.P.Sink.written g.P.Sink.faults g.P.Sink.refusals Words c.end_job.result (search rules) c.end_job.ensures
+    ending_cause (asked (map string_bytes c.args.words.now)) _ _ _ g.P.Sink.written g.P.Sink.faults g.P.Sink.refusals _ c.end_job.result
+    (why_words (asked (map string_bytes c.args.words.now)) _ _ c.in-Err.stop (λ e. c.in-Err.ensures.refused (ap (λ s. Err s) e)))
+    (subst (λ (stop : Stop). EndsWith g.P.Sink.written g.P.Sink.faults g.P.Sink.refusals c.args.print.now c.end_job.new.print stop c.end_job.result) c.from.ensures c.end_job.ensures)

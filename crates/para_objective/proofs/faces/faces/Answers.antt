@@ -2,7 +2,6 @@ use Rattle.std.proofs.Common.{◌+◌, ◌-◌, sym, subst, arith}
 use Rattle.std.proofs.lemmas.Result.{err_from_is_err_and}
 use Rattle.lp_definitions.specs.LinearProgram.{value_at}
 use Rattle.lp_definitions.specs.Basis.{basics_of, IsOptimalBasis}
-use Rattle.lp_laws.proofs.WaypointLaws.{keeps_then}
 use Rattle.bounded_primal.specs.Moves.{move_by}
 use Rattle.bounded_primal.proofs.Covered.{keeps_same}
 use Rattle.para_objective.specs.Faces.{family}

@@ -1,5 +1,5 @@
 use Rattle.lp_definitions.specs.LinearProgram.{value_at}
-use Rattle.bounded_primal.specs.Turns.{by_direction, by_stopper}
+use Rattle.bounded_primal.specs.Turns.{by_stopper}
 use Rattle.para_objective.proofs.faces.stopper_of.Goals as goal
 
 pub returns-in-Err-clause-overflow : goal.returns-in-Err-clause-overflow

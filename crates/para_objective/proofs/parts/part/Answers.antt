@@ -1,5 +1,3 @@
-use Rattle.std.proofs.Common.{rules}
-use Rattle.lp_definitions.specs.LinearProgram.{value_at}
 use Rattle.para_objective.proofs.IntervalFacts.{interval}
 use Rattle.para_objective.proofs.parts.part.Goals as goal
 

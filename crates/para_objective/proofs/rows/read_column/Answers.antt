@@ -1,5 +1,3 @@
-use Rattle.std.proofs.Common.{◌≡◌, Err, rules}
-use Rattle.lp_definitions.specs.LinearProgram.{value_at}
 use Rattle.bounded_primal.proofs.TermLaws.{IfErr-map}
 use Rattle.bounded_primal.proofs.TurnCalls.{has_same}
 use Rattle.bounded_primal.proofs.RatesStops.{column_refused, keeps_at}

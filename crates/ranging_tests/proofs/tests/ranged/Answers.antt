@@ -9,6 +9,7 @@ use Rattle.lp_model.specs.declared.reports.Outcome.TheVariants.{Optimal}
 use Rattle.path_definitions.specs.Path.{Ending, EndsOptimal, EndsCrossed, EndsInfeasible, EndsUnbounded, EndsAt}
 use Rattle.path_laws.specs.Laws.{IsNonsingularBasis}
 use Rattle.path_laws.proofs.Ends.{optimal_end}
+use Rattle.path_definitions.specs.Counts.{counted_steps}
 use Rattle.bounded_primal.specs.Calls.{CallEnds, outcome_of}
 use Rattle.ranging_tests.proofs.tests.ranged.Goals as goal
 
@@ -22,7 +23,7 @@ optimal_ending p now (EndsUnbounded z d) steps _ _ _ lawful at ends is = absurd 
 call_optimal : (p : LinearProgram) (s now : List Status) (limit n : ℕ) (outcome : Outcome) (z y : List ℚ) → IsLinearProgram p → IsNonsingularBasis p now → CallEnds p s now limit outcome →
     outcome ≡ Optimal n z y → IsOptimalBasis p now
 call_optimal p s now limit n outcome z y lawful at ends is =
-    optimal_ending p now ends.ending (length ends.bases) n z y lawful at (subst (λ (b : List Status). EndsAt p b ends.ending) ends.reaches ends.ends.ends) (sym ends.is_outcome ∙ is)
+    optimal_ending p now ends.ending (counted_steps (length ends.bases)) n z y lawful at (subst (λ (b : List Status). EndsAt p b ends.ending) ends.reaches ends.ends.ends) (sym ends.is_outcome ∙ is)
 
 pub range-requires-clause-optimal : goal.range-requires-clause-optimal
 range-requires-clause-optimal c =

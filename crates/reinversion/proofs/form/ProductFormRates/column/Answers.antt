@@ -2,5 +2,8 @@ use Rattle.eta_file.specs.Inverse.{ways_of}
 use Rattle.eta_file.proofs.ColumnLaws.{keeps_same}
 use Rattle.reinversion.proofs.form.ProductFormRates.column.Goals as goal
 
+pub returns-in_err-carry-clause-waypoints : goal.returns-in_err-carry-clause-waypoints
+returns-in_err-carry-clause-waypoints c = rw (← c.self.view_is) (keeps_same c.self.inside.file.matrix c.self.inside.file.basics (ways_of c.self.inside.file))
+
 pub returns-clause-waypoints : goal.returns-clause-waypoints
-returns-clause-waypoints c = keeps_same c.args.self.now.matrix c.args.self.now.basics (ways_of c.args.self.now)
+returns-clause-waypoints c = rw (← c.self.view_is) (keeps_same c.self.inside.file.matrix c.self.inside.file.basics (ways_of c.self.inside.file))

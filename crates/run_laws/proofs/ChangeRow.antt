@@ -1,26 +1,31 @@
--- A free row of a lawful problem is a row without limits of each linear program that is selected of it, and so a parametric run has one end.
+-- A free row of a lawful problem is a row without limits of each linear program that is selected of it; and what a parametric run
+-- changes is a part of the problem, with the name that its cell has.
 use Rattle.std.proofs.Common.{◌≡◌, ℕ, ◌+◌, ◌<◌, Bool, true, false, cond, not, ◌&&◌, ◌||◌, List, [], ◌∷◌, map, refl, ap, ap₂, subst, sym, arith}
-use Rattle.std.specs.Prelude.{Option, Some, None, Ok, nat_lt, option_map, unwrap_or, is_none}
+use Rattle.std.specs.Prelude.{Option, Some, None, Ok, nat_lt, option_map, option_and_then, unwrap_or, is_none, if◌then◌else◌}
 use Rattle.std.specs.List.{position_or_len}
 use Rattle.std.proofs.lemmas.List.{length-map}
+use Rattle.std.proofs.lemmas.Option.{same_Some}
 use Rattle.card_definitions.specs.Words.{◌⟹◌, first_fault}
 use Rattle.lp_definitions.specs.LinearProgram.{LinearProgram, IsRow, HasNoLimits, IsLinearProgram}
 use Rattle.lp_setup.proofs.Lawful.{program_is_lawful}
 use Rattle.problem_definitions.specs.Kinds.{is_free_kind}
 use Rattle.problem_definitions.specs.Names.{Name, same, has_name, number_in}
-use Rattle.problem_definitions.specs.Problem.{Row, Problem, has_free_row}
+use Rattle.problem_definitions.specs.Problem.{Row, Problem, has_free_row, has_group}
+use Rattle.control_definitions.specs.Cells.{Cells}
 use Rattle.problem_definitions.specs.Valid.{IsProblem}
 use Rattle.problem_definitions.proofs.Places.{number_in-within}
 use Rattle.selection_definitions.specs.declared.SelectionFault.{SelectionFault}
 use Rattle.selection_definitions.specs.declared.SelectionFault.TheVariants.{NoObjective, ObjectiveNotFree, NoRhsSet, NoRangeSet, NoBoundSet}
 use Rattle.selection_definitions.specs.Choice.{Choice, objective_of, is_not_free, misses_set, selection_fault}
 use Rattle.selection_definitions.specs.Selection.{matrix_of, program_of_choice, selected}
-use Rattle.question_definitions.specs.Answers.{Basis, Sheet, Changing, Row as RowChange, Set, Sweep, SweepEnd, OfSweep}
-use Rattle.answer_definitions.specs.Sweeps.{row_of, IsSwept}
+use Rattle.question_definitions.specs.Answers.{Sheet, Changing, Row as RowChange, Set, changing_name}
+use Rattle.answer_definitions.specs.Sweeps.{row_of}
 use Rattle.sweep_laws.specs.Laws.{ChangesFreely}
-use Rattle.sweep_laws.proofs.OneEnd.{one_sweep_end}
-use Rattle.run_laws.proofs.Selected.{is_chosen, selected_is_lawful}
-use Rattle.run_functions.specs.Laws.{IsOfProblem, IsAsked}
+use Rattle.exact_values.specs.Rational.{ℚ}
+use Rattle.exact_values.specs.Tests.{lt_ℚ}
+use Rattle.run_definitions.specs.Verbs.{change_row, change_set, not_less}
+use Rattle.run_laws.specs.Truth.{IsOfProblem, named_by}
+use Rattle.run_laws.proofs.Selected.{is_chosen}
 
 -- ---- the row of a name
 
@@ -85,11 +90,68 @@ row_is_free problem choice lp name is e free =
 
 -- ---- parametric runs
 
-changes_freely : (sheet : Sheet) (choice : Choice) (changing : Changing) → IsProblem sheet.problem → selected sheet.problem choice ≡ Ok sheet.lp → IsOfProblem changing sheet.problem → ChangesFreely sheet changing
+pub changes_freely : (sheet : Sheet) (choice : Choice) (changing : Changing) → IsProblem sheet.problem → selected sheet.problem choice ≡ Ok sheet.lp → IsOfProblem changing sheet.problem → ChangesFreely sheet changing
 changes_freely sheet choice (RowChange name) is e free = row_is_free sheet.problem choice sheet.lp name is e free
 changes_freely sheet choice (Set name) is e there = tt
 
-pub swept_once : (sweep : Sweep) (sheet : Sheet) (s : Basis) (a b : SweepEnd) → IsAsked (OfSweep sweep) sheet s → IsSwept sheet s sweep a → IsSwept sheet s sweep b → a ≡ b
-swept_once sweep sheet s a b asked first second =
-    one_sweep_end sheet s sweep (selected_is_lawful sheet.problem asked.choice sheet.lp asked.is_problem asked.is_selected)
-    (changes_freely sheet asked.choice sweep.changing asked.is_problem asked.is_selected asked.suits.0) asked.is_basis a b first second
+-- what changes is a part of the problem
+pub row_of_problem : (problem : Problem ℕ) (name : Name) (changing : Changing) → change_row problem name ≡ Some changing → IsOfProblem changing problem
+row_of_problem problem name changing e = by (has_free_row problem.rows name) refl e
+  where
+    by : (free : Bool) → has_free_row problem.rows name ≡ free → (if free then Some (RowChange name) else None) ≡ Some changing → IsOfProblem changing problem
+    by true is e = subst (λ x. IsOfProblem x problem) (same_Some (RowChange name) changing e) is
+    by false is e = absurd (cc e)
+
+pub set_of_problem : (problem : Problem ℕ) (name : Name) (changing : Changing) → change_set problem name ≡ Some changing → IsOfProblem changing problem
+set_of_problem problem name changing e = by (has_group problem.rhs name) refl e
+  where
+    by : (there : Bool) → has_group problem.rhs name ≡ there → (if there then Some (Set name) else None) ≡ Some changing → IsOfProblem changing problem
+    by true is e = subst (λ x. IsOfProblem x problem) (same_Some (Set name) changing e) is
+    by false is e = absurd (cc e)
+
+pub changes_part : (change : Problem ℕ → Name → Option Changing) → ((problem : Problem ℕ) (name : Name) (changing : Changing) → change problem name ≡ Some changing → IsOfProblem changing problem) →
+    (problem : Problem ℕ) (moved : Option Name) (changing : Changing) → option_and_then (change problem) moved ≡ Some changing → IsOfProblem changing problem
+changes_part change of_problem problem None changing e = absurd (cc e)
+changes_part change of_problem problem (Some name) changing e = of_problem problem name changing e
+
+-- and it has the name that was moved to its cell
+module _ (cells : Cells) (problem : Problem ℕ) (changing : Changing) where
+  abbrev HasItsName : Type 0
+  HasItsName = named_by cells changing ≡ Some (changing_name changing)
+
+  row_has : (moved : Option Name) → cells.xchrow ≡ moved → option_and_then (change_row problem) moved ≡ Some changing → HasItsName
+  row_has None is e = absurd (cc e)
+  row_has (Some name) is e = by (has_free_row problem.rows name) e
+    where
+      by : (free : Bool) → (if free then Some (RowChange name) else None) ≡ Some changing → HasItsName
+      by true e = subst (λ x. named_by cells x ≡ Some (changing_name x)) (same_Some (RowChange name) changing e) is
+      by false e = absurd (cc e)
+
+  set_has : (moved : Option Name) → cells.xchcol ≡ moved → option_and_then (change_set problem) moved ≡ Some changing → HasItsName
+  set_has None is e = absurd (cc e)
+  set_has (Some name) is e = by (has_group problem.rhs name) e
+    where
+      by : (there : Bool) → (if there then Some (Set name) else None) ≡ Some changing → HasItsName
+      by true e = subst (λ x. named_by cells x ≡ Some (changing_name x)) (same_Some (Set name) changing e) is
+      by false e = absurd (cc e)
+
+  pub row_named : option_and_then (change_row problem) cells.xchrow ≡ Some changing → IsOfProblem changing problem × HasItsName
+  row_named e = (changes_part change_row row_of_problem problem cells.xchrow changing e, row_has cells.xchrow refl e)
+
+  pub set_named : option_and_then (change_set problem) cells.xchcol ≡ Some changing → IsOfProblem changing problem × HasItsName
+  set_named e = (changes_part change_set set_of_problem problem cells.xchcol changing e, set_has cells.xchcol refl e)
+
+-- the last value isn't less than the first
+pub last_no_less : (from last to : ℚ) → not_less from last ≡ Some to → lt_ℚ to from ≡ false
+last_no_less from last to e = by (lt_ℚ last from) refl e
+  where
+    by : (less : Bool) → lt_ℚ last from ≡ less → (if less then None else Some last) ≡ Some to → lt_ℚ to from ≡ false
+    by true is e = absurd (cc e)
+    by false is e = subst (λ x. lt_ℚ x from ≡ false) (same_Some last to e) is
+
+pub last_is : (from last to : ℚ) → not_less from last ≡ Some to → last ≡ to
+last_is from last to e = by (lt_ℚ last from) e
+  where
+    by : (less : Bool) → (if less then None else Some last) ≡ Some to → last ≡ to
+    by true e = absurd (cc e)
+    by false e = same_Some last to e

@@ -1,0 +1,93 @@
+use Rattle.std.proofs.Common.{◌+◌, ◌∙◌, refl, sym, ap, arith}
+use Rattle.std.proofs.lemmas.Result.{err_from_is_err_and}
+use Rattle.lp_definitions.specs.LinearProgram.{value_at}
+use Rattle.lp_definitions.specs.Basis.{basics_of}
+use Rattle.lp_laws.proofs.WaypointLaws.{keeps_then}
+use Rattle.termination_laws.specs.Laws.{lists_of}
+use Rattle.bounded_primal.proofs.PathWalk.{begins_at, follows, follows_later}
+use Rattle.bounded_primal.proofs.WalkCases.{stops_at_once, step_stops, walk_more}
+use Rattle.bounded_primal.proofs.FreeWalk.{reached_short, free_ends, free_stops, counted_more, one_less}
+use Rattle.path_definitions.specs.Counts.{counted_steps}
+use Rattle.bounded_primal.proofs.free_path.walk_free.Goals as goal
+
+pub returns-in_err-point_of-clause-stops : goal.returns-in_err-point_of-clause-stops
+returns-in_err-point_of-clause-stops g c =
+    let p = err_from_is_err_and c.from_residual.result c.from_residual.ensures.1 in
+    rw (p.1, p.2) (stops_at_once c.args.lp.now c.args.basis.now (lists_of c.args.lp.now) (g.R.Rates.waypoints c.args.rates.now) (g.R.Rates.waypoints c.point_of.new.rates) c.in_err-point_of.field-0.0 c.in_err-point_of.ensures.overflow)
+
+pub returns-in_err-point_of-clause-waypoints : goal.returns-in_err-point_of-clause-waypoints
+returns-in_err-point_of-clause-waypoints g c =
+    follows c.args.lp.now c.args.basis.now (g.R.Rates.waypoints c.args.rates.now) c.args.basis.now (g.R.Rates.waypoints c.point_of.new.rates) 0
+    (begins_at c.args.lp.now c.args.basis.now (g.R.Rates.waypoints c.args.rates.now) (g.R.Rates.waypoints c.point_of.new.rates) c.in_err-point_of.ensures.waypoints)
+
+pub loop-share-init : goal.loop-share-init
+loop-share-init g c = record {
+  some = omega (arith, c.open-book.ensures.parts, c.requires.some, c.requires.parts);
+  counted = rw c.open-book.ensures.total refl;
+  rates = record {
+    is_basis = c.requires.rates.is_basis;
+    nonsingular = c.requires.rates.nonsingular;
+    same_matrix = c.in_ok-point_of.ensures.matrix ∙ c.requires.rates.same_matrix;
+    same_basics = c.in_ok-point_of.ensures.basics ∙ c.requires.rates.same_basics;
+  };
+  point = c.in_ok-point_of.ensures.point;
+  reached = rw c.open-book.ensures.total (begins_at c.args.lp.now c.args.basis.now (g.R.Rates.waypoints c.args.rates.now) (g.R.Rates.waypoints c.point_of.new.rates) c.in_ok-point_of.ensures.waypoints);
+}
+
+pub returns-in_err-outcome-clause-stops : goal.returns-in_err-outcome-clause-stops
+returns-in_err-outcome-clause-stops g c =
+    let p = err_from_is_err_and c.from_residual-in_err-outcome.result c.from_residual-in_err-outcome.ensures.1 in
+    rw (p.1, p.2) (free_stops c.args.lp.now c.requires.lawful (g.R.Rates.matrix c.args.rates.now) (g.R.Rates.basics c.args.rates.now) c.args.basis.now c.requires.rates (g.R.Rates.waypoints c.args.rates.now) c.loop-share.basis (g.R.Rates.waypoints c.loop-share.rates) c.loop-share.book.total c.loop-share.invariant.reached (g.R.Rates.waypoints c.free_turn.new.rates) c.in_err-outcome.field-0.0 c.in_err-outcome.ensures.turn)
+
+pub returns-in_err-outcome-clause-waypoints : goal.returns-in_err-outcome-clause-waypoints
+returns-in_err-outcome-clause-waypoints g c =
+    follows_later c.args.lp.now c.args.basis.now (g.R.Rates.waypoints c.args.rates.now) c.loop-share.basis (g.R.Rates.waypoints c.loop-share.rates) c.loop-share.book.total c.loop-share.invariant.reached
+    (g.R.Rates.waypoints c.free_turn.new.rates) c.in_err-outcome.ensures.waypoints
+
+pub returns-in-Ends-clause-ends : goal.returns-in-Ends-clause-ends
+returns-in-Ends-clause-ends g c =
+    let ends = rw c.in-Ends.is at c.in_ok-outcome.ensures.turn in
+    free_ends c.args.lp.now c.requires.lawful (g.R.Rates.matrix c.args.rates.now) (g.R.Rates.basics c.args.rates.now) c.args.basis.now c.requires.rates (g.R.Rates.waypoints c.args.rates.now) c.loop-share.basis (g.R.Rates.waypoints c.loop-share.rates) c.loop-share.book.total c.loop-share.invariant.reached
+    c.loop-share.steps c.in-Ends.outcome c.loop-share.invariant.counted ends
+
+pub returns-in-Ends-clause-waypoints : goal.returns-in-Ends-clause-waypoints
+returns-in-Ends-clause-waypoints g c =
+    follows_later c.args.lp.now c.args.basis.now (g.R.Rates.waypoints c.args.rates.now) c.loop-share.basis (g.R.Rates.waypoints c.loop-share.rates) c.loop-share.book.total c.loop-share.invariant.reached
+    (g.R.Rates.waypoints c.free_turn.new.rates) c.in_ok-outcome.ensures.waypoints
+
+pub take_step-requires-clause-step : goal.take_step-requires-clause-step
+take_step-requires-clause-step g c =
+    let moves = rw c.in-Moves.is at c.in_ok-outcome.ensures.turn in
+    moves.step
+
+pub returns-in_err-take_step-in-Moves-clause-stops : goal.returns-in_err-take_step-in-Moves-clause-stops
+returns-in_err-take_step-in-Moves-clause-stops g c =
+    let p = err_from_is_err_and c.from_residual-in_err-take_step-in-Moves.result c.from_residual-in_err-take_step-in-Moves.ensures.1 in
+    let moves = rw c.in-Moves.is at c.in_ok-outcome.ensures.turn in
+    rw (p.1, p.2, c.in_err-take_step-in-Moves.ensures.unchanged) (free_stops c.args.lp.now c.requires.lawful (g.R.Rates.matrix c.args.rates.now) (g.R.Rates.basics c.args.rates.now) c.args.basis.now c.requires.rates (g.R.Rates.waypoints c.args.rates.now) c.loop-share.basis (g.R.Rates.waypoints c.loop-share.rates) c.loop-share.book.total c.loop-share.invariant.reached (g.R.Rates.waypoints c.take_step.new.rates) c.in_err-take_step-in-Moves.field-0.0
+    (step_stops c.args.lp.now c.loop-share.basis (value_at c.loop-share.point) (value_at c.free_turn.new.direction) c.in-Moves.q c.in-Moves.by 1 moves (g.R.Rates.waypoints c.loop-share.rates) (g.R.Rates.waypoints c.free_turn.new.rates) (g.R.Rates.waypoints c.take_step.new.rates) c.in_err-take_step-in-Moves.field-0.0 c.in_ok-outcome.ensures.waypoints c.in_err-take_step-in-Moves.ensures.overflow))
+
+pub returns-in_err-take_step-in-Moves-clause-waypoints : goal.returns-in_err-take_step-in-Moves-clause-waypoints
+returns-in_err-take_step-in-Moves-clause-waypoints g c =
+    rw c.in_err-take_step-in-Moves.ensures.unchanged (follows_later c.args.lp.now c.args.basis.now (g.R.Rates.waypoints c.args.rates.now) c.loop-share.basis (g.R.Rates.waypoints c.loop-share.rates) c.loop-share.book.total c.loop-share.invariant.reached
+    (g.R.Rates.waypoints c.take_step.new.rates)
+    (keeps_then c.args.lp.now.matrix (basics_of c.loop-share.basis) (g.R.Rates.waypoints c.loop-share.rates) (basics_of c.loop-share.basis) (g.R.Rates.waypoints c.free_turn.new.rates) (g.R.Rates.waypoints c.take_step.new.rates)
+    c.in_ok-outcome.ensures.waypoints (rw (c.in_err-take_step-in-Moves.ensures.unchanged) at c.in_err-take_step-in-Moves.ensures.waypoints)))
+
+pub loop-share-smaller : goal.loop-share-smaller
+loop-share-smaller g c =
+    let moves = rw c.in-Moves.is at c.in_ok-outcome.ensures.turn in
+    let few = reached_short c.args.lp.now c.requires.lawful (g.R.Rates.matrix c.args.rates.now) (g.R.Rates.basics c.args.rates.now) c.args.basis.now c.requires.rates (g.R.Rates.waypoints c.args.rates.now) c.take_step.new.basis (g.R.Rates.waypoints c.take_step.new.rates) (c.loop-share.book.total + 1)
+    (walk_more c.args.lp.now c.loop-share.basis (value_at c.loop-share.point) (value_at c.free_turn.new.direction) c.in-Moves.q c.in-Moves.by 1 moves c.args.basis.now (g.R.Rates.waypoints c.args.rates.now) (g.R.Rates.waypoints c.loop-share.rates) c.loop-share.book.total c.loop-share.invariant.reached c.take_step.new.basis (g.R.Rates.waypoints c.free_turn.new.rates) (g.R.Rates.waypoints c.take_step.new.rates) c.in_ok-take_step-in-Moves.ensures.basis c.in_ok-outcome.ensures.waypoints c.in_ok-take_step-in-Moves.ensures.waypoints) in
+    one_less (lists_of c.args.lp.now) c.loop-share.book.total c.add.new.self.total c.add.ensures.total few
+
+pub loop-share-preserved : goal.loop-share-preserved
+loop-share-preserved g c =
+    let moves = rw c.in-Moves.is at c.in_ok-outcome.ensures.turn in
+    record {
+      some = omega (arith, c.add.ensures.parts, c.loop-share.invariant.some);
+      counted = c.saturating_add-steps.ensures ∙ counted_more c.loop-share.steps c.loop-share.book.total c.loop-share.invariant.counted ∙ ap counted_steps (sym c.add.ensures.total);
+      rates = c.in_ok-take_step-in-Moves.ensures.rates;
+      point = c.in_ok-take_step-in-Moves.ensures.point;
+      reached = rw c.add.ensures.total (walk_more c.args.lp.now c.loop-share.basis (value_at c.loop-share.point) (value_at c.free_turn.new.direction) c.in-Moves.q c.in-Moves.by 1 moves c.args.basis.now (g.R.Rates.waypoints c.args.rates.now) (g.R.Rates.waypoints c.loop-share.rates) c.loop-share.book.total c.loop-share.invariant.reached c.take_step.new.basis (g.R.Rates.waypoints c.free_turn.new.rates) (g.R.Rates.waypoints c.take_step.new.rates) c.in_ok-take_step-in-Moves.ensures.basis c.in_ok-outcome.ensures.waypoints c.in_ok-take_step-in-Moves.ensures.waypoints);
+    }

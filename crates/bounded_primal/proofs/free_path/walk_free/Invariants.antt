@@ -1,0 +1,21 @@
+use Rattle.std.proofs.Common.{◌≡◌, ◌-◌, ◌<◌}
+use Rattle.lp_definitions.specs.LinearProgram.{value_at}
+use Rattle.lp_definitions.specs.Basis.{IsPointOf}
+use Rattle.path_definitions.specs.Counts.{counted_steps}
+use Rattle.termination_laws.specs.Laws.{lists_of}
+use Rattle.bounded_primal.specs.Calls.{HasRates}
+use Rattle.bounded_primal.proofs.PathWalk.{HasReached}
+use Rattle.bounded_primal.proofs.free_path.walk_free.Given as goal
+
+-- how many steps are left before a basis would have to come twice
+abbrev pub decreases-loop-share : goal.decreases-loop-share
+decreases-loop-share g l = lists_of l.lp - l.book.total
+
+abbrev pub invariant-loop-share : goal.invariant-loop-share
+invariant-loop-share g l = record {
+  some : 0 < l.share.parts;
+  counted : l.steps ≡ counted_steps l.book.total;
+  rates : HasRates (g.R.Rates.matrix l.rates) (g.R.Rates.basics l.rates) l.lp l.basis;
+  point : IsPointOf l.lp l.basis (value_at l.point);
+  reached : HasReached l.lp l.fn.basis (g.R.Rates.waypoints l.fn.rates) l.basis (g.R.Rates.waypoints l.rates) l.book.total;
+}

@@ -1,0 +1,143 @@
+//! The path of the bounded simplex method without a limit of steps.
+
+ghost use Rattle.std.specs.Prelude.{◌≡◌, ◌≢◌, ◌<◌, length, IfOk, IfErr};
+ghost use Rattle.lp_definitions.specs.LinearProgram.{size, value_at, IsLinearProgram};
+ghost use Rattle.lp_definitions.specs.Basis.{basics_of, IsPointOf};
+ghost use Rattle.lp_definitions.specs.Waypoints.{KeepsWaypoints};
+ghost use Rattle.termination_laws.specs.Laws.{lists_of};
+ghost use Rattle.bounded_primal.specs.Calls.{HasRates, CallEnds, WaypointsFollow};
+ghost use Rattle.bounded_primal.specs.Outcomes.{IsTrueOutcome};
+ghost use Rattle.bounded_primal.specs.Stops.{primal_stop_of, FreeStops};
+ghost use Rattle.bounded_primal.specs.Turns.{IsUncrossed, FreeTurnFound};
+
+use crate::choices::crossed;
+use crate::moves::PrimalStop;
+use crate::path::room;
+use crate::point::point_of;
+use crate::step::take_step;
+use crate::turns::{Turn, next_turn};
+use frac128::Frac;
+use lp_model::{Basis, Lp, Outcome, Rates, Stop};
+use std::alloc::Global;
+use std::marker::Brand;
+use std::sync::ledger::{Blank, Ledger};
+
+/// A stop that no limit makes.
+fn unlimited(stop: PrimalStop) -> Stop
+    requires { stop ≢ PrimalStop.Limit }
+    ensures { primal_stop_of result ≡ stop }
+{
+    match stop {
+        PrimalStop::Limit => unreachable!(),
+        PrimalStop::Overflow(evidence) => Stop::Overflow(evidence),
+        PrimalStop::NoMemory => Stop::NoMemory,
+    }
+}
+
+/// What the path does at the basis, where a step is always left. `row` and `direction` are room.
+fn free_turn<R: Rates>(
+    alloc: Global,
+    lp: &Lp,
+    basis: &Basis,
+    rates: &mut R,
+    point: &[Frac],
+    row: &mut [Frac],
+    direction: &mut [Frac],
+    steps: u32,
+) -> Result<Turn, Stop>
+    requires lawful { IsLinearProgram lp.now }
+    requires rates { HasRates (R.matrix rates.old) (R.basics rates.old) lp.now basis.now }
+    requires point_places { length point.now ≡ size lp.now.matrix }
+    requires row_places { length row.old ≡ size lp.now.matrix }
+    requires direction_places { length direction.old ≡ size lp.now.matrix }
+    requires point { IsPointOf lp.now basis.now (value_at point.now) }
+    requires uncrossed { IsUncrossed lp.now }
+    ensures turn { FreeTurnFound result lp.now basis.now steps (value_at point.now) (value_at direction.new)
+        (R.waypoints rates.old) (R.waypoints rates.new) }
+    ensures rates { HasRates (R.matrix rates.new) (R.basics rates.new) lp.now basis.now }
+    ensures waypoints { KeepsWaypoints lp.now.matrix (basics_of basis.now) (R.waypoints rates.old)
+        (basics_of basis.now) (R.waypoints rates.new) }
+{
+    match next_turn(alloc, lp, basis, rates, point, row, direction, steps, 1) {
+        Ok(turn) => Ok(turn),
+        Err(stop) => Err(unlimited(stop)),
+    }
+}
+
+/// Makes the basis's point, and goes from basis to basis with it until the path ends. `point`, `row` and `direction` are room.
+/// The ledger of `blank` counts the steps for the proof that this comes to an end, since no basis comes twice; it takes no bytes.
+fn walk_free<R: Rates, L: Ledger>(
+    alloc: Global,
+    lp: &Lp,
+    basis: &mut Basis,
+    rates: &mut R,
+    point: &mut [Frac],
+    row: &mut [Frac],
+    direction: &mut [Frac],
+    blank: Blank,
+) -> Result<Outcome, Stop>
+    requires name { blank.name ≡ L.name }
+    requires parts { blank.parts ≡ L.parts }
+    requires some { 0 < blank.parts }
+    requires lawful { IsLinearProgram lp.now }
+    requires rates { HasRates (R.matrix rates.old) (R.basics rates.old) lp.now basis.old }
+    requires point_places { length point.old ≡ size lp.now.matrix }
+    requires row_places { length row.old ≡ size lp.now.matrix }
+    requires direction_places { length direction.old ≡ size lp.now.matrix }
+    requires uncrossed { IsUncrossed lp.now }
+    ensures ends { IfOk result (CallEnds lp.now basis.old basis.new (lists_of lp.now)) }
+    ensures stops { IfErr result (FreeStops lp.now basis.old basis.new
+        (R.waypoints rates.old) (R.waypoints rates.new)) }
+    ensures rates { HasRates (R.matrix rates.new) (R.basics rates.new) lp.now basis.new }
+    ensures waypoints { WaypointsFollow lp.now basis.old basis.new
+        (R.waypoints rates.old) (R.waypoints rates.new) }
+{
+    let (mut book, mut share) = blank.open::<L>();
+    point_of(alloc, lp, basis, rates, point)?;
+    let mut steps: u32 = 0;
+    loop {
+        match free_turn(alloc, lp, basis, rates, point, row, direction, steps)? {
+            Turn::Ends(outcome) => return Ok(outcome),
+            Turn::Moves { q, by } => take_step(lp, basis, rates, point, direction, q, &by)?,
+        }
+        book.add(&mut share, 1);
+        steps = steps.saturating_add(1);
+    }
+}
+
+/// Follows the path from the basis until it ends, by the rules of `primal`, with no limit of steps: it ends, since no basis comes
+/// twice, and so after fewer steps than there are status lists. The count of steps in the outcome stands still at 4,294,967,295.
+/// The basis and the rates are those that the path has reached, after a stop too.
+pub fn primal_free<R: Rates>(
+    alloc: Global,
+    lp: &Lp,
+    basis: &mut Basis,
+    rates: &mut R,
+) -> Result<Outcome, Stop>
+    requires { HasRates (R.matrix rates.old) (R.basics rates.old) lp.now basis.old }
+    ensures ends { IfOk result (CallEnds lp.now basis.old basis.new (lists_of lp.now)) }
+    ensures stops { IfErr result (FreeStops lp.now basis.old basis.new
+        (R.waypoints rates.old) (R.waypoints rates.new)) }
+    ensures rates { HasRates (R.matrix rates.new) (R.basics rates.new) lp.now basis.new }
+    ensures waypoints { WaypointsFollow lp.now basis.old basis.new
+        (R.waypoints rates.old) (R.waypoints rates.new) }
+    ensures truth { IfOk result (IsTrueOutcome lp.now) }
+{
+    if let Some(k) = crossed(lp) {
+        return Ok(Outcome::Crossed { k });
+    }
+    let size = lp.number_of_variables() as usize;
+    let mut point = room(alloc, size)?;
+    let mut row = room(alloc, size)?;
+    let mut direction = room(alloc, size)?;
+    walk_free::<R, Brand>(
+        alloc,
+        lp,
+        basis,
+        rates,
+        &mut point,
+        &mut row,
+        &mut direction,
+        Blank::new(1),
+    )
+}

@@ -1,0 +1,4 @@
+mod Examples
+pub mod Sizes
+pub mod WordForms
+pub mod Readings

@@ -1,0 +1,10 @@
+//! What the words of the command line ask for.
+#![tactic(auto)]
+
+mod request;
+mod size;
+mod words;
+
+pub use request::{Request, WordsStop};
+pub use size::MAX_SIZE;
+pub use words::request_of;

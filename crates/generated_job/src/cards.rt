@@ -1,0 +1,93 @@
+// Single cards of the generated problem.
+ghost use Rattle.std.specs.Prelude.{◌≡◌, ◌<◌, ◌≤◌, [], codes, length, OnOk};
+ghost use Rattle.std.specs.Io.KnownBytes.{Appends};
+ghost use Rattle.problem_definitions.specs.declared.RowKind.TheVariants.{L, G};
+ghost use Rattle.deck_definitions.specs.Written.{row_card, card_text};
+ghost use Rattle.deck_definitions.specs.Transport as made;
+ghost use Rattle.bcd_out.specs.Lines.{line};
+
+use crate::names::{destination, route, source};
+use bcd_out::{DataCard, put_card};
+use itoa::Buffer;
+use job_devices::{Sink, WriteStop};
+
+// A number of a name on a row.
+fn put_item<P: Sink>(text: &mut P, name: &[u8], row: &[u8], value: u32) -> Result<(), WriteStop>
+    requires name { length name.now ≤ 8 }
+    requires row { length row.now ≤ 8 }
+    ensures { OnOk result (Appends (P.written text.old) (P.written text.new) (line (made.item_card name.now row.now value))) }
+{
+    let mut digits = Buffer::new();
+    let card = DataCard {
+        kind: b"",
+        name1: name,
+        name2: row,
+        value: digits.format(value).as_bytes(),
+    };
+    put_card(text, card)
+}
+
+// What it costs to send one from a source to a destination.
+fn route_cost(from: u32, to: u32) -> u32
+    requires from { from < 1000 }
+    requires to { to < 1000 }
+    ensures { result ≡ made.route_cost from to }
+{
+    (7 * from + 11 * to) % 19 + 1
+}
+
+/// The row of a source, from which at most so many are sent as it has.
+pub fn put_source_row<P: Sink>(text: &mut P, number: u32) -> Result<(), WriteStop>
+    requires { number < 1000 }
+    ensures { OnOk result (Appends (P.written text.old) (P.written text.new) (line (row_card (record { kind = L; name = made.source number })))) }
+{
+    let card = DataCard {
+        kind: b"L",
+        name1: &source(number),
+        name2: b"",
+        value: b"",
+    };
+    put_card(text, card)
+}
+
+/// The row of a destination, which gets at least so many as it wants.
+pub fn put_destination_row<P: Sink>(text: &mut P, number: u32) -> Result<(), WriteStop>
+    requires { number < 1000 }
+    ensures { OnOk result (Appends (P.written text.old) (P.written text.new) (line (row_card (record { kind = G; name = made.destination number })))) }
+{
+    let card = DataCard {
+        kind: b"G",
+        name1: &destination(number),
+        name2: b"",
+        value: b"",
+    };
+    put_card(text, card)
+}
+
+/// The cards of a route.
+pub fn put_route<P: Sink>(text: &mut P, from: u32, to: u32) -> Result<(), WriteStop>
+    requires from { from < 1000 }
+    requires to { to < 1000 }
+    ensures { OnOk result (Appends (P.written text.old) (P.written text.new) (card_text (made.route_cards from to))) }
+{
+    let name = route(from, to);
+    put_item(text, &name, b"COST", route_cost(from, to))?;
+    put_item(text, &name, &source(from), 1)?;
+    put_item(text, &name, &destination(to), 1)
+}
+
+/// What a source has.
+pub fn put_supply<P: Sink>(text: &mut P, number: u32) -> Result<(), WriteStop>
+    requires { number < 1000 }
+    ensures { OnOk result (Appends (P.written text.old) (P.written text.new) (line (made.item_card (codes "RHS") (made.source number) 10))) }
+{
+    put_item(text, b"RHS", &source(number), 10)
+}
+
+/// What a destination wants.
+pub fn put_demand<P: Sink>(text: &mut P, number: u32) -> Result<(), WriteStop>
+    requires { number < 1000 }
+    ensures { OnOk result (Appends (P.written text.old) (P.written text.new) (line (made.item_card (codes "RHS") (made.destination number) 10))) }
+{
+    put_item(text, b"RHS", &destination(number), 10)
+}

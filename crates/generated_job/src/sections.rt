@@ -1,0 +1,76 @@
+// The sections of the generated deck.
+ghost use Rattle.std.specs.Prelude.{◌≡◌, ◌<◌, codes, map, flat_map, OnOk};
+ghost use Rattle.std.specs.Io.KnownBytes.{Appends};
+ghost use Rattle.problem_definitions.specs.declared.RowKind.TheVariants.{L, G};
+ghost use Rattle.deck_definitions.specs.Written.{row_card, card_text};
+ghost use Rattle.deck_definitions.specs.Transport as made;
+
+use crate::cards::{put_demand, put_destination_row, put_route, put_source_row, put_supply};
+use job_devices::{Sink, WriteStop};
+
+/// The rows of the sources from 1 to n.
+pub fn put_source_rows<P: Sink>(text: &mut P, n: u32) -> Result<(), WriteStop>
+    requires { n < 1000 }
+    ensures { OnOk result (Appends (P.written text.old) (P.written text.new) (card_text (map (λ i. row_card (record { kind = L; name = made.source i })) (made.up_to n)))) }
+{
+    for before in 0..n {
+        put_source_row(text, before + 1)?;
+    }
+    Ok(())
+}
+
+/// The rows of the destinations from 1 to n.
+pub fn put_destination_rows<P: Sink>(text: &mut P, n: u32) -> Result<(), WriteStop>
+    requires { n < 1000 }
+    ensures { OnOk result (Appends (P.written text.old) (P.written text.new) (card_text (map (λ j. row_card (record { kind = G; name = made.destination j })) (made.up_to n)))) }
+{
+    for before in 0..n {
+        put_destination_row(text, before + 1)?;
+    }
+    Ok(())
+}
+
+// The routes from a source to the destinations from 1 to n.
+fn put_routes_from<P: Sink>(text: &mut P, from: u32, n: u32) -> Result<(), WriteStop>
+    requires from { from < 1000 }
+    requires n { n < 1000 }
+    ensures { OnOk result (Appends (P.written text.old) (P.written text.new) (card_text (flat_map (λ j. made.route_cards from j) (made.up_to n)))) }
+{
+    for before in 0..n {
+        put_route(text, from, before + 1)?;
+    }
+    Ok(())
+}
+
+/// The routes from each source to each destination.
+pub fn put_routes<P: Sink>(text: &mut P, n: u32) -> Result<(), WriteStop>
+    requires { n < 1000 }
+    ensures { OnOk result (Appends (P.written text.old) (P.written text.new) (card_text (flat_map (λ i. flat_map (λ j. made.route_cards i j) (made.up_to n)) (made.up_to n)))) }
+{
+    for before in 0..n {
+        put_routes_from(text, before + 1, n)?;
+    }
+    Ok(())
+}
+
+/// What the sources from 1 to n have.
+pub fn put_supplies<P: Sink>(text: &mut P, n: u32) -> Result<(), WriteStop>
+    requires { n < 1000 }
+    ensures { OnOk result (Appends (P.written text.old) (P.written text.new) (card_text (map (λ i. made.item_card (codes "RHS") (made.source i) 10) (made.up_to n)))) }
+{
+    for before in 0..n {
+        put_supply(text, before + 1)?;
+    }
+    Ok(())
+}
+
+/// What the destinations from 1 to n want.
+pub fn put_demands<P: Sink>(text: &mut P, n: u32) -> Result<(), WriteStop>
+    requires { n < 1000 }
+    ensures { OnOk result (Appends (P.written text.old) (P.written text.new) (card_text (map (λ j. made.item_card (codes "RHS") (made.destination j) 10) (made.up_to n)))) }
+{
+    for before in 0..n {
+        put_demand(text, before + 1)?;
+    }
+    Ok(())
+}

@@ -1,0 +1,32 @@
+use Rattle.std.proofs.Common.{ap, Some}
+use Rattle.command_line.specs.declared.request.Request.{Request}
+use Rattle.mps_cli.proofs.Why.{read_cause, made_cause, read_punch, made_punch}
+use Rattle.mps_cli.proofs.Truth.{read_headline, made_headline}
+use Rattle.mps_cli.proofs.run.run_request.Goals as goal
+
+-- ---- the job is read
+
+pub returns-in-Read-clause-headline : goal.returns-in-Read-clause-headline
+returns-in-Read-clause-headline g c =
+    read_headline (Some c.args.request) (g.S.Source.left c.args.job.now) c.run_source.result _ _ _ (ap (λ (r : Request). Some r) c.in-Read.is) c.run_source.ensures.answer
+
+pub returns-in-Read-clause-cause : goal.returns-in-Read-clause-cause
+returns-in-Read-clause-cause g c = read_cause _ _ _ _ _ c.run_source.result c.in-Read.is c.run_source.ensures.cause
+
+pub returns-in-Read-clause-unread : goal.returns-in-Read-clause-unread
+returns-in-Read-clause-unread g c differs = absurd (differs c.in-Read.is)
+
+-- ---- the job is made
+
+pub returns-in-Make-clause-headline : goal.returns-in-Make-clause-headline
+returns-in-Make-clause-headline g c =
+    made_headline (Some c.args.request) (g.S.Source.left c.args.job.now) c.run_made.result _ _ _ _ _ _ c.in-Make.size (ap (λ (r : Request). Some r) c.in-Make.is) c.run_made.ensures.answer
+
+pub returns-in-Make-clause-cause : goal.returns-in-Make-clause-cause
+returns-in-Make-clause-cause g c = made_cause _ _ _ _ _ c.run_made.result c.in-Make.size c.in-Make.is c.run_made.ensures.cause
+
+pub returns-in-Read-clause-punch : goal.returns-in-Read-clause-punch
+returns-in-Read-clause-punch g c = read_punch _ _ _ c.run_source.result c.in-Read.is c.run_source.ensures.punch
+
+pub returns-in-Make-clause-punch : goal.returns-in-Make-clause-punch
+returns-in-Make-clause-punch g c = made_punch _ _ _ _ _ c.run_made.result c.in-Make.size c.in-Make.is c.run_made.ensures.punch

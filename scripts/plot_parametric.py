@@ -1,0 +1,153 @@
+#!/usr/bin/env python3
+"""Draws what a parametric run found: the best value of the objective over the parameter, which is a chain of straight lines.
+
+usage: plot_parametric.py [--svg] [--run K] [-o FILE] [LISTING]      without LISTING the listing is read from standard input
+
+  --svg    a picture in SVG; without it one of letters, and a table of the exact values
+  --run K  the Kth parametric run of the listing; without it the last
+  -o FILE  where it goes; without it to standard output
+
+The value at each parameter is the sum of price times activity over rows and columns, which for a best plan is its objective (with the
+parameter's share of the change row, in a run of PARAOBJ). It ends with 0, with 64 for wrong use, 65 where the text isn't a listing, or has
+no such run, 66 where a file can't be read or written."""
+import argparse, sys
+from fractions import Fraction
+from xml.sax.saxutils import escape
+import listing2json
+
+WIDTH, HEIGHT = 61, 17
+PASTS = {"ends": "the run ends at {}", "infeasible": "no plan past {}", "unbounded": "no bound past {}"}
+
+
+class NoRun(Exception):
+    pass
+
+
+def value_at(lines, theta):
+    "price times activity, summed up"
+    return sum(((Fraction(line["price"]) + theta * Fraction(line["price_rate"])) * (Fraction(line["value"]) + theta * Fraction(line["value_rate"]))
+                for line in lines), Fraction(0))
+
+
+def points_of(report):
+    "the parameters at which the chain of lines bends or ends, with the values there"
+    points = []
+    for interval in report["intervals"]:
+        for theta in (Fraction(interval["from"]), Fraction(interval["to"])):
+            value = value_at(interval["lines"], theta)
+            if points and points[-1][0] == theta and points[-1][1] != value:
+                raise NoRun(f"at {theta} one interval ends with {points[-1][1]}, and the next begins with {value}")
+            if not points or points[-1][0] != theta:
+                points.append((theta, value))
+    return points
+
+
+def title(report):
+    if report["by"] == "paraobj":
+        return f"PARAOBJ: the best value, where the parameter times the row {report['change']} is added to the objective"
+    return f"PARARHS: the best value, where the parameter times the set {report['change']} is added to the limits"
+
+
+def rounded(value):
+    return f"{float(value):.6g}"
+
+
+def scaled(points, width, height):
+    "from exact points to places in a picture, from the left and from the top"
+    first, last = points[0][0], points[-1][0]
+    low, high = min(value for _, value in points), max(value for _, value in points)
+
+    def place(theta, value):
+        across = (theta - first) / (last - first) if last > first else Fraction(1, 2)
+        up = (value - low) / (high - low) if high > low else Fraction(1, 2)
+        return across * width, (1 - up) * height
+    return place, low, high
+
+
+def between(points, theta):
+    for (first, low), (last, high) in zip(points, points[1:]):
+        if first <= theta <= last:
+            return low + (high - low) * (theta - first) / (last - first)
+    return points[0][1]
+
+
+def in_letters(report, points):
+    place, low, high = scaled(points, WIDTH - 1, HEIGHT - 1)
+    grid = [[" "] * WIDTH for _ in range(HEIGHT)]
+    first, last = points[0][0], points[-1][0]
+    for step in range(WIDTH if last > first else 0):
+        theta = first + (last - first) * step / (WIDTH - 1)
+        across, down = place(theta, between(points, theta))
+        grid[round(down)][round(across)] = "."
+    for theta, value in points:
+        across, down = place(theta, value)
+        grid[round(down)][round(across)] = "o"
+    labels = {round(place(first, value)[1]): rounded(value) for value in (low, high)}
+    lines = [title(report), ""] + [f"{labels.get(k, ''):>12} |{''.join(row).rstrip()}" for k, row in enumerate(grid)]
+    lines += [" " * 13 + "+" + "-" * WIDTH, " " * 14 + rounded(first) + rounded(last).rjust(WIDTH - len(rounded(first))), ""]
+    lines += [f"{'parameter':>16} {'value':>24}  change a unit"]
+    for number, (theta, value) in enumerate(points):
+        slope = (points[number + 1][1] - value) / (points[number + 1][0] - theta) if number + 1 < len(points) else ""
+        lines.append(f"{str(theta):>16} {str(value):>24}  {slope}".rstrip())
+    return "\n".join([*lines, how_it_ends(report)]) + "\n"
+
+
+def how_it_ends(report):
+    return PASTS[report["end"]].format(report["at"]) if "end" in report else "the listing is cut off"
+
+
+def in_svg(report, points):
+    wide, tall, left, top = 520, 300, 90, 40
+    place, low, high = scaled(points, wide, tall)
+    spots = [(left + float(across), top + float(down)) for across, down in (place(*point) for point in points)]
+
+    def text(x, y, words, anchor="middle"):
+        return f'<text x="{x:.1f}" y="{y:.1f}" text-anchor="{anchor}">{escape(words)}</text>'
+
+    parts = ['<svg xmlns="http://www.w3.org/2000/svg" viewBox="0 0 640 420" font-family="sans-serif" font-size="12">',
+             '<rect width="640" height="420" fill="white"/>', text(320, 20, title(report)),
+             f'<path d="M{left} {top}V{top + tall}H{left + wide}" fill="none" stroke="black"/>',
+             f'<polyline points="{" ".join(f"{x:.1f},{y:.1f}" for x, y in spots)}" fill="none" stroke="navy" stroke-width="2"/>']
+    for (theta, value), (x, y) in zip(points, spots):
+        parts += [f'<circle cx="{x:.1f}" cy="{y:.1f}" r="4" fill="navy"><title>{theta}: {value}</title></circle>',
+                  f'<path d="M{x:.1f} {top + tall}v5" stroke="black"/>', text(x, top + tall + 20, str(theta))]
+    parts += [text(left - 8, float(place(points[0][0], value)[1]) + top + 4, rounded(value), "end") for value in dict.fromkeys((low, high))]
+    parts += [text(320, top + tall + 50, how_it_ends(report)), "</svg>"]
+    return "\n".join(parts) + "\n"
+
+
+def main():
+    if any(word in ("-h", "--help") for word in sys.argv[1:]):
+        print(__doc__)
+        return 0
+    parser = argparse.ArgumentParser(add_help=False)
+    parser.error = lambda message: (print(f"plot_parametric.py: {message}", file=sys.stderr), sys.exit(64))
+    parser.add_argument("--svg", action="store_true")
+    parser.add_argument("--run", type=int)
+    parser.add_argument("-o", dest="out")
+    parser.add_argument("file", nargs="?")
+    options = parser.parse_args()
+    try:
+        text = open(options.file, encoding="latin-1").read() if options.file else sys.stdin.read()
+        runs = [report for report in listing2json.parse(text)["reports"] if report["report"] == "parametric" and report["intervals"]]
+        number = len(runs) if options.run is None else options.run
+        if not 1 <= number <= len(runs):
+            raise NoRun(f"it has {len(runs)} parametric runs")
+        report = runs[number - 1]
+        picture = (in_svg if options.svg else in_letters)(report, points_of(report))
+        if options.out:
+            with open(options.out, "w", encoding="utf-8") as file:
+                file.write(picture)
+        else:
+            sys.stdout.write(picture)
+    except OSError as cause:
+        print(f"plot_parametric.py: {cause.filename}: {cause.strerror}", file=sys.stderr)
+        return 66
+    except (listing2json.NoListing, NoRun) as cause:
+        print(f"plot_parametric.py: can't be drawn: {cause}", file=sys.stderr)
+        return 65
+    return 0
+
+
+if __name__ == "__main__":
+    sys.exit(main())
