@@ -116,7 +116,7 @@ fn stands_fixed(lp: &Lp, k: u32) -> bool
 }
 
 /// Whether `k` may move so as to lower a quantity that has this rate at it.
-fn may_lower(lp: &Lp, basis: &Basis, rate: Frac, k: u32) -> bool
+pub fn may_lower(lp: &Lp, basis: &Basis, rate: Frac, k: u32) -> bool
     requires variable { IsVariable lp.now.matrix k }
     requires counted { length basis.now ≡ size lp.now.matrix }
     ensures { result ≡ lowers lp.now basis.now (λ _. rate) k }

@@ -16,10 +16,13 @@ mod stopping;
 mod turns;
 
 pub use beginning::opening;
+pub use choices::{counted, may_lower};
+pub use formula::{Formula, plus_product};
 pub use free_path::primal_free;
 pub use moves::{PrimalStop, Stopper};
 pub use path::primal;
 pub use point::point_of;
 pub use prices::prices_of;
-pub use step::take_step;
+pub use step::{returning, take_step};
 pub use stopping::stopper;
+pub use turns::{limit_broken, ray_of, return_of};

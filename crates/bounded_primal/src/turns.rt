@@ -38,7 +38,7 @@ fn multiplier(lp: &Lp, rates: &[Frac], r: u32, below: bool, k: u32) -> Frac
 }
 
 /// The multipliers that show that `r` can't come back.
-fn ray_of(alloc: Global, lp: &Lp, rates: &[Frac], r: u32, below: bool) -> Result<Ray, NoMemory>
+pub fn ray_of(alloc: Global, lp: &Lp, rates: &[Frac], r: u32, below: bool) -> Result<Ray, NoMemory>
     requires { length rates.now ≡ size lp.now.matrix }
     ensures places { IfOk result (λ ray. length ray ≡ size lp.now.matrix) }
     ensures ray { IfOk result (λ ray. (k : ℕ) → IsVariable lp.now.matrix k → value_at ray k ≡ ray_from (value_at rates.now) r below k) }
@@ -100,7 +100,7 @@ fn is_minimized(lp: &Lp) -> bool
 }
 
 /// The limit that was broken, as a status.
-fn limit_broken(below: bool) -> Status
+pub fn limit_broken(below: bool) -> Status
     ensures { result ≡ (if below then Status.Ll else Status.Ul) }
 {
     if below { Status::Ll } else { Status::Ul }
@@ -129,7 +129,7 @@ fn returner<R: Rates>(
 }
 
 /// What brings `p` to the limit of the status `to` by a move of `q`. `direction` takes the direction of `q`.
-fn return_of<R: Rates>(
+pub fn return_of<R: Rates>(
     lp: &Lp,
     basis: &Basis,
     rates: &mut R,

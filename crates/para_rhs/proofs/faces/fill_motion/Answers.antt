@@ -1,0 +1,20 @@
+use Rattle.lp_definitions.specs.Basis.{basics_of}
+use Rattle.lp_laws.proofs.WaypointLaws.{keeps_then}
+use Rattle.lp_model.proofs.Stops.{IfOverflow-map}
+use Rattle.bounded_primal.proofs.TermLaws.{IfErr-map}
+use Rattle.bounded_primal.proofs.Covered.{point_refused_later}
+use Rattle.para_rhs.proofs.RunEvidence.{of_point}
+use Rattle.para_rhs.proofs.faces.fill_motion.Goals as goal
+
+pub returns-clause-waypoints : goal.returns-clause-waypoints
+returns-clause-waypoints g c =
+    keeps_then c.args.lp.now.matrix (basics_of c.args.basis.now) (g.R.Rates.waypoints c.args.rates.now) (basics_of c.args.basis.now) (g.R.Rates.waypoints c.slope_of.new.rates) (g.R.Rates.waypoints c.prices_of.new.rates)
+    c.in_ok-slope_of.ensures.waypoints c.prices_of.ensures.waypoints
+
+pub returns-clause-overflow : goal.returns-clause-overflow
+returns-clause-overflow g c =
+    IfErr-map c.prices_of.result
+    (λ stop h. IfOverflow-map stop
+    (λ e x. of_point c.args.lp.now c.args.shift.now c.requires.lawful c.requires.no_change c.args.basis.now (g.R.Rates.waypoints c.args.rates.now) (g.R.Rates.waypoints c.prices_of.new.rates) e
+    (point_refused_later c.args.lp.now (g.R.Rates.waypoints c.args.rates.now) (g.R.Rates.waypoints c.slope_of.new.rates) (g.R.Rates.waypoints c.prices_of.new.rates) c.args.basis.now e c.in_ok-slope_of.ensures.waypoints x)) h)
+    c.prices_of.ensures.overflow

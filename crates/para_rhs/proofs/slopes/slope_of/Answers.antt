@@ -1,0 +1,37 @@
+use Rattle.std.proofs.Common.{sym, subst}
+use Rattle.lp_definitions.specs.Basis.{basics_of, IsPointOf}
+use Rattle.lp_definitions.specs.LinearProgram.{LinearProgram, value_at}
+use Rattle.lp_definitions.specs.declared.Evidence.{Evidence}
+use Rattle.bounded_primal.specs.Calls.{HasRates, PointRefused}
+use Rattle.bounded_primal.proofs.Covered.{keeps_same}
+use Rattle.para_rhs.specs.Refusals.{RunRefused}
+use Rattle.para_rhs.proofs.SlopePrograms.{to_slope, is_slope}
+use Rattle.para_rhs.proofs.SlopeStops.{slope_refused}
+use Rattle.para_rhs.proofs.slopes.slope_of.Goals as goal
+
+pub returns-in_err-moving-clause-waypoints : goal.returns-in_err-moving-clause-waypoints
+returns-in_err-moving-clause-waypoints g c = keeps_same c.args.lp.now.matrix (basics_of c.args.basis.now) (g.R.Rates.waypoints c.args.rates.now)
+
+pub point_of-requires-clause-rates : goal.point_of-requires-clause-rates
+point_of-requires-clause-rates g c =
+    subst (λ (q : LinearProgram). HasRates (g.R.Rates.matrix c.args.rates.now) (g.R.Rates.basics c.args.rates.now) q c.args.basis.now) (sym c.in_ok-moving.ensures.program)
+    (record {
+      is_basis = to_slope c.args.lp.now c.args.shift.now c.args.basis.now (record { is_basis = c.requires.rates.is_basis; nonsingular = c.requires.rates.nonsingular });
+      nonsingular = c.requires.rates.nonsingular;
+      same_matrix = c.requires.rates.same_matrix;
+      same_basics = c.requires.rates.same_basics;
+    })
+
+pub returns-in-Ok-clause-slope : goal.returns-in-Ok-clause-slope
+returns-in-Ok-clause-slope g c =
+    is_slope c.args.lp.now c.args.shift.now c.args.basis.now (record { is_basis = c.requires.rates.is_basis; nonsingular = c.requires.rates.nonsingular }) (value_at c.point_of.new.out)
+    (subst (λ (q : LinearProgram). IsPointOf q c.args.basis.now (value_at c.point_of.new.out)) c.in_ok-moving.ensures.program c.in-Ok.ensures.point)
+
+pub returns-in-Err-Overflow-clause-overflow : goal.returns-in-Err-Overflow-clause-overflow
+returns-in-Err-Overflow-clause-overflow g c =
+    let refused = rw c.in-Err-Overflow.field-0-is at c.in-Err-Overflow.ensures.overflow in
+    subst (λ (e : Evidence). RunRefused c.args.lp.now c.args.shift.now c.args.basis.now (g.R.Rates.waypoints c.args.rates.now) (g.R.Rates.waypoints c.point_of.new.rates) e)
+    (sym c.slope_evidence.ensures)
+    (slope_refused c.args.lp.now c.args.shift.now c.slope_program.ensures.lawful c.args.basis.now (record { is_basis = c.requires.rates.is_basis; nonsingular = c.requires.rates.nonsingular })
+    c.in-Err-Overflow.evidence c.requires.no_change (g.R.Rates.waypoints c.args.rates.now) (g.R.Rates.waypoints c.point_of.new.rates)
+    (subst (λ (q : LinearProgram). PointRefused q (g.R.Rates.waypoints c.args.rates.now) c.args.basis.now (g.R.Rates.waypoints c.point_of.new.rates) c.in-Err-Overflow.evidence) c.in_ok-moving.ensures.program refused))

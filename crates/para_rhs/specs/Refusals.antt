@@ -1,0 +1,14 @@
+-- Evidence of a call that stays at one basis, as that of a run of the right-hand side.
+--     RunRefused .. e      e is evidence at the basis s, for a run from any value, whatever bases led there
+use Rattle.std.specs.Prelude.{ℕ, List, Option}
+use Rattle.exact_values.specs.Rational.{ℚ}
+use Rattle.evidence_definitions.specs.Statements.{Pararhs}
+use Rattle.lp_definitions.specs.Basis.{Basics}
+use Rattle.lp_definitions.specs.LinearProgram.{LinearProgram}
+use Rattle.lp_definitions.specs.declared.Evidence.{Evidence}
+use Rattle.lp_definitions.specs.declared.Status.{Status}
+use Rattle.run_calls.specs.Walks.{EvidenceHere}
+
+-- with any number of steps left, at a break or where an interval begins; before and after are the waypoints of the call
+abbrev pub RunRefused : LinearProgram → List ℚ → List Status → List Basics → List Basics → Evidence → Type 0
+RunRefused p shift s before after e = (from : ℚ) (break : Option ℚ) (left : ℕ) → EvidenceHere (Pararhs p shift from) p.matrix break left s before after e

@@ -1,0 +1,85 @@
+-- A run of the right-hand side, as code makes it.
+--     told_at theta stop           a stop of the path at theta, as that of a run
+--     StandsAt                     a run stands at a basis after so many steps
+--     ChainEnds                    the chain of intervals from s has ended at now, with this run
+--     OpensFrom                    a run that may open its first interval at the basis s
+--     ChainStops, ChainFollows     what holds of each such run after a call that has stopped; where the waypoints lie then
+--     Overflows e                  why a call stops by an overflow
+--     RhsEnds, RhsStops, RhsFollows     what the whole call promises
+use Rattle.std.specs.Prelude.{◌≡◌, ℕ, ◌+◌, ◌≤◌, ◌⊎◌, List, [], map, length}
+use Rattle.exact_values.specs.Rational.{ℚ}
+use Rattle.lp_definitions.specs.LinearProgram.{LinearProgram}
+use Rattle.lp_definitions.specs.Basis.{Basics}
+use Rattle.lp_definitions.specs.declared.Evidence.{Evidence}
+use Rattle.lp_definitions.specs.declared.Status.{Status}
+use Rattle.lp_model.specs.declared.reports.ParaReport.{ParaReport}
+use Rattle.lp_model.specs.declared.reports.ParaRun.{ParaRun}
+use Rattle.path_definitions.specs.Path.{last_of}
+use Rattle.postoptimal_definitions.specs.Chain.{IsChain, Place, basis_of}
+use Rattle.evidence_definitions.specs.Evidence.{ShiftHolds}
+use Rattle.bounded_primal.specs.declared.moves.PrimalStop.{PrimalStop}
+use Rattle.bounded_primal.specs.declared.moves.PrimalStop.TheVariants.{Limit, Overflow, NoMemory}
+use Rattle.run_calls.specs.Calls.{part_of, end_of, RunEnds, StandsThere, WaypointsFollowRun, RunOverflows, RunStops}
+use Rattle.run_calls.specs.Truth.{IsTrueReported}
+use Rattle.run_calls.specs.Walks.{HasRun, MayOpen}
+use Rattle.para_rhs.specs.Faces.{family, Face, statement}
+use Rattle.para_rhs.specs.declared.parts.ParaRhs.{ParaRhs}
+
+-- the stop of the path at the first value, as that of a run: its evidence is told of that value
+abbrev pub told_at : ℚ → PrimalStop → PrimalStop
+told_at theta Limit = Limit
+told_at theta (Overflow e) = Overflow (record e { theta = theta })
+told_at theta NoMemory = NoMemory
+
+module _ (p : LinearProgram) (run : ParaRhs) where
+  -- a run from start whose opening has come to s after so many steps, with the waypoints ways
+  abbrev pub OpensFrom : List Status → List Basics → List Status → List Basics → ℕ → Type 0
+  OpensFrom start before s ways begun = MayOpen (family p run) (Face p run) run.from run.to p.matrix start before run.from s ways begun
+
+  -- it stands at now after so many steps
+  pub record StandsAt (start : List Status) (before : List Basics) (now : List Status) (ways : List Basics) (steps : ℕ) : Type 0 where
+    pub place : Place
+    pub ends : List ℚ
+    pub is_now : basis_of place ≡ now
+    pub run_there : HasRun (family p run) (Face p run) run.from run.to p.matrix start before place ends ways steps
+
+  pub record ChainEnds (s now : List Status) (begun : ℕ) (ways more : List Basics) (report : ParaRun) : Type 0 where
+    pub path : List (List Status)
+    pub chain : IsChain (family p run) (Face p run) run.to run.from s (map part_of report.parts) (end_of report.end) path
+    pub reaches : last_of s path ≡ now
+    pub steps : ℕ
+    pub taken : begun + length path ≡ steps
+    pub within : steps ≤ run.limit
+    pub stood : (start : List Status) (before : List Basics) → OpensFrom start before s ways begun → StandsAt start before now more steps
+
+  abbrev pub ChainStops : List Status → List Status → ℕ → List Basics → List Basics → PrimalStop → Type 0
+  ChainStops s now begun ways more stop =
+      (start : List Status) (before : List Basics) → OpensFrom start before s ways begun →
+      RunStops (family p run) (Face p run) run.from run.to start now run.limit
+      (RunOverflows (family p run) (Face p run) run.from run.to start now run.limit (statement p run) p.matrix before more) stop
+
+  abbrev pub ChainFollows : List Status → List Status → ℕ → List Basics → List Basics → Type 0
+  ChainFollows s now begun ways more =
+      (start : List Status) (before : List Basics) → OpensFrom start before s ways begun →
+      WaypointsFollowRun (family p run) (Face p run) run.from run.to start now run.limit p.matrix before more
+
+  -- the run from s has ended at now within the limit, with this report
+  abbrev pub RhsEnds : List Status → List Status → List Basics → List Basics → ParaReport → Type 0
+  RhsEnds s now before after = RunEnds (family p run) (Face p run) run.from run.to s now run.limit p.matrix before after
+
+  -- an overflow comes with its evidence, where a limit at the first value could not be made with evidence that needs no basis
+  abbrev pub Overflows : List Status → List Status → List Basics → List Basics → Evidence → Type 0
+  Overflows s now before after e =
+      RunOverflows (family p run) (Face p run) run.from run.to s now run.limit (statement p run) p.matrix before after e ⊎
+      (StandsThere (family p run) (Face p run) run.from run.to s now run.limit × ShiftHolds (statement p run) [] e)
+
+  -- Limit comes where the run goes on after as many steps as the limit
+  abbrev pub RhsStops : List Status → List Status → List Basics → List Basics → PrimalStop → Type 0
+  RhsStops s now before after =
+      RunStops (family p run) (Face p run) run.from run.to s now run.limit (Overflows s now before after)
+
+  abbrev pub RhsFollows : List Status → List Status → List Basics → List Basics → Type 0
+  RhsFollows s now before after = WaypointsFollowRun (family p run) (Face p run) run.from run.to s now run.limit p.matrix before after
+
+  abbrev pub IsTrueRhs : ParaReport → Type 0
+  IsTrueRhs = IsTrueReported (family p run) run.from run.to

@@ -1,0 +1,137 @@
+//! Who leaves its limits at a break.
+
+ghost use Rattle.std.specs.Prelude.{◌≡◌, ◌≢◌, None, Some, length, List, IfOk, IfErr, OnErr};
+ghost use Rattle.exact_values.specs.Rational.{◌*ℚ◌};
+ghost use Rattle.exact_values.specs.Tests.{eq_ℚ};
+ghost use Rattle.lp_definitions.specs.LinearProgram.{size, value_at, IsVariable, IsLinearProgram};
+ghost use Rattle.lp_definitions.specs.Basis.{Basics, IsPointOf};
+ghost use Rattle.path_laws.specs.Laws.{IsNonsingularBasis};
+ghost use Rattle.postoptimal_definitions.specs.RhsRun.{shift_of, IsSlope};
+ghost use Rattle.para_rhs.specs.Breaks.{stands_at, leaving_side, IsLeaverOf, IsFaceLeaver};
+ghost use Rattle.para_rhs.specs.Limits.{limit_on};
+ghost use Rattle.para_rhs.specs.Reach.{side_ahead, VariableRefused, SomeVariableRefused};
+ghost use Rattle.para_rhs.specs.Refusals.{RunRefused};
+
+use crate::limits::{Side, limit_on, number_of, shift_of};
+use crate::reaching::{formula, side_ahead};
+use frac128::Frac;
+use lp_model::{Basis, Evidence, Lp};
+
+/// A basic that stands at a limit which it would break beyond the break.
+#[derive(Clone, Copy, Debug)]
+pub struct Leaver {
+    pub r: u32,
+    pub side: Side,
+}
+
+/// Whether the distance is the product. A product that is refused isn't a distance, which fits: nothing stops this.
+fn is_product(theta: Frac, closing: Frac, distance: Frac) -> bool
+    ensures { result ≡ eq_ℚ (theta *ℚ closing) distance }
+{
+    match theta.mul(closing) {
+        Ok(product) => product.compare(distance).is_eq(),
+        Err(_refused) => false,
+    }
+}
+
+/// Whether `k`, which comes to this limit, stands at it at theta.
+fn stands_at(
+    lp: &Lp,
+    shift: &[Frac],
+    side: Side,
+    limit: Frac,
+    value: Frac,
+    slope: Frac,
+    theta: Frac,
+    k: u32,
+) -> Result<bool, Evidence>
+    requires variable { IsVariable lp.now.matrix k }
+    requires shifts { length shift.now ≡ lp.now.rows }
+    requires limit { limit_on lp.now side k ≡ Some limit }
+    ensures stands { IfOk result (λ stands. stands ≡ stands_at theta value slope (shift_of lp.now.matrix shift.now k) limit) }
+    ensures refused { IfErr result (VariableRefused lp.now shift.now (λ _. value) (λ _. slope) k) }
+{
+    let by = shift_of(lp, shift, k);
+    let closing = formula(18, k, 0).difference(slope, by)?;
+    let distance = formula(6, k, number_of(side)).difference(limit, value)?;
+    Ok(is_product(theta, closing, distance))
+}
+
+/// The limit at which `k` stands at theta and which it would break beyond, if there is one.
+fn leaving_side(
+    lp: &Lp,
+    shift: &[Frac],
+    value: Frac,
+    slope: Frac,
+    theta: Frac,
+    k: u32,
+) -> Result<Option<Side>, Evidence>
+    requires variable { IsVariable lp.now.matrix k }
+    requires shifts { length shift.now ≡ lp.now.rows }
+    ensures side { IfOk result (λ found. found ≡ leaving_side lp.now shift.now theta (λ _. value) (λ _. slope) k) }
+    ensures moves { OnErr result (slope ≢ shift_of lp.now.matrix shift.now k) }
+    ensures refused { IfErr result (VariableRefused lp.now shift.now (λ _. value) (λ _. slope) k) }
+{
+    let Some(side) = side_ahead(slope, shift_of(lp, shift, k)) else {
+        return Ok(None);
+    };
+    let Some(limit) = limit_on(lp, side, k) else {
+        return Ok(None);
+    };
+    match stands_at(lp, shift, side, limit, value, slope, theta, k) {
+        Ok(true) => Ok(Some(side)),
+        Ok(false) => Ok(None),
+        Err(evidence) => Err(evidence),
+    }
+}
+
+/// The least-numbered variable with such a limit.
+fn leaver_by(
+    lp: &Lp,
+    shift: &[Frac],
+    value: &[Frac],
+    slope: &[Frac],
+    theta: Frac,
+) -> Result<Option<Leaver>, Evidence>
+    requires shifts { length shift.now ≡ lp.now.rows }
+    requires values { length value.now ≡ size lp.now.matrix }
+    requires slopes { length slope.now ≡ size lp.now.matrix }
+    ensures lawful { IsLinearProgram lp.now }
+    ensures leaver { IfOk result (IsLeaverOf lp.now shift.now theta (value_at value.now) (value_at slope.now)) }
+    ensures refused { IfErr result (SomeVariableRefused lp.now shift.now (value_at value.now) (value_at slope.now)) }
+{
+    for k in 0..lp.number_of_variables() {
+        let here = value[k as usize];
+        let rate = slope[k as usize];
+        if let Some(side) = leaving_side(lp, shift, here, rate, theta, k + 1)? {
+            return Ok(Some(Leaver { r: k + 1, side }));
+        }
+    }
+    Ok(None)
+}
+
+/// The least-numbered basic that stands at a limit at theta which it would break beyond. `value` has the basis's point at 0, and `slope`
+/// its slope. An overflow comes only with evidence of it at this basis.
+pub fn face_leaver(
+    lp: &Lp,
+    basis: &Basis,
+    value: &[Frac],
+    slope: &[Frac],
+    shift: &[Frac],
+    theta: Frac,
+) -> Result<Option<Leaver>, Evidence>
+    requires no_change { lp.now.change ≡ None }
+    requires basis { IsNonsingularBasis lp.now basis.now }
+    requires point { IsPointOf lp.now basis.now (value_at value.now) }
+    requires slope { IsSlope lp.now basis.now shift.now (value_at slope.now) }
+    requires shifts { length shift.now ≡ lp.now.rows }
+    requires values { length value.now ≡ size lp.now.matrix }
+    requires slopes { length slope.now ≡ size lp.now.matrix }
+    ensures leaver { IfOk result (IsFaceLeaver lp.now shift.now theta basis.now) }
+    ensures overflow { IfErr result (λ e. (before : List Basics) (after : List Basics) → RunRefused lp.now shift.now basis.now before after e) }
+{
+    match leaver_by(lp, shift, value, slope, theta) {
+        Ok(found) => Ok(found),
+        Err(evidence) => Err(evidence),
+    }
+}

@@ -1,0 +1,20 @@
+//! Parametric runs of the right-hand side: theta times its shift is added to the limits of each row, and the basis is followed while
+//! theta grows.
+#![tactic(auto)]
+
+mod breaks;
+mod faces;
+mod limits;
+mod parts;
+mod ratios;
+mod reaching;
+mod run;
+mod slopes;
+
+pub use breaks::{Leaver, face_leaver};
+pub use limits::{Side, program_at};
+pub use parts::ParaRhs;
+pub use ratios::cheapest;
+pub use reaching::reach;
+pub use run::para_rhs;
+pub use slopes::slope_of;

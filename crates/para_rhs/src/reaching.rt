@@ -1,0 +1,224 @@
+//! How far a basis stays optimal.
+
+ghost use Rattle.std.specs.Prelude.{◌≡◌, ◌≢◌, None, Some, length, List, IsSome, IfOk, IfErr, OnErr};
+ghost use Rattle.exact_values.specs.Rational.{zero_ℚ, ◌-ℚ◌};
+ghost use Rattle.affine_conditions.specs.Ends.{IsTightened};
+ghost use Rattle.frac128.specs.declared.Op.TheVariants.{Div};
+ghost use Rattle.lp_definitions.specs.LinearProgram.{size, value_at, IsVariable, IsLinearProgram};
+ghost use Rattle.lp_definitions.specs.RatesEvidence.{Names};
+ghost use Rattle.lp_definitions.specs.Basis.{Basics, IsPointOf};
+ghost use Rattle.path_laws.specs.Laws.{IsNonsingularBasis};
+ghost use Rattle.postoptimal_definitions.specs.RhsRun.{shift_of, IsSlope};
+ghost use Rattle.bounded_primal.specs.Formulas.{IsRefusal};
+ghost use Rattle.para_rhs.specs.Limits.{limit_on, number_of};
+ghost use Rattle.para_rhs.specs.Reach.{side_ahead, bound_of, limit_sides, IsNarrowed, high_of, IsReachOf, IsReachFromAny, basic_formula, VariableRefused, SomeVariableRefused};
+ghost use Rattle.para_rhs.specs.Refusals.{RunRefused};
+
+use crate::limits::{Side, is_upper, limit_on, number_of, shift_of};
+use affine_conditions::{Bound, End, Ends, tightened};
+use bounded_primal::Formula;
+use frac128::{Frac, Refused};
+use lp_model::{Basis, Evidence, Lp};
+
+/// Formula 6 or 18 of the basic `i`.
+pub fn formula(number: u8, i: u32, term: u32) -> Formula
+    ensures { result ≡ basic_formula number i term }
+{
+    Formula {
+        number,
+        p: 0,
+        q: 0,
+        i,
+        j: 0,
+        term,
+        theta: Frac::whole(0),
+    }
+}
+
+/// The side of the limit to which a variable of this slope comes, where its limits have this shift.
+pub fn side_ahead(slope: Frac, by: Frac) -> Option<Side>
+    ensures { result ≡ side_ahead slope by }
+{
+    if slope.is_less(by) {
+        return Some(Side::Lower);
+    }
+    if by.is_less(slope) {
+        return Some(Side::Upper);
+    }
+    None
+}
+
+/// The bound that the limit ahead makes on theta: theta times the closing is at most the distance to an upper limit, and at least
+/// that to a lower one.
+fn bound(side: Side, closing: Frac, distance: Frac, k: u32) -> Bound
+    ensures { result ≡ bound_of side closing distance k }
+{
+    Bound {
+        at_most: is_upper(side),
+        slope: closing,
+        number: distance,
+        by: k,
+        which: number_of(side),
+    }
+}
+
+/// Evidence of the refused quotient of the basic `i` and its limit of this number.
+fn evidence(i: u32, term: u32, refused: Refused) -> Evidence
+    ensures names { Names result 18 0 0 i 0 term }
+    ensures no_way { result.way ≡ 0 }
+    ensures no_theta { result.theta ≡ zero_ℚ }
+    ensures refused { result.refused ≡ refused }
+{
+    Evidence {
+        formula: 18,
+        way: 0,
+        p: 0,
+        q: 0,
+        i,
+        j: 0,
+        term,
+        theta: Frac::whole(0),
+        refused,
+    }
+}
+
+/// The ends with the bound of `k`, whose closing isn't 0.
+fn with_bound(
+    ends: Ends,
+    side: Side,
+    closing: Frac,
+    distance: Frac,
+    k: u32,
+) -> Result<Ends, Evidence>
+    requires { closing ≢ zero_ℚ }
+    ensures ends { IfOk result (IsTightened ends (bound_of side closing distance k)) }
+    ensures refused { IfErr result (IsRefusal (basic_formula 18 k (number_of side)) Div distance closing) }
+{
+    match tightened(ends, &bound(side, closing, distance, k)) {
+        Ok(now) => Ok(now),
+        Err(refused) => Err(evidence(k, number_of(side), refused)),
+    }
+}
+
+/// The ends with the bound that this limit of `k` makes, to which `k` comes.
+fn with_limit(
+    lp: &Lp,
+    shift: &[Frac],
+    ends: Ends,
+    side: Side,
+    limit: Frac,
+    value: Frac,
+    slope: Frac,
+    k: u32,
+) -> Result<Ends, Evidence>
+    requires variable { IsVariable lp.now.matrix k }
+    requires shifts { length shift.now ≡ lp.now.rows }
+    requires ahead { side_ahead slope (shift_of lp.now.matrix shift.now k) ≡ Some side }
+    requires limit { limit_on lp.now side k ≡ Some limit }
+    ensures ends { IfOk result (IsTightened ends (bound_of side (slope -ℚ shift_of lp.now.matrix shift.now k) (limit -ℚ value) k)) }
+    ensures refused { IfErr result (VariableRefused lp.now shift.now (λ _. value) (λ _. slope) k) }
+{
+    let by = shift_of(lp, shift, k);
+    let closing = formula(18, k, 0).difference(slope, by)?;
+    let distance = formula(6, k, number_of(side)).difference(limit, value)?;
+    match with_bound(ends, side, closing, distance, k) {
+        Ok(now) => Ok(now),
+        Err(evidence) => Err(evidence),
+    }
+}
+
+/// The ends with the bound of `k`, where it comes to a limit.
+fn with_variable(
+    lp: &Lp,
+    shift: &[Frac],
+    ends: Ends,
+    value: Frac,
+    slope: Frac,
+    k: u32,
+) -> Result<Ends, Evidence>
+    requires variable { IsVariable lp.now.matrix k }
+    requires shifts { length shift.now ≡ lp.now.rows }
+    ensures narrowed { IfOk result (IsNarrowed (limit_sides lp.now shift.now (λ _. value) (λ _. slope) k) ends) }
+    ensures high { IfOk result (λ now. IsSome ends.high → IsSome now.high) }
+    ensures moves { OnErr result (slope ≢ shift_of lp.now.matrix shift.now k) }
+    ensures refused { IfErr result (VariableRefused lp.now shift.now (λ _. value) (λ _. slope) k) }
+{
+    let Some(side) = side_ahead(slope, shift_of(lp, shift, k)) else {
+        return Ok(ends);
+    };
+    let Some(limit) = limit_on(lp, side, k) else {
+        return Ok(ends);
+    };
+    match with_limit(lp, shift, ends, side, limit, value, slope, k) {
+        Ok(now) => Ok(now),
+        Err(evidence) => Err(evidence),
+    }
+}
+
+/// The upper end, or else `max`.
+fn high_end(ends: &Ends, max: Frac) -> Frac
+    ensures { result ≡ high_of ends.now max }
+{
+    match ends.high {
+        Some(end) => end.value,
+        None => max,
+    }
+}
+
+/// The ends that `max` and the variables make.
+fn ends_by(
+    lp: &Lp,
+    shift: &[Frac],
+    value: &[Frac],
+    slope: &[Frac],
+    max: Frac,
+) -> Result<Ends, Evidence>
+    requires shifts { length shift.now ≡ lp.now.rows }
+    requires values { length value.now ≡ size lp.now.matrix }
+    requires slopes { length slope.now ≡ size lp.now.matrix }
+    ensures lawful { IsLinearProgram lp.now }
+    ensures reach { IfOk result (IsReachOf lp.now shift.now (value_at value.now) (value_at slope.now) (size lp.now.matrix) max) }
+    ensures high { IfOk result (λ ends. IsSome ends.high) }
+    ensures refused { IfErr result (SomeVariableRefused lp.now shift.now (value_at value.now) (value_at slope.now)) }
+{
+    let mut ends = Ends {
+        low: None,
+        high: Some(End {
+            value: max,
+            by: 0,
+            which: 0,
+        }),
+    };
+    for k in 0..lp.number_of_variables() {
+        let here = value[k as usize];
+        let rate = slope[k as usize];
+        ends = with_variable(lp, shift, ends, here, rate, k + 1)?;
+    }
+    Ok(ends)
+}
+
+/// The greatest theta up to `max` to which the basis stays optimal, from any theta at which it is. `value` has the basis's point at 0,
+/// and `slope` its slope. An overflow comes only with evidence of it at this basis.
+pub fn reach(
+    lp: &Lp,
+    basis: &Basis,
+    value: &[Frac],
+    slope: &[Frac],
+    shift: &[Frac],
+    max: Frac,
+) -> Result<Frac, Evidence>
+    requires no_change { lp.now.change ≡ None }
+    requires basis { IsNonsingularBasis lp.now basis.now }
+    requires point { IsPointOf lp.now basis.now (value_at value.now) }
+    requires slope { IsSlope lp.now basis.now shift.now (value_at slope.now) }
+    requires shifts { length shift.now ≡ lp.now.rows }
+    requires values { length value.now ≡ size lp.now.matrix }
+    requires slopes { length slope.now ≡ size lp.now.matrix }
+    ensures reaches { IfOk result (IsReachFromAny lp.now shift.now basis.now max) }
+    ensures overflow { IfErr result (λ e. (before : List Basics) (after : List Basics) → RunRefused lp.now shift.now basis.now before after e) }
+{
+    match ends_by(lp, shift, value, slope, max) {
+        Ok(ends) => Ok(high_end(&ends, max)),
+        Err(evidence) => Err(evidence),
+    }
+}

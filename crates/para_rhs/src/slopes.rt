@@ -1,0 +1,110 @@
+//! How fast the basis's point moves with the parameter.
+
+ghost use Rattle.std.specs.Prelude.{◌≡◌, None, length, option_map, OnOk, IfOk, IfErr};
+ghost use Rattle.lp_definitions.specs.LinearProgram.{size, value_at, IsVariable, IsLinearProgram};
+ghost use Rattle.lp_definitions.specs.Basis.{basics_of};
+ghost use Rattle.lp_definitions.specs.Waypoints.{KeepsWaypoints};
+ghost use Rattle.lp_model.specs.RatesCalls.{IfOverflow};
+ghost use Rattle.bounded_primal.specs.Calls.{HasRates};
+ghost use Rattle.postoptimal_definitions.specs.RhsRun.{shift_of, IsSlope};
+ghost use Rattle.para_rhs.specs.Limits.{limit_on};
+ghost use Rattle.para_rhs.specs.Refusals.{RunRefused};
+ghost use Rattle.para_rhs.specs.Slopes.{shifts_of, slope_program, slope_evidence};
+
+use crate::limits::{Side, limit_on, shift_of};
+use bounded_primal::point_of;
+use frac128::Frac;
+use lp_model::{Basis, Evidence, Lp, NoMemory, Rates, Stop};
+use std::alloc::Global;
+
+/// The shift of `k` in the place of its limit, if the limit is there.
+fn shift_in_place(lp: &Lp, shift: &[Frac], side: Side, k: u32) -> Option<Frac>
+    requires variable { IsVariable lp.now.matrix k }
+    requires shifts { length shift.now ≡ lp.now.rows }
+    ensures { result ≡ option_map (λ l. shift_of lp.now.matrix shift.now k) (limit_on lp.now side k) }
+{
+    match limit_on(lp, side, k) {
+        Some(_) => Some(shift_of(lp, shift, k)),
+        None => None,
+    }
+}
+
+/// The shifts of all limits on one side, each in the place of its limit.
+fn shifts_of(
+    alloc: Global,
+    lp: &Lp,
+    shift: &[Frac],
+    side: Side,
+) -> Result<Vec<Option<Frac>>, NoMemory>
+    requires { length shift.now ≡ lp.now.rows }
+    ensures lawful { IsLinearProgram lp.now }
+    ensures shifts { IfOk result (λ shifts. shifts.items ≡ shifts_of lp.now shift.now (limit_on lp.now side)) }
+{
+    let mut shifts = Vec::new(alloc);
+    for k in 0..lp.number_of_variables() {
+        let by = shift_in_place(lp, shift, side, k + 1);
+        shifts.push(by).map_err(|_| NoMemory)?;
+    }
+    Ok(shifts)
+}
+
+/// The program whose limits are the shifts.
+fn slope_program(alloc: Global, lp: &Lp, shift: &[Frac]) -> Result<Lp, NoMemory>
+    requires { length shift.now ≡ lp.now.rows }
+    ensures lawful { IsLinearProgram lp.now }
+    ensures program { IfOk result (λ program. program ≡ slope_program lp.now shift.now) }
+{
+    let lower = shifts_of(alloc, lp, shift, Side::Lower)?;
+    let upper = shifts_of(alloc, lp, shift, Side::Upper)?;
+    lp.with_limits(alloc, lower, upper)
+}
+
+/// Evidence of a sum of the slope, where a sum of that program's point is refused.
+fn slope_evidence(evidence: &Evidence) -> Evidence
+    ensures { result ≡ slope_evidence evidence.now }
+{
+    let formula = if evidence.formula == 10 {
+        18
+    } else {
+        evidence.formula
+    };
+    Evidence {
+        formula,
+        way: evidence.way,
+        p: evidence.p,
+        q: evidence.q,
+        i: evidence.i,
+        j: evidence.j,
+        term: evidence.term,
+        theta: evidence.theta,
+        refused: evidence.refused,
+    }
+}
+
+/// Fills `out`, which has a place for each variable, with the slope of the basis: at a nonbasic its shift, and at a basic the sum of
+/// its rates times these. An overflow comes only with evidence of it at this basis.
+pub fn slope_of<R: Rates>(
+    alloc: Global,
+    lp: &Lp,
+    basis: &Basis,
+    rates: &mut R,
+    shift: &[Frac],
+    out: &mut [Frac],
+) -> Result<(), Stop>
+    requires rates { HasRates (R.matrix rates.old) (R.basics rates.old) lp.now basis.now }
+    requires no_change { lp.now.change ≡ None }
+    requires shifts { length shift.now ≡ lp.now.rows }
+    requires places { length out.old ≡ size lp.now.matrix }
+    ensures slope { OnOk result (IsSlope lp.now basis.now shift.now (value_at out.new)) }
+    ensures matrix { R.matrix rates.new ≡ R.matrix rates.old }
+    ensures basics { R.basics rates.new ≡ R.basics rates.old }
+    ensures waypoints { KeepsWaypoints lp.now.matrix (basics_of basis.now) (R.waypoints rates.old) (basics_of basis.now) (R.waypoints rates.new) }
+    ensures overflow { IfErr result (λ stop. IfOverflow stop (RunRefused lp.now shift.now basis.now (R.waypoints rates.old) (R.waypoints rates.new))) }
+{
+    let moving = slope_program(alloc, lp, shift)?;
+    match point_of(alloc, &moving, basis, rates, out) {
+        Ok(()) => Ok(()),
+        Err(Stop::Overflow(evidence)) => Err(Stop::Overflow(slope_evidence(&evidence))),
+        Err(Stop::NoMemory) => Err(Stop::NoMemory),
+    }
+}
