@@ -155,7 +155,16 @@ pub fn face_turn<R: Rates>(
     if run.limit <= steps {
         return Err(PrimalStop::Limit);
     }
-    let by = return_of(lp, basis, rates, value, direction, q, leaver.r, limit_broken(below))?;
+    let by = return_of(
+        lp,
+        basis,
+        rates,
+        value,
+        direction,
+        q,
+        leaver.r,
+        limit_broken(below),
+    )?;
     Ok(Turn::Moves { q, by })
 }
 

@@ -91,13 +91,7 @@ fn formula(i: u32, term: u32, theta: Frac) -> Formula
 }
 
 /// The limit with theta times its shift, by the plain operations.
-fn plainly_moved(
-    limit: Frac,
-    theta: Frac,
-    by: Frac,
-    i: u32,
-    which: u32,
-) -> Result<Frac, Evidence>
+fn plainly_moved(limit: Frac, theta: Frac, by: Frac, i: u32, which: u32) -> Result<Frac, Evidence>
     ensures value { IfOk result (λ now. now ≡ limit +ℚ theta *ℚ by) }
     ensures refused { IfErr result (MoveRefused theta by limit i which) }
 {
@@ -143,13 +137,7 @@ fn limit_moved(
 }
 
 /// The limit of `k` at theta.
-fn limit_at(
-    lp: &Lp,
-    shift: &[Frac],
-    theta: Frac,
-    side: Side,
-    k: u32,
-) -> Result<Option<Frac>, Stop>
+fn limit_at(lp: &Lp, shift: &[Frac], theta: Frac, side: Side, k: u32) -> Result<Option<Frac>, Stop>
     requires variable { IsVariable lp.now.matrix k }
     requires shifts { length shift.now ≡ lp.now.rows }
     ensures value { IfOk result (λ now. now ≡ moved_by theta (shift_of lp.now.matrix shift.now k) (limit_on lp.now side k)) }

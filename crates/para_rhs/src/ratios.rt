@@ -3,9 +3,7 @@
 ghost use Rattle.std.specs.Prelude.{◌≡◌, ◌≢◌, ◌-◌, length, IfSome, IfOk, IfErr, if◌then◌else◌};
 ghost use Rattle.exact_values.specs.Rational.{zero_ℚ};
 ghost use Rattle.exact_values.specs.Tests.{le_ℚ, magnitude};
-
 ghost use Rattle.lp_definitions.specs.LinearProgram.{size, value_at, IsVariable};
-
 ghost use Rattle.para_rhs.specs.Cheapest.{ratio_at, cheapest_by, IsBest, ratio_formula, KeptRefused, SomeRatioRefused};
 
 use bounded_primal::{Formula, counted, may_lower};

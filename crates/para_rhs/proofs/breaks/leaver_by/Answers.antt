@@ -17,21 +17,21 @@ returns-in_err-side-clause-refused c =
 pub returns-in-Some-clause-leaver : goal.returns-in-Some-clause-leaver
 returns-in-Some-clause-leaver c =
     let same =
-        side_here c.args.lp.now c.args.shift.now c.args.theta (value_at c.args.value.now) (value_at c.args.slope.now) (c.loop-k.k + 1) c.index-value-k.result c.index-slope-k.result
-        (value_next c.args.value.now c.loop-k.k c.index-value-k.result (omega arith) c.index-value-k.is)
-        (value_next c.args.slope.now c.loop-k.k c.index-slope-k.result (omega arith) c.index-slope-k.is) in
+    side_here c.args.lp.now c.args.shift.now c.args.theta (value_at c.args.value.now) (value_at c.args.slope.now) (c.loop-k.k + 1) c.index-value-k.result c.index-slope-k.result
+    (value_next c.args.value.now c.loop-k.k c.index-value-k.result (omega arith) c.index-value-k.is)
+    (value_next c.args.slope.now c.loop-k.k c.index-slope-k.result (omega arith) c.index-slope-k.is) in
     let found = sym same ∙ sym c.in_ok-side.ensures.side ∙ c.in-Some.is in (
       sym (found_least c.args.lp.now (leaves c.args.lp.now c.args.shift.now c.args.theta (value_at c.args.value.now) (value_at c.args.slope.now)) c.loop-k.k (omega arith) c.loop-k.invariant
-      (ap is_there found)),
+          (ap is_there found)),
       found,
     )
 
 pub loop-k-preserved : goal.loop-k-preserved
 loop-k-preserved c =
     let same =
-        side_here c.args.lp.now c.args.shift.now c.args.theta (value_at c.args.value.now) (value_at c.args.slope.now) (c.loop-k.k + 1) c.index-value-k.result c.index-slope-k.result
-        (value_next c.args.value.now c.loop-k.k c.index-value-k.result (omega arith) c.index-value-k.is)
-        (value_next c.args.slope.now c.loop-k.k c.index-slope-k.result (omega arith) c.index-slope-k.is) in
+    side_here c.args.lp.now c.args.shift.now c.args.theta (value_at c.args.value.now) (value_at c.args.slope.now) (c.loop-k.k + 1) c.index-value-k.result c.index-slope-k.result
+    (value_next c.args.value.now c.loop-k.k c.index-value-k.result (omega arith) c.index-value-k.is)
+    (value_next c.args.slope.now c.loop-k.k c.index-slope-k.result (omega arith) c.index-slope-k.is) in
     one_more c.args.lp.now (leaves c.args.lp.now c.args.shift.now c.args.theta (value_at c.args.value.now) (value_at c.args.slope.now)) c.loop-k.k c.loop-k.invariant
     (ap is_there (sym same ∙ sym c.in_ok-side.ensures.side ∙ c.in_default.is))
 
