@@ -110,10 +110,23 @@ fn limit_of_steps(rt: HostRuntime) -> Result<(), Fail> {
     let y = column_of(2, 0, 1, Some(0), None);
     let lp = program(rt.alloc(), Sense::Min, Some(1), None, x, y, still())?;
     let (zero, one, five) = (whole(0), whole(1), whole(5));
-    assert!(rt; matches!(ran(rt.alloc(), &lp, one, zero, five, 0)?, Some(Err(PrimalStop::Limit))));
-    assert!(rt; matches!(ran(rt.alloc(), &lp, one, zero, five, 1)?, Some(Err(PrimalStop::Limit))));
     assert!(rt;
-        matches!(ran(rt.alloc(), &lp, one, zero, five, 2)?, Some(Ok(ParaReport::Run(_))))
+        matches!(
+            ran(rt.alloc(), &lp, one, zero, five, 0)?,
+            Some(Err(PrimalStop::Limit))
+        )
+    );
+    assert!(rt;
+        matches!(
+            ran(rt.alloc(), &lp, one, zero, five, 1)?,
+            Some(Err(PrimalStop::Limit))
+        )
+    );
+    assert!(rt;
+        matches!(
+            ran(rt.alloc(), &lp, one, zero, five, 2)?,
+            Some(Ok(ParaReport::Run(_)))
+        )
     );
     Ok(())
 }
@@ -173,7 +186,15 @@ fn least_of_equal_prices(rt: HostRuntime) -> Result<(), Fail> {
 #[test]
 fn equal_limits_that_rise(rt: HostRuntime) -> Result<(), Fail> {
     let x = column_of(1, 0, 1, Some(0), Some(3));
-    let lp = program(rt.alloc(), Sense::Min, Some(0), Some(0), x, still(), still())?;
+    let lp = program(
+        rt.alloc(),
+        Sense::Min,
+        Some(0),
+        Some(0),
+        x,
+        still(),
+        still(),
+    )?;
     let Some(run) = chain_of(rt.alloc(), &lp, 1, 5, 10)? else {
         assert!(rt; false);
         return Ok(());
@@ -199,7 +220,15 @@ fn equal_limits_that_rise(rt: HostRuntime) -> Result<(), Fail> {
 #[test]
 fn equal_limits_that_fall(rt: HostRuntime) -> Result<(), Fail> {
     let x = column_of(1, 0, -1, Some(0), Some(3));
-    let lp = program(rt.alloc(), Sense::Min, Some(0), Some(0), x, still(), still())?;
+    let lp = program(
+        rt.alloc(),
+        Sense::Min,
+        Some(0),
+        Some(0),
+        x,
+        still(),
+        still(),
+    )?;
     let Some(run) = chain_of(rt.alloc(), &lp, -1, 2, 10)? else {
         assert!(rt; false);
         return Ok(());
@@ -208,7 +237,14 @@ fn equal_limits_that_fall(rt: HostRuntime) -> Result<(), Fail> {
     assert_eq!(rt; parts.len(), 2);
     let (basic, lower) = (Status::Bs, Status::Ll);
     assert!(rt; goes(&parts[0], 0, 0, [basic, basic, basic, lower, lower, lower]));
-    assert!(rt; goes(&parts[1], 0, 2, [basic, basic, Status::Ul, basic, lower, lower]));
+    assert!(rt;
+        goes(
+            &parts[1],
+            0,
+            2,
+            [basic, basic, Status::Ul, basic, lower, lower]
+        )
+    );
     assert!(rt; matches!(run.end, ParaEnd::AtMax));
     Ok(())
 }

@@ -194,7 +194,13 @@ fn ends_past(end: &ParaEnd, past: i32, point: [i32; 6], direction: [i32; 6]) -> 
     }
 }
 
-pub fn column_of(cost: i32, change: i32, entry: i32, low: Option<i32>, high: Option<i32>) -> Column {
+pub fn column_of(
+    cost: i32,
+    change: i32,
+    entry: i32,
+    low: Option<i32>,
+    high: Option<i32>,
+) -> Column {
     Column {
         cost,
         change,
