@@ -10,13 +10,13 @@ use rates_dense::Dense;
 use std::alloc::{AllocError, Global};
 use std::test::Fail;
 
-pub fn whole(n: i32) -> Frac {
+fn whole(n: i32) -> Frac {
     Frac::whole(n as i128)
 }
 
 /// A column: its numbers on the objective, the change row and the third row, and its limits.
 #[derive(Clone, Copy)]
-pub struct Column {
+struct Column {
     cost: i32,
     change: i32,
     entry: i32,
@@ -32,7 +32,7 @@ fn limit(value: Option<i32>) -> Option<Frac> {
 }
 
 /// A column that stands at 0.
-pub fn still() -> Column {
+fn still() -> Column {
     Column {
         cost: 0,
         change: 0,
@@ -43,7 +43,7 @@ pub fn still() -> Column {
 }
 
 /// The objective (variable 1), the change row (2), a row between two values (3), and the columns x, y and z (4, 5 and 6).
-pub fn program(
+fn program(
     alloc: Global,
     sense: Sense,
     low: Option<i32>,
@@ -55,7 +55,6 @@ pub fn program(
     ensures no_change { IfOk result (λ lp. lp.change ≡ None) }
     ensures row { IfOk result (λ lp. IsRow lp.matrix 2) }
     ensures free { IfOk result (λ lp. HasNoLimits lp 2) }
-    ensures rows { IfOk result (λ lp. lp.rows ≡ 3) }
 {
     let first = vec![in alloc;
         Entry {
@@ -158,11 +157,11 @@ fn chain_of(alloc: Global, lp: &Lp, to: i32, limit: u32) -> Result<Option<ParaRu
 }
 
 /// Whether the interval goes from `from` to `to` with these statuses.
-pub fn goes(part: &ParaPart, from: i32, to: i32, statuses: [Status; 6]) -> bool {
+fn goes(part: &ParaPart, from: i32, to: i32, statuses: [Status; 6]) -> bool {
     part.from == whole(from) && part.to == whole(to) && part.statuses.statuses() == &statuses[..]
 }
 
-pub fn are(values: &[Frac], expected: [i32; 6]) -> bool {
+fn are(values: &[Frac], expected: [i32; 6]) -> bool {
     if values.len() != 6 {
         return false;
     }
@@ -194,13 +193,7 @@ fn ends_past(end: &ParaEnd, past: i32, point: [i32; 6], direction: [i32; 6]) -> 
     }
 }
 
-pub fn column_of(
-    cost: i32,
-    change: i32,
-    entry: i32,
-    low: Option<i32>,
-    high: Option<i32>,
-) -> Column {
+fn column_of(cost: i32, change: i32, entry: i32, low: Option<i32>, high: Option<i32>) -> Column {
     Column {
         cost,
         change,
