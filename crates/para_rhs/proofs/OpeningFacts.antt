@@ -1,5 +1,5 @@
 -- From the path of the opening to the run.
-use Rattle.std.proofs.Common.{◌≡◌, ℕ, ◌+◌, ◌-◌, inl, inr, true, false, List, [], ◌∷◌, ◌++◌, map, length, refl, sym, ap, subst, ◌∙◌, arith}
+use Rattle.std.proofs.Common.{◌≡◌, ℕ, ◌+◌, ◌≤◌, ◌-◌, inl, inr, true, false, List, [], ◌∷◌, ◌++◌, map, length, refl, sym, ap, subst, ◌∙◌, arith}
 use Rattle.std.specs.Prelude.{Option, Some, None, nat_eq, not, ◌&&◌, ◌||◌}
 use Rattle.std.proofs.lemmas.List.{length-append}
 use Rattle.exact_values.specs.Rational.{ℚ}
@@ -19,6 +19,7 @@ use Rattle.lp_model.specs.declared.reports.Outcome.TheVariants.{Optimal, Crossed
 use Rattle.lp_model.specs.declared.reports.ParaReport.TheVariants.{Opening, Run}
 use Rattle.lp_model.specs.declared.reports.ParaRun.{ParaRun}
 use Rattle.lp_laws.proofs.Values.{clash}
+use Rattle.path_definitions.specs.Counts.{last_count, counted_steps}
 use Rattle.path_definitions.specs.Path.{Ending, EndsOptimal, EndsCrossed, EndsInfeasible, EndsUnbounded, EndsAt, last_of}
 use Rattle.path_laws.specs.Laws.{IsNonsingularBasis}
 use Rattle.path_laws.proofs.Ends.{optimal_end}
@@ -274,25 +275,29 @@ module _ (p : LinearProgram) (run : ParaRhs) (lawful : IsLinearProgram p) (s now
   pub opening_reported : (other : Outcome) → outcome ≡ other → IsFailed other → RhsEnds p run s now before after (Opening other)
   opening_reported other is failed =
       subst (λ o. RhsEnds p run s now before after (Opening o)) is
-      (opening_ends (failure_by (length ends.bases) ends.ending outcome ends.is_outcome (subst IsFailed (sym is) failed)))
+      (opening_ends (failure_by (counted_steps (length ends.bases)) ends.ending outcome ends.is_outcome (subst IsFailed (sym is) failed)))
 
   -- an optimal one is that of a basis that is optimal at the first value
-  module _ (steps : ℕ) (point prices : List ℚ) (is : outcome ≡ Optimal steps point prices) where
+  module _ (small : run.limit ≤ last_count) (steps : ℕ) (point prices : List ℚ) (is : outcome ≡ Optimal steps point prices) where
     record IsOptimalEnd (ending : Ending) : Type 0 where
       z : List ℚ
       y : List ℚ
       is_ending : ending ≡ EndsOptimal z y
-      is_steps : length ends.bases ≡ steps
+      is_told : counted_steps (length ends.bases) ≡ steps
       is_point : z ≡ point
 
-    optimal_by : (ending : Ending) → Optimal steps point prices ≡ outcome_of (length ends.bases) ending → IsOptimalEnd ending
-    optimal_by (EndsOptimal z y) e = record { z = z; y = y; is_ending = refl; is_steps = cc; is_point = cc }
+    optimal_by : (ending : Ending) → Optimal steps point prices ≡ outcome_of (counted_steps (length ends.bases)) ending → IsOptimalEnd ending
+    optimal_by (EndsOptimal z y) e = record { z = z; y = y; is_ending = refl; is_told = cc; is_point = cc }
     optimal_by (EndsCrossed k) e = cc
     optimal_by (EndsInfeasible w) e = cc
     optimal_by (EndsUnbounded z d) e = cc
 
     at_end : IsOptimalEnd ends.ending
     at_end = optimal_by ends.ending (sym is ∙ ends.is_outcome)
+
+    -- a count within the limit doesn't stand still
+    is_steps : length ends.bases ≡ steps
+    is_steps = let told = at_end.is_told in let within = ends.within in omega (arith, told, within, small)
 
     ends_now : EndsAt (family p run run.from) now (EndsOptimal at_end.z at_end.y)
     ends_now = subst (λ x. EndsAt (family p run run.from) x (EndsOptimal at_end.z at_end.y)) ends.reaches
@@ -308,7 +313,7 @@ module _ (p : LinearProgram) (run : ParaRhs) (lawful : IsLinearProgram p) (s now
     pub first_opens : OpensFrom p run s before now after steps
     first_opens =
         opens_first (family p run) (Face p run) run.from run.to p.matrix s before now after steps at_end.z at_end.y
-        (subst (λ n. HasRun (family p run) (Face p run) run.from run.to p.matrix s before (InOpening now) [] after n) at_end.is_steps
+        (subst (λ n. HasRun (family p run) (Face p run) run.from run.to p.matrix s before (InOpening now) [] after n) is_steps
         (subst (λ x. HasRun (family p run) (Face p run) run.from run.to p.matrix s before (InOpening x) [] after (length ends.bases)) ends.reaches
         (opening_run (family p run) (Face p run) run.from run.to p.matrix s before ends.bases after ends.ends.is_path lie_there)))
         ends_now
@@ -329,7 +334,7 @@ module _ (p : LinearProgram) (run : ParaRhs) (lawful : IsLinearProgram p) (s now
       counted : length (ends.bases ++ chain.path) ≡ chain.steps
       counted =
           let both : length (ends.bases ++ chain.path) ≡ length ends.bases + length chain.path = length-append ends.bases chain.path in
-          let first = at_end.is_steps in let second = chain.taken in omega (arith, both, first, second)
+          let first = is_steps in let second = chain.taken in omega (arith, both, first, second)
 
       stood : StandsAt p run s before last later chain.steps
       stood = chain.stood s before first_opens

@@ -9,6 +9,7 @@ ghost use Rattle.lp_definitions.specs.Waypoints.{KeepsWaypoints};
 ghost use Rattle.bounded_primal.specs.Calls.{HasRates, CallEnds, WaypointsFollow};
 ghost use Rattle.bounded_primal.specs.Outcomes.{IsTrueOutcome};
 ghost use Rattle.bounded_primal.specs.Stops.{PointOverflow};
+ghost use Rattle.path_definitions.specs.Counts.{last_count};
 ghost use Rattle.para_rhs.specs.Faces.{family};
 ghost use Rattle.para_rhs.specs.Runs.{told_at, ChainEnds, ChainStops, ChainFollows, RhsEnds, RhsStops, RhsFollows, IsTrueRhs};
 
@@ -232,14 +233,22 @@ fn open<R: Rates>(
     }
 }
 
+/// The limit of steps, which is a count of 32 bits.
+fn limit_of(run: &ParaRhs) -> u32
+    ensures small { run.now.limit ≤ last_count }
+    ensures limit { result ≡ run.now.limit }
+{
+    run.limit
+}
+
 /// A parametric run of the right-hand side: theta times the shift of each row is added to the row's limits, while theta goes from
 /// `run.from` to `run.to`. The opening path goes from the basis to the end of the path of the linear program at the first value. Where
-/// that is optimal, the intervals follow, each as far as its basis stays optimal: its point moves along a line, and its prices stay
-/// (Gass, Linear Programming, 5th edition 1985, chapter 8; the steps at a break are those of Lemke, The Dual Method of Solving the
-/// Linear Programming Problem, 1954). At a break the least-numbered basic that would leave a limit leaves, for the nonbasic that brings
-/// it back at the least price of a unit, and of equals the least-numbered, until none is left. `Limit` comes exactly where the run has
-/// not ended after `run.limit` steps, opening and breaks together. The basis and the rates are those that the run has reached, after a
-/// stop too.
+/// that is optimal, the intervals follow, each as far as its basis stays optimal: its point moves along a line, and its prices stay.
+/// This is the dual of the procedure for the objective (Gass and Saaty, The Computational Algorithm for the Parametric Objective
+/// Function, 1955), and at a break it takes steps of Lemke's dual method (The Dual Method of Solving the Linear Programming Problem,
+/// 1954): the least-numbered basic that would leave a limit goes, for the nonbasic that brings it back at the least price, and of
+/// equals the least-numbered, until none is left. `Limit` comes exactly where the run has not ended after `run.limit` steps, opening
+/// and breaks together. The basis and the rates are those that the run has reached, after a stop too.
 pub fn para_rhs<R: Rates>(
     alloc: Global,
     lp: &Lp,
@@ -261,6 +270,7 @@ pub fn para_rhs<R: Rates>(
     ensures truth { IfOk result (IsTrueRhs lp.now run.now) }
 {
     let _size = lp.number_of_variables();
+    let _limit = limit_of(run);
     let outcome = open(alloc, lp, basis, rates, run)?;
     match outcome {
         Outcome::Optimal {

@@ -10,33 +10,33 @@ returns-in_err-outcome-clause-waypoints g c = opening_follows c.args.lp.now c.ar
 pub go_on-requires-clause-optimal : goal.go_on-requires-clause-optimal
 go_on-requires-clause-optimal g c =
     let lawful : IsLinearProgram c.args.lp.now = search rules in
-    first_optimal c.args.lp.now c.args.run.now lawful c.args.basis.now c.open.new.basis (record { is_basis = c.requires.rates.is_basis; nonsingular = c.requires.rates.nonsingular }) (g.R.Rates.waypoints c.args.rates.now) (g.R.Rates.waypoints c.open.new.rates) c.in_ok-outcome.outcome c.in_ok-outcome.ensures.ends c.in_ok-outcome.ensures.waypoints c.in-Optimal.steps c.in-Optimal.point c.in-Optimal.prices c.in-Optimal.is
+    first_optimal c.args.lp.now c.args.run.now lawful c.args.basis.now c.open.new.basis (record { is_basis = c.requires.rates.is_basis; nonsingular = c.requires.rates.nonsingular }) (g.R.Rates.waypoints c.args.rates.now) (g.R.Rates.waypoints c.open.new.rates) c.in_ok-outcome.outcome c.in_ok-outcome.ensures.ends c.in_ok-outcome.ensures.waypoints c.limit_of-limit.ensures.small c.in-Optimal.steps c.in-Optimal.point c.in-Optimal.prices c.in-Optimal.is
 
 pub returns-in_err-chain-in-Optimal-clause-stops : goal.returns-in_err-chain-in-Optimal-clause-stops
 returns-in_err-chain-in-Optimal-clause-stops g c =
     let p = err_from_is_err_and c.from_residual-in_err-chain-in-Optimal.result c.from_residual-in_err-chain-in-Optimal.ensures.1 in
     let lawful : IsLinearProgram c.args.lp.now = search rules in
-    rw (p.1, p.2) (chain_stops c.args.lp.now c.args.run.now c.args.basis.now c.go_on.new.basis (g.R.Rates.waypoints c.args.rates.now) (g.R.Rates.waypoints c.go_on.new.rates) _ (c.in_err-chain-in-Optimal.ensures.stops c.args.basis.now (g.R.Rates.waypoints c.args.rates.now) (first_opens c.args.lp.now c.args.run.now lawful c.args.basis.now c.open.new.basis (record { is_basis = c.requires.rates.is_basis; nonsingular = c.requires.rates.nonsingular }) (g.R.Rates.waypoints c.args.rates.now) (g.R.Rates.waypoints c.open.new.rates) c.in_ok-outcome.outcome c.in_ok-outcome.ensures.ends c.in_ok-outcome.ensures.waypoints c.in-Optimal.steps c.in-Optimal.point c.in-Optimal.prices c.in-Optimal.is)))
+    rw (p.1, p.2) (chain_stops c.args.lp.now c.args.run.now c.args.basis.now c.go_on.new.basis (g.R.Rates.waypoints c.args.rates.now) (g.R.Rates.waypoints c.go_on.new.rates) _ (c.in_err-chain-in-Optimal.ensures.stops c.args.basis.now (g.R.Rates.waypoints c.args.rates.now) (first_opens c.args.lp.now c.args.run.now lawful c.args.basis.now c.open.new.basis (record { is_basis = c.requires.rates.is_basis; nonsingular = c.requires.rates.nonsingular }) (g.R.Rates.waypoints c.args.rates.now) (g.R.Rates.waypoints c.open.new.rates) c.in_ok-outcome.outcome c.in_ok-outcome.ensures.ends c.in_ok-outcome.ensures.waypoints c.limit_of-limit.ensures.small c.in-Optimal.steps c.in-Optimal.point c.in-Optimal.prices c.in-Optimal.is)))
 
 pub returns-in_err-chain-in-Optimal-clause-waypoints : goal.returns-in_err-chain-in-Optimal-clause-waypoints
 returns-in_err-chain-in-Optimal-clause-waypoints g c =
     let lawful : IsLinearProgram c.args.lp.now = search rules in
-    c.in_err-chain-in-Optimal.ensures.waypoints c.args.basis.now (g.R.Rates.waypoints c.args.rates.now) (first_opens c.args.lp.now c.args.run.now lawful c.args.basis.now c.open.new.basis (record { is_basis = c.requires.rates.is_basis; nonsingular = c.requires.rates.nonsingular }) (g.R.Rates.waypoints c.args.rates.now) (g.R.Rates.waypoints c.open.new.rates) c.in_ok-outcome.outcome c.in_ok-outcome.ensures.ends c.in_ok-outcome.ensures.waypoints c.in-Optimal.steps c.in-Optimal.point c.in-Optimal.prices c.in-Optimal.is)
+    c.in_err-chain-in-Optimal.ensures.waypoints c.args.basis.now (g.R.Rates.waypoints c.args.rates.now) (first_opens c.args.lp.now c.args.run.now lawful c.args.basis.now c.open.new.basis (record { is_basis = c.requires.rates.is_basis; nonsingular = c.requires.rates.nonsingular }) (g.R.Rates.waypoints c.args.rates.now) (g.R.Rates.waypoints c.open.new.rates) c.in_ok-outcome.outcome c.in_ok-outcome.ensures.ends c.in_ok-outcome.ensures.waypoints c.limit_of-limit.ensures.small c.in-Optimal.steps c.in-Optimal.point c.in-Optimal.prices c.in-Optimal.is)
 
 pub returns-in-Optimal-clause-ends : goal.returns-in-Optimal-clause-ends
 returns-in-Optimal-clause-ends g c =
     let lawful : IsLinearProgram c.args.lp.now = search rules in
-    run_ends c.args.lp.now c.args.run.now lawful c.args.basis.now c.open.new.basis (record { is_basis = c.requires.rates.is_basis; nonsingular = c.requires.rates.nonsingular }) (g.R.Rates.waypoints c.args.rates.now) (g.R.Rates.waypoints c.open.new.rates) c.in_ok-outcome.outcome c.in_ok-outcome.ensures.ends c.in_ok-outcome.ensures.waypoints c.in-Optimal.steps c.in-Optimal.point c.in-Optimal.prices c.in-Optimal.is c.go_on.new.basis (g.R.Rates.waypoints c.go_on.new.rates) c.in_ok-chain-in-Optimal.chain c.in_ok-chain-in-Optimal.ensures.ends
+    run_ends c.args.lp.now c.args.run.now lawful c.args.basis.now c.open.new.basis (record { is_basis = c.requires.rates.is_basis; nonsingular = c.requires.rates.nonsingular }) (g.R.Rates.waypoints c.args.rates.now) (g.R.Rates.waypoints c.open.new.rates) c.in_ok-outcome.outcome c.in_ok-outcome.ensures.ends c.in_ok-outcome.ensures.waypoints c.limit_of-limit.ensures.small c.in-Optimal.steps c.in-Optimal.point c.in-Optimal.prices c.in-Optimal.is c.go_on.new.basis (g.R.Rates.waypoints c.go_on.new.rates) c.in_ok-chain-in-Optimal.chain c.in_ok-chain-in-Optimal.ensures.ends
 
 pub returns-in-Optimal-clause-truth : goal.returns-in-Optimal-clause-truth
 returns-in-Optimal-clause-truth g c =
     let lawful : IsLinearProgram c.args.lp.now = search rules in
-    run_true c.args.lp.now c.args.run.now lawful c.args.basis.now c.open.new.basis (record { is_basis = c.requires.rates.is_basis; nonsingular = c.requires.rates.nonsingular }) (g.R.Rates.waypoints c.args.rates.now) (g.R.Rates.waypoints c.open.new.rates) c.in_ok-outcome.outcome c.in_ok-outcome.ensures.ends c.in_ok-outcome.ensures.waypoints c.in-Optimal.steps c.in-Optimal.point c.in-Optimal.prices c.in-Optimal.is c.go_on.new.basis (g.R.Rates.waypoints c.go_on.new.rates) c.in_ok-chain-in-Optimal.chain c.in_ok-chain-in-Optimal.ensures.ends
+    run_true c.args.lp.now c.args.run.now lawful c.args.basis.now c.open.new.basis (record { is_basis = c.requires.rates.is_basis; nonsingular = c.requires.rates.nonsingular }) (g.R.Rates.waypoints c.args.rates.now) (g.R.Rates.waypoints c.open.new.rates) c.in_ok-outcome.outcome c.in_ok-outcome.ensures.ends c.in_ok-outcome.ensures.waypoints c.limit_of-limit.ensures.small c.in-Optimal.steps c.in-Optimal.point c.in-Optimal.prices c.in-Optimal.is c.go_on.new.basis (g.R.Rates.waypoints c.go_on.new.rates) c.in_ok-chain-in-Optimal.chain c.in_ok-chain-in-Optimal.ensures.ends
 
 pub returns-in-Optimal-clause-waypoints : goal.returns-in-Optimal-clause-waypoints
 returns-in-Optimal-clause-waypoints g c =
     let lawful : IsLinearProgram c.args.lp.now = search rules in
-    c.in_ok-chain-in-Optimal.ensures.waypoints c.args.basis.now (g.R.Rates.waypoints c.args.rates.now) (first_opens c.args.lp.now c.args.run.now lawful c.args.basis.now c.open.new.basis (record { is_basis = c.requires.rates.is_basis; nonsingular = c.requires.rates.nonsingular }) (g.R.Rates.waypoints c.args.rates.now) (g.R.Rates.waypoints c.open.new.rates) c.in_ok-outcome.outcome c.in_ok-outcome.ensures.ends c.in_ok-outcome.ensures.waypoints c.in-Optimal.steps c.in-Optimal.point c.in-Optimal.prices c.in-Optimal.is)
+    c.in_ok-chain-in-Optimal.ensures.waypoints c.args.basis.now (g.R.Rates.waypoints c.args.rates.now) (first_opens c.args.lp.now c.args.run.now lawful c.args.basis.now c.open.new.basis (record { is_basis = c.requires.rates.is_basis; nonsingular = c.requires.rates.nonsingular }) (g.R.Rates.waypoints c.args.rates.now) (g.R.Rates.waypoints c.open.new.rates) c.in_ok-outcome.outcome c.in_ok-outcome.ensures.ends c.in_ok-outcome.ensures.waypoints c.limit_of-limit.ensures.small c.in-Optimal.steps c.in-Optimal.point c.in-Optimal.prices c.in-Optimal.is)
 
 pub returns-in-Crossed-clause-ends : goal.returns-in-Crossed-clause-ends
 returns-in-Crossed-clause-ends g c =
