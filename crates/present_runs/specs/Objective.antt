@@ -11,7 +11,7 @@ use Rattle.answer_definitions.specs.Sweeps.{row_of}
 use Rattle.report_text.specs.declared.sheet.Sheet.{Sheet}
 use Rattle.para_objective.specs.declared.parts.ParaObj.{ParaObj}
 use Rattle.present_runs.specs.declared.report.RunReport.{RunReport}
-use Rattle.present_runs.specs.Reports.{IsAnswered, SweepStops}
+use Rattle.present_runs.specs.Reports.{IsAnswered, RunOverflowsThere, SweepStops}
 
 abbrev pub sweep_of : Name → ParaObj → Sweep
 sweep_of name run = record { changing = Row name; from = run.from; to = run.to; limit = run.limit }
@@ -23,4 +23,5 @@ module _ (sheet : Sheet) (run : ParaObj) (s now : Basis) (before after : List Ba
 
   abbrev pub ObjectiveRunStops : PrimalStop → Type 0
   ObjectiveRunStops stop =
-      (name : Name) → row_of sheet.problem.now name ≡ run.row → SweepStops sheet (sweep_of name run) s now before after stop
+      (name : Name) → row_of sheet.problem.now name ≡ run.row →
+      SweepStops sheet (sweep_of name run) s now before after (RunOverflowsThere sheet (sweep_of name run) s now before after) stop

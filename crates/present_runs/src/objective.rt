@@ -6,7 +6,6 @@ ghost use Rattle.lp_definitions.specs.LinearProgram.{IsRow, HasNoLimits};
 ghost use Rattle.bounded_primal.specs.Calls.{HasRates};
 ghost use Rattle.para_objective.specs.Faces.{family};
 ghost use Rattle.para_objective.specs.Runs.{ObjectiveFollows, IsTrueObjective};
-ghost use Rattle.report_text.specs.Sheets.{IsSheet};
 ghost use Rattle.present_runs.specs.Reports.{IsOpening, IsOpeningChecked};
 ghost use Rattle.present_runs.specs.Objective.{IsObjectiveAnswered, ObjectiveRunStops};
 

@@ -1,0 +1,17 @@
+use Rattle.std.proofs.lemmas.Result.{err_from_is_err_and}
+use Rattle.present_runs.proofs.Facts.{rhs_answered, rhs_stops, rhs_unchecked}
+use Rattle.present_runs.proofs.right_hand_side.rhs_run_of.Goals as goal
+
+pub returns-in_err-report-clause-stops : goal.returns-in_err-report-clause-stops
+returns-in_err-report-clause-stops g c =
+    let p = err_from_is_err_and c.from_residual.result c.from_residual.ensures.1 in
+    rw (p.1, p.2) (rhs_stops c.args.sheet c.args.run.now c.args.basis.now c.para_rhs.new.basis (g.R.Rates.waypoints c.args.rates.now) (g.R.Rates.waypoints c.para_rhs.new.rates) c.in_err-report.field-0.0 c.in_err-report.ensures.stops)
+
+pub returns-in_err-refused-clause-stops : goal.returns-in_err-refused-clause-stops
+returns-in_err-refused-clause-stops g c =
+    let p = err_from_is_err_and c.from_residual-in_err-refused.result c.from_residual-in_err-refused.ensures.1 in
+    rw (p.1, p.2) (rhs_unchecked c.args.sheet c.args.run.now c.args.basis.now c.para_rhs.new.basis (g.R.Rates.waypoints c.args.rates.now) (g.R.Rates.waypoints c.para_rhs.new.rates) c.in_err-refused.field-0.0 c.in_ok-report.report c.in_err-refused.ensures.opening c.in_ok-report.ensures.ends c.in_err-refused.ensures.overflow)
+
+pub returns-clause-answered : goal.returns-clause-answered
+returns-clause-answered g c =
+    rhs_answered c.args.sheet c.args.run.now c.args.basis.now c.para_rhs.new.basis (g.R.Rates.waypoints c.args.rates.now) (g.R.Rates.waypoints c.para_rhs.new.rates) c.in_ok-report.report c.in_ok-refused.refused c.in_ok-report.ensures.ends c.in_ok-refused.ensures.checked
