@@ -49,7 +49,6 @@ use Rattle.present_runs.specs.Objective.{IsObjectiveAnswered, ObjectiveRunStops}
 use Rattle.present_runs.specs.Objective.{sweep_of as row_sweep}
 use Rattle.present_runs.specs.RightHandSide.{IsRhsAnswered, RhsRunStops}
 use Rattle.present_runs.specs.RightHandSide.{sweep_of as set_sweep}
-use Rattle.present_runs.specs.declared.report.RunReport.{RunReport}
 
 -- the last of a list that ends with s
 last_is : (earlier : List Basis) (s : Basis) → last_basis (earlier ++ s ∷ []) ≡ s

@@ -1,5 +1,5 @@
-//! What PARAOBJ and PARARHS answer at any present basis: the run from there to its end, with the check of what it came to where its opening path
-//! isn't optimal.
+//! What PARAOBJ and PARARHS answer at any present basis: the run from there to its end, with the check of what it came to where its
+//! opening path isn't optimal.
 #![tactic(auto)]
 
 mod check;
