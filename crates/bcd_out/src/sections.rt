@@ -77,7 +77,8 @@ fn put_row<P: Sink>(punch: &mut P, row: RowDecl) -> Result<(), WriteStop>
 }
 
 fn put_row_cards<P: Sink>(punch: &mut P, rows: &[RowDecl]) -> Result<(), WriteStop>
-    ensures { Writes P.written P.faults P.refusals punch.old punch.new result (flat_map row_line rows.now) }
+    ensures { Writes P.written P.faults P.refusals punch.old punch.new result
+        (flat_map row_line rows.now) }
 {
     for row in rows {
         put_row(punch, *row)?;
@@ -92,7 +93,8 @@ fn put_entry<P: Sink>(
     name: Name,
     entry: DeckEntry,
 ) -> Result<(), WriteStop>
-    ensures { Writes P.written P.faults P.refusals punch.old punch.new result (entry_line (map (λ row. row.name) rows.now) name entry) }
+    ensures { Writes P.written P.faults P.refusals punch.old punch.new result
+        (entry_line (map (λ row. row.name) rows.now) name entry) }
 {
     let card = DataCard {
         kind: b"",
@@ -109,7 +111,8 @@ fn put_entries<P: Sink>(
     name: Name,
     entries: &[DeckEntry],
 ) -> Result<(), WriteStop>
-    ensures { Writes P.written P.faults P.refusals punch.old punch.new result (flat_map (entry_line (map (λ row. row.name) rows.now) name) entries.now) }
+    ensures { Writes P.written P.faults P.refusals punch.old punch.new result
+        (flat_map (entry_line (map (λ row. row.name) rows.now) name) entries.now) }
 {
     for entry in entries {
         put_entry(punch, rows, name, *entry)?;
@@ -119,7 +122,8 @@ fn put_entries<P: Sink>(
 
 // The number 0 of a column on the first row, if there is a row.
 fn put_zero<P: Sink>(punch: &mut P, rows: &[RowDecl], name: Name) -> Result<(), WriteStop>
-    ensures { Writes P.written P.faults P.refusals punch.old punch.new result (flat_map (zero_line name) (take 1 rows.now)) }
+    ensures { Writes P.written P.faults P.refusals punch.old punch.new result
+        (flat_map (zero_line name) (take 1 rows.now)) }
 {
     let Some(row) = rows.first() else {
         return put_all(punch, b"");
@@ -138,7 +142,8 @@ fn put_column<P: Sink>(
     rows: &[RowDecl],
     column: &ColumnDecl,
 ) -> Result<(), WriteStop>
-    ensures { Writes P.written P.faults P.refusals punch.old punch.new result (column_lines rows.now column.now) }
+    ensures { Writes P.written P.faults P.refusals punch.old punch.new result
+        (column_lines rows.now column.now) }
 {
     if column.entries.is_empty() {
         put_zero(punch, rows, column.name)
@@ -152,7 +157,8 @@ fn put_column_cards<P: Sink>(
     rows: &[RowDecl],
     columns: &[ColumnDecl],
 ) -> Result<(), WriteStop>
-    ensures { Writes P.written P.faults P.refusals punch.old punch.new result (flat_map (column_lines rows.now) columns.now) }
+    ensures { Writes P.written P.faults P.refusals punch.old punch.new result
+        (flat_map (column_lines rows.now) columns.now) }
 {
     for column in columns {
         put_column(punch, rows, column)?;
@@ -161,7 +167,8 @@ fn put_column_cards<P: Sink>(
 }
 
 fn put_value_set<P: Sink>(punch: &mut P, rows: &[RowDecl], set: &ValueSet) -> Result<(), WriteStop>
-    ensures { Writes P.written P.faults P.refusals punch.old punch.new result (entry_lines (map (λ row. row.name) rows.now) set.now) }
+    ensures { Writes P.written P.faults P.refusals punch.old punch.new result
+        (entry_lines (map (λ row. row.name) rows.now) set.now) }
 {
     put_entries(punch, rows, set.name, &set.items)
 }
@@ -171,7 +178,8 @@ fn put_value_sets<P: Sink>(
     rows: &[RowDecl],
     sets: &[ValueSet],
 ) -> Result<(), WriteStop>
-    ensures { Writes P.written P.faults P.refusals punch.old punch.new result (flat_map (entry_lines (map (λ row. row.name) rows.now)) sets.now) }
+    ensures { Writes P.written P.faults P.refusals punch.old punch.new result
+        (flat_map (entry_lines (map (λ row. row.name) rows.now)) sets.now) }
 {
     for set in sets {
         put_value_set(punch, rows, set)?;
@@ -186,7 +194,8 @@ fn put_values_under<P: Sink>(
     rows: &[RowDecl],
     sets: &[ValueSet],
 ) -> Result<(), WriteStop>
-    ensures { Writes P.written P.faults P.refusals punch.old punch.new result (line word.now ++ flat_map (entry_lines (map (λ row. row.name) rows.now)) sets.now) }
+    ensures { Writes P.written P.faults P.refusals punch.old punch.new result
+        (line word.now ++ flat_map (entry_lines (map (λ row. row.name) rows.now)) sets.now) }
 {
     put_each(punch, &[word, b"\n"])?;
     put_value_sets(punch, rows, sets)
@@ -198,7 +207,8 @@ fn put_bound<P: Sink>(
     name: Name,
     bound: BoundItem,
 ) -> Result<(), WriteStop>
-    ensures { Writes P.written P.faults P.refusals punch.old punch.new result (bound_line (group_names columns.now) name bound) }
+    ensures { Writes P.written P.faults P.refusals punch.old punch.new result
+        (bound_line (group_names columns.now) name bound) }
 {
     let value = match &bound.value {
         Some(value) => value.text(),
@@ -219,7 +229,8 @@ fn put_bounds<P: Sink>(
     name: Name,
     bounds: &[BoundItem],
 ) -> Result<(), WriteStop>
-    ensures { Writes P.written P.faults P.refusals punch.old punch.new result (flat_map (bound_line (group_names columns.now) name) bounds.now) }
+    ensures { Writes P.written P.faults P.refusals punch.old punch.new result
+        (flat_map (bound_line (group_names columns.now) name) bounds.now) }
 {
     for bound in bounds {
         put_bound(punch, columns, name, *bound)?;
@@ -232,7 +243,8 @@ fn put_bound_set<P: Sink>(
     columns: &[ColumnDecl],
     set: &BoundSet,
 ) -> Result<(), WriteStop>
-    ensures { Writes P.written P.faults P.refusals punch.old punch.new result (bound_lines (group_names columns.now) set.now) }
+    ensures { Writes P.written P.faults P.refusals punch.old punch.new result
+        (bound_lines (group_names columns.now) set.now) }
 {
     put_bounds(punch, columns, set.name, &set.items)
 }
@@ -242,7 +254,8 @@ fn put_bound_sets<P: Sink>(
     columns: &[ColumnDecl],
     sets: &[BoundSet],
 ) -> Result<(), WriteStop>
-    ensures { Writes P.written P.faults P.refusals punch.old punch.new result (flat_map (bound_lines (group_names columns.now)) sets.now) }
+    ensures { Writes P.written P.faults P.refusals punch.old punch.new result
+        (flat_map (bound_lines (group_names columns.now)) sets.now) }
 {
     for set in sets {
         put_bound_set(punch, columns, set)?;
@@ -256,7 +269,8 @@ fn put_bounds_under<P: Sink>(
     columns: &[ColumnDecl],
     sets: &[BoundSet],
 ) -> Result<(), WriteStop>
-    ensures { Writes P.written P.faults P.refusals punch.old punch.new result (line (codes "BOUNDS") ++ flat_map (bound_lines (group_names columns.now)) sets.now) }
+    ensures { Writes P.written P.faults P.refusals punch.old punch.new result
+        (line (codes "BOUNDS") ++ flat_map (bound_lines (group_names columns.now)) sets.now) }
 {
     put_all(punch, b"BOUNDS\n")?;
     put_bound_sets(punch, columns, sets)
@@ -264,7 +278,8 @@ fn put_bounds_under<P: Sink>(
 
 /// Writes the section of the rows.
 pub fn put_rows<P: Sink>(punch: &mut P, rows: &[RowDecl]) -> Result<(), WriteStop>
-    ensures { Writes P.written P.faults P.refusals punch.old punch.new result (line (codes "ROWS") ++ flat_map row_line rows.now) }
+    ensures { Writes P.written P.faults P.refusals punch.old punch.new result
+        (line (codes "ROWS") ++ flat_map row_line rows.now) }
 {
     put_all(punch, b"ROWS\n")?;
     put_row_cards(punch, rows)
@@ -276,7 +291,8 @@ pub fn put_columns<P: Sink>(
     rows: &[RowDecl],
     columns: &[ColumnDecl],
 ) -> Result<(), WriteStop>
-    ensures { Writes P.written P.faults P.refusals punch.old punch.new result (line (codes "COLUMNS") ++ flat_map (column_lines rows.now) columns.now) }
+    ensures { Writes P.written P.faults P.refusals punch.old punch.new result
+        (line (codes "COLUMNS") ++ flat_map (column_lines rows.now) columns.now) }
 {
     put_all(punch, b"COLUMNS\n")?;
     put_column_cards(punch, rows, columns)
@@ -289,7 +305,8 @@ pub fn put_value_section<P: Sink>(
     rows: &[RowDecl],
     sets: &[ValueSet],
 ) -> Result<(), WriteStop>
-    ensures { Writes P.written P.faults P.refusals punch.old punch.new result (section_lines word.now (entry_lines (map (λ row. row.name) rows.now)) sets.now) }
+    ensures { Writes P.written P.faults P.refusals punch.old punch.new result
+        (section_lines word.now (entry_lines (map (λ row. row.name) rows.now)) sets.now) }
 {
     if sets.is_empty() {
         return put_all(punch, b"");
@@ -303,7 +320,8 @@ pub fn put_bound_section<P: Sink>(
     columns: &[ColumnDecl],
     sets: &[BoundSet],
 ) -> Result<(), WriteStop>
-    ensures { Writes P.written P.faults P.refusals punch.old punch.new result (section_lines (codes "BOUNDS") (bound_lines (group_names columns.now)) sets.now) }
+    ensures { Writes P.written P.faults P.refusals punch.old punch.new result
+        (section_lines (codes "BOUNDS") (bound_lines (group_names columns.now)) sets.now) }
 {
     if sets.is_empty() {
         return put_all(punch, b"");

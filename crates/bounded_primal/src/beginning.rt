@@ -10,8 +10,10 @@ use std::alloc::Global;
 /// The opening basis, in which every row is basic, and the rates of its basics, whose waypoints lie in it.
 pub fn opening<R: Engine>(alloc: Global, lp: &Lp) -> Result<(Basis, R), NoMemory>
     ensures basis { IfOk result (λ opened. opened.0 ≡ opening_statuses lp.now) }
-    ensures rates { IfOk result (λ opened. HasRates (R.matrix opened.1) (R.basics opened.1) lp.now opened.0) }
-    ensures waypoints { IfOk result (λ opened. LieIn lp.now.matrix (R.waypoints opened.1) (opened.0 ∷ [])) }
+    ensures rates { IfOk result (λ opened. HasRates (R.matrix opened.1) (R.basics opened.1)
+        lp.now opened.0) }
+    ensures waypoints { IfOk result (λ opened. LieIn lp.now.matrix (R.waypoints opened.1)
+        (opened.0 ∷ [])) }
 {
     let basis = Basis::opening(alloc, lp)?;
     let rates = R::start(alloc, lp)?;

@@ -94,7 +94,8 @@ fn lies_outside(lp: &Lp, basis: &Basis, point: &[Frac], k: u32) -> bool
 pub fn outside(lp: &Lp, basis: &Basis, point: &[Frac]) -> Option<u32>
     requires counted { length basis.now ≡ size lp.now.matrix }
     requires places { length point.now ≡ size lp.now.matrix }
-    ensures { result ≡ least lp.now (λ k. is_in (basics_of basis.now) k && is_outside lp.now (value_at point.now) k) }
+    ensures { result ≡ least lp.now (λ k. is_in (basics_of basis.now) k && is_outside lp.now
+        (value_at point.now) k) }
 {
     for k in 0..lp.number_of_variables() {
         if lies_outside(lp, basis, point, k + 1) {

@@ -52,7 +52,8 @@ fn free_turn<R: Rates>(
     requires direction_places { length direction.old ≡ size lp.now.matrix }
     requires point { IsPointOf lp.now basis.now (value_at point.now) }
     requires uncrossed { IsUncrossed lp.now }
-    ensures turn { FreeTurnFound result lp.now basis.now steps (value_at point.now) (value_at direction.new)
+    ensures turn { FreeTurnFound result lp.now basis.now steps (value_at point.now)
+        (value_at direction.new)
         (R.waypoints rates.old) (R.waypoints rates.new) }
     ensures rates { HasRates (R.matrix rates.new) (R.basics rates.new) lp.now basis.now }
     ensures waypoints { KeepsWaypoints lp.now.matrix (basics_of basis.now) (R.waypoints rates.old)

@@ -42,9 +42,11 @@ fn walk<R: Rates>(
     requires direction_places { length direction.old ≡ size lp.now.matrix }
     requires uncrossed { IsUncrossed lp.now }
     ensures ends { IfOk result (CallEnds lp.now basis.old basis.new limit) }
-    ensures stops { IfErr result (PrimalStops lp.now basis.old basis.new limit (R.waypoints rates.old) (R.waypoints rates.new)) }
+    ensures stops { IfErr result (PrimalStops lp.now basis.old basis.new limit
+        (R.waypoints rates.old) (R.waypoints rates.new)) }
     ensures rates { HasRates (R.matrix rates.new) (R.basics rates.new) lp.now basis.new }
-    ensures waypoints { WaypointsFollow lp.now basis.old basis.new (R.waypoints rates.old) (R.waypoints rates.new) }
+    ensures waypoints { WaypointsFollow lp.now basis.old basis.new (R.waypoints rates.old)
+        (R.waypoints rates.new) }
 {
     point_of(alloc, lp, basis, rates, point)?;
     let mut steps = 0;
@@ -80,9 +82,11 @@ pub fn primal<R: Rates>(
 ) -> Result<Outcome, PrimalStop>
     requires { HasRates (R.matrix rates.old) (R.basics rates.old) lp.now basis.old }
     ensures ends { IfOk result (CallEnds lp.now basis.old basis.new limit) }
-    ensures stops { IfErr result (PrimalStops lp.now basis.old basis.new limit (R.waypoints rates.old) (R.waypoints rates.new)) }
+    ensures stops { IfErr result (PrimalStops lp.now basis.old basis.new limit
+        (R.waypoints rates.old) (R.waypoints rates.new)) }
     ensures rates { HasRates (R.matrix rates.new) (R.basics rates.new) lp.now basis.new }
-    ensures waypoints { WaypointsFollow lp.now basis.old basis.new (R.waypoints rates.old) (R.waypoints rates.new) }
+    ensures waypoints { WaypointsFollow lp.now basis.old basis.new (R.waypoints rates.old)
+        (R.waypoints rates.new) }
     ensures truth { IfOk result (IsTrueOutcome lp.now) }
     // No path has as many steps as there are status lists, three for each variable.
     ensures limited { IsErrOf result PrimalStop.Limit → limit < lists_of lp.now }

@@ -33,7 +33,8 @@ fn place(lp: &Lp, basis: &Basis, k: u32) -> Frac
 fn places(alloc: Global, lp: &Lp, basis: &Basis) -> Result<Vec<Frac>, NoMemory>
     requires { IsBasis lp.now basis.now }
     ensures places { IfOk result (λ values. vec_len values ≡ size lp.now.matrix) }
-    ensures standing { IfOk result (λ values. (k : ℕ) → IsVariable lp.now.matrix k → value_at values.items k ≡ standing lp.now basis.now k) }
+    ensures standing { IfOk result (λ values. (k : ℕ) → IsVariable lp.now.matrix k → value_at
+        values.items k ≡ standing lp.now basis.now k) }
 {
     let mut values = Vec::new(alloc);
     for k in 0..lp.number_of_variables() {
@@ -106,7 +107,8 @@ fn with_own_term(
 ) -> Result<Frac, Evidence>
     requires low { 1 ≤ i }
     requires high { i ≤ length basis.now }
-    ensures value { IfOk result (λ more. more ≡ (if is_in (basics_of basis.now) i then sum +ℚ rate *ℚ value else sum)) }
+    ensures value { IfOk result (λ more. more ≡ (if is_in (basics_of basis.now) i then sum +ℚ rate
+        *ℚ value else sum)) }
     ensures basic { OnErr result (is_in (basics_of basis.now) i ≡ true) }
     ensures refused { IfErr result (TermRefused rate value sum i j term) }
 {
@@ -129,8 +131,10 @@ fn add_multiple(
     requires small { length basis.now < 2 ^ 32 }
     requires column { length column.now ≡ length basis.now }
     requires places { length point.old ≡ length basis.now }
-    ensures added { OnOk result (AreAdded (basics_of basis.now) (value_at column.now) value (value_at point.old) (length basis.now) (value_at point.new)) }
-    ensures refused { IfErr result (ColumnTermRefused (basics_of basis.now) (value_at column.now) value (value_at point.old) j term (length basis.now)) }
+    ensures added { OnOk result (AreAdded (basics_of basis.now) (value_at column.now) value
+        (value_at point.old) (length basis.now) (value_at point.new)) }
+    ensures refused { IfErr result (ColumnTermRefused (basics_of basis.now) (value_at column.now)
+        value (value_at point.old) j term (length basis.now)) }
 {
     for k in 0..point.len() {
         let i = k as u32 + 1;
@@ -175,12 +179,16 @@ fn add_direction<R: Rates>(
     requires term { term ≡ length (nonbasics_to (basics_of basis.now) (j - 1)) }
     requires column { length column.old ≡ size lp.now.matrix }
     requires places { length point.old ≡ size lp.now.matrix }
-    requires so_far { IsSoFar lp.now.matrix (basics_of basis.now) (standing lp.now basis.now) (j - 1) (value_at point.old) }
-    ensures so_far { OnOk result (IsSoFar lp.now.matrix (basics_of basis.now) (standing lp.now basis.now) j (value_at point.new)) }
+    requires so_far { IsSoFar lp.now.matrix (basics_of basis.now) (standing lp.now basis.now)
+        (j - 1) (value_at point.old) }
+    ensures so_far { OnOk result (IsSoFar lp.now.matrix (basics_of basis.now)
+        (standing lp.now basis.now) j (value_at point.new)) }
     ensures matrix { R.matrix rates.new ≡ R.matrix rates.old }
     ensures basics { R.basics rates.new ≡ R.basics rates.old }
-    ensures waypoints { KeepsWaypoints lp.now.matrix (basics_of basis.now) (R.waypoints rates.old) (basics_of basis.now) (R.waypoints rates.new) }
-    ensures overflow { PointOverflow result lp.now basis.now (R.waypoints rates.old) (R.waypoints rates.new) }
+    ensures waypoints { KeepsWaypoints lp.now.matrix (basics_of basis.now) (R.waypoints rates.old)
+        (basics_of basis.now) (R.waypoints rates.new) }
+    ensures overflow { PointOverflow result lp.now basis.now (R.waypoints rates.old)
+        (R.waypoints rates.new) }
 {
     if stands_basic(basis, j) {
         return Ok(());
@@ -208,12 +216,15 @@ fn add_directions<R: Rates>(
     requires lawful { IsLinearProgram lp.now }
     requires column { length column.old ≡ size lp.now.matrix }
     requires places { length point.old ≡ size lp.now.matrix }
-    requires begins { (k : ℕ) → IsVariable lp.now.matrix k → value_at point.old k ≡ standing lp.now basis.now k }
+    requires begins { (k : ℕ) → IsVariable lp.now.matrix k → value_at point.old k ≡ standing lp.now
+        basis.now k }
     ensures point { OnOk result (IsPointOf lp.now basis.now (value_at point.new)) }
     ensures matrix { R.matrix rates.new ≡ R.matrix rates.old }
     ensures basics { R.basics rates.new ≡ R.basics rates.old }
-    ensures waypoints { KeepsWaypoints lp.now.matrix (basics_of basis.now) (R.waypoints rates.old) (basics_of basis.now) (R.waypoints rates.new) }
-    ensures overflow { PointOverflow result lp.now basis.now (R.waypoints rates.old) (R.waypoints rates.new) }
+    ensures waypoints { KeepsWaypoints lp.now.matrix (basics_of basis.now) (R.waypoints rates.old)
+        (basics_of basis.now) (R.waypoints rates.new) }
+    ensures overflow { PointOverflow result lp.now basis.now (R.waypoints rates.old)
+        (R.waypoints rates.new) }
 {
     let mut nonbasics = 0;
     for k in 0..lp.number_of_variables() {
@@ -237,8 +248,10 @@ pub fn point_of<R: Rates>(
     ensures unchanged { OnErr result (out.new ≡ out.old) }
     ensures matrix { R.matrix rates.new ≡ R.matrix rates.old }
     ensures basics { R.basics rates.new ≡ R.basics rates.old }
-    ensures waypoints { KeepsWaypoints lp.now.matrix (basics_of basis.now) (R.waypoints rates.old) (basics_of basis.now) (R.waypoints rates.new) }
-    ensures overflow { PointOverflow result lp.now basis.now (R.waypoints rates.old) (R.waypoints rates.new) }
+    ensures waypoints { KeepsWaypoints lp.now.matrix (basics_of basis.now) (R.waypoints rates.old)
+        (basics_of basis.now) (R.waypoints rates.new) }
+    ensures overflow { PointOverflow result lp.now basis.now (R.waypoints rates.old)
+        (R.waypoints rates.new) }
 {
     let size = lp.number_of_variables() as usize;
     let mut column = vec![in alloc; Frac::whole(0); size].map_err(|_| NoMemory)?;

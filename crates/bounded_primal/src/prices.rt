@@ -59,8 +59,10 @@ fn changed(rate: Frac, theta: Frac, change: Frac, j: u32) -> Result<Frac, Eviden
 fn add_changes(theta: Frac, change: &[Frac], prices: &mut [Frac]) -> Result<(), Evidence>
     requires small { length change.now < 2 ^ 32 }
     requires places { length prices.old ≡ length change.now }
-    ensures changed { OnOk result (AreChanged theta (value_at change.now) (value_at prices.old) (length change.now) (value_at prices.new)) }
-    ensures refused { IfErr result (SomeChangedRefused theta (value_at change.now) (value_at prices.old) (length change.now)) }
+    ensures changed { OnOk result (AreChanged theta (value_at change.now) (value_at prices.old)
+        (length change.now) (value_at prices.new)) }
+    ensures refused { IfErr result (SomeChangedRefused theta (value_at change.now)
+        (value_at prices.old) (length change.now)) }
 {
     for k in 0..prices.len() {
         let rate = prices[k];
@@ -85,12 +87,15 @@ fn add_change_row<R: Rates>(
     requires added { lp.now.change ≡ Some added }
     requires change { length change.old ≡ size lp.now.matrix }
     requires places { length prices.old ≡ size lp.now.matrix }
-    requires objective { IsRowOf lp.now.matrix (basics_of basis.now) lp.now.objective (value_at prices.old) }
+    requires objective { IsRowOf lp.now.matrix (basics_of basis.now) lp.now.objective
+        (value_at prices.old) }
     ensures prices { OnOk result (ArePricesOf lp.now basis.now (value_at prices.new)) }
     ensures matrix { R.matrix rates.new ≡ R.matrix rates.old }
     ensures basics { R.basics rates.new ≡ R.basics rates.old }
-    ensures waypoints { KeepsWaypoints lp.now.matrix (basics_of basis.now) (R.waypoints rates.old) (basics_of basis.now) (R.waypoints rates.new) }
-    ensures overflow { PointOverflow result lp.now basis.now (R.waypoints rates.old) (R.waypoints rates.new) }
+    ensures waypoints { KeepsWaypoints lp.now.matrix (basics_of basis.now) (R.waypoints rates.old)
+        (basics_of basis.now) (R.waypoints rates.new) }
+    ensures overflow { PointOverflow result lp.now basis.now (R.waypoints rates.old)
+        (R.waypoints rates.new) }
 {
     if added.theta.is_zero() {
         return Ok(());
@@ -117,8 +122,10 @@ pub fn fill_prices<R: Rates>(
     ensures prices { OnOk result (ArePricesOf lp.now basis.now (value_at prices.new)) }
     ensures matrix { R.matrix rates.new ≡ R.matrix rates.old }
     ensures basics { R.basics rates.new ≡ R.basics rates.old }
-    ensures waypoints { KeepsWaypoints lp.now.matrix (basics_of basis.now) (R.waypoints rates.old) (basics_of basis.now) (R.waypoints rates.new) }
-    ensures overflow { PointOverflow result lp.now basis.now (R.waypoints rates.old) (R.waypoints rates.new) }
+    ensures waypoints { KeepsWaypoints lp.now.matrix (basics_of basis.now) (R.waypoints rates.old)
+        (basics_of basis.now) (R.waypoints rates.new) }
+    ensures overflow { PointOverflow result lp.now basis.now (R.waypoints rates.old)
+        (R.waypoints rates.new) }
 {
     rates.row(lp.objective, prices)?;
     match lp.change {
@@ -142,8 +149,10 @@ pub fn prices_of<R: Rates>(
     ensures unchanged { OnErr result (out.new ≡ out.old) }
     ensures matrix { R.matrix rates.new ≡ R.matrix rates.old }
     ensures basics { R.basics rates.new ≡ R.basics rates.old }
-    ensures waypoints { KeepsWaypoints lp.now.matrix (basics_of basis.now) (R.waypoints rates.old) (basics_of basis.now) (R.waypoints rates.new) }
-    ensures overflow { PointOverflow result lp.now basis.now (R.waypoints rates.old) (R.waypoints rates.new) }
+    ensures waypoints { KeepsWaypoints lp.now.matrix (basics_of basis.now) (R.waypoints rates.old)
+        (basics_of basis.now) (R.waypoints rates.new) }
+    ensures overflow { PointOverflow result lp.now basis.now (R.waypoints rates.old)
+        (R.waypoints rates.new) }
 {
     let size = lp.number_of_variables() as usize;
     let mut change = vec![in alloc; Frac::whole(0); size].map_err(|_| NoMemory)?;

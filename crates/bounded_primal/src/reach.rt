@@ -78,8 +78,10 @@ pub fn length_to(
     requires variable { IsVariable lp.now.matrix k }
     requires point_places { length point.now ≡ size lp.now.matrix }
     requires direction_places { length direction.now ≡ size lp.now.matrix }
-    ensures length { IfOk result (λ found. found ≡ room lp.now (value_at point.now) (motion (value_at direction.now) up) k) }
-    ensures refused { IfErr result (RoomRefused lp.now (value_at point.now) (value_at direction.now) up q k) }
+    ensures length { IfOk result (λ found. found ≡ room lp.now (value_at point.now)
+        (motion (value_at direction.now) up) k) }
+    ensures refused { IfErr result (RoomRefused lp.now (value_at point.now)
+        (value_at direction.now) up q k) }
 {
     let rate = direction[k as usize - 1];
     let speed = counted(rate, up);

@@ -77,8 +77,10 @@ fn move_point(
 ) -> Result<(), Evidence>
     requires direction_places { length direction.now ≡ size lp.now.matrix }
     requires point_places { length point.old ≡ size lp.now.matrix }
-    ensures moved { OnOk result (IsMoved by.now.step (value_at direction.now) (value_at point.old) (size lp.now.matrix) (value_at point.new)) }
-    ensures refused { IfErr result (SomeMovedRefused by.now (value_at direction.now) (value_at point.old) q (size lp.now.matrix)) }
+    ensures moved { OnOk result (IsMoved by.now.step (value_at direction.now) (value_at point.old)
+        (size lp.now.matrix) (value_at point.new)) }
+    ensures refused { IfErr result (SomeMovedRefused by.now (value_at direction.now)
+        (value_at point.old) q (size lp.now.matrix)) }
 {
     for k in 0..lp.number_of_variables() {
         let value = point[k as usize];
@@ -126,8 +128,10 @@ pub fn returning(
     requires direction_places { length direction.now ≡ size lp.now.matrix }
     requires limit { IsSome (limit_numbered lp.now p (number_of_limit to)) }
     requires moves { value_at direction.now p ≢ zero_ℚ }
-    ensures stopper { IfOk result (λ by. by ≡ return_by lp.now (value_at point.now) (value_at direction.now) p to) }
-    ensures refused { IfErr result (ReturnRefused lp.now (value_at point.now) (value_at direction.now) q p to) }
+    ensures stopper { IfOk result (λ by. by ≡ return_by lp.now (value_at point.now)
+        (value_at direction.now) p to) }
+    ensures refused { IfErr result (ReturnRefused lp.now (value_at point.now)
+        (value_at direction.now) q p to) }
 {
     let number = number_of(to);
     let limit = limit_at(lp, p, to).unwrap_or(Frac::whole(0));
@@ -154,15 +158,19 @@ pub fn take_step<R: Rates>(
     requires direction_places { length direction.now ≡ size lp.now.matrix }
     requires nonbasic { IsNonbasic lp.now.matrix (basics_of basis.old) q }
     requires point { IsPointOf lp.now basis.old (value_at point.old) }
-    requires direction { IsDirectionOf lp.now.matrix (basics_of basis.old) q (value_at direction.now) }
+    requires direction { IsDirectionOf lp.now.matrix (basics_of basis.old) q
+        (value_at direction.now) }
     requires moves { value_at direction.now by.now.p ≢ zero_ℚ }
-    requires step { IsStepBy lp.now basis.old (value_at point.old) (value_at direction.now) q by.now }
+    requires step { IsStepBy lp.now basis.old (value_at point.old)
+        (value_at direction.now) q by.now }
     ensures basis { OnOk result (basis.new ≡ after basis.old (move_by q by.now)) }
     ensures point { OnOk result (IsPointOf lp.now basis.new (value_at point.new)) }
     ensures unchanged { OnErr result (basis.new ≡ basis.old) }
     ensures rates { HasRates (R.matrix rates.new) (R.basics rates.new) lp.now basis.new }
-    ensures waypoints { KeepsWaypoints lp.now.matrix (basics_of basis.old) (R.waypoints rates.old) (basics_of basis.new) (R.waypoints rates.new) }
-    ensures overflow { StepOverflow result lp.now basis.old q by.now (R.waypoints rates.old) (R.waypoints rates.new) }
+    ensures waypoints { KeepsWaypoints lp.now.matrix (basics_of basis.old) (R.waypoints rates.old)
+        (basics_of basis.new) (R.waypoints rates.new) }
+    ensures overflow { StepOverflow result lp.now basis.old q by.now (R.waypoints rates.old)
+        (R.waypoints rates.new) }
 {
     match move_point(lp, direction, q, by, point) {
         Ok(()) => {}

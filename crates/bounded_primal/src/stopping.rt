@@ -24,8 +24,10 @@ fn nearest(
 ) -> Result<Option<Reach>, Evidence>
     requires point_places { length point.now ≡ size lp.now.matrix }
     requires direction_places { length direction.now ≡ size lp.now.matrix }
-    ensures nearest { IfOk result (IsNearest (room lp.now (value_at point.now) (motion (value_at direction.now) up)) (size lp.now.matrix)) }
-    ensures refused { IfErr result (SomeRoomRefused lp.now (value_at point.now) (value_at direction.now) up q) }
+    ensures nearest { IfOk result (IsNearest (room lp.now (value_at point.now)
+        (motion (value_at direction.now) up)) (size lp.now.matrix)) }
+    ensures refused { IfErr result (SomeRoomRefused lp.now (value_at point.now)
+        (value_at direction.now) up q) }
 {
     let mut nearest: Option<Reach> = None;
     for k in 0..lp.number_of_variables() {
@@ -63,10 +65,13 @@ pub fn stopper(
     requires point { IsPointOf lp.now basis.now (value_at point.now) }
     requires feasible { IsFeasible lp.now (value_at point.now) }
     requires nonbasic { IsNonbasic lp.now.matrix (basics_of basis.now) q }
-    requires direction { IsDirectionOf lp.now.matrix (basics_of basis.now) q (value_at direction.now) }
+    requires direction { IsDirectionOf lp.now.matrix (basics_of basis.now) q
+        (value_at direction.now) }
     requires may { IsTrue (may_move lp.now basis.now up q) }
-    ensures stopper { IfOk result (λ found. found ≡ stopper_of lp.now (value_at point.now) (value_at direction.now) up) }
-    ensures refused { IfErr result (StopperRefused lp.now basis.now (value_at point.now) (value_at direction.now) q up) }
+    ensures stopper { IfOk result (λ found. found ≡ stopper_of lp.now (value_at point.now)
+        (value_at direction.now) up) }
+    ensures refused { IfErr result (StopperRefused lp.now basis.now (value_at point.now)
+        (value_at direction.now) q up) }
 {
     let found = nearest(lp, point, direction, q, up)?;
     match found {

@@ -41,7 +41,8 @@ fn multiplier(lp: &Lp, rates: &[Frac], r: u32, below: bool, k: u32) -> Frac
 pub fn ray_of(alloc: Global, lp: &Lp, rates: &[Frac], r: u32, below: bool) -> Result<Ray, NoMemory>
     requires { length rates.now ≡ size lp.now.matrix }
     ensures places { IfOk result (λ ray. length ray ≡ size lp.now.matrix) }
-    ensures ray { IfOk result (λ ray. (k : ℕ) → IsVariable lp.now.matrix k → value_at ray k ≡ ray_from (value_at rates.now) r below k) }
+    ensures ray { IfOk result (λ ray. (k : ℕ) → IsVariable lp.now.matrix k → value_at ray k ≡
+        ray_from (value_at rates.now) r below k) }
 {
     let mut values = Vec::new(alloc);
     for k in 0..lp.number_of_variables() {
@@ -70,7 +71,8 @@ fn signed_direction(
 ) -> Result<Direction, NoMemory>
     requires { length direction.now ≡ size lp.now.matrix }
     ensures places { IfOk result (λ copy. length copy ≡ size lp.now.matrix) }
-    ensures signed { IfOk result (λ copy. (k : ℕ) → IsVariable lp.now.matrix k → value_at copy k ≡ motion (value_at direction.now) up k) }
+    ensures signed { IfOk result (λ copy. (k : ℕ) → IsVariable lp.now.matrix k → value_at copy k ≡
+        motion (value_at direction.now) up k) }
 {
     let mut values = Vec::new(alloc);
     for k in 0..lp.number_of_variables() {
@@ -119,10 +121,13 @@ fn returner<R: Rates>(
     requires places { length row.old ≡ size lp.now.matrix }
     requires basic { IsBasic lp.now.matrix (basics_of basis.now) r }
     ensures row { OnOk result (IsRowOf lp.now.matrix (basics_of basis.now) r (value_at row.new)) }
-    ensures found { IfOk result (λ found. found ≡ entering lp.now basis.now (motion (value_at row.new) (not below))) }
+    ensures found { IfOk result (λ found. found ≡ entering lp.now basis.now
+        (motion (value_at row.new) (not below))) }
     ensures rates { HasRates (R.matrix rates.new) (R.basics rates.new) lp.now basis.now }
-    ensures waypoints { KeepsWaypoints lp.now.matrix (basics_of basis.now) (R.waypoints rates.old) (basics_of basis.now) (R.waypoints rates.new) }
-    ensures overflow { IfErr result (λ stop. IfOverflow stop (PointRefused lp.now (R.waypoints rates.old) basis.now (R.waypoints rates.new))) }
+    ensures waypoints { KeepsWaypoints lp.now.matrix (basics_of basis.now) (R.waypoints rates.old)
+        (basics_of basis.now) (R.waypoints rates.new) }
+    ensures overflow { IfErr result (λ stop. IfOverflow stop
+        (PointRefused lp.now (R.waypoints rates.old) basis.now (R.waypoints rates.new))) }
 {
     rates.row(r, row)?;
     Ok(enterer(lp, basis, row, !below))
@@ -145,12 +150,18 @@ pub fn return_of<R: Rates>(
     requires nonbasic { IsNonbasic lp.now.matrix (basics_of basis.now) q }
     requires basic { IsBasic lp.now.matrix (basics_of basis.now) p }
     requires limit { IsSome (limit_numbered lp.now p (number_of_limit to)) }
-    requires pivot { (d : ℕ → ℚ) → IsDirectionOf lp.now.matrix (basics_of basis.now) q d → d p ≢ zero_ℚ }
-    ensures direction { OnOk result (IsDirectionOf lp.now.matrix (basics_of basis.now) q (value_at direction.new)) }
-    ensures stopper { IfOk result (λ by. by ≡ return_by lp.now (value_at point.now) (value_at direction.new) p to) }
+    requires pivot { (d : ℕ → ℚ) → IsDirectionOf lp.now.matrix (basics_of basis.now) q d →
+        d p ≢ zero_ℚ }
+    ensures direction { OnOk result (IsDirectionOf lp.now.matrix (basics_of basis.now) q
+        (value_at direction.new)) }
+    ensures stopper { IfOk result (λ by. by ≡ return_by lp.now (value_at point.now)
+        (value_at direction.new) p to) }
     ensures rates { HasRates (R.matrix rates.new) (R.basics rates.new) lp.now basis.now }
-    ensures waypoints { KeepsWaypoints lp.now.matrix (basics_of basis.now) (R.waypoints rates.old) (basics_of basis.now) (R.waypoints rates.new) }
-    ensures overflow { IfErr result (λ stop. IfOverflow stop (ReturnStops lp.now basis.now (value_at point.now) q p to (R.waypoints rates.old) (R.waypoints rates.new))) }
+    ensures waypoints { KeepsWaypoints lp.now.matrix (basics_of basis.now) (R.waypoints rates.old)
+        (basics_of basis.now) (R.waypoints rates.new) }
+    ensures overflow { IfErr result
+        (λ stop. IfOverflow stop (ReturnStops lp.now basis.now (value_at point.now) q p to
+        (R.waypoints rates.old) (R.waypoints rates.new))) }
 {
     rates.column(q, direction)?;
     match returning(lp, point, direction, q, p, to) {
@@ -176,11 +187,16 @@ fn stopper_of<R: Rates>(
     requires feasible { IsFeasible lp.now (value_at point.now) }
     requires nonbasic { IsNonbasic lp.now.matrix (basics_of basis.now) q }
     requires may { IsTrue (may_move lp.now basis.now up q) }
-    ensures direction { OnOk result (IsDirectionOf lp.now.matrix (basics_of basis.now) q (value_at direction.new)) }
-    ensures stopper { IfOk result (λ found. found ≡ stopper_by lp.now (value_at point.now) (value_at direction.new) up) }
+    ensures direction { OnOk result (IsDirectionOf lp.now.matrix (basics_of basis.now) q
+        (value_at direction.new)) }
+    ensures stopper { IfOk result (λ found. found ≡ stopper_by lp.now (value_at point.now)
+        (value_at direction.new) up) }
     ensures rates { HasRates (R.matrix rates.new) (R.basics rates.new) lp.now basis.now }
-    ensures waypoints { KeepsWaypoints lp.now.matrix (basics_of basis.now) (R.waypoints rates.old) (basics_of basis.now) (R.waypoints rates.new) }
-    ensures overflow { IfErr result (λ stop. IfOverflow stop (RunStops lp.now basis.now (value_at point.now) q up (R.waypoints rates.old) (R.waypoints rates.new))) }
+    ensures waypoints { KeepsWaypoints lp.now.matrix (basics_of basis.now) (R.waypoints rates.old)
+        (basics_of basis.now) (R.waypoints rates.new) }
+    ensures overflow { IfErr result
+        (λ stop. IfOverflow stop (RunStops lp.now basis.now (value_at point.now) q up
+        (R.waypoints rates.old) (R.waypoints rates.new))) }
 {
     rates.column(q, direction)?;
     match stopper(lp, basis, point, direction, q, up) {
@@ -236,9 +252,11 @@ fn first_phase<R: Rates>(
     requires point { IsPointOf lp.now basis.now (value_at point.now) }
     requires uncrossed { IsUncrossed lp.now }
     requires outside { least_outside lp.now basis.now (value_at point.now) ≡ Some r }
-    ensures turn { TurnFound result lp.now basis.now steps left (value_at point.now) (value_at direction.new) (R.waypoints rates.old) (R.waypoints rates.new) }
+    ensures turn { TurnFound result lp.now basis.now steps left (value_at point.now)
+        (value_at direction.new) (R.waypoints rates.old) (R.waypoints rates.new) }
     ensures rates { HasRates (R.matrix rates.new) (R.basics rates.new) lp.now basis.now }
-    ensures waypoints { KeepsWaypoints lp.now.matrix (basics_of basis.now) (R.waypoints rates.old) (basics_of basis.now) (R.waypoints rates.new) }
+    ensures waypoints { KeepsWaypoints lp.now.matrix (basics_of basis.now) (R.waypoints rates.old)
+        (basics_of basis.now) (R.waypoints rates.new) }
 {
     let below = lies_below(lp, point, r);
     let Some(q) = returner(lp, basis, rates, row, r, below)? else {
@@ -314,9 +332,11 @@ fn run<R: Rates>(
     requires uncrossed { IsUncrossed lp.now }
     requires inside { least_outside lp.now basis.now (value_at point.now) ≡ None }
     requires moves { Betters lp.now basis.now moved }
-    ensures turn { TurnFound result lp.now basis.now steps left (value_at point.now) (value_at direction.new) (R.waypoints rates.old) (R.waypoints rates.new) }
+    ensures turn { TurnFound result lp.now basis.now steps left (value_at point.now)
+        (value_at direction.new) (R.waypoints rates.old) (R.waypoints rates.new) }
     ensures rates { HasRates (R.matrix rates.new) (R.basics rates.new) lp.now basis.now }
-    ensures waypoints { KeepsWaypoints lp.now.matrix (basics_of basis.now) (R.waypoints rates.old) (basics_of basis.now) (R.waypoints rates.new) }
+    ensures waypoints { KeepsWaypoints lp.now.matrix (basics_of basis.now) (R.waypoints rates.old)
+        (basics_of basis.now) (R.waypoints rates.new) }
 {
     match stopper_of(lp, basis, rates, point, direction, moved.q, moved.up)? {
         None => Ok(Turn::Ends(endless(alloc, lp, point, direction, moved.up, steps)?)),
@@ -351,9 +371,11 @@ fn second_phase<R: Rates>(
     requires point { IsPointOf lp.now basis.now (value_at point.now) }
     requires uncrossed { IsUncrossed lp.now }
     requires inside { least_outside lp.now basis.now (value_at point.now) ≡ None }
-    ensures turn { TurnFound result lp.now basis.now steps left (value_at point.now) (value_at direction.new) (R.waypoints rates.old) (R.waypoints rates.new) }
+    ensures turn { TurnFound result lp.now basis.now steps left (value_at point.now)
+        (value_at direction.new) (R.waypoints rates.old) (R.waypoints rates.new) }
     ensures rates { HasRates (R.matrix rates.new) (R.basics rates.new) lp.now basis.now }
-    ensures waypoints { KeepsWaypoints lp.now.matrix (basics_of basis.now) (R.waypoints rates.old) (basics_of basis.now) (R.waypoints rates.new) }
+    ensures waypoints { KeepsWaypoints lp.now.matrix (basics_of basis.now) (R.waypoints rates.old)
+        (basics_of basis.now) (R.waypoints rates.new) }
 {
     fill_prices(lp, basis, rates, direction, row)?;
     match bettering(lp, basis, row) {
@@ -383,9 +405,11 @@ pub fn next_turn<R: Rates>(
     requires direction_places { length direction.old ≡ size lp.now.matrix }
     requires point { IsPointOf lp.now basis.now (value_at point.now) }
     requires uncrossed { IsUncrossed lp.now }
-    ensures turn { TurnFound result lp.now basis.now steps left (value_at point.now) (value_at direction.new) (R.waypoints rates.old) (R.waypoints rates.new) }
+    ensures turn { TurnFound result lp.now basis.now steps left (value_at point.now)
+        (value_at direction.new) (R.waypoints rates.old) (R.waypoints rates.new) }
     ensures rates { HasRates (R.matrix rates.new) (R.basics rates.new) lp.now basis.now }
-    ensures waypoints { KeepsWaypoints lp.now.matrix (basics_of basis.now) (R.waypoints rates.old) (basics_of basis.now) (R.waypoints rates.new) }
+    ensures waypoints { KeepsWaypoints lp.now.matrix (basics_of basis.now) (R.waypoints rates.old)
+        (basics_of basis.now) (R.waypoints rates.new) }
 {
     match outside(lp, basis, point) {
         Some(r) => first_phase(

@@ -37,7 +37,8 @@ fn trimmed_len(line: &[u8]) -> usize
 // The card that starts here, and where the next one starts.
 fn next_span(bytes: &[u8], start: usize) -> (Span, usize)
     requires { start < length bytes.now }
-    ensures card { cards_of (drop start bytes.now) ≡ span_bytes bytes.now result.0 ∷ cards_of (drop result.1 bytes.now) }
+    ensures card { cards_of (drop start bytes.now) ≡ span_bytes bytes.now result.0 ∷ cards_of
+        (drop result.1 bytes.now) }
     ensures within { IsWithin (length bytes.now) result.0 }
     ensures later { start < result.1 }
     ensures in_range { result.1 ≤ length bytes.now + 1 }

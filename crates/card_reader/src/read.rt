@@ -17,10 +17,12 @@ const PIECE: usize = 65_536;
 // The bytes of the source, and one at most after those that a job may have. A fault of the source and want of memory
 // stop it, and nothing else.
 fn read_bytes<S: Source>(alloc: Global, source: &mut S) -> Result<Vec<u8>, ReadStop>
-    ensures bytes { IfOk result (λ bytes. IfSome (S.left source.old) (λ job. bytes.items ≡ take read_limit job)) }
+    ensures bytes { IfOk result (λ bytes. IfSome (S.left source.old)
+        (λ job. bytes.items ≡ take read_limit job)) }
     ensures reads { Reads result (S.left source.old) (S.left source.new) }
     ensures no_further { ReadsFront (S.left source.old) (S.left source.new) }
-    ensures end { IfOk result (λ bytes. length bytes.items ≤ MAX_JOB_BYTES → IsAtEnd (S.left source.new)) }
+    ensures end { IfOk result (λ bytes. length bytes.items ≤ MAX_JOB_BYTES → IsAtEnd
+        (S.left source.new)) }
     ensures cause { HasCause (S.faults source.old) (S.faults source.new) result }
     ensures no_card { IfErr result (λ stop. (found : Option CardFault) → Tells stop found) }
     ensures no_end { IfErr result (λ stop. EndsAtStop stop (S.left source.new)) }
@@ -43,7 +45,8 @@ fn read_bytes<S: Source>(alloc: Global, source: &mut S) -> Result<Vec<u8>, ReadS
 /// A fault of the source is told first, then a job that is too long, then the first card with a fault. Want of memory
 /// may come before any of these.
 pub fn read_job<S: Source>(alloc: Global, source: &mut S) -> Result<Cards, ReadStop>
-    ensures cards { IfOk result (λ cards. IfSome (S.left source.old) (λ job. cards ≡ cards_of job)) }
+    ensures cards { IfOk result (λ cards. IfSome (S.left source.old)
+        (λ job. cards ≡ cards_of job)) }
     ensures fault { Judges result (S.left source.old) }
 
     ensures reads { Reads result (S.left source.old) (S.left source.new) }

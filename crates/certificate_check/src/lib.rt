@@ -35,8 +35,10 @@ pub fn check_optimal(lp: &Lp, point: &[Frac], prices: &[Frac]) -> Verdict
     ensures exact { result ≡ optimal_check lp.now (value_at point.now) (value_at prices.now) }
     ensures feasible { result ≡ Verdict.Checked → IsFeasible lp.now (value_at point.now) }
     ensures best { result ≡ Verdict.Checked → IsBest lp.now (value_at point.now) }
-    ensures prices { result ≡ Verdict.Checked → AreProvingPrices lp.now (value_at point.now) (value_at prices.now) }
-    ensures never_fails { IsFeasible lp.now (value_at point.now) → AreProvingPrices lp.now (value_at point.now) (value_at prices.now) → IsNotFailed result }
+    ensures prices { result ≡ Verdict.Checked → AreProvingPrices lp.now (value_at point.now)
+        (value_at prices.now) }
+    ensures never_fails { IsFeasible lp.now (value_at point.now) → AreProvingPrices lp.now
+        (value_at point.now) (value_at prices.now) → IsNotFailed result }
 {
     let size = lp.number_of_variables() as usize;
     prove_eq!(point.len(), size);
@@ -75,9 +77,11 @@ pub fn check_unbounded(lp: &Lp, point: &[Frac], direction: &[Frac]) -> Verdict
     requires point_places { length point.now ≡ size lp.now.matrix }
     requires direction_places { length direction.now ≡ size lp.now.matrix }
     ensures exact { result ≡ unbounded_check lp.now (value_at point.now) (value_at direction.now) }
-    ensures proof { result ≡ Verdict.Checked → ProvesUnbounded lp.now (value_at point.now) (value_at direction.now) }
+    ensures proof { result ≡ Verdict.Checked → ProvesUnbounded lp.now (value_at point.now)
+        (value_at direction.now) }
     ensures unbounded { result ≡ Verdict.Checked → IsUnbounded lp.now }
-    ensures never_fails { ProvesUnbounded lp.now (value_at point.now) (value_at direction.now) → IsNotFailed result }
+    ensures never_fails { ProvesUnbounded lp.now (value_at point.now) (value_at direction.now) →
+        IsNotFailed result }
 {
     verdict(unbounded(lp, point, direction))
 }
@@ -85,7 +89,8 @@ pub fn check_unbounded(lp: &Lp, point: &[Frac], direction: &[Frac]) -> Verdict
 fn optimal(lp: &Lp, point: &[Frac], prices: &[Frac]) -> Result<(), Stopped>
     requires point_places { length point.now ≡ size lp.now.matrix }
     requires price_places { length prices.now ≡ size lp.now.matrix }
-    ensures { verdict_from result ≡ optimal_check lp.now (value_at point.now) (value_at prices.now) }
+    ensures { verdict_from result ≡ optimal_check lp.now (value_at point.now)
+        (value_at prices.now) }
 {
     point_is_feasible(lp, point)?;
     are_reduced_costs(lp, prices)?;
@@ -103,7 +108,8 @@ fn infeasible(lp: &Lp, ray: &[Frac]) -> Result<(), Stopped>
 fn unbounded(lp: &Lp, point: &[Frac], direction: &[Frac]) -> Result<(), Stopped>
     requires point_places { length point.now ≡ size lp.now.matrix }
     requires direction_places { length direction.now ≡ size lp.now.matrix }
-    ensures { verdict_from result ≡ unbounded_check lp.now (value_at point.now) (value_at direction.now) }
+    ensures { verdict_from result ≡ unbounded_check lp.now (value_at point.now)
+        (value_at direction.now) }
 {
     point_is_feasible(lp, point)?;
     equations_hold(lp, 3, direction)?;

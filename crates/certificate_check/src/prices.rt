@@ -42,7 +42,8 @@ fn price_stands(lp: &Lp, point: &[Frac], prices: &[Frac], k: u32) -> Result<(), 
     requires variable { IsVariable lp.now.matrix k }
     requires point_places { length point.now ≡ size lp.now.matrix }
     requires price_places { length prices.now ≡ size lp.now.matrix }
-    ensures { verdict_from result ≡ verdict_of (standing_price lp.now (value_at point.now) (value_at prices.now) k) }
+    ensures { verdict_from result ≡ verdict_of (standing_price lp.now (value_at point.now)
+        (value_at prices.now) k) }
 {
     let price = counted_for(lp.sense, value_of(prices, k));
     let value = value_of(point, k);
@@ -55,7 +56,8 @@ fn price_stands(lp: &Lp, point: &[Frac], prices: &[Frac], k: u32) -> Result<(), 
 pub fn prices_stand(lp: &Lp, point: &[Frac], prices: &[Frac]) -> Result<(), Stopped>
     requires point_places { length point.now ≡ size lp.now.matrix }
     requires price_places { length prices.now ≡ size lp.now.matrix }
-    ensures { verdict_from result ≡ verdict_of (standing_prices lp.now (value_at point.now) (value_at prices.now)) }
+    ensures { verdict_from result ≡ verdict_of (standing_prices lp.now (value_at point.now)
+        (value_at prices.now)) }
 {
     for i in 0..lp.number_of_variables() {
         price_stands(lp, point, prices, i + 1)?;

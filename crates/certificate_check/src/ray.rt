@@ -50,7 +50,9 @@ fn limit_met(lp: &Lp, multiplier: Frac, k: u32) -> Option<Frac>
 
 /// The sum, and the multiplier times the limit that it meets.
 fn add_met(sum: Frac, multiplier: Frac, limit: Option<Frac>, k: u32) -> Result<Frac, Stopped>
-    ensures { Leads result (comparison 2 k (is_some limit) ∷ sum_steps sum (record { left = multiplier; right = unwrap_or limit zero_ℚ } ∷ [])) (sum +ℚ multiplier *ℚ unwrap_or limit zero_ℚ) }
+    ensures { Leads result (comparison 2 k (is_some limit) ∷ sum_steps sum
+        (record { left = multiplier; right = unwrap_or limit zero_ℚ } ∷ []))
+        (sum +ℚ multiplier *ℚ unwrap_or limit zero_ℚ) }
 {
     match limit {
         None => Err(Stopped::Comparison { part: 2, number: k }),
@@ -62,7 +64,8 @@ fn add_met(sum: Frac, multiplier: Frac, limit: Option<Frac>, k: u32) -> Result<F
 fn add_limit(lp: &Lp, ray: &[Frac], sum: Frac, k: u32) -> Result<Frac, Stopped>
     requires variable { IsVariable lp.now.matrix k }
     requires places { length ray.now ≡ size lp.now.matrix }
-    ensures { let w = value_at ray.now in let ks = multiplied_among w (k ∷ []) in Leads result (ray_limits lp.now w sum ks) (sum_of sum (map (limit_product lp.now w) ks)) }
+    ensures { let w = value_at ray.now in let ks = multiplied_among w (k ∷ []) in Leads result
+        (ray_limits lp.now w sum ks) (sum_of sum (map (limit_product lp.now w) ks)) }
 {
     let multiplier = value_of(ray, k);
     if multiplier.is_zero() {
@@ -74,7 +77,9 @@ fn add_limit(lp: &Lp, ray: &[Frac], sum: Frac, k: u32) -> Result<Frac, Stopped>
 /// The sum of the multipliers that are not 0, each times the limit that it meets.
 fn limit_sum(lp: &Lp, ray: &[Frac]) -> Result<Frac, Stopped>
     requires { length ray.now ≡ size lp.now.matrix }
-    ensures { let w = value_at ray.now in Leads result (ray_limits lp.now w zero_ℚ (multiplied lp.now w)) (sum_of zero_ℚ (map (limit_product lp.now w) (multiplied lp.now w))) }
+    ensures { let w = value_at ray.now in Leads result
+        (ray_limits lp.now w zero_ℚ (multiplied lp.now w)) (sum_of zero_ℚ
+        (map (limit_product lp.now w) (multiplied lp.now w))) }
 {
     let mut sum = Frac::whole(0);
     for i in 0..lp.number_of_variables() {
@@ -86,7 +91,8 @@ fn limit_sum(lp: &Lp, ray: &[Frac]) -> Result<Frac, Stopped>
 /// Each multiplier that is not 0 meets a limit, and the sum of these products is negative.
 pub fn limits_contradict(lp: &Lp, ray: &[Frac]) -> Result<(), Stopped>
     requires { length ray.now ≡ size lp.now.matrix }
-    ensures { let w = value_at ray.now in verdict_from result ≡ verdict_of (ray_limits lp.now w zero_ℚ (multiplied lp.now w) ++ ray_sum lp.now w) }
+    ensures { let w = value_at ray.now in verdict_from result ≡ verdict_of
+        (ray_limits lp.now w zero_ℚ (multiplied lp.now w) ++ ray_sum lp.now w) }
 {
     let sum = limit_sum(lp, ray)?;
     compare(is_less(sum, Frac::whole(0)), 3, 0)

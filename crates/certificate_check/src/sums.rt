@@ -76,7 +76,8 @@ pub fn row_sum(lp: &Lp, values: &[Frac], row: u32) -> Result<Frac, Refused>
 
 /// The column's number on the objective row, and theta times its number on the change row if there is one.
 pub fn cost(lp: &Lp, column: &[Entry]) -> Result<Frac, Refused>
-    ensures { Gives result (combined_steps lp.now (λ i. on_row column.now i)) (combined lp.now (λ i. on_row column.now i)) }
+    ensures { Gives result (combined_steps lp.now (λ i. on_row column.now i))
+        (combined lp.now (λ i. on_row column.now i)) }
 {
     let cost = number_on(column, lp.objective).unwrap_or(Frac::whole(0));
     match lp.change {
@@ -91,7 +92,8 @@ pub fn cost(lp: &Lp, column: &[Entry]) -> Result<Frac, Refused>
 /// The value at the objective row, and theta times the value at the change row if there is one.
 pub fn objective(lp: &Lp, values: &[Frac]) -> Result<Frac, Refused>
     requires { length values.now ≡ size lp.now.matrix }
-    ensures { Gives result (combined_steps lp.now (value_at values.now)) (objective_value lp.now (value_at values.now)) }
+    ensures { Gives result (combined_steps lp.now (value_at values.now))
+        (objective_value lp.now (value_at values.now)) }
 {
     let value = value_of(values, lp.objective);
     match lp.change {

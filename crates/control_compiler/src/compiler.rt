@@ -15,7 +15,8 @@ use std::alloc::Global;
 // The number of PEND's card, unless the program has a fault as a whole: the job, whose last card has this number, ends before
 // PEND, or a statement names a label that no card has. The earlier card decides, and the end where it is one card.
 fn pend_or_fault(pend: Option<u32>, missing: Option<u32>, last: u32) -> Result<u32, ControlFault>
-    ensures { (card : Option Card) → missing ≡ option_map (λ card. card.number) card → EndsAt result pend (end_fault last (is_some pend) card) }
+    ensures { (card : Option Card) → missing ≡ option_map (λ card. card.number) card → EndsAt result
+        pend (end_fault last (is_some pend) card) }
 {
     match (pend, missing) {
         (Some(pend), None) => Ok(pend),

@@ -25,7 +25,8 @@ pub fn place_label(
     label: Option<Name>,
     position: u32,
 ) -> Result<(), CompileStop>
-    ensures ok { OnOk result ((other : List ℕ) → lookup (bytes_eq other) labels.new ≡ placed label position other (lookup (bytes_eq other) labels.old)) }
+    ensures ok { OnOk result ((other : List ℕ) → lookup (bytes_eq other) labels.new ≡ placed label
+        position other (lookup (bytes_eq other) labels.old)) }
     ensures err { IfErr result (λ stop. stop ≡ NoMemory) }
 {
     match label {
@@ -40,8 +41,12 @@ fn push_statement(
     number: u32,
     card: &[u8],
 ) -> Result<(), CompileStop>
-    ensures ok { OnOk result (map statement_shown statements.new.items ≡ map statement_shown statements.old.items ++ option_to_list (statement_said (record { number = number; bytes = card.now }))) }
-    ensures lawful { OnOk result (All (λ statement. IsLawful (shown statement.verb)) statements.old.items → All (λ statement. IsLawful (shown statement.verb)) statements.new.items) }
+    ensures ok { OnOk result (map statement_shown statements.new.items ≡ map statement_shown
+        statements.old.items ++ option_to_list (statement_said
+        (record { number = number; bytes = card.now }))) }
+    ensures lawful { OnOk result (All (λ statement. IsLawful (shown statement.verb))
+        statements.old.items → All (λ statement. IsLawful (shown statement.verb))
+        statements.new.items) }
     ensures err { IfErr result (λ stop. stop ≡ NoMemory) }
 {
     if let Some(verb) = verb_of(card) {
@@ -52,7 +57,8 @@ fn push_statement(
 
 // Whether a label has a position.
 fn is_placed(labels: &Labels, label: &Option<Name>) -> bool
-    ensures { result ≡ option_map_or (λ (name : List ℕ). is_some (lookup (bytes_eq name) labels.now)) label.now false }
+    ensures { result ≡ option_map_or (λ (name : List ℕ). is_some
+        (lookup (bytes_eq name) labels.now)) label.now false }
 {
     match label {
         Some(label) => labels.position(label).is_some(),
@@ -66,7 +72,9 @@ impl Draft {
     /// Takes one more card of the program, and tells whether it is PEND.
     pub fn take(&mut self, number: u32, card: &[u8]) -> Result<bool, CompileStop>
         requires { length self.old.statements.items ≤ 5000 }
-        ensures { (cards : List Card) → IsBehind cards self.old → length cards ≡ length self.old.statements.items + 1 → Takes result cards (record { number = number; bytes = card.now }) self.new }
+        ensures { (cards : List Card) → IsBehind cards self.old → length cards ≡ length
+            self.old.statements.items + 1 → Takes result cards
+            (record { number = number; bytes = card.now }) self.new }
     {
         let position = self.statements.len() + 1;
         let label = label_in(label(card));

@@ -42,7 +42,8 @@ impl Labels {
 
     /// Gives a label its position.
     pub fn add(&mut self, label: Name, position: u32) -> Result<(), CompileStop>
-        ensures ok { OnOk result ((other : List ℕ) → lookup (bytes_eq other) self.new ≡ (if bytes_eq label other then Some position else lookup (bytes_eq other) self.old)) }
+        ensures ok { OnOk result ((other : List ℕ) → lookup (bytes_eq other) self.new ≡
+            (if bytes_eq label other then Some position else lookup (bytes_eq other) self.old)) }
         ensures err { IfErr result (λ stop. stop ≡ NoMemory) }
     {
         self.positions.insert(label, position)?;

@@ -30,8 +30,16 @@ impl Model for Program {
 impl Program {
     // The program of these statements, with the first card after it.
     pub(crate) fn new(statements: Vec<Statement<u32>>, decks_from: u32) -> Program
-        requires { IsProgram (record { statements = map statement_shown statements.items; decks_from = decks_from }) }
-        ensures { result ≡ record { statements = map statement_shown statements.items; decks_from = decks_from } }
+        requires { IsProgram (record {
+          statements = map statement_shown statements.items;
+          decks_from
+              = decks_from;
+        }) }
+        ensures { result ≡ record {
+          statements = map statement_shown statements.items;
+          decks_from =
+              decks_from;
+        } }
     {
         Program {
             statements,

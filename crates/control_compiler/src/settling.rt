@@ -34,7 +34,9 @@ fn place_of(labels: &Labels, label: &Name) -> u32
 
 // The card of the first statement that names a label without a position.
 pub fn missing(draft: &Draft) -> Option<u32>
-    ensures { result ≡ option_map (λ statement. statement.card) (find (λ statement. lacks_label draft.now.labels (shown statement.verb)) draft.now.statements.items) }
+    ensures { result ≡ option_map (λ statement. statement.card)
+        (find (λ statement. lacks_label draft.now.labels (shown statement.verb))
+        draft.now.statements.items) }
 {
     for statement in &draft.statements {
         if lacks_label(&draft.labels, &statement.verb) {
@@ -75,7 +77,8 @@ fn settled_statements(
     labels: &Labels,
     statements: Vec<Statement<Name>>,
 ) -> Result<Vec<Statement<u32>>, CompileStop>
-    ensures ok { IfOk result (λ all. map statement_shown all.items ≡ map (λ statement. settled labels.now (statement_shown statement)) statements.items) }
+    ensures ok { IfOk result (λ all. map statement_shown all.items ≡ map
+        (λ statement. settled labels.now (statement_shown statement)) statements.items) }
     ensures err { IfErr result (λ stop. stop ≡ NoMemory) }
 {
     let mut all = Vec::new(alloc);

@@ -42,7 +42,8 @@ impl Machine {
 
     /// MOVE of a name. Another objective or right-hand side clears the mark.
     pub fn move_name(&mut self, cell: NameCell, name: Name) -> Act
-        ensures acts { (card : ℕ) → Decides stage (program.MoveName cell name) card self.old self.new result }
+        ensures acts { (card : ℕ) → Decides stage (program.MoveName cell name) card self.old
+            self.new result }
         ensures sound { (cards : List (List ℕ)) → IsSound cards self.old → IsSound cards self.new }
     {
         self.cells.move_name(cell, name);
@@ -52,7 +53,8 @@ impl Machine {
 
     /// MOVE of a number.
     pub fn move_number(&mut self, cell: NumberCell, value: Frac) -> Act
-        ensures acts { (card : ℕ) → Decides stage (program.MoveNumber cell value) card self.old self.new result }
+        ensures acts { (card : ℕ) → Decides stage (program.MoveNumber cell value) card self.old
+            self.new result }
         ensures sound { (cards : List (List ℕ)) → IsSound cards self.old → IsSound cards self.new }
     {
         self.cells.move_number(cell, value);
@@ -62,7 +64,8 @@ impl Machine {
     /// MOVE of the number of steps that a verb may take, or of no limit on them.
     pub fn move_limit(&mut self, limit: Option<u32>) -> Act
         requires { IfSome limit (λ steps. steps ≤ 1000000) }
-        ensures acts { (card : ℕ) → Decides stage (program.MoveLimit limit) card self.old self.new result }
+        ensures acts { (card : ℕ) → Decides stage (program.MoveLimit limit) card self.old
+            self.new result }
         ensures sound { (cards : List (List ℕ)) → IsSound cards self.old → IsSound cards self.new }
     {
         self.cells.move_limit(limit);
@@ -72,7 +75,8 @@ impl Machine {
     /// MVADR: sets a demand to a position.
     pub fn set_demand(&mut self, demand: Demand, position: u32) -> Act
         requires { 1 ≤ position }
-        ensures acts { (card : ℕ) → Decides stage (program.Mvadr demand position) card self.old self.new result }
+        ensures acts { (card : ℕ) → Decides stage (program.Mvadr demand position) card self.old
+            self.new result }
         ensures sound { (cards : List (List ℕ)) → IsSound cards self.old → IsSound cards self.new }
     {
         self.cells.set_demand(demand, position);

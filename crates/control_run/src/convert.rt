@@ -47,7 +47,8 @@ impl Machine {
         card: u32,
     ) -> Result<Act, Halt>
         requires { IsSound cards.now self.old }
-        ensures acts { Executes stage program.Convert card P.written P.faults P.refusals print.old print.new cards.now self.old self.new result }
+        ensures acts { Executes stage program.Convert card P.written P.faults P.refusals print.old
+            print.new cards.now self.old self.new result }
         ensures sound { IsSound cards.now self.new }
     {
         let described = self.described(alloc, cards, card)?;

@@ -34,7 +34,8 @@ fn execute<P: Sink, U: Sink>(
     requires sound { IsSound cards.now machine.old }
     requires verb { IsSoundVerb (shown verb.now) }
     ensures acts { Performs stage (shown verb.now) card
-        P.written P.faults P.refusals print.old print.new U.written U.faults U.refusals punch.old punch.new
+        P.written P.faults P.refusals print.old print.new U.written U.faults U.refusals
+        punch.old punch.new
         cards.now machine.old machine.new result }
     ensures sound { IsSound cards.now machine.new }
 {
@@ -74,7 +75,8 @@ pub fn step<P: Sink, U: Sink>(
     requires within { position ≤ length program.now.statements }
     requires sound { IsSound cards.now machine.old }
     ensures steps { Steps stage program.now cards.now
-        P.written P.faults P.refusals print.old print.new U.written U.faults U.refusals punch.old punch.new
+        P.written P.faults P.refusals print.old print.new U.written U.faults U.refusals
+        punch.old punch.new
         position machine.old machine.new result }
     ensures sound { IsSound cards.now machine.new }
 {

@@ -44,7 +44,11 @@ fn place_at<R: Rates>(
     requires rates { HasRates (R.matrix rates.now) (R.basics rates.now) lp.now basis.now }
     requires way { way ≤ length (R.waypoints rates.now) }
     ensures { IfOk result (λ place. place_shown place ≡
-        record { basis = basis.now; way = waypoint (basics_of basis.now) (R.waypoints rates.now) way }) }
+        record {
+          basis = basis.now;
+          way = waypoint (basics_of basis.now)
+              (R.waypoints rates.now) way;
+        }) }
 {
     let size = lp.number_of_variables() as usize;
     let mut marks = vec![in alloc; false; size].map_err(|_| NoMemory)?;

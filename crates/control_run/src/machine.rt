@@ -43,8 +43,10 @@ pub struct Machine {
 impl Machine {
     /// A machine at the start of a run, whose decks begin with the card of this number.
     pub fn new(alloc: Global, decks_from: u32) -> Machine
-        ensures start { (cards : List (List ℕ)) → Stands cards result 1 0 (start (decks_of (drop (decks_from - 1) (numbered_cards cards)))) }
-        ensures sound { (cards : List (List ℕ)) → 1 ≤ decks_from → decks_from ≤ length cards + 1 → IsSound cards result }
+        ensures start { (cards : List (List ℕ)) → Stands cards result 1 0
+            (start (decks_of (drop (decks_from - 1) (numbered_cards cards)))) }
+        ensures sound { (cards : List (List ℕ)) → 1 ≤ decks_from → decks_from ≤ length cards + 1 →
+            IsSound cards result }
     {
         Machine {
             cells: Cells::new(),

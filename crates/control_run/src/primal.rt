@@ -96,7 +96,8 @@ fn follow<P: Sink, R: Rates>(
     ensures tells { Tells (PathFinds (sheet_shown sheet.entry) basis.old basis.new limit
         (R.waypoints rates.old) (R.waypoints rates.new))
         P.written P.faults P.refusals print.old print.new result }
-    ensures rates { HasRates (R.matrix rates.new) (R.basics rates.new) sheet.entry.lp.now basis.new }
+    ensures rates { HasRates (R.matrix rates.new) (R.basics rates.new)
+        sheet.entry.lp.now basis.new }
 {
     match path_from(alloc, sheet, basis, rates, limit) {
         Ok(report) => print_verdict(sheet, &report, print),

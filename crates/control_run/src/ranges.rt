@@ -69,7 +69,8 @@ fn range_basis<P: Sink, R: Rates>(
     requires rates { HasRates (R.matrix rates.old) (R.basics rates.old) sheet.lp.now basis.now }
     ensures tells { Tells (RangesFound (sheet_shown sheet.entry) basis.now (R.waypoints rates.old))
         P.written P.faults P.refusals print.old print.new result }
-    ensures rates { HasRates (R.matrix rates.new) (R.basics rates.new) sheet.entry.lp.now basis.now }
+    ensures rates { HasRates (R.matrix rates.new) (R.basics rates.new)
+        sheet.entry.lp.now basis.now }
     ensures waypoints { KeepsWaypoints sheet.entry.lp.now.matrix (basics_of basis.now)
         (R.waypoints rates.old) (basics_of basis.now) (R.waypoints rates.new) }
 {

@@ -27,7 +27,8 @@ const MAX_EXECUTED: u32 = 100_000;
 fn first_behind(program: &Program, cards: &Cards) -> u32
     ensures first { 1 ≤ result }
     ensures last { result ≤ length cards.now + 1 }
-    ensures same { drop (result - 1) (numbered_cards cards.now) ≡ drop (program.now.decks_from - 1) (numbered_cards cards.now) }
+    ensures same { drop (result - 1) (numbered_cards cards.now) ≡ drop (program.now.decks_from - 1)
+        (numbered_cards cards.now) }
 {
     program.decks_from().max(1).min(cards.count() + 1)
 }
@@ -41,7 +42,8 @@ fn run<P: Sink, U: Sink>(
     punch: &mut U,
 ) -> Result<End, Halt>
     ensures { Runs stage program.now cards.now
-        P.written P.faults P.refusals print.old print.new U.written U.faults U.refusals punch.old punch.new
+        P.written P.faults P.refusals print.old print.new U.written U.faults U.refusals
+        punch.old punch.new
         result }
 {
     let mut machine = Machine::new(alloc, first_behind(program, cards));

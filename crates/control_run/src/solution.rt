@@ -70,9 +70,11 @@ fn show_basis<P: Sink, R: Rates>(
     requires sheet { IsSheet sheet }
     requires no_change { sheet.lp.now.change ≡ None }
     requires rates { HasRates (R.matrix rates.old) (R.basics rates.old) sheet.lp.now basis.now }
-    ensures tells { Tells (LinesFound (sheet_shown sheet.entry) basis.now (R.waypoints rates.old) mark)
+    ensures tells { Tells (LinesFound (sheet_shown sheet.entry) basis.now
+        (R.waypoints rates.old) mark)
         P.written P.faults P.refusals print.old print.new result }
-    ensures rates { HasRates (R.matrix rates.new) (R.basics rates.new) sheet.entry.lp.now basis.now }
+    ensures rates { HasRates (R.matrix rates.new) (R.basics rates.new)
+        sheet.entry.lp.now basis.now }
     ensures waypoints { KeepsWaypoints sheet.entry.lp.now.matrix (basics_of basis.now)
         (R.waypoints rates.old) (basics_of basis.now) (R.waypoints rates.new) }
 {

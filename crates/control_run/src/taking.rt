@@ -101,7 +101,8 @@ impl Machine {
     ) -> Result<Act, Halt>
         requires sound { IsSound cards.now self.old }
         requires described { Describes stage verb card cards.now self.old (Ok described) }
-        ensures acts { Executes stage (verb_of verb) card P.written P.faults P.refusals print.old print.new cards.now self.old self.new result }
+        ensures acts { Executes stage (verb_of verb) card P.written P.faults P.refusals print.old
+            print.new cards.now self.old self.new result }
         ensures sound { IsSound cards.now self.new }
     {
         match described {

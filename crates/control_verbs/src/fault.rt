@@ -117,7 +117,9 @@ pub fn head_fault(card: &[u8]) -> Option<ControlFaultKind>
 /// it, is for the caller to say.
 #[tactic(auto, unfolding(control_definitions::specs::Compiled::control_card_fault))]
 pub fn card_fault(card: &[u8], is_label_twice: bool, before: usize) -> Option<ControlFaultKind>
-    ensures { (cards : List Card) → (has_bad_label card.now ≡ false → is_label_twice ≡ has_label_twice cards card.now) → before ≡ length cards → result ≡ control_card_fault cards card.now }
+    ensures { (cards : List Card) →
+        (has_bad_label card.now ≡ false → is_label_twice ≡ has_label_twice cards card.now) → before
+        ≡ length cards → result ≡ control_card_fault cards card.now }
 {
     if has_bad_label(card) {
         Some(ControlFaultKind::BadLabel)

@@ -120,7 +120,8 @@ impl Chosen {
 // What the choices of a text choose, if none is made twice.
 #[tactic(auto, using(crate::proofs::Choices::one_more, crate::proofs::Choices::one_too_many, crate::proofs::Choices::no_more))]
 fn chosen_in(text: &[u8]) -> Option<Chosen>
-    ensures { result ≡ option_and_then (all_added nothing_chosen) (choices (split_outside is_comma text.now)) }
+    ensures { result ≡ option_and_then (all_added nothing_chosen)
+        (choices (split_outside is_comma text.now)) }
 {
     let mut chosen = Chosen {
         bound: None,

@@ -51,7 +51,8 @@ fn moved(cell: Cell, argument: &[u8]) -> Option<Verb<Name>>
 // TITLE with the arguments between its parentheses.
 #[tactic(auto, using(crate::proofs::Forms::of_title))]
 fn title_with(text: &[u8]) -> Option<Verb<Name>>
-    ensures verb { option_map shown result ≡ verbs.verb_with verbs.TakesTitle (TheParts (split_outside is_comma text.now)) }
+    ensures verb { option_map shown result ≡ verbs.verb_with verbs.TakesTitle
+        (TheParts (split_outside is_comma text.now)) }
     ensures lawful { IfSome result (λ verb. IsLawful (shown verb)) }
 {
     Some(Verb::Title(title_in(one_argument(text)?)?))
@@ -60,7 +61,8 @@ fn title_with(text: &[u8]) -> Option<Verb<Name>>
 // MOVE with the arguments between its parentheses.
 #[tactic(auto, using(crate::proofs::Forms::of_cell))]
 fn move_with(text: &[u8]) -> Option<Verb<Name>>
-    ensures verb { option_map shown result ≡ verbs.verb_with verbs.TakesCell (TheParts (split_outside is_comma text.now)) }
+    ensures verb { option_map shown result ≡ verbs.verb_with verbs.TakesCell
+        (TheParts (split_outside is_comma text.now)) }
     ensures lawful { IfSome result (λ verb. IsLawful (shown verb)) }
 {
     let (cell, argument) = two_arguments(text)?;
@@ -70,7 +72,8 @@ fn move_with(text: &[u8]) -> Option<Verb<Name>>
 // MVADR with the arguments between its parentheses.
 #[tactic(auto, using(crate::proofs::Forms::of_demand))]
 fn mvadr_with(text: &[u8]) -> Option<Verb<Name>>
-    ensures verb { option_map shown result ≡ verbs.verb_with verbs.TakesDemand (TheParts (split_outside is_comma text.now)) }
+    ensures verb { option_map shown result ≡ verbs.verb_with verbs.TakesDemand
+        (TheParts (split_outside is_comma text.now)) }
     ensures lawful { IfSome result (λ verb. IsLawful (shown verb)) }
 {
     let (demand, label) = two_arguments(text)?;
@@ -81,7 +84,8 @@ fn mvadr_with(text: &[u8]) -> Option<Verb<Name>>
 // GOTO with the arguments between its parentheses.
 #[tactic(auto, using(crate::proofs::Forms::of_label))]
 fn goto_with(text: &[u8]) -> Option<Verb<Name>>
-    ensures verb { option_map shown result ≡ verbs.verb_with verbs.TakesLabel (TheParts (split_outside is_comma text.now)) }
+    ensures verb { option_map shown result ≡ verbs.verb_with verbs.TakesLabel
+        (TheParts (split_outside is_comma text.now)) }
     ensures lawful { IfSome result (λ verb. IsLawful (shown verb)) }
 {
     Some(Verb::Goto(label_in(one_argument(text)?)?))
@@ -89,7 +93,8 @@ fn goto_with(text: &[u8]) -> Option<Verb<Name>>
 
 // SETUP with the arguments between its parentheses.
 fn setup_with(text: &[u8]) -> Option<Verb<Name>>
-    ensures verb { option_map shown result ≡ verbs.verb_with verbs.TakesOptions (TheParts (split_outside is_comma text.now)) }
+    ensures verb { option_map shown result ≡ verbs.verb_with verbs.TakesOptions
+        (TheParts (split_outside is_comma text.now)) }
     ensures lawful { IfSome result (λ verb. IsLawful (shown verb)) }
 {
     Some(Verb::Setup(options_in(text)?))
@@ -109,7 +114,8 @@ fn plain_setup() -> Verb<Name>
 
 // The verb of a word with the arguments between its parentheses.
 fn verb_with(word: VerbWord, text: &[u8]) -> Option<Verb<Name>>
-    ensures verb { option_map shown result ≡ verbs.verb_with (word_shown word) (TheParts (split_outside is_comma text.now)) }
+    ensures verb { option_map shown result ≡ verbs.verb_with (word_shown word)
+        (TheParts (split_outside is_comma text.now)) }
     ensures lawful { IfSome result (λ verb. IsLawful (shown verb)) }
 {
     match word {

@@ -39,7 +39,8 @@ fn has_blank_gaps(card: &[u8]) -> bool
 /// The six fields of a data card, or none where a column between them isn't blank. Nothing is copied.
 #[tactic(auto, unfolding(card_definitions::specs::Fields::reading_of))]
 pub fn fields(card: Card<'_>) -> Option<Fields<'_>>
-    ensures some { IfSome result (λ f. IsTrue (gaps_are_blank (card_bytes card.entry)) × ShowsFields f (reading_of Fixed (card_bytes card.entry))) }
+    ensures some { IfSome result (λ f. IsTrue (gaps_are_blank (card_bytes card.entry)) × ShowsFields
+        f (reading_of Fixed (card_bytes card.entry))) }
     ensures none { IfNone result (IsFalse (gaps_are_blank (card_bytes card.entry))) }
 {
     if has_blank_gaps(card.bytes()) {

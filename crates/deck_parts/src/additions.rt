@@ -15,8 +15,10 @@ pub fn add_new<V: Drop>(
     name: Name,
     value: V,
 ) -> Result<bool, CardStop>
-    ensures is_new { IfOk result (λ is_new. is_new ≡ not (is_some (lookup (same name) values.old.entries))) }
-    ensures added { IfOk result (λ is_new. is_new ≡ true → values.new.entries ≡ values.old.entries ++ (name, value) ∷ []) }
+    ensures is_new { IfOk result (λ is_new. is_new ≡ not (is_some
+        (lookup (same name) values.old.entries))) }
+    ensures added { IfOk result (λ is_new. is_new ≡ true → values.new.entries ≡ values.old.entries
+        ++ (name, value) ∷ []) }
     ensures stop { IfErr result (λ stop. stop ≡ CardStop.NoMemory) }
     ensures distinct { IsDistinct same (keys_of values.new.entries) }
 {

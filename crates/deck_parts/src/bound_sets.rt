@@ -43,7 +43,8 @@ fn has_value(kind: BoundKind) -> bool
 
 // The value on a card of BOUNDS, where its type takes one, or the fault of its value or of what stands after it.
 pub fn bound_value(kind: BoundKind, card: &DataCard<'_>) -> Result<Option<Decimal>, DeckFaultKind>
-    ensures value { IfOk result (λ v. v ≡ (if takes_value kind then Some (decimal_of card.now.value1.now) else None)) }
+    ensures value { IfOk result (λ v. v ≡ (if takes_value kind then Some
+        (decimal_of card.now.value1.now) else None)) }
     ensures no_fault { OnOk result (bound_end_fault (shown card.now) kind ≡ None) }
     ensures fault { IfErr result (λ fault. bound_end_fault (shown card.now) kind ≡ Some fault) }
 {
@@ -56,7 +57,8 @@ pub fn bound_value(kind: BoundKind, card: &DataCard<'_>) -> Result<Option<Decima
 
 // The value on a card of BOUNDS, where its type takes one.
 fn value_taken(kind: BoundKind, card: &DataCard<'_>) -> Result<Option<Decimal>, DeckFaultKind>
-    ensures value { IfOk result (λ v. v ≡ (if takes_value kind then Some (decimal_of card.now.value1.now) else None)) }
+    ensures value { IfOk result (λ v. v ≡ (if takes_value kind then Some
+        (decimal_of card.now.value1.now) else None)) }
     ensures no_fault { OnOk result (bound_value_fault (shown card.now) kind ≡ None) }
     ensures fault { IfErr result (λ fault. bound_value_fault (shown card.now) kind ≡ Some fault) }
 {
@@ -109,9 +111,14 @@ fn take_bound_into(
     kind: BoundKind,
     card: &DataCard<'_>,
 ) -> Result<(), CardStop>
-    ensures no_fault { OnOk result (bound_rest_fault (items_of card.now.name1 (map group_at sets.old.entries)) (shown card.now) kind ≡ None) }
-    ensures step { OnOk result (map group_at sets.new.entries ≡ in_set card.now.name1 (λ items. items ++ bound_of (shown card.now) kind ∷ []) (map group_at sets.old.entries)) }
-    ensures stop { IfErr result (Tells (bound_rest_fault (items_of card.now.name1 (map group_at sets.old.entries)) (shown card.now) kind)) }
+    ensures no_fault { OnOk result
+        (bound_rest_fault (items_of card.now.name1 (map group_at sets.old.entries)) (shown card.now)
+        kind ≡ None) }
+    ensures step { OnOk result (map group_at sets.new.entries ≡ in_set card.now.name1
+        (λ items. items ++ bound_of (shown card.now) kind ∷ []) (map group_at sets.old.entries)) }
+    ensures stop { IfErr result (Tells
+        (bound_rest_fault (items_of card.now.name1 (map group_at sets.old.entries))
+        (shown card.now) kind)) }
 {
     let items = sets.entry(card.name1)?.or_insert(Bounds::new(alloc));
     take_bound(items, place, kind, card)
@@ -124,7 +131,8 @@ fn numbered_sets(
     sets: &IndexMap<Name, Bounds>,
 ) -> Result<Vec<BoundSet>, NoMemory>
     requires { length columns.now ≤ MAX_COLUMNS }
-    ensures { IfOk result (λ numbered. numbered.items ≡ map (group_by (bound_by (column_number columns.now))) (map group_at sets.now.entries)) }
+    ensures { IfOk result (λ numbered. numbered.items ≡ map (group_by
+        (bound_by (column_number columns.now))) (map group_at sets.now.entries)) }
 {
     let mut numbered = Vec::new(alloc);
     for (name, bounds) in sets {
@@ -166,7 +174,8 @@ impl BoundSets {
     /// The sets with the numbers of their columns.
     pub fn numbered(&self, alloc: Global, columns: &Groups) -> Result<Vec<BoundSet>, NoMemory>
         requires { length columns.now ≤ MAX_COLUMNS }
-        ensures { IfOk result (λ sets. sets.items ≡ map (group_by (bound_by (column_number columns.now))) self.now) }
+        ensures { IfOk result (λ sets. sets.items ≡ map (group_by
+            (bound_by (column_number columns.now))) self.now) }
     {
         numbered_sets(alloc, columns, &self.sets)
     }
@@ -179,9 +188,12 @@ impl BoundSets {
         kind: BoundKind,
         card: &DataCard<'_>,
     ) -> Result<(), CardStop>
-        ensures no_fault { OnOk result (bound_rest_fault (items_of card.now.name1 self.old) (shown card.now) kind ≡ None) }
-        ensures step { OnOk result (self.new ≡ in_set card.now.name1 (λ items. items ++ bound_of (shown card.now) kind ∷ []) self.old) }
-        ensures stop { IfErr result (Tells (bound_rest_fault (items_of card.now.name1 self.old) (shown card.now) kind)) }
+        ensures no_fault { OnOk result (bound_rest_fault (items_of card.now.name1 self.old)
+            (shown card.now) kind ≡ None) }
+        ensures step { OnOk result (self.new ≡ in_set card.now.name1
+            (λ items. items ++ bound_of (shown card.now) kind ∷ []) self.old) }
+        ensures stop { IfErr result (Tells (bound_rest_fault (items_of card.now.name1 self.old)
+            (shown card.now) kind)) }
     {
         take_bound_into(alloc, &mut self.sets, place, kind, card)
     }
@@ -194,9 +206,11 @@ pub fn take_bound_card(
     sets: &mut BoundSets,
     card: &DataCard<'_>,
 ) -> Result<(), CardStop>
-    ensures no_fault { OnOk result (bounds_fault (bounds_alone columns.now sets.old) (shown card.now) ≡ None) }
+    ensures no_fault { OnOk result (bounds_fault (bounds_alone columns.now sets.old)
+        (shown card.now) ≡ None) }
     ensures step { OnOk result (sets.new ≡ with_group (bound_group (shown card.now)) sets.old) }
-    ensures stop { IfErr result (Tells (bounds_fault (bounds_alone columns.now sets.old) (shown card.now))) }
+    ensures stop { IfErr result (Tells (bounds_fault (bounds_alone columns.now sets.old)
+        (shown card.now))) }
 {
     let Some(kind) = bound_kind(card.kind) else {
         return Err(CardStop::Refused(DeckFaultKind::BadBoundType));

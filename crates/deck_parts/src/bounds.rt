@@ -103,7 +103,8 @@ fn either(first: bool, second: bool) -> bool
 
 // Marks a column whose end is touched, and tells whether it was marked already.
 fn mark(columns: &mut IndexSet<Name>, column: Name, touches: bool) -> Result<bool, CardStop>
-    ensures was_marked { IfOk result (λ was_marked. was_marked ≡ (touches && list_any (same column) columns.old.keys)) }
+    ensures was_marked { IfOk result (λ was_marked. was_marked ≡
+        (touches && list_any (same column) columns.old.keys)) }
     ensures marked { OnOk result (columns.new.keys ≡ marked touches column columns.old.keys) }
     ensures stop { IfErr result (λ stop. stop ≡ CardStop.NoMemory) }
 {
@@ -121,9 +122,13 @@ fn mark_ends(
     kind: BoundKind,
     column: Name,
 ) -> Result<bool, CardStop>
-    ensures was_marked { IfOk result (λ was_marked. was_marked ≡ (touches_upper kind && list_any (same column) uppers.old.keys || touches_lower kind && list_any (same column) lowers.old.keys)) }
-    ensures uppers { OnOk result (uppers.new.keys ≡ marked (touches_upper kind) column uppers.old.keys) }
-    ensures lowers { OnOk result (lowers.new.keys ≡ marked (touches_lower kind) column lowers.old.keys) }
+    ensures was_marked { IfOk result
+        (λ was_marked. was_marked ≡ (touches_upper kind && list_any (same column) uppers.old.keys ||
+        touches_lower kind && list_any (same column) lowers.old.keys)) }
+    ensures uppers { OnOk result (uppers.new.keys ≡ marked (touches_upper kind) column
+        uppers.old.keys) }
+    ensures lowers { OnOk result (lowers.new.keys ≡ marked (touches_lower kind) column
+        lowers.old.keys) }
     ensures stop { IfErr result (λ stop. stop ≡ CardStop.NoMemory) }
 {
     let upper = mark(uppers, column, touches_top(kind))?;
@@ -138,11 +143,17 @@ fn add_to(
     lowers: &mut IndexSet<Name>,
     bound: NamedBound,
 ) -> Result<(), CardStop>
-    ensures is_new { OnOk result ((touches_upper bound.kind && list_any (same bound.column) uppers.old.keys || touches_lower bound.kind && list_any (same bound.column) lowers.old.keys) ≡ false) }
+    ensures is_new { OnOk result ((touches_upper bound.kind && list_any (same bound.column)
+        uppers.old.keys || touches_lower bound.kind && list_any (same bound.column)
+        lowers.old.keys) ≡ false) }
     ensures items { OnOk result (items.new.items ≡ items.old.items ++ bound ∷ []) }
-    ensures uppers { OnOk result (uppers.new.keys ≡ marked (touches_upper bound.kind) bound.column uppers.old.keys) }
-    ensures lowers { OnOk result (lowers.new.keys ≡ marked (touches_lower bound.kind) bound.column lowers.old.keys) }
-    ensures stop { IfErr result (Tells ((touches_upper bound.kind && list_any (same bound.column) uppers.old.keys || touches_lower bound.kind && list_any (same bound.column) lowers.old.keys) ⟹ DeckFaultKind.BoundTwice)) }
+    ensures uppers { OnOk result (uppers.new.keys ≡ marked (touches_upper bound.kind) bound.column
+        uppers.old.keys) }
+    ensures lowers { OnOk result (lowers.new.keys ≡ marked (touches_lower bound.kind) bound.column
+        lowers.old.keys) }
+    ensures stop { IfErr result (Tells
+        ((touches_upper bound.kind && list_any (same bound.column) uppers.old.keys || touches_lower
+        bound.kind && list_any (same bound.column) lowers.old.keys) ⟹ DeckFaultKind.BoundTwice)) }
 {
     if mark_ends(uppers, lowers, bound.kind, bound.column)? {
         return Err(CardStop::Refused(DeckFaultKind::BoundTwice));
@@ -158,7 +169,8 @@ fn numbered_bounds(
     bounds: &[NamedBound],
 ) -> Result<Vec<BoundItem>, NoMemory>
     requires { length columns.now ≤ MAX_COLUMNS }
-    ensures { IfOk result (λ items. items.items ≡ map (bound_by (column_number columns.now)) bounds.now) }
+    ensures { IfOk result (λ items. items.items ≡ map (bound_by (column_number columns.now))
+        bounds.now) }
 {
     let mut items = Vec::new(alloc);
     for bound in bounds {
@@ -196,7 +208,8 @@ impl Bounds {
     /// The bounds with the numbers of their columns.
     pub fn numbered(&self, alloc: Global, columns: &Groups) -> Result<Vec<BoundItem>, NoMemory>
         requires { length columns.now ≤ MAX_COLUMNS }
-        ensures { IfOk result (λ items. items.items ≡ map (bound_by (column_number columns.now)) self.now) }
+        ensures { IfOk result (λ items. items.items ≡ map (bound_by
+            (column_number columns.now)) self.now) }
     {
         numbered_bounds(alloc, columns, &self.items)
     }
@@ -205,7 +218,8 @@ impl Bounds {
     pub fn add(&mut self, bound: NamedBound) -> Result<(), CardStop>
         ensures is_new { OnOk result (is_bound_already self.old bound.column bound.kind ≡ false) }
         ensures added { OnOk result (self.new ≡ self.old ++ bound ∷ []) }
-        ensures stop { IfErr result (Tells (is_bound_already self.old bound.column bound.kind ⟹ DeckFaultKind.BoundTwice)) }
+        ensures stop { IfErr result (Tells (is_bound_already self.old bound.column bound.kind ⟹
+            DeckFaultKind.BoundTwice)) }
     {
         match add_to(&mut self.items, &mut self.uppers, &mut self.lowers, bound) {
             Ok(()) => Ok(()),

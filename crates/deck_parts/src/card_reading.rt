@@ -47,7 +47,12 @@ pub fn read_data_card<'a>(card: Card<'a>) -> Result<DataCard<'a>, DeckFaultKind>
 
 // The pair in fields 3 and 4.
 pub fn first_pair<'a>(card: &DataCard<'a>) -> PairText<'a>
-    ensures { pair_shown result ≡ record { row = (shown card.now).name2; value = (shown card.now).value1; column = 25 } }
+    ensures { pair_shown result ≡ record {
+      row = (shown card.now).name2;
+      value =
+          (shown card.now).value1;
+      column = 25;
+    } }
 {
     PairText {
         row: card.name2,
@@ -58,8 +63,11 @@ pub fn first_pair<'a>(card: &DataCard<'a>) -> PairText<'a>
 
 // The pair in fields 5 and 6, where one of these isn't blank.
 pub fn second_pair<'a>(card: &DataCard<'a>) -> Option<PairText<'a>>
-    ensures some { IfSome result (λ second. pairs_of (shown card.now) ≡ record { row = (shown card.now).name2; value = (shown card.now).value1; column = 25 } ∷ pair_shown second ∷ []) }
-    ensures none { IfNone result (pairs_of (shown card.now) ≡ record { row = (shown card.now).name2; value = (shown card.now).value1; column = 25 } ∷ []) }
+    ensures some { IfSome result (λ second. pairs_of (shown card.now) ≡ record
+        { row = (shown card.now).name2; value = (shown card.now).value1; column = 25 } ∷ pair_shown
+        second ∷ []) }
+    ensures none { IfNone result (pairs_of (shown card.now) ≡ record
+        { row = (shown card.now).name2; value = (shown card.now).value1; column = 25 } ∷ []) }
 {
     if is_blank(card.name3.bytes()) && is_blank(card.value2) {
         return None;

@@ -55,7 +55,8 @@ impl Entries {
     /// The numbers on the numbers of their rows.
     pub fn numbered(&self, alloc: Global, rows: &Rows) -> Result<Vec<DeckEntry>, NoMemory>
         requires { length rows.now ≤ MAX_ROWS }
-        ensures { IfOk result (λ entries. entries.items ≡ map (entry_by (row_number rows.now)) self.now) }
+        ensures { IfOk result (λ entries. entries.items ≡ map
+            (entry_by (row_number rows.now)) self.now) }
     {
         numbered_entries(alloc, rows, &self.values)
     }
@@ -63,8 +64,10 @@ impl Entries {
     /// Adds a number on a row, or refuses a row that has one.
     pub fn add(&mut self, row: Name, number: OnRow) -> Result<(), CardStop>
         ensures is_new { OnOk result (has_entry self.old row ≡ false) }
-        ensures added { OnOk result (self.new ≡ self.old ++ record { row = row; value = number.value } ∷ []) }
-        ensures stop { IfErr result (Tells (has_entry self.old row ⟹ DeckFaultKind.DuplicateEntry)) }
+        ensures added { OnOk result (self.new ≡ self.old ++ record
+            { row = row; value = number.value } ∷ []) }
+        ensures stop { IfErr result (Tells (has_entry self.old row ⟹
+            DeckFaultKind.DuplicateEntry)) }
     {
         let is_new = add_new(&mut self.values, row, number)?;
         if !is_new {
@@ -81,7 +84,8 @@ fn numbered_entries(
     values: &IndexMap<Name, OnRow>,
 ) -> Result<Vec<DeckEntry>, NoMemory>
     requires { length rows.now ≤ MAX_ROWS }
-    ensures { IfOk result (λ entries. entries.items ≡ map (entry_by (row_number rows.now)) (map entry_at values.now.entries)) }
+    ensures { IfOk result (λ entries. entries.items ≡ map (entry_by (row_number rows.now))
+        (map entry_at values.now.entries)) }
 {
     let mut entries = Vec::new(alloc);
     for (row, number) in values {

@@ -30,7 +30,9 @@ use std::marker::Model;
 // The fault of a card's column, where its name has this place among so many columns, or this many where it isn't among them.
 fn place_fault(place: usize, count: usize) -> Option<DeckFaultKind>
     requires { place ≤ count }
-    ensures { result ≡ first_fault ((nat_lt (place + 1) count ⟹ DeckFaultKind.ColumnSplit) ∷ (nat_eq place count && nat_le MAX_COLUMNS count ⟹ DeckFaultKind.TooManyColumns) ∷ []) }
+    ensures { result ≡ first_fault
+        ((nat_lt (place + 1) count ⟹ DeckFaultKind.ColumnSplit) ∷
+        (nat_eq place count && nat_le MAX_COLUMNS count ⟹ DeckFaultKind.TooManyColumns) ∷ []) }
 {
     if 1 < count - place {
         Some(DeckFaultKind::ColumnSplit)
@@ -51,9 +53,14 @@ fn take_into(
     card: &DataCard<'_>,
 ) -> Result<(), CardStop>
     requires { count ≤ 100000 }
-    ensures no_fault { OnOk result (pairs_fault (rows_alone rows.now) section (items_of card.now.name1 (map group_at groups.old.entries)) count (pairs_of (shown card.now)) ≡ None) }
-    ensures step { OnOk result (map group_at groups.new.entries ≡ in_set card.now.name1 (λ items. items ++ entries_of (shown card.now)) (map group_at groups.old.entries)) }
-    ensures stop { IfErr result (Tells (pairs_fault (rows_alone rows.now) section (items_of card.now.name1 (map group_at groups.old.entries)) count (pairs_of (shown card.now)))) }
+    ensures no_fault { OnOk result
+        (pairs_fault (rows_alone rows.now) section (items_of card.now.name1
+        (map group_at groups.old.entries)) count (pairs_of (shown card.now)) ≡ None) }
+    ensures step { OnOk result (map group_at groups.new.entries ≡ in_set card.now.name1
+        (λ items. items ++ entries_of (shown card.now)) (map group_at groups.old.entries)) }
+    ensures stop { IfErr result (Tells
+        (pairs_fault (rows_alone rows.now) section (items_of card.now.name1
+        (map group_at groups.old.entries)) count (pairs_of (shown card.now)))) }
 {
     let items = groups.entry(card.name1)?.or_insert(Entries::new(alloc));
     take_pairs(rows, section, items, count, card)
@@ -68,9 +75,16 @@ fn take_column_into(
     card: &DataCard<'_>,
 ) -> Result<(), CardStop>
     requires { count ≤ 100000 }
-    ensures no_fault { OnOk result (column_fault (map group_at columns.old.entries) card.now.name1 (pairs_fault (rows_alone rows.now) Columns (items_of card.now.name1 (map group_at columns.old.entries)) count (pairs_of (shown card.now))) ≡ None) }
-    ensures step { OnOk result (map group_at columns.new.entries ≡ in_set card.now.name1 (λ items. items ++ entries_of (shown card.now)) (map group_at columns.old.entries)) }
-    ensures stop { IfErr result (Tells (column_fault (map group_at columns.old.entries) card.now.name1 (pairs_fault (rows_alone rows.now) Columns (items_of card.now.name1 (map group_at columns.old.entries)) count (pairs_of (shown card.now))))) }
+    ensures no_fault { OnOk result
+        (column_fault (map group_at columns.old.entries) card.now.name1
+        (pairs_fault (rows_alone rows.now) Columns (items_of card.now.name1
+        (map group_at columns.old.entries)) count (pairs_of (shown card.now))) ≡ None) }
+    ensures step { OnOk result (map group_at columns.new.entries ≡ in_set card.now.name1
+        (λ items. items ++ entries_of (shown card.now)) (map group_at columns.old.entries)) }
+    ensures stop { IfErr result (Tells
+        (column_fault (map group_at columns.old.entries) card.now.name1
+        (pairs_fault (rows_alone rows.now) Columns (items_of card.now.name1
+        (map group_at columns.old.entries)) count (pairs_of (shown card.now))))) }
 {
     let before = columns.len();
     let entry = columns.entry(card.name1)?;
@@ -89,7 +103,8 @@ fn column_decls(
     groups: &IndexMap<Name, Entries>,
 ) -> Result<Vec<ColumnDecl>, NoMemory>
     requires { length rows.now ≤ MAX_ROWS }
-    ensures { IfOk result (λ columns. columns.items ≡ map (group_by (entry_by (row_number rows.now))) (map group_at groups.now.entries)) }
+    ensures { IfOk result (λ columns. columns.items ≡ map (group_by
+        (entry_by (row_number rows.now))) (map group_at groups.now.entries)) }
 {
     let mut columns = Vec::new(alloc);
     for (name, entries) in groups {
@@ -109,7 +124,8 @@ fn value_sets(
     groups: &IndexMap<Name, Entries>,
 ) -> Result<Vec<ValueSet>, NoMemory>
     requires { length rows.now ≤ MAX_ROWS }
-    ensures { IfOk result (λ sets. sets.items ≡ map (group_by (entry_by (row_number rows.now))) (map group_at groups.now.entries)) }
+    ensures { IfOk result (λ sets. sets.items ≡ map (group_by (entry_by (row_number rows.now)))
+        (map group_at groups.now.entries)) }
 {
     let mut sets = Vec::new(alloc);
     for (name, entries) in groups {
@@ -176,7 +192,8 @@ impl Groups {
     /// The groups as columns with the numbers of their rows.
     pub fn columns(&self, alloc: Global, rows: &Rows) -> Result<Vec<ColumnDecl>, NoMemory>
         requires { length rows.now ≤ MAX_ROWS }
-        ensures { IfOk result (λ columns. columns.items ≡ map (group_by (entry_by (row_number rows.now))) self.now) }
+        ensures { IfOk result (λ columns. columns.items ≡ map
+            (group_by (entry_by (row_number rows.now))) self.now) }
     {
         column_decls(alloc, rows, &self.groups)
     }
@@ -184,7 +201,8 @@ impl Groups {
     /// The groups as sets with the numbers of their rows.
     pub fn sets(&self, alloc: Global, rows: &Rows) -> Result<Vec<ValueSet>, NoMemory>
         requires { length rows.now ≤ MAX_ROWS }
-        ensures { IfOk result (λ sets. sets.items ≡ map (group_by (entry_by (row_number rows.now))) self.now) }
+        ensures { IfOk result (λ sets. sets.items ≡ map (group_by
+            (entry_by (row_number rows.now))) self.now) }
     {
         value_sets(alloc, rows, &self.groups)
     }
@@ -199,9 +217,13 @@ impl Groups {
         card: &DataCard<'_>,
     ) -> Result<(), CardStop>
         requires { count ≤ 100000 }
-        ensures no_fault { OnOk result (pairs_fault (rows_alone rows.now) section (items_of card.now.name1 self.old) count (pairs_of (shown card.now)) ≡ None) }
-        ensures step { OnOk result (self.new ≡ in_set card.now.name1 (λ items. items ++ entries_of (shown card.now)) self.old) }
-        ensures stop { IfErr result (Tells (pairs_fault (rows_alone rows.now) section (items_of card.now.name1 self.old) count (pairs_of (shown card.now)))) }
+        ensures no_fault { OnOk result
+            (pairs_fault (rows_alone rows.now) section (items_of card.now.name1 self.old) count
+            (pairs_of (shown card.now)) ≡ None) }
+        ensures step { OnOk result (self.new ≡ in_set card.now.name1
+            (λ items. items ++ entries_of (shown card.now)) self.old) }
+        ensures stop { IfErr result (Tells (pairs_fault (rows_alone rows.now) section
+            (items_of card.now.name1 self.old) count (pairs_of (shown card.now)))) }
     {
         take_into(alloc, rows, section, &mut self.groups, count, card)
     }
@@ -215,9 +237,16 @@ impl Groups {
         card: &DataCard<'_>,
     ) -> Result<(), CardStop>
         requires { count ≤ 100000 }
-        ensures no_fault { OnOk result (column_fault self.old card.now.name1 (pairs_fault (rows_alone rows.now) Columns (items_of card.now.name1 self.old) count (pairs_of (shown card.now))) ≡ None) }
-        ensures step { OnOk result (self.new ≡ in_set card.now.name1 (λ items. items ++ entries_of (shown card.now)) self.old) }
-        ensures stop { IfErr result (Tells (column_fault self.old card.now.name1 (pairs_fault (rows_alone rows.now) Columns (items_of card.now.name1 self.old) count (pairs_of (shown card.now))))) }
+        ensures no_fault { OnOk result
+            (column_fault self.old card.now.name1
+            (pairs_fault (rows_alone rows.now) Columns (items_of card.now.name1 self.old) count
+            (pairs_of (shown card.now))) ≡ None) }
+        ensures step { OnOk result (self.new ≡ in_set card.now.name1
+            (λ items. items ++ entries_of (shown card.now)) self.old) }
+        ensures stop { IfErr result (Tells
+            (column_fault self.old card.now.name1
+            (pairs_fault (rows_alone rows.now) Columns (items_of card.now.name1 self.old) count
+            (pairs_of (shown card.now))))) }
     {
         take_column_into(alloc, rows, &mut self.groups, count, card)
     }

@@ -24,7 +24,8 @@ use problem_definitions::MAX_ENTRIES;
 // The row in a pair, or its fault.
 fn row_of(rows: &Rows, section: Section, row: &Name) -> Result<FoundRow, DeckFaultKind>
     ensures no_fault { OnOk result (pair_row_fault (rows_alone rows.now) section row.now ≡ None) }
-    ensures fault { IfErr result (λ kind. pair_row_fault (rows_alone rows.now) section row.now ≡ Some kind) }
+    ensures fault { IfErr result (λ kind. pair_row_fault (rows_alone rows.now) section row.now
+        ≡ Some kind) }
 {
     if is_blank(row.bytes()) {
         return Err(DeckFaultKind::EmptyName);
@@ -74,7 +75,8 @@ pub fn number_in(column: u8, field: &[u8]) -> Result<Decimal, DeckFaultKind>
 fn value_of(section: Section, count: u32, pair: &PairText<'_>) -> Result<Decimal, DeckFaultKind>
     ensures value { IfOk result (λ v. v ≡ decimal_of pair.now.value.now) }
     ensures no_fault { OnOk result (pair_value_fault section count (pair_shown pair.now) ≡ None) }
-    ensures fault { IfErr result (λ kind. pair_value_fault section count (pair_shown pair.now) ≡ Some kind) }
+    ensures fault { IfErr result (λ kind. pair_value_fault section count (pair_shown pair.now)
+        ≡ Some kind) }
 {
     let value = number_in(pair.column, pair.value)?;
     if is_columns(section) && MAX_ENTRIES <= count as usize {
@@ -91,9 +93,11 @@ pub fn take_pair(
     count: u32,
     pair: &PairText<'_>,
 ) -> Result<(), CardStop>
-    ensures no_fault { OnOk result (pair_fault (rows_alone rows.now) section items.old count (pair_shown pair.now) ≡ None) }
+    ensures no_fault { OnOk result (pair_fault (rows_alone rows.now) section items.old count
+        (pair_shown pair.now) ≡ None) }
     ensures step { OnOk result (items.new ≡ items.old ++ entry_of (pair_shown pair.now) ∷ []) }
-    ensures stop { IfErr result (Tells (pair_fault (rows_alone rows.now) section items.old count (pair_shown pair.now))) }
+    ensures stop { IfErr result (Tells (pair_fault (rows_alone rows.now) section items.old count
+        (pair_shown pair.now))) }
 {
     let found = row_of(rows, section, &pair.row)?;
     match value_of(section, count, pair) {
@@ -118,9 +122,11 @@ pub fn take_pairs(
     card: &DataCard<'_>,
 ) -> Result<(), CardStop>
     requires { count ≤ 100000 }
-    ensures no_fault { OnOk result (pairs_fault (rows_alone rows.now) section items.old count (pairs_of (shown card.now)) ≡ None) }
+    ensures no_fault { OnOk result (pairs_fault (rows_alone rows.now) section items.old count
+        (pairs_of (shown card.now)) ≡ None) }
     ensures step { OnOk result (items.new ≡ items.old ++ entries_of (shown card.now)) }
-    ensures stop { IfErr result (Tells (pairs_fault (rows_alone rows.now) section items.old count (pairs_of (shown card.now)))) }
+    ensures stop { IfErr result (Tells (pairs_fault (rows_alone rows.now) section items.old count
+        (pairs_of (shown card.now)))) }
 {
     take_pair(rows, section, items, count, &first_pair(card))?;
     match second_pair(card) {

@@ -72,7 +72,8 @@ impl Rows {
     /// The row of this name.
     pub fn find(&self, name: &Name) -> Option<FoundRow>
         ensures found { is_some result ≡ has_row self.now name.now }
-        ensures free { IfSome result (λ row. has_free_row self.now name.now ≡ is_free_kind row.kind) }
+        ensures free { IfSome result (λ row. has_free_row self.now name.now ≡
+            is_free_kind row.kind) }
     {
         match self.kinds.get_full(name) {
             Some((place, _, kind)) => Some(FoundRow { place, kind: *kind }),
@@ -99,7 +100,8 @@ impl Rows {
     /// Adds a row at the end, or refuses a name that a row has.
     pub fn add(&mut self, kind: RowKind, name: Name) -> Result<(), CardStop>
         ensures is_new { OnOk result (has_row self.old name ≡ false) }
-        ensures added { OnOk result (self.new ≡ self.old ++ record { kind = kind; name = name } ∷ []) }
+        ensures added { OnOk result (self.new ≡ self.old ++ record
+            { kind = kind; name = name } ∷ []) }
         ensures stop { IfErr result (Tells (has_row self.old name ⟹ DeckFaultKind.DuplicateRow)) }
     {
         let is_new = add_new(&mut self.kinds, name, kind)?;

@@ -41,7 +41,8 @@ pub fn row_kind_of(card: &DataCard<'_>) -> Result<RowKind, DeckFaultKind>
 
 // The fault of a card of ROWS with a new name, after so many rows.
 pub fn new_row_fault(count: usize, card: &DataCard<'_>) -> Option<DeckFaultKind>
-    ensures { result ≡ first_fault ((nat_le MAX_ROWS count ⟹ DeckFaultKind.TooManyRows) ∷ filled_from_3 (shown card.now) ∷ []) }
+    ensures { result ≡ first_fault ((nat_le MAX_ROWS count ⟹ DeckFaultKind.TooManyRows) ∷
+        filled_from_3 (shown card.now) ∷ []) }
 {
     if MAX_ROWS <= count {
         Some(DeckFaultKind::TooManyRows)
@@ -54,7 +55,8 @@ pub fn new_row_fault(count: usize, card: &DataCard<'_>) -> Option<DeckFaultKind>
 
 // Whether one of the fields 3 to 6 isn't blank.
 pub fn has_more(card: &DataCard<'_>) -> bool
-    ensures { result ≡ not (is_empty (card.now.name2 ++ card.now.value1.now ++ card.now.name3 ++ card.now.value2.now)) }
+    ensures { result ≡ not (is_empty (card.now.name2 ++ card.now.value1.now ++ card.now.name3 ++
+        card.now.value2.now)) }
 {
     !(is_blank(card.name2.bytes())
         && is_blank(card.value1)
@@ -96,9 +98,12 @@ pub fn take_column_card(
 ) -> Result<(), CardStop>
     requires few { count ≤ 100000 }
     requires counted { count ≡ entry_count (columns_alone rows.now columns.old) }
-    ensures no_fault { OnOk result (columns_fault (columns_alone rows.now columns.old) (shown card.now) ≡ None) }
-    ensures step { OnOk result (columns.new ≡ in_set card.now.name1 (λ items. items ++ entries_of (shown card.now)) columns.old) }
-    ensures stop { IfErr result (Tells (columns_fault (columns_alone rows.now columns.old) (shown card.now))) }
+    ensures no_fault { OnOk result (columns_fault (columns_alone rows.now columns.old)
+        (shown card.now) ≡ None) }
+    ensures step { OnOk result (columns.new ≡ in_set card.now.name1
+        (λ items. items ++ entries_of (shown card.now)) columns.old) }
+    ensures stop { IfErr result (Tells (columns_fault (columns_alone rows.now columns.old)
+        (shown card.now))) }
 {
     if !is_blank(card.kind) {
         return Err(CardStop::Refused(DeckFaultKind::ExtraField));
@@ -120,9 +125,12 @@ pub fn take_set_card(
     sets: &mut Groups,
     card: &DataCard<'_>,
 ) -> Result<(), CardStop>
-    ensures no_fault { OnOk result (set_fault (rows_alone rows.now) section sets.old (shown card.now) ≡ None) }
-    ensures step { OnOk result (sets.new ≡ in_set card.now.name1 (λ items. items ++ entries_of (shown card.now)) sets.old) }
-    ensures stop { IfErr result (Tells (set_fault (rows_alone rows.now) section sets.old (shown card.now))) }
+    ensures no_fault { OnOk result (set_fault (rows_alone rows.now) section sets.old
+        (shown card.now) ≡ None) }
+    ensures step { OnOk result (sets.new ≡ in_set card.now.name1
+        (λ items. items ++ entries_of (shown card.now)) sets.old) }
+    ensures stop { IfErr result (Tells (set_fault (rows_alone rows.now) section sets.old
+        (shown card.now))) }
 {
     if !is_blank(card.kind) {
         return Err(CardStop::Refused(DeckFaultKind::ExtraField));

@@ -37,7 +37,8 @@ impl ByColumns {
     pub fn new(alloc: Global, lp: &Lp) -> Result<ByColumns, NoMemory>
         ensures matrix { IfOk result (λ rates. rates.matrix ≡ lp.now.matrix) }
         ensures basics { IfOk result (λ rates. rates.basics ≡ row_basics lp.now.matrix) }
-        ensures ways { IfOk result (λ rates. All (λ w. w ≡ row_basics lp.now.matrix) (ways_of rates)) }
+        ensures ways { IfOk result (λ rates. All (λ w. w ≡ row_basics lp.now.matrix)
+            (ways_of rates)) }
     {
         let size = lp.number_of_variables();
         Ok(ByColumns {
@@ -82,7 +83,8 @@ pub fn row_by_columns(
     requires places { length out.old ≡ size file.now.matrix }
     requires room { length room.old ≡ size file.now.matrix }
     ensures rates { OnOk result (IsRowOf file.now.matrix file.now.basics i (value_at out.new)) }
-    ensures overflow { RowOverflow result file.now.matrix file.now.basics (ways_of file.now) (ways_of file.now) }
+    ensures overflow { RowOverflow result file.now.matrix file.now.basics (ways_of file.now)
+        (ways_of file.now) }
     ensures never { IfErr result (λ stop. stop ≢ Stop.NoMemory) }
 {
     for k in 0..file.size() {
@@ -102,11 +104,14 @@ impl Rates for ByColumns {
     fn column(&mut self, j: u32, out: &mut [Frac]) -> Result<(), Stop>
         requires nonbasic { IsNonbasic self.old.matrix self.old.basics j }
         requires places { length out.old ≡ size self.old.matrix }
-        ensures direction { OnOk result (IsDirectionOf self.old.matrix self.old.basics j (value_at out.new)) }
-        ensures overflow { ColumnOverflow result self.old.matrix self.old.basics (ways_of self.old) (ways_of self.old) }
+        ensures direction { OnOk result (IsDirectionOf self.old.matrix self.old.basics j
+            (value_at out.new)) }
+        ensures overflow { ColumnOverflow result self.old.matrix self.old.basics (ways_of self.old)
+            (ways_of self.old) }
         ensures never { IfErr result (λ stop. stop ≢ Stop.NoMemory) }
         ensures same { self.new ≡ self.old }
-        ensures waypoints { KeepsWaypoints self.old.matrix self.old.basics (ways_of self.old) self.new.basics (ways_of self.new) }
+        ensures waypoints { KeepsWaypoints self.old.matrix self.old.basics (ways_of self.old)
+            self.new.basics (ways_of self.new) }
     {
         self.file.column(j, out)
     }
@@ -116,9 +121,11 @@ impl Rates for ByColumns {
         requires basic { IsBasic self.old.matrix self.old.basics i }
         requires places { length out.old ≡ size self.old.matrix }
         ensures rates { OnOk result (IsRowOf self.old.matrix self.old.basics i (value_at out.new)) }
-        ensures overflow { RowOverflow result self.old.matrix self.old.basics (ways_of self.old) (ways_of self.old) }
+        ensures overflow { RowOverflow result self.old.matrix self.old.basics (ways_of self.old)
+            (ways_of self.old) }
         ensures same { self.new ≡ self.old }
-        ensures waypoints { KeepsWaypoints self.old.matrix self.old.basics (ways_of self.old) self.new.basics (ways_of self.new) }
+        ensures waypoints { KeepsWaypoints self.old.matrix self.old.basics (ways_of self.old)
+            self.new.basics (ways_of self.new) }
     {
         row_by_columns(&self.file, i, out, &mut self.room)
     }
@@ -132,8 +139,10 @@ impl Rates for ByColumns {
         ensures err { OnErr result (self.new ≡ self.old) }
         ensures ok { OnOk result (self.new.basics ≡ exchanged self.old.basics p q) }
         ensures same_matrix { self.new.matrix ≡ self.old.matrix }
-        ensures waypoints { KeepsWaypoints self.old.matrix self.old.basics (ways_of self.old) self.new.basics (ways_of self.new) }
-        ensures overflow { ExchangeOverflow result self.old.matrix self.old.basics p q (ways_of self.old) (ways_of self.new) }
+        ensures waypoints { KeepsWaypoints self.old.matrix self.old.basics (ways_of self.old)
+            self.new.basics (ways_of self.new) }
+        ensures overflow { ExchangeOverflow result self.old.matrix self.old.basics p q
+            (ways_of self.old) (ways_of self.new) }
     {
         let _size = self.file.size();
         self.file.append_in(p, q, &mut self.room)

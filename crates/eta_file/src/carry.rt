@@ -84,7 +84,8 @@ impl Crossing {
         steps: &mut Steps<L>,
     ) -> Result<Frac, Evidence>
         ensures value { IfOk result (λ multiple. multiple ≡ reciprocal *ℚ rate) }
-        ensures refused { IfErr result (IsRefusal self.way 5 self.p self.q i 0 Op.Mul reciprocal rate) }
+        ensures refused { IfErr result (IsRefusal self.way 5 self.p self.q i 0 Op.Mul
+            reciprocal rate) }
         ensures cost { steps.new ≡ steps.old + 1 }
     {
         steps.tick();
@@ -96,7 +97,8 @@ impl Crossing {
     /// The quotient times the rate of `i` at the enterer.
     fn product(self, i: u32, j: u32, quotient: Frac, factor: Frac) -> Result<Frac, Evidence>
         ensures value { IfOk result (λ product. product ≡ quotient *ℚ factor) }
-        ensures refused { IfErr result (IsRefusal self.way 2 self.p self.q i j Op.Mul quotient factor) }
+        ensures refused { IfErr result (IsRefusal self.way 2 self.p self.q i j Op.Mul
+            quotient factor) }
     {
         quotient
             .mul(factor)
@@ -106,7 +108,8 @@ impl Crossing {
     /// The rate of `i` at `j` less such a product.
     fn difference(self, i: u32, j: u32, rate: Frac, product: Frac) -> Result<Frac, Evidence>
         ensures value { IfOk result (λ difference. difference ≡ rate -ℚ product) }
-        ensures refused { IfErr result (IsRefusal self.way 3 self.p self.q i j Op.Sub rate product) }
+        ensures refused { IfErr result (IsRefusal self.way 3 self.p self.q i j Op.Sub
+            rate product) }
     {
         rate.sub(product)
             .map_err(|refused| self.evidence(3, i, j, refused))
@@ -124,7 +127,8 @@ impl Crossing {
         steps: &mut Steps<L>,
     ) -> Result<Frac, Evidence>
         ensures value { IfOk result (λ rest. rest ≡ rate -ℚ quotient *ℚ factor) }
-        ensures refused { IfErr result (IsRestRefused self.way self.p self.q i j rate quotient factor) }
+        ensures refused { IfErr result (IsRestRefused self.way self.p self.q i j rate
+            quotient factor) }
         ensures cost { steps.new ≡ steps.old + 2 }
     {
         steps.tick();
@@ -148,7 +152,8 @@ impl Crossing {
         factor: Frac,
     ) -> Result<Frac, Evidence>
         ensures value { IfOk result (λ rest. rest ≡ rate -ℚ quotient *ℚ factor) }
-        ensures refused { IfErr result (IsRestRefused self.way self.p self.q i j rate quotient factor) }
+        ensures refused { IfErr result (IsRestRefused self.way self.p self.q i j rate
+            quotient factor) }
     {
         let product = self.product(i, j, quotient, factor)?;
         self.difference(i, j, rate, product)
@@ -164,8 +169,10 @@ impl Crossing {
         steps: &mut Steps<L>,
     ) -> Result<(), Evidence>
         requires { All (IsEntryWithin (length out.old)) entries.now }
-        ensures subtracted { OnOk result (IsSubtracted self.p quotient entries.now out.old out.new) }
-        ensures refused { IfErr result (SubtractRefused self.way self.p self.q j quotient entries.now out.old) }
+        ensures subtracted { OnOk result (IsSubtracted self.p quotient entries.now
+            out.old out.new) }
+        ensures refused { IfErr result (SubtractRefused self.way self.p self.q j quotient
+            entries.now out.old) }
         ensures cost { steps.new ≤ steps.old + 2 * others self.p entries.now }
     {
         for entry in entries {
@@ -189,7 +196,8 @@ impl Crossing {
         requires apart { AreApart entries.now }
         requires zero { (k : ℕ) → slice_index_or out.old k zero_ℚ ≡ zero_ℚ }
         ensures scaled { OnOk result (IsScaled self.p reciprocal entries.now out.new) }
-        ensures refused { IfErr result (ScaleRefused self.way self.p self.q reciprocal entries.now) }
+        ensures refused { IfErr result (ScaleRefused self.way self.p self.q reciprocal
+            entries.now) }
         ensures cost { steps.new ≤ steps.old + others self.p entries.now }
     {
         for entry in entries {

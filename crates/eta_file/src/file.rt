@@ -72,7 +72,8 @@ fn has_entry(mark: bool, rate: Frac) -> bool
 fn entries_at(alloc: Global, direction: &[Frac], marks: &[bool]) -> Result<Vec<EtaEntry>, NoMemory>
     requires places { length direction.now ≡ length marks.now }
     requires small { length marks.now < 4294967296 }
-    ensures { IfOk result (λ entries. entries.items ≡ entries_to marks.now (value_at direction.now) (length marks.now)) }
+    ensures { IfOk result (λ entries. entries.items ≡ entries_to marks.now (value_at direction.now)
+        (length marks.now)) }
 {
     let mut entries = Vec::new(alloc);
     for (k, rate) in direction.iter().enumerate() {
@@ -183,8 +184,10 @@ impl EtaFile {
         requires within { first ≤ length self.now.etas }
         requires none_later { NoneLater self.now.etas j first }
         requires left { LeftAt self.now.etas j first }
-        ensures direction { OnOk result (IsDirectionOf self.now.matrix (after (row_basics self.now.matrix) (take first self.now.etas)) j (value_at out.new)) }
-        ensures refused { IfErr result (ExchangeRefused self.now.matrix (self.now.basics ∷ ways_of self.now) self.now.basics (ways_of self.now)) }
+        ensures direction { OnOk result (IsDirectionOf self.now.matrix
+            (after (row_basics self.now.matrix) (take first self.now.etas)) j (value_at out.new)) }
+        ensures refused { IfErr result (ExchangeRefused self.now.matrix
+            (self.now.basics ∷ ways_of self.now) self.now.basics (ways_of self.now)) }
         ensures cost { steps.new ≤ steps.old + 2 * entry_count (take first self.now.etas) }
     {
         if first == 0 {
@@ -206,13 +209,20 @@ impl EtaFile {
         steps: &mut Steps<L>,
     ) -> Result<(), Evidence>
         requires within { place < length self.now.etas }
-        requires before { IsNonbasic self.now.matrix (after (row_basics self.now.matrix) (take place self.now.etas)) j }
-        requires then { IsNonbasic self.now.matrix (after (row_basics self.now.matrix) (take (place + 1) self.now.etas)) j }
+        requires before { IsNonbasic self.now.matrix (after (row_basics self.now.matrix)
+            (take place self.now.etas)) j }
+        requires then { IsNonbasic self.now.matrix (after (row_basics self.now.matrix)
+            (take (place + 1) self.now.etas)) j }
         requires places { length out.old ≡ size self.now.matrix }
-        requires direction { IsDirectionOf self.now.matrix (after (row_basics self.now.matrix) (take place self.now.etas)) j (value_at out.old) }
-        ensures direction { OnOk result (IsDirectionOf self.now.matrix (after (row_basics self.now.matrix) (take (place + 1) self.now.etas)) j (value_at out.new)) }
-        ensures refused { IfErr result (ExchangeRefused self.now.matrix (self.now.basics ∷ ways_of self.now) self.now.basics (ways_of self.now)) }
-        ensures cost { steps.new + 2 * entry_count (take place self.now.etas) ≤ steps.old + 2 * entry_count (take (place + 1) self.now.etas) }
+        requires direction { IsDirectionOf self.now.matrix (after (row_basics self.now.matrix)
+            (take place self.now.etas)) j (value_at out.old) }
+        ensures direction { OnOk result
+            (IsDirectionOf self.now.matrix (after (row_basics self.now.matrix)
+            (take (place + 1) self.now.etas)) j (value_at out.new)) }
+        ensures refused { IfErr result (ExchangeRefused self.now.matrix
+            (self.now.basics ∷ ways_of self.now) self.now.basics (ways_of self.now)) }
+        ensures cost { steps.new + 2 * entry_count (take place self.now.etas) ≤ steps.old + 2 *
+            entry_count (take (place + 1) self.now.etas) }
     {
         let eta = &self.etas[place];
         let way = place as u32 + 1;
@@ -228,8 +238,10 @@ impl EtaFile {
     ) -> Result<(), Evidence>
         requires nonbasic { IsNonbasic self.now.matrix self.now.basics j }
         requires places { length out.old ≡ size self.now.matrix }
-        ensures direction { OnOk result (IsDirectionOf self.now.matrix self.now.basics j (value_at out.new)) }
-        ensures refused { IfErr result (ExchangeRefused self.now.matrix (self.now.basics ∷ ways_of self.now) self.now.basics (ways_of self.now)) }
+        ensures direction { OnOk result (IsDirectionOf self.now.matrix self.now.basics j
+            (value_at out.new)) }
+        ensures refused { IfErr result (ExchangeRefused self.now.matrix
+            (self.now.basics ∷ ways_of self.now) self.now.basics (ways_of self.now)) }
         ensures cost { steps.new ≤ steps.old + 2 * entry_count self.now.etas }
     {
         let first = last_left(&self.etas, j);
@@ -250,8 +262,10 @@ impl EtaFile {
     ) -> Result<(), Stop>
         requires nonbasic { IsNonbasic self.now.matrix self.now.basics j }
         requires places { length out.old ≡ size self.now.matrix }
-        ensures direction { OnOk result (IsDirectionOf self.now.matrix self.now.basics j (value_at out.new)) }
-        ensures overflow { ColumnOverflow result self.now.matrix self.now.basics (ways_of self.now) (ways_of self.now) }
+        ensures direction { OnOk result (IsDirectionOf self.now.matrix self.now.basics j
+            (value_at out.new)) }
+        ensures overflow { ColumnOverflow result self.now.matrix self.now.basics (ways_of self.now)
+            (ways_of self.now) }
         ensures never { IfErr result (λ stop. stop ≢ Stop.NoMemory) }
         ensures cost { steps.new ≤ steps.old + 2 * entry_count self.now.etas }
     {
@@ -268,8 +282,10 @@ impl EtaFile {
         requires name { blank.name ≡ L.name }
         requires parts { blank.parts ≡ L.parts }
         requires some { 0 < L.parts }
-        ensures direction { OnOk result (IsDirectionOf self.now.matrix self.now.basics j (value_at out.new)) }
-        ensures overflow { ColumnOverflow result self.now.matrix self.now.basics (ways_of self.now) (ways_of self.now) }
+        ensures direction { OnOk result (IsDirectionOf self.now.matrix self.now.basics j
+            (value_at out.new)) }
+        ensures overflow { ColumnOverflow result self.now.matrix self.now.basics (ways_of self.now)
+            (ways_of self.now) }
         ensures never { IfErr result (λ stop. stop ≢ Stop.NoMemory) }
     {
         let mut steps = Steps::<L>::new(blank);
@@ -280,8 +296,10 @@ impl EtaFile {
     pub fn column(&self, j: u32, out: &mut [Frac]) -> Result<(), Stop>
         requires nonbasic { IsNonbasic self.now.matrix self.now.basics j }
         requires places { length out.old ≡ size self.now.matrix }
-        ensures direction { OnOk result (IsDirectionOf self.now.matrix self.now.basics j (value_at out.new)) }
-        ensures overflow { ColumnOverflow result self.now.matrix self.now.basics (ways_of self.now) (ways_of self.now) }
+        ensures direction { OnOk result (IsDirectionOf self.now.matrix self.now.basics j
+            (value_at out.new)) }
+        ensures overflow { ColumnOverflow result self.now.matrix self.now.basics (ways_of self.now)
+            (ways_of self.now) }
         ensures never { IfErr result (λ stop. stop ≢ Stop.NoMemory) }
     {
         self.carry_by::<Brand>(j, out, Blank::new(1))
@@ -292,7 +310,8 @@ impl EtaFile {
         requires leaves { IsBasic self.old.matrix self.old.basics p }
         requires enters { IsNonbasic self.old.matrix self.old.basics q }
         requires places { length direction.now ≡ size self.old.matrix }
-        requires direction { IsDirectionOf self.old.matrix self.old.basics q (value_at direction.now) }
+        requires direction { IsDirectionOf self.old.matrix self.old.basics q
+            (value_at direction.now) }
         requires pivot { value_at direction.now p ≢ zero_ℚ }
         ensures ok { OnOk result (IsAppended self.old p q self.new) }
         ensures err { OnErr result (self.new ≡ self.old) }
@@ -322,7 +341,8 @@ impl EtaFile {
         requires pivot { HasPivot self.old.matrix self.old.basics p q }
         ensures ok { OnOk result (IsAppended self.old p q self.new) }
         ensures err { OnErr result (self.new ≡ self.old) }
-        ensures overflow { ExchangeOverflow result self.old.matrix self.old.basics p q (ways_of self.old) (ways_of self.old) }
+        ensures overflow { ExchangeOverflow result self.old.matrix self.old.basics p q
+            (ways_of self.old) (ways_of self.old) }
     {
         let size = self.size();
         let mut room = vec![in self.alloc; Frac::whole(0); size as usize].map_err(
@@ -339,7 +359,8 @@ impl EtaFile {
         requires places { length room.old ≡ size self.old.matrix }
         ensures ok { OnOk result (IsAppended self.old p q self.new) }
         ensures err { OnErr result (self.new ≡ self.old) }
-        ensures overflow { ExchangeOverflow result self.old.matrix self.old.basics p q (ways_of self.old) (ways_of self.old) }
+        ensures overflow { ExchangeOverflow result self.old.matrix self.old.basics p q
+            (ways_of self.old) (ways_of self.old) }
     {
         let _size = self.size();
         self.column(q, room)?;
@@ -383,7 +404,8 @@ impl EtaFile {
         requires low { 1 ≤ k }
         requires high { k ≤ length self.now.etas }
         ensures lent { IsLent self.now.etas (k - 1) result.p result.q result.entries.now }
-        ensures its { IsExchangeOf self.now.matrix (after (row_basics self.now.matrix) (take (k - 1) self.now.etas)) result.p result.q result.entries.now }
+        ensures its { IsExchangeOf self.now.matrix (after (row_basics self.now.matrix)
+            (take (k - 1) self.now.etas)) result.p result.q result.entries.now }
         ensures few { length result.entries.now ≤ self.now.matrix.rows }
     {
         let eta = &self.etas[k as usize - 1];

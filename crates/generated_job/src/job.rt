@@ -16,14 +16,16 @@ static PROGRAM: &[u8] =
 static ROWS: &[u8] = b"NAME          TRANSP\nROWS\n N  COST\n";
 
 fn put_program<P: Sink>(text: &mut P) -> Result<(), WriteStop>
-    ensures { OnOk result (Appends (P.written text.old) (P.written text.new) (card_text program_cards)) }
+    ensures { OnOk result (Appends (P.written text.old) (P.written text.new)
+        (card_text program_cards)) }
 {
     put_all(text, PROGRAM)
 }
 
 fn put_deck<P: Sink>(text: &mut P, n: u32) -> Result<(), WriteStop>
     requires { n < 1000 }
-    ensures { OnOk result (Appends (P.written text.old) (P.written text.new) (card_text (deck_cards n))) }
+    ensures { OnOk result (Appends (P.written text.old) (P.written text.new)
+        (card_text (deck_cards n))) }
 {
     put_all(text, ROWS)?;
     put_source_rows(text, n)?;

@@ -11,7 +11,9 @@ use job_devices::{Sink, WriteStop};
 /// The rows of the sources from 1 to n.
 pub fn put_source_rows<P: Sink>(text: &mut P, n: u32) -> Result<(), WriteStop>
     requires { n < 1000 }
-    ensures { OnOk result (Appends (P.written text.old) (P.written text.new) (card_text (map (λ i. row_card (record { kind = L; name = made.source i })) (made.up_to n)))) }
+    ensures { OnOk result (Appends (P.written text.old) (P.written text.new)
+        (card_text (map (λ i. row_card (record { kind = L; name = made.source i }))
+        (made.up_to n)))) }
 {
     for before in 0..n {
         put_source_row(text, before + 1)?;
@@ -22,7 +24,9 @@ pub fn put_source_rows<P: Sink>(text: &mut P, n: u32) -> Result<(), WriteStop>
 /// The rows of the destinations from 1 to n.
 pub fn put_destination_rows<P: Sink>(text: &mut P, n: u32) -> Result<(), WriteStop>
     requires { n < 1000 }
-    ensures { OnOk result (Appends (P.written text.old) (P.written text.new) (card_text (map (λ j. row_card (record { kind = G; name = made.destination j })) (made.up_to n)))) }
+    ensures { OnOk result (Appends (P.written text.old) (P.written text.new)
+        (card_text (map (λ j. row_card (record { kind = G; name = made.destination j }))
+        (made.up_to n)))) }
 {
     for before in 0..n {
         put_destination_row(text, before + 1)?;
@@ -34,7 +38,8 @@ pub fn put_destination_rows<P: Sink>(text: &mut P, n: u32) -> Result<(), WriteSt
 fn put_routes_from<P: Sink>(text: &mut P, from: u32, n: u32) -> Result<(), WriteStop>
     requires from { from < 1000 }
     requires n { n < 1000 }
-    ensures { OnOk result (Appends (P.written text.old) (P.written text.new) (card_text (flat_map (λ j. made.route_cards from j) (made.up_to n)))) }
+    ensures { OnOk result (Appends (P.written text.old) (P.written text.new)
+        (card_text (flat_map (λ j. made.route_cards from j) (made.up_to n)))) }
 {
     for before in 0..n {
         put_route(text, from, before + 1)?;
@@ -45,7 +50,9 @@ fn put_routes_from<P: Sink>(text: &mut P, from: u32, n: u32) -> Result<(), Write
 /// The routes from each source to each destination.
 pub fn put_routes<P: Sink>(text: &mut P, n: u32) -> Result<(), WriteStop>
     requires { n < 1000 }
-    ensures { OnOk result (Appends (P.written text.old) (P.written text.new) (card_text (flat_map (λ i. flat_map (λ j. made.route_cards i j) (made.up_to n)) (made.up_to n)))) }
+    ensures { OnOk result (Appends (P.written text.old) (P.written text.new)
+        (card_text (flat_map (λ i. flat_map (λ j. made.route_cards i j) (made.up_to n))
+        (made.up_to n)))) }
 {
     for before in 0..n {
         put_routes_from(text, before + 1, n)?;
@@ -56,7 +63,8 @@ pub fn put_routes<P: Sink>(text: &mut P, n: u32) -> Result<(), WriteStop>
 /// What the sources from 1 to n have.
 pub fn put_supplies<P: Sink>(text: &mut P, n: u32) -> Result<(), WriteStop>
     requires { n < 1000 }
-    ensures { OnOk result (Appends (P.written text.old) (P.written text.new) (card_text (map (λ i. made.item_card (codes "RHS") (made.source i) 10) (made.up_to n)))) }
+    ensures { OnOk result (Appends (P.written text.old) (P.written text.new)
+        (card_text (map (λ i. made.item_card (codes "RHS") (made.source i) 10) (made.up_to n)))) }
 {
     for before in 0..n {
         put_supply(text, before + 1)?;
@@ -67,7 +75,9 @@ pub fn put_supplies<P: Sink>(text: &mut P, n: u32) -> Result<(), WriteStop>
 /// What the destinations from 1 to n want.
 pub fn put_demands<P: Sink>(text: &mut P, n: u32) -> Result<(), WriteStop>
     requires { n < 1000 }
-    ensures { OnOk result (Appends (P.written text.old) (P.written text.new) (card_text (map (λ j. made.item_card (codes "RHS") (made.destination j) 10) (made.up_to n)))) }
+    ensures { OnOk result (Appends (P.written text.old) (P.written text.new)
+        (card_text (map (λ j. made.item_card (codes "RHS") (made.destination j) 10)
+        (made.up_to n)))) }
 {
     for before in 0..n {
         put_demand(text, before + 1)?;

@@ -16,7 +16,8 @@ use name_table::Name;
 fn first_live(cards: &Cards, from: u32) -> Option<u32>
     requires from_one { 1 ≤ from }
     requires within { from ≤ length cards.now + 1 }
-    ensures decks { MatchOption result (decks_of (cards_from from cards.now) ≡ []) (λ first. decks_of (cards_from from cards.now) ≡ decks_of (cards_from first cards.now)) }
+    ensures decks { MatchOption result (decks_of (cards_from from cards.now) ≡ [])
+        (λ first. decks_of (cards_from from cards.now) ≡ decks_of (cards_from first cards.now)) }
     ensures live { IfSome result (λ first. IsLiveAt first cards.now) }
     ensures later { IfSome result (λ first. from ≤ first) }
     ensures within { IfSome result (λ first. first ≤ length cards.now) }
@@ -33,7 +34,8 @@ fn first_live(cards: &Cards, from: u32) -> Option<u32>
 fn deck_end(cards: &Cards, first: u32) -> u32
     requires from_one { 1 ≤ first }
     requires within { first ≤ length cards.now }
-    ensures end { result ≡ min (first + position_or_len (begins Endata) (cards_from first cards.now)) (length cards.now) }
+    ensures end { result ≡ min (first + position_or_len (begins Endata)
+        (cards_from first cards.now)) (length cards.now) }
     ensures few { result ≤ 200000 }
 {
     for number in first..cards.count() {
@@ -48,9 +50,12 @@ fn deck_end(cards: &Cards, first: u32) -> u32
 fn next_deck(cards: &Cards, from: u32) -> Option<Deck>
     requires from_one { 1 ≤ from }
     requires within { from ≤ length cards.now + 1 }
-    ensures deck { MatchOption result (decks_of (cards_from from cards.now) ≡ []) (λ deck. decks_of (cards_from from cards.now) ≡ cards_between deck.first deck.last cards.now ∷ decks_of (drop deck.last (numbered_cards cards.now))) }
+    ensures deck { MatchOption result (decks_of (cards_from from cards.now) ≡ [])
+        (λ deck. decks_of (cards_from from cards.now) ≡ cards_between deck.first deck.last cards.now
+        ∷ decks_of (drop deck.last (numbered_cards cards.now))) }
     ensures live { IfSome result (λ deck. IsLiveAt deck.first cards.now) }
-    ensures within { IfSome result (λ deck. (from ≤ deck.first) × (deck.first ≤ deck.last) × (deck.last ≤ length cards.now)) }
+    ensures within { IfSome result (λ deck. (from ≤ deck.first) × (deck.first ≤ deck.last) ×
+        (deck.last ≤ length cards.now)) }
     ensures few { IfSome result (λ deck. deck.last ≤ 200000) }
 {
     let first = first_live(cards, from)?;
@@ -64,8 +69,14 @@ fn next_deck(cards: &Cards, from: u32) -> Option<Deck>
 pub fn take_deck(cards: &Cards, from: u32, wanted: Option<Name>) -> Option<Deck>
     requires from_one { 1 ≤ from }
     requires within { from ≤ length cards.now + 1 }
-    ensures taken { deck_taken wanted (decks_of (drop (from - 1) (numbered_cards cards.now))) ≡ option_map (λ deck. (cards_between deck.first deck.last cards.now, decks_of (drop deck.last (numbered_cards cards.now)))) result }
-    ensures within { IfSome result (λ deck. (from ≤ deck.first) × (deck.first ≤ deck.last) × (deck.last ≤ length cards.now)) }
+    ensures taken { deck_taken wanted (decks_of (drop (from - 1) (numbered_cards cards.now))) ≡
+        option_map (λ deck. (
+          cards_between deck.first deck.last cards.now,
+          decks_of
+              (drop deck.last (numbered_cards cards.now)),
+        )) result }
+    ensures within { IfSome result (λ deck. (from ≤ deck.first) × (deck.first ≤ deck.last) ×
+        (deck.last ≤ length cards.now)) }
 {
     let mut next = from;
     while let Some(deck) = next_deck(cards, next) {

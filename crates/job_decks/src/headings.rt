@@ -19,14 +19,16 @@ fn has_word(card: Card<'_>, word: &[u8]) -> bool
 
 // Whether a card is an ENDATA card.
 pub fn ends_deck(card: Card<'_>) -> bool
-    ensures { (number : ℕ) → result ≡ begins Endata (record { number = number; bytes = card_bytes card.entry }) }
+    ensures { (number : ℕ) → result ≡ begins Endata
+        (record { number = number; bytes = card_bytes card.entry }) }
 {
     has_word(card, b"ENDATA")
 }
 
 // Whether a card is a NAME card.
 fn is_header(card: Card<'_>) -> bool
-    ensures { (number : ℕ) → result ≡ begins Header (record { number = number; bytes = card_bytes card.entry }) }
+    ensures { (number : ℕ) → result ≡ begins Header
+        (record { number = number; bytes = card_bytes card.entry }) }
 {
     has_word(card, b"NAME")
 }
@@ -40,7 +42,8 @@ fn is_named(card: Card<'_>, name: &Name) -> bool
 
 // Whether a deck that begins with this card may be taken.
 pub fn is_wanted(first: Card<'_>, wanted: &Option<Name>) -> bool
-    ensures { (number : ℕ) (cards : List Numbered) → result ≡ is_wanted wanted.now (record { number = number; bytes = card_bytes first.entry } ∷ cards) }
+    ensures { (number : ℕ) (cards : List Numbered) → result ≡ is_wanted wanted.now
+        (record { number = number; bytes = card_bytes first.entry } ∷ cards) }
 {
     match wanted {
         Some(name) => is_header(first) && is_named(first, name),

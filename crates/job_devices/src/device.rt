@@ -71,7 +71,8 @@ pub trait Sink {
         ensures bound { WritesAtMost result piece.now }
         ensures some { IfOk result (λ taken. taken ≡ 0 → length piece.now ≡ 0) }
         ensures bytes { WriteAppends (written self.old) (written self.new) result piece.now }
-        ensures cause { HasWriteCause (faults self.old) (faults self.new) (refusals self.old) (refusals self.new) result };
+        ensures cause { HasWriteCause (faults self.old) (faults self.new) (refusals self.old)
+            (refusals self.new) result };
 }
 
 /// Writes the whole piece, in as many writes as the sink wants. At a stop a front of it is written.
@@ -88,7 +89,8 @@ pub fn put_all<P: Sink>(sink: &mut P, piece: &[u8]) -> Result<(), WriteStop>
 
 /// Writes some pieces, one behind the other. At a stop a front of all of them is written.
 pub fn put_each<P: Sink>(sink: &mut P, pieces: &[&[u8]]) -> Result<(), WriteStop>
-    ensures { Writes P.written P.faults P.refusals sink.old sink.new result (text_of_pieces pieces.now) }
+    ensures { Writes P.written P.faults P.refusals sink.old sink.new result
+        (text_of_pieces pieces.now) }
 {
     for piece in pieces {
         put_all(sink, piece)?;

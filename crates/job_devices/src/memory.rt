@@ -105,7 +105,8 @@ impl Source for MemorySource {
 
     fn read(&mut self, buf: &mut [u8]) -> Result<usize, Failed>
         ensures bound { ReadsAtMost result buf.new }
-        ensures bytes { ReadConsumes (Some (source_left self.old)) (Some (source_left self.new)) result buf.new }
+        ensures bytes { ReadConsumes (Some (source_left self.old)) (Some (source_left self.new))
+            result buf.new }
         ensures cause { HasReadCause (reads_failed self.old) (reads_failed self.new) result }
 
         // All that is left is given, as far as the buffer has room for it and a piece may have so many bytes.
@@ -118,7 +119,8 @@ impl Source for MemorySource {
         ensures listed { IsErr result ↔ Contains (failing_reads self.old) (reads_made self.new) }
         ensures fails { failing_reads self.new ≡ failing_reads self.old }
         ensures reads { reads_made self.new ≡ next_count (reads_made self.old) }
-        ensures count { reads_failed self.new ≡ (if is_err result then next_count (reads_failed self.old) else reads_failed self.old) }
+        ensures count { reads_failed self.new ≡ (if is_err result then next_count
+            (reads_failed self.old) else reads_failed self.old) }
     {
         self.reads = self.reads.saturating_add(1);
         if self.fails.contains(&self.reads) {
@@ -199,15 +201,20 @@ impl Sink for MemorySink {
     fn write(&mut self, piece: &[u8]) -> Result<usize, WriteStop>
         ensures bound { WritesAtMost result piece.now }
         ensures some { IfOk result (λ taken. taken ≡ 0 → length piece.now ≡ 0) }
-        ensures bytes { WriteAppends (Some (sink_bytes self.old)) (Some (sink_bytes self.new)) result piece.now }
-        ensures cause { HasWriteCause (writes_failed self.old) (writes_failed self.new) (writes_refused self.old) (writes_refused self.new) result }
+        ensures bytes { WriteAppends (Some (sink_bytes self.old)) (Some (sink_bytes self.new))
+            result piece.now }
+        ensures cause { HasWriteCause (writes_failed self.old) (writes_failed self.new)
+            (writes_refused self.old) (writes_refused self.new) result }
 
         // The listed writes fail, and no others.
-        ensures listed { IsErrOf result WriteStop.Failed ↔ Contains (failing_writes self.old) (writes_made self.new) }
+        ensures listed { IsErrOf result WriteStop.Failed ↔ Contains (failing_writes self.old)
+            (writes_made self.new) }
         ensures fails { failing_writes self.new ≡ failing_writes self.old }
         ensures writes { writes_made self.new ≡ next_count (writes_made self.old) }
-        ensures failed { IsErrOf result WriteStop.Failed → writes_failed self.new ≡ next_count (writes_failed self.old) }
-        ensures others { (IsErrOf result WriteStop.Failed → ⊥) → writes_failed self.new ≡ writes_failed self.old }
+        ensures failed { IsErrOf result WriteStop.Failed → writes_failed self.new ≡ next_count
+            (writes_failed self.old) }
+        ensures others { (IsErrOf result WriteStop.Failed → ⊥) → writes_failed self.new ≡
+            writes_failed self.old }
     {
         self.writes = self.writes.saturating_add(1);
         if self.fails.contains(&self.writes) {

@@ -40,7 +40,8 @@ impl<R: Files> PunchFile<R> {
         ensures some { IfSome result (λ taken. taken ≡ 0 → length piece.now ≡ 0) }
         ensures file { IsSome result → IsSome (punch_file self.new) }
         ensures kept { IsSome (punch_file self.old) → IsSome (punch_file self.new) }
-        ensures bytes { FileTakes R.File.contents (punch_file self.old) (punch_file self.new) result piece.now }
+        ensures bytes { FileTakes R.File.contents (punch_file self.old) (punch_file self.new)
+            result piece.now }
         ensures faults { punch_faults self.new ≡ punch_faults self.old }
     {
         if self.file.is_none() {
@@ -73,8 +74,10 @@ impl<R: Files> Sink for PunchFile<R> {
         // A byte is taken only where the file is there, and once created it stays.
         ensures file { OnOk result (IsSome (punch_file self.new)) }
         ensures kept { IsSome (punch_file self.old) → IsSome (punch_file self.new) }
-        ensures writer { FileTakes R.File.contents (punch_file self.old) (punch_file self.new) (result_ok result) piece.now }
-        ensures count { punch_faults self.new ≡ (if is_ok result then punch_faults self.old else next_count (punch_faults self.old)) }
+        ensures writer { FileTakes R.File.contents (punch_file self.old) (punch_file self.new)
+            (result_ok result) piece.now }
+        ensures count { punch_faults self.new ≡ (if is_ok result then punch_faults self.old else
+            next_count (punch_faults self.old)) }
     {
         match self.take(piece) {
             Some(taken) => Ok(taken),

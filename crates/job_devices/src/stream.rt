@@ -37,11 +37,14 @@ impl<R: Read> Source for StreamSource<R> {
     fn read(&mut self, buf: &mut [u8]) -> Result<usize, Failed>
         ensures bound { ReadsAtMost result buf.new }
         ensures bytes { ReadConsumes None None result buf.new }
-        ensures cause { HasReadCause (stream_read_faults self.old) (stream_read_faults self.new) result }
+        ensures cause { HasReadCause (stream_read_faults self.old)
+            (stream_read_faults self.new) result }
 
         // The reader has given these bytes, 0 only at its end, and none where the read failed.
-        ensures reader { ReadConsumes (R.remaining (stream_reader self.old)) (R.remaining (stream_reader self.new)) result buf.new }
-        ensures count { stream_read_faults self.new ≡ (if is_ok result then stream_read_faults self.old else next_count (stream_read_faults self.old)) }
+        ensures reader { ReadConsumes (R.remaining (stream_reader self.old))
+            (R.remaining (stream_reader self.new)) result buf.new }
+        ensures count { stream_read_faults self.new ≡ (if is_ok result then stream_read_faults
+            self.old else next_count (stream_read_faults self.old)) }
     {
         match self.inner.read(buf) {
             Ok(count) => Ok(count),
@@ -87,13 +90,17 @@ impl<W: Write> Sink for StreamSink<W> {
         ensures bound { WritesAtMost result piece.now }
         ensures some { IfOk result (λ taken. taken ≡ 0 → length piece.now ≡ 0) }
         ensures bytes { WriteAppends None None result piece.now }
-        ensures cause { HasWriteCause (stream_write_faults self.old) (stream_write_faults self.new) 0 0 result }
+        ensures cause { HasWriteCause (stream_write_faults self.old)
+            (stream_write_faults self.new) 0 0 result }
 
         // The writer holds the bytes that were taken. Behind a fault it may hold some too, where its flush failed.
         ensures writer { MatchResult result
-            (λ taken. Appends (W.contents (stream_writer self.old)) (W.contents (stream_writer self.new)) (take taken piece.now))
-            (λ _. AppendsFront (W.contents (stream_writer self.old)) (W.contents (stream_writer self.new)) piece.now) }
-        ensures count { stream_write_faults self.new ≡ (if is_ok result then stream_write_faults self.old else next_count (stream_write_faults self.old)) }
+            (λ taken. Appends (W.contents (stream_writer self.old))
+            (W.contents (stream_writer self.new)) (take taken piece.now))
+            (λ _. AppendsFront (W.contents (stream_writer self.old))
+            (W.contents (stream_writer self.new)) piece.now) }
+        ensures count { stream_write_faults self.new ≡ (if is_ok result then stream_write_faults
+            self.old else next_count (stream_write_faults self.old)) }
     {
         match write_once(&mut self.inner, piece) {
             Some(taken) => Ok(taken),

@@ -92,7 +92,8 @@ fn value_set<'a>(sets: &'a [ValueSet], name: &Name) -> Option<&'a ValueSet>
 fn values_named<'a>(sets: &'a [ValueSet], name: &Name) -> Option<&'a [DeckEntry]>
     requires { IsDistinct same (group_names sets.now) }
     ensures missing { IfNone result (has_group sets.now name.now ≡ false) }
-    ensures found { IfSome result (λ items. (has_group sets.now name.now ≡ true) × (items.now ≡ items_of name.now sets.now)) }
+    ensures found { IfSome result (λ items. (has_group sets.now name.now ≡ true) ×
+        (items.now ≡ items_of name.now sets.now)) }
 {
     let set = value_set(sets, name)?;
     Some(&set.items)
@@ -112,7 +113,8 @@ fn first_rhs(sets: &[ValueSet]) -> &[DeckEntry]
 pub fn rhs_items<'a>(sets: &'a [ValueSet], chosen: Option<Name>) -> Option<&'a [DeckEntry]>
     requires { IsDistinct same (group_names sets.now) }
     ensures missing { IfNone result (misses_set sets.now chosen ≡ true) }
-    ensures found { IfSome result (λ items. (misses_set sets.now chosen ≡ false) × (items.now ≡ items_of_rhs sets.now chosen)) }
+    ensures found { IfSome result (λ items. (misses_set sets.now chosen ≡ false) ×
+        (items.now ≡ items_of_rhs sets.now chosen)) }
 {
     let Some(name) = chosen else {
         return Some(first_rhs(sets));
@@ -124,7 +126,8 @@ pub fn rhs_items<'a>(sets: &'a [ValueSet], chosen: Option<Name>) -> Option<&'a [
 pub fn range_items<'a>(sets: &'a [ValueSet], chosen: Option<Name>) -> Option<&'a [DeckEntry]>
     requires { IsDistinct same (group_names sets.now) }
     ensures missing { IfNone result (misses_set sets.now chosen ≡ true) }
-    ensures found { IfSome result (λ items. (misses_set sets.now chosen ≡ false) × (items.now ≡ set_items sets.now chosen)) }
+    ensures found { IfSome result (λ items. (misses_set sets.now chosen ≡ false) ×
+        (items.now ≡ set_items sets.now chosen)) }
 {
     match chosen {
         Some(name) => values_named(sets, &name),
@@ -143,7 +146,8 @@ fn bound_set<'a>(sets: &'a [BoundSet], name: &Name) -> Option<&'a BoundSet>
 fn bounds_named<'a>(sets: &'a [BoundSet], name: &Name) -> Option<&'a [BoundItem]>
     requires { IsDistinct same (group_names sets.now) }
     ensures missing { IfNone result (has_group sets.now name.now ≡ false) }
-    ensures found { IfSome result (λ items. (has_group sets.now name.now ≡ true) × (items.now ≡ items_of name.now sets.now)) }
+    ensures found { IfSome result (λ items. (has_group sets.now name.now ≡ true) ×
+        (items.now ≡ items_of name.now sets.now)) }
 {
     let set = bound_set(sets, name)?;
     Some(&set.items)
@@ -153,7 +157,8 @@ fn bounds_named<'a>(sets: &'a [BoundSet], name: &Name) -> Option<&'a [BoundItem]
 pub fn bound_items<'a>(sets: &'a [BoundSet], chosen: Option<Name>) -> Option<&'a [BoundItem]>
     requires { IsDistinct same (group_names sets.now) }
     ensures missing { IfNone result (misses_set sets.now chosen ≡ true) }
-    ensures found { IfSome result (λ items. (misses_set sets.now chosen ≡ false) × (items.now ≡ set_items sets.now chosen)) }
+    ensures found { IfSome result (λ items. (misses_set sets.now chosen ≡ false) ×
+        (items.now ≡ set_items sets.now chosen)) }
 {
     match chosen {
         Some(name) => bounds_named(sets, &name),

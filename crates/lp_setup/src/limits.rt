@@ -132,7 +132,8 @@ pub fn unbounded() -> Limits
 
 /// The limits with this bound applied to them.
 pub fn bounded(bound: &BoundItem, limits: Limits) -> Limits
-    ensures { result ≡ limits_by bound.now.kind (option_map (λ value. value.value) bound.now.value) limits }
+    ensures { result ≡ limits_by bound.now.kind (option_map (λ value. value.value)
+        bound.now.value) limits }
 {
     let value = bound.value.map(|value| value.value());
     match bound.kind {

@@ -47,7 +47,8 @@ pub fn values_by_row(
 
 /// The right-hand side of each row: 0 where the set has none.
 fn sides_of(alloc: Global, values: &[Option<Frac>]) -> Result<Vec<Frac>, NoMemory>
-    ensures { IfOk result (λ sides. sides.items ≡ map (λ value. unwrap_or value zero_ℚ) values.now) }
+    ensures { IfOk result (λ sides. sides.items ≡ map (λ value. unwrap_or value zero_ℚ)
+        values.now) }
 {
     Ok(
         values
@@ -102,7 +103,8 @@ fn limits_at(
     requires row { place < length rows.now }
     requires side { length sides.now ≡ length rows.now }
     requires range { length ranges.now ≡ length rows.now }
-    ensures limits { IfOk result (λ limits. slice_get (limits_of_rows rows.now sides.now ranges.now) place ≡ Some limits) }
+    ensures limits { IfOk result (λ limits. slice_get (limits_of_rows rows.now sides.now ranges.now)
+        place ≡ Some limits) }
     ensures overflow { IfErr result (IsRowOverflow rows.now sides.now ranges.now) }
 {
     let row = &rows[place];
@@ -122,7 +124,8 @@ pub fn limits_by_row(
     requires few { length rows.now ≤ 1000 }
     requires side { length sides.now ≡ length rows.now }
     requires range { length ranges.now ≡ length rows.now }
-    ensures limits { IfOk result (λ limits. limits.items ≡ limits_of_rows rows.now sides.now ranges.now) }
+    ensures limits { IfOk result (λ limits. limits.items ≡ limits_of_rows rows.now sides.now
+        ranges.now) }
     ensures overflow { IfErr result (IsRowOverflow rows.now sides.now ranges.now) }
 {
     let mut limits = Vec::new(alloc);

@@ -33,8 +33,11 @@ fn all_limits(
     requires side { length sides.now ≡ length problem.now.rows }
     requires range { AreEntries (length problem.now.rows) ranges.now }
     requires bound { AreBounds (length problem.now.columns) bounds.now }
-    ensures limits { IfOk result (λ limits. limits.items ≡ limits_of_rows problem.now.rows sides.now (by_number (value_on ranges.now) (length problem.now.rows)) ++ by_number (column_limits bounds.now) (length problem.now.columns)) }
-    ensures overflow { IfErr result (IsRowOverflow problem.now.rows sides.now (by_number (value_on ranges.now) (length problem.now.rows))) }
+    ensures limits { IfOk result (λ limits. limits.items ≡ limits_of_rows problem.now.rows sides.now
+        (by_number (value_on ranges.now) (length problem.now.rows)) ++ by_number
+        (column_limits bounds.now) (length problem.now.columns)) }
+    ensures overflow { IfErr result (IsRowOverflow problem.now.rows sides.now
+        (by_number (value_on ranges.now) (length problem.now.rows))) }
 {
     let rows = problem.rows();
     let range_values = values_by_row(alloc, rows.len(), ranges)?;
@@ -56,12 +59,16 @@ fn program(
     bounds: &[BoundItem],
     sense: Sense,
 ) -> Result<Lp, Stop>
-    requires lawful { IsLinearProgram (program_with problem.now objective rhs.now ranges.now bounds.now sense) }
+    requires lawful { IsLinearProgram (program_with problem.now objective rhs.now ranges.now
+        bounds.now sense) }
     requires side { AreEntries (length problem.now.rows) rhs.now }
     requires range { AreEntries (length problem.now.rows) ranges.now }
     requires bound { AreBounds (length problem.now.columns) bounds.now }
-    ensures program { IfOk result (λ lp. lp ≡ program_with problem.now objective rhs.now ranges.now bounds.now sense) }
-    ensures overflow { IfErr result (IsRowOverflow problem.now.rows (by_number (side_on rhs.now) (length problem.now.rows)) (by_number (value_on ranges.now) (length problem.now.rows))) }
+    ensures program { IfOk result (λ lp. lp ≡ program_with problem.now objective rhs.now ranges.now
+        bounds.now sense) }
+    ensures overflow { IfErr result
+        (IsRowOverflow problem.now.rows (by_number (side_on rhs.now) (length problem.now.rows))
+        (by_number (value_on ranges.now) (length problem.now.rows))) }
 {
     let sides = right_hand_sides(alloc, problem.rows().len(), rhs)?;
     let limits = all_limits(alloc, problem, &sides, ranges, bounds)?;

@@ -23,7 +23,8 @@ pub fn prepare<S: Source>(alloc: Global, job: &mut S) -> Result<Prepared, Stop>
     ensures prepared { IfOk result (ArePrepared (S.left job.old)) }
     ensures read { OnOk result (ReadsJob (S.left job.old) (S.left job.new)) }
     ensures stop { IfErr result (Tells (S.left job.old)) }
-    ensures cause { IfErr result (HasStopCause (Rose (S.faults job.old) (S.faults job.new)) (ReadsJob (S.left job.old) (S.left job.new))) }
+    ensures cause { IfErr result (HasStopCause (Rose (S.faults job.old) (S.faults job.new))
+        (ReadsJob (S.left job.old) (S.left job.new))) }
     ensures no_further { ReadsFront (S.left job.old) (S.left job.new) }
 {
     let cards = read_job(alloc, job)?;

@@ -24,7 +24,8 @@ fn first_live(cards: &Cards, first: u32, last: u32) -> Option<Card<'_>>
     requires from_one { 1 ≤ first }
     requires ordered { first ≤ last }
     requires within { last ≤ length cards.now }
-    ensures name { IfSome result (λ card. deck_name (live (cards_between first last cards.now)) ≡ header_name (card_bytes card)) }
+    ensures name { IfSome result (λ card. deck_name (live (cards_between first last cards.now)) ≡
+        header_name (card_bytes card)) }
     ensures none { IfNone result (live (cards_between first last cards.now) ≡ []) }
 {
     let end = last.min(cards.count()) + 1;
@@ -79,11 +80,15 @@ fn ended_problem(
     requires from_one { 1 ≤ first }
     requires ordered { first ≤ last }
     requires within { last ≤ length cards.now }
-    requires section { draft.now.section ≡ section_after (live (cards_between first last cards.now)) }
-    requires described { problem_shown draft.now ≡ described [] (live (cards_between first last cards.now)) }
-    requires no_fault { first_faulty card_fault [] (live (cards_between first last cards.now)) ≡ None }
+    requires section { draft.now.section ≡ section_after (live
+        (cards_between first last cards.now)) }
+    requires described { problem_shown draft.now ≡ described []
+        (live (cards_between first last cards.now)) }
+    requires no_fault { first_faulty card_fault []
+        (live (cards_between first last cards.now)) ≡ None }
     requires printable { ArePrintable (cards_between first last cards.now) }
-    ensures problem { IfOk result (λ problem. conversion (cards_between first last cards.now) name ≡ Ok problem) }
+    ensures problem { IfOk result (λ problem. conversion (cards_between first last cards.now) name ≡
+        Ok problem) }
     ensures stop { IfErr result (Refuses (cards_between first last cards.now) name) }
 {
     if !draft.is_ended() {
@@ -112,7 +117,8 @@ pub fn convert(
     requires from_one { 1 ≤ first }
     requires ordered { first ≤ last }
     requires within { last ≤ length cards.now }
-    ensures problem { IfOk result (λ problem. conversion (cards_between first last cards.now) name ≡ Ok problem) }
+    ensures problem { IfOk result (λ problem. conversion (cards_between first last cards.now) name ≡
+        Ok problem) }
     ensures stop { IfErr result (Refuses (cards_between first last cards.now) name) }
 {
     let mut draft = DeckDraft::new(alloc);

@@ -48,7 +48,8 @@ fn is_last(section: Section) -> bool
 
 // The section that a section card begins after another.
 fn next_section(before: Option<Section>, card: &[u8]) -> Result<Section, CardStop>
-    ensures section { IfOk result (λ section. named section_words (section_word card.now) ≡ Some section) }
+    ensures section { IfOk result (λ section. named section_words (section_word card.now) ≡
+        Some section) }
     ensures no_fault { OnOk result (section_card_fault may_follow before card.now ≡ None) }
     ensures stop { IfErr result (Tells (section_card_fault may_follow before card.now)) }
 {
@@ -97,9 +98,12 @@ fn take_column(
     requires few { entries.old ≤ 50000 }
     ensures counted { entries.new ≡ sum_by (λ column. length column.items) columns.new }
     ensures few { entries.new ≤ 50000 }
-    ensures no_fault { OnOk result (columns_fault (columns_alone rows.now columns.old) (shown card.now) ≡ None) }
-    ensures step { OnOk result (columns.new ≡ in_set card.now.name1 (λ items. items ++ entries_of (shown card.now)) columns.old) }
-    ensures stop { IfErr result (Tells (columns_fault (columns_alone rows.now columns.old) (shown card.now))) }
+    ensures no_fault { OnOk result (columns_fault (columns_alone rows.now columns.old)
+        (shown card.now) ≡ None) }
+    ensures step { OnOk result (columns.new ≡ in_set card.now.name1
+        (λ items. items ++ entries_of (shown card.now)) columns.old) }
+    ensures stop { IfErr result (Tells (columns_fault (columns_alone rows.now columns.old)
+        (shown card.now))) }
 {
     let _ = columns.len();
     match take_column_card(alloc, rows, columns, *entries, card) {
@@ -148,7 +152,15 @@ impl DeckDraft {
     /// A draft after no card, which grows in this memory.
     pub fn new(alloc: Global) -> DeckDraft
         ensures section { result.section ≡ None }
-        ensures problem { problem_shown result ≡ record { name = []; rows = []; columns = []; rhs = []; ranges = []; bounds = [] } }
+        ensures problem { problem_shown result ≡ record {
+          name = [];
+          rows = [];
+          columns = [];
+          rhs =
+              [];
+          ranges = [];
+          bounds = [];
+        } }
     {
         DeckDraft {
             alloc,
@@ -188,10 +200,13 @@ impl DeckDraft {
 
     // Takes a data card of this section.
     fn take_in(&mut self, section: Section, card: &DataCard<'_>) -> Result<(), CardStop>
-        ensures no_fault { OnOk result (section_fault (problem_shown self.old) section (shown card.now) ≡ None) }
+        ensures no_fault { OnOk result (section_fault (problem_shown self.old) section
+            (shown card.now) ≡ None) }
         ensures same_section { OnOk result (self.new.section ≡ self.old.section) }
-        ensures step { OnOk result (problem_shown self.new ≡ with_card section (shown card.now) (problem_shown self.old)) }
-        ensures stop { IfErr result (Tells (section_fault (problem_shown self.old) section (shown card.now))) }
+        ensures step { OnOk result (problem_shown self.new ≡ with_card section (shown card.now)
+            (problem_shown self.old)) }
+        ensures stop { IfErr result (Tells (section_fault (problem_shown self.old) section
+            (shown card.now))) }
     {
         match section {
             Section::Rows => take_row_card(&mut self.rows, card),
@@ -224,10 +239,13 @@ impl DeckDraft {
 
     // Takes a data card.
     fn take_data(&mut self, card: Card<'_>) -> Result<(), CardStop>
-        ensures no_fault { OnOk result (data_card_fault (problem_shown self.old) Fixed self.old.section (card_bytes card.entry) ≡ None) }
+        ensures no_fault { OnOk result (data_card_fault (problem_shown self.old) Fixed
+            self.old.section (card_bytes card.entry) ≡ None) }
         ensures same_section { OnOk result (self.new.section ≡ self.old.section) }
-        ensures step { OnOk result (problem_shown self.new ≡ with_data self.old.section (reading_of Fixed (card_bytes card.entry)) (problem_shown self.old)) }
-        ensures stop { IfErr result (Tells (data_card_fault (problem_shown self.old) Fixed self.old.section (card_bytes card.entry))) }
+        ensures step { OnOk result (problem_shown self.new ≡ with_data self.old.section
+            (reading_of Fixed (card_bytes card.entry)) (problem_shown self.old)) }
+        ensures stop { IfErr result (Tells (data_card_fault (problem_shown self.old) Fixed
+            self.old.section (card_bytes card.entry))) }
     {
         let Some(section) = self.section else {
             return Err(CardStop::Refused(DeckFaultKind::SectionOrder));

@@ -75,7 +75,8 @@ impl NameTable {
     /// Puts the name at the end and gives its number. A refused call leaves the table as it was.
     pub fn add(&mut self, name: Name) -> Result<u32, AddStop>
         requires room { length self.old < 4294967295 }
-        ensures added { IfOk result (λ number. (self.new ≡ self.old ++ name ∷ []) × (number ≡ length self.new)) }
+        ensures added { IfOk result (λ number. (self.new ≡ self.old ++ name ∷ []) ×
+            (number ≡ length self.new)) }
         ensures taken { IsTaken result (number_of name self.old) }
         ensures refused { OnErr result (self.new ≡ self.old) }
     {

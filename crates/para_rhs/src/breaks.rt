@@ -48,7 +48,8 @@ fn stands_at(
     requires variable { IsVariable lp.now.matrix k }
     requires shifts { length shift.now ≡ lp.now.rows }
     requires limit { limit_on lp.now side k ≡ Some limit }
-    ensures stands { IfOk result (λ stands. stands ≡ stands_at theta value slope (shift_of lp.now.matrix shift.now k) limit) }
+    ensures stands { IfOk result (λ stands. stands ≡ stands_at theta value slope
+        (shift_of lp.now.matrix shift.now k) limit) }
     ensures refused { IfErr result (VariableRefused lp.now shift.now (λ _. value) (λ _. slope) k) }
 {
     let by = shift_of(lp, shift, k);
@@ -68,7 +69,8 @@ fn leaving_side(
 ) -> Result<Option<Side>, Evidence>
     requires variable { IsVariable lp.now.matrix k }
     requires shifts { length shift.now ≡ lp.now.rows }
-    ensures side { IfOk result (λ found. found ≡ leaving_side lp.now shift.now theta (λ _. value) (λ _. slope) k) }
+    ensures side { IfOk result (λ found. found ≡ leaving_side lp.now shift.now theta (λ _. value)
+        (λ _. slope) k) }
     ensures moves { OnErr result (slope ≢ shift_of lp.now.matrix shift.now k) }
     ensures refused { IfErr result (VariableRefused lp.now shift.now (λ _. value) (λ _. slope) k) }
 {
@@ -97,8 +99,10 @@ fn leaver_by(
     requires values { length value.now ≡ size lp.now.matrix }
     requires slopes { length slope.now ≡ size lp.now.matrix }
     ensures lawful { IsLinearProgram lp.now }
-    ensures leaver { IfOk result (IsLeaverOf lp.now shift.now theta (value_at value.now) (value_at slope.now)) }
-    ensures refused { IfErr result (SomeVariableRefused lp.now shift.now (value_at value.now) (value_at slope.now)) }
+    ensures leaver { IfOk result (IsLeaverOf lp.now shift.now theta (value_at value.now)
+        (value_at slope.now)) }
+    ensures refused { IfErr result (SomeVariableRefused lp.now shift.now (value_at value.now)
+        (value_at slope.now)) }
 {
     for k in 0..lp.number_of_variables() {
         let here = value[k as usize];
@@ -128,7 +132,8 @@ pub fn face_leaver(
     requires values { length value.now ≡ size lp.now.matrix }
     requires slopes { length slope.now ≡ size lp.now.matrix }
     ensures leaver { IfOk result (IsFaceLeaver lp.now shift.now theta basis.now) }
-    ensures overflow { IfErr result (λ e. (before : List Basics) (after : List Basics) → RunRefused lp.now shift.now basis.now before after e) }
+    ensures overflow { IfErr result (λ e. (before : List Basics) (after : List Basics) → RunRefused
+        lp.now shift.now basis.now before after e) }
 {
     match leaver_by(lp, shift, value, slope, theta) {
         Ok(found) => Ok(found),

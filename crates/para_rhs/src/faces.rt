@@ -131,7 +131,8 @@ pub fn face_turn<R: Rates>(
     requires optimal { IsOptimalBasis (family lp.now run.now theta) basis.now }
     requires within { steps ≤ run.now.limit }
     ensures turn { FaceFound lp.now run.now result theta basis.now steps
-        (value_at value.now) (value_at direction.new) (R.waypoints rates.old) (R.waypoints rates.new) }
+        (value_at value.now) (value_at direction.new) (R.waypoints rates.old)
+        (R.waypoints rates.new) }
     ensures rates { HasRates (R.matrix rates.new) (R.basics rates.new) lp.now basis.now }
     ensures waypoints { KeepsWaypoints lp.now.matrix (basics_of basis.now) (R.waypoints rates.old)
         (basics_of basis.now) (R.waypoints rates.new) }

@@ -140,8 +140,10 @@ fn limit_moved(
 fn limit_at(lp: &Lp, shift: &[Frac], theta: Frac, side: Side, k: u32) -> Result<Option<Frac>, Stop>
     requires variable { IsVariable lp.now.matrix k }
     requires shifts { length shift.now ≡ lp.now.rows }
-    ensures value { IfOk result (λ now. now ≡ moved_by theta (shift_of lp.now.matrix shift.now k) (limit_on lp.now side k)) }
-    ensures overflow { IfErr result (λ stop. IfOverflow stop (SomeLimitRefused lp.now shift.now theta side)) }
+    ensures value { IfOk result (λ now. now ≡ moved_by theta (shift_of lp.now.matrix shift.now k)
+        (limit_on lp.now side k)) }
+    ensures overflow { IfErr result (λ stop. IfOverflow stop
+        (SomeLimitRefused lp.now shift.now theta side)) }
 {
     let by = shift_of(lp, shift, k);
     match limit_moved(limit_on(lp, side, k), theta, by, k, number_of(side)) {
@@ -160,8 +162,10 @@ fn limits_at(
 ) -> Result<Vec<Option<Frac>>, Stop>
     requires { length shift.now ≡ lp.now.rows }
     ensures lawful { IsLinearProgram lp.now }
-    ensures limits { IfOk result (λ limits. limits.items ≡ shifted lp.now.matrix shift.now theta (limit_on lp.now side)) }
-    ensures overflow { IfErr result (λ stop. IfOverflow stop (ShiftHolds (Pararhs lp.now shift.now theta) [])) }
+    ensures limits { IfOk result (λ limits. limits.items ≡ shifted lp.now.matrix shift.now theta
+        (limit_on lp.now side)) }
+    ensures overflow { IfErr result (λ stop. IfOverflow stop
+        (ShiftHolds (Pararhs lp.now shift.now theta) [])) }
 {
     let mut limits = Vec::new(alloc);
     for k in 0..lp.number_of_variables() {
@@ -176,7 +180,8 @@ fn limits_at(
 pub fn program_at(alloc: Global, lp: &Lp, shift: &[Frac], theta: Frac) -> Result<Lp, Stop>
     requires { length shift.now ≡ lp.now.rows }
     ensures program { IfOk result (λ at. at ≡ rhs_family lp.now shift.now theta) }
-    ensures overflow { IfErr result (λ stop. IfOverflow stop (ShiftHolds (Pararhs lp.now shift.now theta) [])) }
+    ensures overflow { IfErr result (λ stop. IfOverflow stop
+        (ShiftHolds (Pararhs lp.now shift.now theta) [])) }
 {
     let lower = limits_at(alloc, lp, shift, theta, Side::Lower)?;
     let upper = limits_at(alloc, lp, shift, theta, Side::Upper)?;

@@ -94,7 +94,8 @@ fn keeps(best: &Candidate, other: &Candidate, r: u32) -> Result<bool, Evidence>
 fn cheaper(best: Candidate, other: Candidate, r: u32) -> Result<Candidate, Evidence>
     requires best { best.rate ≢ zero_ℚ }
     requires other { other.rate ≢ zero_ℚ }
-    ensures cheaper { IfOk result (λ now. now ≡ (if le_ℚ (ratio_at best) (ratio_at other) then best else other)) }
+    ensures cheaper { IfOk result (λ now. now ≡ (if le_ℚ (ratio_at best) (ratio_at other) then best
+        else other)) }
     ensures refused { IfErr result (KeptRefused r best other) }
 {
     match keeps(&best, &other, r) {
@@ -119,9 +120,12 @@ fn with_variable(
     requires counted { length basis.now ≡ size lp.now.matrix }
     requires prices { length prices.now ≡ size lp.now.matrix }
     requires row { length row.now ≡ size lp.now.matrix }
-    requires best { IsBest lp.now basis.now (value_at prices.now) (value_at row.now) below (k - 1) best }
-    ensures best { IfOk result (IsBest lp.now basis.now (value_at prices.now) (value_at row.now) below k) }
-    ensures refused { IfErr result (SomeRatioRefused lp.now basis.now (value_at prices.now) (value_at row.now) r below) }
+    requires best { IsBest lp.now basis.now (value_at prices.now) (value_at row.now) below
+        (k - 1) best }
+    ensures best { IfOk result (IsBest lp.now basis.now (value_at prices.now)
+        (value_at row.now) below k) }
+    ensures refused { IfErr result (SomeRatioRefused lp.now basis.now (value_at prices.now)
+        (value_at row.now) r below) }
 {
     let price = prices[k as usize - 1];
     let rate = row[k as usize - 1];
@@ -151,8 +155,10 @@ pub fn cheapest(
     requires counted { length basis.now ≡ size lp.now.matrix }
     requires prices { length prices.now ≡ size lp.now.matrix }
     requires row { length row.now ≡ size lp.now.matrix }
-    ensures cheapest { IfOk result (λ found. found ≡ cheapest_by lp.now basis.now (value_at prices.now) (value_at row.now) below) }
-    ensures refused { IfErr result (SomeRatioRefused lp.now basis.now (value_at prices.now) (value_at row.now) r below) }
+    ensures cheapest { IfOk result (λ found. found ≡ cheapest_by lp.now basis.now
+        (value_at prices.now) (value_at row.now) below) }
+    ensures refused { IfErr result (SomeRatioRefused lp.now basis.now (value_at prices.now)
+        (value_at row.now) r below) }
 {
     let mut best: Option<Candidate> = None;
     for k in 0..lp.number_of_variables() {

@@ -92,7 +92,8 @@ fn with_bound(
 ) -> Result<Ends, Evidence>
     requires { closing ≢ zero_ℚ }
     ensures ends { IfOk result (IsTightened ends (bound_of side closing distance k)) }
-    ensures refused { IfErr result (IsRefusal (basic_formula 18 k (number_of side)) Div distance closing) }
+    ensures refused { IfErr result (IsRefusal (basic_formula 18 k (number_of side)) Div
+        distance closing) }
 {
     match tightened(ends, &bound(side, closing, distance, k)) {
         Ok(now) => Ok(now),
@@ -115,7 +116,8 @@ fn with_limit(
     requires shifts { length shift.now ≡ lp.now.rows }
     requires ahead { side_ahead slope (shift_of lp.now.matrix shift.now k) ≡ Some side }
     requires limit { limit_on lp.now side k ≡ Some limit }
-    ensures ends { IfOk result (IsTightened ends (bound_of side (slope -ℚ shift_of lp.now.matrix shift.now k) (limit -ℚ value) k)) }
+    ensures ends { IfOk result (IsTightened ends (bound_of side
+        (slope -ℚ shift_of lp.now.matrix shift.now k) (limit -ℚ value) k)) }
     ensures refused { IfErr result (VariableRefused lp.now shift.now (λ _. value) (λ _. slope) k) }
 {
     let by = shift_of(lp, shift, k);
@@ -138,7 +140,8 @@ fn with_variable(
 ) -> Result<Ends, Evidence>
     requires variable { IsVariable lp.now.matrix k }
     requires shifts { length shift.now ≡ lp.now.rows }
-    ensures narrowed { IfOk result (IsNarrowed (limit_sides lp.now shift.now (λ _. value) (λ _. slope) k) ends) }
+    ensures narrowed { IfOk result
+        (IsNarrowed (limit_sides lp.now shift.now (λ _. value) (λ _. slope) k) ends) }
     ensures high { IfOk result (λ now. IsSome ends.high → IsSome now.high) }
     ensures moves { OnErr result (slope ≢ shift_of lp.now.matrix shift.now k) }
     ensures refused { IfErr result (VariableRefused lp.now shift.now (λ _. value) (λ _. slope) k) }
@@ -177,9 +180,11 @@ fn ends_by(
     requires values { length value.now ≡ size lp.now.matrix }
     requires slopes { length slope.now ≡ size lp.now.matrix }
     ensures lawful { IsLinearProgram lp.now }
-    ensures reach { IfOk result (IsReachOf lp.now shift.now (value_at value.now) (value_at slope.now) (size lp.now.matrix) max) }
+    ensures reach { IfOk result (IsReachOf lp.now shift.now (value_at value.now)
+        (value_at slope.now) (size lp.now.matrix) max) }
     ensures high { IfOk result (λ ends. IsSome ends.high) }
-    ensures refused { IfErr result (SomeVariableRefused lp.now shift.now (value_at value.now) (value_at slope.now)) }
+    ensures refused { IfErr result (SomeVariableRefused lp.now shift.now (value_at value.now)
+        (value_at slope.now)) }
 {
     let mut ends = Ends {
         low: None,
@@ -215,7 +220,8 @@ pub fn reach(
     requires values { length value.now ≡ size lp.now.matrix }
     requires slopes { length slope.now ≡ size lp.now.matrix }
     ensures reaches { IfOk result (IsReachFromAny lp.now shift.now basis.now max) }
-    ensures overflow { IfErr result (λ e. (before : List Basics) (after : List Basics) → RunRefused lp.now shift.now basis.now before after e) }
+    ensures overflow { IfErr result (λ e. (before : List Basics) (after : List Basics) → RunRefused
+        lp.now shift.now basis.now before after e) }
 {
     match ends_by(lp, shift, value, slope, max) {
         Ok(ends) => Ok(high_end(&ends, max)),

@@ -21,7 +21,8 @@ use std::alloc::Global;
 fn shift_in_place(lp: &Lp, shift: &[Frac], side: Side, k: u32) -> Option<Frac>
     requires variable { IsVariable lp.now.matrix k }
     requires shifts { length shift.now ≡ lp.now.rows }
-    ensures { result ≡ option_map (λ l. shift_of lp.now.matrix shift.now k) (limit_on lp.now side k) }
+    ensures { result ≡ option_map (λ l. shift_of lp.now.matrix shift.now k)
+        (limit_on lp.now side k) }
 {
     match limit_on(lp, side, k) {
         Some(_) => Some(shift_of(lp, shift, k)),
@@ -38,7 +39,8 @@ fn shifts_of(
 ) -> Result<Vec<Option<Frac>>, NoMemory>
     requires { length shift.now ≡ lp.now.rows }
     ensures lawful { IsLinearProgram lp.now }
-    ensures shifts { IfOk result (λ shifts. shifts.items ≡ shifts_of lp.now shift.now (limit_on lp.now side)) }
+    ensures shifts { IfOk result (λ shifts. shifts.items ≡ shifts_of lp.now shift.now
+        (limit_on lp.now side)) }
 {
     let mut shifts = Vec::new(alloc);
     for k in 0..lp.number_of_variables() {
@@ -98,8 +100,10 @@ pub fn slope_of<R: Rates>(
     ensures slope { OnOk result (IsSlope lp.now basis.now shift.now (value_at out.new)) }
     ensures matrix { R.matrix rates.new ≡ R.matrix rates.old }
     ensures basics { R.basics rates.new ≡ R.basics rates.old }
-    ensures waypoints { KeepsWaypoints lp.now.matrix (basics_of basis.now) (R.waypoints rates.old) (basics_of basis.now) (R.waypoints rates.new) }
-    ensures overflow { IfErr result (λ stop. IfOverflow stop (RunRefused lp.now shift.now basis.now (R.waypoints rates.old) (R.waypoints rates.new))) }
+    ensures waypoints { KeepsWaypoints lp.now.matrix (basics_of basis.now) (R.waypoints rates.old)
+        (basics_of basis.now) (R.waypoints rates.new) }
+    ensures overflow { IfErr result (λ stop. IfOverflow stop
+        (RunRefused lp.now shift.now basis.now (R.waypoints rates.old) (R.waypoints rates.new))) }
 {
     let moving = slope_program(alloc, lp, shift)?;
     match point_of(alloc, &moving, basis, rates, out) {

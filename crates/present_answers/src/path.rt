@@ -36,7 +36,8 @@ fn outcome_from<R: Rates>(
         (R.waypoints rates.old) (R.waypoints rates.new)) }
     ensures limited { IsErrOf result PrimalStop.Limit → IsSome limit }
     ensures rates { HasRates (R.matrix rates.new) (R.basics rates.new) lp.now basis.new }
-    ensures waypoints { WaypointsFollow lp.now basis.old basis.new (R.waypoints rates.old) (R.waypoints rates.new) }
+    ensures waypoints { WaypointsFollow lp.now basis.old basis.new (R.waypoints rates.old)
+        (R.waypoints rates.new) }
     ensures truth { IfOk result (IsTrueOutcome lp.now) }
 {
     match limit {
@@ -59,9 +60,12 @@ pub fn path_from<R: Rates>(
     requires rates { HasRates (R.matrix rates.old) (R.basics rates.old) sheet.lp.now basis.old }
     ensures outcome { IfOk result (λ report. IsOutcome sheet.entry report.outcome) }
     ensures reached { IfOk result (IsReached sheet.entry basis.old basis.new limit) }
-    ensures stops { IfErr result (PathStops sheet.entry basis.old basis.new limit (R.waypoints rates.old) (R.waypoints rates.new)) }
-    ensures rates { HasRates (R.matrix rates.new) (R.basics rates.new) sheet.entry.lp.now basis.new }
-    ensures waypoints { WaypointsFollow sheet.entry.lp.now basis.old basis.new (R.waypoints rates.old) (R.waypoints rates.new) }
+    ensures stops { IfErr result (PathStops sheet.entry basis.old basis.new limit
+        (R.waypoints rates.old) (R.waypoints rates.new)) }
+    ensures rates { HasRates (R.matrix rates.new) (R.basics rates.new)
+        sheet.entry.lp.now basis.new }
+    ensures waypoints { WaypointsFollow sheet.entry.lp.now basis.old basis.new
+        (R.waypoints rates.old) (R.waypoints rates.new) }
 {
     let outcome = outcome_from(alloc, sheet.lp, basis, rates, limit)?;
     let refused = refused_of(check_of(sheet.lp, &outcome));

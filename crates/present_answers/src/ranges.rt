@@ -38,7 +38,8 @@ pub fn ranges_of<R: Rates>(
         sheet.entry.problem.now)) }
     ensures overflow { IfErr result (λ stop. IfOverflow stop (RangesRefused sheet.entry.lp.now
         (R.waypoints rates.old) basis.now (R.waypoints rates.new))) }
-    ensures rates { HasRates (R.matrix rates.new) (R.basics rates.new) sheet.entry.lp.now basis.now }
+    ensures rates { HasRates (R.matrix rates.new) (R.basics rates.new)
+        sheet.entry.lp.now basis.now }
     ensures waypoints { KeepsWaypoints sheet.entry.lp.now.matrix (basics_of basis.now)
         (R.waypoints rates.old) (basics_of basis.now) (R.waypoints rates.new) }
 {

@@ -50,8 +50,10 @@ fn slack_of(lp: &Lp, point: &[Frac], i: u32) -> Result<Frac, Evidence>
 pub fn slacks(alloc: Global, lp: &Lp, point: &[Frac]) -> Result<Vec<Frac>, Stop>
     requires { length point.now ≡ size lp.now.matrix }
     ensures places { IfOk result (λ slacks. vec_len slacks ≡ lp.now.rows) }
-    ensures slacks { IfOk result (λ slacks. (i : ℕ) → IsRow lp.now.matrix i → value_at slacks.items i ≡ slack_at lp.now (value_at point.now) i) }
-    ensures refused { IfErr result (λ stop. IfOverflow stop (SomeSlackRefused lp.now (value_at point.now))) }
+    ensures slacks { IfOk result (λ slacks. (i : ℕ) → IsRow lp.now.matrix i → value_at slacks.items
+        i ≡ slack_at lp.now (value_at point.now) i) }
+    ensures refused { IfErr result
+        (λ stop. IfOverflow stop (SomeSlackRefused lp.now (value_at point.now))) }
 {
     let mut values = Vec::new(alloc);
     for k in 0..lp.rows {

@@ -36,8 +36,10 @@ pub fn point_shown<R: Rates>(
     ensures places { IfOk result (λ point. length point ≡ size lp.now.matrix) }
     ensures point { IfOk result (λ point. IsPointOf lp.now basis.now (value_at point)) }
     ensures rates { HasRates (R.matrix rates.new) (R.basics rates.new) lp.now basis.now }
-    ensures waypoints { KeepsWaypoints lp.now.matrix (basics_of basis.now) (R.waypoints rates.old) (basics_of basis.now) (R.waypoints rates.new) }
-    ensures overflow { IfErr result (λ stop. IfOverflow stop (PointRefused lp.now (R.waypoints rates.old) basis.now (R.waypoints rates.new))) }
+    ensures waypoints { KeepsWaypoints lp.now.matrix (basics_of basis.now) (R.waypoints rates.old)
+        (basics_of basis.now) (R.waypoints rates.new) }
+    ensures overflow { IfErr result (λ stop. IfOverflow stop
+        (PointRefused lp.now (R.waypoints rates.old) basis.now (R.waypoints rates.new))) }
 {
     let size = lp.number_of_variables() as usize;
     let mut values = vec![in alloc; Frac::whole(0); size].map_err(|_| NoMemory)?;
@@ -56,8 +58,10 @@ fn prices_shown<R: Rates>(
     ensures places { IfOk result (λ prices. length prices ≡ size lp.now.matrix) }
     ensures prices { IfOk result (λ prices. ArePricesOf lp.now basis.now (value_at prices)) }
     ensures rates { HasRates (R.matrix rates.new) (R.basics rates.new) lp.now basis.now }
-    ensures waypoints { KeepsWaypoints lp.now.matrix (basics_of basis.now) (R.waypoints rates.old) (basics_of basis.now) (R.waypoints rates.new) }
-    ensures overflow { IfErr result (λ stop. IfOverflow stop (PointRefused lp.now (R.waypoints rates.old) basis.now (R.waypoints rates.new))) }
+    ensures waypoints { KeepsWaypoints lp.now.matrix (basics_of basis.now) (R.waypoints rates.old)
+        (basics_of basis.now) (R.waypoints rates.new) }
+    ensures overflow { IfErr result (λ stop. IfOverflow stop
+        (PointRefused lp.now (R.waypoints rates.old) basis.now (R.waypoints rates.new))) }
 {
     let size = lp.number_of_variables() as usize;
     let mut values = vec![in alloc; Frac::whole(0); size].map_err(|_| NoMemory)?;
@@ -75,10 +79,16 @@ pub fn solution_of<R: Rates>(
     requires no_change { sheet.lp.now.change ≡ None }
     requires rates { HasRates (R.matrix rates.old) (R.basics rates.old) sheet.lp.now basis.now }
     ensures listed { IfOk result (AreShown sheet.entry.lp.now basis.now) }
-    ensures shown { IfOk result (λ shown. IsShown (sheet_shown sheet.entry) basis.now (solution_lines sheet.entry.problem.now sheet.entry.lp.now basis.now shown.point shown.prices shown.slack.items)) }
-    ensures overflow { IfErr result (λ stop. IfOverflow stop (SolutionRefused sheet.entry.lp.now (R.waypoints rates.old) basis.now (R.waypoints rates.new))) }
-    ensures rates { HasRates (R.matrix rates.new) (R.basics rates.new) sheet.entry.lp.now basis.now }
-    ensures waypoints { KeepsWaypoints sheet.entry.lp.now.matrix (basics_of basis.now) (R.waypoints rates.old) (basics_of basis.now) (R.waypoints rates.new) }
+    ensures shown { IfOk result (λ shown. IsShown (sheet_shown sheet.entry) basis.now
+        (solution_lines sheet.entry.problem.now sheet.entry.lp.now basis.now shown.point
+        shown.prices shown.slack.items)) }
+    ensures overflow { IfErr result (λ stop. IfOverflow stop
+        (SolutionRefused sheet.entry.lp.now (R.waypoints rates.old) basis.now
+        (R.waypoints rates.new))) }
+    ensures rates { HasRates (R.matrix rates.new) (R.basics rates.new)
+        sheet.entry.lp.now basis.now }
+    ensures waypoints { KeepsWaypoints sheet.entry.lp.now.matrix (basics_of basis.now)
+        (R.waypoints rates.old) (basics_of basis.now) (R.waypoints rates.new) }
 {
     let lp = sheet.lp;
     let point = point_shown(alloc, lp, basis, rates)?;

@@ -66,7 +66,8 @@ pub fn objective_run_of<R: Rates>(
         (λ answer. IsTrueObjective sheet.entry.lp.now run.now answer.report) }
     ensures stops { IfErr result (ObjectiveRunStops sheet.entry run.now basis.old basis.new
         (R.waypoints rates.old) (R.waypoints rates.new)) }
-    ensures rates { HasRates (R.matrix rates.new) (R.basics rates.new) sheet.entry.lp.now basis.new }
+    ensures rates { HasRates (R.matrix rates.new) (R.basics rates.new)
+        sheet.entry.lp.now basis.new }
     ensures waypoints { ObjectiveFollows sheet.entry.lp.now run.now basis.old basis.new
         (R.waypoints rates.old) (R.waypoints rates.new) }
 {

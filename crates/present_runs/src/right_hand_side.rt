@@ -73,7 +73,8 @@ pub fn rhs_run_of<R: Rates>(
     ensures truth { IfOk result (λ answer. IsTrueRhs sheet.entry.lp.now run.now answer.report) }
     ensures stops { IfErr result (RhsRunStops sheet.entry run.now basis.old basis.new
         (R.waypoints rates.old) (R.waypoints rates.new)) }
-    ensures rates { HasRates (R.matrix rates.new) (R.basics rates.new) sheet.entry.lp.now basis.new }
+    ensures rates { HasRates (R.matrix rates.new) (R.basics rates.new)
+        sheet.entry.lp.now basis.new }
     ensures waypoints { RhsFollows sheet.entry.lp.now run.now basis.old basis.new
         (R.waypoints rates.old) (R.waypoints rates.new) }
 {

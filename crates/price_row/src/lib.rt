@@ -52,7 +52,8 @@ impl PriceRow {
         requires places { length out.old ≡ size file.now.matrix }
         requires room { self.old ≡ size file.now.matrix }
         ensures rates { OnOk result (IsRowOf file.now.matrix file.now.basics i (value_at out.new)) }
-        ensures overflow { RowOverflow result file.now.matrix file.now.basics (ways_of file.now) (ways_of file.now) }
+        ensures overflow { RowOverflow result file.now.matrix file.now.basics (ways_of file.now)
+            (ways_of file.now) }
         ensures never { IfErr result (λ stop. stop ≢ Stop.NoMemory) }
         ensures same { self.new ≡ self.old }
     {

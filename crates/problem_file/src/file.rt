@@ -45,7 +45,8 @@ impl ProblemFile {
     /// Files the problem under its name, in place of the one that was there. Where there is no memory the problem is dropped, and
     /// the file stays as it was.
     pub fn put(&mut self, problem: Problem) -> Result<(), NoMemory>
-        ensures filed { OnOk result ((name : Text) → filed_under name self.new ≡ (if same problem.name name then Some problem else filed_under name self.old)) }
+        ensures filed { OnOk result ((name : Text) → filed_under name self.new ≡
+            (if same problem.name name then Some problem else filed_under name self.old)) }
         ensures last { OnOk result (self.new.last ≡ Some problem.name) }
         ensures refused { OnErr result (self.new ≡ self.old) }
     {

@@ -42,8 +42,24 @@ impl Problem {
         ranges: Vec<ValueSet>,
         bounds: Vec<BoundSet>,
     ) -> Problem
-        requires { IsProblem (record { name = name; rows = rows.items; columns = columns.items; rhs = rhs.items; ranges = ranges.items; bounds = bounds.items }) }
-        ensures { result ≡ record { name = name; rows = rows.items; columns = columns.items; rhs = rhs.items; ranges = ranges.items; bounds = bounds.items } }
+        requires { IsProblem (record {
+          name = name;
+          rows = rows.items;
+          columns = columns.items;
+          rhs
+              = rhs.items;
+          ranges = ranges.items;
+          bounds = bounds.items;
+        }) }
+        ensures { result ≡ record {
+          name = name;
+          rows = rows.items;
+          columns = columns.items;
+          rhs =
+              rhs.items;
+          ranges = ranges.items;
+          bounds = bounds.items;
+        } }
     {
         Problem {
             name,

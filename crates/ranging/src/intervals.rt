@@ -18,7 +18,8 @@ use lp_model::{Basis, Evidence, Interval, Lp, Status};
 /// The cost, less the end. `i` is the basic whose rate makes the end, or 0.
 fn cost_less(cost: Frac, end: Option<End>, i: u32) -> Result<Option<Frac>, Evidence>
     ensures value { IfOk result (λ now. now ≡ less_end cost end) }
-    ensures refused { IfErr result (λ e. IfSome end (λ d. IsRefusal 15 0 i d.by 0 Sub cost d.value e)) }
+    ensures refused { IfErr result
+        (λ e. IfSome end (λ d. IsRefusal 15 0 i d.by 0 Sub cost d.value e)) }
     ensures there { IfErr result (λ e. IsSome end) }
 {
     let Some(there) = end else {
@@ -63,7 +64,8 @@ pub fn row_interval(ends: &Ends) -> Interval
 /// The limit at which `k` stands, moved to the end.
 fn limit_plus(stands: Frac, end: Option<End>, k: u32) -> Result<Option<Frac>, Evidence>
     ensures value { IfOk result (λ now. now ≡ option_map (λ e. stands +ℚ e.value) end) }
-    ensures refused { IfErr result (λ e. IfSome end (λ d. IsRefusal 15 0 d.by k d.which Add stands d.value e)) }
+    ensures refused { IfErr result
+        (λ e. IfSome end (λ d. IsRefusal 15 0 d.by k d.which Add stands d.value e)) }
     ensures there { IfErr result (λ e. IsSome end) }
 {
     let Some(there) = end else {
@@ -146,7 +148,8 @@ pub fn limit_interval(
 ) -> Result<Interval, Evidence>
     requires variable { IsVariable lp.now.matrix k }
     requires counted { length basis.now ≡ size lp.now.matrix }
-    ensures interval { IfOk result (λ interval. (t : ℚ) → IsIn interval t ↔ (IsBetweenEnds ends.now (t -ℚ stands) × IsOwn lp.now basis.now k t)) }
+    ensures interval { IfOk result (λ interval. (t : ℚ) → IsIn interval t ↔
+        (IsBetweenEnds ends.now (t -ℚ stands) × IsOwn lp.now basis.now k t)) }
     ensures refused { IfErr result (SumRefused stands ends.now k) }
 {
     let low = limit_plus(stands, ends.low, k)?;

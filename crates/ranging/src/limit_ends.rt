@@ -25,7 +25,8 @@ pub struct Distances {
 /// The limit of `i` of this number, less the value.
 fn distance(limit: Option<Frac>, value: Frac, i: u32, which: u32) -> Result<Option<Frac>, Evidence>
     ensures distance { IfOk result (λ far. far ≡ less_value value limit) }
-    ensures refused { IfErr result (λ e. IfSome limit (λ l. IsRefusal 6 0 i 0 which Sub l value e)) }
+    ensures refused { IfErr result
+        (λ e. IfSome limit (λ l. IsRefusal 6 0 i 0 which Sub l value e)) }
     ensures there { IfErr result (λ e. IsSome limit) }
 {
     let Some(there) = limit else {
@@ -100,7 +101,8 @@ fn with_basic(
 ) -> Result<Ends, Evidence>
     requires low { 1 ≤ k }
     requires high { k ≤ length basis.now }
-    ensures ends { IfOk result (IsWithBasic (stands_at_limit (status_of basis.now k)) far.now rate i ends) }
+    ensures ends { IfOk result (IsWithBasic (stands_at_limit (status_of basis.now k)) far.now
+        rate i ends) }
     ensures refused { IfErr result (IsBasicRefused far.now rate i k) }
 {
     if rate.is_zero() {
@@ -130,8 +132,11 @@ pub fn meet_limits(
     requires places { length ends.old ≡ size lp.now.matrix }
     requires low { IfSome (lower_of lp.now i) (λ l. l ≤ℚ value_at point.now i) }
     requires high { IfSome (upper_of lp.now i) (λ u. value_at point.now i ≤ℚ u) }
-    ensures met { OnOk result (AreMet lp.now basis.now (value_at point.now i) (value_at row.now) i (size lp.now.matrix) ends.old ends.new) }
-    ensures refused { IfErr result (λ e. IsLimitRefused lp.now (value_at point.now i) i e ⊎ IsRateRefused lp.now (value_at point.now i) (value_at row.now) i e) }
+    ensures met { OnOk result (AreMet lp.now basis.now (value_at point.now i) (value_at row.now) i
+        (size lp.now.matrix) ends.old ends.new) }
+    ensures refused { IfErr result
+        (λ e. IsLimitRefused lp.now (value_at point.now i) i e ⊎ IsRateRefused lp.now
+        (value_at point.now i) (value_at row.now) i e) }
 {
     let far = both_distances(lp, point[i as usize - 1], i)?;
     for k in 0..ends.len() {

@@ -39,7 +39,8 @@ pub fn row_list(
     requires optimal { IsOptimalBasis lp.now basis.now }
     requires places { length found.now ≡ size lp.now.matrix }
     requires found { AllFound lp.now basis.now (size lp.now.matrix) found.now }
-    ensures { IfOk result (λ list. ListsTo (intermediate_rows lp.now basis.now) (λ i t. IsOptimalBasis (with_row lp.now i t) basis.now) list.items) }
+    ensures { IfOk result (λ list. ListsTo (intermediate_rows lp.now basis.now)
+        (λ i t. IsOptimalBasis (with_row lp.now i t) basis.now) list.items) }
 {
     let mut list = Vec::new(alloc);
     for k in 0..lp.rows {
@@ -71,7 +72,8 @@ fn end_at(there: bool, price: Frac, k: u32) -> Option<End>
 fn own_ends(lp: &Lp, basis: &Basis, price: Frac, k: u32) -> Ends
     requires variable { IsVariable lp.now.matrix k }
     requires counted { length basis.now ≡ size lp.now.matrix }
-    ensures { result ≡ own_ends_of lp.now.sense (may_rise lp.now basis.now k) (may_fall lp.now basis.now k) price k }
+    ensures { result ≡ own_ends_of lp.now.sense (may_rise lp.now basis.now k)
+        (may_fall lp.now basis.now k) price k }
 {
     let up = rises(lp, basis, k);
     let down = falls(lp, basis, k);
@@ -94,8 +96,13 @@ fn nonbasic_cost(lp: &Lp, basis: &Basis, price: Frac, k: u32) -> Result<Interval
     requires column { IsColumn lp.now.matrix (k - lp.now.rows) }
     requires variable { IsVariable lp.now.matrix k }
     requires past { lp.now.rows < k }
-    ensures interval { IfOk result (λ interval. interval ≡ taken_from (cost lp.now (k - lp.now.rows)) (own_ends_of lp.now.sense (may_rise lp.now basis.now k) (may_fall lp.now basis.now k) price k)) }
-    ensures refused { IfErr result (DifferenceRefused (cost lp.now (k - lp.now.rows)) (own_ends_of lp.now.sense (may_rise lp.now basis.now k) (may_fall lp.now basis.now k) price k) 0) }
+    ensures interval { IfOk result
+        (λ interval. interval ≡ taken_from (cost lp.now (k - lp.now.rows))
+        (own_ends_of lp.now.sense (may_rise lp.now basis.now k)
+        (may_fall lp.now basis.now k) price k)) }
+    ensures refused { IfErr result
+        (DifferenceRefused (cost lp.now (k - lp.now.rows)) (own_ends_of lp.now.sense
+        (may_rise lp.now basis.now k) (may_fall lp.now basis.now k) price k) 0) }
 {
     let ends = own_ends(lp, basis, price, k);
     cost_interval(cost(lp, k - lp.rows), &ends, 0)
@@ -118,7 +125,8 @@ fn column_cost(
     requires found { AllFound lp.now basis.now (size lp.now.matrix) found.now }
     requires variable { IsVariable lp.now.matrix k }
     requires past { lp.now.rows < k }
-    ensures interval { IfOk result (λ interval. (t : ℚ) → IsIn interval t ↔ IsOptimalBasis (with_cost lp.now k t) basis.now) }
+    ensures interval { IfOk result (λ interval. (t : ℚ) → IsIn interval t ↔ IsOptimalBasis
+        (with_cost lp.now k t) basis.now) }
     ensures refused { IfErr result (RefusedAnywhere lp.now basis.now) }
 {
     if stands_basic(basis, k) {
@@ -143,7 +151,8 @@ pub fn cost_list(
     requires price_places { length prices.now ≡ size lp.now.matrix }
     requires found_places { length found.now ≡ size lp.now.matrix }
     requires found { AllFound lp.now basis.now (size lp.now.matrix) found.now }
-    ensures list { IfOk result (λ list. ListsTo (columns_of lp.now) (λ k t. IsOptimalBasis (with_cost lp.now k t) basis.now) list.items) }
+    ensures list { IfOk result (λ list. ListsTo (columns_of lp.now)
+        (λ k t. IsOptimalBasis (with_cost lp.now k t) basis.now) list.items) }
     ensures overflow { IfErr result (λ stop. IfOverflow stop (RefusedAnywhere lp.now basis.now)) }
 {
     let mut list = Vec::new(alloc);
@@ -172,7 +181,8 @@ pub fn limit_list(
     requires point_places { length point.now ≡ size lp.now.matrix }
     requires end_places { length ends.now ≡ size lp.now.matrix }
     requires met { AllMet lp.now basis.now (value_at point.now) (size lp.now.matrix) ends.now }
-    ensures list { IfOk result (λ list. ListsTo (at_limits lp.now basis.now) (λ k t. IsOptimalBasis (with_limit lp.now basis.now k t) basis.now) list.items) }
+    ensures list { IfOk result (λ list. ListsTo (at_limits lp.now basis.now)
+        (λ k t. IsOptimalBasis (with_limit lp.now basis.now k t) basis.now) list.items) }
     ensures overflow { IfErr result (λ stop. IfOverflow stop (RefusedAnywhere lp.now basis.now)) }
 {
     let mut list = Vec::new(alloc);

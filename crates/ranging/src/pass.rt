@@ -43,8 +43,10 @@ fn visit<R: Rates>(
     ensures met { OnOk result (AllMet lp.now basis.now (value_at point.now) i ends.new) }
     ensures matrix { R.matrix rates.new ≡ R.matrix rates.old }
     ensures basics { R.basics rates.new ≡ R.basics rates.old }
-    ensures waypoints { KeepsWaypoints lp.now.matrix (basics_of basis.now) (R.waypoints rates.old) (basics_of basis.now) (R.waypoints rates.new) }
-    ensures overflow { RangeOverflow result lp.now basis.now (R.waypoints rates.old) (R.waypoints rates.new) }
+    ensures waypoints { KeepsWaypoints lp.now.matrix (basics_of basis.now) (R.waypoints rates.old)
+        (basics_of basis.now) (R.waypoints rates.new) }
+    ensures overflow { RangeOverflow result lp.now basis.now (R.waypoints rates.old)
+        (R.waypoints rates.new) }
 {
     rates.row(i, row)?;
     match meet_limits(lp, basis, point, i, row, ends) {
@@ -86,8 +88,10 @@ fn visit_basic<R: Rates>(
     ensures found { OnOk result (AllFound lp.now basis.now i found.new) }
     ensures matrix { R.matrix rates.new ≡ R.matrix rates.old }
     ensures basics { R.basics rates.new ≡ R.basics rates.old }
-    ensures waypoints { KeepsWaypoints lp.now.matrix (basics_of basis.now) (R.waypoints rates.old) (basics_of basis.now) (R.waypoints rates.new) }
-    ensures overflow { RangeOverflow result lp.now basis.now (R.waypoints rates.old) (R.waypoints rates.new) }
+    ensures waypoints { KeepsWaypoints lp.now.matrix (basics_of basis.now) (R.waypoints rates.old)
+        (basics_of basis.now) (R.waypoints rates.new) }
+    ensures overflow { RangeOverflow result lp.now basis.now (R.waypoints rates.old)
+        (R.waypoints rates.new) }
 {
     if !stands_basic(basis, i) {
         return Ok(());
@@ -123,12 +127,15 @@ pub fn pass<R: Rates>(
     requires found_places { length found.old ≡ size lp.now.matrix }
     requires end_places { length ends.old ≡ size lp.now.matrix }
     requires begins { AllMet lp.now basis.now (value_at point.now) 0 ends.old }
-    ensures met { OnOk result (AllMet lp.now basis.now (value_at point.now) (size lp.now.matrix) ends.new) }
+    ensures met { OnOk result (AllMet lp.now basis.now (value_at point.now)
+        (size lp.now.matrix) ends.new) }
     ensures found { OnOk result (AllFound lp.now basis.now (size lp.now.matrix) found.new) }
     ensures matrix { R.matrix rates.new ≡ R.matrix rates.old }
     ensures basics { R.basics rates.new ≡ R.basics rates.old }
-    ensures waypoints { KeepsWaypoints lp.now.matrix (basics_of basis.now) (R.waypoints rates.old) (basics_of basis.now) (R.waypoints rates.new) }
-    ensures overflow { RangeOverflow result lp.now basis.now (R.waypoints rates.old) (R.waypoints rates.new) }
+    ensures waypoints { KeepsWaypoints lp.now.matrix (basics_of basis.now) (R.waypoints rates.old)
+        (basics_of basis.now) (R.waypoints rates.new) }
+    ensures overflow { RangeOverflow result lp.now basis.now (R.waypoints rates.old)
+        (R.waypoints rates.new) }
 {
     for k in 0..lp.number_of_variables() {
         visit_basic(lp, basis, rates, point, prices, k + 1, row, found, ends)?;

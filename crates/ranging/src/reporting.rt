@@ -83,8 +83,10 @@ fn range_at<R: Rates>(
     ensures report { IfOk result (λ report. IsRangeReport lp.now basis.now (report_of report)) }
     ensures matrix { R.matrix rates.new ≡ R.matrix rates.old }
     ensures basics { R.basics rates.new ≡ R.basics rates.old }
-    ensures waypoints { KeepsWaypoints lp.now.matrix (basics_of basis.now) (R.waypoints rates.old) (basics_of basis.now) (R.waypoints rates.new) }
-    ensures overflow { RangeOverflow result lp.now basis.now (R.waypoints rates.old) (R.waypoints rates.new) }
+    ensures waypoints { KeepsWaypoints lp.now.matrix (basics_of basis.now) (R.waypoints rates.old)
+        (basics_of basis.now) (R.waypoints rates.new) }
+    ensures overflow { RangeOverflow result lp.now basis.now (R.waypoints rates.old)
+        (R.waypoints rates.new) }
 {
     let size = lp.number_of_variables() as usize;
     let mut row = vec![in alloc; Frac::whole(0); size].map_err(|_| NoMemory)?;
@@ -111,8 +113,10 @@ pub fn range<R: Rates>(
     requires optimal { IsOptimalBasis lp.now basis.now }
     ensures report { IfOk result (λ report. IsRangeReport lp.now basis.now (report_of report)) }
     ensures rates { HasRates (R.matrix rates.new) (R.basics rates.new) lp.now basis.now }
-    ensures waypoints { KeepsWaypoints lp.now.matrix (basics_of basis.now) (R.waypoints rates.old) (basics_of basis.now) (R.waypoints rates.new) }
-    ensures overflow { RangeOverflow result lp.now basis.now (R.waypoints rates.old) (R.waypoints rates.new) }
+    ensures waypoints { KeepsWaypoints lp.now.matrix (basics_of basis.now) (R.waypoints rates.old)
+        (basics_of basis.now) (R.waypoints rates.new) }
+    ensures overflow { RangeOverflow result lp.now basis.now (R.waypoints rates.old)
+        (R.waypoints rates.new) }
 {
     let size = lp.number_of_variables() as usize;
     let mut point = vec![in alloc; Frac::whole(0); size].map_err(|_| NoMemory)?;

@@ -90,9 +90,12 @@ pub fn row_ends(
     requires counted { length basis.now ≡ size lp.now.matrix }
     requires prices { length prices.now ≡ size lp.now.matrix }
     requires places { length row.now ≡ size lp.now.matrix }
-    requires holds { RatesStayTo lp.now basis.now (value_at prices.now) (value_at row.now) (size lp.now.matrix) zero_ℚ }
-    ensures ends { IfOk result (AreRowEnds lp.now basis.now (value_at prices.now) (value_at row.now) (size lp.now.matrix)) }
-    ensures refused { IfErr result (RatioRefused (value_at prices.now) (value_at row.now) (size lp.now.matrix) i) }
+    requires holds { RatesStayTo lp.now basis.now (value_at prices.now) (value_at row.now)
+        (size lp.now.matrix) zero_ℚ }
+    ensures ends { IfOk result (AreRowEnds lp.now basis.now (value_at prices.now) (value_at row.now)
+        (size lp.now.matrix)) }
+    ensures refused { IfErr result (RatioRefused (value_at prices.now) (value_at row.now)
+        (size lp.now.matrix) i) }
 {
     let mut ends = Ends {
         low: None,

@@ -114,7 +114,8 @@ fn exchange_lines(
     requires places { All (HasPlaces (length quotients.old)) lines.old }
     requires slot { slot < length lines.old }
     requires pivot { HoldsAt (λ leaver. value_at leaver.rates.items q ≢ zero_ℚ) lines.old slot }
-    ensures quotients { OnOk result (HoldsAt (λ leaver. AreQuotients p q leaver.rates.items quotients.new) lines.old slot) }
+    ensures quotients { OnOk result
+        (HoldsAt (λ leaver. AreQuotients p q leaver.rates.items quotients.new) lines.old slot) }
     ensures lines { OnOk result (LineByLine (IsExchanged p q quotients.new) lines.old lines.new) }
     ensures err { OnErr result (LineByLine SameRates lines.old lines.new) }
     ensures refused { IfErr result (LinesRefused p q lines.old slot) }
@@ -210,7 +211,8 @@ impl Rates for Dense {
         requires leaves { IsBasic self.old.matrix self.old.basics p }
         requires enters { IsNonbasic self.old.matrix self.old.basics q }
         requires pivot { HasPivot self.old.matrix self.old.basics p q }
-        ensures ok { OnOk result (self.new ≡ record self.old { basics = exchanged self.old.basics p q }) }
+        ensures ok { OnOk result (self.new ≡ record self.old
+            { basics = exchanged self.old.basics p q }) }
         ensures err { OnErr result (self.new ≡ self.old) }
         ensures overflow { ExchangeOverflow result self.old.matrix self.old.basics p q [] [] }
 

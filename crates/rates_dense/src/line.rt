@@ -103,7 +103,8 @@ impl Cell {
     fn reciprocal(self, pivot: Frac) -> Result<Frac, Evidence>
         requires { pivot ≢ zero_ℚ }
         ensures value { IfOk result (λ quotient. quotient ≡ one_ℚ /ℚ pivot) }
-        ensures refused { IfErr result (IsRefusal 4 self.p self.q self.i self.j Op.Div one_ℚ pivot) }
+        ensures refused { IfErr result (IsRefusal 4 self.p self.q self.i self.j Op.Div
+            one_ℚ pivot) }
     {
         let one = Frac::whole(1);
         one.div(pivot).map_err(|refused| self.evidence(4, refused))
@@ -112,7 +113,8 @@ impl Cell {
     /// The rate at the leaver: the quotient there, times the rate at the enterer.
     fn multiple(self, quotient: Frac, factor: Frac) -> Result<Frac, Evidence>
         ensures value { IfOk result (λ rate. rate ≡ quotient *ℚ factor) }
-        ensures refused { IfErr result (IsRefusal 5 self.p self.q self.i self.j Op.Mul quotient factor) }
+        ensures refused { IfErr result (IsRefusal 5 self.p self.q self.i self.j Op.Mul
+            quotient factor) }
     {
         if let Some(multiple) = product_by_unit(quotient, factor) {
             return Ok(multiple);
@@ -125,7 +127,8 @@ impl Cell {
     /// The quotient times the rate at the enterer.
     fn product(self, quotient: Frac, factor: Frac) -> Result<Frac, Evidence>
         ensures value { IfOk result (λ product. product ≡ quotient *ℚ factor) }
-        ensures refused { IfErr result (IsRefusal 2 self.p self.q self.i self.j Op.Mul quotient factor) }
+        ensures refused { IfErr result (IsRefusal 2 self.p self.q self.i self.j Op.Mul
+            quotient factor) }
     {
         if let Some(product) = product_by_unit(quotient, factor) {
             return Ok(product);
@@ -138,7 +141,8 @@ impl Cell {
     /// A rate less such a product.
     fn difference(self, rate: Frac, product: Frac) -> Result<Frac, Evidence>
         ensures value { IfOk result (λ difference. difference ≡ rate -ℚ product) }
-        ensures refused { IfErr result (IsRefusal 3 self.p self.q self.i self.j Op.Sub rate product) }
+        ensures refused { IfErr result (IsRefusal 3 self.p self.q self.i self.j Op.Sub
+            rate product) }
     {
         if rate.is_zero() {
             return Ok(product.neg());
@@ -150,7 +154,8 @@ impl Cell {
     /// A rate without its part along the enterer's direction, by the plain operations.
     fn plain_rest(self, rate: Frac, quotient: Frac, factor: Frac) -> Result<Frac, Evidence>
         ensures value { IfOk result (λ rest. rest ≡ rate -ℚ quotient *ℚ factor) }
-        ensures refused { IfErr result (IsDifferenceRefused self.p self.q self.i self.j rate quotient factor) }
+        ensures refused { IfErr result (IsDifferenceRefused self.p self.q self.i self.j rate
+            quotient factor) }
     {
         if quotient.is_zero() {
             return Ok(rate);
@@ -162,7 +167,8 @@ impl Cell {
     /// The same, also where only the plain operations are refused.
     fn rest(self, rate: Frac, quotient: Frac, factor: Frac) -> Result<Frac, Evidence>
         ensures value { IfOk result (λ rest. rest ≡ rate -ℚ quotient *ℚ factor) }
-        ensures refused { IfErr result (IsDifferenceRefused self.p self.q self.i self.j rate quotient factor) }
+        ensures refused { IfErr result (IsDifferenceRefused self.p self.q self.i self.j rate
+            quotient factor) }
     {
         if let Some(rest) = rest_by_unit(rate, quotient, factor) {
             return Ok(rest);
@@ -256,7 +262,8 @@ fn fill_staying(
     requires places { length quotients.now ≡ length rates.now }
     requires variables { AreNumbers (length quotients.now) changed.now }
     requires room { length changed.now ≤ length next.old }
-    ensures filled { OnOk result (IsFilledAt changed.now next.new (staying_rate p q quotients.now rates.now)) }
+    ensures filled { OnOk result (IsFilledAt changed.now next.new
+        (staying_rate p q quotients.now rates.now)) }
     ensures refused { IfErr result (StayingRefused i p q quotients.now rates.now) }
 {
     let factor = rates[q as usize - 1];
@@ -279,7 +286,8 @@ fn fill_staying(
 fn take_over(changed: &[u32], next: &[Frac], rates: &mut [Frac])
     requires variables { AreNumbers (length rates.old) changed.now }
     requires room { length changed.now ≤ length next.now }
-    ensures { (f : ℕ → ℚ) → IsFilledAt changed.now next.now f → IsTakenOver changed.now rates.old rates.new f }
+    ensures { (f : ℕ → ℚ) → IsFilledAt changed.now next.now f → IsTakenOver changed.now rates.old
+        rates.new f }
 {
     for (place, number) in changed.iter().enumerate() {
         rates[*number as usize - 1] = next[place];
@@ -304,7 +312,8 @@ impl Line {
         ensures same { SameRates self.old self.new }
         ensures ready { OnOk result (IsReady p q quotients.now changed.now self.new) }
         ensures stays { OnErr result (self.old.basic ≢ p) }
-        ensures refused { IfErr result (StayingRefused self.old.basic p q quotients.now self.old.rates.items) }
+        ensures refused { IfErr result (StayingRefused self.old.basic p q quotients.now
+            self.old.rates.items) }
     {
         if self.basic == p {
             fill_entering(p, q, quotients, changed, &mut self.next);

@@ -57,7 +57,8 @@ impl ProductForm {
     pub fn new(alloc: Global, lp: &Lp) -> Result<ProductForm, NoMemory>
         ensures matrix { IfOk result (λ form. form.file.matrix ≡ lp.now.matrix) }
         ensures basics { IfOk result (λ form. form.file.basics ≡ row_basics lp.now.matrix) }
-        ensures ways { IfOk result (λ form. All (λ w. w ≡ row_basics lp.now.matrix) (ways_of form.file)) }
+        ensures ways { IfOk result (λ form. All (λ w. w ≡ row_basics lp.now.matrix)
+            (ways_of form.file)) }
     {
         let size = lp.number_of_variables();
         Ok(ProductForm {
@@ -84,9 +85,12 @@ impl ProductForm {
     pub fn reinvert(&mut self) -> Result<Reinverted, NoMemory>
         ensures same_matrix { self.new.file.matrix ≡ self.old.file.matrix }
         ensures same_basics { self.new.file.basics ≡ self.old.file.basics }
-        ensures waypoints { KeepsWaypoints self.old.file.matrix self.old.file.basics (ways_of self.old.file) self.new.file.basics (ways_of self.new.file) }
-        ensures done { IfOk result (IfDone (length self.new.file.etas ≤ basic_columns self.new.file.matrix self.new.file.basics)) }
-        ensures kept { IfOk result (IfKept (KeptRefused self.old.file.matrix self.old.file.basics)) }
+        ensures waypoints { KeepsWaypoints self.old.file.matrix self.old.file.basics
+            (ways_of self.old.file) self.new.file.basics (ways_of self.new.file) }
+        ensures done { IfOk result (IfDone (length self.new.file.etas ≤ basic_columns
+            self.new.file.matrix self.new.file.basics)) }
+        ensures kept { IfOk result (IfKept (KeptRefused self.old.file.matrix
+            self.old.file.basics)) }
         ensures same { IfOk result (IfKept (λ _. self.new.file ≡ self.old.file)) }
         ensures since { OnOk result (self.new.since ≡ 0) }
         ensures err { OnErr result (self.new ≡ self.old) }
@@ -112,7 +116,8 @@ impl ProductForm {
     fn reinvert_if_due(&mut self) -> Result<(), NoMemory>
         ensures same_matrix { self.new.file.matrix ≡ self.old.file.matrix }
         ensures same_basics { self.new.file.basics ≡ self.old.file.basics }
-        ensures waypoints { KeepsWaypoints self.old.file.matrix self.old.file.basics (ways_of self.old.file) self.new.file.basics (ways_of self.new.file) }
+        ensures waypoints { KeepsWaypoints self.old.file.matrix self.old.file.basics
+            (ways_of self.old.file) self.new.file.basics (ways_of self.new.file) }
         ensures prepared { OnOk result (IsPrepared self.old self.new) }
     {
         if self.since + 1 >= EXCHANGES {
@@ -131,8 +136,10 @@ impl ProductForm {
         ensures err { OnErr result (self.new ≡ self.old) }
         ensures counted { OnOk result (self.new.since ≡ self.old.since + 1) }
         ensures same_matrix { self.new.file.matrix ≡ self.old.file.matrix }
-        ensures waypoints { KeepsWaypoints self.old.file.matrix self.old.file.basics (ways_of self.old.file) self.new.file.basics (ways_of self.new.file) }
-        ensures overflow { ExchangeOverflow result self.old.file.matrix self.old.file.basics p q (ways_of self.old.file) (ways_of self.new.file) }
+        ensures waypoints { KeepsWaypoints self.old.file.matrix self.old.file.basics
+            (ways_of self.old.file) self.new.file.basics (ways_of self.new.file) }
+        ensures overflow { ExchangeOverflow result self.old.file.matrix self.old.file.basics p q
+            (ways_of self.old.file) (ways_of self.new.file) }
     {
         let _size = self.file.size();
         self.last.carry(&self.file, q)?;
@@ -154,10 +161,13 @@ impl Rates for ProductForm {
     fn column(&mut self, j: u32, out: &mut [Frac]) -> Result<(), Stop>
         requires nonbasic { IsNonbasic self.old.file.matrix self.old.file.basics j }
         requires places { length out.old ≡ size self.old.file.matrix }
-        ensures direction { OnOk result (IsDirectionOf self.old.file.matrix self.old.file.basics j (value_at out.new)) }
-        ensures overflow { ColumnOverflow result self.old.file.matrix self.old.file.basics (ways_of self.old.file) (ways_of self.old.file) }
+        ensures direction { OnOk result (IsDirectionOf self.old.file.matrix self.old.file.basics j
+            (value_at out.new)) }
+        ensures overflow { ColumnOverflow result self.old.file.matrix self.old.file.basics
+            (ways_of self.old.file) (ways_of self.old.file) }
         ensures same { self.new ≡ self.old }
-        ensures waypoints { KeepsWaypoints self.old.file.matrix self.old.file.basics (ways_of self.old.file) self.new.file.basics (ways_of self.new.file) }
+        ensures waypoints { KeepsWaypoints self.old.file.matrix self.old.file.basics
+            (ways_of self.old.file) self.new.file.basics (ways_of self.new.file) }
     {
         let _size = self.file.size();
         self.last.carry(&self.file, j)?;
@@ -169,10 +179,13 @@ impl Rates for ProductForm {
     fn row(&mut self, i: u32, out: &mut [Frac]) -> Result<(), Stop>
         requires basic { IsBasic self.old.file.matrix self.old.file.basics i }
         requires places { length out.old ≡ size self.old.file.matrix }
-        ensures rates { OnOk result (IsRowOf self.old.file.matrix self.old.file.basics i (value_at out.new)) }
-        ensures overflow { RowOverflow result self.old.file.matrix self.old.file.basics (ways_of self.old.file) (ways_of self.old.file) }
+        ensures rates { OnOk result (IsRowOf self.old.file.matrix self.old.file.basics i
+            (value_at out.new)) }
+        ensures overflow { RowOverflow result self.old.file.matrix self.old.file.basics
+            (ways_of self.old.file) (ways_of self.old.file) }
         ensures same { self.new ≡ self.old }
-        ensures waypoints { KeepsWaypoints self.old.file.matrix self.old.file.basics (ways_of self.old.file) self.new.file.basics (ways_of self.new.file) }
+        ensures waypoints { KeepsWaypoints self.old.file.matrix self.old.file.basics
+            (ways_of self.old.file) self.new.file.basics (ways_of self.new.file) }
     {
         self.price.row(&self.file, i, out)
     }
@@ -186,8 +199,10 @@ impl Rates for ProductForm {
         ensures err { OnErr result (self.new.file.basics ≡ self.old.file.basics) }
         ensures turn { OnOk result (IsTurn self.old self.new) }
         ensures same_matrix { self.new.file.matrix ≡ self.old.file.matrix }
-        ensures waypoints { KeepsWaypoints self.old.file.matrix self.old.file.basics (ways_of self.old.file) self.new.file.basics (ways_of self.new.file) }
-        ensures overflow { ExchangeOverflow result self.old.file.matrix self.old.file.basics p q (ways_of self.old.file) (ways_of self.new.file) }
+        ensures waypoints { KeepsWaypoints self.old.file.matrix self.old.file.basics
+            (ways_of self.old.file) self.new.file.basics (ways_of self.new.file) }
+        ensures overflow { ExchangeOverflow result self.old.file.matrix self.old.file.basics p q
+            (ways_of self.old.file) (ways_of self.new.file) }
     {
         self.reinvert_if_due()?;
         self.exchange_in_file(p, q)

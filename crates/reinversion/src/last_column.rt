@@ -36,9 +36,11 @@ impl LastColumn {
     pub fn carry(&mut self, file: &EtaFile, j: u32) -> Result<(), Stop>
         requires nonbasic { IsNonbasic file.now.matrix file.now.basics j }
         requires last { IsLast file.now self.old }
-        ensures direction { OnOk result (IsDirectionOf file.now.matrix file.now.basics j (value_at self.new.direction.items)) }
+        ensures direction { OnOk result (IsDirectionOf file.now.matrix file.now.basics j
+            (value_at self.new.direction.items)) }
         ensures last { IsLast file.now self.new }
-        ensures overflow { ColumnOverflow result file.now.matrix file.now.basics (ways_of file.now) (ways_of file.now) }
+        ensures overflow { ColumnOverflow result file.now.matrix file.now.basics (ways_of file.now)
+            (ways_of file.now) }
     {
         if self.of == Some(j) {
             return Ok(());

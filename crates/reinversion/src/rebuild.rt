@@ -41,7 +41,8 @@ fn may_leave(old: &EtaFile, new: &EtaFile, direction: &[Frac], p: u32) -> bool
     requires row { IsRow old.now.matrix p }
     requires same { new.now.matrix ≡ old.now.matrix }
     requires places { length direction.now ≡ size old.now.matrix }
-    ensures { IsTrue result ↔ IsLeaver old.now.matrix old.now.basics new.now.basics direction.now p }
+    ensures { IsTrue result ↔ IsLeaver old.now.matrix old.now.basics new.now.basics
+        direction.now p }
 {
     new.is_basic(p) && !old.is_basic(p) && !direction[p as usize - 1].is_zero()
 }
@@ -50,7 +51,8 @@ fn may_leave(old: &EtaFile, new: &EtaFile, direction: &[Frac], p: u32) -> bool
 fn leaver(old: &EtaFile, new: &EtaFile, direction: &[Frac]) -> u32
     requires same { new.now.matrix ≡ old.now.matrix }
     requires places { length direction.now ≡ size old.now.matrix }
-    requires some { ((p : ℕ) → IsRow old.now.matrix p → IsLeaver old.now.matrix old.now.basics new.now.basics direction.now p → ⊥) → ⊥ }
+    requires some { ((p : ℕ) → IsRow old.now.matrix p → IsLeaver old.now.matrix old.now.basics
+        new.now.basics direction.now p → ⊥) → ⊥ }
     ensures { IsLeaver old.now.matrix old.now.basics new.now.basics direction.now result }
 {
     for k in 0..old.rows() {
@@ -67,7 +69,8 @@ fn enter(old: &EtaFile, new: &mut EtaFile, c: u32, room: &mut [Frac]) -> Result<
     requires places { length room.old ≡ size old.now.matrix }
     requires rebuilt { IsRebuilt old.now.matrix old.now.basics (c - 1) new.old }
     ensures rebuilt { OnOk result (IsRebuilt old.now.matrix old.now.basics c new.new) }
-    ensures refused { IfErr result (λ stop. IfOverflow stop (KeptRefused old.now.matrix old.now.basics)) }
+    ensures refused { IfErr result
+        (λ stop. IfOverflow stop (KeptRefused old.now.matrix old.now.basics)) }
 {
     let _size = old.size();
     let _new_size = new.size();
@@ -87,7 +90,8 @@ fn enter(old: &EtaFile, new: &mut EtaFile, c: u32, room: &mut [Frac]) -> Result<
 pub fn rebuild(old: &EtaFile, room: &mut [Frac]) -> Result<EtaFile, Stop>
     requires { length room.old ≡ size old.now.matrix }
     ensures remade { IfOk result (IsRemade old.now) }
-    ensures refused { IfErr result (λ stop. IfOverflow stop (KeptRefused old.now.matrix old.now.basics)) }
+    ensures refused { IfErr result
+        (λ stop. IfOverflow stop (KeptRefused old.now.matrix old.now.basics)) }
 {
     let size = old.size();
     let rows = old.rows();

@@ -53,7 +53,8 @@ fn at_word(at: At) -> &'static [u8]
 
 // A value behind a blank.
 fn put_value<P: Sink>(print: &mut P, value: Value) -> Result<(), WriteStop>
-    ensures { Writes P.written P.faults P.refusals print.old print.new result (value_behind_blank value) }
+    ensures { Writes P.written P.faults P.refusals print.old print.new result
+        (value_behind_blank value) }
 {
     match value {
         Value::Code(at) => put_each(print, &[b" ", at_word(at)]),
@@ -68,7 +69,8 @@ fn put_value<P: Sink>(print: &mut P, value: Value) -> Result<(), WriteStop>
 
 // Each value behind a blank.
 fn put_values<P: Sink>(print: &mut P, values: &[Value]) -> Result<(), WriteStop>
-    ensures { Writes P.written P.faults P.refusals print.old print.new result (flat_map value_behind_blank values.now) }
+    ensures { Writes P.written P.faults P.refusals print.old print.new result
+        (flat_map value_behind_blank values.now) }
 {
     for value in values {
         put_value(print, *value)?;
@@ -78,7 +80,8 @@ fn put_values<P: Sink>(print: &mut P, values: &[Value]) -> Result<(), WriteStop>
 
 // The number and the name.
 fn put_line_head<P: Sink>(print: &mut P, number: u32, name: Name) -> Result<(), WriteStop>
-    ensures { Writes P.written P.faults P.refusals print.old print.new result (concat (number5 number ∷ codes " " ∷ name8 name ∷ [])) }
+    ensures { Writes P.written P.faults P.refusals print.old print.new result
+        (concat (number5 number ∷ codes " " ∷ name8 name ∷ [])) }
 {
     let mut buffer = Buffer::new();
     let digits = decimal(&mut buffer, number).as_bytes();
@@ -102,7 +105,8 @@ pub fn put_line<P: Sink>(
     name: Name,
     values: &[Value],
 ) -> Result<(), WriteStop>
-    ensures { Writes P.written P.faults P.refusals print.old print.new result (line_text (record { number = number; name = name; values = map value_shown values.now })) }
+    ensures { Writes P.written P.faults P.refusals print.old print.new result
+        (line_text (record { number = number; name = name; values = map value_shown values.now })) }
 {
     put_line_head(print, number, name)?;
     put_values(print, values)?;

@@ -19,7 +19,9 @@ fn put_evidence_head<P: Sink>(
     stop: &'static [u8],
     evidence: &Evidence,
 ) -> Result<(), WriteStop>
-    ensures { Writes P.written P.faults P.refusals print.old print.new result (concat (stop.now ∷ digits evidence.now.formula ∷ codes " " ∷ refused_text evidence.now.refused ∷ [])) }
+    ensures { Writes P.written P.faults P.refusals print.old print.new result
+        (concat (stop.now ∷ digits evidence.now.formula ∷ codes " " ∷ refused_text
+        evidence.now.refused ∷ [])) }
 {
     let mut formula_digits = Buffer::new();
     let left = fraction(evidence.refused.left);
@@ -45,7 +47,8 @@ fn put_evidence_tail<P: Sink>(
     evidence: &Evidence,
     card: u32,
 ) -> Result<(), WriteStop>
-    ensures { Writes P.written P.faults P.refusals print.old print.new result (concat (evidence_tail evidence.now ∷ codes " CARD " ∷ digits card ∷ codes "\n" ∷ [])) }
+    ensures { Writes P.written P.faults P.refusals print.old print.new result
+        (concat (evidence_tail evidence.now ∷ codes " CARD " ∷ digits card ∷ codes "\n" ∷ [])) }
 {
     let mut p_digits = Buffer::new();
     let mut q_digits = Buffer::new();
@@ -109,7 +112,8 @@ impl Lettered for bool {
 
 // A letter for each variable.
 fn put_letters<T: Lettered, P: Sink>(print: &mut P, items: &[T]) -> Result<(), WriteStop>
-    ensures { Writes P.written P.faults P.refusals print.old print.new result (flat_map (letters_of T.letter_of) items.now) }
+    ensures { Writes P.written P.faults P.refusals print.old print.new result
+        (flat_map (letters_of T.letter_of) items.now) }
 {
     for item in items {
         put_all(print, item.letter())?;
@@ -123,7 +127,8 @@ fn put_letter_line<T: Lettered, P: Sink>(
     word: &'static [u8],
     items: &[T],
 ) -> Result<(), WriteStop>
-    ensures { Writes P.written P.faults P.refusals print.old print.new result (letter_line word.now T.letter_of items.now) }
+    ensures { Writes P.written P.faults P.refusals print.old print.new result
+        (letter_line word.now T.letter_of items.now) }
 {
     put_all(print, word)?;
     put_letters(print, items)?;
@@ -136,7 +141,9 @@ fn put_letter_lines<P: Sink>(
     statuses: &[Status],
     way: &[bool],
 ) -> Result<(), WriteStop>
-    ensures { Writes P.written P.faults P.refusals print.old print.new result (letter_line (codes "BASIS ") status_letter statuses.now ++ letter_line (codes "WAY ") basic_letter way.now) }
+    ensures { Writes P.written P.faults P.refusals print.old print.new result
+        (letter_line (codes "BASIS ") status_letter statuses.now ++ letter_line (codes "WAY ")
+        basic_letter way.now) }
 {
     put_letter_line(print, b"BASIS ", statuses)?;
     put_letter_line(print, b"WAY ", way)
@@ -144,7 +151,8 @@ fn put_letter_lines<P: Sink>(
 
 // The same lines, where there is a basis.
 fn put_place<P: Sink>(print: &mut P, basis: Option<&Basis>, way: &[bool]) -> Result<(), WriteStop>
-    ensures { Writes P.written P.faults P.refusals print.old print.new result (place_text (place_shown basis.entry way.now)) }
+    ensures { Writes P.written P.faults P.refusals print.old print.new result
+        (place_text (place_shown basis.entry way.now)) }
 {
     match basis {
         Some(basis) => put_letter_lines(print, basis.statuses(), way),
@@ -160,7 +168,12 @@ pub fn put_overflow<P: Sink>(
     way: &[bool],
     card: u32,
 ) -> Result<(), WriteStop>
-    ensures { Writes P.written P.faults P.refusals print.old print.new result (overflow_text (record { evidence = evidence.now; place = place_shown basis.entry way.now; card = card })) }
+    ensures { Writes P.written P.faults P.refusals print.old print.new result
+        (overflow_text (record {
+          evidence = evidence.now;
+          place = place_shown basis.entry way.now;
+          card = card;
+        })) }
 {
     put_evidence_head(print, b"STOP 20 OVERFLOW F", evidence)?;
     put_evidence_tail(print, evidence, card)?;

@@ -11,7 +11,8 @@ use lp_definitions::Sense;
 use name_table::Name;
 
 pub fn put_title<P: Sink>(print: &mut P, text: &[u8]) -> Result<(), WriteStop>
-    ensures { Writes P.written P.faults P.refusals print.old print.new result (report_text (reports.Titled text.now)) }
+    ensures { Writes P.written P.faults P.refusals print.old print.new result
+        (report_text (reports.Titled text.now)) }
 {
     put_each(print, &[b"TITLE ", text, b"\n"])
 }
@@ -25,7 +26,14 @@ fn put_filed<P: Sink>(
     columns: u32,
     entries: u32,
 ) -> Result<(), WriteStop>
-    ensures { Writes P.written P.faults P.refusals print.old print.new result (filed_text word.now (record { name = name; rows = rows; columns = columns; entries = entries })) }
+    ensures { Writes P.written P.faults P.refusals print.old print.new result
+        (filed_text word.now (record {
+          name = name;
+          rows = rows;
+          columns = columns;
+          entries =
+              entries;
+        })) }
 {
     let mut row_digits = Buffer::new();
     let mut column_digits = Buffer::new();
@@ -56,7 +64,9 @@ pub fn put_converted<P: Sink>(
     columns: u32,
     entries: u32,
 ) -> Result<(), WriteStop>
-    ensures { Writes P.written P.faults P.refusals print.old print.new result (report_text (reports.Converted (record { name = name; rows = rows; columns = columns; entries = entries }))) }
+    ensures { Writes P.written P.faults P.refusals print.old print.new result
+        (report_text (reports.Converted
+        (record { name = name; rows = rows; columns = columns; entries = entries }))) }
 {
     put_filed(print, b"CONVERT", name, rows, columns, entries)
 }
@@ -68,13 +78,21 @@ pub fn put_revised<P: Sink>(
     columns: u32,
     entries: u32,
 ) -> Result<(), WriteStop>
-    ensures { Writes P.written P.faults P.refusals print.old print.new result (report_text (reports.Revised (record { name = name; rows = rows; columns = columns; entries = entries }))) }
+    ensures { Writes P.written P.faults P.refusals print.old print.new result
+        (report_text (reports.Revised (record {
+          name = name;
+          rows = rows;
+          columns = columns;
+          entries
+              = entries;
+        }))) }
 {
     put_filed(print, b"REVISE ", name, rows, columns, entries)
 }
 
 pub fn put_setup<P: Sink>(print: &mut P, name: Name, sense: Sense) -> Result<(), WriteStop>
-    ensures { Writes P.written P.faults P.refusals print.old print.new result (report_text (reports.SetUp name sense)) }
+    ensures { Writes P.written P.faults P.refusals print.old print.new result
+        (report_text (reports.SetUp name sense)) }
 {
     let letters = name.bytes();
     put_each(
@@ -91,7 +109,8 @@ pub fn put_setup<P: Sink>(print: &mut P, name: Name, sense: Sense) -> Result<(),
 }
 
 pub fn put_punched<P: Sink>(print: &mut P, name: Name, cards: u32) -> Result<(), WriteStop>
-    ensures { Writes P.written P.faults P.refusals print.old print.new result (report_text (reports.Punched name cards)) }
+    ensures { Writes P.written P.faults P.refusals print.old print.new result
+        (report_text (reports.Punched name cards)) }
 {
     let mut card_digits = Buffer::new();
     let letters = name.bytes();

@@ -57,7 +57,8 @@ fn put_multiplier<P: Sink>(
     k: u32,
 ) -> Result<(), WriteStop>
     requires { HasLine sheet (Table.Multipliers ray) k }
-    ensures { Writes P.written P.faults P.refusals print.old print.new result (line_shown sheet.entry (Table.Multipliers ray.entry) k) }
+    ensures { Writes P.written P.faults P.refusals print.old print.new result
+        (line_shown sheet.entry (Table.Multipliers ray.entry) k) }
 {
     let multiplier = ray[k as usize - 1];
     if multiplier.compare(Frac::whole(0)).is_eq() {
@@ -74,7 +75,8 @@ fn put_pair<P: Sink>(
     k: u32,
 ) -> Result<(), WriteStop>
     requires { HasLine sheet (Table.Pairs first second) k }
-    ensures { Writes P.written P.faults P.refusals print.old print.new result (line_shown sheet.entry (Table.Pairs first.entry second.entry) k) }
+    ensures { Writes P.written P.faults P.refusals print.old print.new result
+        (line_shown sheet.entry (Table.Pairs first.entry second.entry) k) }
 {
     let place = k as usize - 1;
     let values = [Value::Number(first[place]), Value::Number(second[place])];
@@ -88,7 +90,8 @@ fn put_row<P: Sink>(
     k: u32,
 ) -> Result<(), WriteStop>
     requires { HasLine sheet (Table.Rows standing) k }
-    ensures { Writes P.written P.faults P.refusals print.old print.new result (line_shown sheet.entry (Table.Rows standing.entry) k) }
+    ensures { Writes P.written P.faults P.refusals print.old print.new result
+        (line_shown sheet.entry (Table.Rows standing.entry) k) }
 {
     let place = k as usize - 1;
     let point = standing.point.values();
@@ -113,7 +116,8 @@ fn put_column<P: Sink>(
     k: u32,
 ) -> Result<(), WriteStop>
     requires { HasLine sheet (Table.Columns standing) k }
-    ensures { Writes P.written P.faults P.refusals print.old print.new result (line_shown sheet.entry (Table.Columns standing.entry) k) }
+    ensures { Writes P.written P.faults P.refusals print.old print.new result
+        (line_shown sheet.entry (Table.Columns standing.entry) k) }
 {
     let place = k as usize - 1;
     let lp = sheet.lp;
@@ -251,7 +255,8 @@ fn put_table_line<P: Sink>(
     k: u32,
 ) -> Result<(), WriteStop>
     requires { HasLine sheet table k }
-    ensures { Writes P.written P.faults P.refusals print.old print.new result (line_shown sheet.entry table.entry k) }
+    ensures { Writes P.written P.faults P.refusals print.old print.new result
+        (line_shown sheet.entry table.entry k) }
 {
     match table {
         Table::Multipliers(ray) => put_multiplier(print, sheet, ray, k),
@@ -275,7 +280,8 @@ pub fn put_table<P: Sink>(
 ) -> Result<(), WriteStop>
     requires ordered { first ≤ last }
     requires lines { (k : ℕ) → first < k → k ≤ last → HasLine sheet table k }
-    ensures { Writes P.written P.faults P.refusals print.old print.new result (flat_map (line_shown sheet.entry table.entry) (numbers_from (first + 1) (last - first))) }
+    ensures { Writes P.written P.faults P.refusals print.old print.new result
+        (flat_map (line_shown sheet.entry table.entry) (numbers_from (first + 1) (last - first))) }
 {
     for k in first..last {
         put_table_line(print, sheet, table, k + 1)?;

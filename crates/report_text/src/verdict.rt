@@ -35,7 +35,9 @@ fn put_found<P: Sink>(
     number: u32,
     rest: &'static [u8],
 ) -> Result<(), WriteStop>
-    ensures { Writes P.written P.faults P.refusals print.old print.new result (concat (solver_text by ∷ codes " " ∷ concat (found.now ∷ digits number ∷ rest.now ∷ []) ∷ [])) }
+    ensures { Writes P.written P.faults P.refusals print.old print.new result
+        (concat (solver_text by ∷ codes " " ∷ concat (found.now ∷ digits number ∷ rest.now
+        ∷ []) ∷ [])) }
 {
     let mut digits = Buffer::new();
     put_each(
@@ -58,7 +60,9 @@ fn put_objective<P: Sink>(
     steps: u32,
     objective: Frac,
 ) -> Result<(), WriteStop>
-    ensures { Writes P.written P.faults P.refusals print.old print.new result (concat (solver_text by ∷ codes " " ∷ concat (found.now ∷ digits steps ∷ codes " OBJECTIVE " ∷ rational_text objective ∷ []) ∷ [])) }
+    ensures { Writes P.written P.faults P.refusals print.old print.new result
+        (concat (solver_text by ∷ codes " " ∷ concat (found.now ∷ digits steps ∷ codes " OBJECTIVE "
+        ∷ rational_text objective ∷ []) ∷ [])) }
 {
     let mut digits = Buffer::new();
     let value = fraction(objective);
@@ -83,7 +87,9 @@ fn put_verdict_head<P: Sink>(
     outcome: &Outcome,
 ) -> Result<(), WriteStop>
     requires { IsOutcome sheet outcome.now }
-    ensures { Writes P.written P.faults P.refusals print.old print.new result (concat (solver_text by ∷ codes " " ∷ verdict_head (verdict_shown sheet.entry outcome.now) ∷ [])) }
+    ensures { Writes P.written P.faults P.refusals print.old print.new result
+        (concat (solver_text by ∷ codes " " ∷ verdict_head (verdict_shown sheet.entry
+        outcome.now) ∷ [])) }
 {
     match outcome {
         Outcome::Optimal { steps, point, .. } => {
@@ -103,7 +109,8 @@ fn put_verdict_head<P: Sink>(
 
 // The check, or the operation that it was refused.
 fn put_check<P: Sink>(print: &mut P, refused: Option<Refused>) -> Result<(), WriteStop>
-    ensures { Writes P.written P.faults P.refusals print.old print.new result (concat (codes " " ∷ check_text (check_shown refused) ∷ codes "\n" ∷ [])) }
+    ensures { Writes P.written P.faults P.refusals print.old print.new result
+        (concat (codes " " ∷ check_text (check_shown refused) ∷ codes "\n" ∷ [])) }
 {
     match refused {
         None => put_all(print, b" CHECKED\n"),
@@ -117,7 +124,8 @@ fn put_refused<P: Sink>(
     word: &'static [u8],
     refused: Refused,
 ) -> Result<(), WriteStop>
-    ensures { Writes P.written P.faults P.refusals print.old print.new result (concat (word.now ∷ refused_text refused ∷ codes "\n" ∷ [])) }
+    ensures { Writes P.written P.faults P.refusals print.old print.new result
+        (concat (word.now ∷ refused_text refused ∷ codes "\n" ∷ [])) }
 {
     let left = fraction(refused.left);
     let right = fraction(refused.right);
@@ -142,7 +150,8 @@ fn put_verdict_lines<P: Sink>(
     outcome: &Outcome,
 ) -> Result<(), WriteStop>
     requires { IsOutcome sheet outcome.now }
-    ensures { Writes P.written P.faults P.refusals print.old print.new result (table_text (verdict_lines (verdict_shown sheet.entry outcome.now))) }
+    ensures { Writes P.written P.faults P.refusals print.old print.new result
+        (table_text (verdict_lines (verdict_shown sheet.entry outcome.now))) }
 {
     let last = sheet.lp.number_of_variables();
     match outcome {
@@ -170,7 +179,9 @@ pub fn put_verdict<P: Sink>(
     refused: Option<Refused>,
 ) -> Result<(), WriteStop>
     requires { IsOutcome sheet outcome.now }
-    ensures { Writes P.written P.faults P.refusals print.old print.new result (report_text (reports.Solved by (verdict_shown sheet.entry outcome.now) (check_shown refused))) }
+    ensures { Writes P.written P.faults P.refusals print.old print.new result
+        (report_text (reports.Solved by (verdict_shown sheet.entry outcome.now)
+        (check_shown refused))) }
 {
     put_verdict_head(print, by, sheet, outcome)?;
     put_check(print, refused)?;

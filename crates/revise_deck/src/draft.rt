@@ -43,7 +43,13 @@ impl ReviseDraft {
 
     /// A draft behind no card, of this problem.
     pub fn new(alloc: Global, problem: NamedProblem) -> ReviseDraft
-        ensures { state_shown result ≡ record { section = None; action = None; under = under_of [] []; problem = problem } }
+        ensures { state_shown result ≡ record {
+          section = None;
+          action = None;
+          under = under_of []
+              [];
+          problem = problem;
+        } }
     {
         ReviseDraft {
             alloc,
@@ -78,9 +84,15 @@ impl ReviseDraft {
         action: Action,
         card: &DataCard<'_>,
     ) -> Result<(), CardStop>
-        ensures no_fault { OnOk result (edit_test self.old.problem section action self.old.under (shown card.now) ≡ None) }
-        ensures step { OnOk result (state_shown self.new ≡ record (state_shown self.old) { under = with_card_under self.old.under (shown card.now); problem = edited_by section action self.old.under (shown card.now) self.old.problem }) }
-        ensures stop { IfErr result (Tells (edit_test self.old.problem section action self.old.under (shown card.now))) }
+        ensures no_fault { OnOk result (edit_test self.old.problem section action self.old.under
+            (shown card.now) ≡ None) }
+        ensures step { OnOk result (state_shown self.new ≡ record (state_shown self.old) {
+          under = with_card_under self.old.under (shown card.now);
+          problem = edited_by section
+              action self.old.under (shown card.now) self.old.problem;
+        }) }
+        ensures stop { IfErr result (Tells (edit_test self.old.problem section action self.old.under
+            (shown card.now))) }
     {
         if let Some(kind) = edit_fault_of(&self.problem, section, action, &self.under, card) {
             return Err(CardStop::Refused(kind));
@@ -99,9 +111,15 @@ impl ReviseDraft {
     // Takes a data card of this section.
     fn take_data(&mut self, section: Section, card: Card<'_>) -> Result<(), CardStop>
         requires { self.old.section ≡ Some section }
-        ensures no_fault { OnOk result (data_fault (state_shown self.old) section (card_bytes card.entry) ≡ None) }
-        ensures step { OnOk result (state_shown self.new ≡ record (state_shown self.old) { under = with_card_under self.old.under (reading_of Fixed (card_bytes card.entry)); problem = problem_with (state_shown self.old) (reading_of Fixed (card_bytes card.entry)) }) }
-        ensures stop { IfErr result (Tells (data_fault (state_shown self.old) section (card_bytes card.entry))) }
+        ensures no_fault { OnOk result (data_fault (state_shown self.old) section
+            (card_bytes card.entry) ≡ None) }
+        ensures step { OnOk result (state_shown self.new ≡ record (state_shown self.old) {
+          under = with_card_under self.old.under (reading_of Fixed (card_bytes card.entry));
+          problem = problem_with (state_shown self.old) (reading_of Fixed
+              (card_bytes card.entry));
+        }) }
+        ensures stop { IfErr result (Tells (data_fault (state_shown self.old) section
+            (card_bytes card.entry))) }
     {
         let Some(action) = self.action else {
             return Err(CardStop::Refused(DeckFaultKind::UnknownAction));
@@ -114,9 +132,17 @@ impl ReviseDraft {
 
     // Takes an action card of this section.
     fn take_action(&mut self, section: Section, card: Card<'_>) -> Result<(), CardStop>
-        ensures no_fault { OnOk result (action_fault self.old.problem section (action_on Fixed (card_bytes card.entry)) (anchor_on Fixed (card_bytes card.entry)) ≡ None) }
-        ensures step { OnOk result (state_shown self.new ≡ record (state_shown self.old) { action = action_on Fixed (card_bytes card.entry); under = under_of (anchor_on Fixed (card_bytes card.entry)) [] }) }
-        ensures stop { IfErr result (Tells (action_fault self.old.problem section (action_on Fixed (card_bytes card.entry)) (anchor_on Fixed (card_bytes card.entry)))) }
+        ensures no_fault { OnOk result
+            (action_fault self.old.problem section (action_on Fixed (card_bytes card.entry))
+            (anchor_on Fixed (card_bytes card.entry)) ≡ None) }
+        ensures step { OnOk result (state_shown self.new ≡ record (state_shown self.old) {
+          action = action_on Fixed (card_bytes card.entry);
+          under = under_of
+              (anchor_on Fixed (card_bytes card.entry)) [];
+        }) }
+        ensures stop { IfErr result (Tells
+            (action_fault self.old.problem section (action_on Fixed (card_bytes card.entry))
+            (anchor_on Fixed (card_bytes card.entry)))) }
     {
         let action = action_of(card.bytes());
         let anchor = anchor_of(card);
@@ -131,9 +157,12 @@ impl ReviseDraft {
     // Takes an action card or a data card of this section.
     fn take_standing(&mut self, section: Section, card: Card<'_>) -> Result<(), CardStop>
         requires { self.old.section ≡ Some section }
-        ensures no_fault { OnOk result (standing_fault (state_shown self.old) section (card_bytes card.entry) ≡ None) }
-        ensures step { OnOk result (state_shown self.new ≡ inner_with (state_shown self.old) (card_bytes card.entry)) }
-        ensures stop { IfErr result (Tells (standing_fault (state_shown self.old) section (card_bytes card.entry))) }
+        ensures no_fault { OnOk result (standing_fault (state_shown self.old) section
+            (card_bytes card.entry) ≡ None) }
+        ensures step { OnOk result (state_shown self.new ≡ inner_with (state_shown self.old)
+            (card_bytes card.entry)) }
+        ensures stop { IfErr result (Tells (standing_fault (state_shown self.old) section
+            (card_bytes card.entry))) }
     {
         if is_action(card.bytes()) {
             return self.take_action(section, card);
@@ -143,9 +172,12 @@ impl ReviseDraft {
 
     // Takes an action card or a data card.
     fn take_inner(&mut self, card: Card<'_>) -> Result<(), CardStop>
-        ensures no_fault { OnOk result (inner_fault (state_shown self.old) (card_bytes card.entry) ≡ None) }
-        ensures step { OnOk result (state_shown self.new ≡ inner_with (state_shown self.old) (card_bytes card.entry)) }
-        ensures stop { IfErr result (Tells (inner_fault (state_shown self.old) (card_bytes card.entry))) }
+        ensures no_fault { OnOk result (inner_fault (state_shown self.old)
+            (card_bytes card.entry) ≡ None) }
+        ensures step { OnOk result (state_shown self.new ≡ inner_with (state_shown self.old)
+            (card_bytes card.entry)) }
+        ensures stop { IfErr result (Tells (inner_fault (state_shown self.old)
+            (card_bytes card.entry))) }
     {
         let Some(section) = self.section else {
             return Err(CardStop::Refused(DeckFaultKind::SectionOrder));
@@ -158,9 +190,16 @@ impl ReviseDraft {
 
     // Takes a section card.
     fn take_section(&mut self, card: Card<'_>) -> Result<(), CardStop>
-        ensures no_fault { OnOk result (section_card_fault may_come_after self.old.section (card_bytes card.entry) ≡ None) }
-        ensures step { OnOk result (state_shown self.new ≡ record (state_shown self.old) { section = option_or (named section_words (section_word (card_bytes card.entry))) self.old.section; action = None; under = under_of [] [] }) }
-        ensures stop { IfErr result (Tells (section_card_fault may_come_after self.old.section (card_bytes card.entry))) }
+        ensures no_fault { OnOk result (section_card_fault may_come_after self.old.section
+            (card_bytes card.entry) ≡ None) }
+        ensures step { OnOk result (state_shown self.new ≡ record (state_shown self.old) {
+          section = option_or (named section_words (section_word (card_bytes card.entry)))
+              self.old.section;
+          action = None;
+          under = under_of [] [];
+        }) }
+        ensures stop { IfErr result (Tells (section_card_fault may_come_after self.old.section
+            (card_bytes card.entry))) }
     {
         let section = next_section(self.section, card.bytes())?;
         self.section = Some(section);

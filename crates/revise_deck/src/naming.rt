@@ -56,7 +56,8 @@ fn named_entries(
     rows: &[RowDecl],
     entries: &[DeckEntry],
 ) -> Result<Vec<NamedEntry>, DeckStop>
-    ensures { IfOk result (λ list. list.items ≡ map (entry_by (name_at (map (λ row. row.name) rows.now))) entries.now) }
+    ensures { IfOk result (λ list. list.items ≡ map (entry_by
+        (name_at (map (λ row. row.name) rows.now))) entries.now) }
 {
     let list = entries
         .iter()
@@ -71,7 +72,8 @@ fn named_bounds(
     columns: &[ColumnDecl],
     bounds: &[BoundItem],
 ) -> Result<Vec<NamedBound>, DeckStop>
-    ensures { IfOk result (λ list. list.items ≡ map (bound_by (name_at (group_names columns.now))) bounds.now) }
+    ensures { IfOk result (λ list. list.items ≡ map (bound_by (name_at (group_names columns.now)))
+        bounds.now) }
 {
     let list = bounds
         .iter()
@@ -86,7 +88,8 @@ fn named_columns(
     rows: &[RowDecl],
     columns: &[ColumnDecl],
 ) -> Result<Vec<EntryGroup>, DeckStop>
-    ensures { IfOk result (λ list. list.items ≡ map (group_by (entry_by (name_at (map (λ row. row.name) rows.now)))) columns.now) }
+    ensures { IfOk result (λ list. list.items ≡ map (group_by
+        (entry_by (name_at (map (λ row. row.name) rows.now)))) columns.now) }
 {
     let mut list = Vec::new(alloc);
     for column in columns {
@@ -104,7 +107,8 @@ fn named_sets(
     rows: &[RowDecl],
     sets: &[ValueSet],
 ) -> Result<Vec<EntryGroup>, DeckStop>
-    ensures { IfOk result (λ list. list.items ≡ map (group_by (entry_by (name_at (map (λ row. row.name) rows.now)))) sets.now) }
+    ensures { IfOk result (λ list. list.items ≡ map (group_by
+        (entry_by (name_at (map (λ row. row.name) rows.now)))) sets.now) }
 {
     let mut list = Vec::new(alloc);
     for set in sets {
@@ -122,7 +126,8 @@ fn named_bound_sets(
     columns: &[ColumnDecl],
     sets: &[BoundSet],
 ) -> Result<Vec<BoundGroup>, DeckStop>
-    ensures { IfOk result (λ list. list.items ≡ map (group_by (bound_by (name_at (group_names columns.now)))) sets.now) }
+    ensures { IfOk result (λ list. list.items ≡ map (group_by
+        (bound_by (name_at (group_names columns.now)))) sets.now) }
 {
     let mut list = Vec::new(alloc);
     for set in sets {

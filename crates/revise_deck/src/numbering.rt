@@ -29,7 +29,8 @@ fn numbered_entries(
     rows: &[RowDecl],
     entries: &[NamedEntry],
 ) -> Result<Vec<DeckEntry>, DeckStop>
-    ensures { IfOk result (λ list. list.items ≡ map (entry_by (number_in (map (λ row. row.name) rows.now))) entries.now) }
+    ensures { IfOk result (λ list. list.items ≡ map (entry_by
+        (number_in (map (λ row. row.name) rows.now))) entries.now) }
 {
     let mut list = Vec::new(alloc);
     for entry in entries {
@@ -48,7 +49,8 @@ fn numbered_bounds(
     columns: &[EntryGroup],
     bounds: &[NamedBound],
 ) -> Result<Vec<BoundItem>, DeckStop>
-    ensures { IfOk result (λ list. list.items ≡ map (bound_by (number_in (group_names columns.now))) bounds.now) }
+    ensures { IfOk result (λ list. list.items ≡ map (bound_by (number_in (group_names columns.now)))
+        bounds.now) }
 {
     let mut list = Vec::new(alloc);
     for bound in bounds {
@@ -68,7 +70,8 @@ fn numbered_columns(
     rows: &[RowDecl],
     columns: &[EntryGroup],
 ) -> Result<Vec<ColumnDecl>, DeckStop>
-    ensures { IfOk result (λ list. list.items ≡ map (group_by (entry_by (number_in (map (λ row. row.name) rows.now)))) columns.now) }
+    ensures { IfOk result (λ list. list.items ≡ map (group_by
+        (entry_by (number_in (map (λ row. row.name) rows.now)))) columns.now) }
 {
     let mut list = Vec::new(alloc);
     for column in columns {
@@ -86,7 +89,8 @@ fn numbered_sets(
     rows: &[RowDecl],
     sets: &[EntryGroup],
 ) -> Result<Vec<ValueSet>, DeckStop>
-    ensures { IfOk result (λ list. list.items ≡ map (group_by (entry_by (number_in (map (λ row. row.name) rows.now)))) sets.now) }
+    ensures { IfOk result (λ list. list.items ≡ map (group_by
+        (entry_by (number_in (map (λ row. row.name) rows.now)))) sets.now) }
 {
     let mut list = Vec::new(alloc);
     for set in sets {
@@ -104,7 +108,8 @@ fn numbered_bound_sets(
     columns: &[EntryGroup],
     sets: &[BoundGroup],
 ) -> Result<Vec<BoundSet>, DeckStop>
-    ensures { IfOk result (λ list. list.items ≡ map (group_by (bound_by (number_in (group_names columns.now)))) sets.now) }
+    ensures { IfOk result (λ list. list.items ≡ map (group_by
+        (bound_by (number_in (group_names columns.now)))) sets.now) }
 {
     let mut list = Vec::new(alloc);
     for set in sets {
@@ -135,8 +140,26 @@ fn problem_of(
     ranges: &[EntryGroup],
     bounds: &[BoundGroup],
 ) -> Result<Problem, DeckStop>
-    requires { IsProblem (numbered (record { name = name; rows = rows.now; columns = columns.now; rhs = rhs.now; ranges = ranges.now; bounds = bounds.now })) }
-    ensures { IfOk result (λ made. made ≡ numbered (record { name = name; rows = rows.now; columns = columns.now; rhs = rhs.now; ranges = ranges.now; bounds = bounds.now })) }
+    requires { IsProblem (numbered
+        (record {
+          name = name;
+          rows = rows.now;
+          columns = columns.now;
+          rhs = rhs.now;
+          ranges =
+              ranges.now;
+          bounds = bounds.now;
+        })) }
+    ensures { IfOk result (λ made. made ≡ numbered
+        (record {
+          name = name;
+          rows = rows.now;
+          columns = columns.now;
+          rhs = rhs.now;
+          ranges =
+              ranges.now;
+          bounds = bounds.now;
+        })) }
 {
     let own_rows = copied_rows(alloc, rows)?;
     let own_columns = numbered_columns(alloc, rows, columns)?;

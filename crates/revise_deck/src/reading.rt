@@ -22,15 +22,18 @@ pub trait Draft {
     /// Takes one more card that isn't skipped. After an `Err` the draft is of no use.
     fn take(&mut self, card: Card<'_>) -> Result<(), CardStop>
         ensures no_fault { OnOk result (fault_at (state self.old) (card_bytes card.entry) ≡ None) }
-        ensures step { OnOk result (state self.new ≡ state_with (state self.old) (card_bytes card.entry)) }
+        ensures step { OnOk result (state self.new ≡ state_with (state self.old)
+            (card_bytes card.entry)) }
         ensures stop { IfErr result (Tells (fault_at (state self.old) (card_bytes card.entry))) };
 }
 
 // Reads one more card.
 fn read_card<D: Draft>(draft: &mut D, number: u32, card: Card<'_>) -> Result<(), DeckStop>
     ensures no_fault { OnOk result (live_fault (D.state draft.old) (card_bytes card.entry) ≡ None) }
-    ensures step { OnOk result (D.state draft.new ≡ state_after (D.state draft.old) (card_bytes card.entry)) }
-    ensures stop { IfErr result (StopsAt number (live_fault (D.state draft.old) (card_bytes card.entry))) }
+    ensures step { OnOk result (D.state draft.new ≡ state_after (D.state draft.old)
+        (card_bytes card.entry)) }
+    ensures stop { IfErr result (StopsAt number (live_fault (D.state draft.old)
+        (card_bytes card.entry))) }
 {
     if card.is_skipped() {
         return Ok(());
@@ -54,10 +57,13 @@ pub fn read_cards<D: Draft>(
     requires from_one { 1 ≤ first }
     requires ordered { first ≤ last }
     requires within { last ≤ length cards.now }
-    ensures state { OnOk result (D.state draft.new ≡ state_of (by_names old.now) (live (cards_between first last cards.now))) }
-    ensures no_fault { OnOk result (first_faulty (revise_card_fault (by_names old.now)) [] (live (cards_between first last cards.now)) ≡ None) }
+    ensures state { OnOk result (D.state draft.new ≡ state_of (by_names old.now)
+        (live (cards_between first last cards.now))) }
+    ensures no_fault { OnOk result (first_faulty (revise_card_fault (by_names old.now)) []
+        (live (cards_between first last cards.now)) ≡ None) }
     ensures printable { OnOk result (ArePrintable (cards_between first last cards.now)) }
-    ensures stop { IfErr result (Stops (by_names old.now) (live (cards_between first last cards.now))) }
+    ensures stop { IfErr result (Stops (by_names old.now) (live
+        (cards_between first last cards.now))) }
 {
     let end = last.min(cards.count()) + 1;
     for number in first..end {

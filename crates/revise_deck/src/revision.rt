@@ -33,10 +33,13 @@ fn ended_problem(
     requires from_one { 1 ≤ first }
     requires ordered { first ≤ last }
     requires within { last ≤ length cards.now }
-    requires state { state_shown draft.now ≡ state_of (by_names old.now) (live (cards_between first last cards.now)) }
-    requires no_fault { first_faulty (revise_card_fault (by_names old.now)) [] (live (cards_between first last cards.now)) ≡ None }
+    requires state { state_shown draft.now ≡ state_of (by_names old.now)
+        (live (cards_between first last cards.now)) }
+    requires no_fault { first_faulty (revise_card_fault (by_names old.now)) []
+        (live (cards_between first last cards.now)) ≡ None }
     requires printable { ArePrintable (cards_between first last cards.now) }
-    ensures problem { IfOk result (λ problem. revision old.now (cards_between first last cards.now) name ≡ Ok problem) }
+    ensures problem { IfOk result (λ problem. revision old.now (cards_between first last cards.now)
+        name ≡ Ok problem) }
     ensures stop { IfErr result (Refuses old.now (cards_between first last cards.now) name) }
 {
     if !draft.is_ended() {
@@ -69,7 +72,8 @@ pub fn revise(
     requires from_one { 1 ≤ first }
     requires ordered { first ≤ last }
     requires within { last ≤ length cards.now }
-    ensures problem { IfOk result (λ problem. revision old.now (cards_between first last cards.now) name ≡ Ok problem) }
+    ensures problem { IfOk result (λ problem. revision old.now (cards_between first last cards.now)
+        name ≡ Ok problem) }
     ensures stop { IfErr result (Refuses old.now (cards_between first last cards.now) name) }
 {
     let Ok(problem) = named(alloc, old) else {

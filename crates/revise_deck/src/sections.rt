@@ -80,7 +80,8 @@ fn order_fault(before: Section, section: Section) -> Option<DeckFaultKind>
 
 // The section that a section card begins behind another.
 pub fn next_section(before: Option<Section>, card: &[u8]) -> Result<Section, CardStop>
-    ensures section { IfOk result (λ section. named section_words (section_word card.now) ≡ Some section) }
+    ensures section { IfOk result (λ section. named section_words (section_word card.now) ≡
+        Some section) }
     ensures no_fault { OnOk result (section_card_fault may_come_after before card.now ≡ None) }
     ensures stop { IfErr result (Tells (section_card_fault may_come_after before card.now)) }
 {

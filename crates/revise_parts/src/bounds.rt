@@ -36,7 +36,8 @@ fn without_ends(
     column: &Name,
     bounds: &[NamedBound],
 ) -> Result<Vec<NamedBound>, CardStop>
-    ensures { IfOk result (λ left. left.items ≡ filter (λ other. not (same column.now other.column && meet kind other.kind)) bounds.now) }
+    ensures { IfOk result (λ left. left.items ≡ filter (λ other. not
+        (same column.now other.column && meet kind other.kind)) bounds.now) }
 {
     let left = bounds
         .iter()
@@ -83,7 +84,8 @@ fn put_bound_from(
     card: &DataCard<'_>,
     items: &mut Vec<NamedBound>,
 ) -> Result<(), CardStop>
-    ensures { OnOk result (items.new.items ≡ put_bound (bound_of (shown card.now) kind) items.old.items) }
+    ensures { OnOk result (items.new.items ≡ put_bound (bound_of (shown card.now) kind)
+        items.old.items) }
 {
     let bound = bound_from(kind, card)?;
     *items = without_ends(alloc, kind, &card.name2, items)?;
@@ -98,7 +100,8 @@ pub fn change_bounds(
     card: &DataCard<'_>,
     items: &mut Vec<NamedBound>,
 ) -> Result<(), CardStop>
-    ensures { OnOk result (items.new.items ≡ bounds_changed change (shown card.now) items.old.items) }
+    ensures { OnOk result (items.new.items ≡ bounds_changed change (shown card.now)
+        items.old.items) }
 {
     match change {
         BoundChange::Put(kind) => put_bound_from(alloc, kind, card, items),

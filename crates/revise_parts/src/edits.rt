@@ -42,7 +42,8 @@ fn sets_without_column(
     column: &Name,
     sets: &[BoundGroup],
 ) -> Result<Vec<BoundGroup>, CardStop>
-    ensures { IfOk result (λ left. left.items ≡ filled (in_all (without_column column.now) sets.now)) }
+    ensures { IfOk result (λ left. left.items ≡ filled (in_all
+        (without_column column.now) sets.now)) }
 {
     let mut left = without_column_in_all(alloc, column, sets)?;
     remove_empty_sets(&mut left);
@@ -71,7 +72,8 @@ fn remove_column(alloc: Global, name: Name, problem: &mut NamedProblem) -> Resul
 
 // Where the next new row goes.
 fn next_row_place(action: Action, under: &UnderAction, rows: &[RowDecl]) -> Result<usize, CardStop>
-    ensures { IfOk result (λ place. place ≡ place_among action under.now.anchor under.now.there (map (λ row. row.name) rows.now)) }
+    ensures { IfOk result (λ place. place ≡ place_among action under.now.anchor under.now.there
+        (map (λ row. row.name) rows.now)) }
 {
     let anchor = under.anchor();
     let number = row_number(rows, &anchor);
@@ -85,7 +87,8 @@ fn insert_row_of(
     card: &DataCard<'_>,
     rows: &mut Vec<RowDecl>,
 ) -> Result<(), CardStop>
-    ensures { OnOk result (rows.new.items ≡ row_inserted action under.now (shown card.now) rows.old.items) }
+    ensures { OnOk result (rows.new.items ≡ row_inserted action under.now (shown card.now)
+        rows.old.items) }
 {
     let place = next_row_place(action, under, rows)?;
     insert_row_at(rows, place, card)
@@ -97,7 +100,8 @@ fn next_column_place(
     under: &UnderAction,
     columns: &[EntryGroup],
 ) -> Result<usize, CardStop>
-    ensures { IfOk result (λ place. place ≡ place_among action under.now.anchor (length under.now.names) (group_names columns.now)) }
+    ensures { IfOk result (λ place. place ≡ place_among action under.now.anchor
+        (length under.now.names) (group_names columns.now)) }
 {
     let anchor = under.anchor();
     let number = group_number(columns, &anchor);
@@ -111,7 +115,8 @@ fn insert_new_column(
     card: &DataCard<'_>,
     columns: &mut Vec<EntryGroup>,
 ) -> Result<(), CardStop>
-    ensures { OnOk result (columns.new.items ≡ insert columns.old.items place (record { name = card.now.name1; items = entries_of (shown card.now) })) }
+    ensures { OnOk result (columns.new.items ≡ insert columns.old.items place
+        (record { name = card.now.name1; items = entries_of (shown card.now) })) }
 {
     let mut items = Vec::new(alloc);
     append_all(&mut items, card)?;
@@ -133,7 +138,8 @@ fn insert_column_of(
     card: &DataCard<'_>,
     columns: &mut Vec<EntryGroup>,
 ) -> Result<(), CardStop>
-    ensures { OnOk result (columns.new.items ≡ column_inserted action under.now (shown card.now) columns.old.items) }
+    ensures { OnOk result (columns.new.items ≡ column_inserted action under.now (shown card.now)
+        columns.old.items) }
 {
     if under.goes_on(card) {
         return change_group(alloc, EntryChange::Append, card, columns);
@@ -150,7 +156,8 @@ fn edit_rows_of(
     card: &DataCard<'_>,
     problem: &mut NamedProblem,
 ) -> Result<(), CardStop>
-    ensures { OnOk result (problem.new ≡ rows_edited action under.now (shown card.now) problem.old) }
+    ensures { OnOk result (problem.new ≡ rows_edited action under.now (shown card.now)
+        problem.old) }
 {
     match action {
         Action::Modify => {
@@ -169,7 +176,8 @@ fn delete_column_of(
     card: &DataCard<'_>,
     problem: &mut NamedProblem,
 ) -> Result<(), CardStop>
-    ensures { OnOk result (problem.new ≡ columns_edited Action.Delete (record { anchor = []; there = 0; names = []; last = None }) (shown card.now) problem.old) }
+    ensures { OnOk result (problem.new ≡ columns_edited Action.Delete
+        (record { anchor = []; there = 0; names = []; last = None }) (shown card.now) problem.old) }
 {
     if is_blank(card.name2.bytes()) {
         return remove_column(alloc, card.name1, problem);
@@ -185,7 +193,8 @@ fn edit_columns_of(
     card: &DataCard<'_>,
     problem: &mut NamedProblem,
 ) -> Result<(), CardStop>
-    ensures { OnOk result (problem.new ≡ columns_edited action under.now (shown card.now) problem.old) }
+    ensures { OnOk result (problem.new ≡ columns_edited action under.now (shown card.now)
+        problem.old) }
 {
     match action {
         Action::Modify => change_group(alloc, EntryChange::Put, card, &mut problem.columns),
@@ -220,7 +229,8 @@ fn put_bound_of(
     card: &DataCard<'_>,
     sets: &mut Vec<BoundGroup>,
 ) -> Result<(), CardStop>
-    ensures { OnOk result (sets.new.items ≡ edit_bounds Action.Modify (shown card.now) sets.old.items) }
+    ensures { OnOk result (sets.new.items ≡ edit_bounds Action.Modify (shown card.now)
+        sets.old.items) }
 {
     match bound_kind(card.kind) {
         Some(kind) => change_bound_set(alloc, BoundChange::Put(kind), card, sets),
@@ -254,7 +264,8 @@ fn edit_section(
     card: &DataCard<'_>,
     problem: &mut NamedProblem,
 ) -> Result<(), CardStop>
-    ensures { OnOk result (problem.new ≡ edited_by section action under.now (shown card.now) problem.old) }
+    ensures { OnOk result (problem.new ≡ edited_by section action under.now (shown card.now)
+        problem.old) }
 {
     match section {
         Section::Rows => edit_rows_of(alloc, action, under, card, problem),
@@ -276,7 +287,8 @@ pub fn edit(
     card: &DataCard<'_>,
     problem: &mut NamedProblem,
 ) -> Result<(), CardStop>
-    ensures edited { OnOk result (problem.new ≡ edited_by section action under.now (shown card.now) problem.old) }
+    ensures edited { OnOk result (problem.new ≡ edited_by section action under.now (shown card.now)
+        problem.old) }
     ensures stop { IfErr result (λ stop. stop ≡ CardStop.NoMemory) }
 {
     match edit_section(alloc, section, action, under, card, problem) {

@@ -36,7 +36,8 @@ fn with_replaced(
     new: NamedEntry,
     entries: &[NamedEntry],
 ) -> Result<Vec<NamedEntry>, CardStop>
-    ensures { IfOk result (λ list. list.items ≡ map (λ other. if same new.row other.row then new else other) entries.now) }
+    ensures { IfOk result (λ list. list.items ≡ map (λ other. if same new.row other.row then new
+        else other) entries.now) }
 {
     let list = entries
         .iter()
@@ -88,7 +89,8 @@ fn entry_from(pair: &PairText<'_>) -> Result<NamedEntry, CardStop>
 
 // Puts the entries of a card in, one after another.
 fn put_all(alloc: Global, items: &mut Vec<NamedEntry>, card: &DataCard<'_>) -> Result<(), CardStop>
-    ensures { OnOk result (items.new.items ≡ put_entries (entries_of (shown card.now)) items.old.items) }
+    ensures { OnOk result (items.new.items ≡ put_entries (entries_of (shown card.now))
+        items.old.items) }
 {
     put(alloc, items, entry_from(&first_pair(card))?)?;
     match second_pair(card) {
@@ -115,7 +117,8 @@ pub fn change_entries(
     card: &DataCard<'_>,
     items: &mut Vec<NamedEntry>,
 ) -> Result<(), CardStop>
-    ensures { OnOk result (items.new.items ≡ entries_changed change (shown card.now) items.old.items) }
+    ensures { OnOk result (items.new.items ≡ entries_changed change (shown card.now)
+        items.old.items) }
 {
     match change {
         EntryChange::Put => put_all(alloc, items, card),

@@ -91,7 +91,8 @@ pub fn inserted_row_fault(seen: &NamedProblem, card: &DataCard<'_>) -> Option<De
 
 // The fault of a card of COLUMNS before those of its column: field 1, a marker, or no name.
 fn column_head_fault(card: &DataCard<'_>) -> Option<DeckFaultKind>
-    ensures { result ≡ first_fault (kind_filled (shown card.now) ∷ marks (shown card.now) ∷ (is_empty card.now.name1 ⟹ DeckFaultKind.EmptyName) ∷ []) }
+    ensures { result ≡ first_fault (kind_filled (shown card.now) ∷ marks (shown card.now) ∷
+        (is_empty card.now.name1 ⟹ DeckFaultKind.EmptyName) ∷ []) }
 {
     if !is_blank(card.kind) {
         return Some(DeckFaultKind::ExtraField);
@@ -111,7 +112,8 @@ fn put_pairs_fault(
     columns: &[EntryGroup],
     card: &DataCard<'_>,
 ) -> Option<DeckFaultKind>
-    ensures { result ≡ puts_fault seen.now Columns (items_of card.now.name1 columns.now) (sum_by (λ column. length column.items) columns.now) (pairs_of (shown card.now)) }
+    ensures { result ≡ puts_fault seen.now Columns (items_of card.now.name1 columns.now)
+        (sum_by (λ column. length column.items) columns.now) (pairs_of (shown card.now)) }
 {
     let count = item_count(columns);
     puts_fault_of(seen, Section::Columns, columns, count, card)
@@ -123,7 +125,10 @@ fn put_column_fault(
     columns: &[EntryGroup],
     card: &DataCard<'_>,
 ) -> Option<DeckFaultKind>
-    ensures { result ≡ first_fault ((not (has_group columns.now card.now.name1) ⟹ DeckFaultKind.ModifyMissing) ∷ puts_fault seen.now Columns (items_of card.now.name1 columns.now) (sum_by (λ column. length column.items) columns.now) (pairs_of (shown card.now)) ∷ []) }
+    ensures { result ≡ first_fault
+        ((not (has_group columns.now card.now.name1) ⟹ DeckFaultKind.ModifyMissing) ∷ puts_fault
+        seen.now Columns (items_of card.now.name1 columns.now)
+        (sum_by (λ column. length column.items) columns.now) (pairs_of (shown card.now)) ∷ []) }
 {
     if !finds_group(columns, &card.name1) {
         return Some(DeckFaultKind::ModifyMissing);
@@ -206,7 +211,10 @@ pub fn deleted_set_fault(
 
 // The fault of a new column, or of one that goes on with that of the card before.
 fn new_column_fault(columns: &[EntryGroup], goes_on: bool, name: &Name) -> Option<DeckFaultKind>
-    ensures { result ≡ first_fault ((has_group columns.now name.now && not goes_on ⟹ DeckFaultKind.ColumnSplit) ∷ (not (has_group columns.now name.now) && nat_le MAX_COLUMNS (length columns.now) ⟹ DeckFaultKind.TooManyColumns) ∷ []) }
+    ensures { result ≡ first_fault
+        ((has_group columns.now name.now && not goes_on ⟹ DeckFaultKind.ColumnSplit) ∷
+        (not (has_group columns.now name.now) && nat_le MAX_COLUMNS (length columns.now) ⟹
+        DeckFaultKind.TooManyColumns) ∷ []) }
 {
     let is_there = finds_group(columns, name);
     if is_there && !goes_on {
@@ -224,7 +232,8 @@ fn added_pairs_fault(
     columns: &[EntryGroup],
     card: &DataCard<'_>,
 ) -> Option<DeckFaultKind>
-    ensures { result ≡ pairs_fault seen.now Columns (items_of card.now.name1 columns.now) (sum_by (λ column. length column.items) columns.now) (pairs_of (shown card.now)) }
+    ensures { result ≡ pairs_fault seen.now Columns (items_of card.now.name1 columns.now)
+        (sum_by (λ column. length column.items) columns.now) (pairs_of (shown card.now)) }
 {
     let count = item_count(columns);
     pairs_fault_of(seen, columns, count, card)
@@ -237,7 +246,12 @@ fn insert_column_fault(
     goes_on: bool,
     card: &DataCard<'_>,
 ) -> Option<DeckFaultKind>
-    ensures { result ≡ first_fault ((has_group columns.now card.now.name1 && not goes_on ⟹ DeckFaultKind.ColumnSplit) ∷ (not (has_group columns.now card.now.name1) && nat_le MAX_COLUMNS (length columns.now) ⟹ DeckFaultKind.TooManyColumns) ∷ pairs_fault seen.now Columns (items_of card.now.name1 columns.now) (sum_by (λ column. length column.items) columns.now) (pairs_of (shown card.now)) ∷ []) }
+    ensures { result ≡ first_fault
+        ((has_group columns.now card.now.name1 && not goes_on ⟹ DeckFaultKind.ColumnSplit) ∷
+        (not (has_group columns.now card.now.name1) && nat_le MAX_COLUMNS (length columns.now) ⟹
+        DeckFaultKind.TooManyColumns) ∷ pairs_fault seen.now Columns
+        (items_of card.now.name1 columns.now) (sum_by (λ column. length column.items) columns.now)
+        (pairs_of (shown card.now)) ∷ []) }
 {
     first_of(
         new_column_fault(columns, goes_on, &card.name1),
@@ -280,7 +294,8 @@ fn modified_bound_fault(
 
 /// The fault of a card of BOUNDS under MODIFY.
 pub fn modified_bounds_fault(seen: &NamedProblem, card: &DataCard<'_>) -> Option<DeckFaultKind>
-    ensures { result ≡ of_bound_type (shown card.now) (modify_bound_fault seen.now (shown card.now)) }
+    ensures { result ≡ of_bound_type (shown card.now) (modify_bound_fault seen.now
+        (shown card.now)) }
 {
     match bound_kind(card.kind) {
         Some(kind) => modified_bound_fault(seen, kind, card),

@@ -26,7 +26,8 @@ pub fn finds_group(groups: &[EntryGroup], name: &Name) -> bool
 
 // Whether a group of this name has an item on this row.
 fn any_item(groups: &[EntryGroup], name: &Name, row: &Name) -> bool
-    ensures { result ≡ list_any (λ group. same name.now group.name && has_entry group.items row.now) groups.now }
+    ensures { result ≡ list_any (λ group. same name.now group.name && has_entry group.items
+        row.now) groups.now }
 {
     groups.iter().any(|group| *name == group.name && finds_entry(&group.items, row))
 }
@@ -45,7 +46,8 @@ pub fn change_group(
     card: &DataCard<'_>,
     groups: &mut [EntryGroup],
 ) -> Result<(), CardStop>
-    ensures { OnOk result (groups.new ≡ in_group card.now.name1 (entries_changed change (shown card.now)) groups.old) }
+    ensures { OnOk result (groups.new ≡ in_group card.now.name1
+        (entries_changed change (shown card.now)) groups.old) }
 {
     for group in groups.iter_mut() {
         if card.name1 == group.name {
@@ -62,7 +64,8 @@ pub fn change_set(
     card: &DataCard<'_>,
     sets: &mut Vec<EntryGroup>,
 ) -> Result<(), CardStop>
-    ensures { OnOk result (sets.new.items ≡ in_set card.now.name1 (entries_changed change (shown card.now)) sets.old.items) }
+    ensures { OnOk result (sets.new.items ≡ in_set card.now.name1
+        (entries_changed change (shown card.now)) sets.old.items) }
 {
     if finds_group(sets, &card.name1) {
         return change_group(alloc, change, card, sets);
@@ -114,7 +117,8 @@ pub fn delete_set_items(
     card: &DataCard<'_>,
     sets: &mut Vec<EntryGroup>,
 ) -> Result<(), CardStop>
-    ensures { OnOk result (sets.new.items ≡ delete_items without_row (shown card.now) sets.old.items) }
+    ensures { OnOk result (sets.new.items ≡ delete_items without_row (shown card.now)
+        sets.old.items) }
 {
     if is_blank(card.name2.bytes()) {
         remove_group(sets, &card.name1);

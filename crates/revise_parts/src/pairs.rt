@@ -106,7 +106,8 @@ fn count_with(count: u128, is_there: bool) -> u128
 
 // Whether a row is that of the pair before, or has an item.
 fn is_second_there(groups: &[EntryGroup], name: &Name, first: &Name, row: &Name) -> bool
-    ensures { result ≡ (same row.now first.now || has_entry (items_of name.now groups.now) row.now) }
+    ensures { result ≡ (same row.now first.now || has_entry (items_of name.now
+        groups.now) row.now) }
 {
     *row == *first || finds_item(groups, name, row)
 }
@@ -133,7 +134,8 @@ pub fn puts_fault_of(
     card: &DataCard<'_>,
 ) -> Option<DeckFaultKind>
     requires { count ≤ 2 ^ 127 }
-    ensures { result ≡ puts_fault seen.now section (items_of card.now.name1 groups.now) count (pairs_of (shown card.now)) }
+    ensures { result ≡ puts_fault seen.now section (items_of card.now.name1 groups.now) count
+        (pairs_of (shown card.now)) }
 {
     let first = first_pair(card);
     let is_first = finds_item(groups, &card.name1, &first.row);
@@ -157,7 +159,8 @@ pub fn pairs_fault_of(
     card: &DataCard<'_>,
 ) -> Option<DeckFaultKind>
     requires { count ≤ 2 ^ 127 }
-    ensures { result ≡ pairs_fault seen.now Columns (items_of card.now.name1 columns.now) count (pairs_of (shown card.now)) }
+    ensures { result ≡ pairs_fault seen.now Columns (items_of card.now.name1 columns.now) count
+        (pairs_of (shown card.now)) }
 {
     let first = first_pair(card);
     let is_first = finds_item(columns, &card.name1, &first.row);

@@ -68,7 +68,8 @@ fn retyped_row(card: &DataCard<'_>, row: RowDecl) -> RowDecl
 
 // The row, with the type in field 1 of a card that names it.
 fn modified_row(card: &DataCard<'_>, row: RowDecl) -> RowDecl
-    ensures { result ≡ (if same card.now.name1 row.name then retyped (shown card.now) row else row) }
+    ensures { result ≡ (if same card.now.name1 row.name then retyped (shown card.now)
+        row else row) }
 {
     if card.name1 == row.name {
         return retyped_row(card, row);
@@ -93,7 +94,8 @@ pub fn rows_modified(
 
 /// The rows without the one of this name.
 pub fn rows_without(alloc: Global, name: &Name, rows: &[RowDecl]) -> Result<Vec<RowDecl>, CardStop>
-    ensures { IfOk result (λ list. list.items ≡ filter (λ row. not (same name.now row.name)) rows.now) }
+    ensures { IfOk result (λ list. list.items ≡ filter (λ row. not
+        (same name.now row.name)) rows.now) }
 {
     let list = rows
         .iter()
@@ -120,7 +122,8 @@ pub fn insert_row_at(
     place: usize,
     card: &DataCard<'_>,
 ) -> Result<(), CardStop>
-    ensures { OnOk result (rows.new.items ≡ unwrap_or (option_map (insert rows.old.items place) (row_of (shown card.now))) rows.old.items) }
+    ensures { OnOk result (rows.new.items ≡ unwrap_or (option_map (insert rows.old.items place)
+        (row_of (shown card.now))) rows.old.items) }
 {
     match row_kind(card.kind) {
         Some(kind) => insert_at(

@@ -24,7 +24,8 @@ pub fn finds_set(sets: &[BoundGroup], name: &Name) -> bool
 
 // Whether a set of this name has a bound on this column.
 fn any_bound(sets: &[BoundGroup], name: &Name, column: &Name) -> bool
-    ensures { result ≡ list_any (λ group. same name.now group.name && has_bound group.items column.now) sets.now }
+    ensures { result ≡ list_any (λ group. same name.now group.name && has_bound group.items
+        column.now) sets.now }
 {
     sets.iter()
         .any(|set| *name == set.name && finds_bound(&set.items, column))
@@ -44,7 +45,8 @@ fn change_bound_group(
     card: &DataCard<'_>,
     sets: &mut [BoundGroup],
 ) -> Result<(), CardStop>
-    ensures { OnOk result (sets.new ≡ in_group card.now.name1 (bounds_changed change (shown card.now)) sets.old) }
+    ensures { OnOk result (sets.new ≡ in_group card.now.name1
+        (bounds_changed change (shown card.now)) sets.old) }
 {
     for set in sets.iter_mut() {
         if card.name1 == set.name {
@@ -61,7 +63,8 @@ pub fn change_bound_set(
     card: &DataCard<'_>,
     sets: &mut Vec<BoundGroup>,
 ) -> Result<(), CardStop>
-    ensures { OnOk result (sets.new.items ≡ in_set card.now.name1 (bounds_changed change (shown card.now)) sets.old.items) }
+    ensures { OnOk result (sets.new.items ≡ in_set card.now.name1
+        (bounds_changed change (shown card.now)) sets.old.items) }
 {
     if finds_set(sets, &card.name1) {
         return change_bound_group(alloc, change, card, sets);
@@ -113,7 +116,8 @@ pub fn delete_set_bounds(
     card: &DataCard<'_>,
     sets: &mut Vec<BoundGroup>,
 ) -> Result<(), CardStop>
-    ensures { OnOk result (sets.new.items ≡ delete_items without_column (shown card.now) sets.old.items) }
+    ensures { OnOk result (sets.new.items ≡ delete_items without_column (shown card.now)
+        sets.old.items) }
 {
     if is_blank(card.name2.bytes()) {
         remove_set(sets, &card.name1);

@@ -78,7 +78,13 @@ impl UnderAction {
 
     /// One more data card with this name in field 2.
     pub fn add(&mut self, name: Name) -> Result<(), CardStop>
-        ensures added { OnOk result (self.new ≡ record { anchor = self.old.anchor; there = self.old.there + 1; names = insert_key same self.old.names name; last = Some name }) }
+        ensures added { OnOk result (self.new ≡ record {
+          anchor = self.old.anchor;
+          there = self.old.there + 1;
+          names = insert_key same
+              self.old.names name;
+          last = Some name;
+        }) }
         ensures stop { IfErr result (λ stop. stop ≡ CardStop.NoMemory) }
     {
         let Some(there) = self.there.checked_add(1) else {
