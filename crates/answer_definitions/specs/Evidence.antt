@@ -54,7 +54,7 @@ pub data OverflowsOnSweep (sheet : Sheet) (bases : List Basis) (sweep : Sweep) (
       ShiftHolds (sweep_statement sheet sweep.changing sweep.from) now.ends e → place ≡ None → OverflowsOnSweep sheet bases sweep e place
 
 abbrev pub OverflowsAt : Question → Sheet → List Basis → Evidence → Option Place → Type 0
-OverflowsAt (OfPath limit) sheet bases e place = OverflowsOnPath sheet bases limit e place
+OverflowsAt (OfPath solver limit) sheet bases e place = OverflowsOnPath sheet bases limit e place
 OverflowsAt (OfSolution mark) sheet bases e place = IsEvidence (Solution sheet.lp) None 0 bases [] e place
 OverflowsAt OfRanges sheet bases e place = IsEvidence (Range sheet.lp) None 0 bases [] e place
 OverflowsAt (OfSweep sweep) sheet bases e place = OverflowsOnSweep sheet bases sweep e place

@@ -2,12 +2,15 @@
 --     verdict_of sheet steps ending        the verdict of an end after so many steps
 --     IsVerdict sheet steps ending ..      the verdict, and how its check went
 --     IsSolved sheet s limit end           the path from the basis s ends so
+--     IsSolvedBy solver ..                 the path of a solving verb ends so
 use Rattle.std.specs.Prelude.{◌≡◌, ℕ, ◌≤◌, List, length, Option, None, Some, IfSome}
 use Rattle.lp_definitions.specs.LinearProgram.{LinearProgram, value_at}
 use Rattle.check_definitions.specs.declared.Verdict.{Verdict as CheckVerdict}
 use Rattle.check_definitions.specs.Checks.{optimal_check, crossed_check, infeasible_check, unbounded_check}
 use Rattle.path_definitions.specs.Path.{Ending, EndsOptimal, EndsCrossed, EndsInfeasible, EndsUnbounded, PathEnds, GoesOnFor}
 use Rattle.path_definitions.specs.Counts.{counted_steps}
+use Rattle.listing_definitions.specs.declared.Solver.{Solver}
+use Rattle.listing_definitions.specs.declared.Solver.TheVariants.{Primal, Paraobj, Pararhs}
 use Rattle.listing_definitions.specs.Report.{Verdict, OptimalAt, CrossedAt, InfeasibleBy, UnboundedBy, Check, Checked, Unchecked}
 use Rattle.question_definitions.specs.Answers.{Basis, Sheet, PathEnd, Reached, PathLimit}
 use Rattle.answer_definitions.specs.Lines.{pair_lines, ray_lines}
@@ -47,3 +50,9 @@ abbrev pub IsSolved : Sheet → Basis → Option ℕ → PathEnd → Type 0
 IsSolved sheet s limit (Reached bases verdict check) = ReachesVerdict sheet s limit bases verdict check
 IsSolved sheet s (Some limit) PathLimit = GoesOnFor sheet.lp s limit
 IsSolved sheet s None PathLimit = ⊥
+
+-- PRIMAL follows the path of the simplex method; no other verb asks for a path alone
+abbrev pub IsSolvedBy : Solver → Sheet → Basis → Option ℕ → PathEnd → Type 0
+IsSolvedBy Primal = IsSolved
+IsSolvedBy Paraobj = λ sheet s limit end. ⊥
+IsSolvedBy Pararhs = λ sheet s limit end. ⊥

@@ -36,7 +36,7 @@ pub record Overflow : Type 0 where
   pub card : ℕ
 
 -- A run ends by itself, with 0, 1 or 2; or the words, the cards, the control program, a statement or a deck are refused; or a
--- limit is reached; or a number doesn't fit; or a device or memory fails; or it meets what isn't built yet.
+-- limit is reached; or a number doesn't fit; or a device or memory fails.
 pub data Ending : Type 0 where
   Ended : ℕ → Ending
   WordsRefused : Ending
@@ -47,7 +47,7 @@ pub data Ending : Type 0 where
   LimitStop : LimitReached → Ending
   StatementLimit : Ending
   OverflowStop : Overflow → Ending
-  ReadFault PrintFault PunchFault Memory NotBuilt : Ending
+  ReadFault PrintFault PunchFault Memory : Ending
 
 -- the number of a verb fault
 abbrev pub verb_fault_number : VerbFault → ℕ
@@ -81,4 +81,3 @@ status_of ReadFault = 24
 status_of PrintFault = 25
 status_of PunchFault = 26
 status_of Memory = 28
-status_of NotBuilt = 30

@@ -10,7 +10,7 @@ use Rattle.card_definitions.specs.declared.CardFault.{CardFault}
 use Rattle.card_definitions.specs.declared.CardFault.TheVariants.{TooLong, NotPrintable, CardTooLong}
 use Rattle.listing_definitions.specs.Numbers.{digits, rational_text}
 use Rattle.listing_definitions.specs.Report.{Report}
-use Rattle.listing_definitions.specs.Ending.{DeckCardFault, Place, Overflow, Ending, Ended, WordsRefused, ControlStop, VerbStop, DeckStop, CardStop, LimitStop, StatementLimit, OverflowStop, ReadFault, PrintFault, PunchFault, Memory, NotBuilt, verb_fault_number}
+use Rattle.listing_definitions.specs.Ending.{DeckCardFault, Place, Overflow, Ending, Ended, WordsRefused, ControlStop, VerbStop, DeckStop, CardStop, LimitStop, StatementLimit, OverflowStop, ReadFault, PrintFault, PunchFault, Memory, verb_fault_number}
 use Rattle.listing_definitions.specs.Text.{refused_text, report_text}
 
 -- the number of a fault and the card on which it stands
@@ -79,7 +79,6 @@ ending_text ReadFault = codes "STOP 24 READ FAULT\n"
 ending_text PrintFault = []
 ending_text PunchFault = codes "STOP 26 PUNCH FAULT\n"
 ending_text Memory = codes "STOP 28 MEMORY\n"
-ending_text NotBuilt = codes "STOP 30 NOT BUILT\n"
 
 -- the text of some reports, in order
 abbrev pub reports_text : List Report → List ℕ

@@ -54,15 +54,16 @@ pub data SweepEnd : Type 0 where
   Chained : List Basis → List Interval → ChainEnd → SweepEnd
   SweepLimit : SweepEnd
 
--- a statement asks for a path in at most so many steps, or in any number of them, for the lines of SOLUTION after a verdict with this mark or of RANGE, or for a parametric run
+-- A statement asks for the path of a solving verb in at most so many steps, or in any number of them; for the lines of SOLUTION after a
+-- verdict with this mark, or of RANGE; or for a parametric run.
 pub data Question : Type 0 where
-  OfPath : Option ℕ → Question
+  OfPath : Solver → Option ℕ → Question
   OfSolution : Mark → Question
   OfRanges : Question
   OfSweep : Sweep → Question
 
 abbrev pub Answer : Question → Type 0
-Answer (OfPath limit) = PathEnd
+Answer (OfPath solver limit) = PathEnd
 Answer (OfSolution mark) = SolutionLines
 Answer OfRanges = RangeLines
 Answer (OfSweep sweep) = SweepEnd

@@ -1,20 +1,17 @@
 -- What a run needs to know of linear programming: a record of relations, each of which has one answer at most.
 --
 -- The real ones are those of the linear program alone: Solves and Sweeps follow the path and the chain of bases, Shows and Ranges
--- read off the point, the prices and the intervals of a basis, and Overflows is the evidence that holds. While a part of a run isn't
--- built, its verbs are left out of `builds`.
-use Rattle.std.specs.Prelude.{ℕ, Bool, List, Option}
+-- read off the point, the prices and the intervals of a basis, and Overflows is the evidence that holds.
+use Rattle.std.specs.Prelude.{ℕ, List, Option}
 use Rattle.lp_definitions.specs.declared.Evidence.{Evidence}
-use Rattle.control_definitions.specs.Program.{Verb}
+use Rattle.listing_definitions.specs.declared.Solver.{Solver}
 use Rattle.listing_definitions.specs.Report.{SolutionLines, RangeLines}
 use Rattle.listing_definitions.specs.Ending.{Place}
 use Rattle.question_definitions.specs.Answers.{Basis, Sheet, Sweep, Question, OfPath, OfSolution, OfRanges, OfSweep, Answer, PathEnd, SweepEnd}
 
 pub record Solving : Type 1 where
-  -- whether a verb with these arguments is built
-  pub builds : Verb ℕ → Bool
-  -- the path from a basis ends so, where it may take so many steps, or any number of them
-  pub Solves : Sheet → Basis → Option ℕ → PathEnd → Type 0
+  -- the path of a solving verb from a basis ends so, where it may take so many steps, or any number of them
+  pub Solves : Solver → Sheet → Basis → Option ℕ → PathEnd → Type 0
   -- the parametric run from a basis ends so
   pub Sweeps : Sheet → Basis → Sweep → SweepEnd → Type 0
   -- SOLUTION prints these lines of a basis
@@ -26,7 +23,7 @@ pub record Solving : Type 1 where
 
 -- the answer to a question about a linear program at a basis is right
 abbrev pub IsRight : Solving → (question : Question) → Sheet → Basis → Answer question → Type 0
-IsRight S (OfPath limit) sheet s = S.Solves sheet s limit
+IsRight S (OfPath solver limit) sheet s = S.Solves solver sheet s limit
 IsRight S (OfSolution mark) sheet s = S.Shows sheet s
 IsRight S OfRanges sheet s = S.Ranges sheet s
 IsRight S (OfSweep sweep) sheet s = S.Sweeps sheet s sweep

@@ -12,15 +12,14 @@ use Rattle.listing_definitions.specs.Ending.{Ending, Ended, ControlStop, CardSto
 use Rattle.question_definitions.specs.Solving.{Solving}
 use Rattle.run_definitions.specs.State.{State, start}
 use Rattle.run_definitions.specs.Moves.{Gain, Nothing, printed_by, punched_by, Outcome, Goes, Ends, Move, Does, MayStop, Asks, Gives}
-use Rattle.run_definitions.specs.Verbs.{statement_move}
+use Rattle.run_definitions.specs.Verbs.{verb_move}
 use Rattle.run_definitions.specs.Run.{counted, max_executed, Step, Reaches, begun, stepped, IsRun, is_over, is_ended, at_end}
 use Rattle.run_definitions.specs.Answer.{job_decks, IsJobRun, card_fault, control_fault, run}
 
--- everything is built, and nothing is ever answered
+-- nothing is ever answered
 abbrev pub silent : Solving
 silent = record {
-  builds = λ verb. true;
-  Solves = λ sheet basis limit end. ⊥;
+  Solves = λ solver sheet basis limit end. ⊥;
   Sweeps = λ sheet basis sweep end. ⊥;
   Shows = λ sheet basis lines. ⊥;
   Ranges = λ sheet basis lines. ⊥;
@@ -55,7 +54,7 @@ goes_on course (Some (Ends gain ending)) = end gain ending
 
 abbrev pub by_statement : (State → Course) → State → Option (Statement ℕ) → Course
 by_statement course state None = unanswered
-by_statement course state (Some statement) = goes_on course (settled (statement_move silent statement.verb statement.card (counted state)))
+by_statement course state (Some statement) = goes_on course (settled (verb_move statement.verb statement.card (counted state)))
 
 -- within the limit, the statement at the position is executed
 abbrev pub by_limit : (State → Course) → Program → State → Bool → Course
@@ -119,8 +118,8 @@ module _ (program : Program) (decks : List (List Card)) where
       (statement : Option (Statement ℕ)) → slice_get program.statements (state.position - 1) ≡ statement → Completes state (by_statement course state statement)
   completes-by_statement course rest state within None at = λ reports cards ending reach e. absurd (some_apart e)
   completes-by_statement course rest state within (Some statement) at =
-      completes-goes_on course rest state (settled (statement_move silent statement.verb statement.card (counted state)))
-      (λ outcome found. record { statement = statement; is_at_position = at; is_within_limit = within; gives = settled_gives statement.card (statement_move silent statement.verb statement.card (counted state)) outcome found })
+      completes-goes_on course rest state (settled (verb_move statement.verb statement.card (counted state)))
+      (λ outcome found. record { statement = statement; is_at_position = at; is_within_limit = within; gives = settled_gives statement.card (verb_move statement.verb statement.card (counted state)) outcome found })
 
   completes-by_limit : (course : State → Course) → ((state : State) → Completes state (course state)) → (state : State) (within : Bool) →
       nat_lt state.executed max_executed ≡ within → Completes state (by_limit course program state within)

@@ -10,7 +10,7 @@ use Rattle.listing_definitions.specs.Ending.{Ending, Ended, StatementLimit}
 use Rattle.question_definitions.specs.Solving.{Solving}
 use Rattle.run_definitions.specs.State.{State, start}
 use Rattle.run_definitions.specs.Moves.{Gain, printed_by, punched_by, Outcome, Goes, Ends, Gives}
-use Rattle.run_definitions.specs.Verbs.{statement_move}
+use Rattle.run_definitions.specs.Verbs.{verb_move}
 
 -- a run executes at most so many statements
 abbrev pub max_executed : ℕ
@@ -26,7 +26,7 @@ module _ (S : Solving) (program : Program) where
     pub statement : Statement ℕ
     pub is_at_position : slice_get program.statements (state.position - 1) ≡ Some statement
     pub is_within_limit : state.executed < max_executed
-    pub gives : Gives S statement.card (statement_move S statement.verb statement.card (counted state)) outcome
+    pub gives : Gives S statement.card (verb_move statement.verb statement.card (counted state)) outcome
 
   -- The run is over before a statement: at the program's end, or else at the statement limit.
   pub data IsOver (state : State) : Ending → Type 0 where

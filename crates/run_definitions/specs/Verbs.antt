@@ -24,13 +24,13 @@ use Rattle.selection_definitions.specs.Choice.{Choice}
 use Rattle.selection_definitions.specs.Selection.{selected}
 use Rattle.listing_definitions.specs.declared.Mark.{Mark}
 use Rattle.listing_definitions.specs.declared.Mark.TheVariants.{Optimal, Infeasible, Unbounded}
+use Rattle.listing_definitions.specs.declared.Solver.{Solver}
 use Rattle.listing_definitions.specs.declared.Solver.TheVariants.{Primal as ByPrimal}
 use Rattle.listing_definitions.specs.declared.VerbFault.{VerbFault}
 use Rattle.listing_definitions.specs.declared.VerbFault.TheVariants.{DeckNotFound, NoProblem, NoSetup, NotSolved, NotOptimal, NoChangeRow, NoChangeSet, NoParmax, ParmaxBelow, NoObjective, ObjectiveNotFree, NoRhsSet, NoRangeSet, NoBoundSet}
 use Rattle.listing_definitions.specs.Report.{SolutionLines, RangeLines, Verdict, OptimalAt, CrossedAt, InfeasibleBy, UnboundedBy, Report, Titled, Filed, Converted, Revised, SetUp, Punched, Solved, Solution, Ranges, Parametric, ChainEnd, EndsAt, UnboundedPast, InfeasiblePast}
-use Rattle.listing_definitions.specs.Ending.{Place, Ending, Ended, VerbStop, DeckStop, LimitStop, NotBuilt}
+use Rattle.listing_definitions.specs.Ending.{Place, Ending, Ended, VerbStop, DeckStop, LimitStop}
 use Rattle.question_definitions.specs.Answers.{Basis, Sheet, Changing, Row, Set, changing_name, sweeper, Sweep, Question, Answer, OfPath, OfSolution, OfRanges, OfSweep, PathEnd, Reached, PathLimit, SweepEnd, Opening, Chained, SweepLimit}
-use Rattle.question_definitions.specs.Solving.{Solving}
 use Rattle.control_definitions.specs.Cells.{default_cells, move_name, move_number, move_limit, steps_allowed, set_demand}
 use Rattle.run_definitions.specs.State.{Present, present_basis, path_of, gone_through, State, problem_of, choice_of}
 use Rattle.run_definitions.specs.Moves.{Nothing, Prints, Punches, Outcome, Ends, next, jump, stops, InSelection, InAnswer, Move, Does, MayStop, Asks, or_fault}
@@ -199,18 +199,18 @@ abbrev pub asks : (question : Question) → Sheet → Present → (Answer questi
 asks question sheet present go = MayStop (InAnswer question sheet (path_of present)) (Asks question sheet (present_basis present) go)
 
 -- the basis where the path ends becomes the present one, and the verdict is printed and leaves a mark
-abbrev pub after_path : ℕ → Present → State → PathEnd → Outcome
-after_path card present state (Reached bases verdict check) =
-    by_verdict (mark_of verdict) (Solved ByPrimal verdict check) (record state { setup = Some (gone_through bases present); mark = Some (mark_of verdict) })
-after_path card present state PathLimit = limit_stop card state
+abbrev pub after_path : Solver → ℕ → Present → State → PathEnd → Outcome
+after_path solver card present state (Reached bases verdict check) =
+    by_verdict (mark_of verdict) (Solved solver verdict check) (record state { setup = Some (gone_through bases present); mark = Some (mark_of verdict) })
+after_path solver card present state PathLimit = limit_stop card state
 
--- PRIMAL needs a setup; it selects, and follows the path from the present basis.
-abbrev pub solves : ℕ → State → Move
-solves card state =
+-- A solving verb needs a setup; it selects, and follows its path from the present basis.
+abbrev pub solves : Solver → ℕ → State → Move
+solves solver card state =
     or_fault card NoSetup state.setup (λ present.
     selects_present card state present (λ lp.
     let sheet : Sheet = record { problem = present.problem; lp = lp } in
-    asks (OfPath state.cells.xiterlim) sheet present (after_path card present state)))
+    asks (OfPath solver state.cells.xiterlim) sheet present (after_path solver card present state)))
 
 -- SOLUTION and RANGE speak of the linear program that PRIMAL solved: since then the mark stands, so that the present cells select
 -- it again, without a fault.
@@ -274,18 +274,10 @@ verb_move (Goto position) card state = Does (jump Nothing position state)
 verb_move Convert card state = converts card state
 verb_move Revise card state = revises card state
 verb_move (Setup options) card state = sets_up card options state
-verb_move Primal card state = solves card state
+verb_move Primal card state = solves ByPrimal card state
 verb_move SolutionVerb card state = shows card state
 verb_move Ranging card state = ranges card state
 verb_move Paraobj card state = sweeps card NoChangeRow change_row state.cells.xchrow state
 verb_move Pararhs card state = sweeps card NoChangeSet change_set state.cells.xchcol state
 verb_move Bcdout card state = punches card state
 verb_move Exit card state = Does (stops (Ended 0))
-
-abbrev pub if_built : Bool → Move → Move
-if_built true move = move
-if_built false move = Does (stops NotBuilt)
-
--- a verb that isn't built ends the run, before its own tests
-abbrev pub statement_move : Solving → Verb ℕ → ℕ → State → Move
-statement_move S verb card state = if_built (S.builds verb) (verb_move verb card state)
