@@ -6,3 +6,4 @@ pub mod Faults
 pub mod Lawful
 pub mod Program
 pub mod Selecting
+pub mod FreeRows

@@ -1,0 +1,39 @@
+// What changes along a parametric run.
+ghost use Rattle.std.specs.Prelude.{◌≡◌, IfOk, option_map};
+ghost use Rattle.lp_setup.specs.Changes.{free_row_number, set_values as values_of_set};
+
+use crate::chosen::{is_not_free, objective_row, rhs_items};
+use crate::parts::right_hand_sides;
+use frac128::Frac;
+use lp_model::NoMemory;
+use name_table::Name;
+use problem_file::Problem;
+use std::alloc::Global;
+
+/// The number of the N row of this name, if there is one.
+pub fn free_row(problem: &Problem, name: Name) -> Option<u32>
+    ensures { result ≡ free_row_number problem.now name }
+{
+    let rows = problem.rows();
+    let chosen = Some(name);
+    if is_not_free(rows, chosen) {
+        return None;
+    }
+    objective_row(rows, chosen)
+}
+
+/// The value of each row in the right-hand side set of this name, or 0 where it has none there; if there is such a set.
+pub fn set_values(
+    alloc: Global,
+    problem: &Problem,
+    name: Name,
+) -> Result<Option<Vec<Frac>>, NoMemory>
+    ensures { IfOk result (λ values. option_map (λ values. values.items) values ≡
+        values_of_set problem.now name) }
+{
+    let Some(items) = rhs_items(problem.rhs(), Some(name)) else {
+        return Ok(None);
+    };
+    let values = right_hand_sides(alloc, problem.rows().len(), items)?;
+    Ok(Some(values))
+}
