@@ -13,9 +13,9 @@ PAGE = runner.TOP / "docs/FAULTS.md"
 HEADINGS = {
     "end": "The good end, and verdicts", "words": "Words of the command line", "control": "Faults of the control program",
     "verb": "Faults of a statement", "deck": "Faults of a deck", "card": "Faults of cards",
-    "limit": "Limits, devices, memory, what isn't built",
+    "limit": "Limits, devices, memory",
 }
-HEADING_OF = dict.fromkeys(("overflow", "read", "write", "punch", "memory", "not"), "limit")
+HEADING_OF = dict.fromkeys(("overflow", "read", "write", "punch", "memory"), "limit")
 TITLES = {"control": "Control fault", "verb": "Verb fault", "deck": "Deck fault", "card": "Card fault"}
 PROGRAM = "".join(f"         {verb}\n" for verb in ("PROGRAM", "CONVERT", "SETUP", "PRIMAL", "SOLUTION", "EXIT", "PEND"))
 DECK = PROGRAM + "NAME          T\nROWS\n N  COST\n"
