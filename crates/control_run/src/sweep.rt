@@ -1,6 +1,5 @@
 // What PARAOBJ and PARARHS ask for.
 ghost use Rattle.std.specs.Prelude.{IfOk, IfErr};
-ghost use Rattle.control_run.specs.declared.sweep.SweepVerb.TheVariants as SweepVerb;
 ghost use Rattle.control_run.specs.Sweeping.{IsAsked, IsNotAsked, IsLastValue, IsLastFault, sweep_shown, IsOf};
 
 use crate::selecting::Refusal;
@@ -42,7 +41,7 @@ fn last_value(cells: &Cells) -> Result<Frac, VerbFault>
     let Some(last) = cells.parmax() else {
         return Err(VerbFault::NoParmax);
     };
-    if last < cells.param() {
+    if last.is_less(cells.param()) {
         return Err(VerbFault::ParmaxBelow);
     }
     Ok(last)

@@ -1,0 +1,252 @@
+// PARAOBJ and PARARHS.
+ghost use Rattle.std.specs.Prelude.{◌≡◌, ℕ, List, None, Some, IfSome, IfOk, IfErr};
+ghost use Rattle.problem_definitions.specs.Problem.{Problem};
+ghost use Rattle.problem_file.specs.Filed.{filed_under};
+ghost use Rattle.lp_definitions.specs.Basis.{Basics};
+ghost use Rattle.lp_model.specs.declared.reports.ParaReport.TheVariants as para_reports;
+ghost use Rattle.question_definitions.specs.Answers as answers;
+ghost use Rattle.bounded_primal.specs.Calls.{HasRates};
+ghost use Rattle.report_text.specs.Sheets.{IsSheet};
+ghost use Rattle.report_text.specs.Verdicts.{IsOutcome};
+ghost use Rattle.report_text.specs.Parametric.{IsParametric};
+ghost use Rattle.answer_definitions.specs.Real.{linear_programming};
+ghost use Rattle.present_answers.specs.Reports.{sheet_shown};
+ghost use Rattle.present_runs.specs.Reports.{IsAnswered};
+ghost use Rattle.control_run.specs.Standing.{AreDemands, IsReady, IsSound};
+ghost use Rattle.control_run.specs.Statements.{Executes};
+ghost use Rattle.control_run.specs.Findings.{Tells};
+ghost use Rattle.control_run.specs.Sweeping.{verb_of, sweep_shown, Serves, StopsSweep, IsPrintable, SweepFinds, Sweeps, cells_left};
+
+use crate::act::{Act, Halt};
+use crate::finding::{Finding, act_of, overflow_at, refused};
+use crate::machine::{Machine, Setup};
+use crate::primal::mark_of;
+use crate::selecting::{Refusal, select_present};
+use crate::sweep::{Sweep, SweepVerb, asked};
+use bounded_primal::PrimalStop;
+use frac128::{Frac, Refused};
+use job_devices::Sink;
+use listing_definitions::VerbFault;
+use lp_model::{Basis, Outcome, ParaEnd, ParaReport, ParaRun, Rates};
+use present_runs::{RunReport, objective_run_of, rhs_run_of};
+use problem_file::ProblemFile;
+use report_text::{Report, Sheet, text_of};
+use run_cells::{Cells, NumberCell};
+use std::alloc::Global;
+
+// Makes the run from a basis.
+fn run_from<R: Rates>(
+    alloc: Global,
+    sheet: Sheet<'_>,
+    basis: &mut Basis,
+    rates: &mut R,
+    sweep: &Sweep,
+) -> Result<RunReport, PrimalStop>
+    requires sheet { IsSheet sheet }
+    requires no_change { sheet.lp.now.change ≡ None }
+    requires rates { HasRates (R.matrix rates.old) (R.basics rates.old) sheet.lp.now basis.old }
+    requires serves { Serves sheet sweep.now }
+    ensures answered { IfOk result (IsAnswered sheet.entry (sweep_shown sweep.now) basis.old
+        basis.new (R.waypoints rates.old) (R.waypoints rates.new)) }
+    ensures printable { IfOk result (λ answer. IsPrintable sheet.entry answer.report) }
+    ensures stops { IfErr result (StopsSweep sheet.entry (sweep_shown sweep.now) basis.old
+        basis.new (R.waypoints rates.old) (R.waypoints rates.new)) }
+    ensures rates { HasRates (R.matrix rates.new) (R.basics rates.new)
+        sheet.entry.lp.now basis.new }
+{
+    match sweep {
+        Sweep::Row { run, .. } => objective_run_of(alloc, sheet, basis, rates, run),
+        Sweep::Set { run, .. } => rhs_run_of(alloc, sheet, basis, rates, run),
+    }
+}
+
+// Prints the verdict on an opening that isn't optimal.
+fn print_opening<P: Sink>(
+    sheet: Sheet<'_>,
+    sweep: &Sweep,
+    outcome: &Outcome,
+    refused: Option<Refused>,
+    print: &mut P,
+) -> Result<Finding, Halt>
+    requires { IsOutcome sheet outcome.now }
+    ensures { (s reached : answers.Basis) (before after : List Basics) →
+        IsAnswered sheet.entry (sweep_shown sweep.now) s reached before after
+        (record { report = para_reports.Opening outcome.now; refused = refused }) →
+        Tells (SweepFinds (sheet_shown sheet.entry) s reached (sweep_shown sweep.now) before after)
+        P.written P.faults P.refusals print.old print.new result }
+{
+    let verdict = Report::Solved {
+        by: sweep.solver(),
+        sheet,
+        outcome,
+        refused,
+    };
+    text_of(&verdict, print)?;
+    Ok(Finding::Ended(mark_of(outcome)))
+}
+
+// The value at which a run ends.
+fn last_value(run: &ParaRun, to: Frac) -> Frac
+    ensures { result ≡ value_left to run.now.end }
+{
+    match &run.end {
+        ParaEnd::AtMax => to,
+        ParaEnd::Unbounded { past, .. } | ParaEnd::Infeasible { past, .. } => *past,
+    }
+}
+
+// Prints the intervals of a run and its end.
+fn print_chain<P: Sink>(
+    sheet: Sheet<'_>,
+    sweep: &Sweep,
+    run: &ParaRun,
+    print: &mut P,
+) -> Result<Finding, Halt>
+    requires { IsParametric sheet run.now }
+    ensures { (s reached : answers.Basis) (before after : List Basics) (refused : Option Refused) →
+        IsAnswered sheet.entry (sweep_shown sweep.now) s reached before after
+        (record { report = para_reports.Run run.now; refused = refused }) →
+        Tells (SweepFinds (sheet_shown sheet.entry) s reached (sweep_shown sweep.now) before after)
+        P.written P.faults P.refusals print.old print.new result }
+{
+    let report = Report::Parametric {
+        by: sweep.solver(),
+        sheet,
+        change: sweep.change(),
+        from: sweep.from(),
+        to: sweep.to(),
+        run,
+    };
+    text_of(&report, print)?;
+    Ok(Finding::Swept(last_value(run, sweep.to())))
+}
+
+// Prints what a run has come to.
+fn print_run<P: Sink>(
+    sheet: Sheet<'_>,
+    sweep: &Sweep,
+    answer: &RunReport,
+    print: &mut P,
+) -> Result<Finding, Halt>
+    requires { IsPrintable sheet answer.now.report }
+    ensures { (s reached : answers.Basis) (before after : List Basics) →
+        IsAnswered sheet.entry (sweep_shown sweep.now) s reached before after answer.now →
+        Tells (SweepFinds (sheet_shown sheet.entry) s reached (sweep_shown sweep.now) before after)
+        P.written P.faults P.refusals print.old print.new result }
+{
+    match &answer.report {
+        ParaReport::Opening(outcome) => {
+            print_opening(sheet, sweep, outcome, answer.refused, print)
+        }
+        ParaReport::Run(run) => print_chain(sheet, sweep, run, print),
+    }
+}
+
+// Makes the run from a basis, and prints what it has come to.
+fn follow<P: Sink, R: Rates>(
+    alloc: Global,
+    sheet: Sheet<'_>,
+    basis: &mut Basis,
+    rates: &mut R,
+    sweep: &Sweep,
+    print: &mut P,
+) -> Result<Finding, Halt>
+    requires sheet { IsSheet sheet }
+    requires no_change { sheet.lp.now.change ≡ None }
+    requires rates { HasRates (R.matrix rates.old) (R.basics rates.old) sheet.lp.now basis.old }
+    requires serves { Serves sheet sweep.now }
+    ensures tells { Tells (SweepFinds (sheet_shown sheet.entry) basis.old basis.new
+        (sweep_shown sweep.now) (R.waypoints rates.old) (R.waypoints rates.new))
+        P.written P.faults P.refusals print.old print.new result }
+    ensures rates { HasRates (R.matrix rates.new) (R.basics rates.new)
+        sheet.entry.lp.now basis.new }
+{
+    match run_from(alloc, sheet, basis, rates, sweep) {
+        Ok(answer) => print_run(sheet, sweep, &answer, print),
+        Err(PrimalStop::Limit) => Ok(Finding::Limit),
+        Err(PrimalStop::Overflow(evidence)) => {
+            overflow_at(alloc, sheet.lp, basis, rates, evidence)
+        }
+        Err(PrimalStop::NoMemory) => Err(Halt::NoMemory),
+    }
+}
+
+// Selects by the cells as they stand, and makes the run that a verb asks for, from the present basis of a setup.
+fn find<P: Sink>(
+    alloc: Global,
+    cells: &Cells,
+    file: &ProblemFile,
+    setup: &mut Setup,
+    verb: SweepVerb,
+    print: &mut P,
+) -> Result<Finding, Halt>
+    requires { IsReady file.now setup.old }
+    ensures tells { (problem : Problem ℕ) → filed_under setup.old.name file.now ≡ Some problem →
+        Tells (Sweeps problem cells.now verb setup.old setup.new) P.written P.faults P.refusals
+        print.old print.new result }
+    ensures ready { IsReady file.now setup.new }
+{
+    // a setup's problem stays on file
+    let Some(problem) = file.get(&setup.name) else {
+        return Ok(Finding::Refused(VerbFault::NoSetup));
+    };
+    let lp = match select_present(alloc, problem, cells, setup.options) {
+        Ok(lp) => lp,
+        Err(refusal) => return refused(refusal),
+    };
+    let sweep = match asked(alloc, problem, cells, verb) {
+        Ok(sweep) => sweep,
+        Err(refusal) => return refused(refusal),
+    };
+    let sheet = Sheet { problem, lp: &lp };
+    let finding = follow(
+        alloc,
+        sheet,
+        &mut setup.basis,
+        &mut setup.engine,
+        &sweep,
+        print,
+    )?;
+    setup.lp = lp;
+    Ok(finding)
+}
+
+// A run that has gone on leaves its last value in XPARAM.
+fn leave_value(cells: &mut Cells, finding: &Finding)
+    ensures { cells.new ≡ cells_left finding.now cells.old }
+{
+    if let Finding::Swept(value) = finding {
+        cells.move_number(NumberCell::Xparam, *value);
+    }
+}
+
+/// PARAOBJ and PARARHS: select again by the cells as they stand, and make the run of the objective or of the right-hand side from XPARAM
+/// to XPARMAX, from the present basis. The intervals of the run and its end are printed, its last value is left in XPARAM, and the next
+/// statement follows. An opening that isn't optimal prints its verdict and goes by the demand, if that is set. Neither leaves a mark.
+///
+/// The statement is refused where there is no setup, where the cells select nothing, where XCHROW names no N row or XCHCOL no
+/// right-hand side set, and where XPARMAX isn't set or less than XPARAM. It ends the run where the run along the parameter goes on past
+/// the limit of steps, and where an operation is refused. Where there is no memory, nothing is printed.
+pub fn sweep<P: Sink>(
+    alloc: Global,
+    machine: &mut Machine,
+    print: &mut P,
+    card: u32,
+    verb: SweepVerb,
+) -> Result<Act, Halt>
+    requires demands { AreDemands machine.old.cells }
+    requires ready { IfSome machine.old.setup (IsReady machine.old.file) }
+    ensures acts { (cards : List (List ℕ)) →
+        Executes linear_programming (verb_of verb) card P.written P.faults P.refusals print.old
+        print.new cards machine.old machine.new result }
+    ensures sound { (cards : List (List ℕ)) → IsSound cards machine.old →
+        IsSound cards machine.new }
+{
+    let Some(setup) = &mut machine.setup else {
+        return Refusal::Fault(VerbFault::NoSetup).act(card);
+    };
+    machine.mark = None;
+    let finding = find(alloc, &machine.cells, &machine.file, setup, verb, print)?;
+    leave_value(&mut machine.cells, &finding);
+    Ok(act_of(&machine.cells, card, finding))
+}
