@@ -1,4 +1,3 @@
-pub mod Stage
 pub mod Engine
 pub mod Ends
 pub mod Standing

@@ -1,7 +1,7 @@
 // BCDOUT.
 ghost use Rattle.std.specs.Prelude.{◌≡◌, ℕ, List};
 ghost use Rattle.control_definitions.specs.Program as program;
-ghost use Rattle.control_run.specs.Stage.{stage};
+ghost use Rattle.answer_definitions.specs.Real.{linear_programming};
 ghost use Rattle.control_run.specs.Punching.{Performs};
 
 use crate::act::{Act, Halt};
@@ -23,8 +23,9 @@ impl Machine {
         card: u32,
     ) -> Result<Act, Halt>
         ensures { (cards : List (List ℕ)) →
-            Performs stage program.Bcdout card P.written P.faults P.refusals print.old print.new
-            U.written U.faults U.refusals punch.old punch.new cards self.now self.now result }
+            Performs linear_programming program.Bcdout card P.written P.faults P.refusals print.old
+            print.new U.written U.faults U.refusals punch.old punch.new cards self.now self.now
+            result }
     {
         let Some(problem) = self.problem_in(NameCell::Xpbname) else {
             return Ok(Act::Ends(End::Verb {

@@ -2,15 +2,15 @@
 ghost use Rattle.std.specs.Prelude.{◌≡◌, ◌≤◌, length};
 ghost use Rattle.control_verbs.specs.Shown.{shown};
 ghost use Rattle.control_compiler.specs.Valid.{IsProgram};
-ghost use Rattle.control_run.specs.Stage.{stage};
+ghost use Rattle.answer_definitions.specs.Real.{linear_programming};
 ghost use Rattle.control_run.specs.Standing.{IsSound};
 ghost use Rattle.control_run.specs.Statements.{IsSoundVerb};
 ghost use Rattle.control_run.specs.Punching.{Performs};
 ghost use Rattle.control_run.specs.Running.{Steps};
 
 use crate::act::{Act, Halt, Turn};
-use crate::end::End;
 use crate::machine::Machine;
+use crate::parametric::{sweep_objective, sweep_rhs};
 use crate::primal::solve;
 use crate::ranges::show_ranges;
 use crate::setup::set_up;
@@ -33,7 +33,7 @@ fn execute<P: Sink, U: Sink>(
 ) -> Result<Act, Halt>
     requires sound { IsSound cards.now machine.old }
     requires verb { IsSoundVerb (shown verb.now) }
-    ensures acts { Performs stage (shown verb.now) card
+    ensures acts { Performs linear_programming (shown verb.now) card
         P.written P.faults P.refusals print.old print.new U.written U.faults U.refusals
         punch.old punch.new
         cards.now machine.old machine.new result }
@@ -53,8 +53,8 @@ fn execute<P: Sink, U: Sink>(
         Verb::Solution => show_solution(alloc, machine, print, card),
         Verb::Revise => machine.revise(alloc, cards, print, card),
         Verb::Ranging => show_ranges(alloc, machine, print, card),
-        Verb::Paraobj => Ok(Act::Ends(End::NotBuilt)),
-        Verb::Pararhs => Ok(Act::Ends(End::NotBuilt)),
+        Verb::Paraobj => sweep_objective(alloc, machine, print, card),
+        Verb::Pararhs => sweep_rhs(alloc, machine, print, card),
         Verb::Bcdout => machine.punch_problem(print, punch, card),
         Verb::Exit => Ok(machine.exit()),
     }
@@ -74,7 +74,7 @@ pub fn step<P: Sink, U: Sink>(
     requires first { 1 ≤ position }
     requires within { position ≤ length program.now.statements }
     requires sound { IsSound cards.now machine.old }
-    ensures steps { Steps stage program.now cards.now
+    ensures steps { Steps linear_programming program.now cards.now
         P.written P.faults P.refusals print.old print.new U.written U.faults U.refusals
         punch.old punch.new
         position machine.old machine.new result }

@@ -10,6 +10,7 @@ mod execute;
 mod finding;
 mod finish;
 mod machine;
+mod parametric;
 mod primal;
 mod ranges;
 mod revise;

@@ -11,7 +11,7 @@ ghost use Rattle.bounded_primal.specs.Calls.{HasRates};
 ghost use Rattle.answer_definitions.specs.Sections.{IsRanged};
 ghost use Rattle.present_answers.specs.Answers.{sheet_shown, AreRanged};
 ghost use Rattle.control_run.specs.Engine.{ways};
-ghost use Rattle.control_run.specs.Stage.{stage};
+ghost use Rattle.answer_definitions.specs.Real.{linear_programming};
 ghost use Rattle.control_run.specs.Standing.{IsReady, IsSolved, IsSound};
 ghost use Rattle.control_run.specs.Statements.{Executes};
 ghost use Rattle.control_run.specs.Findings.{Tells, RangesFound, ShowsRanges, range_fault};
@@ -135,8 +135,8 @@ pub fn show_ranges<P: Sink>(
     requires solved { IfSome machine.old.mark
         (λ mark. IfSome machine.old.setup (IsSolved mark machine.old.cells machine.old.file)) }
     ensures acts { (cards : List (List ℕ)) →
-        Executes stage program.Ranging card P.written P.faults P.refusals print.old print.new cards
-        machine.old machine.new result }
+        Executes linear_programming program.Ranging card P.written P.faults P.refusals print.old
+        print.new cards machine.old machine.new result }
     ensures sound { (cards : List (List ℕ)) → IsSound cards machine.old →
         IsSound cards machine.new }
 {

@@ -4,7 +4,7 @@ ghost use Rattle.card_definitions.specs.Cards.{cards_of, numbered_cards};
 ghost use Rattle.std.specs.Io.KnownBytes.{Appends};
 ghost use Rattle.job_devices.specs.Causes.{Rose};
 ghost use Rattle.run_definitions.specs.Answer.{Job, bytes_of, IsProgramOf, IsAnswered};
-ghost use Rattle.control_run.specs.Stage.{stage};
+ghost use Rattle.answer_definitions.specs.Real.{linear_programming};
 ghost use Rattle.control_run.specs.Ends.{code_of, IsStatusOfRun};
 ghost use Rattle.control_run.specs.Finishing.{failures_in_run};
 ghost use Rattle.control_run.specs.Running.{Runs, IsRunAnswer};
@@ -41,7 +41,7 @@ fn run<P: Sink, U: Sink>(
     print: &mut P,
     punch: &mut U,
 ) -> Result<End, Halt>
-    ensures { Runs stage program.now cards.now
+    ensures { Runs linear_programming program.now cards.now
         P.written P.faults P.refusals print.old print.new U.written U.faults U.refusals
         punch.old punch.new
         result }
@@ -71,7 +71,7 @@ fn run_to_end<P: Sink, U: Sink>(
     print: &mut P,
     punch: &mut U,
 ) -> Status
-    ensures answer { IsRunAnswer stage program.now cards.now
+    ensures answer { IsRunAnswer linear_programming program.now cards.now
         (Rose (P.faults print.old) (P.faults print.new))
         (Rose (P.refusals print.old) (P.refusals print.new))
         (Rose (U.faults punch.old) (U.faults punch.new))
@@ -103,7 +103,7 @@ pub fn run_program<P: Sink, U: Sink>(
     punch: &mut U,
 ) -> Status
     // for any program and any cards
-    ensures run { IsRunAnswer stage program.now cards.now
+    ensures run { IsRunAnswer linear_programming program.now cards.now
         (Rose (P.faults print.old) (P.faults print.new))
         (Rose (P.refusals print.old) (P.refusals print.new))
         (Rose (U.faults punch.old) (U.faults punch.new))
@@ -113,7 +113,7 @@ pub fn run_program<P: Sink, U: Sink>(
     // for those of a job
     ensures answer { (job : Job) (bytes : List ℕ) → bytes_of job ≡ Some bytes →
         IsProgramOf bytes program.now → cards.now ≡ cards_of bytes →
-        IsAnswered stage job
+        IsAnswered linear_programming job
         (failures_in_run (Rose (P.faults print.old) (P.faults print.new))
         (Rose (U.faults punch.old) (U.faults punch.new))
         (Rose (P.refusals print.old) (P.refusals print.new)))

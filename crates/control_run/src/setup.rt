@@ -4,7 +4,7 @@ ghost use Rattle.std.specs.Option.{option_copied};
 ghost use Rattle.control_definitions.specs.Cells.{name_in};
 ghost use Rattle.control_definitions.specs.Program as program;
 ghost use Rattle.control_verbs.specs.Shown.{options_shown};
-ghost use Rattle.control_run.specs.Stage.{stage};
+ghost use Rattle.answer_definitions.specs.Real.{linear_programming};
 ghost use Rattle.control_run.specs.Standing.{IsSound, named, filed};
 ghost use Rattle.control_run.specs.Statements.{Executes};
 ghost use Rattle.control_run.specs.Choosing.{IsOpened, IsNotOpened};
@@ -106,8 +106,8 @@ pub fn set_up<P: Sink>(
     options: &SetupOptions,
 ) -> Result<Act, Halt>
     ensures acts { (cards : List (List ℕ)) →
-        Executes stage (program.Setup (options_shown options.now)) card P.written P.faults
-        P.refusals print.old print.new cards machine.old machine.new result }
+        Executes linear_programming (program.Setup (options_shown options.now)) card P.written
+        P.faults P.refusals print.old print.new cards machine.old machine.new result }
     ensures sound { (cards : List (List ℕ)) → IsSound cards machine.old →
         IsSound cards machine.new }
 {

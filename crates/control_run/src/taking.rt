@@ -4,7 +4,7 @@ ghost use Rattle.problem_definitions.specs.Problem.{entry_count};
 ghost use Rattle.listing_definitions.specs.Text.{report_text};
 ghost use Rattle.report_text.specs.Shown.{IsReport, text_shown};
 ghost use Rattle.run_definitions.specs.Verbs.{size_of};
-ghost use Rattle.control_run.specs.Stage.{stage};
+ghost use Rattle.answer_definitions.specs.Real.{linear_programming};
 ghost use Rattle.control_run.specs.Standing.{IsSound};
 ghost use Rattle.control_run.specs.Statements.{Executes};
 ghost use Rattle.control_run.specs.Describing.{verb_of, report_of, Describes, described_as};
@@ -100,9 +100,10 @@ impl Machine {
         card: u32,
     ) -> Result<Act, Halt>
         requires sound { IsSound cards.now self.old }
-        requires described { Describes stage verb card cards.now self.old (Ok described) }
-        ensures acts { Executes stage (verb_of verb) card P.written P.faults P.refusals print.old
-            print.new cards.now self.old self.new result }
+        requires described { Describes linear_programming verb card cards.now self.old
+            (Ok described) }
+        ensures acts { Executes linear_programming (verb_of verb) card P.written P.faults P.refusals
+            print.old print.new cards.now self.old self.new result }
         ensures sound { IsSound cards.now self.new }
     {
         match described {

@@ -1,6 +1,6 @@
 -- The problem that was found is on file, and is reported.
 use Rattle.std.proofs.lemmas.Result.{err_from_is_err_and}
-use Rattle.control_run.specs.Stage.{stage}
+use Rattle.answer_definitions.specs.Real.{linear_programming}
 use Rattle.control_run.specs.Describing.{verb_of}
 use Rattle.control_run.proofs.Giving.{quietly}
 use Rattle.control_run.proofs.Filing.{filed_done, filed_cut}
@@ -9,7 +9,7 @@ use Rattle.control_run.proofs.machine.Machine.file_described.Goals as goal
 pub returns-in-Ends-clause-acts : goal.returns-in-Ends-clause-acts
 returns-in-Ends-clause-acts g c =
     let d = rw c.in-Ends.is at c.requires.described in
-    quietly stage (verb_of c.args.verb) c.args.card g.P.Sink.written g.P.Sink.faults g.P.Sink.refusals c.args.cards.now c.args.self.now c.args.print.now d
+    quietly linear_programming (verb_of c.args.verb) c.args.card g.P.Sink.written g.P.Sink.faults g.P.Sink.refusals c.args.cards.now c.args.self.now c.args.print.now d
 
 pub returns-in_err-text_of-in-Filed-clause-acts : goal.returns-in_err-text_of-in-Filed-clause-acts
 returns-in_err-text_of-in-Filed-clause-acts g c =
