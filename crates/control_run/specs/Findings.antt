@@ -44,7 +44,7 @@ use Rattle.control_run.specs.declared.end.End.{End}
 use Rattle.control_run.specs.declared.end.End.TheVariants as end
 use Rattle.control_run.specs.declared.end.Place.{Place as OwnPlace}
 use Rattle.control_run.specs.declared.finding.Finding.{Finding}
-use Rattle.control_run.specs.declared.finding.Finding.TheVariants.{Refused, Overflow, Limit, Ended, Shown}
+use Rattle.control_run.specs.declared.finding.Finding.TheVariants.{Refused, Overflow, Limit, Ended, Shown, Swept}
 use Rattle.control_run.specs.declared.machine.Setup.{Setup}
 use Rattle.control_run.specs.declared.selecting.Refusal.{Refusal}
 use Rattle.control_run.specs.declared.selecting.Refusal.TheVariants.{Fault, NoMemory}
@@ -187,8 +187,8 @@ abbrev pub demanded_act : Option ℕ → End → Act
 demanded_act (Some position) end = Jump position
 demanded_act None end = Ends end
 
--- an optimal verdict and the lines of a basis go on with the next statement; any other verdict goes by its demand, and what is neither
--- ends the run
+-- an optimal verdict, the lines of a basis and the intervals of a run go on with the next statement; any other verdict goes by its
+-- demand, and what is none of these ends the run
 abbrev pub act_of : Cells → ℕ → Finding → Act
 act_of cells card (Refused fault) = Ends (end.Verb fault card)
 act_of cells card (Overflow e place) = Ends (end.Overflow e place card)
@@ -197,6 +197,7 @@ act_of cells card (Ended Optimal) = Next
 act_of cells card (Ended Infeasible) = demanded_act cells.xdonfs end.Infeasible
 act_of cells card (Ended Unbounded) = demanded_act cells.xdounb end.Unbounded
 act_of cells card Shown = Next
+act_of cells card (Swept value) = Next
 
 -- a verdict leaves its mark, and what ends the run leaves none
 abbrev pub mark_left : Finding → Option Mark

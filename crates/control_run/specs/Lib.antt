@@ -9,3 +9,4 @@ pub mod Choosing
 pub mod Findings
 pub mod Finishing
 pub mod Running
+pub mod Sweeping

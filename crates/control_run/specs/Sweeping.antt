@@ -4,14 +4,17 @@
 --     sweep_shown sweep            the run as code holds it, in the words of runs
 --     Serves sheet sweep           the run can be made in the sheet's linear program
 --     IsPrintable sheet answer     what is answered can be printed
+--     IsRunOverflow result         what a refused operation of a run comes to
 --     SweepFinds gain finding      the run from a basis ends so, or is stopped so
 --     Sweeps gain finding          the verb finds this with a setup, and has this to print
 --     cells_left finding cells     the cells after it
-use Rattle.std.specs.Prelude.{◌≡◌, ◌⊎◌, ℕ, List, [], ◌∷◌, ◌++◌, Bool, true, Option, Some, None, Result, Ok, Err, IfSome, length, option_map, option_and_then}
+use Rattle.std.specs.Prelude.{◌≡◌, ◌≢◌, ◌⊎◌, ℕ, List, [], ◌∷◌, ◌++◌, Bool, true, Option, Some, None, Result, Ok, Err, IfSome, length, option_map, option_and_then}
 use Rattle.exact_values.specs.Rational.{ℚ, ◌≤ℚ◌}
 use Rattle.lp_definitions.specs.LinearProgram.{LinearProgram, IsRow, HasNoLimits}
 use Rattle.lp_definitions.specs.Basis.{Basics}
 use Rattle.lp_definitions.specs.declared.Evidence.{Evidence}
+use Rattle.lp_model.specs.declared.reports.ParaEnd.{ParaEnd}
+use Rattle.lp_model.specs.declared.reports.ParaEnd.TheVariants.{AtMax, Unbounded, Infeasible}
 use Rattle.lp_model.specs.declared.reports.ParaReport.{ParaReport}
 use Rattle.lp_model.specs.declared.reports.ParaReport.TheVariants.{Opening as OpeningReport, Run as RunReported}
 use Rattle.path_definitions.specs.Path.{last_of}
@@ -41,6 +44,7 @@ use Rattle.present_runs.specs.RightHandSide as right_hand_side
 use Rattle.run_definitions.specs.State.{choice_of}
 use Rattle.run_definitions.specs.Moves.{Gain, Nothing, Prints}
 use Rattle.run_definitions.specs.Verbs.{change_row, change_set, not_less, mark_of, last_value}
+use Rattle.control_run.specs.declared.act.Halt.{Halt}
 use Rattle.control_run.specs.declared.end.Place.{Place as OwnPlace}
 use Rattle.control_run.specs.declared.finding.Finding.{Finding}
 use Rattle.control_run.specs.declared.finding.Finding.TheVariants.{Refused, Overflow, Limit, Ended, Swept}
@@ -55,6 +59,7 @@ use Rattle.control_run.specs.declared.sweep.Sweep.TheVariants as own
 use Rattle.control_run.specs.Choosing.{HasSelectionFault, HasRangeOverflow}
 use Rattle.control_run.specs.Ends.{place_shown}
 use Rattle.control_run.specs.Engine.{ways}
+use Rattle.control_run.specs.Findings.{IsOverflowAt}
 
 -- ---- what a verb asks for
 
@@ -148,6 +153,17 @@ abbrev pub StopsSweep : OwnSheet → Sweep → Basis → Basis → List Basics �
 StopsSweep sheet sweep s now before after stop =
     SweepStops sheet sweep s now before after
     (λ e. RunOverflowsThere sheet sweep s now before after e ⊎ LimitOverflows sheet sweep s now before after e) stop
+
+-- the value at which a run has ended, where it is asked to go up to this one
+abbrev pub value_left : ℚ → ParaEnd → ℚ
+value_left to AtMax = to
+value_left to (Unbounded past point direction) = past
+value_left to (Infeasible past ray) = past
+
+-- an operation of a run is refused: formula 13 is that of a limit at the first value, which has no place
+abbrev pub IsRunOverflow : Basis → List Basics → Evidence → Result Finding Halt → Type 0
+IsRunOverflow s after e result =
+    (e.formula ≡ 13 → result ≡ Ok (Overflow e None)) × (e.formula ≢ 13 → IsOverflowAt s after e result)
 
 -- ---- what is found
 

@@ -19,6 +19,7 @@ mod selecting;
 mod setup;
 mod solution;
 mod status;
+mod sweep;
 mod taking;
 mod title;
 

@@ -1,7 +1,9 @@
 // PARAOBJ and PARARHS.
-ghost use Rattle.std.specs.Prelude.{◌≡◌, ℕ, List, None, Some, IfSome, IfOk, IfErr};
+ghost use Rattle.std.specs.Prelude.{◌≡◌, ◌≢◌, ◌≤◌, ℕ, List, Option, None, IfSome, IfOk, IfErr, length};
 ghost use Rattle.problem_definitions.specs.Problem.{Problem};
 ghost use Rattle.problem_file.specs.Filed.{filed_under};
+ghost use Rattle.control_definitions.specs.Program as program;
+ghost use Rattle.frac128.specs.declared.Refused.{Refused as RefusedOperation};
 ghost use Rattle.lp_definitions.specs.Basis.{Basics};
 ghost use Rattle.lp_model.specs.declared.reports.ParaReport.TheVariants as para_reports;
 ghost use Rattle.question_definitions.specs.Answers as answers;
@@ -15,7 +17,7 @@ ghost use Rattle.present_runs.specs.Reports.{IsAnswered};
 ghost use Rattle.control_run.specs.Standing.{AreDemands, IsReady, IsSound};
 ghost use Rattle.control_run.specs.Statements.{Executes};
 ghost use Rattle.control_run.specs.Findings.{Tells};
-ghost use Rattle.control_run.specs.Sweeping.{verb_of, sweep_shown, Serves, StopsSweep, IsPrintable, SweepFinds, Sweeps, cells_left};
+ghost use Rattle.control_run.specs.Sweeping.{verb_of, sweep_shown, Serves, StopsSweep, IsPrintable, SweepFinds, Sweeps, IsRunOverflow, value_left, cells_left};
 
 use crate::act::{Act, Halt};
 use crate::finding::{Finding, act_of, overflow_at, refused};
@@ -27,12 +29,16 @@ use bounded_primal::PrimalStop;
 use frac128::{Frac, Refused};
 use job_devices::Sink;
 use listing_definitions::VerbFault;
-use lp_model::{Basis, Outcome, ParaEnd, ParaReport, ParaRun, Rates};
+use lp_definitions::Evidence;
+use lp_model::{Basis, Lp, Outcome, ParaEnd, ParaReport, ParaRun, Rates};
 use present_runs::{RunReport, objective_run_of, rhs_run_of};
 use problem_file::ProblemFile;
 use report_text::{Report, Sheet, text_of};
 use run_cells::{Cells, NumberCell};
 use std::alloc::Global;
+
+// The number of the formula of a row's limit at a value of the parameter.
+const LIMIT_FORMULA: u8 = 13;
 
 // Makes the run from a basis.
 fn run_from<R: Rates>(
@@ -103,7 +109,7 @@ fn print_chain<P: Sink>(
     print: &mut P,
 ) -> Result<Finding, Halt>
     requires { IsParametric sheet run.now }
-    ensures { (s reached : answers.Basis) (before after : List Basics) (refused : Option Refused) →
+    ensures { (s reached : answers.Basis) (before after : List Basics) (refused : Option RefusedOperation) →
         IsAnswered sheet.entry (sweep_shown sweep.now) s reached before after
         (record { report = para_reports.Run run.now; refused = refused }) →
         Tells (SweepFinds (sheet_shown sheet.entry) s reached (sweep_shown sweep.now) before after)
@@ -142,6 +148,27 @@ fn print_run<P: Sink>(
     }
 }
 
+// An operation of a run is refused: at a basis, or in a limit of a row at the first value, which has no place.
+fn overflow_in<R: Rates>(
+    alloc: Global,
+    lp: &Lp,
+    basis: &Basis,
+    rates: &R,
+    evidence: Evidence,
+) -> Result<Finding, Halt>
+    requires rates { HasRates (R.matrix rates.now) (R.basics rates.now) lp.now basis.now }
+    requires way { evidence.formula ≢ 13 → evidence.way ≤ length (R.waypoints rates.now) }
+    ensures { IsRunOverflow basis.now (R.waypoints rates.now) evidence result }
+{
+    if evidence.formula == LIMIT_FORMULA {
+        return Ok(Finding::Overflow {
+            evidence,
+            place: None,
+        });
+    }
+    overflow_at(alloc, lp, basis, rates, evidence)
+}
+
 // Makes the run from a basis, and prints what it has come to.
 fn follow<P: Sink, R: Rates>(
     alloc: Global,
@@ -165,7 +192,7 @@ fn follow<P: Sink, R: Rates>(
         Ok(answer) => print_run(sheet, sweep, &answer, print),
         Err(PrimalStop::Limit) => Ok(Finding::Limit),
         Err(PrimalStop::Overflow(evidence)) => {
-            overflow_at(alloc, sheet.lp, basis, rates, evidence)
+            overflow_in(alloc, sheet.lp, basis, rates, evidence)
         }
         Err(PrimalStop::NoMemory) => Err(Halt::NoMemory),
     }
@@ -220,14 +247,10 @@ fn leave_value(cells: &mut Cells, finding: &Finding)
     }
 }
 
-/// PARAOBJ and PARARHS: select again by the cells as they stand, and make the run of the objective or of the right-hand side from XPARAM
-/// to XPARMAX, from the present basis. The intervals of the run and its end are printed, its last value is left in XPARAM, and the next
-/// statement follows. An opening that isn't optimal prints its verdict and goes by the demand, if that is set. Neither leaves a mark.
-///
-/// The statement is refused where there is no setup, where the cells select nothing, where XCHROW names no N row or XCHCOL no
-/// right-hand side set, and where XPARMAX isn't set or less than XPARAM. It ends the run where the run along the parameter goes on past
-/// the limit of steps, and where an operation is refused. Where there is no memory, nothing is printed.
-pub fn sweep<P: Sink>(
+// Selects by the cells as they stand, and makes the run from XPARAM to XPARMAX, from the present basis. Its intervals and its end are
+// printed, its last value is left in XPARAM, and the next statement follows. An opening that isn't optimal prints its verdict and goes
+// by the demand, if that is set. Neither leaves a mark.
+fn sweep<P: Sink>(
     alloc: Global,
     machine: &mut Machine,
     print: &mut P,
@@ -249,4 +272,46 @@ pub fn sweep<P: Sink>(
     let finding = find(alloc, &machine.cells, &machine.file, setup, verb, print)?;
     leave_value(&mut machine.cells, &finding);
     Ok(act_of(&machine.cells, card, finding))
+}
+
+/// PARAOBJ: selects again by the cells as they stand, and makes the run of the objective from XPARAM to XPARMAX, from the present basis.
+/// Its intervals and its end are printed, its last value is left in XPARAM, and the next statement follows. An opening that isn't
+/// optimal prints its verdict and goes by the demand, if that is set. Neither leaves a mark.
+///
+/// The statement is refused where there is no setup, where the cells select nothing, where XCHROW names no N row, and where XPARMAX
+/// isn't set or is less than XPARAM. It ends the run where the run along the parameter goes on past the limit of steps, and where an
+/// operation is refused. Where there is no memory, nothing is printed.
+pub fn sweep_objective<P: Sink>(
+    alloc: Global,
+    machine: &mut Machine,
+    print: &mut P,
+    card: u32,
+) -> Result<Act, Halt>
+    requires demands { AreDemands machine.old.cells }
+    requires ready { IfSome machine.old.setup (IsReady machine.old.file) }
+    ensures acts { (cards : List (List ℕ)) →
+        Executes linear_programming program.Paraobj card P.written P.faults P.refusals print.old
+        print.new cards machine.old machine.new result }
+    ensures sound { (cards : List (List ℕ)) → IsSound cards machine.old →
+        IsSound cards machine.new }
+{
+    sweep(alloc, machine, print, card, SweepVerb::Paraobj)
+}
+
+/// PARARHS: the same of the right-hand side, where XCHCOL names the set that is added to it.
+pub fn sweep_rhs<P: Sink>(
+    alloc: Global,
+    machine: &mut Machine,
+    print: &mut P,
+    card: u32,
+) -> Result<Act, Halt>
+    requires demands { AreDemands machine.old.cells }
+    requires ready { IfSome machine.old.setup (IsReady machine.old.file) }
+    ensures acts { (cards : List (List ℕ)) →
+        Executes linear_programming program.Pararhs card P.written P.faults P.refusals print.old
+        print.new cards machine.old machine.new result }
+    ensures sound { (cards : List (List ℕ)) → IsSound cards machine.old →
+        IsSound cards machine.new }
+{
+    sweep(alloc, machine, print, card, SweepVerb::Pararhs)
 }

@@ -15,10 +15,10 @@ ghost use Rattle.run_definitions.specs.Verbs.{mark_of};
 ghost use Rattle.answer_definitions.specs.Real.{linear_programming};
 ghost use Rattle.control_run.specs.Standing.{AreDemands, IsReady, IsSolved, IsSound};
 ghost use Rattle.control_run.specs.Statements.{Executes};
-ghost use Rattle.control_run.specs.Findings.{PathReaches, PathFinds, Finds, Tells, refused_finding, IfEnded};
+ghost use Rattle.control_run.specs.Findings.{PathReaches, PathFinds, Finds, Tells, IfEnded};
 
 use crate::act::{Act, Halt};
-use crate::finding::{Finding, act_of, mark_left, overflow_at};
+use crate::finding::{Finding, act_of, mark_left, overflow_at, refused};
 use crate::machine::{Machine, Setup};
 use crate::selecting::{Refusal, select_present};
 use bounded_primal::PrimalStop;
@@ -31,28 +31,14 @@ use report_text::{Report, Sheet, text_of};
 use run_cells::Cells;
 use std::alloc::Global;
 
-// The mark that the verdict of an outcome leaves.
-fn mark_of(outcome: &Outcome) -> Mark
+/// The mark of the verdict of an outcome.
+pub fn mark_of(outcome: &Outcome) -> Mark
     ensures { (sheet : sheets.Sheet) → result ≡ mark_of (verdict_shown sheet outcome.now) }
 {
     match outcome {
         Outcome::Optimal { .. } => Mark::Optimal,
         Outcome::Crossed { .. } | Outcome::Infeasible { .. } => Mark::Infeasible,
         Outcome::Unbounded { .. } => Mark::Unbounded,
-    }
-}
-
-// What a refusal comes to.
-fn refused(refusal: Refusal) -> Result<Finding, Halt>
-    ensures { result ≡ refused_finding refusal }
-{
-    match refusal {
-        Refusal::Fault(fault) => Ok(Finding::Refused(fault)),
-        Refusal::Overflow(evidence) => Ok(Finding::Overflow {
-            evidence,
-            place: None,
-        }),
-        Refusal::NoMemory => Err(Halt::NoMemory),
     }
 }
 
