@@ -57,7 +57,7 @@ fn row_sweep(problem: &Problem, cells: &Cells) -> Result<Sweep, Refusal>
     let Some(name) = cells.name(NameCell::Xchrow) else {
         return Err(Refusal::Fault(VerbFault::NoChangeRow));
     };
-    let Some(row) = free_row(problem, name) else {
+    let Some(row) = free_row(problem, &name) else {
         return Err(Refusal::Fault(VerbFault::NoChangeRow));
     };
     match last_value(cells) {
@@ -84,7 +84,7 @@ fn set_sweep(alloc: Global, problem: &Problem, cells: &Cells) -> Result<Sweep, R
     let Some(name) = cells.name(NameCell::Xchcol) else {
         return Err(Refusal::Fault(VerbFault::NoChangeSet));
     };
-    let Ok(values) = set_values(alloc, problem, name) else {
+    let Ok(values) = set_values(alloc, problem, &name) else {
         return Err(Refusal::NoMemory);
     };
     let Some(shift) = values else {

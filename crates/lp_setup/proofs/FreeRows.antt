@@ -1,6 +1,6 @@
 -- A free row of a lawful problem is a row without limits of each linear program that is selected of it.
-use Rattle.std.proofs.Common.{◌≡◌, ℕ, ◌+◌, ◌<◌, Bool, true, false, cond, not, ◌&&◌, ◌||◌, List, [], ◌∷◌, map, refl, ap, ap₂, subst, sym, arith}
-use Rattle.std.specs.Prelude.{Option, Some, None, Ok, nat_lt, option_map, unwrap_or, is_none}
+use Rattle.std.proofs.Common.{◌≡◌, ℕ, ◌+◌, ◌<◌, Bool, true, false, cond, ◌∙◌, not, ◌&&◌, ◌||◌, List, [], ◌∷◌, map, refl, ap, ap₂, subst, sym, arith}
+use Rattle.std.specs.Prelude.{Option, Some, None, Ok, nat_lt, option_map, unwrap_or, is_none, if◌then◌else◌}
 use Rattle.std.specs.List.{position_or_len}
 use Rattle.std.proofs.lemmas.List.{length-map}
 use Rattle.card_definitions.specs.Words.{◌⟹◌, first_fault, unless}
@@ -14,6 +14,7 @@ use Rattle.selection_definitions.specs.declared.SelectionFault.{SelectionFault}
 use Rattle.selection_definitions.specs.declared.SelectionFault.TheVariants.{NoObjective, ObjectiveNotFree, NoRhsSet, NoRangeSet, NoBoundSet}
 use Rattle.selection_definitions.specs.Choice.{Choice, objective_of, is_not_free, misses_set, selection_fault}
 use Rattle.selection_definitions.specs.Selection.{matrix_of, program_of_choice, selected}
+use Rattle.lp_setup.specs.Changes.{free_row_number}
 use Rattle.lp_setup.proofs.Lawful.{program_is_lawful}
 
 -- ---- the row of a name
@@ -45,6 +46,20 @@ is_there : (name : Name) (rows : List Row) → has_free_row rows name ≡ true �
 is_there name rows free =
     above_zero (objective_of rows (Some name))
     (subst (λ n. 0 < n) (objective_number name rows) (number_in-within (map (λ (row : Row). row.name) rows) name (free_is_there name rows free)).positive)
+
+number_there : (o : Option ℕ) → is_none o ≡ false → o ≡ Some (unwrap_or o 0)
+number_there None e = absurd (cc e)
+number_there (Some number) e = refl
+
+free_number : (problem : Problem ℕ) (name : Name) → has_free_row problem.rows name ≡ true → objective_of problem.rows (Some name) ≡ free_row_number problem name
+free_number problem name free =
+    number_there (objective_of problem.rows (Some name)) (is_there name problem.rows free)
+    ∙ ap Some (sym (objective_number name problem.rows))
+    ∙ ap (λ (b : Bool). if b then Some (number_in (row_names problem) name) else None) (sym free)
+
+pub free_found : (problem : Problem ℕ) (name : Name) (rows : List Row) (found : Option ℕ) → rows ≡ problem.rows → found ≡ objective_of rows (Some name) → has_free_row rows name ≡ true → found ≡ free_row_number problem name
+free_found problem name rows found same is free =
+    is ∙ ap (λ (rs : List Row). objective_of rs (Some name)) same ∙ free_number problem name (subst (λ (rs : List Row). has_free_row rs name ≡ true) same free)
 
 -- ---- another objective row
 

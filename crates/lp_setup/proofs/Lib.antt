@@ -7,3 +7,4 @@ pub mod Lawful
 pub mod Program
 pub mod Selecting
 pub mod FreeRows
+pub mod ValuesInSets

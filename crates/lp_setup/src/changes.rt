@@ -2,7 +2,7 @@
 ghost use Rattle.std.specs.Prelude.{◌≡◌, IfOk, option_map};
 ghost use Rattle.lp_setup.specs.Changes.{free_row_number, set_values as values_of_set};
 
-use crate::chosen::{is_not_free, objective_row, rhs_items};
+use crate::chosen::{has_free_row, row_number, values_named};
 use crate::parts::right_hand_sides;
 use frac128::Frac;
 use lp_model::NoMemory;
@@ -11,27 +11,26 @@ use problem_file::Problem;
 use std::alloc::Global;
 
 /// The number of the N row of this name, if there is one.
-pub fn free_row(problem: &Problem, name: Name) -> Option<u32>
-    ensures { result ≡ free_row_number problem.now name }
+pub fn free_row(problem: &Problem, name: &Name) -> Option<u32>
+    ensures { result ≡ free_row_number problem.now name.now }
 {
     let rows = problem.rows();
-    let chosen = Some(name);
-    if is_not_free(rows, chosen) {
-        return None;
+    if has_free_row(rows, name) {
+        return row_number(rows, name);
     }
-    objective_row(rows, chosen)
+    None
 }
 
 /// The value of each row in the right-hand side set of this name, or 0 where it has none there; if there is such a set.
 pub fn set_values(
     alloc: Global,
     problem: &Problem,
-    name: Name,
+    name: &Name,
 ) -> Result<Option<Vec<Frac>>, NoMemory>
     ensures { IfOk result (λ values. option_map (λ values. values.items) values ≡
-        values_of_set problem.now name) }
+        values_of_set problem.now name.now) }
 {
-    let Some(items) = rhs_items(problem.rhs(), Some(name)) else {
+    let Some(items) = values_named(problem.rhs(), name) else {
         return Ok(None);
     };
     let values = right_hand_sides(alloc, problem.rows().len(), items)?;
