@@ -1,5 +1,6 @@
 pub mod Intervals
 pub mod Lines
+pub mod Parametric
 pub mod Ranges
 pub mod Sheets
 pub mod Shown

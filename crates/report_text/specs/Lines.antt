@@ -2,7 +2,8 @@
 --     name_of problem k            the name of variable k
 --     at_of p s z k                where a variable stands, as it is printed
 --     lines_of problem values ks   a line for each of these variables
-use Rattle.std.specs.Prelude.{ℕ, ◌+◌, ◌-◌, Bool, not, ◌&&◌, nat_eq, List, [], ◌∷◌, ◌++◌, map, filter, if◌then◌else◌}
+--     part_values p part k         what is printed of a variable in an interval of a parametric run
+use Rattle.std.specs.Prelude.{ℕ, ◌+◌, ◌-◌, Bool, false, not, ◌&&◌, nat_eq, List, [], ◌∷◌, ◌++◌, map, filter, if◌then◌else◌}
 use Rattle.exact_values.specs.Rational.{ℚ, zero_ℚ}
 use Rattle.exact_values.specs.Tests.{eq_ℚ}
 use Rattle.lp_definitions.specs.LinearProgram.{LinearProgram, Vector, value_at, numbers_from, variables, lower_of, upper_of, cost}
@@ -15,6 +16,7 @@ use Rattle.problem_definitions.specs.Problem.{Problem, row_names, group_names}
 use Rattle.listing_definitions.specs.declared.At.{At}
 use Rattle.listing_definitions.specs.declared.At.TheVariants.{Basic, Outside, Equal, Lower, Upper, Free}
 use Rattle.listing_definitions.specs.Report.{Value, Code, Number, limit_value, Line, SolutionLines, RangeLines}
+use Rattle.lp_model.specs.declared.reports.ParaPart.{ParaPart}
 use Rattle.lp_model.specs.declared.reports.RangeReport.{RangeReport}
 use Rattle.report_text.specs.Intervals.{ends_at}
 
@@ -71,6 +73,13 @@ solution_lines problem p s point prices slack = record {
   rows = lines_of problem (row_values p s point slack prices) (numbers_from 1 p.rows);
   columns = lines_of problem (column_values p s point prices) (numbers_from (p.rows + 1) p.cols);
 }
+
+-- Where k stands in an interval of a parametric run, as far as its basis alone tells it: a basic is within its limits at each
+-- value of an interval. Then its value and its price, each with its rate.
+abbrev pub part_values : LinearProgram → ParaPart → ℕ → List Value
+part_values p part k =
+    Code (at_by (status_of part.statuses k) false (is_fixed p k)) ∷ Number (value_at part.value k) ∷ Number (value_at part.value_rate k) ∷
+    Number (value_at part.price k) ∷ Number (value_at part.price_rate k) ∷ []
 
 -- the nonbasics, and the basics other than the objective
 abbrev pub stands_at_limit : List Status → ℕ → Bool

@@ -16,11 +16,12 @@ use Rattle.listing_definitions.specs.Ending as endings
 use Rattle.listing_definitions.specs.Text.{report_text}
 use Rattle.listing_definitions.specs.Listing.{status_letter, basic_letter, ending_text}
 use Rattle.report_text.specs.Lines.{solution_lines, range_lines}
+use Rattle.report_text.specs.Parametric.{IsParametric, chain_shown}
 use Rattle.report_text.specs.Ranges.{AreRanges}
 use Rattle.report_text.specs.Solutions.{IsSolution}
 use Rattle.report_text.specs.Verdicts.{IsOutcome, verdict_shown, check_shown}
 use Rattle.report_text.specs.declared.report.Report.{Report}
-use Rattle.report_text.specs.declared.report.Report.TheVariants.{Title, Converted, Revised, SetUp, Punched, Solved, Solution, Ranges, End}
+use Rattle.report_text.specs.declared.report.Report.TheVariants.{Title, Converted, Revised, SetUp, Punched, Solved, Solution, Ranges, Parametric, End}
 use Rattle.report_text.specs.declared.report.Ending.{Ending}
 use Rattle.report_text.specs.declared.report.Ending.TheVariants.{Code, Words, Control, Verb, Deck, CardFault as CardStop, Limit, Statements, Overflow, ReadFault, PunchFault, Memory, NotBuilt}
 
@@ -101,6 +102,7 @@ abbrev pub IsReport : Report → Type 0
 IsReport (Solved by sheet outcome refused) = IsOutcome sheet outcome.now
 IsReport (Solution mark sheet basis point prices slack) = IsSolution sheet (record { basis = basis; point = point; prices = prices; slack = slack })
 IsReport (Ranges sheet basis point report) = AreRanges sheet (record { basis = basis; point = point; report = report })
+IsReport (Parametric by sheet change from to run) = IsParametric sheet run.now
 IsReport (End ending) = IsEnding ending
 IsReport _ = Unit {0}
 
@@ -113,4 +115,5 @@ text_shown (Punched name cards) = report_text (reports.Punched name cards)
 text_shown (Solved by sheet outcome refused) = report_text (reports.Solved by (verdict_shown sheet outcome.now) (check_shown refused))
 text_shown (Solution mark sheet basis point prices slack) = report_text (reports.Solution mark (solution_lines sheet.problem.now sheet.lp.now basis.now point.now prices.now slack.now))
 text_shown (Ranges sheet basis point report) = report_text (reports.Ranges (range_lines sheet.lp.now basis.now point.now report.now sheet.problem.now))
+text_shown (Parametric by sheet change from to run) = report_text (reports.Parametric by (chain_shown sheet change from to run.now))
 text_shown (End ending) = ending_text (ending_shown ending)

@@ -5,15 +5,16 @@ use Rattle.std.specs.Prelude.{◌≡◌, ◌<◌, ◌≤◌, ℕ, Bool, List, []
 use Rattle.exact_values.specs.Rational.{zero_ℚ}
 use Rattle.exact_values.specs.Tests.{eq_ℚ}
 use Rattle.lp_definitions.specs.LinearProgram.{IsVariable, size, value_at}
+use Rattle.lp_model.specs.declared.reports.ParaPart.{ParaPart}
 use Rattle.listing_definitions.specs.Report.{Value}
 use Rattle.listing_definitions.specs.Text.{line_text}
 use Rattle.report_text.specs.declared.sheet.Sheet.{Sheet}
 use Rattle.report_text.specs.declared.table.Standing.{Standing}
 use Rattle.report_text.specs.declared.table.Ranging.{Ranging}
 use Rattle.report_text.specs.declared.table.Table.{Table}
-use Rattle.report_text.specs.declared.table.Table.TheVariants.{Multipliers, Pairs, Rows, Columns, LimitRows, LimitColumns, BetweenRows, BetweenColumns}
+use Rattle.report_text.specs.declared.table.Table.TheVariants.{Multipliers, Pairs, Rows, Columns, LimitRows, LimitColumns, BetweenRows, BetweenColumns, Parts}
 use Rattle.report_text.specs.Sheets.{IsSheet}
-use Rattle.report_text.specs.Lines.{line_of, multiplier_values, pair_values, row_values, column_values, stands_at_limit, stands_between, limit_row_values, limit_column_values, between_row_values, between_column_values}
+use Rattle.report_text.specs.Lines.{line_of, multiplier_values, pair_values, row_values, column_values, stands_at_limit, stands_between, limit_row_values, limit_column_values, between_row_values, between_column_values, part_values}
 
 -- a basis of the sheet's program with its lists; no row is added to the objective
 pub record IsStanding (sheet : Sheet) (standing : Standing) : Type 0 where
@@ -29,6 +30,14 @@ pub record IsRanging (sheet : Sheet) (ranging : Ranging) : Type 0 where
   pub point : length ranging.point.now ≡ size sheet.lp.now.matrix
   pub no_change : sheet.lp.now.change ≡ None
 
+-- an interval of a parametric run: each of its lists has a place for each variable of the sheet's program
+pub record IsPart (sheet : Sheet) (part : ParaPart) : Type 0 where
+  pub statuses : length part.statuses ≡ size sheet.lp.now.matrix
+  pub value : length part.value ≡ size sheet.lp.now.matrix
+  pub value_rate : length part.value_rate ≡ size sheet.lp.now.matrix
+  pub price : length part.price ≡ size sheet.lp.now.matrix
+  pub price_rate : length part.price_rate ≡ size sheet.lp.now.matrix
+
 -- the lists of a table have their lengths
 abbrev pub AreListed : Sheet → Table → Type 0
 AreListed sheet (Multipliers ray) = length ray.now ≡ size sheet.lp.now.matrix
@@ -39,6 +48,7 @@ AreListed sheet (LimitRows ranging) = IsRanging sheet ranging
 AreListed sheet (LimitColumns ranging) = IsRanging sheet ranging
 AreListed sheet (BetweenRows ranging) = IsRanging sheet ranging
 AreListed sheet (BetweenColumns ranging) = IsRanging sheet ranging
+AreListed sheet (Parts part) = IsPart sheet part.now
 
 -- the tables of rows and of columns have lines for these alone
 abbrev pub IsLined : Sheet → Table → ℕ → Type 0
@@ -70,3 +80,4 @@ line_shown sheet (LimitRows ranging) k = ranged_line sheet (stands_at_limit rang
 line_shown sheet (LimitColumns ranging) k = ranged_line sheet (stands_at_limit ranging.basis.now k) (limit_column_values sheet.lp.now ranging.basis.now ranging.point.now ranging.report.now) k
 line_shown sheet (BetweenRows ranging) k = ranged_line sheet (stands_between sheet.lp.now ranging.basis.now k) (between_row_values sheet.lp.now ranging.basis.now ranging.point.now ranging.report.now) k
 line_shown sheet (BetweenColumns ranging) k = ranged_line sheet (stands_between sheet.lp.now ranging.basis.now k) (between_column_values sheet.lp.now ranging.basis.now ranging.point.now ranging.report.now) k
+line_shown sheet (Parts part) k = line_text (line_of sheet.problem.now (part_values sheet.lp.now part.now) k)

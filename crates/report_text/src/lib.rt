@@ -5,6 +5,7 @@ mod ending;
 mod intervals;
 mod line;
 mod overflow;
+mod parametric;
 mod pieces;
 mod plain;
 mod ranges;

@@ -2,11 +2,12 @@
 ghost use Rattle.std.specs.Prelude.{◌≡◌, ◌≤◌, ◌-◌, replicate};
 ghost use Rattle.frac128.specs.Text.{fraction_text};
 ghost use Rattle.listing_definitions.specs.Numbers.{digits, rational_text};
-ghost use Rattle.listing_definitions.specs.Text.{operation_text, sense_text};
+ghost use Rattle.listing_definitions.specs.Text.{operation_text, sense_text, solver_text};
 
 use arrayvec::ArrayString;
 use frac128::{Frac, Op};
 use itoa::Buffer;
+use listing_definitions::Solver;
 use lp_definitions::Sense;
 
 /// The text of a fraction: a sign, 39 digits, a slash and 39 digits at most.
@@ -77,5 +78,16 @@ pub fn sense_word(sense: Sense) -> &'static [u8]
     match sense {
         Sense::Min => b"MIN",
         Sense::Max => b"MAX",
+    }
+}
+
+/// The word of a solving verb.
+pub fn solver_word(solver: Solver) -> &'static [u8]
+    ensures { result.now ≡ solver_text solver }
+{
+    match solver {
+        Solver::Primal => b"PRIMAL",
+        Solver::Paraobj => b"PARAOBJ",
+        Solver::Pararhs => b"PARARHS",
     }
 }

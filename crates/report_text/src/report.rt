@@ -3,6 +3,7 @@ ghost use Rattle.job_devices.specs.Text.{Writes};
 ghost use Rattle.report_text.specs.Shown.{IsReport, text_shown};
 
 use crate::ending::put_ending;
+use crate::parametric::put_parametric;
 use crate::plain::{put_converted, put_punched, put_revised, put_setup, put_title};
 use crate::ranges::put_ranges;
 use crate::sheet::Sheet;
@@ -13,7 +14,7 @@ use frac128::{Frac, Refused};
 use job_devices::{Sink, WriteStop};
 use listing_definitions::{Mark, Solver};
 use lp_definitions::{Evidence, Sense};
-use lp_model::{Basis, Outcome, Point, Prices, RangeReport};
+use lp_model::{Basis, Outcome, ParaRun, Point, Prices, RangeReport};
 use name_table::Name;
 
 /// What a statement of a run prints, or the end of the run.
@@ -69,6 +70,15 @@ pub enum Report<'a> {
         basis: &'a Basis,
         point: &'a Point,
         report: &'a RangeReport,
+    },
+    /// A parametric run: its first value, the row or set that changes, the greatest value asked for, its intervals and its end.
+    Parametric {
+        by: Solver,
+        sheet: Sheet<'a>,
+        change: Name,
+        from: Frac,
+        to: Frac,
+        run: &'a ParaRun,
     },
     /// The end of the run.
     End(Ending<'a>),
@@ -186,6 +196,14 @@ pub fn text_of<P: Sink>(report: &Report<'_>, print: &mut P) -> Result<(), WriteS
             };
             put_ranges(print, sheet, ranging)
         }
+        Report::Parametric {
+            by,
+            sheet,
+            change,
+            from,
+            to,
+            run,
+        } => put_parametric(print, by, sheet, change, from, to, run),
         Report::End(ending) => put_ending(print, ending),
     }
 }

@@ -1,5 +1,5 @@
 // A problem with the linear program that is selected from it: names, places and costs of its variables.
-ghost use Rattle.std.specs.Prelude.{◌≡◌, ◌≤◌, ◌-◌, None, not, length};
+ghost use Rattle.std.specs.Prelude.{◌≡◌, ◌≤◌, ◌-◌, None, false, not, length};
 ghost use Rattle.lp_definitions.specs.LinearProgram.{IsVariable, IsColumn, size, value_at, on_row, cost};
 ghost use Rattle.lp_definitions.specs.Basis.{is_basic, status_of};
 ghost use Rattle.path_definitions.specs.Moves.{is_fixed, is_below, is_above, is_outside};
@@ -95,6 +95,15 @@ pub fn at_of(lp: &Lp, basis: &Basis, point: &[Frac], k: u32) -> At
 {
     let is_outside = lies_outside(lp, point[k as usize - 1], k);
     at_by(basis.status(k), is_outside, stands_fixed(lp, k))
+}
+
+/// Where variable `k` stands, as far as the basis alone tells it: a basic is taken to be within its limits.
+pub fn at_in_part(lp: &Lp, basis: &Basis, k: u32) -> At
+    requires variable { IsVariable lp.now.matrix k }
+    requires counted { length basis.now ≡ size lp.now.matrix }
+    ensures { result ≡ at_by (status_of basis.now k) false (is_fixed lp.now k) }
+{
+    at_by(basis.status(k), false, stands_fixed(lp, k))
 }
 
 // Whether a status is that of a basic.

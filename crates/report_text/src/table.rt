@@ -7,10 +7,10 @@ ghost use Rattle.report_text.specs.Tables.{HasLine, line_shown};
 
 use crate::intervals::{high_end, interval_of, low_end};
 use crate::line::{Value, put_line};
-use crate::sheet::{Sheet, at_of, cost, is_at_limit, is_between, name_of};
+use crate::sheet::{Sheet, at_in_part, at_of, cost, is_at_limit, is_between, name_of};
 use frac128::Frac;
 use job_devices::{Sink, WriteStop, put_all};
-use lp_model::{Basis, Point, Prices, RangeReport};
+use lp_model::{Basis, ParaPart, Point, Prices, RangeReport};
 
 /// A basis with its point and its prices, and the slacks of its rows.
 #[derive(Clone, Copy, Debug)]
@@ -48,6 +48,8 @@ pub enum Table<'a> {
     BetweenRows(Ranging<'a>),
     /// The interval of the cost of each basic column.
     BetweenColumns(Ranging<'a>),
+    /// Where each variable stands in an interval of a parametric run, and its value and its price, each with its rate.
+    Parts(&'a ParaPart),
 }
 
 fn put_multiplier<P: Sink>(
@@ -247,6 +249,32 @@ fn put_between_column<P: Sink>(
     put_line(print, k, name_of(sheet, k), &values)
 }
 
+// The line of a variable in an interval of a parametric run.
+fn put_part<P: Sink>(
+    print: &mut P,
+    sheet: Sheet<'_>,
+    part: &ParaPart,
+    k: u32,
+) -> Result<(), WriteStop>
+    requires { HasLine sheet (Table.Parts part) k }
+    ensures { Writes P.written P.faults P.refusals print.old print.new result (line_shown
+        sheet.entry (Table.Parts part.entry) k) }
+{
+    let place = k as usize - 1;
+    let value = part.value.values();
+    let value_rate = part.value_rate.values();
+    let price = part.price.values();
+    let price_rate = part.price_rate.values();
+    let values = [
+        Value::Code(at_in_part(sheet.lp, &part.statuses, k)),
+        Value::Number(value[place]),
+        Value::Number(value_rate[place]),
+        Value::Number(price[place]),
+        Value::Number(price_rate[place]),
+    ];
+    put_line(print, k, name_of(sheet, k), &values)
+}
+
 // The line of variable `k`, if it has one.
 fn put_table_line<P: Sink>(
     print: &mut P,
@@ -267,6 +295,7 @@ fn put_table_line<P: Sink>(
         Table::LimitColumns(ranging) => put_limit_column(print, sheet, ranging, k),
         Table::BetweenRows(ranging) => put_between_row(print, sheet, ranging, k),
         Table::BetweenColumns(ranging) => put_between_column(print, sheet, ranging, k),
+        Table::Parts(part) => put_part(print, sheet, part, k),
     }
 }
 

@@ -7,7 +7,7 @@ ghost use Rattle.listing_definitions.specs.Report as reports;
 ghost use Rattle.listing_definitions.specs.Text.{solver_text, check_text, refused_text, verdict_head, verdict_lines, table_text, report_text};
 ghost use Rattle.report_text.specs.Verdicts.{IsOutcome, verdict_shown, check_shown};
 
-use crate::pieces::{decimal, fraction, operation};
+use crate::pieces::{decimal, fraction, operation, solver_word};
 use crate::sheet::{Sheet, objective_of};
 use crate::table::{Table, put_table};
 use frac128::{Frac, Refused};
@@ -15,17 +15,6 @@ use itoa::Buffer;
 use job_devices::{Sink, WriteStop, put_all, put_each};
 use listing_definitions::Solver;
 use lp_model::Outcome;
-
-// The word of a solving verb.
-fn solver_word(solver: Solver) -> &'static [u8]
-    ensures { result.now ≡ solver_text solver }
-{
-    match solver {
-        Solver::Primal => b"PRIMAL",
-        Solver::Paraobj => b"PARAOBJ",
-        Solver::Pararhs => b"PARARHS",
-    }
-}
 
 // What was found, and a number.
 fn put_found<P: Sink>(

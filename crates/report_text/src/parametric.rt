@@ -1,0 +1,218 @@
+// The text of a parametric run.
+ghost use Rattle.std.specs.Prelude.{◌≡◌, ◌+◌, ◌-◌, ◌++◌, ◌∷◌, [], codes, map};
+ghost use Rattle.std.specs.List.{All, concat, flat_map, enumerate_from};
+ghost use Rattle.job_devices.specs.Text.{Writes};
+ghost use Rattle.listing_definitions.specs.Numbers.{digits, rational_text};
+ghost use Rattle.listing_definitions.specs.Report as reports;
+ghost use Rattle.listing_definitions.specs.Text.{solver_text, table_text, interval_text, chain_end_text, report_text};
+ghost use Rattle.report_text.specs.Lines.{pair_lines, ray_lines};
+ghost use Rattle.report_text.specs.Sheets.{IsSheet};
+ghost use Rattle.report_text.specs.Tables.{IsPart};
+ghost use Rattle.report_text.specs.Verdicts.{IsFull};
+ghost use Rattle.report_text.specs.Parametric.{IsRunEnd, IsParametric, interval_shown, end_shown, chain_shown};
+
+use crate::pieces::{fraction, solver_word};
+use crate::sheet::Sheet;
+use crate::table::{Table, put_table};
+use frac128::Frac;
+use itoa::Buffer;
+use job_devices::{Sink, WriteStop, put_each};
+use listing_definitions::Solver;
+use lp_model::{ParaEnd, ParaPart, ParaRun};
+use name_table::Name;
+
+// The first value, and the row or set that changes.
+fn put_parametric_head<P: Sink>(
+    print: &mut P,
+    by: Solver,
+    from: Frac,
+    change: Name,
+) -> Result<(), WriteStop>
+    ensures { Writes P.written P.faults P.refusals print.old print.new result
+        (concat (solver_text by ∷ codes " FROM " ∷ rational_text from ∷ codes " CHANGE "
+        ∷ change ∷ codes "\n" ∷ [])) }
+{
+    let value = fraction(from);
+    put_each(
+        print,
+        &[
+            solver_word(by),
+            b" FROM ",
+            value.as_str().as_bytes(),
+            b" CHANGE ",
+            change.bytes(),
+            b"\n",
+        ],
+    )
+}
+
+// The digits of an interval's number.
+#[tactic(auto, using(listing_definitions::proofs::Decimals::decimal_is_digits))]
+fn interval_digits(buffer: &mut Buffer, number: usize) -> &str
+    ensures { result.now ≡ digits number }
+{
+    buffer.format(number)
+}
+
+// The number of an interval, and its ends.
+fn put_interval_head<P: Sink>(
+    print: &mut P,
+    number: usize,
+    from: Frac,
+    to: Frac,
+) -> Result<(), WriteStop>
+    ensures { Writes P.written P.faults P.refusals print.old print.new result
+        (concat (codes "INTERVAL " ∷ digits number ∷ codes " FROM " ∷ rational_text from
+        ∷ codes " TO " ∷ rational_text to ∷ codes "\n" ∷ [])) }
+{
+    let mut buffer = Buffer::new();
+    let low = fraction(from);
+    let high = fraction(to);
+    put_each(
+        print,
+        &[
+            b"INTERVAL ",
+            interval_digits(&mut buffer, number).as_bytes(),
+            b" FROM ",
+            low.as_str().as_bytes(),
+            b" TO ",
+            high.as_str().as_bytes(),
+            b"\n",
+        ],
+    )
+}
+
+// An interval with its number, and a line for each variable.
+fn put_interval<P: Sink>(
+    print: &mut P,
+    sheet: Sheet<'_>,
+    number: usize,
+    part: &ParaPart,
+) -> Result<(), WriteStop>
+    requires is_sheet { IsSheet sheet }
+    requires is_part { IsPart sheet part.now }
+    ensures { Writes P.written P.faults P.refusals print.old print.new result
+        (interval_text (number, interval_shown sheet.entry part.now)) }
+{
+    put_interval_head(print, number, part.from, part.to)?;
+    let last = sheet.lp.number_of_variables();
+    put_table(print, sheet, Table::Parts(part), 0, last)
+}
+
+// The intervals, numbered from 1.
+fn put_intervals<P: Sink>(
+    print: &mut P,
+    sheet: Sheet<'_>,
+    parts: &[ParaPart],
+) -> Result<(), WriteStop>
+    requires is_sheet { IsSheet sheet }
+    requires are_parts { All (IsPart sheet) parts.now }
+    ensures { Writes P.written P.faults P.refusals print.old print.new result
+        (flat_map interval_text (enumerate_from 1 (map (interval_shown sheet.entry) parts.now))) }
+{
+    for (index, part) in parts.iter().enumerate() {
+        put_interval(print, sheet, index + 1, part)?;
+    }
+    Ok(())
+}
+
+// How the run ends, and at or past which value.
+fn put_end_head<P: Sink>(
+    print: &mut P,
+    by: Solver,
+    found: &'static [u8],
+    value: Frac,
+) -> Result<(), WriteStop>
+    ensures { Writes P.written P.faults P.refusals print.old print.new result
+        (concat (solver_text by ∷ found.now ∷ rational_text value ∷ codes "\n" ∷ [])) }
+{
+    let text = fraction(value);
+    put_each(
+        print,
+        &[solver_word(by), found, text.as_str().as_bytes(), b"\n"],
+    )
+}
+
+// Past this value all is unbounded: the point and the direction of each variable.
+fn put_unbounded_past<P: Sink>(
+    print: &mut P,
+    by: Solver,
+    sheet: Sheet<'_>,
+    past: Frac,
+    point: &[Frac],
+    direction: &[Frac],
+) -> Result<(), WriteStop>
+    requires is_sheet { IsSheet sheet }
+    requires is_point { IsFull sheet point.now }
+    requires is_direction { IsFull sheet direction.now }
+    ensures { Writes P.written P.faults P.refusals print.old print.new result
+        (chain_end_text by (reports.UnboundedPast past (pair_lines sheet.entry.problem.now
+        sheet.entry.lp.now point.now direction.now))) }
+{
+    put_end_head(print, by, b" UNBOUNDED PAST ", past)?;
+    let last = sheet.lp.number_of_variables();
+    put_table(print, sheet, Table::Pairs(point, direction), 0, last)
+}
+
+// Past this value all is infeasible: each multiplier that isn't 0.
+fn put_infeasible_past<P: Sink>(
+    print: &mut P,
+    by: Solver,
+    sheet: Sheet<'_>,
+    past: Frac,
+    ray: &[Frac],
+) -> Result<(), WriteStop>
+    requires is_sheet { IsSheet sheet }
+    requires is_ray { IsFull sheet ray.now }
+    ensures { Writes P.written P.faults P.refusals print.old print.new result
+        (chain_end_text by (reports.InfeasiblePast past (ray_lines sheet.entry.problem.now
+        sheet.entry.lp.now ray.now))) }
+{
+    put_end_head(print, by, b" INFEASIBLE PAST ", past)?;
+    let last = sheet.lp.number_of_variables();
+    put_table(print, sheet, Table::Multipliers(ray), 0, last)
+}
+
+// How the run ends.
+fn put_run_end<P: Sink>(
+    print: &mut P,
+    by: Solver,
+    sheet: Sheet<'_>,
+    to: Frac,
+    end: &ParaEnd,
+) -> Result<(), WriteStop>
+    requires { IsRunEnd sheet end.now }
+    ensures { Writes P.written P.faults P.refusals print.old print.new result
+        (chain_end_text by (end_shown sheet.entry to end.now)) }
+{
+    match end {
+        ParaEnd::AtMax => put_end_head(print, by, b" ENDS AT ", to),
+        ParaEnd::Unbounded {
+            past,
+            point,
+            direction,
+        } => put_unbounded_past(print, by, sheet, *past, point.values(), direction.values()),
+        ParaEnd::Infeasible { past, ray } => {
+            put_infeasible_past(print, by, sheet, *past, ray.values())
+        }
+    }
+}
+
+/// Writes a parametric run: its first value, the row or set that changes, its intervals and its end.
+pub fn put_parametric<P: Sink>(
+    print: &mut P,
+    by: Solver,
+    sheet: Sheet<'_>,
+    change: Name,
+    from: Frac,
+    to: Frac,
+    run: &ParaRun,
+) -> Result<(), WriteStop>
+    requires { IsParametric sheet run.now }
+    ensures { Writes P.written P.faults P.refusals print.old print.new result
+        (report_text (reports.Parametric by (chain_shown sheet.entry change from to run.now))) }
+{
+    put_parametric_head(print, by, from, change)?;
+    put_intervals(print, sheet, run.parts.items())?;
+    put_run_end(print, by, sheet, to, &run.end)
+}
