@@ -23,7 +23,7 @@ use Rattle.report_text.specs.Verdicts.{IsOutcome, verdict_shown, check_shown}
 use Rattle.report_text.specs.declared.report.Report.{Report}
 use Rattle.report_text.specs.declared.report.Report.TheVariants.{Title, Converted, Revised, SetUp, Punched, Solved, Solution, Ranges, Parametric, End}
 use Rattle.report_text.specs.declared.report.Ending.{Ending}
-use Rattle.report_text.specs.declared.report.Ending.TheVariants.{Code, Words, Control, Verb, Deck, CardFault as CardStop, Limit, Statements, Overflow, ReadFault, PunchFault, Memory, NotBuilt}
+use Rattle.report_text.specs.declared.report.Ending.TheVariants.{Code, Words, Control, Verb, Deck, CardFault as CardStop, Limit, Statements, Overflow, ReadFault, PunchFault, Memory}
 
 -- ---- ends
 
@@ -71,7 +71,6 @@ ending_shown (Overflow evidence basis way card) = endings.OverflowStop (record {
 ending_shown ReadFault = endings.ReadFault
 ending_shown PunchFault = endings.PunchFault
 ending_shown Memory = endings.Memory
-ending_shown NotBuilt = endings.NotBuilt
 
 -- ---- the parts in which an overflow is written
 

@@ -179,6 +179,5 @@ pub fn put_ending<P: Sink>(print: &mut P, ending: Ending<'_>) -> Result<(), Writ
         Ending::ReadFault => put_all(print, b"STOP 24 READ FAULT\n"),
         Ending::PunchFault => put_all(print, b"STOP 26 PUNCH FAULT\n"),
         Ending::Memory => put_all(print, b"STOP 28 MEMORY\n"),
-        Ending::NotBuilt => put_all(print, b"STOP 30 NOT BUILT\n"),
     }
 }

@@ -135,8 +135,6 @@ pub enum Ending<'a> {
     PunchFault,
     /// There is no memory.
     Memory,
-    /// The run meets what isn't built yet.
-    NotBuilt,
 }
 
 /// Writes the text of a report. At a stop a front of it is written.
