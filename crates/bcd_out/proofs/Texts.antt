@@ -14,7 +14,7 @@ use Rattle.deck_definitions.specs.Written.{data_card, row_card, bound_kind_text,
 use Rattle.bcd_out.specs.Lines.{line, row_line, entry_lines, column_lines, bound_lines, section_lines, column_count, section_count}
 
 -- the names of rows
-abbrev labels : List Row → List Name
+abbrev labels : List (Row ℕ) → List Name
 labels rows = map (λ row. row.name) rows
 
 -- the text of the cards of groups is that of the lines of each
@@ -26,10 +26,10 @@ text_of_section : {X Y : Type 0} (word : List ℕ) (cards : Group Y → List (Li
 text_of_section word cards lines h same [] = refl
 text_of_section word cards lines h same (x ∷ xs) = ap (λ w. line word ++ w) (text_of_groups cards lines h same (x ∷ xs))
 
-text_of_rows : (rows : List Row) → card_text (map row_card rows) ≡ flat_map row_line rows
+text_of_rows : (rows : List (Row ℕ)) → card_text (map row_card rows) ≡ flat_map row_line rows
 text_of_rows rows = flat_map-map (λ card. card ++ 10 ∷ []) row_card rows
 
-module _ (rows : List Row) where
+module _ (rows : List (Row ℕ)) where
   -- the column or set by names
   abbrev named_group : Group (Entry ℕ) → Group (Entry Name)
   named_group = group_by (entry_by (name_at (labels rows)))
@@ -43,7 +43,7 @@ module _ (rows : List Row) where
   text_of_column column = by column.items refl
     where
       by : (items : List (Entry ℕ)) → column.items ≡ items → card_text (column_cards rows (named_group column)) ≡ column_lines rows column
-      by [] e = rw e (flat_map-map (λ card. card ++ 10 ∷ []) (λ (row : Row). data_card [] column.name row.name (codes "0")) (take 1 rows))
+      by [] e = rw e (flat_map-map (λ card. card ++ 10 ∷ []) (λ (row : Row ℕ). data_card [] column.name row.name (codes "0")) (take 1 rows))
       by (item ∷ items) e = let whole = text_of_entries column in rw e (rw e at whole)
 
 text_of_bounds : (columns : List Name) (set : Group (Bound ℕ)) → card_text (bound_cards (group_by (bound_by (name_at columns)) set)) ≡ bound_lines columns set
@@ -79,16 +79,16 @@ pieces n r c e p q s t u = λ i. line n ++ ((line r ++ p i) ++ ((line c ++ q i) 
 abbrev pub from_bounds : List (Group (Entry ℕ)) → List (Group (Bound ℕ)) → List ℕ
 from_bounds columns bounds = section_lines (codes "BOUNDS") (bound_lines (group_names columns)) bounds ++ line (codes "ENDATA")
 
-abbrev pub from_ranges : List Row → List (Group (Entry ℕ)) → List (Group (Entry ℕ)) → List (Group (Bound ℕ)) → List ℕ
+abbrev pub from_ranges : List (Row ℕ) → List (Group (Entry ℕ)) → List (Group (Entry ℕ)) → List (Group (Bound ℕ)) → List ℕ
 from_ranges rows columns ranges bounds = section_lines (codes "RANGES") (entry_lines (labels rows)) ranges ++ from_bounds columns bounds
 
-abbrev pub from_rhs : List Row → List (Group (Entry ℕ)) → List (Group (Entry ℕ)) → List (Group (Entry ℕ)) → List (Group (Bound ℕ)) → List ℕ
+abbrev pub from_rhs : List (Row ℕ) → List (Group (Entry ℕ)) → List (Group (Entry ℕ)) → List (Group (Entry ℕ)) → List (Group (Bound ℕ)) → List ℕ
 from_rhs rows columns rhs ranges bounds = section_lines (codes "RHS") (entry_lines (labels rows)) rhs ++ from_ranges rows columns ranges bounds
 
-abbrev pub from_columns : List Row → List (Group (Entry ℕ)) → List (Group (Entry ℕ)) → List (Group (Entry ℕ)) → List (Group (Bound ℕ)) → List ℕ
+abbrev pub from_columns : List (Row ℕ) → List (Group (Entry ℕ)) → List (Group (Entry ℕ)) → List (Group (Entry ℕ)) → List (Group (Bound ℕ)) → List ℕ
 from_columns rows columns rhs ranges bounds = (line (codes "COLUMNS") ++ flat_map (column_lines rows) columns) ++ from_rhs rows columns rhs ranges bounds
 
-abbrev pub from_rows : List Row → List (Group (Entry ℕ)) → List (Group (Entry ℕ)) → List (Group (Entry ℕ)) → List (Group (Bound ℕ)) → List ℕ
+abbrev pub from_rows : List (Row ℕ) → List (Group (Entry ℕ)) → List (Group (Entry ℕ)) → List (Group (Entry ℕ)) → List (Group (Bound ℕ)) → List ℕ
 from_rows rows columns rhs ranges bounds = (line (codes "ROWS") ++ flat_map row_line rows) ++ from_columns rows columns rhs ranges bounds
 
 -- The text of a deck.
@@ -111,7 +111,7 @@ deck_text problem =
     (text_of_section (codes "BOUNDS") bound_cards (bound_lines names) (group_by (bound_by (name_at names))) (text_of_bounds names) problem.bounds))
 
 -- The text of a deck whose parts are known.
-pub deck_text_of : (problem : Problem ℕ) {name : Name} {rows : List Row} {columns rhs ranges : List (Group (Entry ℕ))} {bounds : List (Group (Bound ℕ))}
+pub deck_text_of : (problem : Problem ℕ) {name : Name} {rows : List (Row ℕ)} {columns rhs ranges : List (Group (Entry ℕ))} {bounds : List (Group (Bound ℕ))}
     → name ≡ problem.name → rows ≡ problem.rows → columns ≡ problem.columns → rhs ≡ problem.rhs → ranges ≡ problem.ranges → bounds ≡ problem.bounds
     → line (without_trailing is_blank (codes "NAME          " ++ name)) ++ from_rows rows columns rhs ranges bounds ≡ card_text (written (by_names problem))
 deck_text_of problem en er ec eh eg eb = (λ i. line (without_trailing is_blank (codes "NAME          " ++ en i)) ++ from_rows (er i) (ec i) (eh i) (eg i) (eb i)) ∙ deck_text problem
@@ -134,11 +134,11 @@ length_of_section word cards h same (x ∷ xs) = let others = length_of_groups c
 length_of_items : {X Y A : Type 0} (f : Y → A) (h : X → Y) (items : List X) → length (map f (map h items)) ≡ length items
 length_of_items f h items = length-map (map h items) f ∙ length-map items h
 
-length_of_column : (rows : List Row) (column : Group (Entry ℕ)) → length (column_cards rows (named_group rows column)) ≡ column_count rows column
+length_of_column : (rows : List (Row ℕ)) (column : Group (Entry ℕ)) → length (column_cards rows (named_group rows column)) ≡ column_count rows column
 length_of_column rows column = by column.items refl
   where
     by : (items : List (Entry ℕ)) → column.items ≡ items → length (column_cards rows (named_group rows column)) ≡ column_count rows column
-    by [] e = rw e (length-map (take 1 rows) (λ (row : Row). data_card [] column.name row.name (codes "0")))
+    by [] e = rw e (length-map (take 1 rows) (λ (row : Row ℕ). data_card [] column.name row.name (codes "0")))
     by (item ∷ items) e = let whole = length_of_items (λ (entry : Entry Name). data_card [] column.name entry.row entry.value.text) (entry_by (name_at (labels rows))) column.items in rw e (rw e at whole)
 
 length_of_parts : (n r c e : List ℕ) (rows columns rhs ranges bounds : List (List ℕ))

@@ -15,7 +15,7 @@ abbrev pub columns_of : List ℕ → Name → Name → List ℕ → List ℕ
 columns_of kind name1 name2 value =
     codes " " ++ padded 2 kind ++ codes " " ++ padded 8 name1 ++ codes "  " ++ padded 8 name2 ++ codes "  " ++ value
 
-abbrev pub row_line : Row → List ℕ
+abbrev pub row_line : Row ℕ → List ℕ
 row_line row = line (row_card row)
 
 -- an entry or item of this column or set, where these are the problem's rows
@@ -26,10 +26,10 @@ abbrev pub entry_lines : List Name → Group (Entry ℕ) → List ℕ
 entry_lines rows group = flat_map (entry_line rows group.name) group.items
 
 -- the number 0 on a row
-abbrev pub zero_line : Name → Row → List ℕ
+abbrev pub zero_line : Name → Row ℕ → List ℕ
 zero_line name row = line (data_card [] name row.name (codes "0"))
 
-abbrev pub column_lines : List Row → Group (Entry ℕ) → List ℕ
+abbrev pub column_lines : List (Row ℕ) → Group (Entry ℕ) → List ℕ
 column_lines rows column =
     if is_empty column.items then flat_map (zero_line column.name) (take 1 rows)
     else entry_lines (map (λ row. row.name) rows) column
@@ -49,7 +49,7 @@ abbrev pub section_lines : {X : Type 0} → List ℕ → (X → List ℕ) → Li
 section_lines word lines sets = if is_empty sets then [] else line word ++ flat_map lines sets
 
 -- how many cards the columns and the sets of a section have
-abbrev pub column_count : List Row → Group (Entry ℕ) → ℕ
+abbrev pub column_count : List (Row ℕ) → Group (Entry ℕ) → ℕ
 column_count rows column = if is_empty column.items then length (take 1 rows) else length column.items
 
 abbrev pub section_count : {X : Type 0} → List (Group X) → ℕ

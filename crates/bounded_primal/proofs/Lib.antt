@@ -21,3 +21,4 @@ pub mod TurnCases
 pub mod WalkCases
 pub mod TrueOutcomes
 pub mod FreeWalk
+pub mod CompletePaths

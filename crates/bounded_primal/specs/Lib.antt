@@ -8,3 +8,4 @@ pub mod Prices
 pub mod Steps
 pub mod Turns
 pub mod Outcomes
+pub mod Complete

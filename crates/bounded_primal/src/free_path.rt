@@ -1,11 +1,14 @@
 //! The path of the bounded simplex method without a limit of steps.
 
-ghost use Rattle.std.specs.Prelude.{◌≡◌, ◌≢◌, ◌<◌, length, IfOk, IfErr};
+ghost use Rattle.std.specs.Prelude.{◌≡◌, ◌≢◌, ◌<◌, List, length, IfOk, IfErr};
 ghost use Rattle.lp_definitions.specs.LinearProgram.{size, value_at, IsLinearProgram};
 ghost use Rattle.lp_definitions.specs.Basis.{basics_of, IsPointOf};
 ghost use Rattle.lp_definitions.specs.Waypoints.{KeepsWaypoints};
+ghost use Rattle.lp_definitions.specs.declared.Status.{Status};
+ghost use Rattle.path_definitions.specs.Path.{Ending};
 ghost use Rattle.termination_laws.specs.Laws.{lists_of};
 ghost use Rattle.bounded_primal.specs.Calls.{HasRates, CallEnds, WaypointsFollow};
+ghost use Rattle.bounded_primal.specs.Complete.{EndsFreely, IsFreeEndOrMemory};
 ghost use Rattle.bounded_primal.specs.Outcomes.{IsTrueOutcome};
 ghost use Rattle.bounded_primal.specs.Stops.{primal_stop_of, FreeStops};
 ghost use Rattle.bounded_primal.specs.Turns.{IsUncrossed, FreeTurnFound};
@@ -123,11 +126,14 @@ pub fn primal_free<R: Rates>(
     ensures waypoints { WaypointsFollow lp.now basis.old basis.new
         (R.waypoints rates.old) (R.waypoints rates.new) }
     ensures truth { IfOk result (IsTrueOutcome lp.now) }
+    ensures complete { (bases : List (List Status)) (ending : Ending) →
+        EndsFreely lp.now basis.old (R.waypoints rates.old) bases ending →
+        IsFreeEndOrMemory basis.old bases ending basis.new result }
 {
+    let size = lp.number_of_variables() as usize;
     if let Some(k) = crossed(lp) {
         return Ok(Outcome::Crossed { k });
     }
-    let size = lp.number_of_variables() as usize;
     let mut point = room(alloc, size)?;
     let mut row = room(alloc, size)?;
     let mut direction = room(alloc, size)?;

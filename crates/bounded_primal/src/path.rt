@@ -1,8 +1,11 @@
 //! The path of the bounded simplex method.
 
-ghost use Rattle.std.specs.Prelude.{◌≡◌, ◌<◌, length, vec_len, IfOk, IfErr, IsErrOf};
+ghost use Rattle.std.specs.Prelude.{◌≡◌, ◌<◌, List, length, vec_len, IfOk, IfErr, IsErrOf};
 ghost use Rattle.lp_definitions.specs.LinearProgram.{size, IsLinearProgram};
+ghost use Rattle.lp_definitions.specs.declared.Status.{Status};
+ghost use Rattle.path_definitions.specs.Path.{Ending};
 ghost use Rattle.bounded_primal.specs.Calls.{HasRates, CallEnds, WaypointsFollow};
+ghost use Rattle.bounded_primal.specs.Complete.{EndsUnhindered, IsEndOrMemory};
 ghost use Rattle.bounded_primal.specs.Outcomes.{IsTrueOutcome};
 ghost use Rattle.bounded_primal.specs.Stops.{PrimalStops};
 ghost use Rattle.bounded_primal.specs.Turns.{IsUncrossed};
@@ -90,11 +93,14 @@ pub fn primal<R: Rates>(
     ensures truth { IfOk result (IsTrueOutcome lp.now) }
     // No path has as many steps as there are status lists, three for each variable.
     ensures limited { IsErrOf result PrimalStop.Limit → limit < lists_of lp.now }
+    ensures complete { (bases : List (List Status)) (ending : Ending) →
+        EndsUnhindered lp.now basis.old limit (R.waypoints rates.old) bases ending →
+        IsEndOrMemory basis.old bases ending basis.new result }
 {
+    let size = lp.number_of_variables() as usize;
     if let Some(k) = crossed(lp) {
         return Ok(Outcome::Crossed { k });
     }
-    let size = lp.number_of_variables() as usize;
     let mut point = room(alloc, size)?;
     let mut row = room(alloc, size)?;
     let mut direction = room(alloc, size)?;

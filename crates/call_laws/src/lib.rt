@@ -1,5 +1,5 @@
-//! Completeness of the solving calls: where it meets no limit and no evidence of an overflow, `primal` answers the end of its path,
-//! and `range` its report; or there is no memory. A call that gives up doesn't keep this.
+//! Completeness of `range`: where it meets no evidence of an overflow, it answers its report, or there is no memory. A call that gives
+//! up doesn't keep this.
 //! The function here does nothing. It promises the law, so that the check proves it.
 #![tactic(auto)]
 

@@ -3,6 +3,8 @@ pub mod Tableaus
 pub mod Signs
 pub mod Rows
 pub mod Limits
+pub mod MovedLimits
+pub mod RightHandSides
 pub mod Shear
 pub mod Costs
 pub mod Examples

@@ -27,7 +27,7 @@ use Rattle.changed_programs.proofs.Booleans.{fewer_ways, fixed_is}
 use Rattle.changed_programs.proofs.Tableaus.{by_tableau}
 use Rattle.changed_programs.proofs.Rows.{rows_of, feasible_now}
 
-abbrev IsWithin : Option ℚ → Option ℚ → ℚ → Type 0
+abbrev pub IsWithin : Option ℚ → Option ℚ → ℚ → Type 0
 IsWithin low high y = IfSome low (λ l. l ≤ℚ y) × IfSome high (λ u. y ≤ℚ u)
 
 -- a value that has come to z + x v lies within its limits just where its conditions hold at x

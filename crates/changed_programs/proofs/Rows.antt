@@ -2,9 +2,10 @@
 use Rattle.std.proofs.Common.{◌≡◌, ℕ, List, Option, Some, None}
 use Rattle.std.specs.Prelude.{◌↔◌, false}
 use Rattle.exact_values.specs.Rational.{ℚ}
-use Rattle.lp_definitions.specs.LinearProgram.{LinearProgram, IsRow}
+use Rattle.lp_definitions.specs.LinearProgram.{LinearProgram, IsRow, IsLinearProgram, ChangeIsFree}
 use Rattle.lp_definitions.specs.Solutions.{IsFeasible}
 use Rattle.lp_definitions.specs.Basis.{IsBasis, IsOptimalBasis, Tableau, IsTableau}
+use Rattle.lp_definitions.specs.declared.Change.{Change}
 use Rattle.lp_definitions.specs.declared.Status.{Status}
 use Rattle.path_definitions.specs.Moves.{may_rise, may_fall, lowers}
 use Rattle.path_definitions.specs.Path.{worth_rate}
@@ -14,13 +15,16 @@ use Rattle.changed_programs.specs.Laws.{IsPresent, IsFeasibleBasis}
 use Rattle.changed_programs.proofs.Tableaus.{by_tableau}
 use Rattle.changed_programs.proofs.Signs.{sides_of_rate, for_min-add}
 
+pub lawful_rows : (p : LinearProgram) → IsLinearProgram p → HasRows p
+lawful_rows p lawful = record { objective = lawful.objective_row; change = at p.change lawful.change_free }
+  where
+    at : (c : Option Change) → ChangeIsFree p c → ChangeIsRow p.matrix c
+    at None free = tt
+    at (Some c) free = free.0
+
 module _ (p : LinearProgram) (s : List Status) (t : Tableau) (present : IsPresent p s t) where
   pub rows_of : HasRows p
-  rows_of = record { objective = present.lawful.objective_row; change = at p.change present.no_change }
-    where
-      at : (c : Option _) → c ≡ None → ChangeIsRow p.matrix c
-      at None e = tt
-      at (Some c) e = let P : Some c ≡ None → ⊥ = λ e. cc in absurd (P e)
+  rows_of = lawful_rows p present.lawful
 
   pub feasible_now : IsFeasible p t.point
   feasible_now = ((by_tableau p s present.optimal.is_basis present.optimal.nonsingular rows_of t present.is_tableau).0 present.optimal).feasible

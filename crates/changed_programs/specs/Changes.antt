@@ -7,6 +7,8 @@
 --     limit_sides p z v k          z + x v lies within the limits of k
 --     own_sides p s z k            the limit at which the nonbasic k stands, moved by x, doesn't pass its other limit
 --     LimitStays p s t k x         each basic stays within its limits where that limit moves by x, and it doesn't pass the other one
+--     shift_sides p shift z v k    z + x v lies within the limits of k, which move by x times the shift of k
+--     ValuesStay p shift z v x     the values of all variables do
 use Rattle.std.specs.Prelude.{◌≡◌, ℕ, Bool, false, List, Option, Some, None, IfSome, option_map, if◌then◌else◌}
 use Rattle.exact_values.specs.Rational.{ℚ, one_ℚ, neg_ℚ, ◌-ℚ◌}
 use Rattle.affine_conditions.specs.Conditions.{Condition, Holds}
@@ -18,6 +20,7 @@ use Rattle.lp_definitions.specs.declared.Status.{Status}
 use Rattle.lp_definitions.specs.declared.Status.TheVariants.{Bs, Ll, Ul, Fr}
 use Rattle.path_definitions.specs.Moves.{is_fixed, may_rise, may_fall, lowers}
 use Rattle.path_definitions.specs.Path.{worth_rate}
+use Rattle.postoptimal_definitions.specs.RhsRun.{shift_of}
 
 abbrev pub ChangeIsRow : Matrix → Option Change → Type 0
 ChangeIsRow a None = Unit {0}
@@ -81,6 +84,13 @@ own_sides p s z k =
 pub record LimitStays (p : LinearProgram) (s : List Status) (t : Tableau) (k : ℕ) (x : ℚ) : Type 0 where
   pub basics : (i : ℕ) → IsBasic p.matrix (basics_of s) i → SidesHold (limit_sides p t.point (λ j. t.rate j k) i) x
   pub own : SidesHold (own_sides p s t.point k) x
+
+-- a value and its limits both move: the value comes to a limit so fast as the two differ
+abbrev pub shift_sides : LinearProgram → List ℚ → Vector → Vector → ℕ → Sides
+shift_sides p shift z v k = limit_sides p z (λ k. v k -ℚ shift_of p.matrix shift k) k
+
+abbrev pub ValuesStay : LinearProgram → List ℚ → Vector → Vector → ℚ → Type 0
+ValuesStay p shift z v x = (k : ℕ) → IsVariable p.matrix k → SidesHold (shift_sides p shift z v k) x
 
 -- ---- rates of a row
 

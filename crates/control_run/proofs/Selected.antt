@@ -130,8 +130,8 @@ limits_by problem options side =
 
 by_sides : (problem : Problem ℕ) (options : SetupOptions) (a b : ℕ → ℚ) → AreAlike (limits_by problem options a) (limits_by problem options b)
 by_sides problem options a b =
-    alike_then _ _ _ (alike_each (λ (entry : ℕ × Row). row_limits entry.1.kind (a entry.0) (value_on (set_items problem.ranges options.range) entry.0))
-    (λ (entry : ℕ × Row). row_limits entry.1.kind (b entry.0) (value_on (set_items problem.ranges options.range) entry.0)) (enumerate_from 1 problem.rows)
+    alike_then _ _ _ (alike_each (λ (entry : ℕ × Row ℕ). row_limits entry.1.kind (a entry.0) (value_on (set_items problem.ranges options.range) entry.0))
+    (λ (entry : ℕ × Row ℕ). row_limits entry.1.kind (b entry.0) (value_on (set_items problem.ranges options.range) entry.0)) (enumerate_from 1 problem.rows)
     (λ entry. row_alike entry.1.kind (a entry.0) (b entry.0) (value_on (set_items problem.ranges options.range) entry.0)))
 
 limits_alike : (problem : Problem ℕ) (c d : Choice) → c.options ≡ d.options → AreAlike (limits_of problem c) (limits_of problem d)

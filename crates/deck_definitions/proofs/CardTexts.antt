@@ -4,12 +4,13 @@ use Rattle.std.specs.List.{AllByRecursion, list_all, suffix_len}
 use Rattle.std.proofs.lemmas.List.{length-take}
 use Rattle.card_definitions.specs.Words.{is_empty}
 use Rattle.card_definitions.specs.Cards.{is_blank, is_printable}
-use Rattle.card_definitions.specs.Fields.{Fixed, Reading, reading_of, columns}
+use Rattle.card_definitions.specs.Fields.{Form, Fixed, Reading, reading_of, columns}
 use Rattle.card_definitions.specs.Numbers.{number_fault, decimal_of}
 use Rattle.card_definitions.proofs.Trailing.{part_passes, trimmed_twice, length-trimmed}
 use Rattle.card_definitions.proofs.Trimmed.{length-field, number_of-trimmed}
 use Rattle.problem_definitions.specs.Valid.{IsName, IsDecimal}
 use Rattle.deck_definitions.specs.DataCards.{Pair, pairs_of}
+use Rattle.deck_definitions.specs.Conversion.{form_fault}
 
 -- columns of a card are no more than so many
 short_columns : (from to n : ℕ) (card : List ℕ) → to + 1 - from ≤ n → length (columns from to card) ≤ n
@@ -35,14 +36,19 @@ pub record IsReading (card : Reading) : Type 0 where
   pub value1 : length card.value1 ≤ 12
   pub value2 : length card.value2 ≤ 12
 
-pub reading-lawful : (card : List ℕ) → list_all is_printable card ≡ true → IsReading (reading_of Fixed card)
+-- fixed columns are few enough, whatever stands in the gaps
+pub fixed-lawful : (card : List ℕ) → list_all is_printable card ≡ true → IsReading (reading_of Fixed card)
 unfolding reading_of
-reading-lawful card printable = record {
+fixed-lawful card printable = record {
   name1 = columns-name 5 12 card (lit≤ tt) printable;
   name2 = columns-name 15 22 card (lit≤ tt) printable;
   value1 = short_columns 25 36 12 card (lit≤ tt);
   value2 = short_columns 50 61 12 card (lit≤ tt);
 }
+
+-- a printable card that has its form reads as names and fields of numbers
+pub reading-lawful : (form : Form) (card : List ℕ) → list_all is_printable card ≡ true → form_fault form card ≡ None → IsReading (reading_of form card)
+reading-lawful Fixed card printable formed = fixed-lawful card printable
 
 -- a field of a number in which no fault was found
 pub decimal-lawful : (field : List ℕ) → length field ≤ 12 → number_fault field ≡ None → IsDecimal (decimal_of field)

@@ -1,11 +1,11 @@
 -- What a data deck converts to is a problem.
-use Rattle.std.proofs.Common.{◌≡◌, ℕ, Bool, true, false, cond, not, List, [], ◌∷◌, ◌++◌, Option, Some, None, Result, Ok, Err, refl, ap, sym, subst, unwrap_or, lit≤}
+use Rattle.std.proofs.Common.{◌≡◌, ℕ, Bool, true, false, cond, not, List, [], ◌∷◌, ◌++◌, Option, Some, None, Result, Ok, Err, refl, ap, sym, ◌∙◌, subst, unwrap_or, lit≤}
 use Rattle.std.specs.List.{AllByRecursion, IsDistinct, list_all}
 use Rattle.std.specs.Option.{option_map, option_or, IfSome}
 use Rattle.std.proofs.lemmas.List.{append_assoc, append-nil}
-use Rattle.card_definitions.specs.Words.{unless, ◌⟹◌}
+use Rattle.card_definitions.specs.Words.{first_fault, unless, ◌⟹◌}
 use Rattle.card_definitions.specs.Cards.{Card, is_printable, is_skipped, live, last_number}
-use Rattle.card_definitions.specs.Fields.{Fixed, reading_of}
+use Rattle.card_definitions.specs.Fields.{reading_of}
 use Rattle.card_definitions.proofs.Behind.{no_first, no_second, passes}
 use Rattle.problem_definitions.specs.Names.{Name}
 use Rattle.problem_definitions.specs.Problem.{Problem}
@@ -17,10 +17,11 @@ use Rattle.deck_definitions.specs.declared.DeckFaultKind.TheVariants.{NoEndata}
 use Rattle.deck_definitions.specs.declared.Section.{Section}
 use Rattle.deck_definitions.specs.declared.Section.TheVariants.{Header, Rows, Columns, Rhs, Ranges, Bounds, Endata}
 use Rattle.deck_definitions.specs.Sections.{is_section_card, section_after, is_section_after}
+use Rattle.deck_definitions.specs.DataCards.{Style, style_of, form_on, read_behind}
 use Rattle.deck_definitions.specs.Described.{described}
 use Rattle.deck_definitions.specs.Conversion.{section_card_fault, form_fault, section_fault, data_card_fault, card_fault, first_faulty, deck_fault, deck_name, conversion}
 use Rattle.deck_definitions.specs.Sections.{may_follow}
-use Rattle.deck_definitions.proofs.Steps.{described-data, described-section}
+use Rattle.deck_definitions.proofs.Steps.{with_card, described-data, described-section}
 use Rattle.deck_definitions.proofs.CardTexts.{columns-name, reading-lawful}
 use Rattle.deck_definitions.proofs.Validity.{card-step}
 
@@ -28,33 +29,47 @@ use Rattle.deck_definitions.proofs.Validity.{card-step}
 abbrev pub ArePrintable : List Card → Type 0
 ArePrintable cards = AllByRecursion (λ (card : Card). list_all is_printable card.bytes ≡ true) cards
 
--- a data card in which no fault was found stands in a section, and passes its tests
-record DataPasses (seen : Problem Name) (section : Option Section) (card : List ℕ) : Type 0 where
+-- a data card in which no fault was found stands in a section, has its form, and passes its tests
+record DataPasses (seen : Problem Name) (style : Style) (section : Option Section) (card : List ℕ) : Type 0 where
   place : Section
   stands : section ≡ Some place
-  fine : section_fault seen place (reading_of Fixed card) ≡ None
+  formed : form_fault (form_on style place false card) card ≡ None
+  fine : section_fault seen place (reading_of (form_on style place false card) card) ≡ None
 
-data-passes : (seen : Problem Name) (section : Option Section) (card : List ℕ) → data_card_fault seen Fixed section card ≡ None → DataPasses seen section card
-data-passes seen None card h = absurd (cc h)
-data-passes seen (Some Header) card h = absurd (cc h)
-data-passes seen (Some Rows) card h = record { place = Rows; stands = refl; fine = (passes (form_fault Fixed card ∷ section_fault seen Rows (reading_of Fixed card) ∷ []) h).1.0 }
-data-passes seen (Some Columns) card h = record { place = Columns; stands = refl; fine = (passes (form_fault Fixed card ∷ section_fault seen Columns (reading_of Fixed card) ∷ []) h).1.0 }
-data-passes seen (Some Rhs) card h = record { place = Rhs; stands = refl; fine = (passes (form_fault Fixed card ∷ section_fault seen Rhs (reading_of Fixed card) ∷ []) h).1.0 }
-data-passes seen (Some Ranges) card h = record { place = Ranges; stands = refl; fine = (passes (form_fault Fixed card ∷ section_fault seen Ranges (reading_of Fixed card) ∷ []) h).1.0 }
-data-passes seen (Some Bounds) card h = record { place = Bounds; stands = refl; fine = (passes (form_fault Fixed card ∷ section_fault seen Bounds (reading_of Fixed card) ∷ []) h).1.0 }
-data-passes seen (Some Endata) card h = record { place = Endata; stands = refl; fine = (passes (form_fault Fixed card ∷ section_fault seen Endata (reading_of Fixed card) ∷ []) h).1.0 }
+data-passes : (seen : Problem Name) (style : Style) (section : Option Section) (card : List ℕ) → data_card_fault seen style section card ≡ None → DataPasses seen style section card
+data-passes seen style section card = by section
+  where
+    in_place : (place : Section) → first_fault (form_fault (form_on style place false card) card ∷ section_fault seen place (reading_of (form_on style place false card) card) ∷ []) ≡ None
+        → DataPasses seen style (Some place) card
+    in_place place h =
+        let both = passes (form_fault (form_on style place false card) card ∷ section_fault seen place (reading_of (form_on style place false card) card) ∷ []) h in
+        record { place = place; stands = refl; formed = both.0; fine = both.1.0 }
+
+    by : (section : Option Section) → data_card_fault seen style section card ≡ None → DataPasses seen style section card
+    by None h = absurd (cc h)
+    by (Some Header) h = absurd (cc h)
+    by (Some Rows) h = in_place Rows h
+    by (Some Columns) h = in_place Columns h
+    by (Some Rhs) h = in_place Rhs h
+    by (Some Ranges) h = in_place Ranges h
+    by (Some Bounds) h = in_place Bounds h
+    by (Some Endata) h = in_place Endata h
 
 -- an accepted card keeps what holds of the problem described
 accepted-card : (before : List Card) (card : Card) → list_all is_printable card.bytes ≡ true → IsLawful (described [] before) → card_fault before card.bytes ≡ None → IsLawful (described [] (before ++ card ∷ []))
 unfolding card_fault
 accepted-card before card printable lawful fine = by (is_section_card card.bytes) refl fine
   where
-    by : (b : Bool) → is_section_card card.bytes ≡ b → cond b (section_card_fault may_follow (section_after before) card.bytes) (data_card_fault (described [] before) Fixed (section_after before) card.bytes) ≡ None
+    by : (b : Bool) → is_section_card card.bytes ≡ b → cond b (section_card_fault may_follow (section_after before) card.bytes) (data_card_fault (described [] before) (style_of before) (section_after before) card.bytes) ≡ None
         → IsLawful (described [] (before ++ card ∷ []))
     by true e h = subst IsLawful (sym (described-section [] before card e)) lawful
     by false e h =
-        let pass = data-passes (described [] before) (section_after before) card.bytes h in
-        subst IsLawful (sym (described-data [] before card pass.place e pass.stands)) (card-step (described [] before) lawful (reading_of Fixed card.bytes) (reading-lawful card.bytes printable) pass.place pass.fine)
+        let pass = data-passes (described [] before) (style_of before) (section_after before) card.bytes h in
+        let form = form_on (style_of before) pass.place false card.bytes in
+        let read = reading_of form card.bytes in
+        let read_so : read_behind before card ≡ read = ap (λ section. reading_of (form_on (style_of before) (unwrap_or section Header) false card.bytes) card.bytes) pass.stands in
+        subst IsLawful (sym (described-data [] before card pass.place e pass.stands ∙ ap (λ reading. with_card pass.place reading (described [] before)) read_so))
+        (card-step (described [] before) lawful read (reading-lawful form card.bytes printable pass.formed) pass.place pass.fine)
 
 no_kind : {A B : Type 0} (f : A → B) (o : Option A) → option_map f o ≡ None → o ≡ None
 no_kind f None h = refl
@@ -74,6 +89,7 @@ unfolding described IsDistinct
 nothing = record {
   row_labels = tt;
   rows_distinct = tt;
+  plain_rows = tt;
   columns = record { names = tt; distinct = tt; items = tt };
   rhs = record { names = tt; distinct = tt; items = tt };
   ranges = record { names = tt; distinct = tt; items = tt };
@@ -89,6 +105,7 @@ unfolding described
 renamed name cards lawful = record {
   row_labels = lawful.row_labels;
   rows_distinct = lawful.rows_distinct;
+  plain_rows = lawful.plain_rows;
   columns = lawful.columns;
   rhs = lawful.rhs;
   ranges = lawful.ranges;

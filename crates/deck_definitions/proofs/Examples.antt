@@ -10,7 +10,7 @@ use Rattle.problem_definitions.specs.declared.RowKind.TheVariants.{N, G, L, E}
 use Rattle.problem_definitions.specs.declared.BoundKind.{BoundKind}
 use Rattle.problem_definitions.specs.declared.BoundKind.TheVariants.{Up, Lo, Fx, Fr, Mi, Pl}
 use Rattle.problem_definitions.specs.Names.{Name}
-use Rattle.problem_definitions.specs.Problem.{Problem, Row, Entry, Group, Bound}
+use Rattle.problem_definitions.specs.Problem.{Problem, Row, plain_row, Entry, Group, Bound}
 use Rattle.problem_definitions.specs.Numbering.{numbered, by_names}
 use Rattle.deck_definitions.specs.DataCards.{row_kinds, bound_kinds}
 use Rattle.deck_definitions.specs.Described.{described}
@@ -47,8 +47,8 @@ test_problem = cards_from 8 (
     "ENDATA" ∷ [])
 
 -- the problem that it describes, with numbers of rows and columns
-abbrev row : RowKind → String → Row
-row kind name = record { kind = kind; name = codes name }
+abbrev row : {R : Type 0} → RowKind → String → Row R
+row kind name = plain_row kind (codes name)
 
 abbrev entry : ℕ → String → Entry ℕ
 entry number value = record { row = number; value = decimal_of (codes value) }

@@ -7,7 +7,7 @@ use Rattle.card_definitions.specs.Fields.{Reading, Fixed, reading_of}
 use Rattle.card_definitions.specs.Numbers.{number_fault}
 use Rattle.problem_definitions.specs.declared.RowKind.TheVariants.{L}
 use Rattle.problem_definitions.specs.Names.{Name}
-use Rattle.problem_definitions.specs.Problem.{Problem}
+use Rattle.problem_definitions.specs.Problem.{plain_row, Problem}
 use Rattle.deck_definitions.specs.declared.DeckFault.{DeckFault}
 use Rattle.deck_definitions.specs.declared.DeckFaultKind.{DeckFaultKind}
 use Rattle.deck_definitions.specs.declared.DeckFaultKind.TheVariants.{SectionOrder, UnknownSection, BadRowType, DuplicateRow, ColumnSplit, UnknownRow, DuplicateEntry, Number, RangeOnFree, BadBoundType, UnknownColumn, BoundTwice, NoEndata, Marker, EmptyName, TooManyRows, TooManyColumns, TooManyEntries, CombinationRow, ExtraField}
@@ -294,7 +294,7 @@ bound_fifth_field = refl
 abbrev many : ℕ → ℕ → Problem Name
 many rows columns = record {
   name = [];
-  rows = replicate rows (record { kind = L; name = codes "R" });
+  rows = replicate rows (plain_row L (codes "R"));
   columns = replicate columns (record { name = codes "C"; items = [] });
   rhs = [];
   ranges = [];

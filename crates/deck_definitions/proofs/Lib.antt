@@ -2,7 +2,6 @@ mod Examples
 mod Faults
 pub mod Steps
 pub mod Pairs
-pub mod Numbered
 pub mod WrittenCards
 pub mod CardTexts
 pub mod Accepted

@@ -65,9 +65,9 @@ module _ {X : Type 0} (section : Section) (give : Reading → Option X) (cards :
   pub given-section : is_section_card card.bytes ≡ true → given section give (cards ++ card ∷ []) ≡ given section give cards
   given-section e = given-push section give cards card ∙ rw e (append-nil (given section give cards))
 
-module _ (name : Name) (card : Reading) (rows : List Row) (columns rhs ranges : List (Group (Entry Name))) (bounds : List (Group (Bound Name))) where
+module _ (name : Name) (card : Reading) (rows : List (Row Name)) (columns rhs ranges : List (Group (Entry Name))) (bounds : List (Group (Bound Name))) where
   -- the problem of what the sections gave
-  abbrev built : List Row → List (Group (Entry Name)) → List (Group (Entry Name)) → List (Group (Entry Name)) → List (Group (Bound Name)) → Problem Name
+  abbrev built : List (Row Name) → List (Group (Entry Name)) → List (Group (Entry Name)) → List (Group (Entry Name)) → List (Group (Bound Name)) → Problem Name
   built rows columns rhs ranges bounds = record { name = name; rows = rows; columns = grouped columns; rhs = grouped rhs; ranges = grouped ranges; bounds = grouped bounds }
 
   bounds-step : (o : Option (Group (Bound Name))) → grouped (bounds ++ option_to_list o) ≡ with_group o (grouped bounds)

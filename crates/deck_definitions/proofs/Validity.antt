@@ -13,7 +13,7 @@ use Rattle.problem_definitions.specs.declared.RowKind.{RowKind}
 use Rattle.problem_definitions.specs.declared.BoundKind.{BoundKind}
 use Rattle.problem_definitions.specs.Names.{Name, same, has_name, marker}
 use Rattle.problem_definitions.specs.Kinds.{is_free_kind, takes_value, touches_upper, touches_lower, meet}
-use Rattle.problem_definitions.specs.Problem.{Row, Entry, Bound, Group, Problem, row_names, entry_count, has_row, has_free_row, has_group}
+use Rattle.problem_definitions.specs.Problem.{Row, plain_row, Entry, Bound, Group, Problem, row_names, entry_count, has_row, has_free_row, has_group}
 use Rattle.problem_definitions.specs.Groups.{items_of, in_set}
 use Rattle.problem_definitions.specs.Valid.{IsName, IsDecimal}
 use Rattle.problem_definitions.proofs.Names.{same_eq, same_sym, row_is_named}
@@ -32,7 +32,7 @@ use Rattle.deck_definitions.proofs.Accepted.{pairs-lawful, pairs-limited, pairs-
 
 -- ---- ROWS
 
-module _ (rows : List Row) (row : Row) (new : has_row rows row.name ≡ false) where
+module _ (rows : List (Row Name)) (row : Row Name) (new : has_row rows row.name ≡ false) where
   more_rows : (name : Name) → has_row rows name ≡ true → has_row (rows ++ row ∷ []) name ≡ true
   more_rows name there = list_any-append (λ other. same name other.name) rows (row ∷ []) ∙ rw there refl
 
@@ -70,10 +70,11 @@ groups-kept {X} {N} {P} {Q} change groups lawful = record {
 }
 
 module _ (p : Problem Name) (lawful : IsLawful p) where
-  row-added : (row : Row) → IsLabel row.name → has_row p.rows row.name ≡ false → length p.rows + 1 ≤ MAX_ROWS → IsLawful (record p { rows = p.rows ++ row ∷ [] })
-  row-added row label new few = record {
+  row-added : (row : Row Name) → is_none row.parts ≡ true → IsLabel row.name → has_row p.rows row.name ≡ false → length p.rows + 1 ≤ MAX_ROWS → IsLawful (record p { rows = p.rows ++ row ∷ [] })
+  row-added row plain label new few = record {
     row_labels = subst (AllByRecursion IsLabel) named_rows (each-push IsLabel (row_names p) row.name lawful.row_labels label);
     rows_distinct = subst (IsDistinct same) named_rows (distinct-push same (row_names p) row.name lawful.rows_distinct (absent-apart (row_names p) row.name (sym (row_is_named row.name p.rows) ∙ new)));
+    plain_rows = each-push (λ (row : Row Name). is_none row.parts ≡ true) p.rows row lawful.plain_rows plain;
     columns = groups-kept {P = AreColumnEntries p.rows} (λ items c. record { entries_lawful = entries-kept p.rows row new items c.entries_lawful; no_marker = c.no_marker }) p.columns lawful.columns;
     rhs = groups-kept {P = AreRightHandSides p.rows} (λ items c. record { entries_lawful = entries-kept p.rows row new items c.entries_lawful; filled = c.filled }) p.rhs lawful.rhs;
     ranges = groups-kept {P = AreRanges p.rows} (ranges-kept p.rows row new) p.ranges lawful.ranges;
@@ -100,9 +101,9 @@ module _ (p : Problem Name) (lawful : IsLawful p) where
         (test_fails (has_row p.rows card.name1) DuplicateRow t.1.1.1.0) (not_full MAX_ROWS (length p.rows) (test_fails (nat_le MAX_ROWS (length p.rows)) TooManyRows t.1.1.1.1.0))
       where
         by : (o : Option RowKind) → is_none o ≡ false → is_empty card.name1 ≡ false → has_row p.rows card.name1 ≡ false → length p.rows + 1 ≤ MAX_ROWS
-            → IsLawful (record p { rows = p.rows ++ option_to_list (option_map (λ kind. record { kind = kind; name = card.name1 }) o) })
+            → IsLawful (record p { rows = p.rows ++ option_to_list (option_map (λ kind. plain_row kind card.name1) o) })
         by None h empty new few = absurd (cc h)
-        by (Some kind) h empty new few = row-added (record { kind = kind; name = card.name1 }) (record { name_of = reads.name1; present = empty }) new few
+        by (Some kind) h empty new few = row-added (plain_row kind card.name1) refl (record { name_of = reads.name1; present = empty }) new few
 
     -- no entries are lawful entries
     no_entries : AreLawfulEntries p.rows []
@@ -139,6 +140,7 @@ module _ (p : Problem Name) (lawful : IsLawful p) where
         record {
           row_labels = lawful.row_labels;
           rows_distinct = lawful.rows_distinct;
+          plain_rows = lawful.plain_rows;
           columns = groups-added card.name1 IsLabel (AreColumnEntries p.rows) (entries_of card) p.columns lawful.columns label new;
           rhs = lawful.rhs;
           ranges = lawful.ranges;
@@ -173,6 +175,7 @@ module _ (p : Problem Name) (lawful : IsLawful p) where
         record {
           row_labels = lawful.row_labels;
           rows_distinct = lawful.rows_distinct;
+          plain_rows = lawful.plain_rows;
           columns = lawful.columns;
           rhs = groups-added card.name1 IsName (AreRightHandSides p.rows) (entries_of card) p.rhs lawful.rhs reads.name1 (record {
             entries_lawful = more_entries {P = AreRightHandSides p.rows} Rhs 0 p.rhs lawful.rhs (λ items c. c.entries_lawful) t.1.0;
@@ -191,6 +194,7 @@ module _ (p : Problem Name) (lawful : IsLawful p) where
         record {
           row_labels = lawful.row_labels;
           rows_distinct = lawful.rows_distinct;
+          plain_rows = lawful.plain_rows;
           columns = lawful.columns;
           rhs = lawful.rhs;
           ranges = groups-added card.name1 IsName (AreRanges p.rows) (entries_of card) p.ranges lawful.ranges reads.name1 (record {
@@ -278,6 +282,7 @@ module _ (p : Problem Name) (lawful : IsLawful p) where
             record {
               row_labels = lawful.row_labels;
               rows_distinct = lawful.rows_distinct;
+              plain_rows = lawful.plain_rows;
               columns = lawful.columns;
               rhs = lawful.rhs;
               ranges = lawful.ranges;

@@ -1,5 +1,5 @@
 -- The first fault of a data deck, and the problem of a deck without one.
-use Rattle.std.specs.Prelude.{ℕ, Bool, not, List, [], ◌∷◌, Option, Some, None, Result, if◌then◌else◌, unwrap_or, option_map}
+use Rattle.std.specs.Prelude.{ℕ, Bool, false, not, List, [], ◌∷◌, Option, Some, None, Result, if◌then◌else◌, unwrap_or, option_map}
 use Rattle.card_definitions.specs.Words.{named, each_behind, ◌⟹◌, first_fault, unless}
 use Rattle.card_definitions.specs.Cards.{Card, live, last_number}
 use Rattle.card_definitions.specs.Fields.{Form, Fixed, Reading, reading_of, gaps_are_blank}
@@ -12,7 +12,7 @@ use Rattle.deck_definitions.specs.declared.DeckFaultKind.TheVariants.{SectionOrd
 use Rattle.deck_definitions.specs.declared.Section.{Section}
 use Rattle.deck_definitions.specs.declared.Section.TheVariants.{Header, Rows, Columns, Rhs, Ranges, Bounds, Endata}
 use Rattle.deck_definitions.specs.Sections.{may_follow, section_words, section_word, is_section_card, section_after, is_section_after, header_name}
-use Rattle.deck_definitions.specs.DataCards.{form_of}
+use Rattle.deck_definitions.specs.DataCards.{Style, style_of, form_on}
 use Rattle.deck_definitions.specs.Described.{described}
 use Rattle.deck_definitions.specs.Tests.{rows_fault, columns_fault, set_fault, bounds_fault}
 
@@ -27,7 +27,7 @@ section_card_fault follows before card = by before (named section_words (section
     by (Some before) None = Some UnknownSection
     by (Some before) (Some section) = not (follows before section) ⟹ SectionOrder
 
--- whether the card has the form of the deck's data cards: at fixed columns, the gaps between the fields are blank
+-- whether the card has its form: at fixed columns, the gaps between the fields are blank
 abbrev pub form_fault : Form → List ℕ → Option DeckFaultKind
 form_fault Fixed card = not (gaps_are_blank card) ⟹ ExtraField
 
@@ -42,10 +42,12 @@ section_fault seen Header card = Some SectionOrder
 section_fault seen Endata card = Some SectionOrder
 
 -- a data card stands in a section after NAME; it has its form, and passes the tests of its section
-abbrev pub data_card_fault : Problem Name → Form → Option Section → List ℕ → Option DeckFaultKind
-data_card_fault seen form None card = Some SectionOrder
-data_card_fault seen form (Some Header) card = Some SectionOrder
-data_card_fault seen form (Some section) card = first_fault (
+abbrev pub data_card_fault : Problem Name → Style → Option Section → List ℕ → Option DeckFaultKind
+data_card_fault seen style None card = Some SectionOrder
+data_card_fault seen style (Some Header) card = Some SectionOrder
+data_card_fault seen style (Some section) card =
+    let form = form_on style section false card in
+    first_fault (
     form_fault form card ∷
     section_fault seen section (reading_of form card) ∷ [])
 
@@ -53,7 +55,7 @@ data_card_fault seen form (Some section) card = first_fault (
 unfoldable pub card_fault : List Card → List ℕ → Option DeckFaultKind
 card_fault before card =
     if is_section_card card then section_card_fault may_follow (section_after before) card
-    else data_card_fault (described [] before) (form_of before) (section_after before) card
+    else data_card_fault (described [] before) (style_of before) (section_after before) card
 
 -- the first fault that a test finds in a list of cards, behind the cards before it
 abbrev pub first_faulty : (List Card → List ℕ → Option DeckFaultKind) → List Card → List Card → Option DeckFault

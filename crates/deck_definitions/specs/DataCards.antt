@@ -1,5 +1,5 @@
 -- The data cards of a deck, and what each holds.
-use Rattle.std.specs.Prelude.{ℕ, Bool, not, ◌&&◌, List, [], ◌∷◌, Option, Some, None, codes, if◌then◌else◌, option_map, map}
+use Rattle.std.specs.Prelude.{ℕ, Bool, false, not, ◌&&◌, List, [], ◌∷◌, Option, Some, None, codes, if◌then◌else◌, option_map, unwrap_or, map}
 use Rattle.card_definitions.specs.Words.{named, is_empty, gathered}
 use Rattle.card_definitions.specs.Cards.{Card}
 use Rattle.card_definitions.specs.Fields.{Form, Fixed, Reading, reading_of}
@@ -10,17 +10,30 @@ use Rattle.problem_definitions.specs.declared.BoundKind.{BoundKind}
 use Rattle.problem_definitions.specs.declared.BoundKind.TheVariants.{Up, Lo, Fx, Fr, Mi, Pl}
 use Rattle.problem_definitions.specs.Names.{Name}
 use Rattle.problem_definitions.specs.Kinds.{takes_value}
-use Rattle.problem_definitions.specs.Problem.{Row, Entry, Bound, Group}
+use Rattle.problem_definitions.specs.Problem.{Row, plain_row, Entry, Bound, Group}
 use Rattle.deck_definitions.specs.declared.Section.{Section}
-use Rattle.deck_definitions.specs.Sections.{is_section_card, is_section_after}
+use Rattle.deck_definitions.specs.declared.Section.TheVariants.{Header}
+use Rattle.deck_definitions.specs.Sections.{is_section_card, section_after, is_section_after}
 
--- the form of a deck's data cards, by the deck's cards
-abbrev pub form_of : List Card → Form
-form_of cards = Fixed
+-- How a deck tells which fields of its data cards are which: all decks have them at fixed columns.
+pub data Style : Type 0 where
+  FixedFields : Style
+
+-- the style of a deck, by its cards
+abbrev pub style_of : List Card → Style
+style_of cards = FixedFields
+
+-- The form of a data card: by the deck's style, the card's section, whether it names what is to be deleted, and its bytes.
+abbrev pub form_on : Style → Section → Bool → List ℕ → Form
+form_on FixedFields section deletes card = Fixed
+
+-- the form of a data card behind others of a data deck
+abbrev pub form_of : List Card → List ℕ → Form
+form_of before card = form_on (style_of before) (unwrap_or (section_after before) Header) false card
 
 -- what is read of a data card behind others of its deck
 abbrev pub read_behind : List Card → Card → Reading
-read_behind before card = reading_of (form_of before) card.bytes
+read_behind before card = reading_of (form_of before card.bytes) card.bytes
 
 -- whether a card, behind others, is a data card of this section
 abbrev pub is_data_card_of : Section → List Card → Card → Bool
@@ -42,8 +55,8 @@ abbrev pub bound_kinds : List (List ℕ × BoundKind)
 bound_kinds = (codes "UP", Up) ∷ (codes "LO", Lo) ∷ (codes "FX", Fx) ∷ (codes "FR", Fr) ∷ (codes "MI", Mi) ∷ (codes "PL", Pl) ∷ []
 
 -- the row on a card of ROWS: its type in field 1, its name in field 2
-abbrev pub row_of : Reading → Option Row
-row_of card = option_map (λ kind. record { kind = kind; name = card.name1 }) (named row_kinds card.kind)
+abbrev pub row_of : Reading → Option (Row Name)
+row_of card = option_map (λ kind. plain_row kind card.name1) (named row_kinds card.kind)
 
 -- A pair of a card of COLUMNS, RHS or RANGES: the name of a row, the field of its number, and the column where that
 -- field begins.

@@ -28,7 +28,7 @@ unfoldable pub data_card : List ℕ → Name → Name → List ℕ → List ℕ
 data_card kind name1 name2 value =
     without_trailing is_blank (codes " " ++ padded 2 kind ++ codes " " ++ padded 8 name1 ++ codes "  " ++ padded 8 name2 ++ codes "  " ++ value)
 
-abbrev pub row_card : Row → List ℕ
+abbrev pub row_card : Row Name → List ℕ
 row_card row = data_card (row_kind_text row.kind) row.name [] []
 
 -- one card per entry of a column, or per item of a set of right-hand sides or ranges
@@ -36,7 +36,7 @@ abbrev pub entry_cards : Group (Entry Name) → List (List ℕ)
 entry_cards group = map (λ entry. data_card [] group.name entry.row entry.value.text) group.items
 
 -- a column without entries has a card with the number 0 on the first row, if there is a row
-abbrev pub column_cards : List Row → Group (Entry Name) → List (List ℕ)
+abbrev pub column_cards : List (Row Name) → Group (Entry Name) → List (List ℕ)
 column_cards rows column =
     if is_empty column.items then map (λ row. data_card [] column.name row.name (codes "0")) (take 1 rows)
     else entry_cards column

@@ -14,7 +14,7 @@ use Rattle.problem_definitions.specs.declared.RowKind.{RowKind}
 use Rattle.problem_definitions.specs.declared.RowKind.TheVariants.{N, G, L, E}
 use Rattle.problem_definitions.specs.Names.{Name, same}
 use Rattle.problem_definitions.specs.Kinds.{is_free_kind}
-use Rattle.problem_definitions.specs.Problem.{Row, Entry, Bound, Group, Problem, has_free_row}
+use Rattle.problem_definitions.specs.Problem.{Row, plain_row, Entry, Bound, Group, Problem, has_free_row}
 use Rattle.problem_definitions.specs.Valid.{IsNumberOf, AreEntries, IsProblem}
 use Rattle.problem_definitions.proofs.Names.{same_eq}
 use Rattle.problem_definitions.proofs.Groups.{map-map}
@@ -29,9 +29,9 @@ use Rattle.lp_setup.proofs.Sets.{all-each}
 -- ---- the objective row
 
 -- the row of a number, which is an N row
-pub record IsFreeRow (rows : List Row) (number : ℕ) : Type 0 where
+pub record IsFreeRow (rows : List (Row ℕ)) (number : ℕ) : Type 0 where
   pub place : ℕ
-  pub row : Row
+  pub row : Row ℕ
   pub is_number : number ≡ place + 1
   pub is_row : slice_get rows place ≡ Some row
   pub is_free : row.kind ≡ N
@@ -43,12 +43,12 @@ free_kind L e = absurd (cc e)
 free_kind E e = absurd (cc e)
 
 -- a fact of the names of rows, at a row
-name_of_row : (P : Name → Type 0) (rows : List Row) (i : ℕ) (row : Row) → AllByRecursion P (map (λ (r : Row). r.name) rows) → slice_get rows i ≡ Some row → P row.name
+name_of_row : (P : Name → Type 0) (rows : List (Row ℕ)) (i : ℕ) (row : Row ℕ) → AllByRecursion P (map (λ (r : Row ℕ). r.name) rows) → slice_get rows i ≡ Some row → P row.name
 name_of_row P [] i row each is = absurd (cc is)
-name_of_row P (x ∷ rows) zero row each is = subst (λ (r : Row). P r.name) (same_Some x row is) each.0
+name_of_row P (x ∷ rows) zero row each is = subst (λ (r : Row ℕ). P r.name) (same_Some x row is) each.0
 name_of_row P (x ∷ rows) (suc i) row each is = name_of_row P rows i row each.1 is
 
-no_free_row : (name : Name) (rows : List Row) → AllByRecursion (λ other. same name other ≡ false) (map (λ (r : Row). r.name) rows) → has_free_row rows name ≡ false
+no_free_row : (name : Name) (rows : List (Row ℕ)) → AllByRecursion (λ other. same name other ≡ false) (map (λ (r : Row ℕ). r.name) rows) → has_free_row rows name ≡ false
 no_free_row name [] each = refl
 no_free_row name (x ∷ rows) each = rw each.0 (no_free_row name rows each.1)
 
@@ -60,15 +60,15 @@ first_passes false f true h e = absurd (cc e)
 first_passes false f false h e = absurd (cc h)
 
 -- of rows with distinct names, where a row of a name is free, each row of that name is
-named_free : (name : Name) (rows : List Row) → IsDistinct same (map (λ (r : Row). r.name) rows) → has_free_row rows name ≡ true
-    → (i : ℕ) (row : Row) → slice_get rows i ≡ Some row → same name row.name ≡ true → is_free_kind row.kind ≡ true
+named_free : (name : Name) (rows : List (Row ℕ)) → IsDistinct same (map (λ (r : Row ℕ). r.name) rows) → has_free_row rows name ≡ true
+    → (i : ℕ) (row : Row ℕ) → slice_get rows i ≡ Some row → same name row.name ≡ true → is_free_kind row.kind ≡ true
 unfolding IsDistinct
 named_free name [] distinct free i row is there = absurd (cc is)
 named_free name (x ∷ rows) distinct free zero row is there =
     let is_x : x ≡ row = same_Some x row is in
-    let alike : name ≡ x.name = same_eq name row.name there ∙ ap (λ (r : Row). r.name) (sym is_x) in
-    let others : has_free_row rows name ≡ false = no_free_row name rows (subst (λ n. AllByRecursion (λ other. same n other ≡ false) (map (λ (r : Row). r.name) rows)) (sym alike) distinct.0) in
-    ap (λ (r : Row). is_free_kind r.kind) (sym is_x) ∙ first_passes (same name x.name) (is_free_kind x.kind) (has_free_row rows name) free others
+    let alike : name ≡ x.name = same_eq name row.name there ∙ ap (λ (r : Row ℕ). r.name) (sym is_x) in
+    let others : has_free_row rows name ≡ false = no_free_row name rows (subst (λ n. AllByRecursion (λ other. same n other ≡ false) (map (λ (r : Row ℕ). r.name) rows)) (sym alike) distinct.0) in
+    ap (λ (r : Row ℕ). is_free_kind r.kind) (sym is_x) ∙ first_passes (same name x.name) (is_free_kind x.kind) (has_free_row rows name) free others
 named_free name (x ∷ rows) distinct free (suc i) row is there = by (same name x.name) refl free (λ rest. named_free name rows distinct.1 rest i row is there)
   where
     by : (b : Bool) → same name x.name ≡ b → (b && is_free_kind x.kind || has_free_row rows name) ≡ true → (has_free_row rows name ≡ true → is_free_kind row.kind ≡ true) → is_free_kind row.kind ≡ true
@@ -83,9 +83,9 @@ numbered None number e = absurd (cc e)
 numbered (Some place) number e = (place, sym (same_Some (place + 1) number e), refl)
 
 -- the row of a number that is found by a test
-row_found : (p : Row → Bool) (rows : List Row) (number : ℕ) → row_number p rows ≡ Some number → (place : ℕ) × (row : Row) × (number ≡ place + 1) × (slice_get rows place ≡ Some row) × (p row ≡ true)
+row_found : (p : Row ℕ → Bool) (rows : List (Row ℕ)) (number : ℕ) → row_number p rows ≡ Some number → (place : ℕ) × (row : Row ℕ) × (number ≡ place + 1) × (slice_get rows place ≡ Some row) × (p row ≡ true)
 row_found p rows number e =
-    let some : Row = record { kind = N; name = [] } in
+    let some : Row ℕ = plain_row N [] in
     let at = numbered (position p rows) number e in
     let found = position-Some p rows at.0 some at.2 in
     (at.0, get_or rows at.0 some, at.1, slice_get-get_or rows at.0 some found.0, found.1)
@@ -94,7 +94,7 @@ negated : (b : Bool) → not b ≡ false → b ≡ true
 negated true e = refl
 negated false e = absurd (cc e)
 
-pub free_objective : (rows : List Row) → IsDistinct same (map (λ (r : Row). r.name) rows) → (chosen : Option Name) (number : ℕ) → objective_of rows chosen ≡ Some number → is_not_free rows chosen ≡ false → IsFreeRow rows number
+pub free_objective : (rows : List (Row ℕ)) → IsDistinct same (map (λ (r : Row ℕ). r.name) rows) → (chosen : Option Name) (number : ℕ) → objective_of rows chosen ≡ Some number → is_not_free rows chosen ≡ false → IsFreeRow rows number
 free_objective rows distinct (Some name) number e free =
     let at = row_found (λ row. same name row.name) rows number e in
     record {
@@ -147,7 +147,7 @@ module _ (problem : Problem ℕ) (is : IsProblem problem) where
   -- ---- the limits
 
   module _ (objective : ℕ) (rhs ranges : List (Entry ℕ)) (bounds : List (Bound ℕ)) (sense : Sense) where
-    of_row : ℕ × Row → Limits
+    of_row : ℕ × Row ℕ → Limits
     of_row entry = row_limits entry.1.kind (side_on rhs entry.0) (value_on ranges entry.0)
 
     of_column : ℕ × Group (Entry ℕ) → Limits
@@ -166,11 +166,11 @@ module _ (problem : Problem ℕ) (is : IsProblem problem) where
         ∙ ap (λ n. n + length (map of_column (enumerate_from 1 problem.columns))) rows_counted ∙ ap (λ n. length problem.rows + n) columns_counted
 
     -- an N row has no limits, whatever its right-hand side and its range
-    free_row : (row : Row) (side : ℚ) (range : Option ℚ) → row.kind ≡ N → row_limits row.kind side range ≡ no_limits
+    free_row : (row : Row ℕ) (side : ℚ) (range : Option ℚ) → row.kind ≡ N → row_limits row.kind side range ≡ no_limits
     free_row row side None e = rw e refl
     free_row row side (Some value) e = rw e refl
 
-    limits_free : (place : ℕ) (row : Row) → slice_get problem.rows place ≡ Some row → row.kind ≡ N → get_or (limits_with problem objective rhs ranges bounds sense) place no_limits ≡ no_limits
+    limits_free : (place : ℕ) (row : Row ℕ) → slice_get problem.rows place ≡ Some row → row.kind ≡ N → get_or (limits_with problem objective rhs ranges bounds sense) place no_limits ≡ no_limits
     unfolding of_row of_column
     limits_free place row is_row is_n =
         let below : place < length problem.rows = slice_get_within problem.rows place row is_row in
@@ -179,7 +179,7 @@ module _ (problem : Problem ℕ) (is : IsProblem problem) where
         get_or_append_left (map of_row (enumerate_from 1 problem.rows)) (map of_column (enumerate_from 1 problem.columns)) no_limits place within
         ∙ get_or-map of_row (enumerate_from 1 problem.rows) place (0, row) no_limits listed
         ∙ ap of_row (get_or-enumerate_from 1 problem.rows place (0, row) below)
-        ∙ ap (λ (r : Row). of_row (1 + place, r)) (get_or_from_slice_get problem.rows place row row is_row)
+        ∙ ap (λ (r : Row ℕ). of_row (1 + place, r)) (get_or_from_slice_get problem.rows place row row is_row)
         ∙ free_row row (side_on rhs (1 + place)) (value_on ranges (1 + place)) is_n
 
     limits_at_objective : IsFreeRow problem.rows objective → HasNoLimits (program_with problem objective rhs ranges bounds sense) objective
@@ -197,7 +197,7 @@ module _ (problem : Problem ℕ) (is : IsProblem problem) where
     pub lawful_program : IsFreeRow problem.rows objective → IsLinearProgram (program_with problem objective rhs ranges bounds sense)
     lawful_program free =
         let all : List Limits = limits_with problem objective rhs ranges bounds sense in
-        let sides : ℕ × Row → ℚ = λ entry. side_on rhs entry.0 in
+        let sides : ℕ × Row ℕ → ℚ = λ entry. side_on rhs entry.0 in
         let below : free.place < length problem.rows = slice_get_within problem.rows free.place free.row free.is_row in
         record {
           is_matrix = lawful_matrix;

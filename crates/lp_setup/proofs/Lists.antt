@@ -71,16 +71,16 @@ grown all items i x so_far next =
 -- ---- the limits of rows
 
 module _ (f : ℕ → ℚ) (g : ℕ → Option ℚ) where
-  rows_from : (first : ℕ) (rows : List Row)
+  rows_from : (first : ℕ) (rows : List (Row ℕ))
       → limits_of_rows rows (map (λ place. f (place + 1)) (range_with_len first (length rows))) (map (λ place. g (place + 1)) (range_with_len first (length rows)))
-      ≡ map (λ (entry : ℕ × Row). row_limits entry.1.kind (f entry.0) (g entry.0)) (enumerate_from (first + 1) rows)
+      ≡ map (λ (entry : ℕ × Row ℕ). row_limits entry.1.kind (f entry.0) (g entry.0)) (enumerate_from (first + 1) rows)
   rows_from first [] = refl
   rows_from first (row ∷ rows) = ap (λ ls. row_limits row.kind (f (first + 1)) (g (first + 1)) ∷ ls) (rows_from (first + 1) rows)
 
-  pub limits-numbered : (rows : List Row) → limits_of_rows rows (by_number f (length rows)) (by_number g (length rows)) ≡ map (λ (entry : ℕ × Row). row_limits entry.1.kind (f entry.0) (g entry.0)) (enumerate_from 1 rows)
+  pub limits-numbered : (rows : List (Row ℕ)) → limits_of_rows rows (by_number f (length rows)) (by_number g (length rows)) ≡ map (λ (entry : ℕ × Row ℕ). row_limits entry.1.kind (f entry.0) (g entry.0)) (enumerate_from 1 rows)
   limits-numbered rows = rows_from 0 rows
 
-pub limits_at : (rows : List Row) (sides : List ℚ) (ranges : List (Option ℚ)) (i : ℕ) (row : Row) (side : ℚ) (range : Option ℚ) → slice_get rows i ≡ Some row → slice_get sides i ≡ Some side → slice_get ranges i ≡ Some range
+pub limits_at : (rows : List (Row ℕ)) (sides : List ℚ) (ranges : List (Option ℚ)) (i : ℕ) (row : Row ℕ) (side : ℚ) (range : Option ℚ) → slice_get rows i ≡ Some row → slice_get sides i ≡ Some side → slice_get ranges i ≡ Some range
     → slice_get (limits_of_rows rows sides ranges) i ≡ Some (row_limits row.kind side range)
 limits_at [] sides ranges i row side range a b c = absurd (cc a)
 limits_at (x ∷ rows) [] ranges i row side range a b c = absurd (cc b)
@@ -92,7 +92,7 @@ limits_at (x ∷ rows) (y ∷ sides) (z ∷ ranges) zero row side range a b c =
     λ i. Some (row_limits (is_row i).kind (is_side i) (is_range i))
 limits_at (x ∷ rows) (y ∷ sides) (z ∷ ranges) (suc i) row side range a b c = limits_at rows sides ranges i row side range a b c
 
-pub length-limits : (rows : List Row) (sides : List ℚ) (ranges : List (Option ℚ)) → length sides ≡ length rows → length ranges ≡ length rows → length (limits_of_rows rows sides ranges) ≡ length rows
+pub length-limits : (rows : List (Row ℕ)) (sides : List ℚ) (ranges : List (Option ℚ)) → length sides ≡ length rows → length ranges ≡ length rows → length (limits_of_rows rows sides ranges) ≡ length rows
 length-limits [] sides ranges b c = refl
 length-limits (x ∷ rows) [] ranges b c = absurd (omega (arith, b))
 length-limits (x ∷ rows) (y ∷ sides) [] b c = absurd (omega (arith, c))

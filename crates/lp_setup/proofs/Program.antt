@@ -24,9 +24,9 @@ module _ (problem : Problem ℕ) (objective : ℕ) (rhs ranges : List (Entry ℕ
       ≡ limits_with problem objective rhs ranges bounds sense
   limits_made =
       ap (λ limits. limits ++ by_number (column_limits bounds) (length problem.columns)) (limits-numbered (side_on rhs) (value_on ranges) problem.rows)
-      ∙ ap (λ limits. map (λ (entry : ℕ × Row). row_limits entry.1.kind (side_on rhs entry.0) (value_on ranges entry.0)) (enumerate_from 1 problem.rows) ++ limits) (sym (map-enumerate (column_limits bounds) problem.columns))
+      ∙ ap (λ limits. map (λ (entry : ℕ × Row ℕ). row_limits entry.1.kind (side_on rhs entry.0) (value_on ranges entry.0)) (enumerate_from 1 problem.rows) ++ limits) (sym (map-enumerate (column_limits bounds) problem.columns))
 
-  pub sides_made : by_number (side_on rhs) (length problem.rows) ≡ map (λ (entry : ℕ × Row). side_on rhs entry.0) (enumerate_from 1 problem.rows)
+  pub sides_made : by_number (side_on rhs) (length problem.rows) ≡ map (λ (entry : ℕ × Row ℕ). side_on rhs entry.0) (enumerate_from 1 problem.rows)
   sides_made = sym (map-enumerate (side_on rhs) problem.rows)
 
   -- the program of these lists
@@ -34,21 +34,21 @@ module _ (problem : Problem ℕ) (objective : ℕ) (rhs ranges : List (Entry ℕ
   made rows cols columns lower upper sides = record { matrix = record { rows = rows; cols = cols; columns = columns }; lower = lower; upper = upper; rhs = sides; objective = objective; change = None; sense = sense }
 
   -- it is the program of the problem, where the lists are made of what is read of it
-  pub program_made : (read_rows : List Row) (read_columns : List (Group (Entry ℕ))) (rows cols : ℕ) (columns : List (List Coefficient)) (limits : List Limits) (lower upper : List (Option ℚ)) (sides read_sides : List ℚ)
+  pub program_made : (read_rows : List (Row ℕ)) (read_columns : List (Group (Entry ℕ))) (rows cols : ℕ) (columns : List (List Coefficient)) (limits : List Limits) (lower upper : List (Option ℚ)) (sides read_sides : List ℚ)
       → read_rows ≡ problem.rows → read_columns ≡ problem.columns → rows ≡ length problem.rows → cols ≡ length problem.columns → columns ≡ map coefficients read_columns
       → limits ≡ limits_of_rows problem.rows read_sides (by_number (value_on ranges) (length problem.rows)) ++ by_number (column_limits bounds) (length problem.columns) → read_sides ≡ sides
       → lower ≡ map (λ (pair : Limits). pair.lower) limits → upper ≡ map (λ (pair : Limits). pair.upper) limits → sides ≡ by_number (side_on rhs) (length read_rows)
       → made rows cols columns lower upper sides ≡ program_with problem objective rhs ranges bounds sense
   program_made read_rows read_columns rows cols columns limits lower upper sides read_sides read_is read_columns_is is_rows is_cols columns_read limits_read sides_read is_lower is_upper sides_so_far =
       let is_columns : columns ≡ map coefficients problem.columns = columns_read ∙ ap (map coefficients) read_columns_is in
-      let is_sides : sides ≡ by_number (side_on rhs) (length problem.rows) = sides_so_far ∙ ap (λ (rs : List Row). by_number (side_on rhs) (length rs)) read_is in
+      let is_sides : sides ≡ by_number (side_on rhs) (length problem.rows) = sides_so_far ∙ ap (λ (rs : List (Row ℕ)). by_number (side_on rhs) (length rs)) read_is in
       let is_limits : limits ≡ limits_of_rows problem.rows sides (by_number (value_on ranges) (length problem.rows)) ++ by_number (column_limits bounds) (length problem.columns) =
       limits_read ∙ ap (λ xs. limits_of_rows problem.rows xs (by_number (value_on ranges) (length problem.rows)) ++ by_number (column_limits bounds) (length problem.columns)) sides_read in
       let all : limits ≡ limits_with problem objective rhs ranges bounds sense =
       is_limits ∙ ap (λ xs. limits_of_rows problem.rows xs (by_number (value_on ranges) (length problem.rows)) ++ by_number (column_limits bounds) (length problem.columns)) is_sides ∙ limits_made in
       let low : lower ≡ map (λ (pair : Limits). pair.lower) (limits_with problem objective rhs ranges bounds sense) = is_lower ∙ ap (map (λ (pair : Limits). pair.lower)) all in
       let high : upper ≡ map (λ (pair : Limits). pair.upper) (limits_with problem objective rhs ranges bounds sense) = is_upper ∙ ap (map (λ (pair : Limits). pair.upper)) all in
-      let side : sides ≡ map (λ (entry : ℕ × Row). side_on rhs entry.0) (enumerate_from 1 problem.rows) = is_sides ∙ sides_made in
+      let side : sides ≡ map (λ (entry : ℕ × Row ℕ). side_on rhs entry.0) (enumerate_from 1 problem.rows) = is_sides ∙ sides_made in
       λ i. record {
         matrix = record { rows = is_rows i; cols = is_cols i; columns = is_columns i };
         lower = low i;

@@ -4,7 +4,7 @@ use Rattle.problem_definitions.specs.Names.{Name}
 use Rattle.problem_definitions.specs.Problem.{Row, Entry, Group, Problem}
 use Rattle.selection_definitions.specs.Choice.{Choice, objective_of, is_not_free, misses_set, rhs_items, set_items}
 
-module _ (problem : Problem ℕ) (choice : Choice) (rows : List Row) (objective : Option Name) (is_rows : rows ≡ problem.rows) (is_objective : objective ≡ choice.objective) where
+module _ (problem : Problem ℕ) (choice : Choice) (rows : List (Row ℕ)) (objective : Option Name) (is_rows : rows ≡ problem.rows) (is_objective : objective ≡ choice.objective) where
   pub number_found : (found : Option ℕ) → found ≡ objective_of rows objective → objective_of problem.rows choice.objective ≡ found
   number_found found e = sym (e ∙ (λ i. objective_of (is_rows i) (is_objective i)))
 

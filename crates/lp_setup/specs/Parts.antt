@@ -49,14 +49,14 @@ pub record IsRangeSumRefusal (kind : RowKind) (side : ℚ) (range : Option ℚ) 
   pub refuses : IsSumRefusal op side (magnitude value) refused
 
 -- the limits of each row, by its type, its right-hand side and its range
-abbrev pub limits_of_rows : List Row → List ℚ → List (Option ℚ) → List Limits
+abbrev pub limits_of_rows : List (Row ℕ) → List ℚ → List (Option ℚ) → List Limits
 limits_of_rows (row ∷ rows) (side ∷ sides) (range ∷ ranges) = row_limits row.kind side range ∷ limits_of_rows rows sides ranges
 limits_of_rows _ _ _ = []
 
 -- one of the rows has a range whose sum is refused
-pub record IsRowRefusal (rows : List Row) (sides : List ℚ) (ranges : List (Option ℚ)) (e : Evidence) : Type 0 where
+pub record IsRowRefusal (rows : List (Row ℕ)) (sides : List ℚ) (ranges : List (Option ℚ)) (e : Evidence) : Type 0 where
   pub place : ℕ
-  pub row : Row
+  pub row : Row ℕ
   pub is_row : slice_get rows place ≡ Some row
   pub side : ℚ
   pub is_side : slice_get sides place ≡ Some side
@@ -67,7 +67,7 @@ pub record IsRowRefusal (rows : List Row) (sides : List ℚ) (ranges : List (Opt
   pub no_way : e.way ≡ 0
   pub no_theta : e.theta ≡ zero_ℚ
 
-abbrev pub IsRowOverflow : List Row → List ℚ → List (Option ℚ) → Stop → Type 0
+abbrev pub IsRowOverflow : List (Row ℕ) → List ℚ → List (Option ℚ) → Stop → Type 0
 IsRowOverflow rows sides ranges (Overflow e) = IsRowRefusal rows sides ranges e
 IsRowOverflow rows sides ranges NoMemory = Unit {0}
 

@@ -13,7 +13,7 @@ use Rattle.deck_definitions.specs.declared.DeckFaultKind.TheVariants.{SectionOrd
 use Rattle.deck_definitions.specs.declared.Section.{Section}
 use Rattle.deck_definitions.specs.declared.Section.TheVariants.{Header, Rows, Columns, Rhs, Ranges, Bounds, Endata}
 use Rattle.deck_definitions.specs.Sections.{is_section}
-use Rattle.deck_definitions.specs.DataCards.{entries_of, pairs_of}
+use Rattle.deck_definitions.specs.DataCards.{FixedFields, entries_of, pairs_of}
 use Rattle.deck_definitions.specs.Tests.{kind_filled, marks, all_but_last, columns_fault, pairs_fault}
 use Rattle.deck_definitions.specs.Conversion.{form_fault, section_fault, data_card_fault}
 use Rattle.deck_definitions.proofs.Accepted.{pairs-few}
@@ -24,10 +24,10 @@ or_none (Some kind) = refl
 
 -- a data card that has its form, in a section that has data cards, has the fault of its section
 pub fault_in_section : (seen : Problem Name) (section : Section) (card : List ℕ) (reading : Reading) → is_section Header section ≡ false → form_fault Fixed card ≡ None → reading ≡ reading_of Fixed card
-    → section_fault seen section reading ≡ data_card_fault seen Fixed (Some section) card
+    → section_fault seen section reading ≡ data_card_fault seen FixedFields (Some section) card
 fault_in_section seen section card reading standing formed is = ap (section_fault seen section) is ∙ by section standing
   where
-    by : (section : Section) → is_section Header section ≡ false → section_fault seen section (reading_of Fixed card) ≡ data_card_fault seen Fixed (Some section) card
+    by : (section : Section) → is_section Header section ≡ false → section_fault seen section (reading_of Fixed card) ≡ data_card_fault seen FixedFields (Some section) card
     by Header e = absurd (cc e)
     by Rows e = sym (ap (λ o. option_or o (option_or (section_fault seen Rows (reading_of Fixed card)) None)) formed ∙ or_none (section_fault seen Rows (reading_of Fixed card)))
     by Columns e = sym (ap (λ o. option_or o (option_or (section_fault seen Columns (reading_of Fixed card)) None)) formed ∙ or_none (section_fault seen Columns (reading_of Fixed card)))
@@ -37,10 +37,10 @@ fault_in_section seen section card reading standing formed is = ap (section_faul
     by Endata e = sym (ap (λ o. option_or o (Some SectionOrder)) formed)
 
 -- a data card that hasn't its form has that fault
-pub fault_of_form : (seen : Problem Name) (section : Section) (card : List ℕ) (kind : DeckFaultKind) → is_section Header section ≡ false → form_fault Fixed card ≡ Some kind → data_card_fault seen Fixed (Some section) card ≡ Some kind
+pub fault_of_form : (seen : Problem Name) (section : Section) (card : List ℕ) (kind : DeckFaultKind) → is_section Header section ≡ false → form_fault Fixed card ≡ Some kind → data_card_fault seen FixedFields (Some section) card ≡ Some kind
 fault_of_form seen section card kind standing unformed = by section standing
   where
-    by : (section : Section) → is_section Header section ≡ false → data_card_fault seen Fixed (Some section) card ≡ Some kind
+    by : (section : Section) → is_section Header section ≡ false → data_card_fault seen FixedFields (Some section) card ≡ Some kind
     by Header e = absurd (cc e)
     by Rows e = ap (λ o. option_or o (option_or (section_fault seen Rows (reading_of Fixed card)) None)) unformed
     by Columns e = ap (λ o. option_or o (option_or (section_fault seen Columns (reading_of Fixed card)) None)) unformed
@@ -50,7 +50,7 @@ fault_of_form seen section card kind standing unformed = by section standing
     by Endata e = ap (λ o. option_or o (Some SectionOrder)) unformed
 
 -- a data card directly after NAME is out of order
-pub out_of_order : (seen : Problem Name) (section : Section) (card : List ℕ) → is_section Header section ≡ true → data_card_fault seen Fixed (Some section) card ≡ Some SectionOrder
+pub out_of_order : (seen : Problem Name) (section : Section) (card : List ℕ) → is_section Header section ≡ true → data_card_fault seen FixedFields (Some section) card ≡ Some SectionOrder
 out_of_order seen Header card e = refl
 out_of_order seen Rows card e = absurd (cc e)
 out_of_order seen Columns card e = absurd (cc e)

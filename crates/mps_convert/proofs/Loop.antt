@@ -10,6 +10,7 @@ use Rattle.problem_definitions.proofs.Each.{each-push}
 use Rattle.deck_definitions.specs.declared.Section.{Section}
 use Rattle.deck_definitions.specs.declared.DeckFault.{DeckFault}
 use Rattle.deck_definitions.specs.declared.DeckFaultKind.{DeckFaultKind}
+use Rattle.deck_definitions.specs.DataCards.{FixedFields}
 use Rattle.deck_definitions.specs.Sections.{is_section_card, section_begun, section_after}
 use Rattle.deck_definitions.specs.Described.{described}
 use Rattle.deck_definitions.specs.Conversion.{card_fault, data_card_fault, first_faulty}
@@ -25,7 +26,7 @@ unfolding card_fault
 fault-state cards card = refl
 
 -- a data card without a fault stands in a section
-stands : (cards : List Card) (card : List ℕ) (section : Option Section) → data_card_fault (described [] cards) Fixed section card ≡ None → (place : Section) × (section ≡ Some place)
+stands : (cards : List Card) (card : List ℕ) (section : Option Section) → data_card_fault (described [] cards) FixedFields section card ≡ None → (place : Section) × (section ≡ Some place)
 stands cards card None h = absurd (cc h)
 stands cards card (Some place) h = (place, refl)
 

@@ -7,6 +7,7 @@ use Rattle.problem_definitions.specs.Names.{Name}
 use Rattle.problem_definitions.specs.Problem.{Problem}
 use Rattle.deck_definitions.specs.declared.DeckFaultKind.{DeckFaultKind}
 use Rattle.deck_definitions.specs.declared.Section.{Section}
+use Rattle.deck_definitions.specs.DataCards.{FixedFields}
 use Rattle.deck_definitions.specs.Sections.{may_follow, is_section_card, section_begun, section_after}
 use Rattle.deck_definitions.specs.Described.{described}
 use Rattle.deck_definitions.specs.Conversion.{section_card_fault, data_card_fault, card_fault, first_faulty}
@@ -27,7 +28,7 @@ state_of cards = record { section = section_after cards; problem = described [] 
 abbrev pub fault_at : State → List ℕ → Option DeckFaultKind
 fault_at state card =
     if is_section_card card then section_card_fault may_follow state.section card
-    else data_card_fault state.problem Fixed state.section card
+    else data_card_fault state.problem FixedFields state.section card
 
 -- the problem with what a data card gives to the section in which it stands, if any
 abbrev pub with_data : Option Section → Reading → Problem Name → Problem Name

@@ -138,6 +138,7 @@ impl DeckDraft {
     ghost use Rattle.std.specs.Prelude.{◌≡◌, [], None, Some, IfOk, OnOk, IfErr, false, unwrap_or, option_map};
     ghost use Rattle.card_definitions.specs.Fields.{Fixed, reading_of};
     ghost use Rattle.card_reader.specs.Card.{card_bytes};
+    ghost use Rattle.deck_definitions.specs.DataCards.{FixedFields};
     ghost use Rattle.deck_definitions.specs.Conversion.{section_fault, data_card_fault};
     ghost use Rattle.deck_definitions.proofs.Steps.{with_card};
     ghost use Rattle.mps_convert.specs.State.{with_data, state_of};
@@ -239,12 +240,12 @@ impl DeckDraft {
 
     // Takes a data card.
     fn take_data(&mut self, card: Card<'_>) -> Result<(), CardStop>
-        ensures no_fault { OnOk result (data_card_fault (problem_shown self.old) Fixed
+        ensures no_fault { OnOk result (data_card_fault (problem_shown self.old) FixedFields
             self.old.section (card_bytes card.entry) ≡ None) }
         ensures same_section { OnOk result (self.new.section ≡ self.old.section) }
         ensures step { OnOk result (problem_shown self.new ≡ with_data self.old.section
             (reading_of Fixed (card_bytes card.entry)) (problem_shown self.old)) }
-        ensures stop { IfErr result (Tells (data_card_fault (problem_shown self.old) Fixed
+        ensures stop { IfErr result (Tells (data_card_fault (problem_shown self.old) FixedFields
             self.old.section (card_bytes card.entry))) }
     {
         let Some(section) = self.section else {

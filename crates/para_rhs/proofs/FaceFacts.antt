@@ -30,16 +30,16 @@ use Rattle.bounded_primal.specs.Moves.{return_by, IsStepBy, brings}
 use Rattle.bounded_primal.specs.Turns.{ray_from}
 use Rattle.bounded_primal.proofs.Existence.{rates_exist}
 use Rattle.bounded_primal.proofs.SameChoices.{listed_is}
+use Rattle.changed_programs.proofs.MovedLimits.{lower_is, upper_is}
+use Rattle.changed_programs.proofs.RightHandSides.{points}
 use Rattle.sweep_laws.proofs.Leads.{and_parts, signed_zero}
 use Rattle.sweep_laws.proofs.Rhs.{to_rhs, rhs_leads}
-use Rattle.sweep_truth.proofs.RhsLimits.{lower_is, upper_is}
 use Rattle.para_rhs.specs.Breaks.{IsFaceLeaver}
 use Rattle.para_rhs.specs.Cheapest.{brings as may_bring, cheapest_by}
 use Rattle.para_rhs.specs.Limits.{is_upper}
 use Rattle.para_rhs.specs.declared.breaks.Leaver.{Leaver}
 use Rattle.para_rhs.proofs.DualStep.{enters, pivot, rates_after, right_after}
 use Rattle.para_rhs.proofs.RatioChoice.{brings_same, cheapest_same}
-use Rattle.para_rhs.proofs.RhsPoints.{points}
 
 stands_on : (y : ℚ) (o : Option ℚ) → on_limit (λ l. eq_ℚ y l) o ≡ true → o ≡ Some y
 stands_on y None e = cc
@@ -67,7 +67,7 @@ module _ (p : LinearProgram) (shift : List ℚ) (lawful : IsLinearProgram p) (no
   some_tableau : (t : Tableau) × IsTableau (rhs_family p shift theta) s t
   some_tableau =
       let rates = rates_exist p.matrix (basics_of s) at.nonsingular in
-      (record { point = along z theta v; rate = rates.0 }, record { is_point = points p shift lawful s at z v point slope theta; are_rates = rates.1 })
+      (record { point = along z theta v; rate = rates.0 }, record { is_point = points p shift s at z v point slope theta; are_rates = rates.1 })
 
   -- nobody leaves
   pub face_done : IsFaceLeaver p shift theta s None → IsRhsFace p shift theta s FaceDone
@@ -93,7 +93,7 @@ module _ (p : LinearProgram) (shift : List ℚ) (lawful : IsLinearProgram p) (no
       t = record { point = along z theta v; rate = rowed.rate }
 
       tab : IsTableau (rhs_family p shift theta) s t
-      tab = record { is_point = points p shift lawful s at z v point slope theta; are_rates = rowed.are_rates }
+      tab = record { is_point = points p shift s at z v point slope theta; are_rates = rowed.are_rates }
 
       leaver : (leaving (rhs_family p shift theta) shift theta s t v ≡ Some l.r) × (leaves_below (rhs_family p shift theta) shift theta s t v l.r ≡ not (is_upper l.side))
       leaver = found t v tab sloped
@@ -220,7 +220,7 @@ module _ (p : LinearProgram) (shift : List ℚ) (lawful : IsLinearProgram p) (no
           point_after : IsPointOf (rhs_family p shift theta) (after s move) (along z theta v)
           point_after =
               subst (IsPointOf (rhs_family p shift theta) (after s move)) (λ i k. by_ring2 (along z theta v k) (rowed.rate k q) (λ y d. y ⊕ number (pos 0) ⊗ d ≐ y) refl i)
-              (IsPointOf-replaced (rhs_family p shift theta) s there.is_basis (along z theta v) (points p shift lawful s at z v point slope theta) q face_enters.0 (λ i. rowed.rate i q) (rowed.are_rates q face_enters) zero_ℚ
+              (IsPointOf-replaced (rhs_family p shift theta) s there.is_basis (along z theta v) (points p shift s at z v point slope theta) q face_enters.0 (λ i. rowed.rate i q) (rowed.are_rates q face_enters) zero_ℚ
               l.r (if not (is_upper l.side) then Ll else Ul) basic.0
               (subst (λ y. StandsAt (if not (is_upper l.side) then Ll else Ul) (lower_of (rhs_family p shift theta) l.r) (upper_of (rhs_family p shift theta) l.r) y)
               (sym (by_ring2 (along z theta v l.r) (rowed.rate l.r q) (λ y d. y ⊕ number (pos 0) ⊗ d ≐ y) refl)) (stands (not (is_upper l.side)) leaver.1)))

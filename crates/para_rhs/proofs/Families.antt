@@ -7,11 +7,8 @@ use Rattle.exact_values.proofs.Ring.{by_ring2, ◌⊕◌, ◌⊗◌, ◌≐◌, 
 use Rattle.lp_definitions.specs.LinearProgram.{Matrix, LinearProgram, size, IsLinearProgram, with_limits}
 use Rattle.lp_laws.proofs.Opening.{length-numbers_from}
 use Rattle.path_laws.proofs.Numbered.{get_or-listed}
+use Rattle.changed_programs.proofs.MovedLimits.{unmoved}
 use Rattle.postoptimal_definitions.specs.RhsRun.{shift_of, shifted, rhs_family}
-
-unmoved : (s : ℚ) (o : Option ℚ) → option_map (λ l. l +ℚ zero_ℚ *ℚ s) o ≡ o
-unmoved s None = refl
-unmoved s (Some l) = ap (λ x. Some x) (by_ring2 l s (λ l s. l ⊕ number (pos 0) ⊗ s ≐ l) refl)
 
 -- limits that are moved by 0 times their shifts are the limits
 module _ (a : Matrix) (shift : List ℚ) (limits : List (Option ℚ)) (counted : length limits ≡ size a) where

@@ -4,20 +4,20 @@ use Rattle.std.specs.Prelude.{slice_index_or}
 use Rattle.std.proofs.lemmas.List.{length-replicate}
 use Rattle.exact_values.specs.Rational.{ℚ, zero_ℚ, ◌+ℚ◌, ◌*ℚ◌}
 use Rattle.exact_values.proofs.Ring.{by_ring2, ◌⊕◌, ◌⊗◌, ◌≐◌, number}
-use Rattle.lp_definitions.specs.LinearProgram.{LinearProgram, size, value_at, IsLinearProgram}
+use Rattle.lp_definitions.specs.LinearProgram.{LinearProgram, size, value_at}
 use Rattle.lp_definitions.specs.Basis.{ArePricesOf, IsPointOf}
 use Rattle.lp_definitions.specs.declared.Status.{Status}
 use Rattle.path_laws.specs.Laws.{IsNonsingularBasis}
+use Rattle.changed_programs.proofs.RightHandSides.{points}
 use Rattle.postoptimal_definitions.specs.Chain.{along, ReachesTo, IsPart}
 use Rattle.postoptimal_definitions.specs.RhsRun.{rhs_family, IsSlope}
-use Rattle.para_rhs.proofs.RhsPoints.{points}
 
 zero_in : (n i : ℕ) → slice_index_or (replicate n zero_ℚ) i zero_ℚ ≡ zero_ℚ
 zero_in zero i = refl
 zero_in (suc n) zero = refl
 zero_in (suc n) (suc i) = zero_in n i
 
-module _ (p : LinearProgram) (shift : List ℚ) (lawful : IsLinearProgram p) (s : List Status) (at : IsNonsingularBasis p s) (value slope prices : List ℚ)
+module _ (p : LinearProgram) (shift : List ℚ) (s : List Status) (at : IsNonsingularBasis p s) (value slope prices : List ℚ)
     (point : IsPointOf p s (value_at value)) (sloped : IsSlope p s shift (value_at slope)) (priced : ArePricesOf p s (value_at prices)) where
   still_prices : (theta : ℚ) (n : ℕ) → ArePricesOf (rhs_family p shift theta) s (along theta prices (replicate n zero_ℚ))
   still_prices theta n = record {
@@ -32,7 +32,7 @@ module _ (p : LinearProgram) (shift : List ℚ) (lawful : IsLinearProgram p) (s 
     begins = refl;
     statuses = refl;
     reaches = reaches;
-    values = points p shift lawful s at (value_at value) (value_at slope) point sloped;
+    values = points p shift s at (value_at value) (value_at slope) point sloped;
     prices = λ theta. still_prices theta (size p.matrix);
     values_counted = record { value_counted = places; rate_counted = slope_places };
     prices_counted = record { value_counted = price_places; rate_counted = length-replicate (size p.matrix) zero_ℚ };

@@ -16,8 +16,9 @@ use Rattle.path_laws.proofs.Numbered.{find_same}
 use Rattle.path_laws.proofs.Searches.{found_passes}
 use Rattle.path_laws.specs.Laws.{IsNonsingularBasis}
 use Rattle.postoptimal_definitions.specs.RhsRun.{shift_of, rhs_family, IsSlope, leaves_below, leaves_above, leaving}
+use Rattle.changed_programs.proofs.MovedLimits.{moved, lower_is, upper_is}
+use Rattle.changed_programs.proofs.RightHandSides.{points}
 use Rattle.sweep_laws.proofs.Rhs.{to_rhs}
-use Rattle.sweep_truth.proofs.RhsLimits.{moved, lower_is, upper_is}
 use Rattle.para_rhs.specs.Breaks.{stands_at, leaving_on, leaving_side, is_there, leaves, IsLeaverOf, IsLeaverAt}
 use Rattle.para_rhs.specs.Limits.{is_upper}
 use Rattle.para_rhs.specs.Reach.{side_ahead}
@@ -26,7 +27,6 @@ use Rattle.para_rhs.specs.declared.limits.Side.{Side}
 use Rattle.para_rhs.specs.declared.limits.Side.TheVariants.{Lower, Upper}
 use Rattle.para_rhs.proofs.Narrowing.{comes_lower, comes_upper, keeps_up, apart_if_ahead}
 use Rattle.para_rhs.proofs.ReachStops.{basic_if_moves}
-use Rattle.para_rhs.proofs.RhsPoints.{points}
 
 -- ---- a product that is the distance
 
@@ -62,7 +62,7 @@ module _ (p : LinearProgram) (shift : List ℚ) (theta : ℚ) (s : List Status) 
   pub value_is : (k : ℕ) → IsVariable p.matrix k → t.point k ≡ along z theta v k
   value_is k is =
       let there = to_rhs p shift theta s at in
-      one_point (rhs_family p shift theta) s t.point (along z theta v) there.is_basis.counted there.nonsingular is_t.is_point (points p shift lawful s at z v point slope theta) k is
+      one_point (rhs_family p shift theta) s t.point (along z theta v) there.is_basis.counted there.nonsingular is_t.is_point (points p shift s at z v point slope theta) k is
 
   pub slope_is : (k : ℕ) → IsVariable p.matrix k → w k ≡ v k
   slope_is = same_from_nonbasics p.matrix (basics_of s) w v at.nonsingular is_w.keeps slope.keeps (λ k out. is_w.placed k out ∙ sym (slope.placed k out))

@@ -17,7 +17,7 @@ use Rattle.path_laws.proofs.Numbered.{find_same, list_all_same}
 use Rattle.path_laws.specs.Laws.{IsNonsingularBasis}
 use Rattle.postoptimal_definitions.specs.RhsRun.{shift_of, rhs_family}
 use Rattle.sweep_laws.proofs.Alike.{lowers_idle}
-use Rattle.sweep_truth.proofs.RhsLimits.{moved, lower_is, upper_is}
+use Rattle.changed_programs.proofs.MovedLimits.{moved, lower_is, upper_is}
 use Rattle.para_rhs.specs.Cheapest.{brings, ratio_of, cheapest_by}
 use Rattle.para_rhs.proofs.Leavers.{same_tests}
 

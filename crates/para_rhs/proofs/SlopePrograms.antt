@@ -14,27 +14,7 @@ use Rattle.path_laws.specs.Laws.{IsNonsingularBasis}
 use Rattle.path_laws.proofs.Numbered.{get_or-listed}
 use Rattle.postoptimal_definitions.specs.RhsRun.{shift_of, IsSlope}
 use Rattle.para_rhs.specs.Slopes.{shifts_of, slope_program}
-use Rattle.sweep_truth.proofs.RhsLimits.{free_unshifted}
-
--- a limit is there where one was
-module _ (f : ℚ → ℚ) where
-  none_to : (o : Option ℚ) → o ≡ None → option_map f o ≡ None
-  none_to None e = refl
-  none_to (Some l) e = cc
-
-  some_to : (o : Option ℚ) → IsSome o → IsSome (option_map f o)
-  some_to None e = cc
-  some_to (Some l) e = refl
-
-  none_from : (o : Option ℚ) → option_map f o ≡ None → o ≡ None
-  none_from None e = refl
-  none_from (Some l) e = cc
-
-  allowed_to : (st : Status) (low high : Option ℚ) → IsAllowed st low high → IsAllowed st (option_map f low) (option_map f high)
-  allowed_to Bs low high e = tt
-  allowed_to Ll low high e = some_to low e
-  allowed_to Ul low high e = some_to high e
-  allowed_to Fr low high e = (none_to low e.0, none_to high e.1)
+use Rattle.changed_programs.proofs.MovedLimits.{none_to, none_from, allowed_to, free_unshifted}
 
 module _ (p : LinearProgram) (shift : List ℚ) where
   abbrev put : ℕ → ℚ → ℚ

@@ -3,11 +3,12 @@ use Rattle.std.proofs.Common.{◌≡◌, true, List, [], ◌∷◌, map, refl, a
 use Rattle.std.specs.List.{AllByRecursion}
 use Rattle.problem_definitions.specs.Names.{Name, number_in, name_at}
 use Rattle.problem_definitions.specs.Problem.{Entry, Bound, Group, Problem, row_names, group_names, has_row, has_group}
-use Rattle.problem_definitions.specs.Numbering.{entry_by, bound_by, group_by, numbered, by_names}
+use Rattle.problem_definitions.specs.Numbering.{entry_by, bound_by, group_by, problem_by, numbered, by_names}
 use Rattle.problem_definitions.proofs.Names.{row_is_named}
 use Rattle.problem_definitions.proofs.Groups.{map-map, has_group-names}
 use Rattle.problem_definitions.proofs.Each.{each-change}
 use Rattle.problem_definitions.proofs.Places.{name_at-number_in}
+use Rattle.problem_definitions.proofs.PlainRows.{rows-again, row_names-by}
 use Rattle.problem_definitions.proofs.Lawful.{AreGroups, AreColumnEntries, AreRightHandSides, AreRanges, AreBoundSets, IsLawful, names-by}
 
 -- a list of elements that a function leaves as they are
@@ -50,11 +51,13 @@ module _ (p : Problem Name) (lawful : IsLawful p) where
   -- A lawful problem by names comes back from its numbers.
   pub by_names-numbered : by_names (numbered p) ≡ p
   unfolding by_names numbered
-  by_names-numbered = λ i. record {
-    name = p.name;
-    rows = p.rows;
-    columns = entry_groups-again (AreColumnEntries p.rows) (λ entries c. c.entries_lawful.on_rows) p.columns lawful.columns i;
-    rhs = entry_groups-again (AreRightHandSides p.rows) (λ entries c. c.entries_lawful.on_rows) p.rhs lawful.rhs i;
-    ranges = entry_groups-again (AreRanges p.rows) (λ entries c. c.entries_lawful.on_rows) p.ranges lawful.ranges i;
-    bounds = bound_groups-again i;
-  }
+  by_names-numbered =
+      ap (λ names. problem_by (name_at names) (name_at (group_names (map (group_by (entry_by (number_in (row_names p)))) p.columns))) (numbered p)) (row_names-by (number_in (row_names p)) p.rows)
+      ∙ (λ i. record {
+        name = p.name;
+        rows = rows-again (number_in (row_names p)) (name_at (row_names p)) p.rows lawful.plain_rows i;
+        columns = entry_groups-again (AreColumnEntries p.rows) (λ entries c. c.entries_lawful.on_rows) p.columns lawful.columns i;
+        rhs = entry_groups-again (AreRightHandSides p.rows) (λ entries c. c.entries_lawful.on_rows) p.rhs lawful.rhs i;
+        ranges = entry_groups-again (AreRanges p.rows) (λ entries c. c.entries_lawful.on_rows) p.ranges lawful.ranges i;
+        bounds = bound_groups-again i;
+      })

@@ -5,7 +5,7 @@ use Rattle.problem_definitions.specs.declared.RowKind.TheVariants.{N, G}
 use Rattle.problem_definitions.specs.declared.BoundKind.TheVariants.{Up, Lo, Fx, Fr, Mi, Pl}
 use Rattle.problem_definitions.specs.Names.{Name, number_in, name_at, different}
 use Rattle.problem_definitions.specs.Kinds.{meet}
-use Rattle.problem_definitions.specs.Problem.{Problem, Group, has_free_row, entry_count}
+use Rattle.problem_definitions.specs.Problem.{plain_row, Problem, Group, has_free_row, entry_count}
 use Rattle.problem_definitions.specs.Groups.{grouped, in_set}
 use Rattle.problem_definitions.specs.Numbering.{numbered, by_names}
 
@@ -48,7 +48,7 @@ meeting = (refl, refl, refl, refl, refl, refl, refl)
 small : Problem Name
 small = record {
   name = codes "SMALL";
-  rows = record { kind = N; name = codes "COST" } ∷ record { kind = G; name = codes "LOW" } ∷ [];
+  rows = plain_row N (codes "COST") ∷ plain_row G (codes "LOW") ∷ [];
   columns = record { name = codes "X"; items = record { row = codes "LOW"; value = decimal_of (codes "1") } ∷ record { row = codes "COST"; value = decimal_of (codes "2") } ∷ [] } ∷ [];
   rhs = record { name = codes "B"; items = record { row = codes "LOW"; value = decimal_of (codes "1") } ∷ [] } ∷ [];
   ranges = [];

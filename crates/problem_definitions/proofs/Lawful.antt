@@ -1,5 +1,5 @@
 -- What holds of every problem, said by names: then it holds of the problem by numbers.
-use Rattle.std.proofs.Common.{◌≡◌, ℕ, ◌+◌, ◌≤◌, Bool, true, false, ◌&&◌, List, [], ◌∷◌, length, map, refl, ap, sym, ◌∙◌, subst, nat_eq, fold, is_some}
+use Rattle.std.proofs.Common.{◌≡◌, ℕ, ◌+◌, ◌≤◌, Bool, true, false, ◌&&◌, List, [], ◌∷◌, length, map, refl, ap, sym, ◌∙◌, subst, nat_eq, fold, is_some, is_none}
 use Rattle.std.specs.List.{All, AllByRecursion, IsDistinct}
 use Rattle.std.specs.Option.{IfSome}
 use Rattle.std.proofs.lemmas.List.{length-map}
@@ -8,11 +8,12 @@ use Rattle.problem_definitions.specs.declared.TheConstants.{MAX_ROWS, MAX_COLUMN
 use Rattle.problem_definitions.specs.Names.{Name, same, has_name, number_in, name_at, marker}
 use Rattle.problem_definitions.specs.Kinds.{meet, takes_value}
 use Rattle.problem_definitions.specs.Problem.{Row, Entry, Bound, Group, Problem, row_names, group_names, entry_count, has_row, has_free_row, has_group}
-use Rattle.problem_definitions.specs.Numbering.{entry_by, bound_by, group_by, numbered}
+use Rattle.problem_definitions.specs.Numbering.{entry_by, row_by, bound_by, group_by, numbered}
 use Rattle.problem_definitions.specs.Valid.{IsName, IsDecimal, AreLabels, IsNumberOf, AreEntries, clash, AreBounds, AreSets, is_free_row, IsProblem}
 use Rattle.problem_definitions.proofs.Names.{row_is_named}
 use Rattle.problem_definitions.proofs.Groups.{map-map, has_group-names}
 use Rattle.problem_definitions.proofs.Each.{each-change, each-all, each-mapped, distinct-mapped}
+use Rattle.problem_definitions.proofs.PlainRows.{ArePlain, row_names-by, row_count-by, is_free_row-by, plain-by}
 use Rattle.problem_definitions.proofs.Places.{number_in-within, name_at-number_in, numbers_apart, free_row-number}
 
 -- a name that isn't empty
@@ -27,20 +28,20 @@ pub record AreGroups {X : Type 0} (IsGroupName : Name → Type 0) (AreItems : Li
   pub items : AllByRecursion (λ group. AreItems group.items) groups
 
 -- entries on rows that are there, no two on one row
-pub record AreLawfulEntries (rows : List Row) (entries : List (Entry Name)) : Type 0 where
+pub record AreLawfulEntries (rows : List (Row Name)) (entries : List (Entry Name)) : Type 0 where
   pub on_rows : AllByRecursion (λ entry. has_row rows entry.row ≡ true) entries
   pub distinct : IsDistinct same (map (λ entry. entry.row) entries)
   pub values : AllByRecursion (λ entry. IsDecimal entry.value) entries
 
-pub record AreColumnEntries (rows : List Row) (entries : List (Entry Name)) : Type 0 where
+pub record AreColumnEntries (rows : List (Row Name)) (entries : List (Entry Name)) : Type 0 where
   pub entries_lawful : AreLawfulEntries rows entries
   pub no_marker : AllByRecursion (λ entry. same marker entry.row ≡ false) entries
 
-pub record AreRightHandSides (rows : List Row) (entries : List (Entry Name)) : Type 0 where
+pub record AreRightHandSides (rows : List (Row Name)) (entries : List (Entry Name)) : Type 0 where
   pub entries_lawful : AreLawfulEntries rows entries
   pub filled : is_empty entries ≡ false
 
-pub record AreRanges (rows : List Row) (entries : List (Entry Name)) : Type 0 where
+pub record AreRanges (rows : List (Row Name)) (entries : List (Entry Name)) : Type 0 where
   pub entries_lawful : AreLawfulEntries rows entries
   pub filled : is_empty entries ≡ false
   pub limited : AllByRecursion (λ entry. has_free_row rows entry.row ≡ false) entries
@@ -61,6 +62,7 @@ pub record AreBoundSets (columns : List (Group (Entry Name))) (bounds : List (Bo
 
 pub record IsLawful (problem : Problem Name) : Type 0 where
   pub row_labels : AllByRecursion IsLabel (row_names problem)
+  pub plain_rows : ArePlain problem.rows
   pub rows_distinct : IsDistinct same (row_names problem)
   pub columns : AreGroups IsLabel (AreColumnEntries problem.rows) problem.columns
   pub rhs : AreGroups IsName (AreRightHandSides problem.rows) problem.rhs
@@ -100,7 +102,7 @@ sets h P fill groups lawful = record {
   filled = each-all (λ set. is_empty set.items ≡ false) (map (group_by h) groups) (items-by h P (λ items. is_empty items ≡ false) (λ items p. empty-map h items (fill items p)) groups lawful.items);
 }
 
-module _ (rows : List Row) where
+module _ (rows : List (Row Name)) where
   abbrev row_name_list : List Name
   row_name_list = map (λ row. row.name) rows
 
@@ -182,28 +184,46 @@ pub lawful-numbered : (problem : Problem Name) → IsName problem.name → IsLaw
 unfolding numbered
 lawful-numbered problem name lawful = record {
   name = name;
-  rows = labels (row_names problem) lawful.row_labels lawful.rows_distinct;
+  rows = subst AreLabels (sym names_kept) (labels (row_names problem) lawful.row_labels lawful.rows_distinct);
+  plain_rows = each-all (λ row. is_none row.parts ≡ true) rows (plain-by number problem.rows lawful.plain_rows);
   columns = subst AreLabels (sym (names-by by_row problem.columns)) (labels (group_names problem.columns) lawful.columns.names lawful.columns.distinct);
-  entries = each-all (λ column. AreEntries (length problem.rows) column.items) (map (group_by by_row) problem.columns)
-      (items-by by_row (AreColumnEntries problem.rows) (AreEntries (length problem.rows)) (λ items p. entries-numbered problem.rows items p.entries_lawful) problem.columns lawful.columns.items);
-  no_marker = each-all (λ column. All (λ entry. same marker (name_at (row_names problem) entry.row) ≡ false) column.items) (map (group_by by_row) problem.columns)
-      (items-by by_row (AreColumnEntries problem.rows) (λ items. All (λ entry. same marker (name_at (row_names problem) entry.row) ≡ false) items) (markers-numbered problem.rows) problem.columns lawful.columns.items);
+  entries = subst (λ count. All (λ column. AreEntries count column.items) (map (group_by by_row) problem.columns)) (sym rows_kept)
+      (each-all (λ column. AreEntries (length problem.rows) column.items) (map (group_by by_row) problem.columns)
+      (items-by by_row (AreColumnEntries problem.rows) (AreEntries (length problem.rows)) (λ items p. entries-numbered problem.rows items p.entries_lawful) problem.columns lawful.columns.items));
+  no_marker = subst (λ names. All (λ column. All (λ entry. same marker (name_at names entry.row) ≡ false) column.items) (map (group_by by_row) problem.columns)) (sym names_kept)
+      (each-all (λ column. All (λ entry. same marker (name_at (row_names problem) entry.row) ≡ false) column.items) (map (group_by by_row) problem.columns)
+      (items-by by_row (AreColumnEntries problem.rows) (λ items. All (λ entry. same marker (name_at (row_names problem) entry.row) ≡ false) items) (markers-numbered problem.rows) problem.columns lawful.columns.items));
   rhs = sets by_row (AreRightHandSides problem.rows) (λ items p. p.filled) problem.rhs lawful.rhs;
-  rhs_items = each-all (λ set. AreEntries (length problem.rows) set.items) (map (group_by by_row) problem.rhs)
-      (items-by by_row (AreRightHandSides problem.rows) (AreEntries (length problem.rows)) (λ items p. entries-numbered problem.rows items p.entries_lawful) problem.rhs lawful.rhs.items);
+  rhs_items = subst (λ count. All (λ set. AreEntries count set.items) (map (group_by by_row) problem.rhs)) (sym rows_kept)
+      (each-all (λ set. AreEntries (length problem.rows) set.items) (map (group_by by_row) problem.rhs)
+      (items-by by_row (AreRightHandSides problem.rows) (AreEntries (length problem.rows)) (λ items p. entries-numbered problem.rows items p.entries_lawful) problem.rhs lawful.rhs.items));
   ranges = sets by_row (AreRanges problem.rows) (λ items p. p.filled) problem.ranges lawful.ranges;
-  range_items = each-all (λ set. AreEntries (length problem.rows) set.items) (map (group_by by_row) problem.ranges)
-      (items-by by_row (AreRanges problem.rows) (AreEntries (length problem.rows)) (λ items p. entries-numbered problem.rows items p.entries_lawful) problem.ranges lawful.ranges.items);
-  ranges_limited = each-all (λ set. All (λ entry. is_free_row problem.rows entry.row ≡ false) set.items) (map (group_by by_row) problem.ranges)
-      (items-by by_row (AreRanges problem.rows) (λ items. All (λ entry. is_free_row problem.rows entry.row ≡ false) items) (ranges-numbered problem.rows) problem.ranges lawful.ranges.items);
+  range_items = subst (λ count. All (λ set. AreEntries count set.items) (map (group_by by_row) problem.ranges)) (sym rows_kept)
+      (each-all (λ set. AreEntries (length problem.rows) set.items) (map (group_by by_row) problem.ranges)
+      (items-by by_row (AreRanges problem.rows) (AreEntries (length problem.rows)) (λ items p. entries-numbered problem.rows items p.entries_lawful) problem.ranges lawful.ranges.items));
+  ranges_limited = subst (λ (is_free : ℕ → Bool). All (λ set. All (λ entry. is_free entry.row ≡ false) set.items) (map (group_by by_row) problem.ranges)) (sym (λ i n. is_free_row-by number problem.rows n i))
+      (each-all (λ set. All (λ entry. is_free_row problem.rows entry.row ≡ false) set.items) (map (group_by by_row) problem.ranges)
+      (items-by by_row (AreRanges problem.rows) (λ items. All (λ entry. is_free_row problem.rows entry.row ≡ false) items) (ranges-numbered problem.rows) problem.ranges lawful.ranges.items));
   bounds = sets by_column (AreBoundSets problem.columns) (λ items p. p.filled) problem.bounds lawful.bounds;
   bound_items = each-all (λ set. AreBounds (length (map (group_by by_row) problem.columns)) set.items) (map (group_by by_column) problem.bounds)
       (items-by by_column (AreBoundSets problem.columns) (AreBounds (length (map (group_by by_row) problem.columns))) (λ items p. subst (λ n. AreBounds n (map by_column items)) (sym columns_kept) (bounds-numbered problem.columns items p.bounds_lawful)) problem.bounds lawful.bounds.items);
-  few_rows = lawful.few_rows;
+  few_rows = subst (λ n. n ≤ MAX_ROWS) (sym rows_kept) lawful.few_rows;
   few_columns = subst (λ n. n ≤ MAX_COLUMNS) (sym columns_kept) lawful.few_columns;
   few_entries = subst (λ n. n ≤ MAX_ENTRIES) (sym (count-by by_row 0 problem.columns)) lawful.few_entries;
 }
   where
+    number : Name → ℕ
+    number = number_in (row_names problem)
+
+    rows : List (Row ℕ)
+    rows = map (row_by (number_in (row_names problem))) problem.rows
+
+    names_kept : map (λ row. row.name) (map (row_by (number_in (row_names problem))) problem.rows) ≡ row_names problem
+    names_kept = row_names-by (number_in (row_names problem)) problem.rows
+
+    rows_kept : length (map (row_by (number_in (row_names problem))) problem.rows) ≡ length problem.rows
+    rows_kept = row_count-by (number_in (row_names problem)) problem.rows
+
     by_row : Entry Name → Entry ℕ
     by_row = entry_by (number_in (row_names problem))
 

@@ -61,6 +61,6 @@ different-push (k ∷ names) n = ap (λ list. k ∷ others k list) (different-pu
     by false false e = ap (λ list. k ∷ list) (last ∙ ap (λ list. others k (different names) ++ list) (one false (same_sym k n ∙ e)))
 
 -- whether a row has a name, by the rows and by their names
-pub row_is_named : (name : Name) (rows : List Row) → has_row rows name ≡ has_name (map (λ row. row.name) rows) name
+pub row_is_named : {R : Type 0} (name : Name) (rows : List (Row R)) → has_row rows name ≡ has_name (map (λ row. row.name) rows) name
 row_is_named name [] = refl
 row_is_named name (row ∷ rows) = ap (λ b. same name row.name || b) (row_is_named name rows)

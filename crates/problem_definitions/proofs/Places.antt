@@ -60,8 +60,8 @@ numbers_apart names a b has_a has_b apart = by (nat_eq (number_in names a) (numb
         absurd (cc (subst (λ n. same n b ≡ false) equal apart, same_refl b))
 
 -- a row that isn't free by its name isn't by its number
-pub free_row-number : (rows : List Row) (name : Name) → has_row rows name ≡ true → has_free_row rows name ≡ false → is_free_row rows (number_in (map (λ row. row.name) rows) name) ≡ false
-free_row-number rows name there limited =
+pub free_row-number : {R : Type 0} (rows : List (Row R)) (name : Name) → has_row rows name ≡ true → has_free_row rows name ≡ false → is_free_row rows (number_in (map (λ row. row.name) rows) name) ≡ false
+free_row-number {R = R} rows name there limited =
     ap (is_free_row rows) (number_in-is (map (λ row. row.name) rows) name (sym (row_is_named name rows) ∙ there))
     ∙ ap (λ n. unwrap_or (option_map (λ row. is_free_kind row.kind) (slice_get rows n)) false) less
     ∙ kind rows there limited
@@ -69,7 +69,7 @@ free_row-number rows name there limited =
     less : position_or_len (same name) (map (λ row. row.name) rows) + 1 - 1 ≡ position_or_len (same name) (map (λ row. row.name) rows)
     less = omega arith
 
-    kind : (rows : List Row) → has_row rows name ≡ true → has_free_row rows name ≡ false
+    kind : (rows : List (Row R)) → has_row rows name ≡ true → has_free_row rows name ≡ false
         → unwrap_or (option_map (λ row. is_free_kind row.kind) (slice_get rows (position_or_len (same name) (map (λ row. row.name) rows)))) false ≡ false
     kind [] some free = refl
     kind (row ∷ rest) some free = by (same name row.name) some free (kind rest)

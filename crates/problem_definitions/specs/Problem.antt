@@ -1,5 +1,5 @@
 -- Linear programming problems as decks state them.
-use Rattle.std.specs.Prelude.{ℕ, Bool, ◌&&◌, List, Option, map, length, sum_by}
+use Rattle.std.specs.Prelude.{ℕ, Bool, ◌&&◌, List, Option, None, map, length, sum_by}
 use Rattle.std.specs.List.{list_any}
 use Rattle.card_definitions.specs.Numbers.{Decimal}
 use Rattle.problem_definitions.specs.declared.RowKind.{RowKind}
@@ -7,15 +7,20 @@ use Rattle.problem_definitions.specs.declared.BoundKind.{BoundKind}
 use Rattle.problem_definitions.specs.Names.{Name, same}
 use Rattle.problem_definitions.specs.Kinds.{is_free_kind}
 
-pub record Row : Type 0 where
-  pub kind : RowKind
-  pub name : Name
-
 -- An entry of a column, or an item of a right-hand side or range set, on a row. Rows and columns are referred to by R:
 -- in a deck by their names, in a filed problem by their numbers, from 1.
 pub record Entry (R : Type 0) : Type 0 where
   pub row : R
   pub value : Decimal
+
+-- A row. A row that is the sum of multiples of rows has its parts, each a row and a multiplier; a plain row has none.
+pub record Row (R : Type 0) : Type 0 where
+  pub kind : RowKind
+  pub name : Name
+  pub parts : Option (List (Entry R))
+
+abbrev pub plain_row : {R : Type 0} → RowKind → Name → Row R
+plain_row kind name = record { kind = kind; name = name; parts = None }
 
 -- an item of a bound set, on a column
 pub record Bound (R : Type 0) : Type 0 where
@@ -31,7 +36,7 @@ pub record Group (X : Type 0) : Type 0 where
 -- A problem has rows, columns, and sets of right-hand sides, of ranges and of bounds, all in the deck's order.
 pub record Problem (R : Type 0) : Type 0 where
   pub name : Name
-  pub rows : List Row
+  pub rows : List (Row R)
   pub columns : List (Group (Entry R))
   pub rhs : List (Group (Entry R))
   pub ranges : List (Group (Entry R))
@@ -48,10 +53,10 @@ abbrev pub entry_count : {R : Type 0} → Problem R → ℕ
 entry_count problem = sum_by (λ column. length column.items) problem.columns
 
 -- whether a row of this name is there, and whether it is there and free
-abbrev pub has_row : List Row → Name → Bool
+abbrev pub has_row : {R : Type 0} → List (Row R) → Name → Bool
 has_row rows name = list_any (λ row. same name row.name) rows
 
-abbrev pub has_free_row : List Row → Name → Bool
+abbrev pub has_free_row : {R : Type 0} → List (Row R) → Name → Bool
 has_free_row rows name = list_any (λ row. same name row.name && is_free_kind row.kind) rows
 
 -- whether a group of this name is there: a column or a set

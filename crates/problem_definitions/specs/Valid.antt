@@ -1,5 +1,5 @@
 -- What holds of every problem that is filed.
-use Rattle.std.specs.Prelude.{ℕ, ◌-◌, ◌≡◌, ◌≤◌, ◌<◌, Bool, ◌&&◌, List, Ok, IsTrue, IsFalse, All, length, map, is_some, nat_eq, slice_get, option_map, unwrap_or, false}
+use Rattle.std.specs.Prelude.{ℕ, ◌-◌, ◌≡◌, ◌≤◌, ◌<◌, Bool, ◌&&◌, List, Ok, IsTrue, IsFalse, All, length, map, is_some, is_none, nat_eq, slice_get, option_map, unwrap_or, false}
 use Rattle.std.specs.List.{IsDistinct, list_all}
 use Rattle.std.specs.Option.{IfSome}
 use Rattle.card_definitions.specs.Words.{is_empty, without_trailing}
@@ -56,12 +56,13 @@ pub record AreSets {X : Type 0} (sets : List (Group X)) : Type 0 where
   pub filled : All (λ set. IsFalse (is_empty set.items)) sets
 
 -- whether the row of this number is free
-abbrev pub is_free_row : List Row → ℕ → Bool
+abbrev pub is_free_row : {R : Type 0} → List (Row R) → ℕ → Bool
 is_free_row rows number = unwrap_or (option_map (λ row. is_free_kind row.kind) (slice_get rows (number - 1))) false
 
 pub record IsProblem (problem : Problem ℕ) : Type 0 where
   pub name : IsName problem.name
   pub rows : AreLabels (row_names problem)
+  pub plain_rows : All (λ row. IsTrue (is_none row.parts)) problem.rows
   pub columns : AreLabels (group_names problem.columns)
   pub entries : All (λ column. AreEntries (length problem.rows) column.items) problem.columns
   pub no_marker : All (λ column. All (λ entry. IsFalse (same marker (name_at (row_names problem) entry.row))) column.items) problem.columns

@@ -13,11 +13,12 @@ pub struct RowDecl {
 }
 
 impl Model for RowDecl {
-    ghost use Rattle.problem_definitions.specs.Problem.{Row};
+    ghost use Rattle.std.specs.Prelude.{ℕ};
+    ghost use Rattle.problem_definitions.specs.Problem.{Row, plain_row};
 
-    ghost Value = { Row };
+    ghost Value = { Row ℕ };
 
-    ghost view = { λ row. record { kind = row.kind; name = row.name } };
+    ghost view = { λ row. plain_row row.kind row.name };
 
     ghost inverse = { λ row. record { kind = row.kind; name = row.name } };
 }

@@ -5,3 +5,4 @@ pub mod Values
 pub mod Verdicts
 pub mod Solutions
 pub mod RangeParts
+pub mod ParametricParts

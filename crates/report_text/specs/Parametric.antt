@@ -3,7 +3,7 @@
 --     interval_shown sheet part               an interval, with a line for each variable
 --     end_shown sheet to end                  how the run ends
 --     chain_shown sheet change from to run    all of it
-use Rattle.std.specs.Prelude.{◌≡◌, List, map}
+use Rattle.std.specs.Prelude.{map}
 use Rattle.std.specs.List.{All}
 use Rattle.exact_values.specs.Rational.{ℚ}
 use Rattle.lp_definitions.specs.LinearProgram.{variables}

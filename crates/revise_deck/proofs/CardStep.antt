@@ -13,6 +13,7 @@ use Rattle.problem_definitions.proofs.Names.{has_name-different, different-push}
 use Rattle.deck_definitions.specs.declared.Section.{Section}
 use Rattle.deck_definitions.specs.declared.Section.TheVariants.{Header, Rows, Columns, Rhs, Ranges, Bounds, Endata}
 use Rattle.deck_definitions.specs.Sections.{is_section_card, section_after, section_words, section_word}
+use Rattle.deck_definitions.specs.DataCards.{FixedFields}
 use Rattle.deck_definitions.specs.Conversion.{section_card_fault, form_fault}
 use Rattle.deck_definitions.proofs.Steps.{section_after-push, last_or-push}
 use Rattle.revise_definitions.specs.declared.Action.{Action}
@@ -103,7 +104,7 @@ edited-same problem Header action anchor under card = refl
 edited-same problem Endata action anchor under card = refl
 
 module _ (old : Problem Name) (cards : List Card) where
-  data-same : (section : Section) (s : Option Section) (action : Option Action) (card : List ℕ) → action_data_fault (revised old cards) Fixed section action (under_after cards) card
+  data-same : (section : Section) (s : Option Section) (action : Option Action) (card : List ℕ) → action_data_fault (revised old cards) FixedFields section action (under_after cards) card
       ≡ data_fault (record { section = s; action = action; under = under_of (anchor_after cards) (under_after cards); problem = revised old cards }) section card
   data-same section s None card = refl
   data-same section s (Some action) card = ap (λ o. option_or (form_fault Fixed card) (option_or o None)) (edit-same (revised old cards) section action (anchor_after cards) (under_after cards) (reading_of Fixed card))
@@ -112,12 +113,12 @@ module _ (old : Problem Name) (cards : List Card) where
       ≡ inner_fault (record { section = section; action = action_after cards; under = under_of (anchor_after cards) (under_after cards); problem = revised old cards }) card
   inner-same None card = refl
   inner-same (Some Header) card = refl
-  inner-same (Some Rows) card = ap (cond (is_action_card Fixed card) (action_fault (revised old cards) Rows (action_on Fixed card) (anchor_on Fixed card))) (data-same Rows (Some Rows) (action_after cards) card)
-  inner-same (Some Columns) card = ap (cond (is_action_card Fixed card) (action_fault (revised old cards) Columns (action_on Fixed card) (anchor_on Fixed card))) (data-same Columns (Some Columns) (action_after cards) card)
-  inner-same (Some Rhs) card = ap (cond (is_action_card Fixed card) (action_fault (revised old cards) Rhs (action_on Fixed card) (anchor_on Fixed card))) (data-same Rhs (Some Rhs) (action_after cards) card)
-  inner-same (Some Ranges) card = ap (cond (is_action_card Fixed card) (action_fault (revised old cards) Ranges (action_on Fixed card) (anchor_on Fixed card))) (data-same Ranges (Some Ranges) (action_after cards) card)
-  inner-same (Some Bounds) card = ap (cond (is_action_card Fixed card) (action_fault (revised old cards) Bounds (action_on Fixed card) (anchor_on Fixed card))) (data-same Bounds (Some Bounds) (action_after cards) card)
-  inner-same (Some Endata) card = ap (cond (is_action_card Fixed card) (action_fault (revised old cards) Endata (action_on Fixed card) (anchor_on Fixed card))) (data-same Endata (Some Endata) (action_after cards) card)
+  inner-same (Some Rows) card = ap (cond (is_action_card FixedFields card) (action_fault (revised old cards) Rows (action_on FixedFields card) (anchor_on FixedFields card))) (data-same Rows (Some Rows) (action_after cards) card)
+  inner-same (Some Columns) card = ap (cond (is_action_card FixedFields card) (action_fault (revised old cards) Columns (action_on FixedFields card) (anchor_on FixedFields card))) (data-same Columns (Some Columns) (action_after cards) card)
+  inner-same (Some Rhs) card = ap (cond (is_action_card FixedFields card) (action_fault (revised old cards) Rhs (action_on FixedFields card) (anchor_on FixedFields card))) (data-same Rhs (Some Rhs) (action_after cards) card)
+  inner-same (Some Ranges) card = ap (cond (is_action_card FixedFields card) (action_fault (revised old cards) Ranges (action_on FixedFields card) (anchor_on FixedFields card))) (data-same Ranges (Some Ranges) (action_after cards) card)
+  inner-same (Some Bounds) card = ap (cond (is_action_card FixedFields card) (action_fault (revised old cards) Bounds (action_on FixedFields card) (anchor_on FixedFields card))) (data-same Bounds (Some Bounds) (action_after cards) card)
+  inner-same (Some Endata) card = ap (cond (is_action_card FixedFields card) (action_fault (revised old cards) Endata (action_on FixedFields card) (anchor_on FixedFields card))) (data-same Endata (Some Endata) (action_after cards) card)
 
 -- the fault of a card behind others is that at the state behind them
 pub fault-state : (old : Problem Name) (cards : List Card) (card : List ℕ) → revise_card_fault old cards card ≡ fault_at (state_of old cards) card
@@ -136,21 +137,21 @@ module _ (old : Problem Name) (cards : List Card) (card : Card) where
   state-is : (section : Option Section) (holder : Option Card) (under : List Reading) (problem : Problem Name) → section_after whole ≡ section → action_card_after whole ≡ holder → under_after whole ≡ under → revised old whole ≡ problem
       → state_of old whole ≡ record {
         section = section;
-        action = option_and_then (λ c. action_on Fixed c.bytes) holder;
-        under = under_of (unwrap_or (option_map (λ c. anchor_on Fixed c.bytes) holder) []) under;
+        action = option_and_then (λ c. action_on FixedFields c.bytes) holder;
+        under = under_of (unwrap_or (option_map (λ c. anchor_on FixedFields c.bytes) holder) []) under;
         problem = problem;
       }
   state-is section holder under problem s a u p = λ i. record {
     section = s i;
-    action = option_and_then (λ (c : Card). action_on Fixed c.bytes) (a i);
-    under = under_of (unwrap_or (option_map (λ (c : Card). anchor_on Fixed c.bytes) (a i)) []) (u i);
+    action = option_and_then (λ (c : Card). action_on FixedFields c.bytes) (a i);
+    under = under_of (unwrap_or (option_map (λ (c : Card). anchor_on FixedFields c.bytes) (a i)) []) (u i);
     problem = p i;
   }
 
-  heading-edits : is_heading Fixed card.bytes ≡ true → revised old whole ≡ revised old cards
+  heading-edits : is_heading FixedFields card.bytes ≡ true → revised old whole ≡ revised old cards
   heading-edits h = revised-push old cards card ∙ rw h refl
 
-  data-edits : is_heading Fixed card.bytes ≡ false → with_edit (edit_of cards card) (revised old cards) ≡ problem_with (state_of old cards) read
+  data-edits : is_heading FixedFields card.bytes ≡ false → with_edit (edit_of cards card) (revised old cards) ≡ problem_with (state_of old cards) read
   data-edits h = by (section_after cards) (action_after cards) refl refl
     where
       by : (s : Option Section) (a : Option Action) → section_after cards ≡ s → action_after cards ≡ a → with_edit (edit_of cards card) (revised old cards) ≡ problem_with (state_of old cards) read
@@ -161,14 +162,14 @@ module _ (old : Problem Name) (cards : List Card) (card : Card) where
   abbrev st : State
   st = state_of old cards
 
-  step-by : (b : Bool) → is_section_card card.bytes ≡ b → (a : Bool) → is_action_card Fixed card.bytes ≡ a → state_of old whole
+  step-by : (b : Bool) → is_section_card card.bytes ≡ b → (a : Bool) → is_action_card FixedFields card.bytes ≡ a → state_of old whole
       ≡ cond b (record st { section = option_or (cond b (named section_words (section_word card.bytes)) None) st.section; action = None; under = under_of [] [] })
-      (cond a (record st { action = action_on Fixed card.bytes; under = under_of (anchor_on Fixed card.bytes) [] }) (record st { under = with_card_under st.under read; problem = problem_with st read }))
+      (cond a (record st { action = action_on FixedFields card.bytes; under = under_of (anchor_on FixedFields card.bytes) [] }) (record st { under = with_card_under st.under read; problem = problem_with st read }))
   step-by true e a f =
       state-is (option_or (named section_words (section_word card.bytes)) (section_after cards)) None [] (revised old cards)
       (section_after-push cards card ∙ ap (λ b. option_or (cond b (named section_words (section_word card.bytes)) None) (section_after cards)) e)
-      (action_card_after-push cards card ∙ ap (λ b. cond b None (cond (is_action_card Fixed card.bytes) (Some card) (action_card_after cards))) e)
-      (under_after-push cards card ∙ ap (λ b. cond (b || is_action_card Fixed card.bytes) [] (under_after cards ++ read ∷ [])) e)
+      (action_card_after-push cards card ∙ ap (λ b. cond b None (cond (is_action_card FixedFields card.bytes) (Some card) (action_card_after cards))) e)
+      (under_after-push cards card ∙ ap (λ b. cond (b || is_action_card FixedFields card.bytes) [] (under_after cards ++ read ∷ [])) e)
       (heading-edits (rw e refl))
   step-by false e true f =
       state-is (section_after cards) (Some card) [] (revised old cards)
@@ -186,4 +187,4 @@ module _ (old : Problem Name) (cards : List Card) (card : Card) where
 
   -- one more card takes the state one step on
   pub state-step : fault_at (state_of old cards) card.bytes ≡ None → state_of old (cards ++ card ∷ []) ≡ state_with (state_of old cards) card.bytes
-  state-step fine = step-by (is_section_card card.bytes) refl (is_action_card Fixed card.bytes) refl
+  state-step fine = step-by (is_section_card card.bytes) refl (is_action_card FixedFields card.bytes) refl

@@ -11,6 +11,7 @@ use Rattle.deck_definitions.specs.declared.DeckFaultKind.TheVariants.{SectionOrd
 use Rattle.deck_definitions.specs.declared.Section.{Section}
 use Rattle.deck_definitions.specs.declared.Section.TheVariants.{Header}
 use Rattle.deck_definitions.specs.Sections.{is_section_card, section_begun, section_after}
+use Rattle.deck_definitions.specs.DataCards.{FixedFields}
 use Rattle.deck_definitions.specs.Conversion.{section_card_fault, form_fault, first_faulty}
 use Rattle.deck_fields.specs.declared.stop.DeckStop.{DeckStop}
 use Rattle.deck_fields.specs.declared.stop.DeckStop.TheVariants.{Fault, NoMemory}
@@ -42,7 +43,7 @@ data_fault state section card = by state.action
 -- the fault of an action card or a data card in a section
 abbrev pub standing_fault : State → Section → List ℕ → Option DeckFaultKind
 standing_fault state section card =
-    if is_action_card Fixed card then action_fault state.problem section (action_on Fixed card) (anchor_on Fixed card)
+    if is_action_card FixedFields card then action_fault state.problem section (action_on FixedFields card) (anchor_on FixedFields card)
     else data_fault state section card
 
 -- the fault of an action card or a data card
@@ -70,7 +71,7 @@ problem_with state card = by state.section state.action
 -- one more action card or data card
 abbrev pub inner_with : State → List ℕ → State
 inner_with state card =
-    if is_action_card Fixed card then record state { action = action_on Fixed card; under = under_of (anchor_on Fixed card) [] }
+    if is_action_card FixedFields card then record state { action = action_on FixedFields card; under = under_of (anchor_on FixedFields card) [] }
     else record state { under = with_card_under state.under (reading_of Fixed card); problem = problem_with state (reading_of Fixed card) }
 
 -- one more card

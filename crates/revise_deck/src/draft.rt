@@ -31,6 +31,7 @@ impl ReviseDraft {
     ghost use Rattle.card_reader.specs.Card.{card_bytes};
     ghost use Rattle.deck_definitions.specs.declared.Section.TheVariants.{Endata};
     ghost use Rattle.deck_definitions.specs.Sections.{is_section, section_words, section_word};
+    ghost use Rattle.deck_definitions.specs.DataCards.{FixedFields};
     ghost use Rattle.deck_definitions.specs.Conversion.{form_fault, section_card_fault};
     ghost use Rattle.revise_definitions.specs.Revision.{may_come_after};
     ghost use Rattle.deck_parts.specs.Told.{Tells};
@@ -133,16 +134,16 @@ impl ReviseDraft {
     // Takes an action card of this section.
     fn take_action(&mut self, section: Section, card: Card<'_>) -> Result<(), CardStop>
         ensures no_fault { OnOk result
-            (action_fault self.old.problem section (action_on Fixed (card_bytes card.entry))
-            (anchor_on Fixed (card_bytes card.entry)) ≡ None) }
+            (action_fault self.old.problem section (action_on FixedFields (card_bytes card.entry))
+            (anchor_on FixedFields (card_bytes card.entry)) ≡ None) }
         ensures step { OnOk result (state_shown self.new ≡ record (state_shown self.old) {
-          action = action_on Fixed (card_bytes card.entry);
+          action = action_on FixedFields (card_bytes card.entry);
           under = under_of
-              (anchor_on Fixed (card_bytes card.entry)) [];
+              (anchor_on FixedFields (card_bytes card.entry)) [];
         }) }
         ensures stop { IfErr result (Tells
-            (action_fault self.old.problem section (action_on Fixed (card_bytes card.entry))
-            (anchor_on Fixed (card_bytes card.entry)))) }
+            (action_fault self.old.problem section (action_on FixedFields (card_bytes card.entry))
+            (anchor_on FixedFields (card_bytes card.entry)))) }
     {
         let action = action_of(card.bytes());
         let anchor = anchor_of(card);

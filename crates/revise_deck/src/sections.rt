@@ -2,7 +2,8 @@
 ghost use Rattle.std.specs.Prelude.{◌≡◌, ◌≤◌, ◌||◌, None, Some, IfOk, OnOk, IfErr, not, drop};
 ghost use Rattle.card_definitions.specs.Cards.{is_blank as is_blank_byte};
 ghost use Rattle.card_definitions.specs.Words.{named, ◌⟹◌};
-ghost use Rattle.card_definitions.specs.Fields.{Fixed, is_blank_column};
+ghost use Rattle.card_definitions.specs.Fields.{is_blank_column};
+ghost use Rattle.deck_definitions.specs.DataCards.{FixedFields};
 ghost use Rattle.card_reader.specs.Card.{card_bytes};
 ghost use Rattle.problem_definitions.specs.Valid.{IsName};
 ghost use Rattle.deck_definitions.specs.declared.Section.TheVariants.{Header, Rows, Columns, Endata};
@@ -120,7 +121,7 @@ fn has_blank(card: &[u8], column: usize) -> bool
 
 // Whether a card is an action card.
 pub fn is_action(card: &[u8]) -> bool
-    ensures { result ≡ is_action_card Fixed card.now }
+    ensures { result ≡ is_action_card FixedFields card.now }
 {
     has_blank(card, 1) && !has_blank(card, 2) && !has_blank(card, 3) && !has_blank(card, 4)
 }
@@ -154,14 +155,14 @@ fn behind_first(text: &[u8]) -> &[u8]
 
 // The action on an action card.
 pub fn action_of(card: &[u8]) -> Option<Action>
-    ensures { result ≡ action_on Fixed card.now }
+    ensures { result ≡ action_on FixedFields card.now }
 {
     action_named(first_word(behind_first(card)))
 }
 
 // The name on an action card.
 pub fn anchor_of(card: Card<'_>) -> Name
-    ensures { result ≡ anchor_on Fixed (card_bytes card.entry) }
+    ensures { result ≡ anchor_on FixedFields (card_bytes card.entry) }
 {
     name_in(card.field(15, 22))
 }

@@ -8,14 +8,14 @@ use Rattle.std.proofs.lemmas.List.Elements.{filter-append}
 use Rattle.std.proofs.lemmas.List.Sums.{fold-append}
 use Rattle.std.proofs.Math.ListN.{drop_of_length-le}
 use Rattle.card_definitions.specs.Cards.{Card}
-use Rattle.card_definitions.specs.Fields.{Fixed, reading_of}
+use Rattle.card_definitions.specs.Fields.{reading_of}
 use Rattle.problem_definitions.specs.Names.{Name}
 use Rattle.problem_definitions.specs.Problem.{Problem}
 use Rattle.deck_definitions.specs.Sections.{is_section_card}
-use Rattle.deck_definitions.specs.DataCards.{form_of}
+use Rattle.deck_definitions.specs.DataCards.{style_of}
 use Rattle.card_definitions.proofs.Behind.{gathered-push}
 use Rattle.deck_definitions.proofs.Steps.{last_or-push}
-use Rattle.revise_definitions.specs.Actions.{Edit, is_action_card, is_heading, action_card_after, under_after, edit_of}
+use Rattle.revise_definitions.specs.Actions.{Edit, is_action_card, is_heading, action_card_after, edit_form_of, under_after, edit_of}
 use Rattle.revise_definitions.specs.Edits.{edited}
 use Rattle.revise_definitions.specs.Revision.{edits, revised}
 
@@ -46,10 +46,10 @@ module _ {X : Type 0} (p : X → Bool) (xs : List X) (x : X) where
 
 -- The action card that holds behind one more card is that card, where it is an action card, and none behind a section card.
 pub action_card_after-push : (cards : List Card) (card : Card)
-    → action_card_after (cards ++ card ∷ []) ≡ cond (is_section_card card.bytes) None (cond (is_action_card (form_of cards) card.bytes) (Some card) (action_card_after cards))
+    → action_card_after (cards ++ card ∷ []) ≡ cond (is_section_card card.bytes) None (cond (is_action_card (style_of cards) card.bytes) (Some card) (action_card_after cards))
 action_card_after-push cards card =
-    ap (option_and_then (λ heading. cond (is_section_card heading.bytes) None (Some heading))) (last_passing-push (λ c. is_heading Fixed c.bytes) cards card)
-    ∙ by (is_section_card card.bytes) (is_action_card Fixed card.bytes) (last_or None (filter (λ c. is_heading Fixed c.bytes) cards)) refl
+    ap (option_and_then (λ heading. cond (is_section_card heading.bytes) None (Some heading))) (last_passing-push (λ c. is_heading (style_of cards) c.bytes) cards card)
+    ∙ by (is_section_card card.bytes) (is_action_card (style_of cards) card.bytes) (last_or None (filter (λ c. is_heading (style_of cards) c.bytes) cards)) refl
   where
     by : (a b : Bool) (o : Option Card) → is_section_card card.bytes ≡ a
         → option_and_then (λ heading. cond (is_section_card heading.bytes) None (Some heading)) (cond (a || b) (Some card) o) ≡ cond a None (cond b (Some card) (option_and_then (λ heading. cond (is_section_card heading.bytes) None (Some heading)) o))
@@ -59,12 +59,12 @@ action_card_after-push cards card =
 
 -- The cards under an action begin anew behind a section card or an action card.
 pub under_after-push : (cards : List Card) (card : Card)
-    → under_after (cards ++ card ∷ []) ≡ cond (is_heading (form_of cards) card.bytes) [] (under_after cards ++ reading_of (form_of cards) card.bytes ∷ [])
-under_after-push cards card = ap (map (λ c. reading_of Fixed c.bytes)) (after_last-push (λ c. is_heading Fixed c.bytes) cards card) ∙ by (is_heading Fixed card.bytes)
+    → under_after (cards ++ card ∷ []) ≡ cond (is_heading (style_of cards) card.bytes) [] (under_after cards ++ reading_of (edit_form_of cards card.bytes) card.bytes ∷ [])
+under_after-push cards card = ap (map (λ c. reading_of (edit_form_of cards c.bytes) c.bytes)) (after_last-push (λ c. is_heading (style_of cards) c.bytes) cards card) ∙ by (is_heading (style_of cards) card.bytes)
   where
-    by : (b : Bool) → map (λ c. reading_of Fixed c.bytes) (cond b [] (after_last (λ c. is_heading Fixed c.bytes) cards ++ card ∷ [])) ≡ cond b [] (under_after cards ++ reading_of Fixed card.bytes ∷ [])
+    by : (b : Bool) → map (λ c. reading_of (edit_form_of cards c.bytes) c.bytes) (cond b [] (after_last (λ c. is_heading (style_of cards) c.bytes) cards ++ card ∷ [])) ≡ cond b [] (under_after cards ++ reading_of (edit_form_of cards card.bytes) card.bytes ∷ [])
     by true = refl
-    by false = map-append (λ c. reading_of Fixed c.bytes) (after_last (λ c. is_heading Fixed c.bytes) cards) (card ∷ [])
+    by false = map-append (λ c. reading_of (edit_form_of cards c.bytes) c.bytes) (after_last (λ c. is_heading (style_of cards) c.bytes) cards) (card ∷ [])
 
 -- the problem after an edit, if there is one
 abbrev pub with_edit : Option Edit → Problem Name → Problem Name

@@ -48,18 +48,22 @@ place_of edit there names = by edit.action
     by After = if is_empty edit.anchor then length names else number_in names edit.anchor + there
     by _ = if is_empty edit.anchor then there else number_in names edit.anchor - 1
 
+-- how many rows the cards of ROWS under an action begin: each begins one
+abbrev pub rows_begun : List Reading → ℕ
+rows_begun cards = length cards
+
 -- the rows with the card's row put next to the anchor
-abbrev pub insert_row : Edit → List Row → List Row
+abbrev pub insert_row : Edit → List (Row Name) → List (Row Name)
 insert_row edit rows =
-    let place = place_of edit (length edit.under) (map (λ row. row.name) rows) in
+    let place = place_of edit (rows_begun edit.under) (map (λ row. row.name) rows) in
     unwrap_or (option_map (insert rows place) (row_of edit.card)) rows
 
 -- a row with the type in field 1
-abbrev pub retyped : Reading → Row → Row
-retyped card row = record { kind = unwrap_or (named row_kinds card.kind) row.kind; name = row.name }
+abbrev pub retyped : Reading → Row Name → Row Name
+retyped card row = record { kind = unwrap_or (named row_kinds card.kind) row.kind; name = row.name; parts = row.parts }
 
 -- the row that the card names gets its type
-abbrev pub modify_row : Reading → List Row → List Row
+abbrev pub modify_row : Reading → List (Row Name) → List (Row Name)
 modify_row card rows = map (λ row. if same card.name1 row.name then retyped card row else row) rows
 
 -- the row goes, with its entries and its items in all sets; a set that has lost its last item goes

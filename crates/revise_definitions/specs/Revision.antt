@@ -11,7 +11,7 @@ use Rattle.deck_definitions.specs.declared.DeckFaultKind.TheVariants.{SectionOrd
 use Rattle.deck_definitions.specs.declared.Section.{Section}
 use Rattle.deck_definitions.specs.declared.Section.TheVariants.{Header}
 use Rattle.deck_definitions.specs.Sections.{rank, is_section_card, section_after}
-use Rattle.deck_definitions.specs.DataCards.{form_of}
+use Rattle.deck_definitions.specs.DataCards.{style_of}
 use Rattle.deck_definitions.specs.Conversion.{section_card_fault, fault_by, deck_name}
 use Rattle.revise_definitions.specs.Actions.{Edit, edit_of, is_action_card, action_on, anchor_on, action_after, under_after}
 use Rattle.revise_definitions.specs.Edits.{edited}
@@ -35,8 +35,8 @@ abbrev pub inner_card_fault : Problem Name → List Card → Option Section → 
 inner_card_fault seen before None card = Some SectionOrder
 inner_card_fault seen before (Some Header) card = Some SectionOrder
 inner_card_fault seen before (Some section) card =
-    if is_action_card (form_of before) card then action_fault seen section (action_on (form_of before) card) (anchor_on (form_of before) card)
-    else action_data_fault seen (form_of before) section (action_after before) (under_after before) card
+    if is_action_card (style_of before) card then action_fault seen section (action_on (style_of before) card) (anchor_on (style_of before) card)
+    else action_data_fault seen (style_of before) section (action_after before) (under_after before) card
 
 -- The fault of a card, as a condition on it, on the old problem and on the cards before it in the deck.
 unfoldable pub revise_card_fault : Problem Name → List Card → List ℕ → Option DeckFaultKind

@@ -3,7 +3,7 @@
 use Rattle.std.specs.Prelude.{ℕ, ◌+◌, ◌-◌, Bool, true, false, not, ◌&&◌, ◌||◌, List, [], ◌∷◌, nat_le, Option, Some, None, option_map, unwrap_or, is_none, length, map}
 use Rattle.std.specs.List.{list_any}
 use Rattle.card_definitions.specs.Words.{named, is_empty, each_behind, ◌⟹◌, first_fault}
-use Rattle.card_definitions.specs.Fields.{Form, Reading, reading_of}
+use Rattle.card_definitions.specs.Fields.{Reading, reading_of}
 use Rattle.problem_definitions.specs.declared.TheConstants.{MAX_COLUMNS, MAX_ENTRIES}
 use Rattle.problem_definitions.specs.declared.BoundKind.{BoundKind}
 use Rattle.problem_definitions.specs.Names.{Name, has_name}
@@ -15,11 +15,12 @@ use Rattle.deck_definitions.specs.declared.DeckFaultKind.TheVariants.{SectionOrd
 use Rattle.deck_definitions.specs.declared.Section.{Section}
 use Rattle.deck_definitions.specs.declared.Section.TheVariants.{Header, Rows, Columns, Rhs, Ranges, Bounds, Endata}
 use Rattle.deck_definitions.specs.Sections.{is_section}
-use Rattle.deck_definitions.specs.DataCards.{row_kinds, Pair, pairs_of, entry_of}
+use Rattle.deck_definitions.specs.DataCards.{row_kinds, Style, form_on, Pair, pairs_of, entry_of}
 use Rattle.deck_definitions.specs.Tests.{kind_filled, filled_from_3, filled_from_4, filled_from_5, combination_kinds, rows_fault, marks, value_fault, pair_row_fault, pairs_fault, bound_value_fault, of_bound_type}
 use Rattle.deck_definitions.specs.Conversion.{form_fault}
 use Rattle.revise_definitions.specs.declared.Action.{Action}
 use Rattle.revise_definitions.specs.declared.Action.TheVariants.{Modify, Delete, Before, After}
+use Rattle.revise_definitions.specs.Actions.{deletes}
 use Rattle.revise_definitions.specs.Edits.{put_entries, goes_on}
 
 -- ---- action cards
@@ -161,8 +162,10 @@ edit_fault seen Header _ under card = Some SectionOrder
 edit_fault seen Endata _ under card = Some SectionOrder
 
 -- a data card stands under an action; it has its form, and passes the tests of its action
-abbrev pub action_data_fault : Problem Name → Form → Section → Option Action → List Reading → List ℕ → Option DeckFaultKind
-action_data_fault seen form section None under card = Some UnknownAction
-action_data_fault seen form section (Some action) under card = first_fault (
+abbrev pub action_data_fault : Problem Name → Style → Section → Option Action → List Reading → List ℕ → Option DeckFaultKind
+action_data_fault seen style section None under card = Some UnknownAction
+action_data_fault seen style section (Some action) under card =
+    let form = form_on style section (deletes action) card in
+    first_fault (
     form_fault form card ∷
     edit_fault seen section action under (reading_of form card) ∷ [])

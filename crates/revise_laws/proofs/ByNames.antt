@@ -1,19 +1,20 @@
 -- A problem by numbers is lawful by names.
-use Rattle.std.proofs.Common.{◌≡◌, ℕ, ◌≤◌, Bool, true, false, ◌&&◌, List, [], ◌∷◌, length, map, refl, ap, sym, ◌∙◌, subst, arith, nat_eq, is_some}
+use Rattle.std.proofs.Common.{◌≡◌, ℕ, ◌≤◌, Bool, true, false, ◌&&◌, List, [], ◌∷◌, length, map, refl, ap, sym, ◌∙◌, subst, arith, nat_eq, is_some, is_none}
 use Rattle.std.specs.List.{All, AllByRecursion, IsDistinct, sum_by}
 use Rattle.std.specs.Option.{IfSome}
 use Rattle.std.proofs.lemmas.List.{length-map}
 use Rattle.std.proofs.lemmas.List.Sums.{sum_by-cons}
 use Rattle.card_definitions.specs.Words.{is_empty}
-use Rattle.problem_definitions.specs.declared.TheConstants.{MAX_COLUMNS, MAX_ENTRIES}
+use Rattle.problem_definitions.specs.declared.TheConstants.{MAX_ROWS, MAX_COLUMNS, MAX_ENTRIES}
 use Rattle.problem_definitions.specs.Names.{Name, same, has_name, name_at, marker}
 use Rattle.problem_definitions.specs.Kinds.{meet, takes_value}
 use Rattle.problem_definitions.specs.Problem.{Row, Entry, Bound, Group, Problem, row_names, group_names, has_row, has_free_row, has_group}
-use Rattle.problem_definitions.specs.Numbering.{entry_by, bound_by, group_by, by_names}
+use Rattle.problem_definitions.specs.Numbering.{entry_by, row_by, bound_by, group_by, by_names}
 use Rattle.problem_definitions.specs.Valid.{IsName, IsDecimal, AreLabels, IsNumberOf, AreEntries, clash, AreBounds, AreSets, is_free_row, IsProblem}
 use Rattle.problem_definitions.proofs.Names.{row_is_named}
 use Rattle.problem_definitions.proofs.Groups.{map-map, has_group-names}
 use Rattle.problem_definitions.proofs.Each.{each-change, each-mapped, distinct-mapped}
+use Rattle.problem_definitions.proofs.PlainRows.{row_names-by, row_count-by, has_free_row-by, plain-by}
 use Rattle.problem_definitions.proofs.Lawful.{IsLabel, AreGroups, AreLawfulEntries, AreColumnEntries, AreRightHandSides, AreRanges, clash_by_name, AreLawfulBounds, AreBoundSets, IsLawful, names-by}
 use Rattle.revise_laws.proofs.Places.{all-each, name_at-there, names_apart, free_row-name}
 
@@ -42,46 +43,45 @@ sets h P Q change groups are each = record {
   items = items-by h P (λ items. is_empty items ≡ false) Q (λ items p e. change items p (empty-map h items e)) groups each (all-each (λ (set : Group _). is_empty set.items ≡ false) groups are.filled);
 }
 
-module _ (rows : List Row) (distinct : IsDistinct same (map (λ row. row.name) rows)) where
-  abbrev names : List Name
-  names = map (λ row. row.name) rows
+-- so many rows of these names, of which these numbers are those of free rows
+module _ (rows : List (Row Name)) (names : List Name) (named : map (λ row. row.name) rows ≡ names) (distinct : IsDistinct same names) (count : ℕ) (counted : count ≡ length names)
+    (is_free : ℕ → Bool) (limit : (number : ℕ) → IsNumberOf count number → is_free number ≡ false → has_free_row rows (name_at names number) ≡ false) where
+  numbers : (number : ℕ) → IsNumberOf count number → IsNumberOf (length names) number
+  numbers number is = subst (λ n. IsNumberOf n number) counted is
 
-  numbers : (number : ℕ) → IsNumberOf (length rows) number → IsNumberOf (length names) number
-  numbers number is = subst (λ n. IsNumberOf n number) (sym (length-map rows (λ row. row.name))) is
-
-  entries-named : (entries : List (Entry ℕ)) → AreEntries (length rows) entries → AreLawfulEntries rows (map (entry_by (name_at names)) entries)
+  entries-named : (entries : List (Entry ℕ)) → AreEntries count entries → AreLawfulEntries rows (map (entry_by (name_at names)) entries)
   entries-named entries are = record {
     on_rows = each-mapped (λ entry. has_row rows entry.row ≡ true) (entry_by (name_at names)) entries
-        (each-change (λ (entry : Entry ℕ). IsNumberOf (length rows) entry.row) (λ entry. has_row rows (name_at names entry.row) ≡ true)
-        (λ entry is. row_is_named (name_at names entry.row) rows ∙ name_at-there names entry.row (numbers entry.row is)) entries on_rows);
+        (each-change (λ (entry : Entry ℕ). IsNumberOf count entry.row) (λ entry. has_row rows (name_at names entry.row) ≡ true)
+        (λ entry is. row_is_named (name_at names entry.row) rows ∙ ap (λ list. has_name list (name_at names entry.row)) named ∙ name_at-there names entry.row (numbers entry.row is)) entries on_rows);
     distinct = subst (IsDistinct same) (map-map (name_at names) (λ entry. entry.row) entries ∙ sym (map-map (λ entry. entry.row) (entry_by (name_at names)) entries))
-        (distinct-mapped nat_eq same (name_at names) (IsNumberOf (length rows)) (λ a b is_a is_b apart. names_apart names distinct a b (numbers a is_a) (numbers b is_b) apart)
-        (map (λ entry. entry.row) entries) (each-mapped (IsNumberOf (length rows)) (λ (entry : Entry ℕ). entry.row) entries on_rows) are.distinct);
+        (distinct-mapped nat_eq same (name_at names) (IsNumberOf count) (λ a b is_a is_b apart. names_apart names distinct a b (numbers a is_a) (numbers b is_b) apart)
+        (map (λ entry. entry.row) entries) (each-mapped (IsNumberOf count) (λ (entry : Entry ℕ). entry.row) entries on_rows) are.distinct);
     values = each-mapped (λ entry. IsDecimal entry.value) (entry_by (name_at names)) entries (all-each (λ (entry : Entry ℕ). IsDecimal entry.value) entries are.values);
   }
     where
-      on_rows : AllByRecursion (λ (entry : Entry ℕ). IsNumberOf (length rows) entry.row) entries
-      on_rows = all-each (λ (entry : Entry ℕ). IsNumberOf (length rows) entry.row) entries are.on_rows
+      on_rows : AllByRecursion (λ (entry : Entry ℕ). IsNumberOf count entry.row) entries
+      on_rows = all-each (λ (entry : Entry ℕ). IsNumberOf count entry.row) entries are.on_rows
 
-  columns-named : (entries : List (Entry ℕ)) → AreEntries (length rows) entries → All (λ (entry : Entry ℕ). same marker (name_at names entry.row) ≡ false) entries
+  columns-named : (entries : List (Entry ℕ)) → AreEntries count entries → All (λ (entry : Entry ℕ). same marker (name_at names entry.row) ≡ false) entries
       → AreColumnEntries rows (map (entry_by (name_at names)) entries)
   columns-named entries are unmarked = record {
     entries_lawful = entries-named entries are;
     no_marker = each-mapped (λ entry. same marker entry.row ≡ false) (entry_by (name_at names)) entries (all-each (λ (entry : Entry ℕ). same marker (name_at names entry.row) ≡ false) entries unmarked);
   }
 
-  limited-named : (entries : List (Entry ℕ)) → AllByRecursion (λ (entry : Entry ℕ). IsNumberOf (length rows) entry.row) entries → AllByRecursion (λ (entry : Entry ℕ). is_free_row rows entry.row ≡ false) entries
+  limited-named : (entries : List (Entry ℕ)) → AllByRecursion (λ (entry : Entry ℕ). IsNumberOf count entry.row) entries → AllByRecursion (λ (entry : Entry ℕ). is_free entry.row ≡ false) entries
       → AllByRecursion (λ entry. has_free_row rows entry.row ≡ false) (map (entry_by (name_at names)) entries)
   limited-named [] each limited = tt
-  limited-named (entry ∷ entries) each limited = (free_row-name rows distinct entry.row (numbers entry.row each.0) limited.0, limited-named entries each.1 limited.1)
+  limited-named (entry ∷ entries) each limited = (limit entry.row each.0 limited.0, limited-named entries each.1 limited.1)
 
   -- the items of a range set, by number
   record AreNumberedRanges (entries : List (Entry ℕ)) : Type 0 where
-    are : AreEntries (length rows) entries
-    limited : All (λ (entry : Entry ℕ). is_free_row rows entry.row ≡ false) entries
+    are : AreEntries count entries
+    limited : All (λ (entry : Entry ℕ). is_free entry.row ≡ false) entries
 
-  range_items : (groups : List (Group (Entry ℕ))) → AllByRecursion (λ (group : Group (Entry ℕ)). AreEntries (length rows) group.items) groups
-      → AllByRecursion (λ (group : Group (Entry ℕ)). All (λ entry. is_free_row rows entry.row ≡ false) group.items) groups → AllByRecursion (λ (group : Group (Entry ℕ)). AreNumberedRanges group.items) groups
+  range_items : (groups : List (Group (Entry ℕ))) → AllByRecursion (λ (group : Group (Entry ℕ)). AreEntries count group.items) groups
+      → AllByRecursion (λ (group : Group (Entry ℕ)). All (λ entry. is_free entry.row ≡ false) group.items) groups → AllByRecursion (λ (group : Group (Entry ℕ)). AreNumberedRanges group.items) groups
   range_items [] each limited = tt
   range_items (group ∷ groups) each limited = (record { are = each.0; limited = limited.0 }, range_items groups each.1 limited.1)
 
@@ -89,7 +89,7 @@ module _ (rows : List Row) (distinct : IsDistinct same (map (λ row. row.name) r
   ranges-named entries items e = record {
     entries_lawful = entries-named entries items.are;
     filled = e;
-    limited = limited-named entries (all-each (λ (entry : Entry ℕ). IsNumberOf (length rows) entry.row) entries items.are.on_rows) (all-each (λ (entry : Entry ℕ). is_free_row rows entry.row ≡ false) entries items.limited);
+    limited = limited-named entries (all-each (λ (entry : Entry ℕ). IsNumberOf count entry.row) entries items.are.on_rows) (all-each (λ (entry : Entry ℕ). is_free entry.row ≡ false) entries items.limited);
   }
 
 bounds-named : (columns : List (Group (Entry Name))) (names : List Name) → group_names columns ≡ names → IsDistinct same names → (count : ℕ) → count ≡ length names → (bounds : List (Bound ℕ)) → AreBounds count bounds
@@ -128,28 +128,43 @@ sum-by h (group ∷ groups) =
 pub named-lawful : (problem : Problem ℕ) → IsProblem problem → IsLawful (by_names problem)
 unfolding by_names
 named-lawful problem is = record {
-  row_labels = labels (row_names problem) is.rows;
-  rows_distinct = is.rows.distinct;
+  row_labels = subst (AllByRecursion IsLabel) (sym rows_named) (labels (row_names problem) is.rows);
+  rows_distinct = subst (IsDistinct same) (sym rows_named) is.rows.distinct;
+  plain_rows = plain-by (name_at (row_names problem)) problem.rows (all-each (λ (row : Row ℕ). is_none row.parts ≡ true) problem.rows is.plain_rows);
   columns = record {
     names = subst (AllByRecursion IsLabel) (sym (names-by by_row problem.columns)) (labels (group_names problem.columns) is.columns);
     distinct = subst (IsDistinct same) (sym (names-by by_row problem.columns)) is.columns.distinct;
-    items = items-by by_row (AreEntries (length problem.rows)) (All (λ (entry : Entry ℕ). same marker (name_at (row_names problem) entry.row) ≡ false)) (AreColumnEntries problem.rows) (columns-named problem.rows is.rows.distinct) problem.columns
+    items = items-by by_row (AreEntries (length problem.rows)) (All (λ (entry : Entry ℕ). same marker (name_at (row_names problem) entry.row) ≡ false)) (AreColumnEntries rows) (columns-named rows (row_names problem) rows_named is.rows.distinct (length problem.rows) counted (is_free_row problem.rows) limit) problem.columns
         (all-each (λ (column : Group (Entry ℕ)). AreEntries (length problem.rows) column.items) problem.columns is.entries)
         (all-each (λ (column : Group (Entry ℕ)). All (λ (entry : Entry ℕ). same marker (name_at (row_names problem) entry.row) ≡ false) column.items) problem.columns is.no_marker);
   };
-  rhs = sets by_row (AreEntries (length problem.rows)) (AreRightHandSides problem.rows) (λ items p e. record { entries_lawful = entries-named problem.rows is.rows.distinct items p; filled = e }) problem.rhs is.rhs
+  rhs = sets by_row (AreEntries (length problem.rows)) (AreRightHandSides rows) (λ items p e. record { entries_lawful = entries-named rows (row_names problem) rows_named is.rows.distinct (length problem.rows) counted (is_free_row problem.rows) limit items p; filled = e }) problem.rhs is.rhs
       (all-each (λ (set : Group (Entry ℕ)). AreEntries (length problem.rows) set.items) problem.rhs is.rhs_items);
-  ranges = sets by_row (AreNumberedRanges problem.rows is.rows.distinct) (AreRanges problem.rows) (ranges-named problem.rows is.rows.distinct) problem.ranges is.ranges
-      (range_items problem.rows is.rows.distinct problem.ranges (all-each (λ (set : Group (Entry ℕ)). AreEntries (length problem.rows) set.items) problem.ranges is.range_items)
+  ranges = sets by_row (AreNumberedRanges rows (row_names problem) rows_named is.rows.distinct (length problem.rows) counted (is_free_row problem.rows) limit) (AreRanges rows) (ranges-named rows (row_names problem) rows_named is.rows.distinct (length problem.rows) counted (is_free_row problem.rows) limit) problem.ranges is.ranges
+      (range_items rows (row_names problem) rows_named is.rows.distinct (length problem.rows) counted (is_free_row problem.rows) limit problem.ranges (all-each (λ (set : Group (Entry ℕ)). AreEntries (length problem.rows) set.items) problem.ranges is.range_items)
       (all-each (λ (set : Group (Entry ℕ)). All (λ (entry : Entry ℕ). is_free_row problem.rows entry.row ≡ false) set.items) problem.ranges is.ranges_limited));
   bounds = sets by_column (AreBounds (length problem.columns)) (AreBoundSets (map (group_by by_row) problem.columns))
       (λ items p e. record { bounds_lawful = bounds-named (map (group_by by_row) problem.columns) (group_names problem.columns) (names-by by_row problem.columns) is.columns.distinct (length problem.columns) (sym (length-map problem.columns (λ column. column.name))) items p; filled = e })
       problem.bounds is.bounds (all-each (λ (set : Group (Bound ℕ)). AreBounds (length problem.columns) set.items) problem.bounds is.bound_items);
-  few_rows = is.few_rows;
+  few_rows = subst (λ n. n ≤ MAX_ROWS) (sym (row_count-by (name_at (row_names problem)) problem.rows)) is.few_rows;
   few_columns = subst (λ n. n ≤ MAX_COLUMNS) (sym (length-map problem.columns (group_by by_row))) is.few_columns;
   few_entries = subst (λ n. n ≤ MAX_ENTRIES) (sym (sum-by by_row problem.columns)) is.few_entries;
 }
   where
+    rows : List (Row Name)
+    rows = map (row_by (name_at (row_names problem))) problem.rows
+
+    rows_named : map (λ row. row.name) (map (row_by (name_at (row_names problem))) problem.rows) ≡ row_names problem
+    rows_named = row_names-by (name_at (row_names problem)) problem.rows
+
+    counted : length problem.rows ≡ length (row_names problem)
+    counted = sym (length-map problem.rows (λ row. row.name))
+
+    limit : (number : ℕ) → IsNumberOf (length problem.rows) number → is_free_row problem.rows number ≡ false
+        → has_free_row (map (row_by (name_at (row_names problem))) problem.rows) (name_at (row_names problem) number) ≡ false
+    limit number within limited = has_free_row-by (name_at (row_names problem)) problem.rows (name_at (row_names problem) number)
+        ∙ free_row-name problem.rows is.rows.distinct number (subst (λ n. IsNumberOf n number) (sym (length-map problem.rows (λ row. row.name))) within) limited
+
     by_row : Entry ℕ → Entry Name
     by_row = entry_by (name_at (row_names problem))
 

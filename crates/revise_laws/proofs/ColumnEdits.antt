@@ -55,6 +55,7 @@ module _ (p : Problem Name) (lawful : IsLawful p) where
   column-changed name f new few = record {
     row_labels = lawful.row_labels;
     rows_distinct = lawful.rows_distinct;
+    plain_rows = lawful.plain_rows;
     columns = groups-changed name (AreColumnEntries p.rows) (AreColumnEntries p.rows) f p.columns lawful.columns (λ items c. c) new;
     rhs = lawful.rhs;
     ranges = lawful.ranges;
@@ -108,6 +109,7 @@ module _ (p : Problem Name) (lawful : IsLawful p) where
   column-deleted name = record {
     row_labels = lawful.row_labels;
     rows_distinct = lawful.rows_distinct;
+    plain_rows = lawful.plain_rows;
     columns = groups-without name (AreColumnEntries p.rows) (AreColumnEntries p.rows) (λ items c. c) p.columns lawful.columns;
     rhs = lawful.rhs;
     ranges = lawful.ranges;
@@ -125,6 +127,7 @@ module _ (p : Problem Name) (lawful : IsLawful p) where
   column-placed place name entries label new are few few_entries = record {
     row_labels = lawful.row_labels;
     rows_distinct = lawful.rows_distinct;
+    plain_rows = lawful.plain_rows;
     columns = record {
       names = subst (AllByRecursion IsLabel) (sym (map-insert (λ group. group.name) p.columns place column)) (each-insert IsLabel (group_names p.columns) place name lawful.columns.names label);
       distinct = subst (IsDistinct same) (sym (map-insert (λ group. group.name) p.columns place column))

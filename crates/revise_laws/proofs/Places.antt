@@ -73,17 +73,17 @@ names_apart names distinct a b is_a is_b apart = by (same (name_at names a) (nam
         let one : a ≡ b = sym (number_in-name_at names distinct a is_a) ∙ ap (number_in names) (same_eq (name_at names a) (name_at names b) e) ∙ number_in-name_at names distinct b is_b in
         absurd (cc (apart, eq-eqb a b one))
 
-unlike_free : (rows : List Row) (name : Name) → AllByRecursion (λ other. same name other ≡ false) (map (λ row. row.name) rows) → has_free_row rows name ≡ false
+unlike_free : {R : Type 0} (rows : List (Row R)) (name : Name) → AllByRecursion (λ other. same name other ≡ false) (map (λ row. row.name) rows) → has_free_row rows name ≡ false
 unlike_free [] name apart = refl
 unlike_free (row ∷ rows) name apart = rw apart.0 (unlike_free rows name apart.1)
 
 -- a row that isn't free by its number isn't by its name
-pub free_row-name : (rows : List Row) → IsDistinct same (map (λ row. row.name) rows) → (number : ℕ) → IsNumberOf (length (map (λ row. row.name) rows)) number → is_free_row rows number ≡ false
+pub free_row-name : {R : Type 0} (rows : List (Row R)) → IsDistinct same (map (λ row. row.name) rows) → (number : ℕ) → IsNumberOf (length (map (λ row. row.name) rows)) number → is_free_row rows number ≡ false
     → has_free_row rows (name_at (map (λ row. row.name) rows) number) ≡ false
 unfolding IsDistinct
 free_row-name rows distinct number is limited = kind rows distinct (number - 1) (below (map (λ row. row.name) rows) number is) limited
   where
-    kind : (rows : List Row) → IsDistinct same (map (λ row. row.name) rows) → (place : ℕ) → place < length (map (λ row. row.name) rows) → unwrap_or (option_map (λ row. is_free_kind row.kind) (slice_get rows place)) false ≡ false
+    kind : {R : Type 0} (rows : List (Row R)) → IsDistinct same (map (λ row. row.name) rows) → (place : ℕ) → place < length (map (λ row. row.name) rows) → unwrap_or (option_map (λ row. is_free_kind row.kind) (slice_get rows place)) false ≡ false
         → has_free_row rows (at (map (λ row. row.name) rows) place) ≡ false
     kind [] distinct place below limited = refl
     kind (row ∷ rest) distinct zero below limited = rw (limited, unlike_free rest row.name distinct.0) (closed (same row.name row.name))

@@ -5,7 +5,7 @@ use Rattle.std.specs.Option.{option_map, option_or, IfSome}
 use Rattle.std.proofs.lemmas.List.{append_assoc, append-nil}
 use Rattle.card_definitions.specs.Words.{is_empty, unless, ◌⟹◌}
 use Rattle.card_definitions.specs.Cards.{Card, is_printable, is_skipped, live, last_number}
-use Rattle.card_definitions.specs.Fields.{Fixed, Reading, reading_of}
+use Rattle.card_definitions.specs.Fields.{Reading, reading_of}
 use Rattle.card_definitions.proofs.Behind.{no_first, no_second, passes}
 use Rattle.problem_definitions.specs.Names.{Name}
 use Rattle.problem_definitions.specs.Problem.{Problem}
@@ -18,12 +18,13 @@ use Rattle.deck_definitions.specs.declared.DeckFaultKind.TheVariants.{NoEndata}
 use Rattle.deck_definitions.specs.declared.Section.{Section}
 use Rattle.deck_definitions.specs.declared.Section.TheVariants.{Header, Rows, Columns, Rhs, Ranges, Bounds, Endata}
 use Rattle.deck_definitions.specs.Sections.{is_section_card, section_after, is_section_after}
+use Rattle.deck_definitions.specs.DataCards.{Style, style_of, form_on}
 use Rattle.deck_definitions.specs.Conversion.{section_card_fault, form_fault, first_faulty, deck_name}
 use Rattle.deck_definitions.proofs.CardTexts.{IsReading, columns-name, reading-lawful}
 use Rattle.deck_definitions.proofs.Converted.{ArePrintable}
 use Rattle.revise_definitions.specs.declared.Action.{Action}
 use Rattle.revise_definitions.specs.declared.Action.TheVariants.{Modify, Delete, Before, After}
-use Rattle.revise_definitions.specs.Actions.{is_action_card, action_on, anchor_on, action_after, anchor_after, under_after, edit_of, is_heading}
+use Rattle.revise_definitions.specs.Actions.{deletes, is_action_card, action_on, anchor_on, action_after, anchor_after, under_after, edit_of, is_heading}
 use Rattle.revise_definitions.specs.Edits.{edited, delete_column, without_row}
 use Rattle.revise_definitions.specs.Tests.{action_fault, edit_fault, action_data_fault}
 use Rattle.revise_definitions.specs.Revision.{revised, may_come_after, inner_card_fault, revise_card_fault, revise_fault, revision}
@@ -71,7 +72,8 @@ module _ (p : Problem Name) (lawful : IsLawful p) where
 record InnerPasses (seen : Problem Name) (before : List Card) (section : Option Section) (card : List ℕ) : Type 0 where
   place : Section
   stands : section ≡ Some place
-  fine : cond (is_action_card Fixed card) (action_fault seen place (action_on Fixed card) (anchor_on Fixed card)) (action_data_fault seen Fixed place (action_after before) (under_after before) card) ≡ None
+  fine : cond (is_action_card (style_of before) card) (action_fault seen place (action_on (style_of before) card) (anchor_on (style_of before) card))
+      (action_data_fault seen (style_of before) place (action_after before) (under_after before) card) ≡ None
 
 inner-passes : (seen : Problem Name) (before : List Card) (section : Option Section) (card : List ℕ) → inner_card_fault seen before section card ≡ None → InnerPasses seen before section card
 inner-passes seen before None card h = absurd (cc h)
@@ -83,24 +85,28 @@ inner-passes seen before (Some Ranges) card h = record { place = Ranges; stands 
 inner-passes seen before (Some Bounds) card h = record { place = Bounds; stands = refl; fine = h }
 inner-passes seen before (Some Endata) card h = record { place = Endata; stands = refl; fine = h }
 
--- what the tests of a data card say: an action holds for it, and it passes that action's tests
-record DataPasses (seen : Problem Name) (place : Section) (action : Option Action) (under : List Reading) (card : List ℕ) : Type 0 where
+-- what the tests of a data card say: an action holds for it, it has its form, and it passes that action's tests
+record DataPasses (seen : Problem Name) (style : Style) (place : Section) (action : Option Action) (under : List Reading) (card : List ℕ) : Type 0 where
   by_action : Action
   holds : action ≡ Some by_action
-  fine : edit_fault seen place by_action under (reading_of Fixed card) ≡ None
+  formed : form_fault (form_on style place (deletes by_action) card) card ≡ None
+  fine : edit_fault seen place by_action under (reading_of (form_on style place (deletes by_action) card) card) ≡ None
 
-data-passes : (seen : Problem Name) (place : Section) (action : Option Action) (under : List Reading) (card : List ℕ) → action_data_fault seen Fixed place action under card ≡ None → DataPasses seen place action under card
-data-passes seen place None under card h = absurd (cc h)
-data-passes seen place (Some action) under card h =
-    record { by_action = action; holds = refl; fine = (passes (form_fault Fixed card ∷ edit_fault seen place action under (reading_of Fixed card) ∷ []) h).1.0 }
+data-passes : (seen : Problem Name) (style : Style) (place : Section) (action : Option Action) (under : List Reading) (card : List ℕ) → action_data_fault seen style place action under card ≡ None
+    → DataPasses seen style place action under card
+data-passes seen style place None under card h = absurd (cc h)
+data-passes seen style place (Some action) under card h =
+    let form = form_on style place (deletes action) card in
+    let both = passes (form_fault form card ∷ edit_fault seen place action under (reading_of form card) ∷ []) h in
+    record { by_action = action; holds = refl; formed = both.0; fine = both.1.0 }
 
 -- a section card or an action card edits nothing
-no-edit : (before : List Card) (card : Card) → is_heading Fixed card.bytes ≡ true → edit_of before card ≡ None
+no-edit : (before : List Card) (card : Card) → is_heading (style_of before) card.bytes ≡ true → edit_of before card ≡ None
 no-edit before card heading = rw heading refl
 
 -- a data card stands for an edit
-one-edit : (before : List Card) (card : Card) (section : Section) (action : Action) → is_heading Fixed card.bytes ≡ false → section_after before ≡ Some section → action_after before ≡ Some action
-    → edit_of before card ≡ Some (record { section = section; action = action; anchor = anchor_after before; under = under_after before; card = reading_of Fixed card.bytes })
+one-edit : (before : List Card) (card : Card) (section : Section) (action : Action) → is_heading (style_of before) card.bytes ≡ false → section_after before ≡ Some section → action_after before ≡ Some action
+    → edit_of before card ≡ Some (record { section = section; action = action; anchor = anchor_after before; under = under_after before; card = reading_of (form_on (style_of before) section (deletes action) card.bytes) card.bytes })
 one-edit before card section action heading stands holds = rw (heading, stands, holds) refl
 
 module _ (old : Problem Name) where
@@ -109,24 +115,25 @@ module _ (old : Problem Name) where
   unfolding revise_card_fault
   accepted-card before card printable lawful fine = subst IsLawful (sym (revised-push old before card)) (by (is_section_card card.bytes) refl fine)
     where
-      unedited : is_heading Fixed card.bytes ≡ true → IsLawful (with_edit (edit_of before card) (revised old before))
+      unedited : is_heading (style_of before) card.bytes ≡ true → IsLawful (with_edit (edit_of before card) (revised old before))
       unedited heading = subst (λ edit. IsLawful (with_edit edit (revised old before))) (sym (no-edit before card heading)) lawful
 
-      inner : is_section_card card.bytes ≡ false → (place : Section) → section_after before ≡ Some place → (b : Bool) → is_action_card Fixed card.bytes ≡ b
-          → cond b (action_fault (revised old before) place (action_on Fixed card.bytes) (anchor_on Fixed card.bytes)) (action_data_fault (revised old before) Fixed place (action_after before) (under_after before) card.bytes) ≡ None
+      inner : is_section_card card.bytes ≡ false → (place : Section) → section_after before ≡ Some place → (b : Bool) → is_action_card (style_of before) card.bytes ≡ b
+          → cond b (action_fault (revised old before) place (action_on (style_of before) card.bytes) (anchor_on (style_of before) card.bytes)) (action_data_fault (revised old before) (style_of before) place (action_after before) (under_after before) card.bytes) ≡ None
           → IsLawful (with_edit (edit_of before card) (revised old before))
       inner e place stands true a h = unedited (rw (e, a) refl)
       inner e place stands false a h =
-          let pass = data-passes (revised old before) place (action_after before) (under_after before) card.bytes h in
+          let pass = data-passes (revised old before) (style_of before) place (action_after before) (under_after before) card.bytes h in
+          let form = form_on (style_of before) place (deletes pass.by_action) card.bytes in
           subst (λ edit. IsLawful (with_edit edit (revised old before))) (sym (one-edit before card place pass.by_action (rw (e, a) refl) stands pass.holds))
-          (edit-step (revised old before) lawful place pass.by_action (anchor_after before) (under_after before) (reading_of Fixed card.bytes) (reading-lawful card.bytes printable) pass.fine)
+          (edit-step (revised old before) lawful place pass.by_action (anchor_after before) (under_after before) (reading_of form card.bytes) (reading-lawful form card.bytes printable pass.formed) pass.fine)
 
       by : (b : Bool) → is_section_card card.bytes ≡ b → cond b (section_card_fault may_come_after (section_after before) card.bytes) (inner_card_fault (revised old before) before (section_after before) card.bytes) ≡ None
           → IsLawful (with_edit (edit_of before card) (revised old before))
       by true e h = unedited (rw e refl)
       by false e h =
           let pass = inner-passes (revised old before) before (section_after before) card.bytes h in
-          inner e pass.place pass.stands (is_action_card Fixed card.bytes) refl pass.fine
+          inner e pass.place pass.stands (is_action_card (style_of before) card.bytes) refl pass.fine
 
   no_kind : {A B : Type 0} (f : A → B) (o : Option A) → option_map f o ≡ None → o ≡ None
   no_kind f None h = refl
@@ -150,6 +157,7 @@ pub renamed : (name : Name) (p : Problem Name) → IsLawful p → IsLawful (reco
 renamed name p lawful = record {
   row_labels = lawful.row_labels;
   rows_distinct = lawful.rows_distinct;
+  plain_rows = lawful.plain_rows;
   columns = lawful.columns;
   rhs = lawful.rhs;
   ranges = lawful.ranges;

@@ -10,11 +10,12 @@ use Rattle.problem_definitions.specs.declared.TheConstants.{MAX_ROWS, MAX_COLUMN
 use Rattle.problem_definitions.specs.declared.RowKind.{RowKind}
 use Rattle.problem_definitions.specs.Names.{Name, same, has_name, marker}
 use Rattle.problem_definitions.specs.Kinds.{is_free_kind}
-use Rattle.problem_definitions.specs.Problem.{Row, Entry, Bound, Group, Problem, row_names, has_row, has_free_row, has_group, has_entry}
+use Rattle.problem_definitions.specs.Problem.{Row, plain_row, Entry, Bound, Group, Problem, row_names, has_row, has_free_row, has_group, has_entry}
 use Rattle.problem_definitions.specs.Groups.{in_all}
 use Rattle.problem_definitions.specs.Valid.{IsDecimal}
 use Rattle.problem_definitions.proofs.Names.{same_eq, same_sym, row_is_named}
 use Rattle.problem_definitions.proofs.Each.{each-change, absent-apart}
+use Rattle.problem_definitions.proofs.PlainRows.{ArePlain}
 use Rattle.problem_definitions.proofs.Lawful.{IsLabel, AreGroups, AreLawfulEntries, AreColumnEntries, AreRightHandSides, AreRanges, AreLawfulBounds, AreBoundSets, IsLawful}
 use Rattle.deck_definitions.specs.declared.DeckFaultKind.TheVariants.{BadRowType, DuplicateRow, EmptyName, TooManyRows, CombinationRow, ModifyMissing, RangeOnFree}
 use Rattle.deck_definitions.specs.DataCards.{row_kinds}
@@ -22,7 +23,7 @@ use Rattle.deck_definitions.specs.Tests.{filled_from_3, combination_kinds, rows_
 use Rattle.deck_definitions.proofs.CardTexts.{IsReading}
 use Rattle.deck_definitions.proofs.Accepted.{not_full}
 use Rattle.revise_definitions.specs.Actions.{Edit}
-use Rattle.revise_definitions.specs.Edits.{place_of, insert_row, retyped, modify_row, delete_row, without_row}
+use Rattle.revise_definitions.specs.Edits.{place_of, rows_begun, insert_row, retyped, modify_row, delete_row, without_row}
 use Rattle.revise_definitions.specs.Tests.{has_range, frees, modify_rows_fault}
 use Rattle.revise_laws.proofs.Lists.{each-filter, each-passes, distinct-mapped_filter, each-mapped_filter, any-filter, none-filter, length-filter, each-insert, distinct-insert, map-insert, any-inserted, none-inserted, length-inserted, groups-all, groups-filled, sum-all, has_group-all}
 
@@ -47,7 +48,7 @@ pub bound_sets-still : (columns others : List (Group (Entry Name))) → ((name :
 bound_sets-still columns others still bounds c = record { bounds_lawful = bounds-still columns others still bounds c.bounds_lawful; filled = c.filled }
 
 -- entries on rows that are still there
-entries-still : (rows others : List Row) → ((name : Name) → has_row rows name ≡ true → has_row others name ≡ true) → (entries : List (Entry Name)) → AreLawfulEntries rows entries → AreLawfulEntries others entries
+entries-still : (rows others : List (Row Name)) → ((name : Name) → has_row rows name ≡ true → has_row others name ≡ true) → (entries : List (Entry Name)) → AreLawfulEntries rows entries → AreLawfulEntries others entries
 entries-still rows others still entries lawful = record {
   on_rows = each-change (λ (entry : Entry Name). has_row rows entry.row ≡ true) (λ entry. has_row others entry.row ≡ true) (λ entry there. still entry.row there) entries lawful.on_rows;
   distinct = lawful.distinct;
@@ -65,22 +66,30 @@ or_second false b e = e
 -- ---- MODIFY
 
 module _ (card : Reading) where
-  retyped-name : (row : Row) → (cond (same card.name1 row.name) (retyped card row) row).name ≡ row.name
+  retyped-name : (row : Row Name) → (cond (same card.name1 row.name) (retyped card row) row).name ≡ row.name
   retyped-name row = by (same card.name1 row.name)
     where
       by : (b : Bool) → (cond b (retyped card row) row).name ≡ row.name
       by true = refl
       by false = refl
 
-  retyped-names : (rows : List Row) → map (λ row. row.name) (modify_row card rows) ≡ map (λ row. row.name) rows
+  retyped-plain : (rows : List (Row Name)) → ArePlain rows → ArePlain (modify_row card rows)
+  retyped-plain [] plain = tt
+  retyped-plain (row ∷ rows) plain = (by (same card.name1 row.name), retyped-plain rows plain.1)
+    where
+      by : (b : Bool) → is_none (cond b (retyped card row) row).parts ≡ true
+      by true = plain.0
+      by false = plain.0
+
+  retyped-names : (rows : List (Row Name)) → map (λ row. row.name) (modify_row card rows) ≡ map (λ row. row.name) rows
   retyped-names [] = refl
   retyped-names (row ∷ rows) = ap₂ (λ name names. name ∷ names) (retyped-name row) (retyped-names rows)
 
-  retyped-there : (rows : List Row) (name : Name) → has_row rows name ≡ true → has_row (modify_row card rows) name ≡ true
+  retyped-there : (rows : List (Row Name)) (name : Name) → has_row rows name ≡ true → has_row (modify_row card rows) name ≡ true
   retyped-there rows name there = row_is_named name (modify_row card rows) ∙ ap (λ names. has_name names name) (retyped-names rows) ∙ sym (row_is_named name rows) ∙ there
 
   -- a row that isn't free stays so, unless it is the one that becomes free
-  retyped-limited : (name : Name) → (frees card && same card.name1 name) ≡ false → (rows : List Row) → has_free_row rows name ≡ false → has_free_row (modify_row card rows) name ≡ false
+  retyped-limited : (name : Name) → (frees card && same card.name1 name) ≡ false → (rows : List (Row Name)) → has_free_row rows name ≡ false → has_free_row (modify_row card rows) name ≡ false
   retyped-limited name other [] limited = refl
   retyped-limited name other (row ∷ rows) limited =
       let first = or_first (same name row.name && is_free_kind row.kind) (has_free_row rows name) limited in
@@ -150,6 +159,7 @@ module _ (card : Reading) where
         record {
           row_labels = subst (AllByRecursion IsLabel) (sym (retyped-names p.rows)) lawful.row_labels;
           rows_distinct = subst (IsDistinct same) (sym (retyped-names p.rows)) lawful.rows_distinct;
+          plain_rows = retyped-plain p.rows lawful.plain_rows;
           columns = groups-same (AreColumnEntries p.rows) (AreColumnEntries (modify_row card p.rows))
               (λ items c. record { entries_lawful = entries-still p.rows (modify_row card p.rows) (retyped-there p.rows) items c.entries_lawful; no_marker = c.no_marker }) p.columns lawful.columns;
           rhs = groups-same (AreRightHandSides p.rows) (AreRightHandSides (modify_row card p.rows))
@@ -164,7 +174,7 @@ module _ (card : Reading) where
 -- ---- DELETE
 
 module _ (name : Name) (p : Problem Name) (lawful : IsLawful p) where
-  abbrev rows_left : List Row
+  abbrev rows_left : List (Row Name)
   rows_left = filter (λ row. not (same name row.name)) p.rows
 
   row-left : (other : Name) → not (same name other) ≡ true → has_row p.rows other ≡ true → has_row rows_left other ≡ true
@@ -190,6 +200,7 @@ module _ (name : Name) (p : Problem Name) (lawful : IsLawful p) where
   row-deleted = record {
     row_labels = each-mapped_filter IsLabel (λ row. row.name) (λ row. not (same name row.name)) p.rows lawful.row_labels;
     rows_distinct = distinct-mapped_filter same (λ row. row.name) (λ row. not (same name row.name)) p.rows lawful.rows_distinct;
+    plain_rows = each-filter (λ (row : Row Name). is_none row.parts ≡ true) (λ row. not (same name row.name)) p.rows lawful.plain_rows;
     columns = groups-all (AreColumnEntries p.rows) (AreColumnEntries rows_left) (without_row name)
         (λ items c. record { entries_lawful = entries-left items c.entries_lawful; no_marker = each-filter (λ (entry : Entry Name). same marker entry.row ≡ false) (λ entry. not (same name entry.row)) items c.no_marker }) p.columns lawful.columns;
     rhs = groups-filled (AreLawfulEntries rows_left) (AreRightHandSides rows_left) (λ items c e. record { entries_lawful = c; filled = e }) (in_all (without_row name) p.rhs)
@@ -197,7 +208,7 @@ module _ (name : Name) (p : Problem Name) (lawful : IsLawful p) where
     ranges = groups-filled AreRangesLeft (AreRanges rows_left) (λ items c e. record { entries_lawful = c.entries_lawful; filled = e; limited = c.limited }) (in_all (without_row name) p.ranges)
         (groups-all (AreRanges p.rows) AreRangesLeft (without_row name) (λ items c. record { entries_lawful = entries-left items c.entries_lawful; limited = limited-left items c.limited }) p.ranges lawful.ranges);
     bounds = groups-same (AreBoundSets p.columns) (AreBoundSets (in_all (without_row name) p.columns)) (bound_sets-still p.columns (in_all (without_row name) p.columns) (has_group-all (without_row name) p.columns)) p.bounds lawful.bounds;
-    few_rows = let fewer = length-filter (λ (row : Row). not (same name row.name)) p.rows in omega (arith, fewer, lawful.few_rows);
+    few_rows = let fewer = length-filter (λ (row : Row Name). not (same name row.name)) p.rows in omega (arith, fewer, lawful.few_rows);
     few_columns = subst (λ n. n ≤ MAX_COLUMNS) (sym (length-map p.columns (λ column. record { name = column.name; items = without_row name column.items }))) lawful.few_columns;
     few_entries = let fewer = sum-all (without_row name) (λ items. length-filter (λ (entry : Entry Name). not (same name entry.row)) items) p.columns in omega (arith, fewer, lawful.few_entries);
   }
@@ -205,11 +216,12 @@ module _ (name : Name) (p : Problem Name) (lawful : IsLawful p) where
 -- ---- BEFORE and AFTER
 
 module _ (p : Problem Name) (lawful : IsLawful p) where
-  row-placed : (place : _) (row : Row) → IsLabel row.name → has_row p.rows row.name ≡ false → length p.rows + 1 ≤ MAX_ROWS → IsLawful (record p { rows = insert p.rows place row })
-  row-placed place row label new few = record {
+  row-placed : (place : _) (row : Row Name) → is_none row.parts ≡ true → IsLabel row.name → has_row p.rows row.name ≡ false → length p.rows + 1 ≤ MAX_ROWS → IsLawful (record p { rows = insert p.rows place row })
+  row-placed place row plain label new few = record {
     row_labels = subst (AllByRecursion IsLabel) (sym (map-insert (λ row. row.name) p.rows place row)) (each-insert IsLabel (row_names p) place row.name lawful.row_labels label);
     rows_distinct = subst (IsDistinct same) (sym (map-insert (λ row. row.name) p.rows place row))
         (distinct-insert same same_sym (row_names p) place row.name lawful.rows_distinct (absent-apart (row_names p) row.name (sym (row_is_named row.name p.rows) ∙ new)));
+    plain_rows = each-insert (λ (row : Row Name). is_none row.parts ≡ true) p.rows place row lawful.plain_rows plain;
     columns = groups-same (AreColumnEntries p.rows) (AreColumnEntries (insert p.rows place row)) (λ items c. record { entries_lawful = entries-still p.rows (insert p.rows place row) still items c.entries_lawful; no_marker = c.no_marker }) p.columns lawful.columns;
     rhs = groups-same (AreRightHandSides p.rows) (AreRightHandSides (insert p.rows place row)) (λ items c. record { entries_lawful = entries-still p.rows (insert p.rows place row) still items c.entries_lawful; filled = c.filled }) p.rhs lawful.rhs;
     ranges = groups-same (AreRanges p.rows) (AreRanges (insert p.rows place row))
@@ -246,6 +258,6 @@ module _ (p : Problem Name) (lawful : IsLawful p) where
       (test_fails (has_row p.rows edit.card.name1) DuplicateRow t.1.1.1.0) (not_full MAX_ROWS (length p.rows) (test_fails (nat_le MAX_ROWS (length p.rows)) TooManyRows t.1.1.1.1.0))
     where
       by : (o : Option RowKind) → IsLabel edit.card.name1 → has_row p.rows edit.card.name1 ≡ false → length p.rows + 1 ≤ MAX_ROWS
-          → IsLawful (record p { rows = unwrap_or (option_map (insert p.rows (place_of edit (length edit.under) (map (λ row. row.name) p.rows))) (option_map (λ kind. record { kind = kind; name = edit.card.name1 }) o)) p.rows })
+          → IsLawful (record p { rows = unwrap_or (option_map (insert p.rows (place_of edit (rows_begun edit.under) (map (λ row. row.name) p.rows))) (option_map (λ kind. plain_row kind edit.card.name1) o)) p.rows })
       by None label new few = lawful
-      by (Some kind) label new few = row-placed (place_of edit (length edit.under) (map (λ row. row.name) p.rows)) (record { kind = kind; name = edit.card.name1 }) label new few
+      by (Some kind) label new few = row-placed (place_of edit (rows_begun edit.under) (map (λ row. row.name) p.rows)) (plain_row kind edit.card.name1) refl label new few

@@ -47,6 +47,7 @@ module _ (p : Problem Name) (lawful : IsLawful p) where
   with_rhs sets are = record {
     row_labels = lawful.row_labels;
     rows_distinct = lawful.rows_distinct;
+    plain_rows = lawful.plain_rows;
     columns = lawful.columns;
     rhs = are;
     ranges = lawful.ranges;
@@ -60,6 +61,7 @@ module _ (p : Problem Name) (lawful : IsLawful p) where
   with_ranges sets are = record {
     row_labels = lawful.row_labels;
     rows_distinct = lawful.rows_distinct;
+    plain_rows = lawful.plain_rows;
     columns = lawful.columns;
     rhs = lawful.rhs;
     ranges = are;
@@ -73,6 +75,7 @@ module _ (p : Problem Name) (lawful : IsLawful p) where
   with_bounds sets are = record {
     row_labels = lawful.row_labels;
     rows_distinct = lawful.rows_distinct;
+    plain_rows = lawful.plain_rows;
     columns = lawful.columns;
     rhs = lawful.rhs;
     ranges = lawful.ranges;

@@ -30,32 +30,32 @@ use Rattle.run_laws.proofs.Selected.{is_chosen}
 -- ---- the row of a name
 
 -- a free row of this name is a row of this name
-free_is_there : (name : Name) (rows : List Row) → has_free_row rows name ≡ true → has_name (map (λ (row : Row). row.name) rows) name ≡ true
+free_is_there : (name : Name) (rows : List (Row ℕ)) → has_free_row rows name ≡ true → has_name (map (λ (row : Row ℕ). row.name) rows) name ≡ true
 free_is_there name [] free = absurd (cc free)
 free_is_there name (row ∷ rows) free = by (same name row.name) (is_free_kind row.kind) free (free_is_there name rows)
   where
-    by : (named kind : Bool) → (named && kind || has_free_row rows name) ≡ true → (has_free_row rows name ≡ true → has_name (map (λ (row : Row). row.name) rows) name ≡ true) →
-        (named || has_name (map (λ (row : Row). row.name) rows) name) ≡ true
+    by : (named kind : Bool) → (named && kind || has_free_row rows name) ≡ true → (has_free_row rows name ≡ true → has_name (map (λ (row : Row ℕ). row.name) rows) name ≡ true) →
+        (named || has_name (map (λ (row : Row ℕ). row.name) rows) name) ≡ true
     by true kind free rest = refl
     by false kind free rest = rest free
 
-first_named : (name : Name) (rows : List Row) → position_or_len (same name) (map (λ (row : Row). row.name) rows) ≡ position_or_len (λ (row : Row). same name row.name) rows
+first_named : (name : Name) (rows : List (Row ℕ)) → position_or_len (same name) (map (λ (row : Row ℕ). row.name) rows) ≡ position_or_len (λ (row : Row ℕ). same name row.name) rows
 first_named name [] = refl
 first_named name (row ∷ rows) = ap (λ n. cond (not (same name row.name)) (1 + n) 0) (first_named name rows)
 
 -- its number is that of the objective row, where it is chosen as such
-objective_number : (name : Name) (rows : List Row) → number_in (map (λ (row : Row). row.name) rows) name ≡ unwrap_or (objective_of rows (Some name)) 0
+objective_number : (name : Name) (rows : List (Row ℕ)) → number_in (map (λ (row : Row ℕ). row.name) rows) name ≡ unwrap_or (objective_of rows (Some name)) 0
 objective_number name rows =
-    ap₂ (λ i n. unwrap_or (option_map (λ place. place + 1) (cond (nat_lt i n) (Some i) None)) 0) (first_named name rows) (length-map rows (λ (row : Row). row.name))
+    ap₂ (λ i n. unwrap_or (option_map (λ place. place + 1) (cond (nat_lt i n) (Some i) None)) 0) (first_named name rows) (length-map rows (λ (row : Row ℕ). row.name))
 
 above_zero : (o : Option ℕ) → 0 < unwrap_or o 0 → is_none o ≡ false
 above_zero None above = absurd (omega (arith, above))
 above_zero (Some number) above = refl
 
-is_there : (name : Name) (rows : List Row) → has_free_row rows name ≡ true → is_none (objective_of rows (Some name)) ≡ false
+is_there : (name : Name) (rows : List (Row ℕ)) → has_free_row rows name ≡ true → is_none (objective_of rows (Some name)) ≡ false
 is_there name rows free =
     above_zero (objective_of rows (Some name))
-    (subst (λ n. 0 < n) (objective_number name rows) (number_in-within (map (λ (row : Row). row.name) rows) name (free_is_there name rows free)).positive)
+    (subst (λ n. 0 < n) (objective_number name rows) (number_in-within (map (λ (row : Row ℕ). row.name) rows) name (free_is_there name rows free)).positive)
 
 -- ---- another objective row
 

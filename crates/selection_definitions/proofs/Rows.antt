@@ -8,7 +8,7 @@ use Rattle.problem_definitions.specs.declared.RowKind.{RowKind}
 use Rattle.problem_definitions.specs.declared.RowKind.TheVariants.{N, G, L, E}
 use Rattle.problem_definitions.specs.declared.BoundKind.{BoundKind}
 use Rattle.problem_definitions.specs.declared.BoundKind.TheVariants.{Up, Lo, Fx, Fr, Mi, Pl}
-use Rattle.problem_definitions.specs.Problem.{Row, Entry, Bound, Group, Problem}
+use Rattle.problem_definitions.specs.Problem.{Row, plain_row, Entry, Bound, Group, Problem}
 use Rattle.selection_definitions.specs.declared.SelectionFault.TheVariants.{NoObjective, ObjectiveNotFree, NoRhsSet, NoRangeSet, NoBoundSet}
 use Rattle.selection_definitions.specs.Choice.{Choice, objective_of, selection_fault}
 use Rattle.selection_definitions.specs.Limits.{Limits, row_limits, column_limits}
@@ -74,8 +74,8 @@ removed_ends = (refl, refl, refl, refl)
 
 -- ---- choices
 
-row : RowKind → String → Row
-row kind name = record { kind = kind; name = codes name }
+row : RowKind → String → Row ℕ
+row kind name = plain_row kind (codes name)
 
 item : ℕ → ℤ → Entry ℕ
 item row value = record { row = row; value = record { text = []; value = whole value } }

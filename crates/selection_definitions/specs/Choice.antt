@@ -19,11 +19,11 @@ pub record Choice : Type 0 where
   pub options : SetupOptions
 
 -- the number of the first row that passes, from 1
-abbrev pub row_number : (Row → Bool) → List Row → Option ℕ
+abbrev pub row_number : (Row ℕ → Bool) → List (Row ℕ) → Option ℕ
 row_number p rows = option_map (λ place. place + 1) (position p rows)
 
 -- The objective is the chosen row, or else the first N row.
-abbrev pub objective_of : List Row → Option Name → Option ℕ
+abbrev pub objective_of : List (Row ℕ) → Option Name → Option ℕ
 objective_of rows (Some name) = row_number (λ row. same name row.name) rows
 objective_of rows None = row_number (λ row. is_free_kind row.kind) rows
 
@@ -39,7 +39,7 @@ set_items sets (Some name) = items_of name sets
 set_items sets None = []
 
 -- whether a row is chosen that isn't an N row
-abbrev pub is_not_free : List Row → Option Name → Bool
+abbrev pub is_not_free : List (Row ℕ) → Option Name → Bool
 is_not_free rows (Some name) = not (has_free_row rows name)
 is_not_free rows None = false
 

@@ -18,7 +18,7 @@ range_formula = 13
 -- the parameter is 0.
 pub record IsRangeRefusal (problem : Problem ℕ) (choice : Choice) (e : Evidence) : Type 0 where
   pub place : ℕ
-  pub row : Row
+  pub row : Row ℕ
   pub is_row : slice_get problem.rows place ≡ Some row
   pub range : ℚ
   pub has_range : range_of problem choice (place + 1) ≡ Some range

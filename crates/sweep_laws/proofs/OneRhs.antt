@@ -19,7 +19,8 @@ use Rattle.path_laws.proofs.Searches.{found_passes}
 use Rattle.postoptimal_definitions.specs.Chain.{FaceTurn, FaceEnds, InfeasiblePast}
 use Rattle.path_definitions.specs.DualRatio.{brings_back, ratio, is_cheapest, cheapest}
 use Rattle.postoptimal_definitions.specs.RhsRun.{shift_of, shifted, rhs_family, IsSlope, leaves_below, leaves_above, leaving, face_exchange, face_at, rhs_face, IsRhsFace}
-use Rattle.sweep_laws.proofs.Rhs.{to_rhs, free_to}
+use Rattle.changed_programs.proofs.MovedLimits.{free_to}
+use Rattle.sweep_laws.proofs.Rhs.{to_rhs}
 use Rattle.sweep_laws.proofs.Alike.{same_tableau, listed_same, lowers_idle, lowers_same}
 
 -- ---- each program of the family is one

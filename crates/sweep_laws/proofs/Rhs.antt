@@ -1,107 +1,29 @@
 -- A face step of a parametric run of the right-hand side leads from a nonsingular basis to a nonsingular basis.
-use Rattle.std.proofs.Common.{◌≡◌, ◌≢◌, ℕ, ◌-◌, Bool, true, false, List, refl, sym, ap, subst, ◌∙◌, arith, get_or}
-use Rattle.std.specs.Prelude.{Option, Some, None, IsSome, not, ◌&&◌, ◌||◌, if◌then◌else◌, option_map}
-use Rattle.exact_values.specs.Rational.{ℚ, zero_ℚ, ◌+ℚ◌, ◌*ℚ◌}
+use Rattle.std.proofs.Common.{◌≡◌, ◌≢◌, ℕ, Bool, true, false, List, refl, sym, ap, subst, ◌∙◌}
+use Rattle.std.specs.Prelude.{Option, Some, None, not, ◌&&◌, ◌||◌, if◌then◌else◌}
+use Rattle.exact_values.specs.Rational.{ℚ, zero_ℚ}
 use Rattle.exact_values.specs.Tests.{eq_ℚ, lt_ℚ}
-use Rattle.lp_definitions.specs.LinearProgram.{HasNoLimits, Matrix, LinearProgram, Vector, size, IsVariable, IsRow, lower_of, upper_of}
-use Rattle.lp_definitions.specs.Basis.{is_in, basics_of, status_of, IsAllowed, Tableau, IsTableau}
+use Rattle.lp_definitions.specs.LinearProgram.{LinearProgram, Vector, IsVariable, lower_of, upper_of}
+use Rattle.lp_definitions.specs.Basis.{is_in, basics_of, IsAllowed, Tableau, IsTableau}
 use Rattle.lp_definitions.specs.declared.Status.{Status}
 use Rattle.lp_definitions.specs.declared.Status.TheVariants.{Bs, Ll, Ul, Fr}
 use Rattle.path_definitions.specs.Moves.{on_limit, signed}
 use Rattle.path_definitions.specs.Path.{Move, after, excess_rate}
 use Rattle.path_laws.specs.Laws.{IsNonsingularBasis}
-use Rattle.path_laws.proofs.Numbered.{get_or-listed}
 use Rattle.path_laws.proofs.Searches.{found_passes}
 use Rattle.postoptimal_definitions.specs.Chain.{FaceMoves}
 use Rattle.path_definitions.specs.DualRatio.{brings_back, is_cheapest, cheapest}
-use Rattle.postoptimal_definitions.specs.RhsRun.{shift_of, shifted, rhs_family, leaves_below, leaves_above, leaving, face_exchange, face_at, rhs_face, IsRhsFace}
+use Rattle.postoptimal_definitions.specs.RhsRun.{shift_of, rhs_family, leaves_below, leaves_above, leaving, face_exchange, face_at, rhs_face, IsRhsFace}
+use Rattle.changed_programs.proofs.MovedLimits.{basis_to, basis_from}
 use Rattle.sweep_laws.proofs.Leads.{and_parts, IsMover, is_mover, signed_zero, MayStand, lower_apart, upper_apart, exchange_leads}
 
--- ---- only the presence of limits counts
+-- the programs have the same nonsingular bases
+module _ (p : LinearProgram) (shift : List ℚ) (theta : ℚ) (s : List Status) where
+  pub to_rhs : IsNonsingularBasis p s → IsNonsingularBasis (rhs_family p shift theta) s
+  to_rhs at = record { is_basis = basis_to p shift theta s at.is_basis; nonsingular = at.nonsingular }
 
--- each limit is moved by a multiple of its shift
-limit_is : (a : Matrix) (shift : List ℚ) (theta : ℚ) (limit : ℕ → Option ℚ) (k : ℕ) → IsVariable a k →
-    get_or (shifted a shift theta limit) (k - 1) None ≡ option_map (λ l. l +ℚ theta *ℚ shift_of a shift k) (limit k)
-limit_is a shift theta limit k is =
-    get_or-listed (λ k. option_map (λ l. l +ℚ theta *ℚ shift_of a shift k) (limit k)) (size a) 1 (k - 1) None (omega (arith, is.0, is.1))
-    ∙ ap (λ k. option_map (λ l. l +ℚ theta *ℚ shift_of a shift k) (limit k)) (omega (arith, is.0))
-
-module _ (f : ℚ → ℚ) where
-  none_to : (o : Option ℚ) → o ≡ None → option_map f o ≡ None
-  none_to None e = refl
-  none_to (Some l) e = cc
-
-  none_from : (o : Option ℚ) → option_map f o ≡ None → o ≡ None
-  none_from None e = refl
-  none_from (Some l) e = cc
-
-  some_to : (o : Option ℚ) → IsSome o → IsSome (option_map f o)
-  some_to None e = cc
-  some_to (Some l) e = refl
-
-  some_from : (o : Option ℚ) → IsSome (option_map f o) → IsSome o
-  some_from None e = cc
-  some_from (Some l) e = refl
-
-  allowed_to : (st : Status) (low high : Option ℚ) → IsAllowed st low high → IsAllowed st (option_map f low) (option_map f high)
-  allowed_to Bs low high e = tt
-  allowed_to Ll low high e = some_to low e
-  allowed_to Ul low high e = some_to high e
-  allowed_to Fr low high e = (none_to low e.0, none_to high e.1)
-
-  allowed_from : (st : Status) (low high : Option ℚ) → IsAllowed st (option_map f low) (option_map f high) → IsAllowed st low high
-  allowed_from Bs low high e = tt
-  allowed_from Ll low high e = some_from low e
-  allowed_from Ul low high e = some_from high e
-  allowed_from Fr low high e = (none_from low e.0, none_from high e.1)
-
-module _ (p : LinearProgram) (shift : List ℚ) (theta : ℚ) where
-  abbrev by : ℕ → ℚ → ℚ
-  by k l = l +ℚ theta *ℚ shift_of p.matrix shift k
-
-  lower_is : (k : ℕ) → IsVariable p.matrix k → lower_of (rhs_family p shift theta) k ≡ option_map (by k) (lower_of p k)
-  lower_is k is = limit_is p.matrix shift theta (lower_of p) k is
-
-  upper_is : (k : ℕ) → IsVariable p.matrix k → upper_of (rhs_family p shift theta) k ≡ option_map (by k) (upper_of p k)
-  upper_is k is = limit_is p.matrix shift theta (upper_of p) k is
-
-  row_is : (i : ℕ) → IsRow p.matrix i → IsVariable p.matrix i
-  row_is i row = (row.0, omega (arith, row.1))
-
-  pub free_to : (i : ℕ) → IsRow p.matrix i → HasNoLimits p i → HasNoLimits (rhs_family p shift theta) i
-  free_to i row free = (
-    lower_is i (row_is i row) ∙ none_to (by i) (lower_of p i) free.0,
-    upper_is i (row_is i row) ∙ none_to (by i) (upper_of p i) free.1,
-  )
-
-  pub to_rhs : (s : List Status) → IsNonsingularBasis p s → IsNonsingularBasis (rhs_family p shift theta) s
-  to_rhs s at = record {
-    is_basis = record {
-      counted = at.is_basis.counted;
-      m_basics = at.is_basis.m_basics;
-      free_rows = λ i row free. at.is_basis.free_rows i row (
-        none_from (by i) (lower_of p i) (sym (lower_is i (row_is i row)) ∙ free.0),
-        none_from (by i) (upper_of p i) (sym (upper_is i (row_is i row)) ∙ free.1),
-      );
-      allowed = λ k is. subst (λ low. IsAllowed (status_of s k) low (upper_of (rhs_family p shift theta) k)) (sym (lower_is k is))
-          (subst (λ high. IsAllowed (status_of s k) (option_map (by k) (lower_of p k)) high) (sym (upper_is k is))
-          (allowed_to (by k) (status_of s k) (lower_of p k) (upper_of p k) (at.is_basis.allowed k is)));
-    };
-    nonsingular = at.nonsingular;
-  }
-
-  pub from_rhs : (s : List Status) → IsNonsingularBasis (rhs_family p shift theta) s → IsNonsingularBasis p s
-  from_rhs s at = record {
-    is_basis = record {
-      counted = at.is_basis.counted;
-      m_basics = at.is_basis.m_basics;
-      free_rows = λ i row free. at.is_basis.free_rows i row (free_to i row free);
-      allowed = λ k is. allowed_from (by k) (status_of s k) (lower_of p k) (upper_of p k)
-          (subst (λ low. IsAllowed (status_of s k) low (option_map (by k) (upper_of p k))) (lower_is k is)
-          (subst (λ high. IsAllowed (status_of s k) (lower_of (rhs_family p shift theta) k) high) (upper_is k is) (at.is_basis.allowed k is)));
-    };
-    nonsingular = at.nonsingular;
-  }
+  pub from_rhs : IsNonsingularBasis (rhs_family p shift theta) s → IsNonsingularBasis p s
+  from_rhs at = record { is_basis = basis_from p shift theta s at.is_basis; nonsingular = at.nonsingular }
 
 -- ---- a face step
 

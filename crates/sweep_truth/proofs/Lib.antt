@@ -4,7 +4,7 @@ pub mod Chains
 pub mod ObjectiveGrowth
 pub mod Motions
 pub mod ObjectiveEnds
-pub mod RhsLimits
+pub mod RhsSlopes
 pub mod RhsGrowth
 pub mod Cheapest
 pub mod StuckRays

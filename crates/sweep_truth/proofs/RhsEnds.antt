@@ -25,12 +25,12 @@ use Rattle.path_laws.proofs.Searches.{found_passes}
 use Rattle.path_laws.proofs.Tests.{lt_true, eq_true}
 use Rattle.postoptimal_definitions.specs.Chain.{ChainEnd, InfeasiblePast, FaceEnds}
 use Rattle.postoptimal_definitions.specs.RhsRun.{shift_of, rhs_family, IsSlope, leaves_below, leaves_above, leaving, face_exchange, face_at, rhs_face, IsRhsFace}
+use Rattle.changed_programs.proofs.MovedLimits.{moved, lower_is, upper_is, fixed_at, free_unshifted}
 use Rattle.sweep_laws.proofs.Leads.{and_parts}
 use Rattle.sweep_laws.proofs.Rhs.{to_rhs}
 use Rattle.sweep_truth.specs.Truth.{IsRefutedBy, IsTrueEnd}
 use Rattle.sweep_truth.proofs.Cheapest.{cheapest_none}
 use Rattle.sweep_truth.proofs.StuckRays.{ray_is, IsRay-same}
-use Rattle.sweep_truth.proofs.RhsLimits.{moved, lower_is, upper_is, fixed_at, free_unshifted}
 
 -- ---- what is done at a break
 

@@ -1,15 +1,15 @@
 -- In a run of the right-hand side an interval past a break is longer than a point.
-use Rattle.std.proofs.Common.{◌≡◌, ◌≢◌, ℕ, ◌⊎◌, inl, inr, Bool, true, false, List, refl, sym, ap, ap₂, ◌∙◌, pos, subst}
-use Rattle.std.specs.Prelude.{Option, Some, None, IfSome, option_map, ◌&&◌, ◌||◌}
-use Rattle.exact_values.specs.Rational.{ℚ, one_ℚ, neg_ℚ, ◌+ℚ◌, ◌-ℚ◌, ◌*ℚ◌, ◌≤ℚ◌, ◌<ℚ◌}
+use Rattle.std.proofs.Common.{◌≡◌, ◌≢◌, ℕ, Bool, true, false, List, refl, sym, ap, ap₂, ◌∙◌, pos, subst}
+use Rattle.std.specs.Prelude.{◌↔◌, Option, Some, None, option_map, ◌&&◌, ◌||◌}
+use Rattle.std.proofs.lemmas.Bool.{or_left, or_right}
+use Rattle.exact_values.specs.Rational.{ℚ, one_ℚ, neg_ℚ, ◌+ℚ◌, ◌-ℚ◌, ◌*ℚ◌, ◌<ℚ◌}
 use Rattle.exact_values.specs.Tests.{eq_ℚ, lt_ℚ}
 use Rattle.exact_values.proofs.Ring.{by_ring2, by_ring5, same_by_one, ◌⊕◌, ◌⊖◌, ◌⊗◌, ◌≐◌, number, opposite}
-use Rattle.exact_values.proofs.Order.{le_refl, le_by_one, lt_of_lt_of_le, lt_by_one, lt_irrefl}
+use Rattle.exact_values.proofs.Order.{le_refl, lt_of_lt_of_le, lt_by_one, lt_irrefl}
 use Rattle.exact_values.proofs.Tests_laws.{test_from_lt, test_from_same}
-use Rattle.affine_conditions.specs.Conditions.{Condition, Holds, EndsAt}
-use Rattle.lp_definitions.specs.LinearProgram.{LinearProgram, Vector, value_at, size, IsVariable, IsLinearProgram, lower_of, upper_of, for_min}
-use Rattle.lp_definitions.specs.Solutions.{IsFeasible}
-use Rattle.lp_definitions.specs.Basis.{is_in, basics_of, status_of, IsOptimalBasis, IsFixed, IsRightAt, Tableau, IsTableau, objective_rate}
+use Rattle.affine_conditions.specs.Conditions.{Condition, EndsAt}
+use Rattle.lp_definitions.specs.LinearProgram.{LinearProgram, Vector, value_at, size, IsVariable, IsLinearProgram, lower_of, upper_of}
+use Rattle.lp_definitions.specs.Basis.{is_in, basics_of, IsOptimalBasis, Tableau, IsTableau}
 use Rattle.lp_definitions.specs.declared.Status.{Status}
 use Rattle.lp_laws.proofs.Uniqueness.{one_point}
 use Rattle.lp_laws.proofs.Values.{clash}
@@ -17,14 +17,16 @@ use Rattle.path_definitions.specs.Moves.{on_limit}
 use Rattle.path_definitions.specs.DualRatio.{cheapest}
 use Rattle.path_laws.specs.Laws.{IsNonsingularBasis}
 use Rattle.path_laws.proofs.Searches.{none_passes}
-use Rattle.changed_programs.specs.Changes.{Sides, SidesHold, condition}
+use Rattle.changed_programs.specs.Changes.{Sides, condition, shift_sides, ValuesStay}
+use Rattle.changed_programs.specs.Laws.{IsDualFeasibleBasis}
+use Rattle.changed_programs.proofs.MovedLimits.{moved, lower_is, upper_is}
+use Rattle.changed_programs.proofs.RightHandSides.{right_hand_sides, dual_feasible}
+use Rattle.changed_programs.proofs.Rows.{lawful_rows}
 use Rattle.postoptimal_definitions.specs.Chain.{Part, along, FaceDone, IsPart}
 use Rattle.postoptimal_definitions.specs.RhsRun.{shift_of, rhs_family, IsSlope, leaves_below, leaves_above, leaving, face_exchange, face_at, rhs_face, IsRhsFace}
 use Rattle.sweep_laws.proofs.Rhs.{to_rhs}
-use Rattle.sweep_laws.proofs.OneRhs.{lawful_rhs}
-use Rattle.sweep_truth.proofs.Intervals.{point_feasible}
 use Rattle.sweep_truth.proofs.Spans.{SideEnds, first_ends, second_ends, IsSpan, span}
-use Rattle.sweep_truth.proofs.RhsLimits.{moved, lower_is, upper_is, fixed_at, nonbasic_rate, slope_is_rate}
+use Rattle.sweep_truth.proofs.RhsSlopes.{nonbasic_rate, slope_is_rate, rate_is_slope, value_is_point}
 
 -- ---- where nothing is left to do, no basic leaves its limits
 
@@ -43,39 +45,7 @@ module _ (p : LinearProgram) (shift : List ℚ) (theta : ℚ) (s : List Status) 
 
 -- ---- conditions of a variable
 
--- z + x r lies between the limits, which have moved by x times the shift
-abbrev moved_sides : Option ℚ → Option ℚ → ℚ → ℚ → ℚ → Sides
-moved_sides low high z r shift = record {
-  first = option_map (λ l. condition (z -ℚ l) (r -ℚ shift)) low;
-  second = option_map (λ u. condition (u -ℚ z) (shift -ℚ r)) high;
-}
-
-abbrev IsWithin : Option ℚ → Option ℚ → ℚ → Type 0
-IsWithin low high z = IfSome low (λ l. l ≤ℚ z) × IfSome high (λ u. z ≤ℚ u)
-
 module _ (z r shift x : ℚ) where
-  first_to : (low : Option ℚ) → IfSome (moved x shift low) (λ l. l ≤ℚ z +ℚ x *ℚ r) → IfSome (option_map (λ l. condition (z -ℚ l) (r -ℚ shift)) low) (λ c. Holds c x)
-  first_to None h = tt
-  first_to (Some l) h = le_by_one h (by_ring5 z r shift x l (λ z r s x l. (z ⊖ l) ⊕ x ⊗ (r ⊖ s) ≐ number (pos 0) ⊕ ((z ⊕ x ⊗ r) ⊖ (l ⊕ x ⊗ s))) refl)
-
-  first_from : (low : Option ℚ) → IfSome (option_map (λ l. condition (z -ℚ l) (r -ℚ shift)) low) (λ c. Holds c x) → IfSome (moved x shift low) (λ l. l ≤ℚ z +ℚ x *ℚ r)
-  first_from None h = tt
-  first_from (Some l) h = le_by_one h (by_ring5 z r shift x l (λ z r s x l. z ⊕ x ⊗ r ≐ (l ⊕ x ⊗ s) ⊕ ((z ⊖ l) ⊕ x ⊗ (r ⊖ s) ⊖ number (pos 0))) refl)
-
-  second_to : (high : Option ℚ) → IfSome (moved x shift high) (λ u. z +ℚ x *ℚ r ≤ℚ u) → IfSome (option_map (λ u. condition (u -ℚ z) (shift -ℚ r)) high) (λ c. Holds c x)
-  second_to None h = tt
-  second_to (Some u) h = le_by_one h (by_ring5 z r shift x u (λ z r s x u. (u ⊖ z) ⊕ x ⊗ (s ⊖ r) ≐ number (pos 0) ⊕ ((u ⊕ x ⊗ s) ⊖ (z ⊕ x ⊗ r))) refl)
-
-  second_from : (high : Option ℚ) → IfSome (option_map (λ u. condition (u -ℚ z) (shift -ℚ r)) high) (λ c. Holds c x) → IfSome (moved x shift high) (λ u. z +ℚ x *ℚ r ≤ℚ u)
-  second_from None h = tt
-  second_from (Some u) h = le_by_one h (by_ring5 z r shift x u (λ z r s x u. u ⊕ x ⊗ s ≐ (z ⊕ x ⊗ r) ⊕ ((u ⊖ z) ⊕ x ⊗ (s ⊖ r) ⊖ number (pos 0))) refl)
-
-  sides_to : (low high : Option ℚ) → IsWithin (moved x shift low) (moved x shift high) (z +ℚ x *ℚ r) → SidesHold (moved_sides low high z r shift) x
-  sides_to low high h = (first_to low h.0, second_to high h.1)
-
-  sides_from : (low high : Option ℚ) → SidesHold (moved_sides low high z r shift) x → IsWithin (moved x shift low) (moved x shift high) (z +ℚ x *ℚ r)
-  sides_from low high h = (first_from low h.0, second_from high h.1)
-
   -- a condition that ends: the variable stands at a limit, and moves across it
   record IsLeaving (limit : Option ℚ) : Type 0 where
     stands : moved x shift limit ≡ Some (z +ℚ x *ℚ r)
@@ -92,25 +62,17 @@ module _ (z r shift x : ℚ) where
         lt_by_one own.falls (by_ring2 r shift (λ r s. s ≐ r ⊕ (number (pos 0) ⊖ (r ⊖ s))) refl),
       )
 
-  second_leaves : (high : Option ℚ) (c : Condition) → option_map (λ u. condition (u -ℚ z) (shift -ℚ r)) high ≡ Some c → EndsAt x c → IsLeaving high × (shift <ℚ r)
+  second_leaves : (high : Option ℚ) (c : Condition) → option_map (λ u. condition (u -ℚ z) (neg_ℚ (r -ℚ shift))) high ≡ Some c → EndsAt x c → IsLeaving high × (shift <ℚ r)
   second_leaves None c e ends = cc
   second_leaves (Some u) c e ends =
-      let same : condition (u -ℚ z) (shift -ℚ r) ≡ c = cc in
-      let own : EndsAt x (condition (u -ℚ z) (shift -ℚ r)) = subst (EndsAt x) (sym same) ends in (
+      let same : condition (u -ℚ z) (neg_ℚ (r -ℚ shift)) ≡ c = cc in
+      let own : EndsAt x (condition (u -ℚ z) (neg_ℚ (r -ℚ shift))) = subst (EndsAt x) (sym same) ends in (
         record {
           stands = ap (λ y. Some y) (same_by_one one_ℚ own.is_zero
-              (by_ring5 z r shift x u (λ z r s x u. u ⊕ x ⊗ s ≐ (z ⊕ x ⊗ r) ⊕ number (pos 1) ⊗ ((u ⊖ z) ⊕ x ⊗ (s ⊖ r) ⊖ number (pos 0))) refl));
+              (by_ring5 z r shift x u (λ z r s x u. u ⊕ x ⊗ s ≐ (z ⊕ x ⊗ r) ⊕ number (pos 1) ⊗ ((u ⊖ z) ⊕ x ⊗ opposite (r ⊖ s) ⊖ number (pos 0))) refl));
         },
-        lt_by_one own.falls (by_ring2 r shift (λ r s. r ≐ s ⊕ (number (pos 0) ⊖ (s ⊖ r))) refl),
+        lt_by_one own.falls (by_ring2 r shift (λ r s. r ≐ s ⊕ (number (pos 0) ⊖ opposite (r ⊖ s))) refl),
       )
-
-or_left : (a b : Bool) → a ≡ true → (a || b) ≡ true
-or_left true b e = refl
-or_left false b e = cc
-
-or_right : (a b : Bool) → b ≡ true → (a || b) ≡ true
-or_right true b e = refl
-or_right false b e = e
 
 module _ (p : LinearProgram) (shift : List ℚ) (lawful : IsLinearProgram p) (theta max : ℚ) (s : List Status) (part : Part) (at : IsNonsingularBasis p s) (before : theta <ℚ max)
     (is : IsPart (rhs_family p shift) theta max s part) (t : Tableau) (tab : IsTableau (rhs_family p shift theta) s t) (v : Vector) (slope : IsSlope (rhs_family p shift theta) s shift v)
@@ -121,19 +83,18 @@ module _ (p : LinearProgram) (shift : List ℚ) (lawful : IsLinearProgram p) (th
   optimal : IsOptimalBasis (rhs_family p shift theta) s
   optimal = is.reaches.optimal theta (le_refl theta) is.reaches.forward
 
-  feasible : IsFeasible (rhs_family p shift theta) (along theta part.value part.value_rate)
-  feasible = point_feasible (rhs_family p shift theta) (lawful_rhs p shift lawful theta) s optimal (along theta part.value part.value_rate) (is.values theta)
+  dual : IsDualFeasibleBasis p s (record { point = value_at part.value; rate = optimal.tableau.rate })
+  dual = dual_feasible p shift theta s (lawful_rows p lawful) (record { point = value_at part.value; rate = optimal.tableau.rate }) at.is_basis at.nonsingular
+      (record { is_point = value_is_point p shift s at part.value part.value_rate is.values; are_rates = optimal.is_tableau.are_rates }) optimal
+
+  -- the basis is optimal just where the conditions hold
+  optimal_where : (x : ℚ) → IsOptimalBasis (rhs_family p shift x) s ↔ ValuesStay p shift (value_at part.value) (value_at part.value_rate) x
+  optimal_where =
+      right_hand_sides p s (record { point = value_at part.value; rate = optimal.tableau.rate }) dual shift (value_at part.value_rate)
+      (rate_is_slope p shift s at part.value part.value_rate is.values)
 
   abbrev sides : ℕ → Sides
-  sides k = moved_sides (lower_of p k) (upper_of p k) (value_at part.value k) (value_at part.value_rate k) (by k)
-
-  hold : (k : ℕ) → IsVariable p.matrix k → SidesHold (sides k) theta
-  hold k is_k =
-      let within = feasible.within k is_k in
-      sides_to (value_at part.value k) (value_at part.value_rate k) (by k) theta (lower_of p k) (upper_of p k) (
-        subst (λ low. IfSome low (λ l. l ≤ℚ along theta part.value part.value_rate k)) (lower_is p shift theta k is_k) within.0,
-        subst (λ high. IfSome high (λ u. along theta part.value part.value_rate k ≤ℚ u)) (upper_is p shift theta k is_k) within.1,
-      )
+  sides k = shift_sides p shift (value_at part.value) (value_at part.value_rate) k
 
   -- what moves across a limit at which it stands is basic, and leaves
   at_value : (k : ℕ) → IsVariable p.matrix k → t.point k ≡ along theta part.value part.value_rate k
@@ -183,34 +144,11 @@ module _ (p : LinearProgram) (shift : List ℚ) (lawful : IsLinearProgram p) (th
       (ap (λ y. lt_ℚ (by k) y) (at_rate k is_k) ∙ test_from_lt (by k) (value_at part.value_rate k) out.1)))
 
   spans : IsSpan sides (size p.matrix) theta max
-  spans = span sides (size p.matrix) theta max before (λ k low high. hold k (low, high)) (λ k low high. none_ends k (low, high))
-
-  -- where the conditions hold the basis is optimal
-  optimal_at : (x : ℚ) → ((k : ℕ) → IsVariable p.matrix k → SidesHold (sides k) x) → IsOptimalBasis (rhs_family p shift x) s
-  optimal_at x holds = record {
-    is_basis = (to_rhs p shift x s at).is_basis;
-    nonsingular = at.nonsingular;
-    tableau = record { point = along x part.value part.value_rate; rate = optimal.tableau.rate };
-    is_tableau = record { is_point = is.values x; are_rates = optimal.is_tableau.are_rates };
-    feasible = record {
-      keeps = (is.values x).keeps;
-      within = λ k is_k.
-          let within = sides_from (value_at part.value k) (value_at part.value_rate k) (by k) x (lower_of p k) (upper_of p k) (holds k is_k) in (
-            subst (λ low. IfSome low (λ l. l ≤ℚ along x part.value part.value_rate k)) (sym (lower_is p shift x k is_k)) within.0,
-            subst (λ high. IfSome high (λ u. along x part.value part.value_rate k ≤ℚ u)) (sym (upper_is p shift x k is_k)) within.1,
-          );
-    };
-    right = λ k is_k. right_at k is_k (optimal.right k is_k);
-  }
-    where
-      right_at : (k : ℕ) → IsVariable p.matrix k → IsFixed (rhs_family p shift theta) k ⊎ IsRightAt (status_of s k) (for_min p.sense (objective_rate (rhs_family p shift theta) optimal.tableau.rate k)) →
-          IsFixed (rhs_family p shift x) k ⊎ IsRightAt (status_of s k) (for_min p.sense (objective_rate (rhs_family p shift x) optimal.tableau.rate k))
-      right_at k is_k (inl fixed) = inl (fixed_at p shift theta x k is_k fixed)
-      right_at k is_k (inr right) = inr right
+  spans = span sides (size p.matrix) theta max before (λ k low high. (optimal_where theta).0 optimal k (low, high)) (λ k low high. none_ends k (low, high))
 
   grown : theta <ℚ part.to
   grown = lt_of_lt_of_le spans.past
-      (is.reaches.greatest spans.to spans.within (λ x after up_to. optimal_at x (λ k is_k. spans.holds x after up_to k is_k.0 is_k.1)))
+      (is.reaches.greatest spans.to spans.within (λ x after up_to. (optimal_where x).1 (λ k is_k. spans.holds x after up_to k is_k.0 is_k.1)))
 
 pub rhs_grows : (p : LinearProgram) (shift : List ℚ) → IsLinearProgram p → (theta max : ℚ) (s : List Status) (part : Part) → IsNonsingularBasis p s → theta <ℚ max →
     IsRhsFace p shift theta s FaceDone → IsPart (rhs_family p shift) theta max s part → theta <ℚ part.to

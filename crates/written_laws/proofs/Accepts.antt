@@ -13,6 +13,7 @@ use Rattle.deck_definitions.specs.declared.Section.{Section}
 use Rattle.deck_definitions.specs.declared.Section.TheVariants.{Header, Rows, Columns, Rhs, Ranges, Bounds, Endata}
 use Rattle.deck_definitions.specs.Sections.{may_follow, section_words, section_word, is_section_card, section_begun, section_after}
 use Rattle.deck_definitions.specs.Described.{described}
+use Rattle.deck_definitions.specs.DataCards.{FixedFields}
 use Rattle.deck_definitions.specs.Conversion.{section_card_fault, form_fault, section_fault, data_card_fault, card_fault, first_faulty}
 use Rattle.deck_definitions.proofs.Steps.{section_after-push, with_card, described-data, described-section, first_faulty-append}
 use Rattle.written_laws.proofs.Cards.{IsWritten}
@@ -78,7 +79,7 @@ one_card before card place problem there fine after = record {
   after = after;
 }
 
-data_fine : (problem : Problem Name) (place : Section) (card : List ℕ) (read : Reading) → IsWritten card read → section_fault problem place read ≡ None → data_card_fault problem Fixed (Some place) card ≡ None
+data_fine : (problem : Problem Name) (place : Section) (card : List ℕ) (read : Reading) → IsWritten card read → section_fault problem place read ≡ None → data_card_fault problem FixedFields (Some place) card ≡ None
 data_fine problem place card read is fine = by place fine
   where
     form : form_fault Fixed card ≡ None
@@ -87,7 +88,7 @@ data_fine problem place card read is fine = by place fine
     two : (a b : Option DeckFaultKind) → a ≡ None → b ≡ None → first_fault (a ∷ b ∷ []) ≡ None
     two a b ea eb = none_or a (first_fault (b ∷ [])) ea (none_or b None eb refl)
 
-    by : (place : Section) → section_fault problem place read ≡ None → data_card_fault problem Fixed (Some place) card ≡ None
+    by : (place : Section) → section_fault problem place read ≡ None → data_card_fault problem FixedFields (Some place) card ≡ None
     by Header h = absurd (cc h)
     by Endata h = absurd (cc h)
     by Rows h = two (form_fault Fixed card) (section_fault problem Rows (reading_of Fixed card)) form (ap (section_fault problem Rows) is.reads ∙ h)
@@ -101,8 +102,8 @@ pub accepts-data : (place : Section) (problem : Problem Name) (card : List ℕ) 
 unfolding card_fault
 accepts-data place problem card read is fine = λ n before s.
     one_card before (record { number = n; bytes = card }) (Some place) (with_card place read problem) is.there
-    (ap (λ b. cond b (section_card_fault may_follow (section_after before) card) (data_card_fault (described [] before) Fixed (section_after before) card)) is.data_card
-    ∙ ap₂ (λ seen at. data_card_fault seen Fixed at card) s.seen_is s.place_is
+    (ap (λ b. cond b (section_card_fault may_follow (section_after before) card) (data_card_fault (described [] before) FixedFields (section_after before) card)) is.data_card
+    ∙ ap₂ (λ seen at. data_card_fault seen FixedFields at card) s.seen_is s.place_is
     ∙ data_fine problem place card read is fine)
     (record {
       place_is = section_after-push before (record { number = n; bytes = card })
@@ -116,7 +117,7 @@ pub accepts-section : (from : Option Section) (section : Section) (problem : Pro
 unfolding card_fault
 accepts-section from section problem card is begun there fine = λ n before s.
     one_card before (record { number = n; bytes = card }) (Some section) problem there
-    (ap (λ b. cond b (section_card_fault may_follow (section_after before) card) (data_card_fault (described [] before) Fixed (section_after before) card)) is
+    (ap (λ b. cond b (section_card_fault may_follow (section_after before) card) (data_card_fault (described [] before) FixedFields (section_after before) card)) is
     ∙ ap (λ at. section_card_fault may_follow at card) s.place_is ∙ fine)
     (record {
       place_is = section_after-push before (record { number = n; bytes = card }) ∙ ap (λ o. option_or o (section_after before)) begun;

@@ -157,7 +157,7 @@ bound-fine seen taken name bound may items = type-known seen bound.kind name bou
       ),
     )
 
-module _ (rows : List Row) (columns rhs ranges : List (Group (Entry Name))) (labels : AllByRecursion IsLabel (group_names columns)) (whole : List (Group (Bound Name))) where
+module _ (rows : List (Row Name)) (columns rhs ranges : List (Group (Entry Name))) (labels : AllByRecursion IsLabel (group_names columns)) (whole : List (Group (Bound Name))) where
   abbrev pub with_bounds : List (Group (Bound Name)) → Problem Name
   with_bounds bounds = record { name = []; rows = rows; columns = columns; rhs = rhs; ranges = ranges; bounds = bounds }
 

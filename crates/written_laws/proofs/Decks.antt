@@ -66,11 +66,11 @@ section word cards goes each (set ∷ sets) = (goes, flat cards each (set ∷ se
 entries-go-on : (group : Group (Entry Name)) → AllByRecursion GoesOn (entry_cards group)
 entries-go-on group = mapped (λ (entry : Entry Name). data_card [] group.name entry.row entry.value.text) (λ entry. data-goes-on [] group.name entry.row entry.value.text) group.items
 
-column-goes-on : (rows : List Row) (column : Group (Entry Name)) → AllByRecursion GoesOn (column_cards rows column)
+column-goes-on : (rows : List (Row Name)) (column : Group (Entry Name)) → AllByRecursion GoesOn (column_cards rows column)
 column-goes-on rows column = by (is_empty column.items)
   where
-    by : (b : Bool) → AllByRecursion GoesOn (cond b (map (λ (row : Row). data_card [] column.name row.name (codes "0")) (take 1 rows)) (entry_cards column))
-    by true = mapped (λ (row : Row). data_card [] column.name row.name (codes "0")) (λ row. data-goes-on [] column.name row.name (codes "0")) (take 1 rows)
+    by : (b : Bool) → AllByRecursion GoesOn (cond b (map (λ (row : Row Name). data_card [] column.name row.name (codes "0")) (take 1 rows)) (entry_cards column))
+    by true = mapped (λ (row : Row Name). data_card [] column.name row.name (codes "0")) (λ row. data-goes-on [] column.name row.name (codes "0")) (take 1 rows)
     by false = entries-go-on column
 
 bounds-go-on : (set : Group (Bound Name)) → AllByRecursion GoesOn (bound_cards set)

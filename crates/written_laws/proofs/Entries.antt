@@ -35,7 +35,7 @@ abbrev entry_fields : Name → Entry Name → Reading
 entry_fields name entry = fields [] name entry.row entry.value.text
 
 -- an entry that may be added to these
-record MayAdd (rows : List Row) (taken : List (Entry Name)) (entry : Entry Name) : Type 0 where
+record MayAdd (rows : List (Row Name)) (taken : List (Entry Name)) (entry : Entry Name) : Type 0 where
   label : IsLabel entry.row
   there : has_row rows entry.row ≡ true
   new : has_entry taken entry.row ≡ false
@@ -53,7 +53,7 @@ names_of : (entries : List (Entry Name)) (row : Name) → has_entry entries row 
 names_of [] row = refl
 names_of (entry ∷ entries) row = ap (λ b. same row entry.row || b) (names_of entries row)
 
-may-add : (rows : List Row) → AllByRecursion IsLabel (map (λ row. row.name) rows) → (taken : List (Entry Name)) (entry : Entry Name) (items : List (Entry Name)) → AreLawfulEntries rows (taken ++ entry ∷ items) → MayAdd rows taken entry
+may-add : (rows : List (Row Name)) → AllByRecursion IsLabel (map (λ row. row.name) rows) → (taken : List (Entry Name)) (entry : Entry Name) (items : List (Entry Name)) → AreLawfulEntries rows (taken ++ entry ∷ items) → MayAdd rows taken entry
 may-add rows labels taken entry items lawful =
     let there : has_row rows entry.row ≡ true = all-at (λ (e : Entry Name). has_row rows e.row ≡ true) taken entry items lawful.on_rows in
     let apart = apart-before same (map (λ (e : Entry Name). e.row) taken) entry.row (map (λ (e : Entry Name). e.row) items) (subst (IsDistinct same) (map-append (λ (e : Entry Name). e.row) taken (entry ∷ items)) lawful.distinct) in
@@ -104,7 +104,7 @@ adds-entry put groups name entry value = ap (λ v. put (in_set name (λ items. i
 group-at : (P : Group (Entry Name) → Type 0) (done : List (Group (Entry Name))) (group : Group (Entry Name)) (after whole : List (Group (Entry Name))) → done ++ group ∷ after ≡ whole → AllByRecursion P whole → P group
 group-at P done group after whole e each = all-at P done group after (subst (AllByRecursion P) (sym e) each)
 
-module _ (rows : List Row) (labels : AllByRecursion IsLabel (map (λ row. row.name) rows)) where
+module _ (rows : List (Row Name)) (labels : AllByRecursion IsLabel (map (λ row. row.name) rows)) where
   -- ---- columns
 
   module _ (whole : List (Group (Entry Name))) where

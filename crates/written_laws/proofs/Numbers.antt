@@ -1,13 +1,14 @@
 -- Names in place of numbers and numbers in place of names: the problem again.
-use Rattle.std.proofs.Common.{◌≡◌, ℕ, List, [], ◌∷◌, length, map, refl, ap, ap₂, sym, ◌∙◌, subst}
+use Rattle.std.proofs.Common.{◌≡◌, ℕ, List, [], ◌∷◌, length, map, refl, ap, ap₂, sym, ◌∙◌, subst, true, is_none}
 use Rattle.std.specs.List.{AllByRecursion, IsDistinct}
 use Rattle.std.proofs.lemmas.List.{length-map}
 use Rattle.problem_definitions.specs.Names.{Name, same, number_in, name_at}
-use Rattle.problem_definitions.specs.Problem.{Entry, Bound, Group, Problem, row_names, group_names}
-use Rattle.problem_definitions.specs.Numbering.{entry_by, bound_by, group_by, numbered, by_names}
+use Rattle.problem_definitions.specs.Problem.{Row, Entry, Bound, Group, Problem, row_names, group_names}
+use Rattle.problem_definitions.specs.Numbering.{entry_by, bound_by, group_by, problem_by, numbered, by_names}
 use Rattle.problem_definitions.specs.Valid.{IsNumberOf, AreEntries, AreBounds, IsProblem}
 use Rattle.problem_definitions.proofs.Groups.{map-map}
 use Rattle.problem_definitions.proofs.Each.{each-change}
+use Rattle.problem_definitions.proofs.PlainRows.{row_names-by, rows-again}
 use Rattle.problem_definitions.proofs.Lawful.{names-by}
 use Rattle.revise_laws.proofs.Places.{all-each, number_in-name_at}
 
@@ -42,14 +43,16 @@ module _ (names : List Name) (distinct : IsDistinct same names) (count : ℕ) (c
 -- A problem by numbers comes back from its names.
 pub numbered-by_names : (p : Problem ℕ) → IsProblem p → numbered (by_names p) ≡ p
 unfolding by_names numbered
-numbered-by_names p is = λ i. record {
-  name = p.name;
-  rows = p.rows;
-  columns = by_row p.columns (all-each (λ (column : Group (Entry ℕ)). AreEntries (length p.rows) column.items) p.columns is.entries) i;
-  rhs = by_row p.rhs (all-each (λ (set : Group (Entry ℕ)). AreEntries (length p.rows) set.items) p.rhs is.rhs_items) i;
-  ranges = by_row p.ranges (all-each (λ (set : Group (Entry ℕ)). AreEntries (length p.rows) set.items) p.ranges is.range_items) i;
-  bounds = by_column i;
-}
+numbered-by_names p is =
+    ap (λ names. problem_by (number_in names) (number_in (group_names (map (group_by (entry_by (name_at (row_names p)))) p.columns))) (by_names p)) (row_names-by (name_at (row_names p)) p.rows)
+    ∙ (λ i. record {
+      name = p.name;
+      rows = rows-again (name_at (row_names p)) (number_in (row_names p)) p.rows (all-each (λ (row : Row ℕ). is_none row.parts ≡ true) p.rows is.plain_rows) i;
+      columns = by_row p.columns (all-each (λ (column : Group (Entry ℕ)). AreEntries (length p.rows) column.items) p.columns is.entries) i;
+      rhs = by_row p.rhs (all-each (λ (set : Group (Entry ℕ)). AreEntries (length p.rows) set.items) p.rhs is.rhs_items) i;
+      ranges = by_row p.ranges (all-each (λ (set : Group (Entry ℕ)). AreEntries (length p.rows) set.items) p.ranges is.range_items) i;
+      bounds = by_column i;
+    })
   where
     by_row : (groups : List (Group (Entry ℕ))) → AllByRecursion (λ (group : Group (Entry ℕ)). AreEntries (length p.rows) group.items) groups
         → map (group_by (entry_by (number_in (row_names p)))) (map (group_by (entry_by (name_at (row_names p)))) groups) ≡ groups

@@ -10,8 +10,9 @@ use Rattle.problem_definitions.specs.declared.TheConstants.{MAX_ROWS}
 use Rattle.problem_definitions.specs.declared.RowKind.{RowKind}
 use Rattle.problem_definitions.specs.declared.RowKind.TheVariants.{N, G, L, E}
 use Rattle.problem_definitions.specs.Names.{Name, same, has_name}
-use Rattle.problem_definitions.specs.Problem.{Row, Entry, Bound, Group, Problem, has_row}
+use Rattle.problem_definitions.specs.Problem.{Row, plain_row, Entry, Bound, Group, Problem, has_row}
 use Rattle.problem_definitions.proofs.Names.{row_is_named}
+use Rattle.problem_definitions.proofs.PlainRows.{ArePlain, plain-is}
 use Rattle.problem_definitions.proofs.Lawful.{IsLabel}
 use Rattle.deck_definitions.specs.declared.DeckFaultKind.TheVariants.{BadRowType, DuplicateRow, EmptyName, TooManyRows, CombinationRow}
 use Rattle.deck_definitions.specs.declared.Section.TheVariants.{Rows}
@@ -48,10 +49,10 @@ kind-known G = refl
 kind-known L = refl
 kind-known E = refl
 
-abbrev row_fields : Row → Reading
+abbrev row_fields : Row Name → Reading
 row_fields row = fields (row_kind_text row.kind) row.name [] []
 
-rows_fine : (seen : Problem Name) (row : Row) → is_empty row.name ≡ false → has_row seen.rows row.name ≡ false → length seen.rows + 1 ≤ MAX_ROWS → rows_fault seen (row_fields row) ≡ None
+rows_fine : (seen : Problem Name) (row : Row Name) → is_empty row.name ≡ false → has_row seen.rows row.name ≡ false → length seen.rows + 1 ≤ MAX_ROWS → rows_fault seen (row_fields row) ≡ None
 rows_fine seen row some new few = none_found (
     (has_name combination_kinds (row_kind_text row.kind) ⟹ CombinationRow) ∷
     (is_none (named row_kinds (row_kind_text row.kind)) ⟹ BadRowType) ∷
@@ -76,10 +77,10 @@ rows_fine seen row some new few = none_found (
     )
 
 -- one row
-row-accepted : (seen : Problem Name) (row : Row) → IsLabel row.name → has_row seen.rows row.name ≡ false → length seen.rows + 1 ≤ MAX_ROWS
+row-accepted : (seen : Problem Name) (row : Row Name) → is_none row.parts ≡ true → IsLabel row.name → has_row seen.rows row.name ≡ false → length seen.rows + 1 ≤ MAX_ROWS
     → Accepts (Some Rows) seen (row_card row ∷ []) (Some Rows) (record seen { rows = seen.rows ++ row ∷ [] })
-row-accepted seen row label new few =
-    subst (λ p. Accepts (Some Rows) seen (row_card row ∷ []) (Some Rows) p) (added row.kind row.name)
+row-accepted seen row plain label new few =
+    subst (λ p. Accepts (Some Rows) seen (row_card row ∷ []) (Some Rows) p) (added row.kind row.name ∙ ap (λ row. record seen { rows = seen.rows ++ row ∷ [] }) (plain-is row plain))
     (accepts-data Rows seen (row_card row) (row_fields row)
     (written-card (row_kind_text row.kind) row.name [] [] (fits-kind row.kind) (kind-kept row.kind) (fits-name row.name label.name_of) blank blank (some (is_empty row.name) label.present))
     (rows_fine seen row label.present new few))
@@ -91,26 +92,26 @@ row-accepted seen row label new few =
     some true h = h
     some false h = refl
 
-    added : (kind : RowKind) (name : Name) → with_card Rows (fields (row_kind_text kind) name [] []) seen ≡ record seen { rows = seen.rows ++ record { kind = kind; name = name } ∷ [] }
+    added : (kind : RowKind) (name : Name) → with_card Rows (fields (row_kind_text kind) name [] []) seen ≡ record seen { rows = seen.rows ++ plain_row kind name ∷ [] }
     added N name = refl
     added G name = refl
     added L name = refl
     added E name = refl
 
 module _ (columns rhs ranges : List (Group (Entry Name))) (bounds : List (Group (Bound Name))) where
-  abbrev with_rows : List Row → Problem Name
+  abbrev with_rows : List (Row Name) → Problem Name
   with_rows rows = record { name = []; rows = rows; columns = columns; rhs = rhs; ranges = ranges; bounds = bounds }
 
   -- The cards of rows add them to those that are there.
-  pub rows-accepted : (done rows : List Row) → AllByRecursion (λ (row : Row). IsLabel row.name) rows → IsDistinct same (map (λ row. row.name) (done ++ rows)) → length (done ++ rows) ≤ MAX_ROWS
+  pub rows-accepted : (done rows : List (Row Name)) → ArePlain rows → AllByRecursion (λ (row : Row Name). IsLabel row.name) rows → IsDistinct same (map (λ row. row.name) (done ++ rows)) → length (done ++ rows) ≤ MAX_ROWS
       → Accepts (Some Rows) (with_rows done) (map row_card rows) (Some Rows) (with_rows (done ++ rows))
-  rows-accepted done [] labels distinct few = subst (λ rows. Accepts (Some Rows) (with_rows done) [] (Some Rows) (with_rows rows)) (sym (append-nil done)) (accepts-none (Some Rows) (with_rows done))
-  rows-accepted done (row ∷ rows) labels distinct few =
+  rows-accepted done [] plain labels distinct few = subst (λ rows. Accepts (Some Rows) (with_rows done) [] (Some Rows) (with_rows rows)) (sym (append-nil done)) (accepts-none (Some Rows) (with_rows done))
+  rows-accepted done (row ∷ rows) plain labels distinct few =
       let whole = append_assoc done (row ∷ []) rows in
       let names = map-append (λ row. row.name) done (row ∷ rows) in
       let apart = apart-before same (map (λ row. row.name) done) row.name (map (λ row. row.name) rows) (subst (IsDistinct same) names distinct) in
       let new = row_is_named row.name done ∙ absent-before (map (λ row. row.name) done) row.name apart in
       let room : length done + 1 ≤ MAX_ROWS = omega (arith, few, length-append done (row ∷ rows)) in
       subst (λ all. Accepts (Some Rows) (with_rows done) (map row_card (row ∷ rows)) (Some Rows) (with_rows all)) whole
-      (accepts-then (row_card row ∷ []) (map row_card rows) (row-accepted (with_rows done) row labels.0 new room)
-      (rows-accepted (done ++ row ∷ []) rows labels.1 (subst (λ all. IsDistinct same (map (λ row. row.name) all)) (sym whole) distinct) (subst (λ all. length all ≤ MAX_ROWS) (sym whole) few)))
+      (accepts-then (row_card row ∷ []) (map row_card rows) (row-accepted (with_rows done) row plain.0 labels.0 new room)
+      (rows-accepted (done ++ row ∷ []) rows plain.1 labels.1 (subst (λ all. IsDistinct same (map (λ row. row.name) all)) (sym whole) distinct) (subst (λ all. length all ≤ MAX_ROWS) (sym whole) few)))

@@ -159,8 +159,8 @@ section-is P word cards is each [] all = tt
 section-is P word cards is each (set ∷ sets) all = (is, cards-flat P cards each (set ∷ sets) all)
 
 module _ (q : Problem Name) (lawful : IsLawful q) (name : IsName q.name) where
-  row_labels : AllByRecursion (λ (row : Row). IsLabel row.name) q.rows
-  row_labels = from-map IsLabel (λ (row : Row). row.name) q.rows lawful.row_labels
+  row_labels : AllByRecursion (λ (row : Row Name). IsLabel row.name) q.rows
+  row_labels = from-map IsLabel (λ (row : Row Name). row.name) q.rows lawful.row_labels
 
   entries-are : (group : Group (Entry Name)) → IsGroup (AreLawfulEntries q.rows) group → AllByRecursion IsCard (entry_cards group)
   entries-are group is = by group.items is.items.on_rows is.items.values
@@ -169,17 +169,17 @@ module _ (q : Problem Name) (lawful : IsLawful q) (name : IsName q.name) where
           → AllByRecursion IsCard (map (λ (entry : Entry Name). data_card [] group.name entry.row entry.value.text) items)
       by [] there values = tt
       by (entry ∷ items) there values =
-          let label = label-of (map (λ (row : Row). row.name) q.rows) entry.row lawful.row_labels (sym (row_is_named entry.row q.rows) ∙ there.0) in
+          let label = label-of (map (λ (row : Row Name). row.name) q.rows) entry.row lawful.row_labels (sym (row_is_named entry.row q.rows) ∙ there.0) in
           (data-is [] group.name entry.row entry.value.text refl is.name.printable label.name_of.printable (number-printable entry.value values.0), by items there.1 values.1)
 
   column-is : (column : Group (Entry Name)) → IsGroup (AreLawfulEntries q.rows) column → AllByRecursion IsCard (column_cards q.rows column)
   column-is column is = by (is_empty column.items)
     where
-      zero-cards : (rows : List Row) → AllByRecursion (λ (row : Row). IsLabel row.name) rows → AllByRecursion IsCard (map (λ (row : Row). data_card [] column.name row.name (codes "0")) (take 1 rows))
+      zero-cards : (rows : List (Row Name)) → AllByRecursion (λ (row : Row Name). IsLabel row.name) rows → AllByRecursion IsCard (map (λ (row : Row Name). data_card [] column.name row.name (codes "0")) (take 1 rows))
       zero-cards [] labels = tt
       zero-cards (row ∷ rows) labels = (data-is [] column.name row.name (codes "0") refl is.name.printable labels.0.name_of.printable refl, tt)
 
-      by : (b : Bool) → AllByRecursion IsCard (cond b (map (λ (row : Row). data_card [] column.name row.name (codes "0")) (take 1 q.rows)) (entry_cards column))
+      by : (b : Bool) → AllByRecursion IsCard (cond b (map (λ (row : Row Name). data_card [] column.name row.name (codes "0")) (take 1 q.rows)) (entry_cards column))
       by true = zero-cards q.rows row_labels
       by false = entries-are column is
 
@@ -209,7 +209,7 @@ module _ (q : Problem Name) (lawful : IsLawful q) (name : IsName q.name) where
         (
           record { printable = refl; trimmed = refl },
           each-append IsCard (map row_card q.rows) (codes "COLUMNS" ∷ (C ++ S1 ++ S2 ++ S3 ++ last))
-              (cards-mapped (λ (row : Row). IsLabel row.name) row_card (λ row label. data-is (row_kind_text row.kind) row.name [] [] (row-kind row.kind) label.name_of.printable refl refl) q.rows row_labels) (
+              (cards-mapped (λ (row : Row Name). IsLabel row.name) row_card (λ row label. data-is (row_kind_text row.kind) row.name [] [] (row-kind row.kind) label.name_of.printable refl refl) q.rows row_labels) (
                 record { printable = refl; trimmed = refl },
                 each-append IsCard (C ++ S1 ++ S2 ++ S3) last
                     (each-append IsCard (C ++ S1 ++ S2) S3

@@ -114,10 +114,10 @@ endata-follows true true true = refl
 endata-follows false true true = refl
 
 -- columns that each have an entry have a card for each
-column-cards : (rows : List Row) (groups : List (Group (Entry Name))) → AllByRecursion (λ (column : Group (Entry Name)). is_empty column.items ≡ false) groups → flat_map (column_cards rows) groups ≡ flat_map entry_cards groups
+column-cards : (rows : List (Row Name)) (groups : List (Group (Entry Name))) → AllByRecursion (λ (column : Group (Entry Name)). is_empty column.items ≡ false) groups → flat_map (column_cards rows) groups ≡ flat_map entry_cards groups
 column-cards rows [] some = refl
 column-cards rows (column ∷ groups) some =
-    ap₂ (λ a b. a ++ b) (ap (λ b. cond b (map (λ (row : Row). data_card [] column.name row.name (codes "0")) (take 1 rows)) (entry_cards column)) some.0) (column-cards rows groups some.1)
+    ap₂ (λ a b. a ++ b) (ap (λ b. cond b (map (λ (row : Row Name). data_card [] column.name row.name (codes "0")) (take 1 rows)) (entry_cards column)) some.0) (column-cards rows groups some.1)
 
 module _ (q : Problem Name) (lawful : IsLawful q) (some : AllByRecursion (λ (column : Group (Entry Name)). is_empty column.items ≡ false) q.columns) where
   -- the problem with an empty name
@@ -185,7 +185,7 @@ module _ (q : Problem Name) (lawful : IsLawful q) (some : AllByRecursion (λ (co
       let behind_columns : List (List ℕ) = flat_map (column_cards q.rows) q.columns ++ set_section (codes "RHS") entry_cards q.rhs ++ set_section (codes "RANGES") entry_cards q.ranges ++ set_section (codes "BOUNDS") bound_cards q.bounds ++ codes "ENDATA" ∷ [] in
       accepts-then (name_card q.name ∷ []) (codes "ROWS" ∷ (map row_card q.rows ++ codes "COLUMNS" ∷ behind_columns)) (name-accepted q.name nothing)
       (accepts-then (codes "ROWS" ∷ []) (map row_card q.rows ++ codes "COLUMNS" ∷ behind_columns) (accepts-section (Some Header) Rows nothing (codes "ROWS") refl refl refl refl)
-      (accepts-then (map row_card q.rows) (codes "COLUMNS" ∷ behind_columns) (rows-accepted [] [] [] [] [] q.rows (from-map IsLabel (λ (row : Row). row.name) q.rows lawful.row_labels) lawful.rows_distinct lawful.few_rows)
+      (accepts-then (map row_card q.rows) (codes "COLUMNS" ∷ behind_columns) (rows-accepted [] [] [] [] [] q.rows lawful.plain_rows (from-map IsLabel (λ (row : Row Name). row.name) q.rows lawful.row_labels) lawful.rows_distinct lawful.few_rows)
       (accepts-then (codes "COLUMNS" ∷ []) behind_columns (accepts-section (Some Rows) Columns with_rows (codes "COLUMNS") refl refl refl refl) sections-accepted)))
 
   start : Stands [] None nothing

@@ -1,5 +1,5 @@
-use Rattle.call_laws.proofs.Complete.{path_answered, range_answered}
+use Rattle.call_laws.proofs.Complete.{range_answered}
 use Rattle.call_laws.proofs.call_laws.Goals as goal
 
 pub returns : goal.returns
-returns c = record { primal = path_answered; range = range_answered }
+returns c = record { range = range_answered }

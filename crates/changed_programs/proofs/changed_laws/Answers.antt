@@ -1,7 +1,15 @@
 use Rattle.changed_programs.proofs.Rows.{row, objective}
 use Rattle.changed_programs.proofs.Costs.{cost_changes}
 use Rattle.changed_programs.proofs.Limits.{limit}
+use Rattle.changed_programs.proofs.RightHandSides.{right_hand_sides, dual_feasible}
 use Rattle.changed_programs.proofs.changed_laws.Goals as goal
 
 pub returns : goal.returns
-returns c = record { row = row; objective = objective; cost = cost_changes; limit = λ p s t present k is stands x. limit p s t present k is stands x }
+returns c = record {
+  row = row;
+  objective = objective;
+  cost = cost_changes;
+  limit = λ p s t present k is stands x. limit p s t present k is stands x;
+  limits = λ p s t h shift v slope x. right_hand_sides p s t h shift v slope x;
+  dual_feasible = λ p s t basis one rows tab shift x optimal. dual_feasible p shift x s rows t basis one tab optimal;
+}

@@ -1,7 +1,9 @@
-use Rattle.std.proofs.Common.{rules}
+use Rattle.std.proofs.Common.{Ok, rules}
 use Rattle.lp_definitions.specs.LinearProgram.{IsLinearProgram}
 use Rattle.termination_laws.specs.Laws.{lists_of}
+use Rattle.lp_model.specs.declared.reports.Outcome.TheVariants.{Crossed}
 use Rattle.bounded_primal.proofs.TrueOutcomes.{true_result, crossed_call, crossed_truth}
+use Rattle.bounded_primal.proofs.CompletePaths.{free_path_answered}
 use Rattle.bounded_primal.proofs.free_path.primal_free.Goals as goal
 
 pub returns-in-Some-clause-ends : goal.returns-in-Some-clause-ends
@@ -14,3 +16,13 @@ pub returns-clause-truth : goal.returns-clause-truth
 returns-clause-truth g c =
     let lawful : IsLinearProgram c.args.lp.now = search rules in
     true_result c.args.lp.now lawful (g.R.Rates.matrix c.args.rates.now) (g.R.Rates.basics c.args.rates.now) c.args.basis.now c.requires c.walk_free.new.basis (lists_of c.args.lp.now) c.walk_free.result c.walk_free.ensures.ends
+
+pub returns-in-Some-clause-complete : goal.returns-in-Some-clause-complete
+returns-in-Some-clause-complete g c bases ending goes =
+    let lawful : IsLinearProgram c.args.lp.now = search rules in
+    free_path_answered c.args.lp.now lawful (g.R.Rates.matrix c.args.rates.now) (g.R.Rates.basics c.args.rates.now) c.args.basis.now c.requires c.args.basis.now bases ending (g.R.Rates.waypoints c.args.rates.now) (g.R.Rates.waypoints c.args.rates.now) (Ok (Crossed c.in-Some.k)) (returns-in-Some-clause-ends g c) tt goes
+
+pub returns-clause-complete : goal.returns-clause-complete
+returns-clause-complete g c bases ending goes =
+    let lawful : IsLinearProgram c.args.lp.now = search rules in
+    free_path_answered c.args.lp.now lawful (g.R.Rates.matrix c.args.rates.now) (g.R.Rates.basics c.args.rates.now) c.args.basis.now c.requires c.walk_free.new.basis bases ending (g.R.Rates.waypoints c.args.rates.now) (g.R.Rates.waypoints c.walk_free.new.rates) c.walk_free.result c.walk_free.ensures.ends c.walk_free.ensures.stops goes

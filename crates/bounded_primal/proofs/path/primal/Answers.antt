@@ -1,8 +1,10 @@
-use Rattle.std.proofs.Common.{rules}
+use Rattle.std.proofs.Common.{Ok, rules}
 use Rattle.lp_definitions.specs.LinearProgram.{IsLinearProgram}
+use Rattle.lp_model.specs.declared.reports.Outcome.TheVariants.{Crossed}
 use Rattle.bounded_primal.proofs.TrueOutcomes.{true_result, crossed_call, crossed_truth}
 use Rattle.bounded_primal.proofs.PathWalk.{stays}
 use Rattle.bounded_primal.proofs.FreeWalk.{limit_below}
+use Rattle.bounded_primal.proofs.CompletePaths.{path_answered}
 use Rattle.bounded_primal.proofs.path.primal.Goals as goal
 
 pub returns-in-Some-clause-ends : goal.returns-in-Some-clause-ends
@@ -32,3 +34,13 @@ pub returns-clause-limited : goal.returns-clause-limited
 returns-clause-limited g c =
     let lawful : IsLinearProgram c.args.lp.now = search rules in
     limit_below c.args.lp.now lawful (g.R.Rates.matrix c.args.rates.now) (g.R.Rates.basics c.args.rates.now) c.args.basis.now c.requires c.walk.new.basis c.args.limit (g.R.Rates.waypoints c.args.rates.now) (g.R.Rates.waypoints c.walk.new.rates) c.walk.result c.walk.ensures.stops
+
+pub returns-in-Some-clause-complete : goal.returns-in-Some-clause-complete
+returns-in-Some-clause-complete g c bases ending goes =
+    let lawful : IsLinearProgram c.args.lp.now = search rules in
+    path_answered c.args.lp.now lawful (g.R.Rates.matrix c.args.rates.now) (g.R.Rates.basics c.args.rates.now) c.args.basis.now c.requires c.args.basis.now bases ending c.args.limit (g.R.Rates.waypoints c.args.rates.now) (g.R.Rates.waypoints c.args.rates.now) (Ok (Crossed c.in-Some.k)) (returns-in-Some-clause-ends g c) tt goes
+
+pub returns-clause-complete : goal.returns-clause-complete
+returns-clause-complete g c bases ending goes =
+    let lawful : IsLinearProgram c.args.lp.now = search rules in
+    path_answered c.args.lp.now lawful (g.R.Rates.matrix c.args.rates.now) (g.R.Rates.basics c.args.rates.now) c.args.basis.now c.requires c.walk.new.basis bases ending c.args.limit (g.R.Rates.waypoints c.args.rates.now) (g.R.Rates.waypoints c.walk.new.rates) c.walk.result c.walk.ensures.ends c.walk.ensures.stops goes

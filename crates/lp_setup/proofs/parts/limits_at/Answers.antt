@@ -10,10 +10,10 @@ use Rattle.lp_setup.proofs.parts.limits_at.Goals as goal
 
 pub returns-in-Ok-clause-limits : goal.returns-in-Ok-clause-limits
 returns-in-Ok-clause-limits c =
-    let row : Row = c.index-rows-place.result in
+    let row : Row ℕ = c.index-rows-place.result in
     let side : ℚ = c.index-sides-place.result in
     let range : Option ℚ = c.index-ranges-place.result in
-    let is_kind : c.row.inside.kind ≡ row.kind = ap (λ (r : Row). r.kind) c.row.view_is in
+    let is_kind : c.row.inside.kind ≡ row.kind = ap (λ (r : Row ℕ). r.kind) c.row.view_is in
     limits_at c.args.rows.now c.args.sides.now c.args.ranges.now c.args.place row side range
     (standing c.args.rows.now c.args.place row c.requires.row c.index-rows-place.is)
     (standing c.args.sides.now c.args.place side (omega (arith, c.requires.side)) c.index-sides-place.is)
@@ -22,10 +22,10 @@ returns-in-Ok-clause-limits c =
 
 pub returns-in-Err-clause-overflow : goal.returns-in-Err-clause-overflow
 returns-in-Err-clause-overflow c =
-    let row : Row = c.index-rows-place.result in
+    let row : Row ℕ = c.index-rows-place.result in
     let side : ℚ = c.index-sides-place.result in
     let range : Option ℚ = c.index-ranges-place.result in
-    let is_kind : c.row.inside.kind ≡ row.kind = ap (λ (r : Row). r.kind) c.row.view_is in
+    let is_kind : c.row.inside.kind ≡ row.kind = ap (λ (r : Row ℕ). r.kind) c.row.view_is in
     record {
       place = c.args.place;
       row = row;

@@ -1,0 +1,43 @@
+-- Where the path ends and nothing stops a call on it, the call answers this end.
+use Rattle.std.proofs.Common.{ℕ, List, Result, Ok, Err, inl, inr, refl, sym, ap, ap₂, ◌∙◌, length}
+use Rattle.std.specs.Prelude.{IfOk, IfErr}
+use Rattle.lp_definitions.specs.LinearProgram.{LinearProgram, Matrix, IsLinearProgram}
+use Rattle.lp_definitions.specs.Basis.{Basics}
+use Rattle.lp_definitions.specs.declared.Status.{Status}
+use Rattle.lp_model.specs.declared.Stop.{Stop}
+use Rattle.lp_model.specs.declared.Stop.TheVariants as stop
+use Rattle.lp_model.specs.declared.reports.Outcome.{Outcome}
+use Rattle.path_definitions.specs.Path.{Ending, PathEnds, last_of}
+use Rattle.path_definitions.specs.Counts.{counted_steps}
+use Rattle.path_laws.specs.Laws.{IsNonsingularBasis}
+use Rattle.path_laws.proofs.OnePath.{one_path, not_both}
+use Rattle.termination_laws.specs.Laws.{lists_of}
+use Rattle.bounded_primal.specs.Calls.{HasRates, CallEnds, outcome_of}
+use Rattle.bounded_primal.specs.Stops.{PrimalStops, FreeStops}
+use Rattle.bounded_primal.specs.Complete.{EndsUnhindered, EndsFreely, IsEndOr, IsEndOrMemory, IsFreeEndOrMemory}
+use Rattle.bounded_primal.specs.declared.moves.PrimalStop.{PrimalStop}
+use Rattle.bounded_primal.specs.declared.moves.PrimalStop.TheVariants.{Limit, Overflow, NoMemory}
+
+module _ (p : LinearProgram) (lawful : IsLinearProgram p) (a : Matrix) (b : Basics) (s : List Status) (has : HasRates a b p s) (now : List Status) (bases : List (List Status)) (ending : Ending) where
+  begun : IsNonsingularBasis p s
+  begun = record { is_basis = has.is_basis; nonsingular = has.nonsingular }
+
+  -- there is one end
+  answers_end : {E : Type 0} (limit : ℕ) (none : E) (outcome : Outcome) → PathEnds p s bases ending → CallEnds p s now limit outcome → IsEndOr none s bases ending now (Ok outcome)
+  answers_end limit none outcome ends given =
+      let one = one_path p lawful s bases given.bases ending given.ending begun ends given.ends in
+      inl (ap (λ o. Ok o) (given.is_outcome ∙ sym (ap₂ (λ xs e. outcome_of (counted_steps (length xs)) e) one.same_bases one.same_ending)), ap (last_of s) one.same_bases ∙ given.reaches)
+
+  pub path_answered : (limit : ℕ) (before after : List Basics) (result : Result Outcome PrimalStop) → IfOk result (CallEnds p s now limit) → IfErr result (PrimalStops p s now limit before after) →
+      EndsUnhindered p s limit before bases ending → IsEndOrMemory s bases ending now result
+  path_answered limit before after (Ok outcome) ends stops goes = answers_end limit NoMemory outcome goes.ends ends
+  path_answered limit before after (Err Limit) ends stops goes =
+      absurd (not_both p lawful limit s begun (record { bases = bases; ending = ending; ends = goes.ends; within = goes.within }) stops.goes_on)
+  path_answered limit before after (Err (Overflow e)) ends stops goes = absurd (goes.no_evidence now after e stops)
+  path_answered limit before after (Err NoMemory) ends stops goes = inr refl
+
+  pub free_path_answered : (before after : List Basics) (result : Result Outcome Stop) → IfOk result (CallEnds p s now (lists_of p)) → IfErr result (FreeStops p s now before after) →
+      EndsFreely p s before bases ending → IsFreeEndOrMemory s bases ending now result
+  free_path_answered before after (Ok outcome) ends stops goes = answers_end (lists_of p) stop.NoMemory outcome goes.ends ends
+  free_path_answered before after (Err (stop.Overflow e)) ends stops goes = absurd (goes.no_evidence now after e stops)
+  free_path_answered before after (Err stop.NoMemory) ends stops goes = inr refl
