@@ -3,7 +3,6 @@
 --     IsAsked, IsAskFault          what a verb asks for by the cells, and why it asks for nothing
 --     sweep_shown sweep            the run as code holds it, in the words of runs
 --     Serves sheet sweep           the run can be made in the sheet's linear program
---     IsPrintable sheet answer     what is answered can be printed
 --     IsRunOverflow result         what a refused operation of a run comes to
 --     SweepFinds gain finding      the run from a basis ends so, or is stopped so
 --     Sweeps gain finding          the verb finds this with a setup, and has this to print
@@ -15,11 +14,10 @@ use Rattle.lp_definitions.specs.Basis.{Basics}
 use Rattle.lp_definitions.specs.declared.Evidence.{Evidence}
 use Rattle.lp_model.specs.declared.reports.ParaEnd.{ParaEnd}
 use Rattle.lp_model.specs.declared.reports.ParaEnd.TheVariants.{AtMax, Unbounded, Infeasible}
-use Rattle.lp_model.specs.declared.reports.ParaReport.{ParaReport}
-use Rattle.lp_model.specs.declared.reports.ParaReport.TheVariants.{Opening as OpeningReport, Run as RunReported}
 use Rattle.path_definitions.specs.Path.{last_of}
 use Rattle.problem_definitions.specs.Names.{Name}
-use Rattle.problem_definitions.specs.Problem.{Problem, has_free_row}
+use Rattle.problem_definitions.specs.Problem.{Problem}
+use Rattle.lp_setup.specs.Changes.{IsFreeIn}
 use Rattle.selection_definitions.specs.Selection.{selected}
 use Rattle.listing_definitions.specs.declared.VerbFault.{VerbFault}
 use Rattle.listing_definitions.specs.declared.VerbFault.TheVariants.{NoChangeRow, NoChangeSet, NoParmax, ParmaxBelow}
@@ -31,12 +29,9 @@ use Rattle.control_definitions.specs.Cells.{Cells, steps_allowed}
 use Rattle.bounded_primal.specs.Calls.{LieIn}
 use Rattle.bounded_primal.specs.declared.moves.PrimalStop.{PrimalStop}
 use Rattle.question_definitions.specs.Answers.{Basis, Sheet, Changing, Row, Set, changing_name, sweeper, Sweep, OfSweep, SweepEnd, Opening, Chained, SweepLimit}
-use Rattle.answer_definitions.specs.Sweeps.{row_of, shifts_of, family_of, IsSwept}
+use Rattle.answer_definitions.specs.Sweeps.{row_of, shifts_of, IsSwept}
 use Rattle.answer_definitions.specs.Evidence.{OverflowsAt}
 use Rattle.report_text.specs.declared.sheet.Sheet.{Sheet as OwnSheet}
-use Rattle.report_text.specs.Verdicts.{IsOutcome}
-use Rattle.report_text.specs.Parametric.{IsParametric}
-use Rattle.run_calls.specs.Truth.{IsTrueReported}
 use Rattle.present_answers.specs.Reports.{sheet_shown}
 use Rattle.present_runs.specs.Objective as objective
 use Rattle.present_runs.specs.Reports.{RunOverflowsThere, LimitOverflows, SweepStops}
@@ -123,30 +118,18 @@ abbrev pub sweep_shown : OwnSweep → Sweep
 sweep_shown (own.Row name run) = objective.sweep_of name run
 sweep_shown (own.Set name run) = right_hand_side.sweep_of name run
 
--- the row is a free row of the problem, or the shifts are those of its set; and the last value isn't less than the first
+-- the row has this name, and no limits in what is selected, or the shifts are those of the set; and the last value isn't less than the
+-- first
 abbrev pub IsOf : Problem ℕ → OwnSweep → Type 0
-IsOf problem (own.Row name run) =
-    (has_free_row problem.rows name ≡ true) × (row_of problem name ≡ run.row) × (run.from ≤ℚ run.to)
+IsOf problem (own.Row name run) = (row_of problem name ≡ run.row) × IsFreeIn problem run.row × (run.from ≤ℚ run.to)
 IsOf problem (own.Set name run) = (shifts_of problem name ≡ run.shift.items) × (run.from ≤ℚ run.to)
 
--- the row is one without limits, or there is a shift for each row
-abbrev pub Fits : LinearProgram → OwnSweep → Type 0
-Fits p (own.Row name run) = IsRow p.matrix run.row × HasNoLimits p run.row
-Fits p (own.Set name run) = length run.shift.items ≡ p.rows
-
-pub record Serves (sheet : OwnSheet) (sweep : OwnSweep) : Type 0 where
-  pub is_of : IsOf sheet.problem.now sweep
-  pub fits : Fits sheet.lp.now sweep
-
--- what is told of an opening that isn't optimal, or of each interval, is true
-abbrev pub IsTrueSweep : OwnSheet → Sweep → ParaReport → Type 0
-IsTrueSweep sheet sweep report =
-    IsTrueReported (family_of (sheet_shown sheet) sweep.changing) sweep.from sweep.to report
-
--- the lists have a place for each variable
-abbrev pub IsPrintable : OwnSheet → ParaReport → Type 0
-IsPrintable sheet (OpeningReport outcome) = IsOutcome sheet outcome
-IsPrintable sheet (RunReported run) = IsParametric sheet run
+-- the run can be made in the sheet's linear program
+abbrev pub Serves : OwnSheet → OwnSweep → Type 0
+Serves sheet (own.Row name run) =
+    (row_of sheet.problem.now name ≡ run.row) × IsRow sheet.lp.now.matrix run.row × HasNoLimits sheet.lp.now run.row × (run.from ≤ℚ run.to)
+Serves sheet (own.Set name run) =
+    (shifts_of sheet.problem.now name ≡ run.shift.items) × (length run.shift.items ≡ sheet.lp.now.rows) × (run.from ≤ℚ run.to)
 
 -- where a run stops; a limit of a row may be too large at the first value
 abbrev pub StopsSweep : OwnSheet → Sweep → Basis → Basis → List Basics → List Basics → PrimalStop → Type 0

@@ -13,11 +13,11 @@ ghost use Rattle.report_text.specs.Verdicts.{IsOutcome};
 ghost use Rattle.report_text.specs.Parametric.{IsParametric};
 ghost use Rattle.answer_definitions.specs.Real.{linear_programming};
 ghost use Rattle.present_answers.specs.Reports.{sheet_shown};
-ghost use Rattle.present_runs.specs.Reports.{IsAnswered};
+ghost use Rattle.present_runs.specs.Reports.{IsAnswered, IsPrintable};
 ghost use Rattle.control_run.specs.Standing.{AreDemands, IsReady, IsSound};
 ghost use Rattle.control_run.specs.Statements.{Executes};
 ghost use Rattle.control_run.specs.Findings.{Tells};
-ghost use Rattle.control_run.specs.Sweeping.{verb_of, sweep_shown, Serves, StopsSweep, IsPrintable, SweepFinds, Sweeps, IsRunOverflow, value_left, cells_left};
+ghost use Rattle.control_run.specs.Sweeping.{verb_of, sweep_shown, Serves, StopsSweep, SweepFinds, Sweeps, IsRunOverflow, value_left, cells_left};
 
 use crate::act::{Act, Halt};
 use crate::finding::{Finding, act_of, overflow_at, refused};

@@ -1,6 +1,6 @@
 // What changes along a parametric run.
-ghost use Rattle.std.specs.Prelude.{◌≡◌, IfOk, option_map};
-ghost use Rattle.lp_setup.specs.Changes.{free_row_number, set_values as values_of_set};
+ghost use Rattle.std.specs.Prelude.{◌≡◌, IfOk, IfSome, option_map};
+ghost use Rattle.lp_setup.specs.Changes.{free_row_number, IsFreeIn, set_values as values_of_set};
 
 use crate::chosen::{has_free_row, row_number, values_named};
 use crate::parts::right_hand_sides;
@@ -10,9 +10,10 @@ use name_table::Name;
 use problem_file::Problem;
 use std::alloc::Global;
 
-/// The number of the N row of this name, if there is one.
+/// The number of the N row of this name, if there is one. It has no limits in any linear program that is selected of the problem.
 pub fn free_row(problem: &Problem, name: &Name) -> Option<u32>
-    ensures { result ≡ free_row_number problem.now name.now }
+    ensures number { result ≡ free_row_number problem.now name.now }
+    ensures free { IfSome result (IsFreeIn problem.now) }
 {
     let rows = problem.rows();
     if has_free_row(rows, name) {
