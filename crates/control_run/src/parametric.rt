@@ -115,16 +115,17 @@ fn print_chain<P: Sink>(
         Tells (SweepFinds (sheet_shown sheet.entry) s reached (sweep_shown sweep.now) before after)
         P.written P.faults P.refusals print.old print.new result }
 {
+    let to = sweep.to();
     let report = Report::Parametric {
         by: sweep.solver(),
         sheet,
         change: sweep.change(),
         from: sweep.from(),
-        to: sweep.to(),
+        to,
         run,
     };
     text_of(&report, print)?;
-    Ok(Finding::Swept(last_value(run, sweep.to())))
+    Ok(Finding::Swept(last_value(run, to)))
 }
 
 // Prints what a run has come to.

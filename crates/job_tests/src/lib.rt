@@ -10,4 +10,6 @@ mod rows;
 #[cfg(test)]
 mod runs;
 #[cfg(test)]
+mod sweeps;
+#[cfg(test)]
 mod words;

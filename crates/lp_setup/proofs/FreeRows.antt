@@ -92,7 +92,7 @@ unfolding selected
 is_chosen problem choice lp e = faultless (selection_fault problem choice) (program_of_choice problem choice) lp e
 
 -- what is selected with it has the same matrix and limits, and its objective row is without limits
-row_is_free : (problem : Problem ℕ) (choice : Choice) (lp : LinearProgram) (name : Name) → IsProblem problem → selected problem choice ≡ Ok lp → has_free_row problem.rows name ≡ true →
+pub row_is_free : (problem : Problem ℕ) (choice : Choice) (lp : LinearProgram) (name : Name) → IsProblem problem → selected problem choice ≡ Ok lp → has_free_row problem.rows name ≡ true →
     IsRow lp.matrix (number_in (row_names problem) name) × HasNoLimits lp (number_in (row_names problem) name)
 row_is_free problem choice lp name is e free =
     let chosen = is_chosen problem choice lp e in
