@@ -204,11 +204,11 @@ module _ (verb : SweepVerb) (card : ℕ) (cards : List (List ℕ)) (old : Machin
       (after_stands lp ok sweep a same_name same_options bases (Opening bases verdict check) r state.cells old.cells s.cells) old.cells demands s.cells (mark_of verdict)
       (swept_gives lp ok sweep a (Opening bases verdict check) r.reaches)
   found_comes _ _ (swept {lp = lp} {sweep = sweep} ok a same_name same_options (chained {bases = bases} {intervals = intervals} {end = end} r)) = (
-      record state { setup = Some (gone_through bases present); mark = None; cells = record (state.cells) { xparam = last_value end } },
-      swept_gives lp ok sweep a (Chained bases intervals end) r.reaches,
-      after_stands lp ok sweep a same_name same_options bases (Chained bases intervals end) r (record (state.cells) { xparam = last_value end }) (record (old.cells) { xparam = last_value end })
-          (ap (λ (c : Cells). record c { xparam = last_value end }) s.cells),
-    )
+    record state { setup = Some (gone_through bases present); mark = None; cells = record (state.cells) { xparam = last_value end } },
+    swept_gives lp ok sweep a (Chained bases intervals end) r.reaches,
+    after_stands lp ok sweep a same_name same_options bases (Chained bases intervals end) r (record (state.cells) { xparam = last_value end }) (record (old.cells) { xparam = last_value end })
+        (ap (λ (c : Cells). record c { xparam = last_value end }) s.cells),
+  )
   found_comes _ _ (swept {lp = lp} {sweep = sweep} ok a same_name same_options (at_limit right)) =
       subst (λ (c : Cells). Gives linear_programming card (verb_move (verb_of verb) card state) (stops (endings.LimitStop (record { limit = steps_allowed c; card = card })))) s.cells (swept_gives lp ok sweep a SweepLimit right)
   found_comes _ _ (swept {lp = lp} {sweep = sweep} ok a same_name same_options (overflows {e = e} {place = place} h)) = overflow_gives lp ok sweep a e (option_map place_shown place) h

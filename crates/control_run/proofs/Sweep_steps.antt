@@ -174,10 +174,10 @@ module _ (problem : Problem ℕ) (choice : Choice) (lp : LinearProgram) (ok : se
         is.2,
       )
   serves sheet same_problem same_lp (own.Set name run) is = (
-      ap (λ (q : Problem ℕ). shifts_of q name) same_problem ∙ is.0,
-      ap length (sym is.0) ∙ values_counted name ∙ as_many_rows problem choice lp ok ∙ ap (λ (p : LinearProgram). p.rows) (sym same_lp),
-      is.1,
-    )
+    ap (λ (q : Problem ℕ). shifts_of q name) same_problem ∙ is.0,
+    ap length (sym is.0) ∙ values_counted name ∙ as_many_rows problem choice lp ok ∙ ap (λ (p : LinearProgram). p.rows) (sym same_lp),
+    is.1,
+  )
 
 -- ---- what is found with a setup
 

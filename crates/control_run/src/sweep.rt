@@ -23,14 +23,8 @@ pub enum SweepVerb {
 /// A parametric run, with the name of the row or set that changes.
 #[derive(Drop)]
 pub enum Sweep {
-    Row {
-        name: Name,
-        run: ParaObj,
-    },
-    Set {
-        name: Name,
-        run: ParaRhs,
-    },
+    Row { name: Name, run: ParaObj },
+    Set { name: Name, run: ParaRhs },
 }
 
 // The last value, where it isn't less than the first.

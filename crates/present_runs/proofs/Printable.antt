@@ -108,15 +108,15 @@ module _ (sheet : Sheet) (named : IsSheet sheet) where
   parts_listed : (parts : List ParaPart) → AllByRecursion (HasPlaces places) (map part_of parts) → AllByRecursion (IsPart sheet) parts
   parts_listed [] h = tt
   parts_listed (part ∷ parts) h = (
-      record {
-        statuses = h.0.statuses;
-        value = h.0.value;
-        value_rate = h.0.value_rate;
-        price = h.0.price;
-        price_rate = h.0.price_rate;
-      },
-      parts_listed parts h.1,
-    )
+    record {
+      statuses = h.0.statuses;
+      value = h.0.value;
+      value_rate = h.0.value_rate;
+      price = h.0.price;
+      price_rate = h.0.price_rate;
+    },
+    parts_listed parts h.1,
+  )
 
   end_listed : (end : ParaEnd) → EndHasPlaces places (end_of end) → AreEndLists sheet end
   end_listed ends.AtMax h = tt
