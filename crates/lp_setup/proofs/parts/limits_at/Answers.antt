@@ -1,5 +1,5 @@
 -- The row at the place has these limits, or its range sum is refused.
-use Rattle.std.proofs.Common.{◌≡◌, Some, sym, ap, ◌∙◌, subst, arith, Option}
+use Rattle.std.proofs.Common.{ℕ, ◌≡◌, Some, sym, ap, ◌∙◌, subst, arith, Option}
 use Rattle.exact_values.specs.Rational.{ℚ}
 use Rattle.problem_definitions.specs.declared.RowKind.{RowKind}
 use Rattle.problem_definitions.specs.Problem.{Row}
