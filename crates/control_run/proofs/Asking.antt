@@ -1,5 +1,5 @@
 -- What PARAOBJ and PARARHS ask for by the cells.
-use Rattle.std.proofs.Common.{◌≡◌, ℕ, Bool, true, false, List, Option, None, Some, refl, sym, ap, subst, ◌∙◌, if◌then◌else◌, option_map}
+use Rattle.std.proofs.Common.{◌≡◌, ℕ, Bool, true, false, List, Option, None, Some, refl, sym, ap, subst, ◌∙◌, if◌then◌else◌}
 use Rattle.std.specs.Prelude.{option_and_then}
 use Rattle.std.proofs.lemmas.Option.{same_Some}
 use Rattle.exact_values.specs.Rational.{ℚ, ◌≤ℚ◌}
@@ -9,13 +9,13 @@ use Rattle.problem_definitions.specs.Names.{Name}
 use Rattle.problem_definitions.specs.Problem.{Problem, has_free_row, has_group}
 use Rattle.control_definitions.specs.Cells.{Cells}
 use Rattle.lp_setup.specs.Changes.{free_row_number, values_in, set_values}
-use Rattle.listing_definitions.specs.declared.VerbFault.TheVariants.{NoParmax, ParmaxBelow}
-use Rattle.question_definitions.specs.Answers.{Changing, Row, Set}
+use Rattle.listing_definitions.specs.declared.VerbFault.TheVariants.{ParmaxBelow}
+use Rattle.question_definitions.specs.Answers.{Row, Set}
 use Rattle.answer_definitions.specs.Sweeps.{row_of, shifts_of}
 use Rattle.run_definitions.specs.Verbs.{change_row, change_set, not_less}
 use Rattle.control_run.specs.declared.sweep.SweepVerb.{SweepVerb}
 use Rattle.control_run.specs.declared.sweep.SweepVerb.TheVariants.{Paraobj, Pararhs}
-use Rattle.control_run.specs.Sweeping.{name_moved, change_of, Changes, IsLastValue, IsLastFault, no_last, below}
+use Rattle.control_run.specs.Sweeping.{name_moved, change_of, Changes, IsLastValue, IsLastFault, below}
 
 -- ---- the last value
 

@@ -1,5 +1,5 @@
 -- What PRIMAL does by what it finds.
-use Rattle.std.proofs.Common.{◌≡◌, ℕ, ◌≤◌, inl, inr, List, [], Option, None, Some, IfSome, Ok, Err, refl, sym, ap, subst, ◌∙◌, option_map}
+use Rattle.std.proofs.Common.{◌≡◌, ℕ, inl, inr, List, [], Option, None, Some, Ok, Err, refl, sym, ap, subst, ◌∙◌, option_map}
 use Rattle.lp_definitions.specs.LinearProgram.{LinearProgram}
 use Rattle.lp_definitions.specs.declared.Evidence.{Evidence}
 use Rattle.problem_definitions.specs.Problem.{Problem}
@@ -8,37 +8,34 @@ use Rattle.control_definitions.specs.Program.{Primal}
 use Rattle.control_definitions.specs.Cells.{Cells, steps_allowed}
 use Rattle.selection_definitions.specs.Selection.{selected}
 use Rattle.listing_definitions.specs.declared.Mark.{Mark}
-use Rattle.listing_definitions.specs.declared.Mark.TheVariants.{Optimal, Infeasible, Unbounded}
 use Rattle.listing_definitions.specs.declared.Solver.TheVariants.{Primal as ByPrimal}
 use Rattle.listing_definitions.specs.declared.VerbFault.{VerbFault}
 use Rattle.listing_definitions.specs.declared.VerbFault.TheVariants.{NoSetup}
-use Rattle.listing_definitions.specs.Report.{Verdict, Check, Report, Solved}
+use Rattle.listing_definitions.specs.Report.{Verdict, Check, Solved}
 use Rattle.listing_definitions.specs.Ending as endings
 use Rattle.question_definitions.specs.Answers.{Basis, Sheet, OfPath, PathEnd, Reached, PathLimit}
 use Rattle.answer_definitions.specs.Verdicts.{IsSolved}
 use Rattle.answer_definitions.specs.Evidence.{OverflowsOnPath}
 use Rattle.run_definitions.specs.State.{Present, present_basis, path_of, State, choice_of, gone_through}
-use Rattle.run_definitions.specs.Moves.{Gain, Prints, punched_by, Outcome, Ends as EndsRun, stops, Move, MayStop, Asks, Gives, or_fault, InSelection, InAnswer, RangeOverflows}
-use Rattle.run_definitions.specs.Verbs.{mark_of, or_selection_fault, by_verdict, demanded, after_path, verb_move}
+use Rattle.run_definitions.specs.Moves.{Gain, punched_by, Outcome, stops, Move, MayStop, Asks, Gives, or_fault, InSelection, InAnswer, RangeOverflows}
+use Rattle.run_definitions.specs.Verbs.{mark_of, or_selection_fault, after_path, verb_move}
 use Rattle.control_run.specs.declared.act.Act.{Act}
 use Rattle.control_run.specs.declared.act.Halt.{Halt}
-use Rattle.control_run.specs.declared.end.End.{End}
-use Rattle.control_run.specs.declared.end.End.TheVariants as end
 use Rattle.control_run.specs.declared.finding.Finding.{Finding}
-use Rattle.control_run.specs.declared.finding.Finding.TheVariants.{Ended}
 use Rattle.control_run.specs.declared.machine.Machine.{Machine}
 use Rattle.control_run.specs.declared.machine.Setup.{Setup}
 use Rattle.control_run.specs.declared.selecting.Refusal.TheVariants.{Fault}
 use Rattle.control_run.specs.Choosing.{HasSelectionFault, HasRangeOverflow, refused_act}
-use Rattle.control_run.specs.Ends.{end_shown, place_shown}
+use Rattle.control_run.specs.Ends.{place_shown}
 use Rattle.control_run.specs.Engine.{ways}
 use Rattle.answer_definitions.specs.Real.{linear_programming}
 use Rattle.control_run.specs.Standing.{AreDemands, IsReady, ShowsSetup, Stands}
-use Rattle.control_run.specs.Statements.{Comes, Executes, Follows}
-use Rattle.control_run.specs.Findings.{PathReaches, PathOverflows, reached, at_limit, overflows, Finds, unselected, too_large, solved, Tells, demanded_act, act_of, mark_left}
+use Rattle.control_run.specs.Statements.{Comes, Executes}
+use Rattle.control_run.specs.Findings.{PathReaches, PathOverflows, reached, at_limit, overflows, Finds, unselected, too_large, solved, Tells, act_of, mark_left}
 use Rattle.control_run.proofs.Selected.{same_matrix}
 use Rattle.control_run.proofs.Giving.{gives_fault, gives_found, gives_unselected, gives_selected, quietly}
 use Rattle.control_run.proofs.Telling.{told_executes, cut_executes}
+use Rattle.control_run.proofs.Demanded.{verdict_comes}
 use Rattle.control_run.proofs.Present.{present_with, IsPresentOf, present_at, lie_up_to, goes_through}
 
 pub no_cards_by : (problem : Problem ℕ) (cells : Cells) (setup new : Setup) (gain : Gain) (finding : Finding) → Finds problem cells setup new gain finding → punched_by gain ≡ []
@@ -152,27 +149,13 @@ module _ (card : ℕ) (cards : List (List ℕ)) (old : Machine) (setup new : Set
         mark = refl;
       }
 
-  demanded_comes : (move : Move) (mark : Mark) (report : Report) (then : State) → Stands cards (after (Some mark)) position executed then → (set : Option ℕ) → IfSome set (λ to. 1 ≤ to) →
-      (end : End) (code : ℕ) → endings.Ended code ≡ end_shown end → Gives linear_programming card move (demanded set code report then) →
-      Follows linear_programming card move cards (after (Some mark)) position executed (Prints report) (demanded_act set end)
-  demanded_comes move mark report then t (Some to) first end code same g = (then, g, t, first)
-  demanded_comes move mark report then t None first end code same g = subst (λ (ending : endings.Ending). Gives linear_programming card move (EndsRun (Prints report) ending)) same g
-
-  verdict_comes : (move : Move) (mark : Mark) (report : Report) (then : State) → Stands cards (after (Some mark)) position executed then →
-      Gives linear_programming card move (by_verdict mark report then) → Follows linear_programming card move cards (after (Some mark)) position executed (Prints report) (act_of old.cells card (Ended mark))
-  verdict_comes move Optimal report then t g = (then, g, t)
-  verdict_comes move Infeasible report then t g =
-      demanded_comes move Infeasible report then t old.cells.xdonfs demands.infeasible end.Infeasible 1 refl (subst (λ (c : Cells). Gives linear_programming card move (demanded c.xdonfs 1 report then)) t.cells g)
-  verdict_comes move Unbounded report then t g =
-      demanded_comes move Unbounded report then t old.cells.xdounb demands.unbounded end.Unbounded 2 refl (subst (λ (c : Cells). Gives linear_programming card move (demanded c.xdounb 2 report then)) t.cells g)
-
   pub found_comes : (gain : Gain) (finding : Finding) → Finds problem old.cells setup new gain finding →
       Comes linear_programming Primal card cards position executed state (after (mark_left finding)) gain (act_of old.cells card finding)
   found_comes _ _ (unselected {fault = fault} h) = fault_gives fault h
   found_comes _ _ (too_large {e = e} h) = range_gives e h
   found_comes _ _ (solved {lp = lp} ok same_name same_options (reached {bases = bases} {verdict = verdict} {check = check} r)) =
-      verdict_comes (verb_move Primal card state) (mark_of verdict) (Solved ByPrimal verdict check) (record state { setup = Some (gone_through bases present); mark = Some (mark_of verdict) })
-      (after_stands lp ok same_name same_options bases verdict check r (mark_of verdict)) (path_gives lp ok (Reached bases verdict check) r.reaches)
+      verdict_comes card cards (after (Some (mark_of verdict))) position executed (verb_move Primal card state) (Solved ByPrimal verdict check) (record state { setup = Some (gone_through bases present); mark = Some (mark_of verdict) })
+      (after_stands lp ok same_name same_options bases verdict check r (mark_of verdict)) old.cells demands s.cells (mark_of verdict) (path_gives lp ok (Reached bases verdict check) r.reaches)
   found_comes _ _ (solved {lp = lp} ok same_name same_options (at_limit right)) =
       subst (λ (c : Cells). Gives linear_programming card (verb_move Primal card state) (stops (endings.LimitStop (record { limit = steps_allowed c; card = card })))) s.cells (path_gives lp ok PathLimit right)
   found_comes _ _ (solved {lp = lp} ok same_name same_options (overflows {e = e} {place = place} h)) = overflow_gives lp ok e (option_map place_shown place) h

@@ -1,5 +1,5 @@
 -- What PARAOBJ and PARARHS do by what they find.
-use Rattle.std.proofs.Common.{◌≡◌, ℕ, inl, inr, List, [], Option, None, Some, IfSome, Ok, Err, refl, sym, ap, subst, ◌∙◌, option_map}
+use Rattle.std.proofs.Common.{◌≡◌, ℕ, inl, inr, List, [], Option, None, Some, Ok, Err, refl, sym, ap, subst, ◌∙◌, option_map}
 use Rattle.std.specs.Prelude.{option_and_then}
 use Rattle.exact_values.specs.Rational.{ℚ}
 use Rattle.lp_definitions.specs.LinearProgram.{LinearProgram}
@@ -10,13 +10,13 @@ use Rattle.control_definitions.specs.Cells.{Cells, steps_allowed}
 use Rattle.selection_definitions.specs.Selection.{selected}
 use Rattle.listing_definitions.specs.declared.VerbFault.{VerbFault}
 use Rattle.listing_definitions.specs.declared.VerbFault.TheVariants.{NoSetup, NoParmax, ParmaxBelow}
-use Rattle.listing_definitions.specs.Report.{Verdict, Check, Interval, ChainEnd, Solved}
+use Rattle.listing_definitions.specs.Report.{Solved}
 use Rattle.listing_definitions.specs.Ending as endings
 use Rattle.question_definitions.specs.Answers.{Basis, Sheet, Changing, sweeper, Sweep, OfSweep, SweepEnd, Opening, Chained, SweepLimit}
 use Rattle.answer_definitions.specs.Real.{linear_programming}
 use Rattle.answer_definitions.specs.Sweeps.{IsSwept}
 use Rattle.answer_definitions.specs.Evidence.{OverflowsAt}
-use Rattle.run_definitions.specs.State.{Present, present_basis, path_of, State, choice_of, gone_through}
+use Rattle.run_definitions.specs.State.{Present, State, choice_of, gone_through}
 use Rattle.run_definitions.specs.Moves.{Gain, punched_by, Outcome, stops, Move, MayStop, Gives, or_fault, InSelection, RangeOverflows}
 use Rattle.run_definitions.specs.Verbs.{mark_of, last_value, not_less, or_selection_fault, asks, after_sweep, verb_move}
 use Rattle.control_run.specs.declared.act.Act.{Act}

@@ -1,5 +1,5 @@
 -- The intervals of a run, as they are printed with the selected linear program, and as they are defined with that at the first value.
-use Rattle.std.proofs.Common.{◌≡◌, ℕ, ◌≤◌, ◌<◌, Bool, false, List, [], ◌∷◌, map, refl, sym, ap, ap₂, ◌∙◌, arith, if◌then◌else◌}
+use Rattle.std.proofs.Common.{◌≡◌, ℕ, Bool, false, List, [], ◌∷◌, map, refl, sym, ap, ap₂, ◌∙◌, arith, if◌then◌else◌}
 use Rattle.exact_values.specs.Rational.{ℚ}
 use Rattle.lp_definitions.specs.LinearProgram.{LinearProgram, IsVariable, size, value_at, variables}
 use Rattle.lp_definitions.specs.Basis.{status_of}
@@ -15,8 +15,8 @@ use Rattle.changed_programs.proofs.MovedLimits.{fixed_same}
 use Rattle.problem_definitions.specs.Names.{Name}
 use Rattle.listing_definitions.specs.declared.At.{At}
 use Rattle.listing_definitions.specs.declared.At.TheVariants.{Equal, Lower, Upper, Free}
-use Rattle.listing_definitions.specs.Report.{Value, Code, Number, Line, Interval, ChainEnd, Chain}
-use Rattle.question_definitions.specs.Answers.{Basis, Sheet, Changing, Row, Set}
+use Rattle.listing_definitions.specs.Report.{Value, Code, Number}
+use Rattle.question_definitions.specs.Answers.{Basis, Changing, Row, Set}
 use Rattle.answer_definitions.specs.Lines as defined
 use Rattle.answer_definitions.specs.Sweeps as defined_runs
 use Rattle.answer_definitions.specs.Sweeps.{shifts_of, family_of, sheet_at, interval_of}

@@ -1,6 +1,6 @@
 -- What PARAOBJ and PARARHS find.
 use Rattle.std.proofs.Common.{◌≡◌, ◌≢◌, ℕ, ◌≤◌, ◌⊎◌, inl, inr, List, [], ◌∷◌, ◌++◌, Option, None, Some, Result, Ok, Err, length, map, refl, sym, ap, subst, ◌∙◌}
-use Rattle.std.specs.Prelude.{MatchResult, IfOk, IfErr}
+use Rattle.std.specs.Prelude.{MatchResult}
 use native.Mathlib.Decide.{ℕ_discrete}
 use Rattle.std.specs.List.{enumerate_from}
 use Rattle.std.proofs.lemmas.List.{length-map}
@@ -9,7 +9,7 @@ use Rattle.exact_values.specs.Rational.{ℚ}
 use Rattle.frac128.specs.declared.Refused.{Refused as RefusedOperation}
 use Rattle.job_devices.specs.declared.device.WriteStop.{WriteStop}
 use Rattle.job_devices.specs.Text.{Writes}
-use Rattle.lp_definitions.specs.LinearProgram.{LinearProgram, IsRow, HasNoLimits}
+use Rattle.lp_definitions.specs.LinearProgram.{LinearProgram}
 use Rattle.lp_definitions.specs.Basis.{Basics, basics_of}
 use Rattle.lp_definitions.specs.Waypoints.{waypoint}
 use Rattle.lp_definitions.specs.declared.Evidence.{Evidence}
@@ -24,20 +24,18 @@ use Rattle.selection_definitions.specs.Choice.{Choice}
 use Rattle.selection_definitions.specs.Selection.{selected}
 use Rattle.listing_definitions.specs.declared.Mark.{Mark}
 use Rattle.listing_definitions.specs.declared.Solver.{Solver}
-use Rattle.listing_definitions.specs.Report.{Verdict, Check, Solved, Parametric, Chain}
+use Rattle.listing_definitions.specs.Report.{Solved, Parametric, Chain}
 use Rattle.listing_definitions.specs.Text.{report_text}
 use Rattle.listing_definitions.specs.Ending as endings
-use Rattle.question_definitions.specs.Answers.{Basis, Sheet, sweeper, changing_name, Sweep, OfSweep, SweepLimit}
-use Rattle.answer_definitions.specs.Sweeps.{row_of, shifts_of, sheet_at, interval_of, end_of, IsSwept}
+use Rattle.question_definitions.specs.Answers.{Basis, sweeper, changing_name, Sweep, OfSweep}
+use Rattle.answer_definitions.specs.Sweeps.{shifts_of, sheet_at, interval_of, end_of}
 use Rattle.answer_definitions.specs.Evidence.{OverflowsAt}
-use Rattle.bounded_primal.specs.declared.moves.PrimalStop.{PrimalStop}
-use Rattle.bounded_primal.specs.declared.moves.PrimalStop.TheVariants as stops
 use Rattle.report_text.specs.declared.sheet.Sheet.{Sheet as OwnSheet}
 use Rattle.report_text.specs.Parametric.{chain_shown}
 use Rattle.report_text.specs.Verdicts.{verdict_shown, check_shown}
 use Rattle.run_calls.specs.Calls as calls
 use Rattle.present_answers.specs.Reports.{sheet_shown}
-use Rattle.present_runs.specs.Reports.{IsAnswered, RunOverflowsThere, LimitOverflows, SweepStops}
+use Rattle.present_runs.specs.Reports.{IsAnswered, RunOverflowsThere, LimitOverflows}
 use Rattle.run_definitions.specs.State.{choice_of}
 use Rattle.run_definitions.specs.Moves.{Gain, Nothing, Prints}
 use Rattle.run_definitions.specs.Verbs.{mark_of, last_value}
@@ -56,8 +54,8 @@ use Rattle.control_run.specs.declared.sweep.SweepVerb.{SweepVerb}
 use Rattle.control_run.specs.Choosing.{IsUnselected}
 use Rattle.control_run.specs.Ends.{place_shown}
 use Rattle.control_run.specs.Engine.{ways}
-use Rattle.control_run.specs.Findings.{IsOverflowAt, Tells, refused_finding}
-use Rattle.control_run.specs.Sweeping.{IsNotAsked, IsAsked, sweep_shown, IsOf, Serves, value_left, IsRunOverflow, SweepReaches, SweepFinds, opened, chained, overflows, Sweeps, unselected, too_large, not_asked, swept}
+use Rattle.control_run.specs.Findings.{Tells, refused_finding}
+use Rattle.control_run.specs.Sweeping.{IsNotAsked, IsAsked, IsOf, Serves, value_left, IsRunOverflow, SweepFinds, opened, chained, overflows, Sweeps, unselected, too_large, not_asked, swept}
 use Rattle.control_run.proofs.Telling.{tells_more, tells_quietly, overflow_tells}
 use Rattle.control_run.proofs.Present.{one_problem}
 use Rattle.control_run.proofs.Solving_steps.{as_many_rows}

@@ -7,7 +7,7 @@
 --     SweepFinds gain finding      the run from a basis ends so, or is stopped so
 --     Sweeps gain finding          the verb finds this with a setup, and has this to print
 --     cells_left finding cells     the cells after it
-use Rattle.std.specs.Prelude.{◌≡◌, ◌≢◌, ◌⊎◌, ℕ, List, [], ◌∷◌, ◌++◌, Bool, true, Option, Some, None, Result, Ok, Err, IfSome, length, option_map, option_and_then}
+use Rattle.std.specs.Prelude.{◌≡◌, ◌≢◌, ◌⊎◌, ℕ, List, [], ◌∷◌, ◌++◌, Option, Some, None, Result, Ok, length, option_map, option_and_then}
 use Rattle.exact_values.specs.Rational.{ℚ, ◌≤ℚ◌}
 use Rattle.lp_definitions.specs.LinearProgram.{LinearProgram, IsRow, HasNoLimits}
 use Rattle.lp_definitions.specs.Basis.{Basics}
@@ -21,18 +21,16 @@ use Rattle.lp_setup.specs.Changes.{IsFreeIn}
 use Rattle.selection_definitions.specs.Selection.{selected}
 use Rattle.listing_definitions.specs.declared.VerbFault.{VerbFault}
 use Rattle.listing_definitions.specs.declared.VerbFault.TheVariants.{NoChangeRow, NoChangeSet, NoParmax, ParmaxBelow}
-use Rattle.listing_definitions.specs.declared.Solver.{Solver}
 use Rattle.listing_definitions.specs.Report.{Verdict, Check, Interval, ChainEnd, Solved, Parametric}
 use Rattle.listing_definitions.specs.Ending.{Place}
 use Rattle.control_definitions.specs.Program as program
 use Rattle.control_definitions.specs.Cells.{Cells, steps_allowed}
 use Rattle.bounded_primal.specs.Calls.{LieIn}
 use Rattle.bounded_primal.specs.declared.moves.PrimalStop.{PrimalStop}
-use Rattle.question_definitions.specs.Answers.{Basis, Sheet, Changing, Row, Set, changing_name, sweeper, Sweep, OfSweep, SweepEnd, Opening, Chained, SweepLimit}
+use Rattle.question_definitions.specs.Answers.{Basis, Sheet, Changing, changing_name, sweeper, Sweep, OfSweep, SweepEnd, Opening, Chained, SweepLimit}
 use Rattle.answer_definitions.specs.Sweeps.{row_of, shifts_of, IsSwept}
 use Rattle.answer_definitions.specs.Evidence.{OverflowsAt}
 use Rattle.report_text.specs.declared.sheet.Sheet.{Sheet as OwnSheet}
-use Rattle.present_answers.specs.Reports.{sheet_shown}
 use Rattle.present_runs.specs.Objective as objective
 use Rattle.present_runs.specs.Reports.{RunOverflowsThere, LimitOverflows, SweepStops}
 use Rattle.present_runs.specs.RightHandSide as right_hand_side

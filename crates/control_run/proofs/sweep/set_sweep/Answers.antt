@@ -1,5 +1,4 @@
-use Rattle.std.proofs.Common.{List, Some, None, sym, ap, ◌∙◌, option_map}
-use Rattle.exact_values.specs.Rational.{ℚ}
+use Rattle.std.proofs.Common.{sym, ap, ◌∙◌, option_map}
 use Rattle.control_run.specs.declared.sweep.SweepVerb.TheVariants.{Pararhs}
 use Rattle.control_run.specs.Sweeping.{no_change, no_value}
 use Rattle.control_run.proofs.Asking.{forward, no_name, no_set, set_changes}
