@@ -4,18 +4,18 @@ ghost use Rattle.std.specs.Prelude.{◌≡◌, ◌<◌, List, length, vec_len, I
 ghost use Rattle.lp_definitions.specs.LinearProgram.{size, IsLinearProgram};
 ghost use Rattle.lp_definitions.specs.declared.Status.{Status};
 ghost use Rattle.path_definitions.specs.Path.{Ending};
-ghost use Rattle.bounded_primal.specs.Calls.{HasRates, CallEnds, WaypointsFollow};
+ghost use Rattle.basis_values.specs.Calls.{HasRates};
+ghost use Rattle.bounded_primal.specs.Calls.{CallEnds, WaypointsFollow};
 ghost use Rattle.bounded_primal.specs.Complete.{EndsUnhindered, IsEndOrMemory};
 ghost use Rattle.bounded_primal.specs.Outcomes.{IsTrueOutcome};
 ghost use Rattle.bounded_primal.specs.Stops.{PrimalStops};
 ghost use Rattle.bounded_primal.specs.Turns.{IsUncrossed};
 ghost use Rattle.termination_laws.specs.Laws.{lists_of};
 
-use crate::choices::crossed;
 use crate::moves::PrimalStop;
-use crate::point::point_of;
 use crate::step::take_step;
 use crate::turns::{Turn, next_turn};
+use basis_values::{crossed, point_of};
 use frac128::Frac;
 use lp_model::{Basis, Lp, NoMemory, Outcome, Rates};
 use std::alloc::Global;

@@ -5,12 +5,13 @@ ghost use Rattle.lp_definitions.specs.LinearProgram.{size, value_at, IsVariable}
 ghost use Rattle.lp_definitions.specs.Solutions.{IsFeasible};
 ghost use Rattle.lp_definitions.specs.Basis.{basics_of, IsBasis, IsNonbasic, IsNonsingular, IsPointOf, IsDirectionOf};
 ghost use Rattle.path_definitions.specs.Moves.{room, signed, reached};
-ghost use Rattle.bounded_primal.specs.Moves.{may_move, motion, stopper_of, StopperRefused};
-ghost use Rattle.bounded_primal.specs.Reach.{IsNearest, SomeRoomRefused};
+ghost use Rattle.basis_values.specs.Motions.{may_move, motion};
+ghost use Rattle.bounded_primal.specs.Moves.{stopper_of, StopperRefused};
+ghost use Rattle.basis_values.specs.Reach.{IsNearest, SomeRoomRefused};
 
-use crate::choices::{counted, is_less};
 use crate::moves::Stopper;
-use crate::reach::{Reach, length_to, nearer};
+use basis_values::reach::{Reach, length_to, nearer};
+use basis_values::{counted, is_less};
 use frac128::Frac;
 use lp_model::{Basis, Evidence, Lp, Status};
 

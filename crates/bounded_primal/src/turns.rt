@@ -9,15 +9,15 @@ ghost use Rattle.lp_definitions.specs.Waypoints.{KeepsWaypoints};
 ghost use Rattle.lp_model.specs.RatesCalls.{IsRowOf, IfOverflow};
 ghost use Rattle.path_definitions.specs.Moves.{signed, entering};
 ghost use Rattle.evidence_definitions.specs.Formulas.{limit_numbered, number_of_limit};
-ghost use Rattle.bounded_primal.specs.Calls.{HasRates, PointRefused};
-ghost use Rattle.bounded_primal.specs.Moves.{may_move, motion, return_by, stopper_of as stopper_by};
+ghost use Rattle.basis_values.specs.Calls.{HasRates, PointRefused};
+ghost use Rattle.basis_values.specs.Motions.{may_move, motion};
+ghost use Rattle.bounded_primal.specs.Moves.{return_by, stopper_of as stopper_by};
 ghost use Rattle.bounded_primal.specs.Turns.{IsUncrossed, least_outside, ray_from, mover_by, Betters, IsEndless, ReturnStops, RunStops, TurnFound};
 
-use crate::choices::{counted, enterer, is_less, lies_below, outside};
 use crate::moves::{PrimalStop, Stopper};
-use crate::prices::fill_prices;
 use crate::step::returning;
 use crate::stopping::stopper;
+use basis_values::{counted, enterer, fill_prices, is_less, lies_below, outside};
 use frac128::Frac;
 use lp_model::{
     Basis, Direction, Lp, NoMemory, Outcome, Point, Prices, Rates, Ray, Sense, Status, Stop,

@@ -13,7 +13,8 @@ use Rattle.problem_file.specs.Filed.{Filed, filed_under}
 use Rattle.control_definitions.specs.Program.{SetupOptions}
 use Rattle.selection_definitions.specs.Selection.{matrix_of}
 use Rattle.question_definitions.specs.Answers.{Basis}
-use Rattle.bounded_primal.specs.Calls.{HasRates, LieIn, WaypointsFollow}
+use Rattle.basis_values.specs.Calls.{HasRates, LieIn}
+use Rattle.bounded_primal.specs.Calls.{WaypointsFollow}
 use Rattle.report_text.specs.declared.sheet.Sheet.{Sheet}
 use Rattle.report_text.specs.Verdicts.{verdict_shown, check_shown}
 use Rattle.present_answers.specs.declared.path.PathReport.{PathReport}

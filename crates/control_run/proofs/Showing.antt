@@ -10,7 +10,7 @@ use Rattle.lp_definitions.specs.declared.Evidence.{Evidence}
 use Rattle.evidence_definitions.specs.Statements.{Solution as SolutionStatement}
 use Rattle.problem_definitions.specs.Problem.{Problem}
 use Rattle.problem_file.specs.Filed.{Filed, filed_under}
-use Rattle.bounded_primal.specs.Calls.{LieIn}
+use Rattle.basis_values.specs.Calls.{LieIn}
 use Rattle.report_text.specs.Lines.{solution_lines}
 use Rattle.listing_definitions.specs.Text.{report_text}
 use Rattle.control_definitions.specs.Program.{SetupOptions, Solution as SolutionVerb}

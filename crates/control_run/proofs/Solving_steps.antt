@@ -10,7 +10,7 @@ use Rattle.lp_definitions.specs.declared.Evidence.{Evidence}
 use Rattle.path_definitions.specs.Path.{Ending, EndsOptimal, EndsCrossed, EndsInfeasible, EndsUnbounded, EndsAt}
 use Rattle.path_laws.specs.Laws.{IsNonsingularBasis}
 use Rattle.path_laws.proofs.Ends.{optimal_end}
-use Rattle.bounded_primal.specs.Calls.{HasRates}
+use Rattle.basis_values.specs.Calls.{HasRates}
 use Rattle.problem_definitions.specs.Problem.{Problem}
 use Rattle.problem_file.specs.Filed.{Filed, filed_under}
 use Rattle.control_definitions.specs.Cells.{Cells}

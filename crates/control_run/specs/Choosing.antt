@@ -7,7 +7,7 @@ use Rattle.problem_definitions.specs.Problem.{Problem}
 use Rattle.lp_definitions.specs.LinearProgram.{LinearProgram}
 use Rattle.lp_definitions.specs.Basis.{opening_statuses}
 use Rattle.lp_definitions.specs.declared.Evidence.{Evidence}
-use Rattle.bounded_primal.specs.Calls.{HasRates, LieIn}
+use Rattle.basis_values.specs.Calls.{HasRates, LieIn}
 use Rattle.control_definitions.specs.Program.{SetupOptions}
 use Rattle.selection_definitions.specs.declared.SelectionFault.{SelectionFault}
 use Rattle.selection_definitions.specs.Choice.{Choice}

@@ -32,7 +32,7 @@ use Rattle.question_definitions.specs.Answers.{Basis, Sheet, PathLimit}
 use Rattle.answer_definitions.specs.Verdicts.{ReachesVerdict, IsSolved}
 use Rattle.answer_definitions.specs.Sections.{IsShown, IsRanged}
 use Rattle.answer_definitions.specs.Evidence.{IsEvidence, OverflowsOnPath}
-use Rattle.bounded_primal.specs.Calls.{LieIn}
+use Rattle.basis_values.specs.Calls.{LieIn}
 use Rattle.run_definitions.specs.State.{choice_of}
 use Rattle.run_definitions.specs.Moves.{Gain, Nothing, Prints}
 use Rattle.run_definitions.specs.Verbs.{mark_of}

@@ -13,7 +13,7 @@ use Rattle.problem_definitions.specs.Names.{Name}
 use Rattle.problem_definitions.specs.Problem.{Problem}
 use Rattle.problem_file.specs.Filed.{Filed, filed_under}
 use Rattle.path_definitions.specs.Path.{last_of}
-use Rattle.bounded_primal.specs.Calls.{HasRates, LieIn}
+use Rattle.basis_values.specs.Calls.{HasRates, LieIn}
 use Rattle.listing_definitions.specs.declared.Mark.{Mark}
 use Rattle.listing_definitions.specs.declared.Mark.TheVariants.{Optimal}
 use Rattle.selection_definitions.specs.Choice.{Choice}

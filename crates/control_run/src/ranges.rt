@@ -7,7 +7,7 @@ ghost use Rattle.lp_definitions.specs.Waypoints.{KeepsWaypoints};
 ghost use Rattle.control_definitions.specs.Program as program;
 ghost use Rattle.report_text.specs.Lines.{range_lines};
 ghost use Rattle.report_text.specs.Sheets.{IsSheet};
-ghost use Rattle.bounded_primal.specs.Calls.{HasRates};
+ghost use Rattle.basis_values.specs.Calls.{HasRates};
 ghost use Rattle.answer_definitions.specs.Sections.{IsRanged};
 ghost use Rattle.present_answers.specs.Answers.{sheet_shown, AreRanged};
 ghost use Rattle.control_run.specs.Engine.{ways};

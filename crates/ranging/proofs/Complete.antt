@@ -1,7 +1,7 @@
 -- Where no evidence holds, the call answers.
 use Rattle.std.proofs.Common.{List, Result, Ok, Err, inl, inr, refl}
 use Rattle.std.specs.Prelude.{IfOk}
-use Rattle.bounded_primal.specs.Stops.{RangeOverflow}
+use Rattle.basis_values.specs.Stops.{RangeOverflow}
 use Rattle.lp_definitions.specs.Basis.{Basics}
 use Rattle.lp_definitions.specs.LinearProgram.{LinearProgram}
 use Rattle.lp_definitions.specs.declared.Status.{Status}

@@ -2,7 +2,7 @@
 --     HasNoEvidence p s before        no evidence of an overflow holds at the basis s, for rates that had the waypoints before
 --     IsReportOrMemory p s result     the answer is a report of the intervals at s, or there is no memory
 use Rattle.std.specs.Prelude.{◌≡◌, ◌⊎◌, List, Result, Ok, Err}
-use Rattle.bounded_primal.specs.Calls.{RangeRefused}
+use Rattle.basis_values.specs.Calls.{RangeRefused}
 use Rattle.lp_definitions.specs.Basis.{Basics}
 use Rattle.lp_definitions.specs.LinearProgram.{LinearProgram}
 use Rattle.lp_definitions.specs.declared.Evidence.{Evidence}

@@ -5,8 +5,8 @@ ghost use Rattle.lp_definitions.specs.LinearProgram.{size, value_at, IsLinearPro
 ghost use Rattle.lp_definitions.specs.Basis.{basics_of, IsPointOf, ArePricesOf, IsOptimalBasis};
 ghost use Rattle.lp_definitions.specs.Waypoints.{KeepsWaypoints};
 ghost use Rattle.postoptimal_definitions.specs.Ranges.{IsRangeReport};
-ghost use Rattle.bounded_primal.specs.Calls.{HasRates};
-ghost use Rattle.bounded_primal.specs.Stops.{RangeOverflow};
+ghost use Rattle.basis_values.specs.Calls.{HasRates};
+ghost use Rattle.basis_values.specs.Stops.{RangeOverflow};
 ghost use Rattle.lp_model.specs.RatesCalls.{IfOverflow};
 ghost use Rattle.ranging.specs.LimitEnds.{no_ends};
 ghost use Rattle.ranging.specs.Tables.{AllMet, AllFound};

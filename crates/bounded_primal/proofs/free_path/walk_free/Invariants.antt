@@ -3,7 +3,7 @@ use Rattle.lp_definitions.specs.LinearProgram.{value_at}
 use Rattle.lp_definitions.specs.Basis.{IsPointOf}
 use Rattle.path_definitions.specs.Counts.{counted_steps}
 use Rattle.termination_laws.specs.Laws.{lists_of}
-use Rattle.bounded_primal.specs.Calls.{HasRates}
+use Rattle.basis_values.specs.Calls.{HasRates}
 use Rattle.bounded_primal.proofs.PathWalk.{HasReached}
 use Rattle.bounded_primal.proofs.free_path.walk_free.Given as goal
 

@@ -1,7 +1,7 @@
 use Rattle.std.proofs.Common.{◌-◌, ◌≤◌}
 use Rattle.lp_definitions.specs.LinearProgram.{value_at}
 use Rattle.lp_definitions.specs.Basis.{IsPointOf}
-use Rattle.bounded_primal.specs.Calls.{HasRates}
+use Rattle.basis_values.specs.Calls.{HasRates}
 use Rattle.bounded_primal.proofs.PathWalk.{HasReached}
 use Rattle.bounded_primal.proofs.path.walk.Given as goal
 

@@ -1,8 +1,8 @@
 use Rattle.std.proofs.Common.{◌≡◌, ◌+◌, Err, rules, arith}
 use Rattle.lp_definitions.specs.LinearProgram.{value_at}
 use Rattle.path_definitions.specs.Moves.{room}
-use Rattle.bounded_primal.specs.Moves.{motion}
-use Rattle.bounded_primal.proofs.Lengths.{nearest_more}
+use Rattle.basis_values.specs.Motions.{motion}
+use Rattle.basis_values.proofs.Lengths.{nearest_more}
 use Rattle.bounded_primal.proofs.stopping.nearest.Goals as goal
 
 pub returns-in_err-length-clause-refused : goal.returns-in_err-length-clause-refused

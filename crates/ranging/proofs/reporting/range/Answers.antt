@@ -3,7 +3,7 @@ use Rattle.lp_definitions.specs.LinearProgram.{value_at}
 use Rattle.lp_definitions.specs.Basis.{basics_of, ArePricesOf}
 use Rattle.lp_laws.proofs.WaypointLaws.{keeps_then}
 use Rattle.lp_model.proofs.Stops.{IfOverflow-map}
-use Rattle.bounded_primal.proofs.Covered.{keeps_same}
+use Rattle.basis_values.proofs.Covered.{keeps_same}
 use Rattle.ranging.proofs.Complete.{range_answers}
 use Rattle.ranging.proofs.Results.{take_all, IfErr-map}
 use Rattle.ranging.proofs.Shown.{range_by_point, range_refused_later}
