@@ -1,6 +1,6 @@
 -- What the parts of a check say where they are checked.
 use Rattle.std.proofs.Common.{◌≡◌, ℕ, zero, suc, ◌+◌, ◌<◌, ◌≤◌, ◌≢◌, List, [], ◌∷◌, ◌++◌, map, refl, sym, ap, ◌∙◌, arith, Bool, true, false, not, Option, Some, None, subst, cond}
-use Rattle.std.specs.Prelude.{if◌then◌else◌, ◌&&◌, is_some, is_none, IfSome, filter, unwrap_or}
+use Rattle.std.specs.Prelude.{if◌then◌else◌, is_some, is_none, IfSome, filter, unwrap_or}
 use Rattle.std.specs.declared.cmp.Ordering.{Ordering}
 use Rattle.std.specs.declared.cmp.Ordering.TheVariants.{Less, Equal, Greater}
 use Rattle.std.proofs.lemmas.Bool.{and_parts, not-false}
@@ -11,8 +11,8 @@ use Rattle.frac128.specs.Operations.{refuses}
 use Rattle.exact_values.proofs.Ring_laws.{zero-add, zero-mul}
 use Rattle.exact_values.specs.Rational.{ℚ, zero_ℚ, ◌+ℚ◌, ◌-ℚ◌, ◌*ℚ◌, ◌≤ℚ◌, ◌<ℚ◌, compare_ℚ}
 use Rattle.exact_values.specs.Sums.{sum_up_to}
-use Rattle.exact_values.specs.Tests.{le_ℚ, eq_ℚ, is_less, is_equal}
-use Rattle.exact_values.proofs.Compare.{lt_from_compare, same_from_compare, le_from_compare, compare_from_lt}
+use Rattle.exact_values.specs.Tests.{eq_ℚ}
+use Rattle.exact_values.proofs.Compare.{lt_from_compare, same_from_compare, compare_from_lt}
 use Rattle.exact_values.proofs.Tests_laws.{same_from_test, le_from_test}
 use Rattle.exact_values.proofs.Order.{lt_not_le, le_of_lt, apart_from_above, apart_from_below}
 use Rattle.lp_definitions.specs.LinearProgram.{LinearProgram, Vector, IsMatrix, IsColumn, IsVariable, KeepsEquations, numbers_from, variables, column, entry, lower_of, upper_of, cost, for_min, size}

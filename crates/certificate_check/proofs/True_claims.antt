@@ -10,10 +10,9 @@ use Rattle.frac128.specs.declared.Op.TheVariants.{Add, Sub, Mul}
 use Rattle.frac128.specs.Operations.{refuses}
 use Rattle.exact_values.specs.Rational.{ℚ, zero_ℚ, ◌+ℚ◌, ◌-ℚ◌, ◌*ℚ◌, ◌≤ℚ◌, ◌<ℚ◌, compare_ℚ}
 use Rattle.exact_values.specs.Sums.{sum_up_to}
-use Rattle.exact_values.specs.Tests.{lt_ℚ, le_ℚ, eq_ℚ, is_less, is_equal}
+use Rattle.exact_values.specs.Tests.{lt_ℚ, eq_ℚ}
 use Rattle.exact_values.proofs.Tests_laws.{test_from_le, test_from_same}
-use Rattle.exact_values.proofs.Order.{lt_not_le}
-use Rattle.exact_values.proofs.Compare.{lt_from_compare, same_from_compare, gt_from_compare, compare_from_same}
+use Rattle.exact_values.proofs.Compare.{lt_from_compare, same_from_compare, gt_from_compare}
 use Rattle.exact_values.proofs.Ring_laws.{zero-add}
 use Rattle.lp_definitions.specs.declared.Change.{Change}
 use Rattle.lp_definitions.specs.LinearProgram.{LinearProgram, Vector, IsMatrix, IsColumn, IsVariable, KeepsEquations, numbers_from, entry, lower_of, upper_of, cost, for_min, size}

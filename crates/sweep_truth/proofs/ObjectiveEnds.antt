@@ -1,29 +1,26 @@
 -- In a run of the objective the point stays feasible at a break, and a direction in which nothing stops the change row proves for
 -- every greater value that the program is unbounded.
 use Rattle.std.proofs.Common.{◌≡◌, ◌≢◌, ℕ, Bool, true, false, List, refl, sym, subst, pos}
-use Rattle.std.specs.Prelude.{Option, Some, None, ◌&&◌, option_map, if◌then◌else◌}
+use Rattle.std.specs.Prelude.{Option, Some, None, ◌&&◌}
 use Rattle.std.proofs.lemmas.Bool.{and_parts}
-use Rattle.exact_values.specs.Rational.{ℚ, zero_ℚ, one_ℚ, neg_ℚ, ◌+ℚ◌, ◌-ℚ◌, ◌*ℚ◌, ◌/ℚ◌, ◌<ℚ◌}
+use Rattle.exact_values.specs.Rational.{ℚ, zero_ℚ, one_ℚ, neg_ℚ, ◌+ℚ◌, ◌-ℚ◌, ◌*ℚ◌, ◌<ℚ◌}
 use Rattle.exact_values.specs.Tests.{eq_ℚ, lt_ℚ}
-use Rattle.exact_values.proofs.Ring.{by_ring1, by_ring3, by_ring4, same_by_one, ◌⊕◌, ◌⊖◌, ◌⊗◌, ◌≐◌, number, opposite}
-use Rattle.exact_values.proofs.Order.{le_of_lt, lt_from_le, lt_by_product}
-use Rattle.exact_values.proofs.Tests_laws.{test_from_lt, lt_fails_from_le}
-use Rattle.lp_definitions.specs.LinearProgram.{Matrix, LinearProgram, Vector, value_at, IsRow, IsVariable, HasNoLimits, IsLinearProgram, KeepsEquations, lower_of, upper_of, for_min, objective_value}
+use Rattle.exact_values.proofs.Ring.{by_ring3, by_ring4, same_by_one, ◌⊕◌, ◌⊖◌, ◌⊗◌, ◌≐◌, number, opposite}
+use Rattle.exact_values.proofs.Order.{lt_from_le, lt_by_product}
+use Rattle.lp_definitions.specs.LinearProgram.{LinearProgram, Vector, value_at, IsRow, HasNoLimits, IsLinearProgram, for_min, objective_value}
 use Rattle.lp_definitions.specs.Solutions.{IsFeasible, ProvesUnbounded}
 use Rattle.lp_definitions.specs.Basis.{IsOptimalBasis, Tableau, IsTableau, objective_rate}
 use Rattle.lp_definitions.specs.declared.Sense.{Sense}
 use Rattle.lp_definitions.specs.declared.Sense.TheVariants.{Min, Max}
 use Rattle.lp_definitions.specs.declared.Status.{Status}
 use Rattle.lp_laws.proofs.Duality.{unbounded_by_direction}
-use Rattle.lp_laws.proofs.Equations.{KeepsEquations-same, KeepsEquations-scale}
 use Rattle.lp_laws.proofs.Uniqueness.{one_point}
-use Rattle.path_definitions.specs.Moves.{signed, goes_up, lowers, room, stopper}
+use Rattle.path_definitions.specs.Moves.{signed, goes_up, lowers, stopper}
 use Rattle.path_definitions.specs.Path.{Move, after, listed, speeds, stopped_by}
 use Rattle.path_laws.specs.Laws.{IsNonsingularBasis}
 use Rattle.path_laws.proofs.Endless.{keeps-signed, motion_proves}
-use Rattle.path_laws.proofs.Ends.{IsFeasible-same, value_at-listed}
+use Rattle.path_laws.proofs.Ends.{IsFeasible-same}
 use Rattle.path_laws.proofs.Searches.{found_passes}
-use Rattle.path_laws.proofs.Stoppers.{stopper_none}
 use Rattle.path_laws.proofs.Tests.{lt_true, lt_false, eq_true, neg_below}
 use Rattle.postoptimal_definitions.specs.Chain.{ChainEnd, UnboundedPast, FaceMoves, FaceEnds}
 use Rattle.postoptimal_definitions.specs.ObjectiveRun.{objective_family, change_rate, face_mover, face_until, face_by, objective_face, IsObjectiveFace}
