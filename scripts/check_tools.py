@@ -216,6 +216,26 @@ def try_listings():
     check("listing2json.py: BCDOUT", reports("bcdout-one", "bcdout") == [{"report": "bcdout", "name": "ONE", "cards": 10}])
 
 
+# A job, a listing, and what scripts/explain says of them; a listing of another job is explained by itself.
+EXPLAINED = (
+    ("examples/pararhs", "examples/pararhs", (
+        "Theta from 0 to 10: the objective is 90 + 3 theta, from 90 to 120.\nTheta from 10 to 15: the objective is 70 + 5 theta, from 120 to 145.\n"
+        "  FARM     BS, now UL: it has left the basis, and stands at its upper limit\n  COOP     LL, now BS: it has entered the basis\n"
+        "XPARMAX is reached, and XPARAM is left at 15:", "Theta from 15 to 18: the objective is 70 + 5 theta, from 145 to 160.\nPast theta = 18 no plan",
+        "-1 x NEED     which is at least 30 + theta: at most -30 - theta\n", "1/2 x FARM     which is at most 40: at most 20\n",
+        "together 0, and at most 18 - theta, which is less than 0 past 18:", "moves that end by its factor at most.")),
+    ("examples/paraobj", "examples/paraobj", (
+        "Theta from 0 to 2: the objective is 0.\nTheta from 2 to 15: the objective is -32 + 16 theta, from 0 to 208.\n  HOURS    BS, now UL:",
+        "  MAKE     LL, now BS:", "Past theta = 15 the objective has no bound.", "  BUY      changes by 1 a unit of the way\n\n"
+        "Each time the objective changes by -15 + theta, which is more than 0 past 15.")),
+    ("examples/first", "examples/pararhs", ("1/2 x FARM     which is at most its upper limit\n",)),
+    ("examples/first", "examples/paraobj", ("PROFIT   changes by -15 a unit of the way\n",)),
+    ("scripts/known/pararhs-point-interval", "scripts/known/pararhs-point-interval", ("At theta = 0 alone: the objective is 1.\n",)),
+    ("scripts/known/paraobj-unbounded-opening", "scripts/known/paraobj-unbounded-opening", (
+        "At XPARAM, where PARAOBJ begins, there is no best plan, so there are no intervals.\nThe objective has no bound.",)),
+)
+
+
 def try_explain(folder):
     examples = runner.TOP / "examples"
     told = call(SCRIPTS / "explain", examples / "conflict.job", examples / "conflict.listing").stdout.decode()
@@ -224,6 +244,17 @@ def try_explain(folder):
     listing.write_text("STOP 12 DECK FAULT 6 CARD 12\n")
     told = call(SCRIPTS / "explain", examples / "faults/deck-06.job", listing).stdout.decode()
     check("explain names the rows that are known", "Known rows: 'COST'" in told and "PROFIT    1" in told)
+    for job, name, wanted in EXPLAINED:
+        told = call(SCRIPTS / "explain", runner.TOP / f"{job}.job", runner.TOP / f"{name}.listing").stdout.decode()
+        for text in wanted:
+            check(f"explain {job} {name}: no {text!r} in {told}", text in told)
+    # at 20 the dairy needs 50, and has 28 trips and half of 40 churns: 48
+    late, listing = folder / "late.job", folder / "late.listing"
+    late.write_text((examples / "pararhs.job").read_text().replace("MOVE(XPARMAX,15)", "MOVE(XPARAM,20)\n         MOVE(XPARMAX,25)"))
+    listing.write_bytes(call(SCRIPTS / "expected_listing.py", late).stdout)
+    told = call(SCRIPTS / "explain", late, listing).stdout.decode()
+    for text in ("At XPARAM, where PARARHS begins", "which is at least 50: at most -50\n", "together 0, and at most -2: so"):
+        check(f"explain: no plan at XPARAM: no {text!r} in {told}", text in told)
 
 
 def try_help(folder):
