@@ -1,12 +1,13 @@
 #!/usr/bin/env python3
 """Compares the program with scripts/expected_listing.py on small jobs made at random: rows of each type, ranges, bounds of each type,
-MIN and MAX, RANGE, two right-hand sides in one run, the deck written out. Outside the gate: a run of 300 takes two minutes unproved, a few seconds else.
+MIN and MAX, RANGE, two right-hand sides in one run, PARAOBJ and PARARHS, REVISE, the deck written out. Outside the gate: a run of 300 takes some
+minutes unproved, a few seconds else.
 
-usage: random_jobs.py [--unproved | --itself] [--parametric] [--revise] [FIRST [COUNT]]      jobs FIRST, FIRST + 1, ..; 0 and 300 where nothing is said
+usage: random_jobs.py [--unproved | --itself] [--no-parametric] [--no-revise] [FIRST [COUNT]]      jobs FIRST, FIRST + 1, ..; 0 and 300 where nothing is said
 
 It prints how many differ, and the first of them whole; ends with 1 where one does, with 70 where there is no program. --unproved: the
-program as it stands, where no proved one is. --parametric, --revise: PARAOBJ and PARARHS, REVISE besides. --itself: no program runs; what
-expected_listing.py says is checked by the meaning of the words, where a job is small enough (scripts/every_basis.py)."""
+program as it stands, where no proved one is. --no-parametric: without PARAOBJ and PARARHS; --no-revise: without REVISE. --itself: no program
+runs; what expected_listing.py says is checked by the meaning of the words, where a job is small enough (scripts/every_basis.py)."""
 import collections, random, re, sys
 import every_basis, expected_listing, runner
 
@@ -140,7 +141,7 @@ def revising(chance, deck):
 SENSES = ("'MIN'", "'MAX'")
 
 
-def job(seed, is_parametric=False, revises=False):
+def job(seed, is_parametric, revises):
     chance = random.Random(seed)
     deck = Deck(chance)
     words = (["'RANGE','RG'"] if deck.ranges else []) + (["'BOUND','BD'"] if deck.bounds else []) + [chance.choice(SENSES)]
@@ -180,13 +181,13 @@ def by_program(jobs, expected, unproved):
 
 
 def main(words):
-    modes = {word for word in words if word in ("--unproved", "--itself", "--parametric", "--revise")}
+    modes = {word for word in words if word in ("--unproved", "--itself", "--no-parametric", "--no-revise")}
     numbers = [word for word in words if word not in modes]
     if any(not word.isdigit() for word in numbers) or len(numbers) > 2 or {"--unproved", "--itself"} <= modes:
         print(__doc__)
         return 0 if words in (["-h"], ["--help"]) else 64
     first, count = [int(word) for word in numbers] + [0, 300][len(numbers):]
-    jobs = {str(seed): job(seed, "--parametric" in modes, "--revise" in modes) for seed in range(first, first + count)}
+    jobs = {str(seed): job(seed, "--no-parametric" not in modes, "--no-revise" not in modes) for seed in range(first, first + count)}
     expected, verdicts, looked, wrong = {}, collections.Counter(), 0, {}
     for name, text in jobs.items():
         run = every_basis.Watched(text) if "--itself" in modes else expected_listing.Run(text)
