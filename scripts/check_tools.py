@@ -248,6 +248,11 @@ def try_explain(folder):
         told = call(SCRIPTS / "explain", runner.TOP / f"{job}.job", runner.TOP / f"{name}.listing").stdout.decode()
         for text in wanted:
             check(f"explain {job} {name}: no {text!r} in {told}", text in told)
+    broken = folder / "broken.listing"
+    for old in ("TO 10", "BS 90", "1/2\nEND"):
+        for word in ("NONE", "1/0"):
+            broken.write_text((examples / "pararhs.listing").read_text().replace(old, re.sub(r"\d+(/\d+)?", word, old), 1))
+            check(f"explain: {old} as {word}", call(SCRIPTS / "explain", examples / "pararhs.job", broken).returncode == 65)
     # at 20 the dairy needs 50, and has 28 trips and half of 40 churns: 48
     late, listing = folder / "late.job", folder / "late.listing"
     late.write_text((examples / "pararhs.job").read_text().replace("MOVE(XPARMAX,15)", "MOVE(XPARAM,20)\n         MOVE(XPARMAX,25)"))
