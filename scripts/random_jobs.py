@@ -34,21 +34,22 @@ def solving(name):
 
 
 def sweeping(chance, verb, change):
-    "a parametric run, after which the next one goes on"
-    first = chance.randint(-9, 9)
+    "a parametric run, after which the next one goes on; more have a plan where it begins near 0"
+    first = chance.choice((0, 0, -1, -0.5, 1, chance.randint(-9, 9)))
     return statements(change, f"MOVE(XPARAM,{first})", f"MOVE(XPARMAX,{first + chance.choice((0, 1, 5, 20, 999))})", f"MVADR(XDONFS,{verb}N)",
                       f"MVADR(XDOUNB,{verb}N)", verb, f"{verb}N:TITLE('NEXT')")
 
 
 class Deck:
     """the sections of a deck made at random. A friendly one has whole entries and a plan that keeps most of its limits, so that more of its jobs
-    have a best plan."""
+    have a best plan; in half of these each column has two limits, so that a parametric run goes through more intervals."""
     def __init__(self, chance):
         self.rows = [("N", "OBJ"), ("N", "CHG")]
         self.rows += [(chance.choice("LGELGN" if chance.random() < 0.2 else "LGE"), f"R{k}") for k in range(chance.randint(1, 4))]
         chance.shuffle(self.rows)
         is_friendly = chance.random() < 0.7
-        plan = {f"C{j}": chance.randint(0, 5) for j in range(chance.randint(0, 6))}
+        is_boxed = is_friendly and chance.random() < 0.5
+        plan = {f"C{j}": chance.randint(0, 5) for j in range(chance.randint(3 if is_boxed else 0, 6))}
         entries = {(column, row): chance.randint(-9, 9) if is_friendly else number(chance)
                    for column in plan for _, row in self.rows if chance.random() < 0.7}
         self.entries = [(column, row, value) for (column, row), value in entries.items()]
@@ -61,8 +62,8 @@ class Deck:
                     self.values.append((name, row, kept + room if is_friendly else number(chance)))
         self.ranges = [("RG", row, number(chance)) for kind, row in self.rows if kind != "N" and chance.random() < 0.3]
         for column in dict.fromkeys(column for column, _ in entries):
-            if chance.random() < 0.55:
-                for kind in chance.choice((["UP"], ["LO"], ["FX"], ["FR"], ["MI"], ["LO", "UP"])):
+            if is_boxed or chance.random() < 0.55:
+                for kind in ["LO", "UP"] if is_boxed else chance.choice((["UP"], ["LO"], ["FX"], ["FR"], ["MI"], ["LO", "UP"])):
                     room = {"LO": -chance.randint(0, 5), "UP": chance.randint(0, 5)}.get(kind, 0)
                     value = "" if kind in ("FR", "MI") else plan[column] + room if is_friendly else number(chance)
                     self.bounds.append(f" {kind} {'BD':<10}{column:<10}{value}".rstrip())
