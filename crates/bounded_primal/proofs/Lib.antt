@@ -12,3 +12,4 @@ pub mod TrueOutcomes
 pub mod FreeWalk
 pub mod CompletePaths
 pub mod StopperFacts
+pub mod Inside
