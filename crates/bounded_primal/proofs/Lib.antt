@@ -13,3 +13,4 @@ pub mod FreeWalk
 pub mod CompletePaths
 pub mod StopperFacts
 pub mod Inside
+pub mod AtOnce
