@@ -6,7 +6,7 @@ use Rattle.exact_values.specs.Tests.{lt_ℚ}
 use Rattle.exact_values.proofs.Ring.{by_ring1, by_ring2, ◌⊖◌, ◌⊗◌, ◌⊕◌, ◌≐◌, number, opposite}
 use Rattle.exact_values.proofs.Inverse.{same_quotients}
 use Rattle.exact_values.proofs.Order.{le_by_one, le-div, apart_from_above, apart_from_below}
-use Rattle.lp_definitions.specs.LinearProgram.{LinearProgram, Vector, IsVariable, size, lower_of, upper_of}
+use Rattle.lp_definitions.specs.LinearProgram.{LinearProgram, Vector, size, lower_of, upper_of}
 use Rattle.lp_definitions.specs.Solutions.{IsFeasible}
 use Rattle.path_definitions.specs.Moves.{is_no_later, room}
 use Rattle.path_laws.proofs.Tests.{lt_true, le_from, neg_above}
@@ -34,7 +34,7 @@ forward low high z v x within e = by_tests (lt_ℚ zero_ℚ v) refl (lt_ℚ v ze
     lower None h down e = cc
     lower (Some l) h down e =
         let turned : neg_ℚ (l -ℚ z) /ℚ neg_ℚ v ≡ (l -ℚ z) /ℚ v = same_quotients (neg_ℚ (l -ℚ z)) (neg_ℚ v) (l -ℚ z) v (apart_from_above (neg_above v down)) (apart_from_below down)
-            (by_ring2 (l -ℚ z) v (λ a v. opposite a ⊗ v ≐ a ⊗ opposite v) refl) in
+        (by_ring2 (l -ℚ z) v (λ a v. opposite a ⊗ v ≐ a ⊗ opposite v) refl) in
         let ahead : zero_ℚ ≤ℚ neg_ℚ (l -ℚ z) = subst (λ y. zero_ℚ ≤ℚ y) (by_ring2 z l (λ z l. z ⊖ l ≐ opposite (l ⊖ z)) refl) (difference_above l z h) in
         subst (λ y. zero_ℚ ≤ℚ y) (turned ∙ some_value e)
         (le-div (neg_above v down) (subst (λ y. y ≤ℚ neg_ℚ (l -ℚ z)) (by_ring1 v (λ v. number (pos 0) ≐ number (pos 0) ⊗ opposite v) refl) ahead))

@@ -1,15 +1,14 @@
 -- Once no basic is outside its limits none ever is: the point is feasible, and a step leaves it so.
-use Rattle.std.proofs.Common.{◌≡◌, ℕ, false, List, refl, sym, ◌∙◌, ap, ap₂, arith}
-use Rattle.std.specs.Prelude.{Option, Some, None, IfSome, ◌&&◌, ◌||◌, Bool, true, not}
+use Rattle.std.proofs.Common.{◌≡◌, ℕ, false, List, refl, ap₂}
+use Rattle.std.specs.Prelude.{Option, Some, None, IfSome, ◌&&◌, ◌||◌, Bool, true}
 use Rattle.exact_values.specs.Rational.{ℚ, ◌≤ℚ◌}
 use Rattle.exact_values.specs.Tests.{lt_ℚ}
 use Rattle.exact_values.proofs.Order.{lt_not_le}
-use Rattle.lp_definitions.specs.LinearProgram.{LinearProgram, Matrix, Vector, IsLinearProgram, IsVariable, lower_of, upper_of}
+use Rattle.lp_definitions.specs.LinearProgram.{LinearProgram, Matrix, Vector, IsLinearProgram, lower_of, upper_of}
 use Rattle.lp_definitions.specs.Basis.{Basics, basics_of, is_in, IsPointOf, Tableau, IsTableau}
 use Rattle.lp_definitions.specs.Solutions.{IsFeasible}
 use Rattle.lp_definitions.specs.declared.Status.{Status}
 use Rattle.lp_laws.proofs.Uniqueness.{one_point}
-use Rattle.lp_laws.proofs.Values.{clash}
 use Rattle.path_definitions.specs.Moves.{on_limit, is_outside, is_below, is_above}
 use Rattle.path_definitions.specs.Path.{IsStep, after}
 use Rattle.path_laws.specs.Laws.{IsNonsingularBasis}

@@ -65,7 +65,9 @@ fn free_turn<R: Rates>(
     ensures waypoints { KeepsWaypoints lp.now.matrix (basics_of basis.now) (R.waypoints rates.old)
         (basics_of basis.now) (R.waypoints rates.new) }
 {
-    match next_turn(alloc, lp, basis, rates, point, row, direction, broken, steps, 1) {
+    match next_turn(
+        alloc, lp, basis, rates, point, row, direction, broken, steps, 1,
+    ) {
         Ok(turn) => Ok(turn),
         Err(stop) => Err(unlimited(stop)),
     }
@@ -104,7 +106,9 @@ fn walk_free<R: Rates, L: Ledger>(
     let mut broken = outside(lp, basis, point);
     let mut steps: u32 = 0;
     loop {
-        match free_turn(alloc, lp, basis, rates, point, row, direction, broken, steps)? {
+        match free_turn(
+            alloc, lp, basis, rates, point, row, direction, broken, steps,
+        )? {
             Turn::Ends(outcome) => return Ok(outcome),
             Turn::Moves { q, by } => take_step(lp, basis, rates, point, direction, q, &by)?,
         }
