@@ -12,3 +12,5 @@ pub mod TrueOutcomes
 pub mod FreeWalk
 pub mod CompletePaths
 pub mod StopperFacts
+pub mod Inside
+pub mod AtOnce
