@@ -46,7 +46,7 @@ use Rattle.control_run.specs.declared.act.Halt.TheVariants as halt
 use Rattle.control_run.specs.declared.end.Place.{Place as OwnPlace}
 use Rattle.control_run.specs.declared.finding.Finding.{Finding}
 use Rattle.control_run.specs.declared.finding.Finding.TheVariants.{Ended, Overflow, Swept}
-use Rattle.control_run.specs.declared.machine.Setup.{Setup}
+use Rattle.control_run.specs.Kept.{Setup}
 use Rattle.control_run.specs.declared.selecting.Refusal.{Refusal}
 use Rattle.control_run.specs.declared.selecting.Refusal.TheVariants.{Fault, NoMemory}
 use Rattle.control_run.specs.declared.selecting.Refusal.TheVariants as refusals
@@ -55,7 +55,6 @@ use Rattle.control_run.specs.declared.sweep.Sweep.TheVariants as own
 use Rattle.control_run.specs.declared.sweep.SweepVerb.{SweepVerb}
 use Rattle.control_run.specs.Choosing.{IsUnselected}
 use Rattle.control_run.specs.Ends.{place_shown}
-use Rattle.control_run.specs.Engine.{ways}
 use Rattle.control_run.specs.Findings.{IsOverflowAt, Tells, refused_finding}
 use Rattle.control_run.specs.Sweeping.{IsNotAsked, IsAsked, sweep_shown, IsOf, Serves, value_left, IsRunOverflow, SweepReaches, SweepFinds, opened, chained, overflows, Sweeps, unselected, too_large, not_asked, swept}
 use Rattle.control_run.proofs.Telling.{tells_more, tells_quietly, overflow_tells}
@@ -209,9 +208,9 @@ module _ {P : Type 0} (written : P → Option (List ℕ)) (faults refusals : P �
         at_problem print print (refused_finding refusal) (tells_quietly written faults refusals (Sweeps there cells verb setup new) print (refused_finding refusal) (unasked_found refusal u))
 
     pub run_told : (sweep : Sweep) → IsAsked verb there cells sweep → (print_old print_new : P) (result : Result Finding Halt) → new.name ≡ setup.name → new.options ≡ setup.options →
-        Tells (SweepFinds (record { problem = there; lp = lp }) setup.basis new.basis sweep (ways setup.engine) (ways new.engine)) written faults refusals print_old print_new result →
+        Tells (SweepFinds (record { problem = there; lp = lp }) setup.basis new.basis sweep setup.engine.waypoints new.engine.waypoints) written faults refusals print_old print_new result →
         (problem : Problem ℕ) → filed_under setup.name file ≡ Some problem → Tells (Sweeps problem cells verb setup new) written faults refusals print_old print_new result
     run_told sweep a print_old print_new result same_name same_options t =
         at_problem print_old print_new result
-        (tells_more written faults refusals (SweepFinds (record { problem = there; lp = lp }) setup.basis new.basis sweep (ways setup.engine) (ways new.engine)) (Sweeps there cells verb setup new) print_old print_new
+        (tells_more written faults refusals (SweepFinds (record { problem = there; lp = lp }) setup.basis new.basis sweep setup.engine.waypoints new.engine.waypoints) (Sweeps there cells verb setup new) print_old print_new
         (λ gain finding f. swept ok a same_name same_options f) result t)

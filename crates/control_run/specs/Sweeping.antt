@@ -43,7 +43,7 @@ use Rattle.control_run.specs.declared.act.Halt.{Halt}
 use Rattle.control_run.specs.declared.end.Place.{Place as OwnPlace}
 use Rattle.control_run.specs.declared.finding.Finding.{Finding}
 use Rattle.control_run.specs.declared.finding.Finding.TheVariants.{Refused, Overflow, Limit, Ended, Swept}
-use Rattle.control_run.specs.declared.machine.Setup.{Setup}
+use Rattle.control_run.specs.Kept.{Setup}
 use Rattle.control_run.specs.declared.selecting.Refusal.{Refusal}
 use Rattle.control_run.specs.declared.selecting.Refusal.TheVariants.{Fault, NoMemory}
 use Rattle.control_run.specs.declared.selecting.Refusal.TheVariants as refusals
@@ -53,7 +53,6 @@ use Rattle.control_run.specs.declared.sweep.Sweep.{Sweep as OwnSweep}
 use Rattle.control_run.specs.declared.sweep.Sweep.TheVariants as own
 use Rattle.control_run.specs.Choosing.{HasSelectionFault, HasRangeOverflow}
 use Rattle.control_run.specs.Ends.{place_shown}
-use Rattle.control_run.specs.Engine.{ways}
 use Rattle.control_run.specs.Findings.{IsOverflowAt}
 
 -- ---- what a verb asks for
@@ -197,7 +196,7 @@ pub data Sweeps (problem : Problem ℕ) (cells : Cells) (verb : SweepVerb) (setu
       IsAsked verb problem cells sweep →
       new.name ≡ setup.name → new.options ≡ setup.options →
       SweepFinds (record { problem = problem; lp = lp }) setup.basis new.basis sweep
-      (ways setup.engine) (ways new.engine) gain finding →
+      setup.engine.waypoints new.engine.waypoints gain finding →
       Sweeps problem cells verb setup new gain finding
 
 -- ---- what is left

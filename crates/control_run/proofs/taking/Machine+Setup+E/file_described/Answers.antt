@@ -4,7 +4,7 @@ use Rattle.answer_definitions.specs.Real.{linear_programming}
 use Rattle.control_run.specs.Describing.{verb_of}
 use Rattle.control_run.proofs.Giving.{quietly}
 use Rattle.control_run.proofs.Filing.{filed_done, filed_cut}
-use Rattle.control_run.proofs.machine.Machine.file_described.Goals as goal
+use Rattle.control_run.proofs.taking.Machine+Setup+E.file_described.Goals as goal
 
 pub returns-in-Ends-clause-acts : goal.returns-in-Ends-clause-acts
 returns-in-Ends-clause-acts g c =

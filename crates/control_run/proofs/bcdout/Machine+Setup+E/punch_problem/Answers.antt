@@ -2,7 +2,7 @@
 use Rattle.std.proofs.Common.{sym}
 use Rattle.std.proofs.lemmas.Result.{err_from_is_err_and}
 use Rattle.control_run.proofs.Punching.{no_problem_punched, deck_cut, deck_punched, deck_line_cut}
-use Rattle.control_run.proofs.machine.Machine.punch_problem.Goals as goal
+use Rattle.control_run.proofs.bcdout.Machine+Setup+E.punch_problem.Goals as goal
 
 pub returns-in_default : goal.returns-in_default
 returns-in_default g c = λ cards.
