@@ -1,6 +1,7 @@
 // The machine over more than one engine: the listing and the status of a job don't depend on what keeps the rates.
 use crate::no_memory::NoRoom;
 use crate::rows::{PLANS, RANGES, Row};
+use crate::sweeps::PARAMETRIC;
 use card_reader::read_job;
 use control_compiler::compile;
 use control_run::{Status, run_on};
@@ -44,6 +45,7 @@ fn first_untold<E: Engine>(alloc: Global, rows: &[Row]) -> Result<Option<&'stati
 fn the_table_of_rates_runs_jobs(rt: HostRuntime) -> Result<(), Fail> {
     assert_eq!(rt; first_untold::<Dense>(rt.alloc(), &PLANS)?, None);
     assert_eq!(rt; first_untold::<Dense>(rt.alloc(), &RANGES)?, None);
+    assert_eq!(rt; first_untold::<Dense>(rt.alloc(), &PARAMETRIC)?, None);
     Ok(())
 }
 
@@ -51,6 +53,7 @@ fn the_table_of_rates_runs_jobs(rt: HostRuntime) -> Result<(), Fail> {
 fn the_product_form_runs_jobs(rt: HostRuntime) -> Result<(), Fail> {
     assert_eq!(rt; first_untold::<ProductForm>(rt.alloc(), &PLANS)?, None);
     assert_eq!(rt; first_untold::<ProductForm>(rt.alloc(), &RANGES)?, None);
+    assert_eq!(rt; first_untold::<ProductForm>(rt.alloc(), &PARAMETRIC)?, None);
     Ok(())
 }
 

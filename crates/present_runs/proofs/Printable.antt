@@ -6,7 +6,7 @@ use Rattle.std.proofs.lemmas.List.{length-map}
 use Rattle.exact_values.specs.Rational.{ℚ}
 use Rattle.exact_values.proofs.Order.{le_refl}
 use Rattle.lp_definitions.specs.LinearProgram.{Matrix, LinearProgram, Vector, size, variables}
-use Rattle.lp_definitions.specs.Basis.{Tableau}
+use Rattle.lp_definitions.specs.Basis.{basics_of, Tableau}
 use Rattle.lp_definitions.specs.declared.Status.{Status}
 use Rattle.lp_laws.proofs.Opening.{length-numbers_from}
 use Rattle.lp_model.specs.declared.reports.Outcome.{Outcome}
@@ -17,7 +17,7 @@ use Rattle.lp_model.specs.declared.reports.ParaPart.{ParaPart}
 use Rattle.lp_model.specs.declared.reports.ParaReport.{ParaReport}
 use Rattle.lp_model.specs.declared.reports.ParaReport.TheVariants as reports
 use Rattle.path_definitions.specs.Moves.{goes_up, stopper}
-use Rattle.path_definitions.specs.Path.{listed, speeds}
+use Rattle.path_definitions.specs.Path.{listed, ray_of, speeds}
 use Rattle.path_definitions.specs.DualRatio.{cheapest}
 use Rattle.postoptimal_definitions.specs.Chain.{Part, ChainEnd, AtMax, UnboundedPast, InfeasiblePast, FaceTurn, FaceMoves, FaceDone, FaceEnds, IsPart as IsInterval, IsChain, at_max, past_break, goes_on}
 use Rattle.postoptimal_definitions.specs.ObjectiveRun.{objective_family, change_rate, face_mover, face_until, face_by, objective_face, IsObjectiveFace}
@@ -69,7 +69,8 @@ module _ (p : LinearProgram) (shift : List ℚ) (theta : ℚ) (s : List Status) 
   rhs_exchange : (r : ℕ) (below : Bool) (o : Option ℕ) (end : ChainEnd) → face_exchange p shift theta s t v r below o ≡ FaceEnds end → EndHasPlaces (size p.matrix) end
   rhs_exchange r below (Some q) end e = absurd (cc e)
   rhs_exchange r below None end e =
-      subst (EndHasPlaces (size p.matrix)) (let same : InfeasiblePast theta _ ≡ end = cc e in same) (listed_counted p.matrix _)
+      let ray : Vector = ray_of (basics_of s) t.rate r below in
+      subst (EndHasPlaces (size p.matrix)) (let same : InfeasiblePast theta (listed p.matrix ray) ≡ end = cc e in same) (listed_counted p.matrix ray)
 
   rhs_at : (o : Option ℕ) (end : ChainEnd) → face_at p shift theta s t v o ≡ FaceEnds end → EndHasPlaces (size p.matrix) end
   rhs_at (Some r) end e = rhs_exchange r (leaves_below p shift theta s t v r) (cheapest p s t r (leaves_below p shift theta s t v r)) end e
