@@ -165,19 +165,30 @@ SWEEPS = {
     "pararhs-infeasible-past": ((0, 1), (2, 3), "no plan past 2"),
     "pararhs-point-interval": ((0, 1), "the run ends at 0"),
 }
+# A listing of examples/, the run of it that is drawn, and what is drawn: the last run without a number.
+EXAMPLE_SWEEPS = (
+    ("paraobj", (), ((0, 0), (2, 0), (15, 208)), "no bound past 15"),
+    ("pararhs", ("--run", "1"), ((0, 90), (10, 120), (15, 145)), "the run ends at 15"),
+    ("pararhs", (), ((15, 145), (18, 160)), "no plan past 18"),
+)
+
+
+def drawn_points(told):
+    "the whole parameters and values of the table behind a picture of letters"
+    return tuple((int(line.split()[0]), int(line.split()[1])) for line in told.partition("change a unit\n")[2].splitlines()[:-1])
 
 
 def try_plots(folder):
     script, picture = SCRIPTS / "plot_parametric.py", folder / "picture.svg"
-    for name, (*points, end) in SWEEPS.items():
-        listing = SCRIPTS / "known" / f"{name}.listing"
-        told = call(script, listing).stdout.decode()
-        drawn = [(int(line.split()[0]), int(line.split()[1])) for line in told.partition("change a unit\n")[2].splitlines()[:-1]]
-        check(f"plot_parametric.py: {name}: {told}", drawn == points and told.splitlines()[-1] == end)
-        call(script, "--svg", "-o", picture, input=listing.read_bytes())
+    sweeps = [(SCRIPTS / "known" / f"{name}.listing", (), tuple(points), end) for name, (*points, end) in SWEEPS.items()]
+    sweeps += [(runner.TOP / "examples" / f"{name}.listing", *wanted) for name, *wanted in EXAMPLE_SWEEPS]
+    for listing, words, points, end in sweeps:
+        told = call(script, *words, listing).stdout.decode()
+        check(f"plot_parametric.py: {listing.name} {words}: {told}", drawn_points(told) == points and told.splitlines()[-1] == end)
+        call(script, *words, "--svg", "-o", picture, input=listing.read_bytes())
         marks = [mark.firstChild.data for mark in xml.dom.minidom.parse(str(picture)).getElementsByTagName("title")]
-        check(f"plot_parametric.py --svg: {name}: {marks}", marks == [f"{theta}: {value}" for theta, value in points])
-    for what, words, status in (("no run", (SCRIPTS / "known/range-two.listing",), 65), ("no such run", ("--run", "2", listing), 65),
+        check(f"plot_parametric.py --svg: {listing.name} {words}: {marks}", marks == [f"{theta}: {value}" for theta, value in points])
+    for what, words, status in (("no run", (SCRIPTS / "known/range-two.listing",), 65), ("no such run", ("--run", "3", listing), 65),
                                 ("no listing", (script,), 65), ("no file", (folder / "none",), 66), ("wrong use", ("--run", "x"), 64)):
         told = call(script, *words)
         check(f"plot_parametric.py: {what}", told.returncode == status and told.stderr.startswith(b"plot_parametric.py: "))

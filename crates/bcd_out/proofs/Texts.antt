@@ -9,9 +9,9 @@ use Rattle.card_definitions.specs.Words.{without_trailing}
 use Rattle.card_definitions.specs.Cards.{is_blank}
 use Rattle.problem_definitions.specs.Names.{Name, name_at}
 use Rattle.problem_definitions.specs.Problem.{Row, Entry, Bound, Group, Problem, group_names}
-use Rattle.problem_definitions.specs.Numbering.{entry_by, bound_by, group_by, by_names}
+use Rattle.problem_definitions.specs.Numbering.{entry_by, row_by, bound_by, group_by, by_names}
 use Rattle.deck_definitions.specs.Written.{data_card, row_card, bound_kind_text, bound_text, entry_cards, bound_cards, column_cards, set_section, written, card_text}
-use Rattle.bcd_out.specs.Lines.{line, row_line, entry_lines, column_lines, bound_lines, section_lines, column_count, section_count}
+use Rattle.bcd_out.specs.Lines.{line, row_line, zero_line, entry_lines, column_lines, bound_lines, section_lines, column_count, section_count}
 
 -- the names of rows
 abbrev labels : List (Row ℕ) → List Name
@@ -26,10 +26,14 @@ text_of_section : {X Y : Type 0} (word : List ℕ) (cards : Group Y → List (Li
 text_of_section word cards lines h same [] = refl
 text_of_section word cards lines h same (x ∷ xs) = ap (λ w. line word ++ w) (text_of_groups cards lines h same (x ∷ xs))
 
-text_of_rows : (rows : List (Row ℕ)) → card_text (map row_card rows) ≡ flat_map row_line rows
-text_of_rows rows = flat_map-map (λ card. card ++ 10 ∷ []) row_card rows
-
 module _ (rows : List (Row ℕ)) where
+  -- the rows by names
+  abbrev named_rows : List (Row Name)
+  named_rows = map (row_by (name_at (labels rows))) rows
+
+  text_of_rows : card_text (map row_card named_rows) ≡ flat_map row_line rows
+  text_of_rows = flat_map-map (λ card. card ++ 10 ∷ []) row_card named_rows ∙ flat_map-map (λ (row : Row Name). line (row_card row)) (row_by (name_at (labels rows))) rows
+
   -- the column or set by names
   abbrev named_group : Group (Entry ℕ) → Group (Entry Name)
   named_group = group_by (entry_by (name_at (labels rows)))
@@ -39,11 +43,15 @@ module _ (rows : List (Row ℕ)) where
       flat_map-map (λ card. card ++ 10 ∷ []) (λ (entry : Entry Name). data_card [] group.name entry.row entry.value.text) (map (entry_by (name_at (labels rows))) group.items)
       ∙ flat_map-map (λ (entry : Entry Name). data_card [] group.name entry.row entry.value.text ++ 10 ∷ []) (entry_by (name_at (labels rows))) group.items
 
-  text_of_column : (column : Group (Entry ℕ)) → card_text (column_cards rows (named_group column)) ≡ column_lines rows column
+  text_of_column : (column : Group (Entry ℕ)) → card_text (column_cards named_rows (named_group column)) ≡ column_lines rows column
   text_of_column column = by column.items refl
     where
-      by : (items : List (Entry ℕ)) → column.items ≡ items → card_text (column_cards rows (named_group column)) ≡ column_lines rows column
-      by [] e = rw e (flat_map-map (λ card. card ++ 10 ∷ []) (λ (row : Row ℕ). data_card [] column.name row.name (codes "0")) (take 1 rows))
+      by : (items : List (Entry ℕ)) → column.items ≡ items → card_text (column_cards named_rows (named_group column)) ≡ column_lines rows column
+      by [] e = rw e (zero rows)
+        where
+          zero : (some : List (Row ℕ)) → card_text (map (λ (row : Row Name). data_card [] column.name row.name (codes "0")) (take 1 (map (row_by (name_at (labels rows))) some))) ≡ flat_map (zero_line column.name) (take 1 some)
+          zero [] = refl
+          zero (row ∷ some) = refl
       by (item ∷ items) e = let whole = text_of_entries column in rw e (rw e at whole)
 
 text_of_bounds : (columns : List Name) (set : Group (Bound ℕ)) → card_text (bound_cards (group_by (bound_by (name_at columns)) set)) ≡ bound_lines columns set
@@ -103,9 +111,9 @@ deck_text problem =
     let rhs = map (named_group rows) problem.rhs in
     let ranges = map (named_group rows) problem.ranges in
     let bounds = map (group_by (bound_by (name_at names))) problem.bounds in
-    let parts = text_of_parts n (codes "ROWS") (codes "COLUMNS") (codes "ENDATA") (map row_card rows) (flat_map (column_cards rows) columns) (set_section (codes "RHS") entry_cards rhs) (set_section (codes "RANGES") entry_cards ranges) (set_section (codes "BOUNDS") bound_cards bounds) in
+    let parts = text_of_parts n (codes "ROWS") (codes "COLUMNS") (codes "ENDATA") (map row_card (named_rows rows)) (flat_map (column_cards (named_rows rows)) columns) (set_section (codes "RHS") entry_cards rhs) (set_section (codes "RANGES") entry_cards ranges) (set_section (codes "BOUNDS") bound_cards bounds) in
     sym (parts ∙ pieces n (codes "ROWS") (codes "COLUMNS") (codes "ENDATA") (text_of_rows rows)
-    (text_of_groups (column_cards rows) (column_lines rows) (named_group rows) (text_of_column rows) problem.columns)
+    (text_of_groups (column_cards (named_rows rows)) (column_lines rows) (named_group rows) (text_of_column rows) problem.columns)
     (text_of_section (codes "RHS") entry_cards (entry_lines (labels rows)) (named_group rows) (text_of_entries rows) problem.rhs)
     (text_of_section (codes "RANGES") entry_cards (entry_lines (labels rows)) (named_group rows) (text_of_entries rows) problem.ranges)
     (text_of_section (codes "BOUNDS") bound_cards (bound_lines names) (group_by (bound_by (name_at names))) (text_of_bounds names) problem.bounds))
@@ -134,11 +142,15 @@ length_of_section word cards h same (x ∷ xs) = let others = length_of_groups c
 length_of_items : {X Y A : Type 0} (f : Y → A) (h : X → Y) (items : List X) → length (map f (map h items)) ≡ length items
 length_of_items f h items = length-map (map h items) f ∙ length-map items h
 
-length_of_column : (rows : List (Row ℕ)) (column : Group (Entry ℕ)) → length (column_cards rows (named_group rows column)) ≡ column_count rows column
+length_of_column : (rows : List (Row ℕ)) (column : Group (Entry ℕ)) → length (column_cards (named_rows rows) (named_group rows column)) ≡ column_count rows column
 length_of_column rows column = by column.items refl
   where
-    by : (items : List (Entry ℕ)) → column.items ≡ items → length (column_cards rows (named_group rows column)) ≡ column_count rows column
-    by [] e = rw e (length-map (take 1 rows) (λ (row : Row ℕ). data_card [] column.name row.name (codes "0")))
+    by : (items : List (Entry ℕ)) → column.items ≡ items → length (column_cards (named_rows rows) (named_group rows column)) ≡ column_count rows column
+    by [] e = rw e (zero rows)
+      where
+        zero : (some : List (Row ℕ)) → length (map (λ (row : Row Name). data_card [] column.name row.name (codes "0")) (take 1 (map (row_by (name_at (labels rows))) some))) ≡ length (take 1 some)
+        zero [] = refl
+        zero (row ∷ some) = refl
     by (item ∷ items) e = let whole = length_of_items (λ (entry : Entry Name). data_card [] column.name entry.row entry.value.text) (entry_by (name_at (labels rows))) column.items in rw e (rw e at whole)
 
 length_of_parts : (n r c e : List ℕ) (rows columns rhs ranges bounds : List (List ℕ))
@@ -158,9 +170,9 @@ deck_length problem =
     let rhs = map (named_group rows) problem.rhs in
     let ranges = map (named_group rows) problem.ranges in
     let bounds = map (group_by (bound_by (name_at names))) problem.bounds in
-    let parts = length_of_parts n (codes "ROWS") (codes "COLUMNS") (codes "ENDATA") (map row_card rows) (flat_map (column_cards rows) columns) (set_section (codes "RHS") entry_cards rhs) (set_section (codes "RANGES") entry_cards ranges) (set_section (codes "BOUNDS") bound_cards bounds) in
-    let row_part = length-map rows row_card in
-    let column_part = length_of_groups (column_cards rows) (column_count rows) (named_group rows) (length_of_column rows) problem.columns in
+    let parts = length_of_parts n (codes "ROWS") (codes "COLUMNS") (codes "ENDATA") (map row_card (named_rows rows)) (flat_map (column_cards (named_rows rows)) columns) (set_section (codes "RHS") entry_cards rhs) (set_section (codes "RANGES") entry_cards ranges) (set_section (codes "BOUNDS") bound_cards bounds) in
+    let row_part = length-map (named_rows rows) row_card ∙ length-map rows (row_by (name_at (labels rows))) in
+    let column_part = length_of_groups (column_cards (named_rows rows)) (column_count rows) (named_group rows) (length_of_column rows) problem.columns in
     let rhs_part = length_of_section (codes "RHS") entry_cards (named_group rows) (λ set. length_of_items (λ (entry : Entry Name). data_card [] set.name entry.row entry.value.text) (entry_by (name_at (labels rows))) set.items) problem.rhs in
     let range_part = length_of_section (codes "RANGES") entry_cards (named_group rows) (λ set. length_of_items (λ (entry : Entry Name). data_card [] set.name entry.row entry.value.text) (entry_by (name_at (labels rows))) set.items) problem.ranges in
     let bound_part = length_of_section (codes "BOUNDS") bound_cards (group_by (bound_by (name_at names))) (λ set. length_of_items (λ (bound : Bound Name). data_card (bound_kind_text bound.kind) set.name bound.column (bound_text bound)) (bound_by (name_at names)) set.items) problem.bounds in

@@ -4,7 +4,7 @@ use Rattle.std.specs.List.{flat_map}
 use Rattle.card_definitions.specs.Words.{is_empty, padded}
 use Rattle.problem_definitions.specs.Names.{Name, name_at}
 use Rattle.problem_definitions.specs.Problem.{Row, Entry, Bound, Group}
-use Rattle.deck_definitions.specs.Written.{data_card, row_card, bound_kind_text}
+use Rattle.deck_definitions.specs.Written.{data_card, row_kind_text, bound_kind_text}
 
 -- a card with its line feed
 abbrev pub line : List ℕ → List ℕ
@@ -15,8 +15,9 @@ abbrev pub columns_of : List ℕ → Name → Name → List ℕ → List ℕ
 columns_of kind name1 name2 value =
     codes " " ++ padded 2 kind ++ codes " " ++ padded 8 name1 ++ codes "  " ++ padded 8 name2 ++ codes "  " ++ value
 
+-- a row by its type and its name
 abbrev pub row_line : Row ℕ → List ℕ
-row_line row = line (row_card row)
+row_line row = line (data_card (row_kind_text row.kind) row.name [] [])
 
 -- an entry or item of this column or set, where these are the problem's rows
 abbrev pub entry_line : List Name → Name → Entry ℕ → List ℕ

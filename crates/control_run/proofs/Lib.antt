@@ -25,3 +25,4 @@ pub mod Sweep_comes
 pub mod Sweep_lines
 pub mod Limit_formula
 pub mod Sweep_steps
+pub mod Asking

@@ -1,5 +1,5 @@
 -- Lists of names with values, seen as rows or as entries.
-use Rattle.std.proofs.Common.{◌≡◌, Bool, true, false, cond, not, ◌||◌, ◌&&◌, List, [], ◌∷◌, Some, map, is_some, refl, ap, sym, subst, ◌∙◌}
+use Rattle.std.proofs.Common.{◌≡◌, ℕ, Bool, true, false, cond, not, ◌||◌, ◌&&◌, List, [], ◌∷◌, Some, map, is_some, refl, ap, sym, subst, ◌∙◌}
 use Rattle.std.specs.List.{list_any, IsDistinct, AllByRecursion}
 use Rattle.std.specs.Map.{lookup, keys_of}
 use Rattle.std.specs.Option.{option_map_or}
@@ -7,9 +7,11 @@ use Rattle.problem_definitions.specs.declared.RowKind.{RowKind}
 use Rattle.problem_definitions.specs.Kinds.{is_free_kind}
 use Rattle.problem_definitions.specs.Names.{Name, same}
 use Rattle.problem_definitions.specs.Problem.{has_row, has_free_row, has_entry}
+use Rattle.problem_definitions.specs.Numbering.{row_by}
 use Rattle.problem_definitions.proofs.Names.{same_eq}
+use Rattle.problem_definitions.proofs.Groups.{map-map}
 use Rattle.deck_parts.specs.declared.on_row.OnRow.{OnRow}
-use Rattle.deck_parts.specs.Shown.{row_at, entry_at}
+use Rattle.deck_parts.specs.Shown.{row_at, decl_at, entry_at}
 
 module _ {V X : Type 0} (f : Name × V → X) (name_of : X → Name) (own : (e : Name × V) → name_of (f e) ≡ e.0) where
   -- a name is looked up where something of this name is there
@@ -25,6 +27,10 @@ module _ {V X : Type 0} (f : Name × V → X) (name_of : X → Name) (own : (e :
 pub names-rows : (es : List (Name × RowKind)) → map (λ row. row.name) (map row_at es) ≡ keys_of es
 names-rows [] = refl
 names-rows (e ∷ es) = ap (λ names. e.0 ∷ names) (names-rows es)
+
+-- rows of a problem by numbers, as the reader has them
+pub rows-numbered : (f : Name → ℕ) (es : List (Name × RowKind)) → map (row_by f) (map row_at es) ≡ map decl_at es
+rows-numbered f es = map-map (row_by f) row_at es
 
 pub row_is_there : (name : Name) (es : List (Name × RowKind)) → is_some (lookup (same name) es) ≡ has_row (map row_at es) name
 row_is_there name es = there row_at (λ row. row.name) (λ e. refl) name es

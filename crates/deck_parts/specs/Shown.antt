@@ -8,7 +8,7 @@ use Rattle.problem_definitions.specs.declared.TheConstants.{MAX_COLUMNS, MAX_ENT
 use Rattle.problem_definitions.specs.declared.RowKind.{RowKind}
 use Rattle.problem_definitions.specs.declared.BoundKind.{BoundKind}
 use Rattle.problem_definitions.specs.Names.{Name, same, has_name, number_in}
-use Rattle.problem_definitions.specs.Problem.{Row, Entry, Bound, Group, Problem, has_group, group_names}
+use Rattle.problem_definitions.specs.Problem.{Row, plain_row, Entry, Bound, Group, Problem, has_group, group_names}
 use Rattle.deck_definitions.specs.declared.DeckFaultKind.{DeckFaultKind}
 use Rattle.deck_definitions.specs.declared.DeckFaultKind.TheVariants.{BadRowType, ColumnSplit, BoundTwice, EmptyName, TooManyColumns, TooManyEntries, CombinationRow}
 use Rattle.deck_definitions.specs.declared.Section.{Section}
@@ -19,22 +19,26 @@ use Rattle.deck_parts.specs.declared.on_row.OnRow.{OnRow}
 use Rattle.deck_definitions.specs.Tests.{combination_kinds, value_fault, all_but_last, is_bound_already, bound_value_fault, filled_from_5}
 
 -- the number of the row, or of the column, of a name, from 1; 0 where it isn't there
-abbrev pub row_number : List Row → Name → ℕ
+abbrev pub row_number : List (Row Name) → Name → ℕ
 row_number rows name = number_in (map (λ row. row.name) rows) name
 
 abbrev pub column_number : List (Group (Entry Name)) → Name → ℕ
 column_number columns name = number_in (group_names columns) name
 
 -- the rows that names with types stand for
-abbrev pub row_at : Name × RowKind → Row
-row_at e = record { kind = e.1; name = e.0 }
+abbrev pub row_at : Name × RowKind → Row Name
+row_at e = plain_row e.1 e.0
+
+-- the same rows in a problem by numbers
+abbrev pub decl_at : Name × RowKind → Row ℕ
+decl_at e = plain_row e.1 e.0
 
 -- the entry that a row's name with a number stands for
 abbrev pub entry_at : Name × OnRow → Entry Name
 entry_at e = record { row = e.0; value = e.1.value }
 
 -- a problem of rows alone: tests of a row's name look at nothing else
-abbrev pub rows_alone : List Row → Problem Name
+abbrev pub rows_alone : List (Row Name) → Problem Name
 rows_alone rows = record { name = []; rows = rows; columns = []; rhs = []; ranges = []; bounds = [] }
 
 -- the column or set that a name with items stands for
@@ -42,7 +46,7 @@ abbrev pub group_at : {X : Type 0} → Name × List X → Group X
 group_at e = record { name = e.0; items = e.1 }
 
 -- a problem of rows and columns alone: the tests of a card of COLUMNS look at nothing else
-abbrev pub columns_alone : List Row → List (Group (Entry Name)) → Problem Name
+abbrev pub columns_alone : List (Row Name) → List (Group (Entry Name)) → Problem Name
 columns_alone rows columns = record { name = []; rows = rows; columns = columns; rhs = []; ranges = []; bounds = [] }
 
 -- the columns with one more where this touches an end of it

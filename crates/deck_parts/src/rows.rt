@@ -2,9 +2,10 @@
 ghost use Rattle.std.specs.Prelude.{◌≡◌, ◌≤◌, ◌++◌, ◌∷◌, [], map, length, false, is_some, IfOk, OnOk, IfErr, IfSome};
 ghost use Rattle.card_definitions.specs.Words.{◌⟹◌};
 ghost use Rattle.problem_definitions.specs.Kinds.{is_free_kind};
-ghost use Rattle.problem_definitions.specs.Problem.{has_row, has_free_row};
+ghost use Rattle.problem_definitions.specs.Problem.{plain_row, has_row, has_free_row};
+ghost use Rattle.problem_definitions.specs.Numbering.{row_by};
 ghost use Rattle.deck_parts.specs.Told.{Tells};
-ghost use Rattle.deck_parts.specs.Shown.{row_at, row_number};
+ghost use Rattle.deck_parts.specs.Shown.{row_at, decl_at, row_number};
 
 use crate::additions::add_new;
 use crate::card_stop::CardStop;
@@ -34,11 +35,11 @@ impl Model for Rows {
     ghost use Rattle.std.specs.Prelude.{List, map};
     ghost use Rattle.std.specs.List.{IsDistinct};
     ghost use Rattle.std.specs.Map.{keys_of};
-    ghost use Rattle.problem_definitions.specs.Names.{same};
+    ghost use Rattle.problem_definitions.specs.Names.{Name as Text, same};
     ghost use Rattle.problem_definitions.specs.Problem.{Row};
     ghost use Rattle.deck_parts.specs.Shown.{row_at};
 
-    ghost Value = { List Row };
+    ghost Value = { List (Row Text) };
 
     ghost view = { λ rows. map row_at rows.kinds.entries };
 
@@ -92,7 +93,7 @@ impl Rows {
 
     /// The rows as a problem has them.
     pub fn decls(&self, alloc: Global) -> Result<Vec<RowDecl>, NoMemory>
-        ensures { IfOk result (λ decls. decls.items ≡ self.now) }
+        ensures { IfOk result (λ decls. decls.items ≡ map (row_by (row_number self.now)) self.now) }
     {
         row_decls(alloc, &self.kinds)
     }
@@ -100,8 +101,7 @@ impl Rows {
     /// Adds a row at the end, or refuses a name that a row has.
     pub fn add(&mut self, kind: RowKind, name: Name) -> Result<(), CardStop>
         ensures is_new { OnOk result (has_row self.old name ≡ false) }
-        ensures added { OnOk result (self.new ≡ self.old ++ record
-            { kind = kind; name = name } ∷ []) }
+        ensures added { OnOk result (self.new ≡ self.old ++ plain_row kind name ∷ []) }
         ensures stop { IfErr result (Tells (has_row self.old name ⟹ DeckFaultKind.DuplicateRow)) }
     {
         let is_new = add_new(&mut self.kinds, name, kind)?;
@@ -114,7 +114,7 @@ impl Rows {
 
 // The rows of these names and types.
 fn row_decls(alloc: Global, kinds: &IndexMap<Name, RowKind>) -> Result<Vec<RowDecl>, NoMemory>
-    ensures { IfOk result (λ decls. decls.items ≡ map row_at kinds.now.entries) }
+    ensures { IfOk result (λ decls. decls.items ≡ map decl_at kinds.now.entries) }
 {
     let mut decls = Vec::new(alloc);
     for (name, kind) in kinds {

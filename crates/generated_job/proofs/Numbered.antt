@@ -7,6 +7,7 @@ use Rattle.std.proofs.lemmas.List.Concat.{flat_map-append}
 use Rattle.job_devices.specs.Text.{Puts}
 use Rattle.job_devices.proofs.TextLemmas.{Appends-then}
 use Rattle.problem_definitions.specs.declared.RowKind.TheVariants.{N}
+use Rattle.problem_definitions.specs.Problem.{plain_row}
 use Rattle.deck_definitions.specs.Written.{data_card, row_card, card_text}
 use Rattle.deck_definitions.specs.Transport.{up_to}
 use Rattle.bcd_out.specs.Lines.{line}
@@ -46,7 +47,7 @@ put a b (Err stop) x p = tt
 
 -- ---- the text of the whole deck
 
-pub deck_head : line (codes "NAME          TRANSP") ++ (line (codes "ROWS") ++ line (row_card (record { kind = N; name = codes "COST" }))) ≡ codes "NAME          TRANSP\nROWS\n N  COST\n"
+pub deck_head : line (codes "NAME          TRANSP") ++ (line (codes "ROWS") ++ line (row_card (plain_row N (codes "COST")))) ≡ codes "NAME          TRANSP\nROWS\n N  COST\n"
 unfolding data_card
 deck_head = refl
 

@@ -2,6 +2,7 @@
 ghost use Rattle.std.specs.Prelude.{◌≡◌, ◌<◌, ◌≤◌, [], codes, length, OnOk};
 ghost use Rattle.std.specs.Io.KnownBytes.{Appends};
 ghost use Rattle.problem_definitions.specs.declared.RowKind.TheVariants.{L, G};
+ghost use Rattle.problem_definitions.specs.Problem.{plain_row};
 ghost use Rattle.deck_definitions.specs.Written.{row_card, card_text};
 ghost use Rattle.deck_definitions.specs.Transport as made;
 ghost use Rattle.bcd_out.specs.Lines.{line};
@@ -41,7 +42,7 @@ fn route_cost(from: u32, to: u32) -> u32
 pub fn put_source_row<P: Sink>(text: &mut P, number: u32) -> Result<(), WriteStop>
     requires { number < 1000 }
     ensures { OnOk result (Appends (P.written text.old) (P.written text.new)
-        (line (row_card (record { kind = L; name = made.source number })))) }
+        (line (row_card (plain_row L (made.source number))))) }
 {
     let card = DataCard {
         kind: b"L",
@@ -56,7 +57,7 @@ pub fn put_source_row<P: Sink>(text: &mut P, number: u32) -> Result<(), WriteSto
 pub fn put_destination_row<P: Sink>(text: &mut P, number: u32) -> Result<(), WriteStop>
     requires { number < 1000 }
     ensures { OnOk result (Appends (P.written text.old) (P.written text.new)
-        (line (row_card (record { kind = G; name = made.destination number })))) }
+        (line (row_card (plain_row G (made.destination number))))) }
 {
     let card = DataCard {
         kind: b"G",

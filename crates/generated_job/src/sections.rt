@@ -2,6 +2,7 @@
 ghost use Rattle.std.specs.Prelude.{◌≡◌, ◌<◌, codes, map, flat_map, OnOk};
 ghost use Rattle.std.specs.Io.KnownBytes.{Appends};
 ghost use Rattle.problem_definitions.specs.declared.RowKind.TheVariants.{L, G};
+ghost use Rattle.problem_definitions.specs.Problem.{plain_row};
 ghost use Rattle.deck_definitions.specs.Written.{row_card, card_text};
 ghost use Rattle.deck_definitions.specs.Transport as made;
 
@@ -12,7 +13,7 @@ use job_devices::{Sink, WriteStop};
 pub fn put_source_rows<P: Sink>(text: &mut P, n: u32) -> Result<(), WriteStop>
     requires { n < 1000 }
     ensures { OnOk result (Appends (P.written text.old) (P.written text.new)
-        (card_text (map (λ i. row_card (record { kind = L; name = made.source i }))
+        (card_text (map (λ i. row_card (plain_row L (made.source i)))
         (made.up_to n)))) }
 {
     for before in 0..n {
@@ -25,7 +26,7 @@ pub fn put_source_rows<P: Sink>(text: &mut P, n: u32) -> Result<(), WriteStop>
 pub fn put_destination_rows<P: Sink>(text: &mut P, n: u32) -> Result<(), WriteStop>
     requires { n < 1000 }
     ensures { OnOk result (Appends (P.written text.old) (P.written text.new)
-        (card_text (map (λ j. row_card (record { kind = G; name = made.destination j }))
+        (card_text (map (λ j. row_card (plain_row G (made.destination j)))
         (made.up_to n)))) }
 {
     for before in 0..n {

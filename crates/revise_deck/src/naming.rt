@@ -1,14 +1,14 @@
 // A problem with names in place of numbers.
 ghost use Rattle.std.specs.Prelude.{◌≡◌, IfOk, map};
 ghost use Rattle.problem_definitions.specs.Names.{name_at};
-ghost use Rattle.problem_definitions.specs.Numbering.{entry_by, bound_by, group_by, by_names};
+ghost use Rattle.problem_definitions.specs.Numbering.{entry_by, row_by, bound_by, group_by, by_names};
 ghost use Rattle.problem_definitions.specs.Problem.{group_names};
 
 use deck_fields::DeckStop;
 use deck_parts::name_in;
 use name_table::Name;
 use problem_file::{BoundItem, BoundSet, ColumnDecl, DeckEntry, Problem, RowDecl, ValueSet};
-use revise_parts::{BoundGroup, EntryGroup, NamedBound, NamedEntry, NamedProblem};
+use revise_parts::{BoundGroup, EntryGroup, NamedBound, NamedEntry, NamedProblem, NamedRow};
 use std::alloc::Global;
 
 // The name of the row of this number, from 1, or the empty name.
@@ -139,11 +139,18 @@ fn named_bound_sets(
     Ok(list)
 }
 
-// The same rows.
-fn copied_rows(alloc: Global, rows: &[RowDecl]) -> Result<Vec<RowDecl>, DeckStop>
-    ensures { IfOk result (λ list. list.items ≡ rows.now) }
+// Rows with names for the rows that they refer to.
+fn named_rows(alloc: Global, rows: &[RowDecl]) -> Result<Vec<NamedRow>, DeckStop>
+    ensures { IfOk result (λ list. list.items ≡ map (row_by
+        (name_at (map (λ row. row.name) rows.now))) rows.now) }
 {
-    let list = Vec::from_slice(alloc, rows)?;
+    let mut list = Vec::new(alloc);
+    for row in rows {
+        list.push(NamedRow {
+            kind: row.kind,
+            name: row.name,
+        })?;
+    }
     Ok(list)
 }
 
@@ -156,7 +163,7 @@ pub fn named(alloc: Global, problem: &Problem) -> Result<NamedProblem, DeckStop>
     let columns = problem.columns();
     Ok(NamedProblem {
         name: problem.name(),
-        rows: copied_rows(alloc, rows)?,
+        rows: named_rows(alloc, rows)?,
         columns: named_columns(alloc, rows, columns)?,
         rhs: named_sets(alloc, rows, problem.rhs())?,
         ranges: named_sets(alloc, rows, problem.ranges())?,

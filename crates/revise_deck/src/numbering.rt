@@ -1,7 +1,7 @@
 // A problem with numbers in place of names.
 ghost use Rattle.std.specs.Prelude.{◌≡◌, IfOk, map};
 ghost use Rattle.problem_definitions.specs.Names.{number_in};
-ghost use Rattle.problem_definitions.specs.Numbering.{entry_by, bound_by, group_by, numbered};
+ghost use Rattle.problem_definitions.specs.Numbering.{entry_by, row_by, bound_by, group_by, numbered};
 ghost use Rattle.problem_definitions.specs.Problem.{group_names};
 ghost use Rattle.problem_definitions.specs.Valid.{IsProblem};
 
@@ -9,7 +9,8 @@ use deck_fields::DeckStop;
 use name_table::Name;
 use problem_file::{BoundItem, BoundSet, ColumnDecl, DeckEntry, Problem, RowDecl, ValueSet};
 use revise_parts::{
-    BoundGroup, EntryGroup, NamedBound, NamedEntry, NamedProblem, group_number, row_number,
+    BoundGroup, EntryGroup, NamedBound, NamedEntry, NamedProblem, NamedRow, group_number,
+    row_number,
 };
 use std::alloc::Global;
 
@@ -26,7 +27,7 @@ fn in_32_bits(number: usize) -> Result<u32, DeckStop>
 // Entries on the numbers of their rows.
 fn numbered_entries(
     alloc: Global,
-    rows: &[RowDecl],
+    rows: &[NamedRow],
     entries: &[NamedEntry],
 ) -> Result<Vec<DeckEntry>, DeckStop>
     ensures { IfOk result (λ list. list.items ≡ map (entry_by
@@ -67,7 +68,7 @@ fn numbered_bounds(
 // Columns with the numbers of their rows.
 fn numbered_columns(
     alloc: Global,
-    rows: &[RowDecl],
+    rows: &[NamedRow],
     columns: &[EntryGroup],
 ) -> Result<Vec<ColumnDecl>, DeckStop>
     ensures { IfOk result (λ list. list.items ≡ map (group_by
@@ -86,7 +87,7 @@ fn numbered_columns(
 // Sets with the numbers of their rows.
 fn numbered_sets(
     alloc: Global,
-    rows: &[RowDecl],
+    rows: &[NamedRow],
     sets: &[EntryGroup],
 ) -> Result<Vec<ValueSet>, DeckStop>
     ensures { IfOk result (λ list. list.items ≡ map (group_by
@@ -121,11 +122,18 @@ fn numbered_bound_sets(
     Ok(list)
 }
 
-// The same rows.
-fn copied_rows(alloc: Global, rows: &[RowDecl]) -> Result<Vec<RowDecl>, DeckStop>
-    ensures { IfOk result (λ list. list.items ≡ rows.now) }
+// Rows with numbers for the rows that they refer to.
+fn numbered_rows(alloc: Global, rows: &[NamedRow]) -> Result<Vec<RowDecl>, DeckStop>
+    ensures { IfOk result (λ list. list.items ≡ map (row_by
+        (number_in (map (λ row. row.name) rows.now))) rows.now) }
 {
-    let list = Vec::from_slice(alloc, rows)?;
+    let mut list = Vec::new(alloc);
+    for row in rows {
+        list.push(RowDecl {
+            kind: row.kind,
+            name: row.name,
+        })?;
+    }
     Ok(list)
 }
 
@@ -134,7 +142,7 @@ fn copied_rows(alloc: Global, rows: &[RowDecl]) -> Result<Vec<RowDecl>, DeckStop
 fn problem_of(
     alloc: Global,
     name: Name,
-    rows: &[RowDecl],
+    rows: &[NamedRow],
     columns: &[EntryGroup],
     rhs: &[EntryGroup],
     ranges: &[EntryGroup],
@@ -161,7 +169,7 @@ fn problem_of(
           bounds = bounds.now;
         })) }
 {
-    let own_rows = copied_rows(alloc, rows)?;
+    let own_rows = numbered_rows(alloc, rows)?;
     let own_columns = numbered_columns(alloc, rows, columns)?;
     let own_rhs = numbered_sets(alloc, rows, rhs)?;
     let own_ranges = numbered_sets(alloc, rows, ranges)?;

@@ -79,7 +79,7 @@ abbrev pub place_among : Action → Name → ℕ → List Name → ℕ
 place_among action anchor there names = place_at action anchor there (length names) (number_in names anchor)
 
 -- the rows with the card's row put next to the anchor
-abbrev pub row_inserted : Action → Under → Reading → List Row → List Row
+abbrev pub row_inserted : Action → Under → Reading → List (Row Name) → List (Row Name)
 row_inserted action under card rows =
     unwrap_or (option_map (insert rows (place_among action under.anchor under.there (map (λ row. row.name) rows))) (row_of card)) rows
 

@@ -13,13 +13,12 @@ use crate::groups::{
     change_group, change_set, delete_set_items, group_number, remove_empty, remove_group,
     without_row_in_all,
 };
-use crate::parts::{BoundGroup, EntryGroup, NamedProblem};
+use crate::parts::{BoundGroup, EntryGroup, NamedProblem, NamedRow};
 use crate::rows::{insert_at, insert_row_at, row_number, rows_modified, rows_without};
 use crate::sets::{change_bound_set, delete_set_bounds, remove_empty_sets, without_column_in_all};
 use crate::under::{UnderAction, place_for};
 use deck_parts::{CardStop, DataCard, Section, bound_kind, is_blank};
 use name_table::Name;
-use problem_file::RowDecl;
 use revise_definitions::Action;
 use std::alloc::Global;
 
@@ -71,7 +70,7 @@ fn remove_column(alloc: Global, name: Name, problem: &mut NamedProblem) -> Resul
 }
 
 // Where the next new row goes.
-fn next_row_place(action: Action, under: &UnderAction, rows: &[RowDecl]) -> Result<usize, CardStop>
+fn next_row_place(action: Action, under: &UnderAction, rows: &[NamedRow]) -> Result<usize, CardStop>
     ensures { IfOk result (λ place. place ≡ place_among action under.now.anchor under.now.there
         (map (λ row. row.name) rows.now)) }
 {
@@ -85,7 +84,7 @@ fn insert_row_of(
     action: Action,
     under: &UnderAction,
     card: &DataCard<'_>,
-    rows: &mut Vec<RowDecl>,
+    rows: &mut Vec<NamedRow>,
 ) -> Result<(), CardStop>
     ensures { OnOk result (rows.new.items ≡ row_inserted action under.now (shown card.now)
         rows.old.items) }

@@ -17,7 +17,7 @@ mod verdicts;
 pub use changes::{BoundChange, EntryChange};
 pub use edits::edit;
 pub use groups::{finds_group, group_number};
-pub use parts::{BoundGroup, EntryGroup, NamedBound, NamedEntry, NamedProblem};
+pub use parts::{BoundGroup, EntryGroup, NamedBound, NamedEntry, NamedProblem, NamedRow};
 pub use rows::{finds_row, row_number};
 pub use under::UnderAction;
 pub use verdicts::edit_fault_of;

@@ -2,9 +2,26 @@
 
 use deck_fields::Decimal;
 use name_table::Name;
-use problem_definitions::BoundKind;
-use problem_file::RowDecl;
+use problem_definitions::{BoundKind, RowKind};
 use std::marker::Model;
+
+/// A row: its type and its name.
+#[derive(Clone, Copy, Debug)]
+pub struct NamedRow {
+    pub kind: RowKind,
+    pub name: Name,
+}
+
+impl Model for NamedRow {
+    ghost use Rattle.problem_definitions.specs.Names.{Name as Text};
+    ghost use Rattle.problem_definitions.specs.Problem.{Row, plain_row};
+
+    ghost Value = { Row Text };
+
+    ghost view = { λ row. plain_row row.kind row.name };
+
+    ghost inverse = { λ row. record { kind = row.kind; name = row.name } };
+}
 
 /// A number on the row of this name.
 #[derive(Clone, Copy, Debug)]
@@ -79,7 +96,7 @@ impl Model for BoundGroup {
 #[derive(Debug, Drop)]
 pub struct NamedProblem {
     pub name: Name,
-    pub rows: Vec<RowDecl>,
+    pub rows: Vec<NamedRow>,
     pub columns: Vec<EntryGroup>,
     pub rhs: Vec<EntryGroup>,
     pub ranges: Vec<EntryGroup>,

@@ -7,20 +7,20 @@ ghost use Rattle.deck_definitions.specs.DataCards.{row_of};
 ghost use Rattle.deck_parts.specs.Fields_shown.{shown};
 ghost use Rattle.revise_definitions.specs.Edits.{retyped, modify_row};
 
+use crate::parts::NamedRow;
 use deck_parts::{CardStop, DataCard, is_free, row_kind};
 use name_table::Name;
-use problem_file::RowDecl;
 use std::alloc::Global;
 
 /// Whether a row of this name is there.
-pub fn finds_row(rows: &[RowDecl], name: &Name) -> bool
+pub fn finds_row(rows: &[NamedRow], name: &Name) -> bool
     ensures { result ≡ has_row rows.now name.now }
 {
     rows.iter().any(|row| *name == row.name)
 }
 
 /// Whether a free row of this name is there.
-pub fn finds_free_row(rows: &[RowDecl], name: &Name) -> bool
+pub fn finds_free_row(rows: &[NamedRow], name: &Name) -> bool
     ensures { result ≡ has_free_row rows.now name.now }
 {
     rows.iter()
@@ -28,7 +28,7 @@ pub fn finds_free_row(rows: &[RowDecl], name: &Name) -> bool
 }
 
 // The place of the row of this name, from 0.
-fn row_place(rows: &[RowDecl], name: &Name) -> Option<usize>
+fn row_place(rows: &[NamedRow], name: &Name) -> Option<usize>
     ensures place { result ≡ position (λ row. same name.now row.name) rows.now }
     ensures few { IfSome result (λ place. place + 1 < 2 ^ 64) }
 {
@@ -36,7 +36,7 @@ fn row_place(rows: &[RowDecl], name: &Name) -> Option<usize>
 }
 
 /// The number of the row of this name, from 1, or 0 where it isn't there.
-pub fn row_number(rows: &[RowDecl], name: &Name) -> usize
+pub fn row_number(rows: &[NamedRow], name: &Name) -> usize
     ensures { result ≡ number_in (map (λ row. row.name) rows.now) name.now }
 {
     number_at(row_place(rows, name))
@@ -54,11 +54,11 @@ pub fn number_at(place: Option<usize>) -> usize
 }
 
 // The row with the type in field 1 of a card.
-fn retyped_row(card: &DataCard<'_>, row: RowDecl) -> RowDecl
+fn retyped_row(card: &DataCard<'_>, row: NamedRow) -> NamedRow
     ensures { result ≡ retyped (shown card.now) row }
 {
     match row_kind(card.kind) {
-        Some(kind) => RowDecl {
+        Some(kind) => NamedRow {
             kind,
             name: row.name,
         },
@@ -67,7 +67,7 @@ fn retyped_row(card: &DataCard<'_>, row: RowDecl) -> RowDecl
 }
 
 // The row, with the type in field 1 of a card that names it.
-fn modified_row(card: &DataCard<'_>, row: RowDecl) -> RowDecl
+fn modified_row(card: &DataCard<'_>, row: NamedRow) -> NamedRow
     ensures { result ≡ (if same card.now.name1 row.name then retyped (shown card.now)
         row else row) }
 {
@@ -81,8 +81,8 @@ fn modified_row(card: &DataCard<'_>, row: RowDecl) -> RowDecl
 pub fn rows_modified(
     alloc: Global,
     card: &DataCard<'_>,
-    rows: &[RowDecl],
-) -> Result<Vec<RowDecl>, CardStop>
+    rows: &[NamedRow],
+) -> Result<Vec<NamedRow>, CardStop>
     ensures { IfOk result (λ list. list.items ≡ modify_row (shown card.now) rows.now) }
 {
     let list = rows
@@ -93,7 +93,11 @@ pub fn rows_modified(
 }
 
 /// The rows without the one of this name.
-pub fn rows_without(alloc: Global, name: &Name, rows: &[RowDecl]) -> Result<Vec<RowDecl>, CardStop>
+pub fn rows_without(
+    alloc: Global,
+    name: &Name,
+    rows: &[NamedRow],
+) -> Result<Vec<NamedRow>, CardStop>
     ensures { IfOk result (λ list. list.items ≡ filter (λ row. not
         (same name.now row.name)) rows.now) }
 {
@@ -118,7 +122,7 @@ where
 
 /// Puts the row of a card at this place.
 pub fn insert_row_at(
-    rows: &mut Vec<RowDecl>,
+    rows: &mut Vec<NamedRow>,
     place: usize,
     card: &DataCard<'_>,
 ) -> Result<(), CardStop>
@@ -129,7 +133,7 @@ pub fn insert_row_at(
         Some(kind) => insert_at(
             rows,
             place,
-            RowDecl {
+            NamedRow {
                 kind,
                 name: card.name1,
             },

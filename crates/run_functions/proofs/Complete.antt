@@ -2,7 +2,7 @@
 use Rattle.std.proofs.Common.{◌≡◌, ◌⊎◌, ℕ, List, Some, inl, inr, sym, ap, subst, ◌∙◌}
 use Rattle.deck_definitions.specs.Written.{card_text}
 use Rattle.listing_definitions.specs.Report.{Report}
-use Rattle.listing_definitions.specs.Ending.{Ending, Ended, WordsRefused, ControlStop, VerbStop, DeckStop, CardStop, LimitStop, StatementLimit, OverflowStop, ReadFault, PrintFault, PunchFault, Memory, NotBuilt, status_of}
+use Rattle.listing_definitions.specs.Ending.{Ending, Ended, WordsRefused, ControlStop, VerbStop, DeckStop, CardStop, LimitStop, StatementLimit, OverflowStop, ReadFault, PrintFault, PunchFault, Memory, status_of}
 use Rattle.listing_definitions.specs.Listing.{listing}
 use Rattle.question_definitions.specs.Solving.{Solving}
 use Rattle.run_definitions.specs.Answer.{Job, bytes_of, Failures, Gains, IsJobRun, MayEnd, words_refused, read_fails, by_itself, memory_at_start, memory_in_run, memory_at_punch, punch_fails, IsAnswer, whole, print_fails, print_wants_memory}
@@ -25,7 +25,6 @@ all_gained ReadFault punched text own gains = absurd own
 all_gained PrintFault punched text own gains = absurd own
 all_gained PunchFault punched text own gains = absurd own
 all_gained Memory punched text own gains = absurd own
-all_gained NotBuilt punched text own gains = gains
 
 module _ (S : Solving) (function : IsFunction S) (job : Job) (failures : Failures) (status : ℕ) (PrintGains PunchGains : List ℕ → Type 0) (printed punched : List ℕ)
     (print_gains : PrintGains printed) (punch_gains : PunchGains punched) (bytes : List ℕ) (of_job : bytes_of job ≡ Some bytes) (none : MeetsNoEvidence S bytes) where

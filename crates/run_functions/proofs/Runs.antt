@@ -1,18 +1,21 @@
 -- Two runs of one job that don't stop with an overflow are the same.
-use Rattle.std.proofs.Common.{◌≡◌, ◌⊎◌, inl, inr, ℕ, ◌-◌, ◌≤◌, ◌<◌, Bool, List, [], ◌++◌, refl, sym, ap, ap₂, subst, ◌∙◌, arith, None}
+use Rattle.std.proofs.Common.{◌≡◌, ◌⊎◌, inl, inr, ℕ, ◌-◌, ◌≤◌, ◌<◌, Bool, List, [], ◌++◌, refl, sym, ap, ap₂, subst, ◌∙◌, arith, Option, None}
 use Rattle.std.proofs.Math.Nat.{eq-or-lt_of_le, le_of_lt}
 use Rattle.std.proofs.lemmas.Bool.{cases_lt}
 use Rattle.std.proofs.lemmas.List.{append-nil, append_assoc}
 use Rattle.std.proofs.lemmas.Option.{slice_get_within}
-use Rattle.control_definitions.specs.Program.{Program, Verb}
+use Rattle.control_definitions.specs.Program.{Program}
+use Rattle.listing_definitions.specs.declared.Solver.{Solver}
+use Rattle.listing_definitions.specs.declared.Solver.TheVariants.{Primal, Paraobj, Pararhs}
 use Rattle.listing_definitions.specs.Report.{Report}
-use Rattle.listing_definitions.specs.Ending.{Ending, Ended, WordsRefused, ControlStop, VerbStop, DeckStop, CardStop, LimitStop, StatementLimit, OverflowStop, ReadFault, PrintFault, PunchFault, Memory, NotBuilt}
-use Rattle.question_definitions.specs.Answers.{Basis, Sheet, Question, OfPath, OfSolution, OfRanges}
+use Rattle.listing_definitions.specs.Ending.{Ending, Ended, WordsRefused, ControlStop, VerbStop, DeckStop, CardStop, LimitStop, StatementLimit, OverflowStop, ReadFault, PrintFault, PunchFault, Memory}
+use Rattle.question_definitions.specs.Answers.{Basis, Sheet, Question, OfPath, OfSolution, OfRanges, PathEnd}
 use Rattle.question_definitions.specs.Solving.{Solving}
-use Rattle.answer_definitions.specs.Real.{staged}
+use Rattle.answer_definitions.specs.Verdicts.{IsSolvedBy}
+use Rattle.answer_definitions.specs.Real.{linear_programming}
 use Rattle.run_definitions.specs.State.{State}
 use Rattle.run_definitions.specs.Moves.{Gain, Nothing, printed_by, punched_by, Outcome, Goes, Ends, Gives}
-use Rattle.run_definitions.specs.Verbs.{statement_move}
+use Rattle.run_definitions.specs.Verbs.{verb_move}
 use Rattle.run_definitions.specs.Run.{counted, Step, IsOver, at_end, at_limit, IsRun, is_over, is_ended}
 use Rattle.run_definitions.specs.Answer.{IsProgramOf, job_decks, IsJobRun, card_fault, control_fault, run}
 use Rattle.run_laws.specs.Laws.{KnowsSolving}
@@ -68,7 +71,6 @@ overflow_or_not ReadFault = inr (λ h. let e = h.1 in cc e)
 overflow_or_not PrintFault = inr (λ h. let e = h.1 in cc e)
 overflow_or_not PunchFault = inr (λ h. let e = h.1 in cc e)
 overflow_or_not Memory = inr (λ h. let e = h.1 in cc e)
-overflow_or_not NotBuilt = inr (λ h. let e = h.1 in cc e)
 
 module _ (S : Solving) (program : Program) where
   -- a run that is over executes no statement
@@ -294,7 +296,7 @@ module _ (S : Solving) (solving : KnowsSolving S) (answers : AnswersOnce S) (byt
   stopped_run program _ _ ending none is (is_ended {reports} {cards} {state} gain came step) stop =
       none program reports cards state step.statement (record { is_program = is; reaches = came }) step.is_at_position step.is_within_limit
       (statement_evidence S step.statement.card gain stop.0 step.statement.verb (counted state)
-      (subst (λ x. Gives S step.statement.card (statement_move S step.statement.verb step.statement.card (counted state)) (Ends gain x)) stop.1 step.gives))
+      (subst (λ x. Gives S step.statement.card (verb_move step.statement.verb step.statement.card (counted state)) (Ends gain x)) stop.1 step.gives))
 
   unstopped : (reports : List Report) (cards : List (List ℕ)) (ending : Ending) → MeetsNoEvidence S bytes → IsJobRun S bytes reports cards ending → IsOverflow ending → ⊥
   unstopped _ _ _ none (card_fault fault is) stop = let e = stop.1 in cc e
@@ -321,10 +323,17 @@ lawful_of question sheet s asked = selected_is_lawful sheet.problem asked.choice
 no_change : (question : Question) (sheet : Sheet) (s : Basis) → IsAsked question sheet s → sheet.lp.change ≡ None
 no_change question sheet s asked = subst (λ (p : LinearProgram). p.change ≡ None) (is_chosen sheet.problem asked.choice sheet.lp asked.is_selected).1 refl
 
+-- PRIMAL alone asks for a path
+path_once_by : (solver : Solver) (limit : Option ℕ) (sheet : Sheet) (s : Basis) (a b : PathEnd) → IsAsked (OfPath solver limit) sheet s → IsSolvedBy solver sheet s limit a → IsSolvedBy solver sheet s limit b → a ≡ b
+path_once_by Primal limit sheet s a b asked first second = path_once sheet s (lawful_of (OfPath Primal limit) sheet s asked) asked.is_basis limit a b first second
+path_once_by Paraobj limit sheet s a b asked first second = absurd first
+path_once_by Pararhs limit sheet s a b asked first second = absurd first
+
 -- what is asked has one answer
-pub answers_once : (builds : Verb ℕ → Bool) → AnswersOnce (staged builds)
-answers_once builds = record {
-  paths = λ limit sheet s a b asked first second. path_once sheet s (lawful_of (OfPath limit) sheet s asked) asked.is_basis limit a b first second;
+pub answers_once : AnswersOnce linear_programming
+unfolding linear_programming
+answers_once = record {
+  paths = path_once_by;
   solutions = λ mark sheet s a b asked first second. shown_once sheet s a b (lawful_of (OfSolution mark) sheet s asked) asked.is_basis first second;
   ranges = λ sheet s a b asked first second. ranged_once sheet s a b (lawful_of OfRanges sheet s asked) (no_change OfRanges sheet s asked) asked.suits first second;
   sweeps = swept_once;

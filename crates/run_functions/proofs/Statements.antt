@@ -1,5 +1,5 @@
 -- In a state whose setup has a lawful problem and a nonsingular basis, a statement asks its question where it has one answer at most.
-use Rattle.std.proofs.Common.{◌≡◌, ℕ, Bool, true, false, List, refl, sym, ap, subst, ◌∙◌}
+use Rattle.std.proofs.Common.{◌≡◌, ℕ, List, refl, sym, ap, subst, ◌∙◌}
 use Rattle.std.specs.Prelude.{Option, Some, None, Result, Ok, Err, option_and_then}
 use Rattle.exact_values.specs.Rational.{ℚ}
 use Rattle.lp_definitions.specs.LinearProgram.{LinearProgram}
@@ -22,11 +22,13 @@ use Rattle.question_definitions.specs.Answers.{Changing, Sweep, Question, Answer
 use Rattle.question_definitions.specs.Solving.{Solving}
 use Rattle.run_definitions.specs.State.{Present, present_basis, State, problem_of, choice_of}
 use Rattle.run_definitions.specs.Moves.{Outcome, Refusals, Move, Does, MayStop, or_fault}
-use Rattle.run_definitions.specs.Verbs.{or_deck_fault, or_selection_fault, files, selects, not_less, change_row, change_set, asks, if_optimal, shows_present, solves, shows, ranges, sweeps, converts, revises, sets_up, punches, verb_move, if_built, statement_move}
+use Rattle.run_definitions.specs.Verbs.{or_deck_fault, or_selection_fault, files, selects, not_less, change_row, change_set, asks, if_optimal, shows_present, solves, shows, ranges, sweeps, converts, revises, sets_up, punches, verb_move}
 use Rattle.path_definitions.specs.Path.{EndsOptimal, EndsAt}
 use Rattle.path_laws.proofs.Ends.{optimal_end}
 use Rattle.std.proofs.lemmas.Option.{same_Some}
 use Rattle.lp_definitions.specs.Basis.{IsOptimalBasis}
+use Rattle.listing_definitions.specs.declared.Solver.{Solver}
+use Rattle.listing_definitions.specs.declared.Solver.TheVariants.{Primal as ByPrimal}
 use Rattle.listing_definitions.specs.declared.Mark.TheVariants.{Optimal, Infeasible, Unbounded}
 use Rattle.run_laws.proofs.Selected.{selected_is_lawful}
 use Rattle.run_laws.proofs.Moves.{HasProblem, EndsOptimally, Knows}
@@ -103,11 +105,11 @@ module _ (S : Solving) where
   }
 
   module _ (card : ℕ) (state : State) (lawful : HasProblem state.setup) (knows : Knows state) where
-    solves_once : HasOneAnswer S (OfPath state.cells.xiterlim) → IsOnce S (solves card state)
-    solves_once one =
+    solves_once : (solver : Solver) → HasOneAnswer S (OfPath solver state.cells.xiterlim) → IsOnce S (solves solver card state)
+    solves_once solver one =
         unless_fault card VerbFault.NoSetup state.setup _ (λ present e.
         selecting card present.problem (choice_of state.cells present.options) _ (λ lp is.
-        asked (OfPath state.cells.xiterlim) present state lp _ one lawful knows e is tt))
+        asked (OfPath solver state.cells.xiterlim) present state lp _ one lawful knows e is tt))
 
     showing_once : (present : Present) (question : Question) (report : Answer question → Report) → HasOneAnswer S question → state.setup ≡ Some present →
         ((lp : LinearProgram) → selected present.problem (choice_of state.cells present.options) ≡ Ok lp → Suits question (record { problem = present.problem; lp = lp }) (present_basis present)) →
@@ -167,7 +169,7 @@ module _ (S : Solving) where
         (changes_part change of_problem present.problem moved changing c, last_no_less state.cells.xparam last to t))))))
 
   module _ (answers : AnswersOnce S) where
-    verb_once : (verb : Verb ℕ) (card : ℕ) (state : State) → HasProblem state.setup → Knows state → IsOnce S (verb_move verb card state)
+    pub verb_once : (verb : Verb ℕ) (card : ℕ) (state : State) → HasProblem state.setup → Knows state → IsOnce S (verb_move verb card state)
     unfolding verb_move
     verb_once Initialz card state lawful knows = does _
     verb_once (Title text) card state lawful knows = does _
@@ -179,7 +181,7 @@ module _ (S : Solving) where
     verb_once Convert card state lawful knows = converts_once card state
     verb_once Revise card state lawful knows = revises_once card state
     verb_once (Setup options) card state lawful knows = sets_up_once card options state
-    verb_once Primal card state lawful knows = solves_once card state lawful knows (answers.paths state.cells.xiterlim)
+    verb_once Primal card state lawful knows = solves_once card state lawful knows ByPrimal (answers.paths ByPrimal state.cells.xiterlim)
     verb_once SolutionVerb card state lawful knows = shows_once card state lawful knows answers.solutions
     verb_once Ranging card state lawful knows = ranges_once card state lawful knows answers.ranges
     verb_once Paraobj card state lawful knows =
@@ -188,10 +190,3 @@ module _ (S : Solving) where
         sweeps_once card state lawful knows VerbFault.NoChangeSet change_set state.cells.xchcol set_of_problem answers.sweeps
     verb_once Bcdout card state lawful knows = punches_once card state
     verb_once Exit card state lawful knows = does _
-
-    if_built_once : (verb : Verb ℕ) (card : ℕ) (state : State) → HasProblem state.setup → Knows state → (built : Bool) → IsOnce S (if_built built (verb_move verb card state))
-    if_built_once verb card state lawful knows true = verb_once verb card state lawful knows
-    if_built_once verb card state lawful knows false = does _
-
-    pub statement_once : (verb : Verb ℕ) (card : ℕ) (state : State) → HasProblem state.setup → Knows state → AsksOnce S (statement_move S verb card state)
-    statement_once verb card state lawful knows = (if_built_once verb card state lawful knows (S.builds verb)).once

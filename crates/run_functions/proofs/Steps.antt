@@ -8,7 +8,7 @@ use Rattle.listing_definitions.specs.Report.{Report}
 use Rattle.question_definitions.specs.Solving.{Solving}
 use Rattle.run_definitions.specs.State.{State}
 use Rattle.run_definitions.specs.Moves.{Gain, printed_by, punched_by, Outcome, Goes, Gives}
-use Rattle.run_definitions.specs.Verbs.{statement_move}
+use Rattle.run_definitions.specs.Verbs.{verb_move}
 use Rattle.run_definitions.specs.Run.{counted, Step, Reaches, begun, stepped}
 use Rattle.run_definitions.specs.Answer.{IsProgramOf, job_decks}
 use Rattle.run_laws.specs.Laws.{KnowsSolving}
@@ -16,7 +16,7 @@ use Rattle.run_laws.proofs.Moves.{Knows}
 use Rattle.run_laws.proofs.Runs.{has_problem, known}
 use Rattle.run_functions.specs.Laws.{AnswersOnce, IsSameOrStop, Continues}
 use Rattle.run_functions.proofs.Outcomes.{outcomes}
-use Rattle.run_functions.proofs.Statements.{statement_once}
+use Rattle.run_functions.proofs.Statements.{verb_once}
 
 -- two outcomes with which a run goes on are the same
 pub record SameGoing (gain other : Gain) (after another : State) : Type 0 where
@@ -45,15 +45,15 @@ module _ (S : Solving) (solving : KnowsSolving S) (answers : AnswersOnce S) (byt
   -- two outcomes of one statement
   pub two_outcomes : (reports : List Report) (cards : List (List ℕ)) (state : State) (a b : Outcome) → Comes reports cards state → Step S program state a → Step S program state b → IsSameOrStop a b
   two_outcomes reports cards state a b reaches first second =
-      outcomes S first.statement.card (statement_move S first.statement.verb first.statement.card (counted state)) a b
-      (statement_once S answers first.statement.verb first.statement.card (counted state) (has_problem S solving bytes program is_program reports cards state reaches) (counted_known state (known S solving bytes program is_program reports cards state reaches)))
+      outcomes S first.statement.card (verb_move first.statement.verb first.statement.card (counted state)) a b
+      (verb_once S answers first.statement.verb first.statement.card (counted state) (has_problem S solving bytes program is_program reports cards state reaches) (counted_known state (known S solving bytes program is_program reports cards state reaches))).once
       first.gives moved
     where
       same : second.statement ≡ first.statement
       same = same_Some second.statement first.statement (sym second.is_at_position ∙ first.is_at_position)
 
-      moved : Gives S first.statement.card (statement_move S first.statement.verb first.statement.card (counted state)) b
-      moved = subst (λ (x : Statement ℕ). Gives S x.card (statement_move S x.verb x.card (counted state)) b) same second.gives
+      moved : Gives S first.statement.card (verb_move first.statement.verb first.statement.card (counted state)) b
+      moved = subst (λ (x : Statement ℕ). Gives S x.card (verb_move x.verb x.card (counted state)) b) same second.gives
 
   -- how many statements a run has executed so far
   abbrev pub steps : {reports : List Report} {cards : List (List ℕ)} {state : State} → Comes reports cards state → ℕ

@@ -1,6 +1,6 @@
 -- A statement stops with an overflow only where evidence holds, and never since a device or memory
 -- fails.
-use Rattle.std.proofs.Common.{inl, inr, ℕ, ◌≤◌, lit≤, Bool, true, false, List, sym, subst}
+use Rattle.std.proofs.Common.{inl, inr, ℕ, ◌≤◌, lit≤, List, sym, subst}
 use Rattle.std.specs.Prelude.{Option, Some, None, Result, Ok, Err, option_and_then}
 use Rattle.exact_values.specs.Rational.{ℚ}
 use Rattle.lp_definitions.specs.LinearProgram.{LinearProgram}
@@ -21,12 +21,12 @@ use Rattle.listing_definitions.specs.declared.Mark.TheVariants.{Optimal, Infeasi
 use Rattle.listing_definitions.specs.declared.Solver.TheVariants.{Primal as ByPrimal}
 use Rattle.listing_definitions.specs.declared.VerbFault.{VerbFault}
 use Rattle.listing_definitions.specs.Report.{Report, Converted, Revised, Solved, Solution, Ranges}
-use Rattle.listing_definitions.specs.Ending.{Overflow, Ending, Ended, WordsRefused, ControlStop, VerbStop, DeckStop, CardStop, LimitStop, StatementLimit, OverflowStop, ReadFault, PrintFault, PunchFault, Memory, NotBuilt}
+use Rattle.listing_definitions.specs.Ending.{Overflow, Ending, Ended, WordsRefused, ControlStop, VerbStop, DeckStop, CardStop, LimitStop, StatementLimit, OverflowStop, ReadFault, PrintFault, PunchFault, Memory}
 use Rattle.question_definitions.specs.Answers.{Changing, sweeper, Sweep, Question, Answer, OfSolution, OfRanges, PathEnd, Reached, PathLimit, SweepEnd, Opening, Chained, SweepLimit}
 use Rattle.question_definitions.specs.Solving.{Solving}
 use Rattle.run_definitions.specs.State.{Present, gone_through, State, problem_of, choice_of}
 use Rattle.run_definitions.specs.Moves.{Gain, Outcome, Goes, Ends, Refusals, Move, Does, MayStop, Asks, Gives, or_fault}
-use Rattle.run_definitions.specs.Verbs.{or_deck_fault, or_selection_fault, files, selects, not_less, change_row, change_set, demanded, by_verdict, mark_of, if_optimal, after_path, after_sweep, shows_present, solves, shows, ranges, sweeps, converts, revises, sets_up, punches, verb_move, if_built, statement_move}
+use Rattle.run_definitions.specs.Verbs.{or_deck_fault, or_selection_fault, files, selects, not_less, change_row, change_set, demanded, by_verdict, mark_of, if_optimal, after_path, after_sweep, shows_present, solves, shows, ranges, sweeps, converts, revises, sets_up, punches, verb_move}
 use Rattle.run_definitions.specs.Run.{counted, at_end, at_limit, IsRun, is_over, is_ended}
 use Rattle.run_definitions.specs.Answer.{IsJobRun, card_fault, control_fault, run}
 use Rattle.run_functions.specs.Laws.{HasEvidence}
@@ -48,7 +48,6 @@ IsEndOfRun (DeckStop fault) = Unit {0}
 IsEndOfRun (LimitStop reached) = Unit {0}
 IsEndOfRun StatementLimit = Unit {0}
 IsEndOfRun (OverflowStop overflow) = Unit {0}
-IsEndOfRun NotBuilt = Unit {0}
 IsEndOfRun _ = ⊥
 
 -- an ending and an outcome of that kind that isn't a stop for an overflow
@@ -120,7 +119,7 @@ by_verdict_other Optimal report state = tt
 by_verdict_other Infeasible report state = demanded_other state.cells.xdonfs 1 report state (lit≤ tt)
 by_verdict_other Unbounded report state = demanded_other state.cells.xdounb 2 report state (lit≤ tt)
 
-after_path_other : (card : ℕ) (present : Present) (state : State) (end : PathEnd) → IsOther (after_path card present state end)
+after_path_other : (card : ℕ) (present : Present) (state : State) (end : PathEnd) → IsOther (after_path ByPrimal card present state end)
 after_path_other card present state (Reached bases verdict check) =
     by_verdict_other (mark_of verdict) (Solved ByPrimal verdict check) (record state { setup = Some (gone_through bases present); mark = Some (mark_of verdict) })
 after_path_other card present state PathLimit = tt
@@ -132,7 +131,7 @@ after_sweep_other card sweep present state (Chained bases intervals end) = tt
 after_sweep_other card sweep present state SweepLimit = tt
 
 module _ (card : ℕ) (state : State) where
-  solves_never : NeverStops (solves card state)
+  solves_never : NeverStops (solves ByPrimal card state)
   solves_never =
       unless_fault card VerbFault.NoSetup state.setup _ (λ present.
       selecting card present.problem (choice_of state.cells present.options) _ (λ lp.
@@ -183,10 +182,6 @@ verb_never Pararhs card state = sweeps_never card state VerbFault.NoChangeSet ch
 verb_never Bcdout card state = punches_never card state
 verb_never Exit card state = does _ (lit≤ tt)
 
-if_built_never : (built : Bool) (verb : Verb ℕ) (card : ℕ) (state : State) → NeverStops (if_built built (verb_move verb card state))
-if_built_never true verb card state = verb_never verb card state
-if_built_never false verb card state = does _ tt
-
 -- ---- so an overflow has evidence
 
 module _ (S : Solving) (card : ℕ) (gain : Gain) (overflow : Overflow) where
@@ -196,8 +191,8 @@ module _ (S : Solving) (card : ℕ) (gain : Gain) (overflow : Overflow) where
   by_evidence (MayStop refusals move) other (inr stop) = inl (stop.0, stop.1, stop.2)
   by_evidence (Asks question sheet s go) other gives = subst IsOther (sym gives.2) (other gives.0)
 
-  pub statement_evidence : (verb : Verb ℕ) (state : State) → Gives S card (statement_move S verb card state) (Ends gain (OverflowStop overflow)) → HasEvidence S (statement_move S verb card state)
-  statement_evidence verb state gives = by_evidence (statement_move S verb card state) (if_built_never (S.builds verb) verb card state).other gives
+  pub statement_evidence : (verb : Verb ℕ) (state : State) → Gives S card (verb_move verb card state) (Ends gain (OverflowStop overflow)) → HasEvidence S (verb_move verb card state)
+  statement_evidence verb state gives = by_evidence (verb_move verb card state) (verb_never verb card state).other gives
 
 -- ---- and no statement ends a run as a device or memory does
 
@@ -215,7 +210,6 @@ other_end ReadFault other = other
 other_end PrintFault other = other
 other_end PunchFault other = other
 other_end Memory other = other
-other_end NotBuilt other = other
 
 abbrev EndsAsRun : Outcome → Type 0
 EndsAsRun (Goes gain after) = Unit {0}
@@ -232,8 +226,8 @@ module _ (S : Solving) (card : ℕ) (given : Outcome) where
   gives_as_run (MayStop refusals move) other (inr stop) = subst EndsAsRun (sym stop.3) tt
   gives_as_run (Asks question sheet s go) other gives = subst EndsAsRun (sym gives.2) (outcome_as_run (go gives.0) (other gives.0))
 
-  statement_as_run : (verb : Verb ℕ) (state : State) → Gives S card (statement_move S verb card state) given → EndsAsRun given
-  statement_as_run verb state gives = gives_as_run (statement_move S verb card state) (if_built_never (S.builds verb) verb card state).other gives
+  statement_as_run : (verb : Verb ℕ) (state : State) → Gives S card (verb_move verb card state) given → EndsAsRun given
+  statement_as_run verb state gives = gives_as_run (verb_move verb card state) (verb_never verb card state).other gives
 
 of_itself : (ending : Ending) → IsEndOfRun ending → IsOfItself ending
 of_itself (Ended code) own = tt
@@ -249,7 +243,6 @@ of_itself ReadFault own = own
 of_itself PrintFault own = own
 of_itself PunchFault own = own
 of_itself Memory own = own
-of_itself NotBuilt own = tt
 
 module _ (S : Solving) where
   pub end_of_run : (program : Program) (decks : List (List Card)) (reports : List Report) (cards : List (List ℕ)) (ending : Ending) → IsRun S program decks reports cards ending → IsEndOfRun ending

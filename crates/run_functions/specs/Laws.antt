@@ -9,7 +9,7 @@
 --     MeetsNoEvidence S bytes      no evidence holds at any moment of a run of the job
 --     AreSame, Continues           two runs are the same; the one begins with the other
 --     IsFunction S                 what is the same in two runs of one job
-use Rattle.std.specs.Prelude.{◌≡◌, ◌⊎◌, ℕ, ◌-◌, ◌<◌, Bool, false, List, ◌++◌, Option, None, Some, Ok, slice_get}
+use Rattle.std.specs.Prelude.{◌≡◌, ◌⊎◌, ℕ, ◌-◌, ◌<◌, false, List, ◌++◌, Option, None, Some, Ok, slice_get}
 use Rattle.exact_values.specs.Tests.{lt_ℚ}
 use Rattle.lp_definitions.specs.declared.Evidence.{Evidence}
 use Rattle.lp_definitions.specs.LinearProgram.{IsLinearProgram}
@@ -18,18 +18,19 @@ use Rattle.path_laws.specs.Laws.{IsNonsingularBasis}
 use Rattle.problem_definitions.specs.Valid.{IsProblem}
 use Rattle.selection_definitions.specs.Choice.{Choice}
 use Rattle.selection_definitions.specs.Selection.{selected}
-use Rattle.control_definitions.specs.Program.{Verb, Statement, Program}
+use Rattle.control_definitions.specs.Program.{Statement, Program}
 use Rattle.listing_definitions.specs.declared.Mark.{Mark}
+use Rattle.listing_definitions.specs.declared.Solver.{Solver}
 use Rattle.listing_definitions.specs.Report.{SolutionLines, RangeLines, Report}
 use Rattle.listing_definitions.specs.Ending.{Place, Overflow, Ending, OverflowStop}
 use Rattle.question_definitions.specs.Answers.{Basis, Sheet, Sweep, Question, Answer, OfPath, OfSolution, OfRanges, OfSweep, PathEnd}
 use Rattle.question_definitions.specs.Solving.{Solving, IsRight}
 use Rattle.answer_definitions.specs.Verdicts.{IsSolved}
 use Rattle.answer_definitions.specs.Sections.{IsShown, IsRanged}
-use Rattle.answer_definitions.specs.Real.{staged}
+use Rattle.answer_definitions.specs.Real.{linear_programming}
 use Rattle.run_definitions.specs.State.{State}
 use Rattle.run_definitions.specs.Moves.{Outcome, stops, Move, Does, MayStop, Asks, Shows, Gives}
-use Rattle.run_definitions.specs.Verbs.{statement_move}
+use Rattle.run_definitions.specs.Verbs.{verb_move}
 use Rattle.run_definitions.specs.Run.{max_executed, counted, Step}
 use Rattle.run_definitions.specs.Answer.{IsJobRun, IsSoFar}
 use Rattle.run_laws.specs.Truth.{IsOfProblem}
@@ -37,7 +38,7 @@ use Rattle.run_laws.specs.Truth.{IsOfProblem}
 -- RANGE asks at an optimal basis; a parametric run changes something of the problem, and its last
 -- value isn't less than its first.
 abbrev pub Suits : Question → Sheet → Basis → Type 0
-Suits (OfPath limit) sheet s = Unit {0}
+Suits (OfPath solver limit) sheet s = Unit {0}
 Suits (OfSolution mark) sheet s = Unit {0}
 Suits OfRanges sheet s = IsOptimalBasis sheet.lp s
 Suits (OfSweep sweep) sheet s =
@@ -59,7 +60,7 @@ HasOneAnswer S question = (sheet : Sheet) (s : Basis) (a b : Answer question) �
 
 -- So it is with each question that PRIMAL, SOLUTION, RANGE, PARAOBJ and PARARHS ask.
 pub record AnswersOnce (S : Solving) : Type 0 where
-  pub paths : (limit : Option ℕ) → HasOneAnswer S (OfPath limit)
+  pub paths : (solver : Solver) (limit : Option ℕ) → HasOneAnswer S (OfPath solver limit)
   pub solutions : (mark : Mark) → HasOneAnswer S (OfSolution mark)
   pub ranges : HasOneAnswer S OfRanges
   pub sweeps : (sweep : Sweep) → HasOneAnswer S (OfSweep sweep)
@@ -111,7 +112,7 @@ MeetsNoEvidence S bytes = (program : Program) (reports : List Report) (cards : L
     (state : State) (statement : Statement ℕ) → IsSoFar S bytes reports cards program state →
     slice_get program.statements (state.position - 1) ≡ Some statement →
     state.executed < max_executed →
-    HasEvidence S (statement_move S statement.verb statement.card (counted state)) → ⊥
+    HasEvidence S (verb_move statement.verb statement.card (counted state)) → ⊥
 
 -- What is the same in two runs of one job. Two outcomes of one statement are the same, or one of
 -- them is a stop for an overflow. Of two runs so far, the one begins with the other. Two runs that
@@ -156,11 +157,11 @@ pub record AnswerLaws : Type 0 where
 
 -- Two outcomes of a move that asks its question where it has one answer at most are the same, or
 -- one of them is a stop for an overflow. Where a statement asks a question, it has one answer at
--- most; and so, whichever verbs are built, a run is a function.
+-- most; and so a run is a function.
 pub record RunFunctions : Type 0 where
   pub answers : AnswerLaws
-  pub moves : (builds : Verb ℕ → Bool) (card : ℕ) (move : Move) (a b : Outcome) →
-      AsksOnce (staged builds) move → Gives (staged builds) card move a →
-      Gives (staged builds) card move b → IsSameOrStop a b
-  pub answered : (builds : Verb ℕ → Bool) → AnswersOnce (staged builds)
-  pub runs : (builds : Verb ℕ → Bool) → IsFunction (staged builds)
+  pub moves : (card : ℕ) (move : Move) (a b : Outcome) → AsksOnce linear_programming move →
+      Gives linear_programming card move a → Gives linear_programming card move b →
+      IsSameOrStop a b
+  pub answered : AnswersOnce linear_programming
+  pub runs : IsFunction linear_programming

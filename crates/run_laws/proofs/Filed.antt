@@ -29,6 +29,8 @@ use Rattle.selection_definitions.specs.Choice.{Choice}
 use Rattle.selection_definitions.specs.Selection.{selected}
 use Rattle.listing_definitions.specs.declared.Mark.{Mark}
 use Rattle.listing_definitions.specs.declared.Mark.TheVariants.{Optimal, Infeasible, Unbounded}
+use Rattle.listing_definitions.specs.declared.Solver.{Solver}
+use Rattle.listing_definitions.specs.declared.Solver.TheVariants.{Primal as ByPrimal}
 use Rattle.listing_definitions.specs.declared.VerbFault.{VerbFault}
 use Rattle.listing_definitions.specs.Report.{Report, Converted, Revised, Solution, Ranges}
 use Rattle.question_definitions.specs.Answers.{Basis, Sheet, Changing, Sweep, Question, Answer, OfPath, OfSolution, OfRanges, OfSweep, PathEnd, Reached, PathLimit, SweepEnd, Opening, Chained, SweepLimit}
@@ -36,7 +38,7 @@ use Rattle.question_definitions.specs.Solving.{Solving}
 use Rattle.control_definitions.specs.Cells.{Cells, move_name, move_number, steps_allowed, set_demand}
 use Rattle.run_definitions.specs.State.{Present, gone_through, State, problem_of, choice_of}
 use Rattle.run_definitions.specs.Moves.{Outcome, Goes, Ends, Refusals, Move, Does, MayStop, Asks, Gives, or_fault}
-use Rattle.run_definitions.specs.Verbs.{revises, or_deck_fault, or_selection_fault, files, selects, not_less, change_row, change_set, asks, demanded, by_verdict, if_optimal, after_path, after_sweep, shows_present, solves, shows, ranges, sweeps, converts, sets_up, punches, verb_move, if_built, statement_move}
+use Rattle.run_definitions.specs.Verbs.{revises, or_deck_fault, or_selection_fault, files, selects, not_less, change_row, change_set, asks, demanded, by_verdict, if_optimal, after_path, after_sweep, shows_present, solves, shows, ranges, sweeps, converts, sets_up, punches, verb_move}
 use Rattle.run_definitions.specs.Run.{counted, Step, Reaches, begun, stepped}
 use Rattle.run_definitions.specs.Answer.{IsSoFar}
 use Rattle.run_laws.specs.Laws.{FilesProblems}
@@ -187,10 +189,10 @@ punches_led S card state lawful =
     unless_fault S card VerbFault.NoProblem (problem_of state.cells.xpbname state.file) _ (λ problem e. does S card _ (record { file = lawful.file; setup = lawful.setup; decks = lawful.decks; name = lawful.name }))
 
 module _ (S : Solving) where
-  pathed : (card : ℕ) (present : Present) (state : State) → AreLawful state → IsProblem present.problem → (end : PathEnd) → Leads (after_path card present state end)
-  pathed card present state lawful is (Reached bases verdict check) =
+  pathed : (solver : Solver) (card : ℕ) (present : Present) (state : State) → AreLawful state → IsProblem present.problem → (end : PathEnd) → Leads (after_path solver card present state end)
+  pathed solver card present state lawful is (Reached bases verdict check) =
       by_verdict_leads _ _ _ (record { file = lawful.file; setup = with_setup (gone_through bases present) is; decks = lawful.decks; name = lawful.name })
-  pathed card present state lawful is PathLimit = tt
+  pathed solver card present state lawful is PathLimit = tt
 
   swept : (card : ℕ) (sweep : Sweep) (present : Present) (state : State) → AreLawful state → IsProblem present.problem → (end : SweepEnd) → Leads (after_sweep card sweep present state end)
   swept card sweep present state lawful is (Opening bases verdict check) =
@@ -199,11 +201,11 @@ module _ (S : Solving) where
       record { file = lawful.file; setup = with_setup (gone_through bases present) is; decks = lawful.decks; name = lawful.name }
   swept card sweep present state lawful is SweepLimit = tt
 
-  solves_led : (card : ℕ) (state : State) → AreLawful state → IsLed S card (solves card state)
-  solves_led card state lawful =
+  solves_led : (solver : Solver) (card : ℕ) (state : State) → AreLawful state → IsLed S card (solves solver card state)
+  solves_led solver card state lawful =
       unless_fault S card VerbFault.NoSetup state.setup _ (λ present e.
       selecting S card present.problem _ _ (λ lp.
-      may_stop S card _ _ (answered S card (OfPath state.cells.xiterlim) _ _ _ (pathed card present state lawful (lawful.setup present e)))))
+      may_stop S card _ _ (answered S card (OfPath solver state.cells.xiterlim) _ _ _ (pathed solver card present state lawful (lawful.setup present e)))))
 
   showing_led : (card : ℕ) (state : State) (present : Present) (question : Question) (report : Answer question → Report) → AreLawful state →
       IsLed S card (shows_present card state present question report)
@@ -237,38 +239,31 @@ module _ (S : Solving) where
       unless_fault {X = ℚ} S card VerbFault.ParmaxBelow (not_less state.cells.xparam last) _ (λ to t.
       asked_led card present state lp (record { changing = changing; from = state.cells.xparam; to = to; limit = steps_allowed state.cells }) lawful (lawful.setup present e))))))
 
-  verb_led : (verb : Verb ℕ) (card : ℕ) (state : State) → MovesName verb → AreLawful state → S.builds verb ≡ true → IsLed S card (verb_move verb card state)
+  verb_led : (verb : Verb ℕ) (card : ℕ) (state : State) → MovesName verb → AreLawful state → IsLed S card (verb_move verb card state)
   unfolding verb_move
-  verb_led Initialz card state names lawful built = does S card _ (record { file = lawful.file; setup = lawful.setup; decks = lawful.decks; name = tt })
-  verb_led (Title text) card state names lawful built = does S card _ (record { file = lawful.file; setup = lawful.setup; decks = lawful.decks; name = lawful.name })
-  verb_led (MoveName cell name) card state names lawful built = does S card _ (record { file = lawful.file; setup = lawful.setup; decks = lawful.decks; name = named cell name state.cells names lawful.name })
-  verb_led (MoveNumber cell value) card state names lawful built = does S card _ (record { file = lawful.file; setup = lawful.setup; decks = lawful.decks; name = numbered cell value state.cells lawful.name })
-  verb_led (MoveLimit limit) card state names lawful built = does S card _ (record { file = lawful.file; setup = lawful.setup; decks = lawful.decks; name = lawful.name })
-  verb_led (Mvadr demand position) card state names lawful built = does S card _ (record { file = lawful.file; setup = lawful.setup; decks = lawful.decks; name = demanding demand position state.cells lawful.name })
-  verb_led (Goto position) card state names lawful built = does S card _ (record { file = lawful.file; setup = lawful.setup; decks = lawful.decks; name = lawful.name })
-  verb_led Convert card state names lawful built = converts_led S card state lawful
-  verb_led Revise card state names lawful built = revises_led S card state lawful
-  verb_led (Setup options) card state names lawful built = sets_up_led S card options state lawful
-  verb_led Primal card state names lawful built = solves_led card state lawful
-  verb_led SolutionVerb card state names lawful built = shows_led card state lawful
-  verb_led Ranging card state names lawful built = ranges_led card state lawful
-  verb_led Paraobj card state names lawful built = sweeps_led card VerbFault.NoChangeRow change_row state.cells.xchrow state lawful
-  verb_led Pararhs card state names lawful built = sweeps_led card VerbFault.NoChangeSet change_set state.cells.xchcol state lawful
-  verb_led Bcdout card state names lawful built = punches_led S card state lawful
-  verb_led Exit card state names lawful built = does S card _ tt
-
-  statement_led : (verb : Verb ℕ) (card : ℕ) (state : State) → MovesName verb → AreLawful state → IsLed S card (statement_move S verb card state)
-  statement_led verb card state names lawful = by (S.builds verb) refl
-    where
-      by : (built : Bool) → S.builds verb ≡ built → IsLed S card (if_built built (verb_move verb card state))
-      by true is = verb_led verb card state names lawful is
-      by false is = does S card _ tt
+  verb_led Initialz card state names lawful = does S card _ (record { file = lawful.file; setup = lawful.setup; decks = lawful.decks; name = tt })
+  verb_led (Title text) card state names lawful = does S card _ (record { file = lawful.file; setup = lawful.setup; decks = lawful.decks; name = lawful.name })
+  verb_led (MoveName cell name) card state names lawful = does S card _ (record { file = lawful.file; setup = lawful.setup; decks = lawful.decks; name = named cell name state.cells names lawful.name })
+  verb_led (MoveNumber cell value) card state names lawful = does S card _ (record { file = lawful.file; setup = lawful.setup; decks = lawful.decks; name = numbered cell value state.cells lawful.name })
+  verb_led (MoveLimit limit) card state names lawful = does S card _ (record { file = lawful.file; setup = lawful.setup; decks = lawful.decks; name = lawful.name })
+  verb_led (Mvadr demand position) card state names lawful = does S card _ (record { file = lawful.file; setup = lawful.setup; decks = lawful.decks; name = demanding demand position state.cells lawful.name })
+  verb_led (Goto position) card state names lawful = does S card _ (record { file = lawful.file; setup = lawful.setup; decks = lawful.decks; name = lawful.name })
+  verb_led Convert card state names lawful = converts_led S card state lawful
+  verb_led Revise card state names lawful = revises_led S card state lawful
+  verb_led (Setup options) card state names lawful = sets_up_led S card options state lawful
+  verb_led Primal card state names lawful = solves_led ByPrimal card state lawful
+  verb_led SolutionVerb card state names lawful = shows_led card state lawful
+  verb_led Ranging card state names lawful = ranges_led card state lawful
+  verb_led Paraobj card state names lawful = sweeps_led card VerbFault.NoChangeRow change_row state.cells.xchrow state lawful
+  verb_led Pararhs card state names lawful = sweeps_led card VerbFault.NoChangeSet change_set state.cells.xchcol state lawful
+  verb_led Bcdout card state names lawful = punches_led S card state lawful
+  verb_led Exit card state names lawful = does S card _ tt
 
   -- ---- runs
 
   step_leads : (program : Program) (state : State) (outcome : Outcome) → HasNames program → AreLawful state → Step S program state outcome → Leads outcome
   step_leads program state outcome names lawful step =
-      (statement_led step.statement.verb step.statement.card (counted state) (statement_at program _ step.statement names step.is_at_position)
+      (verb_led step.statement.verb step.statement.card (counted state) (statement_at program _ step.statement names step.is_at_position)
       (record { file = lawful.file; setup = lawful.setup; decks = lawful.decks; name = lawful.name })).by outcome step.gives
 
   reaching : (program : Program) (decks : List (List Card)) (reports : List Report) (cards : List (List ℕ)) (state : State) → HasNames program → AllByRecursion ArePrintable decks →

@@ -1,14 +1,17 @@
 -- Each report of the run of a job holds of the state in which it was made.
-use Rattle.std.proofs.Common.{ℕ, Bool, List, []}
-use Rattle.std.specs.Prelude.{All}
+use Rattle.std.proofs.Common.{ℕ, List, []}
+use Rattle.std.specs.Prelude.{All, Option}
 use Rattle.std.proofs.lemmas.List.Elements.{All-nil, All-cons}
-use Rattle.control_definitions.specs.Program.{Program, Verb}
+use Rattle.control_definitions.specs.Program.{Program}
 use Rattle.listing_definitions.specs.declared.Mark.TheVariants.{Optimal, Infeasible, Unbounded}
+use Rattle.listing_definitions.specs.declared.Solver.{Solver}
 use Rattle.listing_definitions.specs.declared.Solver.TheVariants.{Primal as ByPrimal, Paraobj as ByParaobj, Pararhs as ByPararhs}
-use Rattle.listing_definitions.specs.Report.{Report, Titled, Converted, Revised, SetUp, Punched, Solved, Solution, Ranges, Parametric}
+use Rattle.listing_definitions.specs.Report.{Verdict, Check, Report, Titled, Converted, Revised, SetUp, Punched, Solved, Solution, Ranges, Parametric}
 use Rattle.listing_definitions.specs.Ending.{Ending}
+use Rattle.question_definitions.specs.Answers.{Basis, Sheet, Reached}
 use Rattle.question_definitions.specs.Solving.{Solving}
-use Rattle.answer_definitions.specs.Real.{staged}
+use Rattle.answer_definitions.specs.Verdicts.{ReachesVerdict, IsSolvedBy}
+use Rattle.answer_definitions.specs.Real.{linear_programming}
 use Rattle.run_definitions.specs.State.{State}
 use Rattle.run_definitions.specs.Moves.{Gain, Nothing, Prints, Punches, printed_by, Outcome, Goes, Ends}
 use Rattle.run_definitions.specs.Run.{counted, Step, Reaches, begun, stepped, IsRun, is_over, is_ended}
@@ -17,7 +20,7 @@ use Rattle.run_laws.specs.Truth.{Holds}
 use Rattle.run_laws.specs.Headline.{HoldSoFar, HoldInRun, HoldInJob, HoldInEnd, HoldInAnswer}
 use Rattle.run_laws.specs.Laws.{KnowsSolving, reports_of, TellsTruth}
 use Rattle.run_laws.proofs.Moves.{HasProblem, Knows, HoldsGain, Keeps, unmarked, without_setup}
-use Rattle.run_laws.proofs.Verbs.{statement_kept}
+use Rattle.run_laws.proofs.Verbs.{verb_kept}
 use Rattle.run_laws.proofs.Filed.{job_reaching}
 
 -- to count a statement as executed changes nothing of which a report speaks
@@ -49,7 +52,7 @@ outcome_holds state (Ends gain ending) keeps = printed_holds state gain keeps
 module _ (S : Solving) (solving : KnowsSolving S) where
   step_keeps : (program : Program) (state : State) (outcome : Outcome) → HasProblem state.setup → Knows state → Step S program state outcome → Keeps (counted state) outcome
   step_keeps program state outcome lawful knows step =
-      (statement_kept S solving step.statement.verb step.statement.card (counted state) lawful (record { marked = knows.marked; bases = knows.bases })).by outcome step.gives
+      (verb_kept S solving step.statement.verb step.statement.card (counted state) lawful (record { marked = knows.marked; bases = knows.bases })).by outcome step.gives
 
   module _ (bytes : List ℕ) (program : Program) (is_program : IsProgramOf bytes program) where
     pub has_problem : (reports : List Report) (cards : List (List ℕ)) (state : State) → Reaches S program (job_decks program bytes) reports cards state → HasProblem state.setup
@@ -101,5 +104,18 @@ module _ (S : Solving) (solving : KnowsSolving S) where
     job = job_holds;
   }
 
-pub knows_staged : (builds : Verb ℕ → Bool) → KnowsSolving (staged builds)
-knows_staged builds = record { solves = λ sheet s limit bases verdict check solved. solved; shows = λ sheet s lines shown. shown; ranges = λ sheet s lines ranged. ranged; sweeps = λ sheet s sweep end ran. ran }
+-- PRIMAL alone asks for a path
+reached_by : (solver : Solver) (sheet : Sheet) (s : Basis) (limit : Option ℕ) (bases : List Basis) (verdict : Verdict) (check : Check) →
+    IsSolvedBy solver sheet s limit (Reached bases verdict check) → ReachesVerdict sheet s limit bases verdict check
+reached_by ByPrimal sheet s limit bases verdict check solved = solved
+reached_by ByParaobj sheet s limit bases verdict check solved = absurd solved
+reached_by ByPararhs sheet s limit bases verdict check solved = absurd solved
+
+pub knows_linear_programming : KnowsSolving linear_programming
+unfolding linear_programming
+knows_linear_programming = record {
+  solves = reached_by;
+  shows = λ sheet s lines shown. shown;
+  ranges = λ sheet s lines ranged. ranged;
+  sweeps = λ sheet s sweep end ran. ran;
+}

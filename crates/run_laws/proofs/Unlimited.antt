@@ -1,25 +1,24 @@
 -- Without a limit PRIMAL doesn't stop at one.
-use Rattle.std.proofs.Common.{◌≡◌, ℕ, Bool, true, false, inl, inr, sym, subst}
+use Rattle.std.proofs.Common.{◌≡◌, ℕ, inl, inr, sym, subst}
 use Rattle.std.specs.Prelude.{Option, None, Some, Result, Ok, Err}
 use Rattle.lp_definitions.specs.LinearProgram.{LinearProgram}
 use Rattle.problem_definitions.specs.Problem.{Problem}
-use Rattle.control_definitions.specs.Program.{Verb, Primal}
 use Rattle.selection_definitions.specs.declared.SelectionFault.{SelectionFault}
 use Rattle.selection_definitions.specs.Choice.{Choice}
 use Rattle.selection_definitions.specs.Selection.{selected}
 use Rattle.listing_definitions.specs.declared.Mark.{Mark}
 use Rattle.listing_definitions.specs.declared.Mark.TheVariants.{Optimal, Infeasible, Unbounded}
-use Rattle.listing_definitions.specs.declared.Solver.TheVariants as solver
+use Rattle.listing_definitions.specs.declared.Solver.TheVariants.{Primal as ByPrimal}
 use Rattle.listing_definitions.specs.declared.VerbFault.{VerbFault}
 use Rattle.listing_definitions.specs.declared.VerbFault.TheVariants.{NoSetup}
 use Rattle.listing_definitions.specs.Report.{Report, Verdict, Check, Solved}
 use Rattle.question_definitions.specs.Answers.{Sheet, OfPath, PathEnd, Reached, PathLimit}
 use Rattle.question_definitions.specs.Solving.{Solving}
 use Rattle.answer_definitions.specs.Verdicts.{IsSolved}
-use Rattle.answer_definitions.specs.Real.{staged}
+use Rattle.answer_definitions.specs.Real.{linear_programming}
 use Rattle.run_definitions.specs.State.{Present, present_basis, gone_through, State, choice_of}
 use Rattle.run_definitions.specs.Moves.{Outcome, Refusals, Move, Does, MayStop, Asks, Gives, or_fault}
-use Rattle.run_definitions.specs.Verbs.{or_selection_fault, selects, mark_of, demanded, by_verdict, after_path, solves, verb_move, if_built, statement_move}
+use Rattle.run_definitions.specs.Verbs.{or_selection_fault, selects, mark_of, demanded, by_verdict, after_path, solves, verb_move}
 use Rattle.run_laws.specs.Laws.{IsNoLimitStop, EndsUnlimited}
 
 module _ (S : Solving) (card : ℕ) where
@@ -57,25 +56,22 @@ verdict_other Optimal report state = tt
 verdict_other Infeasible report state = demanded_other state.cells.xdonfs 1 report state
 verdict_other Unbounded report state = demanded_other state.cells.xdounb 2 report state
 
-module _ (builds : Verb ℕ → Bool) (card : ℕ) (state : State) where
-  path_other : (present : Present) (sheet : Sheet) (limit : Option ℕ) → limit ≡ None → (end : PathEnd) → IsSolved sheet (present_basis present) limit end → IsNoLimitStop (after_path card present state end)
+module _ (card : ℕ) (state : State) where
+  path_other : (present : Present) (sheet : Sheet) (limit : Option ℕ) → limit ≡ None → (end : PathEnd) → IsSolved sheet (present_basis present) limit end → IsNoLimitStop (after_path ByPrimal card present state end)
   path_other present sheet limit none (Reached bases verdict check) solved =
-      verdict_other (mark_of verdict) (Solved solver.Primal verdict check) (record state { setup = Some (gone_through bases present); mark = Some (mark_of verdict) })
+      verdict_other (mark_of verdict) (Solved ByPrimal verdict check) (record state { setup = Some (gone_through bases present); mark = Some (mark_of verdict) })
   path_other present sheet None none PathLimit solved = absurd solved
   path_other present sheet (Some most) none PathLimit solved = absurd (cc none)
 
-  solves_other : state.cells.xiterlim ≡ None → NeverLimited (staged builds) card (solves card state)
+  solves_other : state.cells.xiterlim ≡ None → NeverLimited linear_programming card (solves ByPrimal card state)
+  unfolding linear_programming
   solves_other none =
-      unless_fault (staged builds) card NoSetup state.setup _ (λ present.
-      selecting (staged builds) card present.problem (choice_of state.cells present.options) _ (λ lp.
-      may_stop (staged builds) card _ _ (record {
+      unless_fault linear_programming card NoSetup state.setup _ (λ present.
+      selecting linear_programming card present.problem (choice_of state.cells present.options) _ (λ lp.
+      may_stop linear_programming card _ _ (record {
         by = λ given a. subst IsNoLimitStop (sym a.2) (path_other present (record { problem = present.problem; lp = lp }) state.cells.xiterlim none a.0 a.1);
       })))
 
-  built_other : (built : Bool) → state.cells.xiterlim ≡ None → NeverLimited (staged builds) card (if_built built (solves card state))
-  built_other true none = solves_other none
-  built_other false none = does (staged builds) card _ tt
-
-pub ends_unlimited : (builds : Verb ℕ → Bool) → EndsUnlimited (staged builds)
+pub ends_unlimited : EndsUnlimited linear_programming
 unfolding verb_move
-ends_unlimited builds card state outcome none gives = (built_other builds card state (builds Primal) none).by outcome gives
+ends_unlimited card state outcome none gives = (solves_other card state none).by outcome gives

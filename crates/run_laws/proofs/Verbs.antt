@@ -1,5 +1,5 @@
 -- Each verb keeps what a run knows, and what it reports holds.
-use Rattle.std.proofs.Common.{◌≡◌, ℕ, Bool, true, false, List, [], ◌∷◌, ◌++◌, refl, sym, ap, subst, ◌∙◌}
+use Rattle.std.proofs.Common.{◌≡◌, ℕ, List, [], ◌∷◌, ◌++◌, refl, sym, ap, subst, ◌∙◌}
 use Rattle.std.specs.Prelude.{Option, Some, None, Ok, option_and_then}
 use Rattle.exact_values.specs.Rational.{ℚ}
 use Rattle.lp_definitions.specs.LinearProgram.{LinearProgram}
@@ -31,7 +31,7 @@ use Rattle.answer_definitions.specs.Sections.{IsShown, IsRanged}
 use Rattle.control_definitions.specs.Cells.{Cells, move_name, move_number, steps_allowed, set_demand}
 use Rattle.run_definitions.specs.State.{Present, present_basis, gone_through, State, problem_of, choice_of}
 use Rattle.run_definitions.specs.Moves.{Prints, Punches, next, Does}
-use Rattle.run_definitions.specs.Verbs.{size_of, files, not_less, change_row, change_set, asks, mark_of, mark_after, demanded, by_verdict, after_path, after_sweep, if_optimal, shows_present, solves, shows, ranges, sweeps, converts, revises, sets_up, punches, verb_move, if_built, statement_move}
+use Rattle.run_definitions.specs.Verbs.{size_of, files, not_less, change_row, change_set, asks, mark_of, mark_after, demanded, by_verdict, after_path, after_sweep, if_optimal, shows_present, solves, shows, ranges, sweeps, converts, revises, sets_up, punches, verb_move}
 use Rattle.path_laws.specs.Laws.{IsNonsingularBasis}
 use Rattle.path_laws.proofs.Ends.{optimal_end}
 use Rattle.path_laws.proofs.Steps.{opening_is}
@@ -211,9 +211,9 @@ told_of state present lp sweep lawful set is asked Tells tells = record {
 
 module _ (S : Solving) (solving : KnowsSolving S) where
   pathed : (card : ℕ) (present : Present) (state : State) (lp : LinearProgram) → HasProblem state.setup → selected present.problem (choice_of state.cells present.options) ≡ Ok lp → state.setup ≡ Some present → HasBases present →
-      (end : PathEnd) → S.Solves (record { problem = present.problem; lp = lp }) (present_basis present) state.cells.xiterlim end → Keeps state (after_path card present state end)
+      (end : PathEnd) → S.Solves ByPrimal (record { problem = present.problem; lp = lp }) (present_basis present) state.cells.xiterlim end → Keeps state (after_path ByPrimal card present state end)
   pathed card present state lp lawful is set has (Reached bases verdict check) solved =
-      let reaches = solving.solves (record { problem = present.problem; lp = lp }) (present_basis present) state.cells.xiterlim bases verdict check solved in
+      let reaches = solving.solves ByPrimal (record { problem = present.problem; lp = lp }) (present_basis present) state.cells.xiterlim bases verdict check solved in
       let at = has.in_each state.cells.xobj state.cells.xrhs lp is in
       let program = present_program state.setup state.cells present lp lawful set is in
       let plain = selected_has_no_change present.problem (choice_of state.cells present.options) lp is in
@@ -225,11 +225,11 @@ module _ (S : Solving) (solving : KnowsSolving S) where
       })
   pathed card present state lp lawful is set has PathLimit solved = tt
 
-  solving_kept : (card : ℕ) (state : State) → HasProblem state.setup → Knows state → IsKept S state card (solves card state)
+  solving_kept : (card : ℕ) (state : State) → HasProblem state.setup → Knows state → IsKept S state card (solves ByPrimal card state)
   solving_kept card state lawful knows =
       unless_fault S state card VerbFault.NoSetup state.setup _ (λ present e.
       selecting S state card present.problem _ _ (λ lp is.
-      may_stop S state card _ _ (answered S state card (OfPath state.cells.xiterlim) _ _ _ (pathed card present state lp lawful is e (knows.bases present e)))))
+      may_stop S state card _ _ (answered S state card (OfPath ByPrimal state.cells.xiterlim) _ _ _ (pathed card present state lp lawful is e (knows.bases present e)))))
 
   showing : (card : ℕ) (state : State) (present : Present) (question : Question) (report : Answer question → Report) → Knows state →
       ((lp : LinearProgram) → selected present.problem (choice_of state.cells present.options) ≡ Ok lp → (lines : Answer question) → IsRight S question (record { problem = present.problem; lp = lp }) (present_basis present) lines →
@@ -331,29 +331,22 @@ module _ (S : Solving) (solving : KnowsSolving S) where
   punches_kept : (card : ℕ) (state : State) → Knows state → IsKept S state card (punches card state)
   punches_kept card state knows = unless_fault S state card VerbFault.NoProblem (problem_of state.cells.xpbname state.file) _ (λ problem e. punched card state problem.name _ _ knows)
 
-  verb_kept : (verb : Verb ℕ) (card : ℕ) (state : State) → HasProblem state.setup → Knows state → S.builds verb ≡ true → IsKept S state card (verb_move verb card state)
+  pub verb_kept : (verb : Verb ℕ) (card : ℕ) (state : State) → HasProblem state.setup → Knows state → IsKept S state card (verb_move verb card state)
   unfolding verb_move
-  verb_kept Initialz card state lawful knows built = does S state card _ (tt, record { marked = unmarked _ _ _; bases = knows.bases })
-  verb_kept (Title text) card state lawful knows built = does S state card _ (tt, record { marked = knows.marked; bases = knows.bases })
-  verb_kept (MoveName cell name) card state lawful knows built = does S state card _ (tt, record { marked = named cell name state.cells state.mark state.setup knows.marked; bases = knows.bases })
-  verb_kept (MoveNumber cell value) card state lawful knows built = does S state card _ (tt, record { marked = moved_number cell value state.cells state.mark state.setup knows.marked; bases = knows.bases })
-  verb_kept (MoveLimit limit) card state lawful knows built = does S state card _ (tt, record { marked = knows.marked; bases = knows.bases })
-  verb_kept (Mvadr demand position) card state lawful knows built = does S state card _ (tt, record { marked = moved_demand demand position state.cells state.mark state.setup knows.marked; bases = knows.bases })
-  verb_kept (Goto position) card state lawful knows built = does S state card _ (tt, record { marked = knows.marked; bases = knows.bases })
-  verb_kept Convert card state lawful knows built = converts_kept card state
-  verb_kept Revise card state lawful knows built = revises_kept card state
-  verb_kept (Setup options) card state lawful knows built = sets_up_kept card options state
-  verb_kept Primal card state lawful knows built = solving_kept card state lawful knows
-  verb_kept SolutionVerb card state lawful knows built = shows_kept card state lawful knows
-  verb_kept Ranging card state lawful knows built = ranges_kept card state lawful knows
-  verb_kept Paraobj card state lawful knows built = sweeps_kept card VerbFault.NoChangeRow change_row state.cells.xchrow state (row_named state.cells) lawful knows
-  verb_kept Pararhs card state lawful knows built = sweeps_kept card VerbFault.NoChangeSet change_set state.cells.xchcol state (set_named state.cells) lawful knows
-  verb_kept Bcdout card state lawful knows built = punches_kept card state knows
-  verb_kept Exit card state lawful knows built = does S state card _ tt
-
-  if_built_kept : (card : ℕ) (verb : Verb ℕ) (state : State) → HasProblem state.setup → Knows state → (built : Bool) → S.builds verb ≡ built → IsKept S state card (if_built built (verb_move verb card state))
-  if_built_kept card verb state lawful knows true is = verb_kept verb card state lawful knows is
-  if_built_kept card verb state lawful knows false is = does S state card _ tt
-
-  pub statement_kept : (verb : Verb ℕ) (card : ℕ) (state : State) → HasProblem state.setup → Knows state → IsKept S state card (statement_move S verb card state)
-  statement_kept verb card state lawful knows = if_built_kept card verb state lawful knows (S.builds verb) refl
+  verb_kept Initialz card state lawful knows = does S state card _ (tt, record { marked = unmarked _ _ _; bases = knows.bases })
+  verb_kept (Title text) card state lawful knows = does S state card _ (tt, record { marked = knows.marked; bases = knows.bases })
+  verb_kept (MoveName cell name) card state lawful knows = does S state card _ (tt, record { marked = named cell name state.cells state.mark state.setup knows.marked; bases = knows.bases })
+  verb_kept (MoveNumber cell value) card state lawful knows = does S state card _ (tt, record { marked = moved_number cell value state.cells state.mark state.setup knows.marked; bases = knows.bases })
+  verb_kept (MoveLimit limit) card state lawful knows = does S state card _ (tt, record { marked = knows.marked; bases = knows.bases })
+  verb_kept (Mvadr demand position) card state lawful knows = does S state card _ (tt, record { marked = moved_demand demand position state.cells state.mark state.setup knows.marked; bases = knows.bases })
+  verb_kept (Goto position) card state lawful knows = does S state card _ (tt, record { marked = knows.marked; bases = knows.bases })
+  verb_kept Convert card state lawful knows = converts_kept card state
+  verb_kept Revise card state lawful knows = revises_kept card state
+  verb_kept (Setup options) card state lawful knows = sets_up_kept card options state
+  verb_kept Primal card state lawful knows = solving_kept card state lawful knows
+  verb_kept SolutionVerb card state lawful knows = shows_kept card state lawful knows
+  verb_kept Ranging card state lawful knows = ranges_kept card state lawful knows
+  verb_kept Paraobj card state lawful knows = sweeps_kept card VerbFault.NoChangeRow change_row state.cells.xchrow state (row_named state.cells) lawful knows
+  verb_kept Pararhs card state lawful knows = sweeps_kept card VerbFault.NoChangeSet change_set state.cells.xchcol state (set_named state.cells) lawful knows
+  verb_kept Bcdout card state lawful knows = punches_kept card state knows
+  verb_kept Exit card state lawful knows = does S state card _ tt

@@ -4,9 +4,10 @@
 --     TellsTruth S                 each report of the run of a job holds of the state in which it is made
 --     FilesProblems S              every problem that is filed in the run of a job is one
 --     EndsUnlimited S              where there is no limit on steps, PRIMAL doesn't stop at one
-use Rattle.std.specs.Prelude.{◌≡◌, ℕ, Bool, List, All, Option, None, Some}
+use Rattle.std.specs.Prelude.{◌≡◌, ℕ, List, All, Option, None, Some}
 use Rattle.problem_definitions.specs.Valid.{IsProblem}
-use Rattle.control_definitions.specs.Program.{Verb, Primal, Program}
+use Rattle.control_definitions.specs.Program.{Primal, Program}
+use Rattle.listing_definitions.specs.declared.Solver.{Solver}
 use Rattle.listing_definitions.specs.Report.{SolutionLines, RangeLines, Verdict, Check, Report}
 use Rattle.listing_definitions.specs.Ending.{Ending, LimitStop}
 use Rattle.question_definitions.specs.Answers.{Basis, Sheet, Sweep, Reached, SweepEnd}
@@ -14,10 +15,10 @@ use Rattle.question_definitions.specs.Solving.{Solving}
 use Rattle.answer_definitions.specs.Verdicts.{ReachesVerdict}
 use Rattle.answer_definitions.specs.Sections.{IsShown, IsRanged}
 use Rattle.answer_definitions.specs.Sweeps.{IsSwept}
-use Rattle.answer_definitions.specs.Real.{staged}
+use Rattle.answer_definitions.specs.Real.{linear_programming}
 use Rattle.run_definitions.specs.State.{Present, State}
 use Rattle.run_definitions.specs.Moves.{printed_by, Outcome, Goes, Ends, Gives}
-use Rattle.run_definitions.specs.Verbs.{statement_move}
+use Rattle.run_definitions.specs.Verbs.{verb_move}
 use Rattle.run_definitions.specs.Run.{Step}
 use Rattle.run_definitions.specs.Answer.{IsJobRun, IsSoFar}
 use Rattle.run_laws.specs.Truth.{Holds}
@@ -26,8 +27,8 @@ use Rattle.run_laws.specs.Headline.{HoldInJob}
 -- the ends of paths and of parametric runs and the lines of SOLUTION and RANGE are those of the linear
 -- program
 pub record KnowsSolving (S : Solving) : Type 0 where
-  pub solves : (sheet : Sheet) (s : Basis) (limit : Option ℕ) (bases : List Basis) (verdict : Verdict) (check : Check) →
-      S.Solves sheet s limit (Reached bases verdict check) → ReachesVerdict sheet s limit bases verdict check
+  pub solves : (solver : Solver) (sheet : Sheet) (s : Basis) (limit : Option ℕ) (bases : List Basis) (verdict : Verdict) (check : Check) →
+      S.Solves solver sheet s limit (Reached bases verdict check) → ReachesVerdict sheet s limit bases verdict check
   pub shows : (sheet : Sheet) (s : Basis) (lines : SolutionLines) → S.Shows sheet s lines → IsShown sheet s lines
   pub ranges : (sheet : Sheet) (s : Basis) (lines : RangeLines) → S.Ranges sheet s lines → IsRanged sheet s lines
   pub sweeps : (sheet : Sheet) (s : Basis) (sweep : Sweep) (end : SweepEnd) → S.Sweeps sheet s sweep end → IsSwept sheet s sweep end
@@ -63,10 +64,10 @@ IsNoLimitStop _ = Unit {0}
 -- Where there is no limit, PRIMAL doesn't stop at one.
 abbrev pub EndsUnlimited : Solving → Type 0
 EndsUnlimited S = (card : ℕ) (state : State) (outcome : Outcome) → state.cells.xiterlim ≡ None →
-    Gives S card (statement_move S Primal card state) outcome → IsNoLimitStop outcome
+    Gives S card (verb_move Primal card state) outcome → IsNoLimitStop outcome
 
--- whichever verbs are built
+-- of the runs whose answers are those of linear programming
 pub record RunLaws : Type 0 where
-  pub truth : (builds : Verb ℕ → Bool) → TellsTruth (staged builds)
-  pub problems : (builds : Verb ℕ → Bool) → FilesProblems (staged builds)
-  pub unlimited : (builds : Verb ℕ → Bool) → EndsUnlimited (staged builds)
+  pub truth : TellsTruth linear_programming
+  pub problems : FilesProblems linear_programming
+  pub unlimited : EndsUnlimited linear_programming

@@ -1,7 +1,7 @@
 -- How a job ends where no device and no memory fails.
 use Rattle.std.proofs.Common.{ℕ, List, refl}
 use Rattle.listing_definitions.specs.Report.{Report}
-use Rattle.listing_definitions.specs.Ending.{Ending, Ended, WordsRefused, ControlStop, VerbStop, DeckStop, CardStop, LimitStop, StatementLimit, OverflowStop, ReadFault, PrintFault, PunchFault, Memory, NotBuilt}
+use Rattle.listing_definitions.specs.Ending.{Ending, Ended, WordsRefused, ControlStop, VerbStop, DeckStop, CardStop, LimitStop, StatementLimit, OverflowStop, ReadFault, PrintFault, PunchFault, Memory}
 use Rattle.question_definitions.specs.Solving.{Solving}
 use Rattle.run_definitions.specs.Answer.{IsJobRun, card_fault, control_fault, run}
 use Rattle.run_functions.proofs.Stops.{IsEndOfRun, end_of_run}
@@ -21,7 +21,6 @@ end_of_job reports cards ReadFault own = own
 end_of_job reports cards PrintFault own = own
 end_of_job reports cards PunchFault own = own
 end_of_job reports cards Memory own = own
-end_of_job reports cards NotBuilt own = own
 
 pub own_end : (S : Solving) (bytes : List ℕ) (reports : List Report) (cards : List (List ℕ)) (ending : Ending) → IsJobRun S bytes reports cards ending → IsOwnEnd reports cards ending
 own_end S bytes _ _ _ (card_fault fault is) = (refl, refl)

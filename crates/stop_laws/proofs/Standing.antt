@@ -2,7 +2,7 @@
 use Rattle.std.proofs.Common.{◌≡◌, ℕ, ◌≤◌, List, [], ◌++◌, Some, refl, sym, ap, subst}
 use Rattle.deck_definitions.specs.Written.{card_text}
 use Rattle.listing_definitions.specs.Report.{Report}
-use Rattle.listing_definitions.specs.Ending.{Ending, Ended, WordsRefused, ControlStop, VerbStop, DeckStop, CardStop, LimitStop, StatementLimit, OverflowStop, ReadFault, PrintFault, PunchFault, Memory, NotBuilt, status_of}
+use Rattle.listing_definitions.specs.Ending.{Ending, Ended, WordsRefused, ControlStop, VerbStop, DeckStop, CardStop, LimitStop, StatementLimit, OverflowStop, ReadFault, PrintFault, PunchFault, Memory, status_of}
 use Rattle.listing_definitions.specs.Listing.{listing, reports_text, ending_text}
 use Rattle.question_definitions.specs.Solving.{Solving}
 use Rattle.job_devices.specs.Text.{IsFront}
@@ -51,7 +51,6 @@ module _ (S : Solving) (job : Job) (failures : Failures) (status : ℕ) (PrintGa
     by_itself PrintFault own runs is text gains = absurd own
     by_itself PunchFault own runs is text gains = absurd own
     by_itself Memory own runs is text gains = absurd own
-    by_itself NotBuilt own runs is text gains = stands.not_built is (all_stands NotBuilt runs text gains)
 
   -- a run that is broken off
   broken_off : (reports : List Report) (cards : List (List ℕ)) (ending : Ending) → MayEnd S job failures reports cards ending → printed ≡ listing reports ending → IsFront punched (card_text cards) →

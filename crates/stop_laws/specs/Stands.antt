@@ -4,17 +4,16 @@
 --     StandsBrokenOff, StandsCutShort
 --     StandsAfter job .. status ..      what stands after each status
 --     StopLaws                          the law of the function of src/lib.rt
-use Rattle.std.specs.Prelude.{◌≡◌, ℕ, ◌≤◌, Bool, List, [], ◌++◌, Some}
+use Rattle.std.specs.Prelude.{◌≡◌, ℕ, ◌≤◌, List, [], ◌++◌, Some}
 use Rattle.card_definitions.specs.declared.CardFault.{CardFault}
 use Rattle.deck_definitions.specs.Written.{card_text}
 use Rattle.control_definitions.specs.declared.ControlFault.{ControlFault}
-use Rattle.control_definitions.specs.Program.{Verb}
 use Rattle.listing_definitions.specs.Report.{Report}
-use Rattle.listing_definitions.specs.Ending.{StatementFault, DeckCardFault, LimitReached, Overflow, Ending, Ended, WordsRefused, ControlStop, VerbStop, DeckStop, CardStop, LimitStop, StatementLimit, OverflowStop, ReadFault, PunchFault, Memory, NotBuilt}
+use Rattle.listing_definitions.specs.Ending.{StatementFault, DeckCardFault, LimitReached, Overflow, Ending, Ended, WordsRefused, ControlStop, VerbStop, DeckStop, CardStop, LimitStop, StatementLimit, OverflowStop, ReadFault, PunchFault, Memory}
 use Rattle.listing_definitions.specs.Listing.{ending_text, reports_text}
 use Rattle.job_devices.specs.Text.{IsFront}
 use Rattle.question_definitions.specs.Solving.{Solving}
-use Rattle.answer_definitions.specs.Real.{staged}
+use Rattle.answer_definitions.specs.Real.{linear_programming}
 use Rattle.run_definitions.specs.Answer.{Job, WithoutBytes, Read, bytes_of, Failures, IsJobRun, MayEnd, IsCutShort}
 
 -- Where nothing fails a job ends with 0, 1 or 2, at a statement or a deck that is refused, at a limit,
@@ -28,7 +27,6 @@ IsOwnEnd reports cards (DeckStop fault) = Unit {0}
 IsOwnEnd reports cards (LimitStop reached) = Unit {0}
 IsOwnEnd reports cards StatementLimit = Unit {0}
 IsOwnEnd reports cards (OverflowStop overflow) = Unit {0}
-IsOwnEnd reports cards NotBuilt = Unit {0}
 IsOwnEnd reports cards _ = ⊥
 
 module _ (S : Solving) (job : Job) (failures : Failures) (PrintGains PunchGains : List ℕ → Type 0) where
@@ -94,10 +92,8 @@ module _ (S : Solving) (job : Job) (failures : Failures) (PrintGains PunchGains 
     punch_fails : status ≡ 26 → failures.punch → StandsBrokenOff PunchFault → StandsAfter status
     memory_wanted : status ≡ 28 → StandsBrokenOff Memory → StandsAfter status
     print_wants_memory : status ≡ 28 → failures.memory → StandsCutShort status → StandsAfter status
-    not_built : status ≡ 30 → StandsWhole NotBuilt → StandsAfter status
 
--- how a job ends where nothing fails, whichever verbs are built
+-- how a job ends where nothing fails
 abbrev pub StopLaws : Type 0
-StopLaws = (builds : Verb ℕ → Bool) (bytes : List ℕ) (reports : List Report)
-    (cards : List (List ℕ)) (ending : Ending) →
-    IsJobRun (staged builds) bytes reports cards ending → IsOwnEnd reports cards ending
+StopLaws = (bytes : List ℕ) (reports : List Report) (cards : List (List ℕ)) (ending : Ending) →
+    IsJobRun linear_programming bytes reports cards ending → IsOwnEnd reports cards ending

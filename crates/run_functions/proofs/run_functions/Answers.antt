@@ -1,5 +1,5 @@
-use Rattle.answer_definitions.specs.Real.{staged}
-use Rattle.run_laws.proofs.Runs.{knows_staged}
+use Rattle.answer_definitions.specs.Real.{linear_programming}
+use Rattle.run_laws.proofs.Runs.{knows_linear_programming}
 use Rattle.run_functions.proofs.OneAnswer.{path_once, shown_once}
 use Rattle.run_functions.proofs.OneRange.{ranged_once}
 use Rattle.run_functions.proofs.Outcomes.{outcomes}
@@ -9,7 +9,7 @@ use Rattle.run_functions.proofs.run_functions.Goals as goal
 pub returns : goal.returns
 returns c = record {
   answers = record { path = λ sheet s limit a b lawful at. path_once sheet s lawful at limit a b; solution = shown_once; ranges = ranged_once };
-  moves = λ builds card. outcomes (staged builds) card;
+  moves = outcomes linear_programming;
   answered = answers_once;
-  runs = λ builds. is_function (staged builds) (knows_staged builds) (answers_once builds);
+  runs = is_function linear_programming knows_linear_programming answers_once;
 }
