@@ -96,11 +96,14 @@ still_solved cells file setup new mark k h = record {
   optimal = λ is. subst (λ (p : LinearProgram). IsOptimalBasis p new.basis) (sym k.lp) (subst (λ (b : Basis). IsOptimalBasis setup.lp b) (sym k.basis) (h.optimal is));
 }
 
-module _ {P : Type 0} (written : P → Option (List ℕ)) (faults refusals : P → ℕ) (file : Filed) (setup : Setup) (mark : Mark) (there : Problem ℕ) (is_there : filed_under setup.name file ≡ Some there) where
+-- the setup that code has opened, which is the one that is spoken of
+module _ {P : Type 0} (written : P → Option (List ℕ)) (faults refusals : P → ℕ) (file : Filed) {setup old : Setup} (is_old : setup ≡ old) (mark : Mark) (there : Problem ℕ) (is_there : filed_under setup.name file ≡ Some there) where
   pub lines_at : (print_old print_new : P) (result : Result Finding Halt) → Tells (Shows there setup mark) written faults refusals print_old print_new result →
-      (problem : Problem ℕ) → filed_under setup.name file ≡ Some problem → Tells (Shows problem setup mark) written faults refusals print_old print_new result
+      (problem : Problem ℕ) → filed_under old.name file ≡ Some problem → Tells (Shows problem old mark) written faults refusals print_old print_new result
   lines_at print_old print_new result t problem on_file =
-      subst (λ (q : Problem ℕ). Tells (Shows q setup mark) written faults refusals print_old print_new result) (one_problem file setup there problem is_there on_file) t
+      subst (λ (s : Setup). Tells (Shows problem s mark) written faults refusals print_old print_new result) is_old
+      (subst (λ (q : Problem ℕ). Tells (Shows q setup mark) written faults refusals print_old print_new result)
+      (one_problem file setup there problem is_there (ap (λ (s : Setup). filed_under s.name file) is_old ∙ on_file)) t)
 
 -- ---- the statement
 

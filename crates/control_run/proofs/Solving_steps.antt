@@ -158,21 +158,24 @@ solved_ends sheet s now limit before after _ _ lawful at (reached {bases = bases
 solved_ends sheet s now limit before after _ _ lawful at (at_limit h) Fact gives = tt
 solved_ends sheet s now limit before after _ _ lawful at (overflows h) Fact gives = tt
 
-module _ {P : Type 0} (written : P → Option (List ℕ)) (faults refusals : P → ℕ) (cells : Cells) (file : Filed) (setup new : Setup) (there : Problem ℕ) (is_there : filed_under setup.name file ≡ Some there) where
+-- The setup that code has opened, which is the one that is spoken of, and what is left of it.
+module _ {P : Type 0} (written : P → Option (List ℕ)) (faults refusals : P → ℕ) (cells : Cells) (file : Filed) {setup old : Setup} (is_old : setup ≡ old) (new : Setup) (there : Problem ℕ) (is_there : filed_under setup.name file ≡ Some there) where
   at_problem : (print_old print_new : P) (result : Result Finding Halt) → Tells (Finds there cells setup new) written faults refusals print_old print_new result →
-      (problem : Problem ℕ) → filed_under setup.name file ≡ Some problem → Tells (Finds problem cells setup new) written faults refusals print_old print_new result
+      (problem : Problem ℕ) → filed_under old.name file ≡ Some problem → Tells (Finds problem cells old new) written faults refusals print_old print_new result
   at_problem print_old print_new result t problem on_file =
-      subst (λ (q : Problem ℕ). Tells (Finds q cells setup new) written faults refusals print_old print_new result) (one_problem file setup there problem is_there on_file) t
+      subst (λ (s : Setup). Tells (Finds problem cells s new) written faults refusals print_old print_new result) is_old
+      (subst (λ (q : Problem ℕ). Tells (Finds q cells setup new) written faults refusals print_old print_new result)
+      (one_problem file setup there problem is_there (ap (λ (s : Setup). filed_under s.name file) is_old ∙ on_file)) t)
 
   pub refusal_told : (print : P) (refusal : Refusal) → IsUnselected there (choice_of cells setup.options) refusal →
-      (problem : Problem ℕ) → filed_under setup.name file ≡ Some problem → Tells (Finds problem cells setup new) written faults refusals print print (refused_finding refusal)
+      (problem : Problem ℕ) → filed_under old.name file ≡ Some problem → Tells (Finds problem cells old new) written faults refusals print print (refused_finding refusal)
   refusal_told print refusal u =
       at_problem print print (refused_finding refusal) (tells_quietly written faults refusals (Finds there cells setup new) print (refused_finding refusal) (refusal_found there cells setup new refusal u))
 
   pub path_told : (lp : LinearProgram) (limit : Option ℕ) (print_old print_new : P) (result : Result Finding Halt) → limit ≡ cells.xiterlim → selected there (choice_of cells setup.options) ≡ Ok lp →
       new.name ≡ setup.name → new.options ≡ setup.options →
       Tells (PathFinds (record { problem = there; lp = lp }) setup.basis new.basis limit setup.engine.waypoints new.engine.waypoints) written faults refusals print_old print_new result →
-      (problem : Problem ℕ) → filed_under setup.name file ≡ Some problem → Tells (Finds problem cells setup new) written faults refusals print_old print_new result
+      (problem : Problem ℕ) → filed_under old.name file ≡ Some problem → Tells (Finds problem cells old new) written faults refusals print_old print_new result
   path_told lp limit print_old print_new result within ok same_name same_options t =
       at_problem print_old print_new result
       (tells_more written faults refusals (PathFinds (record { problem = there; lp = lp }) setup.basis new.basis limit setup.engine.waypoints new.engine.waypoints) (Finds there cells setup new) print_old print_new

@@ -180,11 +180,14 @@ module _ (problem : Problem ℕ) (choice : Choice) (lp : LinearProgram) (ok : se
 
 -- ---- what is found with a setup
 
-module _ {P : Type 0} (written : P → Option (List ℕ)) (faults refusals : P → ℕ) (verb : SweepVerb) (cells : Cells) (file : Filed) (setup new : Setup) (there : Problem ℕ) (is_there : filed_under setup.name file ≡ Some there) where
+-- The setup that code has opened, which is the one that is spoken of, and what is left of it.
+module _ {P : Type 0} (written : P → Option (List ℕ)) (faults refusals : P → ℕ) (verb : SweepVerb) (cells : Cells) (file : Filed) {setup old : Setup} (is_old : setup ≡ old) (new : Setup) (there : Problem ℕ) (is_there : filed_under setup.name file ≡ Some there) where
   at_problem : (print_old print_new : P) (result : Result Finding Halt) → Tells (Sweeps there cells verb setup new) written faults refusals print_old print_new result →
-      (problem : Problem ℕ) → filed_under setup.name file ≡ Some problem → Tells (Sweeps problem cells verb setup new) written faults refusals print_old print_new result
+      (problem : Problem ℕ) → filed_under old.name file ≡ Some problem → Tells (Sweeps problem cells verb old new) written faults refusals print_old print_new result
   at_problem print_old print_new result t problem on_file =
-      subst (λ (q : Problem ℕ). Tells (Sweeps q cells verb setup new) written faults refusals print_old print_new result) (one_problem file setup there problem is_there on_file) t
+      subst (λ (s : Setup). Tells (Sweeps problem cells verb s new) written faults refusals print_old print_new result) is_old
+      (subst (λ (q : Problem ℕ). Tells (Sweeps q cells verb setup new) written faults refusals print_old print_new result)
+      (one_problem file setup there problem is_there (ap (λ (s : Setup). filed_under s.name file) is_old ∙ on_file)) t)
 
   refusal_found : (refusal : Refusal) → IsUnselected there (choice_of cells setup.options) refusal → MatchResult (refused_finding refusal) (Sweeps there cells verb setup new Nothing) (λ h. h ≡ halt.NoMemory)
   refusal_found (Fault fault) u = unselected u
@@ -192,7 +195,7 @@ module _ {P : Type 0} (written : P → Option (List ℕ)) (faults refusals : P �
   refusal_found NoMemory u = refl
 
   pub unselected_told : (print : P) (refusal : Refusal) → IsUnselected there (choice_of cells setup.options) refusal →
-      (problem : Problem ℕ) → filed_under setup.name file ≡ Some problem → Tells (Sweeps problem cells verb setup new) written faults refusals print print (refused_finding refusal)
+      (problem : Problem ℕ) → filed_under old.name file ≡ Some problem → Tells (Sweeps problem cells verb old new) written faults refusals print print (refused_finding refusal)
   unselected_told print refusal u =
       at_problem print print (refused_finding refusal) (tells_quietly written faults refusals (Sweeps there cells verb setup new) print (refused_finding refusal) (refusal_found refusal u))
 
@@ -203,13 +206,13 @@ module _ {P : Type 0} (written : P → Option (List ℕ)) (faults refusals : P �
     unasked_found NoMemory u = refl
 
     pub unasked_told : (print : P) (refusal : Refusal) → IsNotAsked verb there cells refusal →
-        (problem : Problem ℕ) → filed_under setup.name file ≡ Some problem → Tells (Sweeps problem cells verb setup new) written faults refusals print print (refused_finding refusal)
+        (problem : Problem ℕ) → filed_under old.name file ≡ Some problem → Tells (Sweeps problem cells verb old new) written faults refusals print print (refused_finding refusal)
     unasked_told print refusal u =
         at_problem print print (refused_finding refusal) (tells_quietly written faults refusals (Sweeps there cells verb setup new) print (refused_finding refusal) (unasked_found refusal u))
 
     pub run_told : (sweep : Sweep) → IsAsked verb there cells sweep → (print_old print_new : P) (result : Result Finding Halt) → new.name ≡ setup.name → new.options ≡ setup.options →
         Tells (SweepFinds (record { problem = there; lp = lp }) setup.basis new.basis sweep setup.engine.waypoints new.engine.waypoints) written faults refusals print_old print_new result →
-        (problem : Problem ℕ) → filed_under setup.name file ≡ Some problem → Tells (Sweeps problem cells verb setup new) written faults refusals print_old print_new result
+        (problem : Problem ℕ) → filed_under old.name file ≡ Some problem → Tells (Sweeps problem cells verb old new) written faults refusals print_old print_new result
     run_told sweep a print_old print_new result same_name same_options t =
         at_problem print_old print_new result
         (tells_more written faults refusals (SweepFinds (record { problem = there; lp = lp }) setup.basis new.basis sweep setup.engine.waypoints new.engine.waypoints) (Sweeps there cells verb setup new) print_old print_new
