@@ -49,7 +49,7 @@ use Rattle.control_run.specs.declared.finding.Finding.TheVariants.{Ended, Overfl
 use Rattle.control_run.specs.Kept.{Setup}
 use Rattle.control_run.specs.declared.selecting.Refusal.{Refusal}
 use Rattle.control_run.specs.declared.selecting.Refusal.TheVariants.{Fault, NoMemory}
-use Rattle.control_run.specs.declared.selecting.Refusal.TheVariants as refusals
+use Rattle.control_run.specs.declared.selecting.Refusal.TheVariants as refusal
 use Rattle.control_run.specs.declared.sweep.Sweep.{Sweep as OwnSweep}
 use Rattle.control_run.specs.declared.sweep.Sweep.TheVariants as own
 use Rattle.control_run.specs.declared.sweep.SweepVerb.{SweepVerb}
@@ -65,11 +65,11 @@ use Rattle.control_run.proofs.Sweep_lines.{last_same, chain_same}
 
 -- ---- what is printed of a run
 
-module _ {P : Type 0} (written : P → Option (List ℕ)) (faults refusals : P → ℕ) {print_old print_new : P} (sheet : OwnSheet) (sweep : Sweep) (s now : Basis) (before after : List Basics) (refused : Option RefusedOperation)
-    (by : Solver) (named : by ≡ sweeper sweep.changing) where
+module _ (sheet : OwnSheet) (sweep : Sweep) (s now : Basis) (before after : List Basics) (refused : Option RefusedOperation) (by : Solver) (named : by ≡ sweeper sweep.changing) where
   abbrev Finds : Gain → Finding → Type 0
   Finds = SweepFinds (sheet_shown sheet) s now sweep before after
 
+  -- a verdict on the opening
   module _ (outcome : Outcome) (a : IsAnswered sheet sweep s now before after (record { report = para_reports.Opening outcome; refused = refused })) where
     abbrev verdict : Gain
     verdict = Prints (Solved by (verdict_shown sheet outcome) (check_shown refused))
@@ -79,14 +79,16 @@ module _ {P : Type 0} (written : P → Option (List ℕ)) (faults refusals : P �
         subst (λ (b : Solver). Finds (Prints (Solved b (verdict_shown sheet outcome) (check_shown refused))) (Ended (mark_of (verdict_shown sheet outcome)))) (sym named)
         (opened {bases = a.bases} (record { reaches = a.swept; leads = a.leads; lie = a.lie }))
 
-    pub opening_told : (mark : Mark) → mark ≡ mark_of (verdict_shown sheet outcome) → Writes {T = Unit {0}} written faults refusals print_old print_new (Ok tt) (report_text (Solved by (verdict_shown sheet outcome) (check_shown refused))) →
-        Tells Finds written faults refusals print_old print_new (Ok (Ended mark))
-    opening_told mark e writes = record { gain = verdict; holds = subst (λ (m : Mark). Finds verdict (Ended m)) (sym e) opening_found; writes = writes }
+    module _ {P : Type 0} (written : P → Option (List ℕ)) (faults refusals : P → ℕ) (print_old print_new : P) where
+      pub opening_told : (mark : Mark) → mark ≡ mark_of (verdict_shown sheet outcome) → Writes {T = Unit {0}} written faults refusals print_old print_new (Ok tt) (report_text (Solved by (verdict_shown sheet outcome) (check_shown refused))) →
+          Tells Finds written faults refusals print_old print_new (Ok (Ended mark))
+      opening_told mark e writes = record { gain = verdict; holds = subst (λ (m : Mark). Finds verdict (Ended m)) (sym e) opening_found; writes = writes }
 
-    pub opening_cut : (stop : WriteStop) → Writes {T = Unit {0}} written faults refusals print_old print_new (Err stop) (report_text (Solved by (verdict_shown sheet outcome) (check_shown refused))) →
-        Tells Finds written faults refusals print_old print_new (Err (halt.Print stop))
-    opening_cut stop writes = record { gain = verdict; finding = Ended (mark_of (verdict_shown sheet outcome)); holds = opening_found; writes = writes }
+      pub opening_cut : (stop : WriteStop) → Writes {T = Unit {0}} written faults refusals print_old print_new (Err stop) (report_text (Solved by (verdict_shown sheet outcome) (check_shown refused))) →
+          Tells Finds written faults refusals print_old print_new (Err (halt.Print stop))
+      opening_cut stop writes = record { gain = verdict; finding = Ended (mark_of (verdict_shown sheet outcome)); holds = opening_found; writes = writes }
 
+  -- the intervals and their end
   module _ (run : ParaRun) (a : IsAnswered sheet sweep s now before after (record { report = para_reports.Run run; refused = refused })) (change : Name) (from to : ℚ)
       (changes : change ≡ changing_name sweep.changing) (begins : from ≡ sweep.from) (goes : to ≡ sweep.to) where
     abbrev intervals : Gain
@@ -113,13 +115,14 @@ module _ {P : Type 0} (written : P → Option (List ℕ)) (faults refusals : P �
         (subst (λ (b : Solver). Finds (Prints (Parametric b whole)) (Swept (last_value (end_of (sheet_shown sheet) sweep.to (calls.end_of run.end))))) (sym named)
         (chained {bases = a.bases} (record { reaches = a.swept; leads = a.leads; lie = a.lie }))))
 
-    pub chain_told : (value : ℚ) → value ≡ value_left to run.end → Writes {T = Unit {0}} written faults refusals print_old print_new (Ok tt) (report_text (Parametric by (chain_shown sheet change from to run))) →
-        Tells Finds written faults refusals print_old print_new (Ok (Swept value))
-    chain_told value e writes = record { gain = intervals; holds = chain_found value e; writes = writes }
+    module _ {P : Type 0} (written : P → Option (List ℕ)) (faults refusals : P → ℕ) (print_old print_new : P) where
+      pub chain_told : (value : ℚ) → value ≡ value_left to run.end → Writes {T = Unit {0}} written faults refusals print_old print_new (Ok tt) (report_text (Parametric by (chain_shown sheet change from to run))) →
+          Tells Finds written faults refusals print_old print_new (Ok (Swept value))
+      chain_told value e writes = record { gain = intervals; holds = chain_found value e; writes = writes }
 
-    pub chain_cut : (stop : WriteStop) → Writes {T = Unit {0}} written faults refusals print_old print_new (Err stop) (report_text (Parametric by (chain_shown sheet change from to run))) →
-        Tells Finds written faults refusals print_old print_new (Err (halt.Print stop))
-    chain_cut stop writes = record { gain = intervals; finding = Swept (value_left to run.end); holds = chain_found (value_left to run.end) refl; writes = writes }
+      pub chain_cut : (stop : WriteStop) → Writes {T = Unit {0}} written faults refusals print_old print_new (Err stop) (report_text (Parametric by (chain_shown sheet change from to run))) →
+          Tells Finds written faults refusals print_old print_new (Err (halt.Print stop))
+      chain_cut stop writes = record { gain = intervals; finding = Swept (value_left to run.end); holds = chain_found (value_left to run.end) refl; writes = writes }
 
 -- ---- where a run stops
 
@@ -154,9 +157,9 @@ module _ {P : Type 0} (written : P → Option (List ℕ)) (faults refusals : P �
   pub run_overflow_tells : (print : P) (result : Result Finding Halt) → IsRunOverflow now after e result → Tells Stops written faults refusals print print result
   run_overflow_tells print result told = by (ℕ_discrete e.formula 13)
     where
-      by : (e.formula ≡ 13) ⊎ (e.formula ≢ 13) → Tells Stops written faults refusals print print result
-      by (inl is) = subst (λ (r : Result Finding Halt). Tells Stops written faults refusals print print r) (sym (told.0 is)) (tells_quietly written faults refusals Stops print (Ok (Overflow e None)) (at_limit_formula is))
-      by (inr other) = overflow_tells written faults refusals Stops print now after e result (told.1 other) (at_place other)
+      by : Dec (e.formula ≡ 13) → Tells Stops written faults refusals print print result
+      by (yes is) = subst (λ (r : Result Finding Halt). Tells Stops written faults refusals print print r) (sym (told.0 is)) (tells_quietly written faults refusals Stops print (Ok (Overflow e None)) (at_limit_formula is))
+      by (no other) = overflow_tells written faults refusals Stops print now after e result (told.1 other) (at_place other)
 
 -- ---- what is asked for can be run
 
@@ -164,19 +167,9 @@ module _ (problem : Problem ℕ) (choice : Choice) (lp : LinearProgram) (ok : se
   values_counted : (name : Name) → length (shifts_of problem name) ≡ length problem.rows
   values_counted name = length-map (enumerate_from 1 problem.rows) _ ∙ length-enumerate_from 1 problem.rows
 
-  pub serves : (sheet : OwnSheet) → sheet.problem.now ≡ problem → sheet.lp.now ≡ lp → (sweep : OwnSweep) → IsOf problem sweep → Serves sheet sweep
-  serves sheet same_problem same_lp (own.Row name run) is =
-      let free = is.1 choice lp ok in (
-        ap (λ (q : Problem ℕ). row_of q name) same_problem ∙ is.0,
-        subst (λ (p : LinearProgram). IsRow p.matrix run.row) (sym same_lp) free.0,
-        subst (λ (p : LinearProgram). HasNoLimits p run.row) (sym same_lp) free.1,
-        is.2,
-      )
-  serves sheet same_problem same_lp (own.Set name run) is = (
-    ap (λ (q : Problem ℕ). shifts_of q name) same_problem ∙ is.0,
-    ap length (sym is.0) ∙ values_counted name ∙ as_many_rows problem choice lp ok ∙ ap (λ (p : LinearProgram). p.rows) (sym same_lp),
-    is.1,
-  )
+  pub serves : (sweep : OwnSweep) → IsOf problem sweep → Serves problem lp sweep
+  serves (own.Row name run) is = let free = is.1 choice lp ok in (is.0, free.0, free.1, is.2)
+  serves (own.Set name run) is = (is.0, ap length (sym is.0) ∙ values_counted name ∙ as_many_rows problem choice lp ok, is.1)
 
 -- ---- what is found with a setup
 
@@ -189,26 +182,26 @@ module _ {P : Type 0} (written : P → Option (List ℕ)) (faults refusals : P �
       (subst (λ (q : Problem ℕ). Tells (Sweeps q cells verb setup new) written faults refusals print_old print_new result)
       (one_problem file setup there problem is_there (ap (λ (s : Setup). filed_under s.name file) is_old ∙ on_file)) t)
 
-  refusal_found : (refusal : Refusal) → IsUnselected there (choice_of cells setup.options) refusal → MatchResult (refused_finding refusal) (Sweeps there cells verb setup new Nothing) (λ h. h ≡ halt.NoMemory)
+  refusal_found : (why : Refusal) → IsUnselected there (choice_of cells setup.options) why → MatchResult (refused_finding why) (Sweeps there cells verb setup new Nothing) (λ h. h ≡ halt.NoMemory)
   refusal_found (Fault fault) u = unselected u
-  refusal_found (refusals.Overflow e) u = too_large u
+  refusal_found (refusal.Overflow e) u = too_large u
   refusal_found NoMemory u = refl
 
-  pub unselected_told : (print : P) (refusal : Refusal) → IsUnselected there (choice_of cells setup.options) refusal →
-      (problem : Problem ℕ) → filed_under old.name file ≡ Some problem → Tells (Sweeps problem cells verb old new) written faults refusals print print (refused_finding refusal)
-  unselected_told print refusal u =
-      at_problem print print (refused_finding refusal) (tells_quietly written faults refusals (Sweeps there cells verb setup new) print (refused_finding refusal) (refusal_found refusal u))
+  pub unselected_told : (print : P) (why : Refusal) → IsUnselected there (choice_of cells setup.options) why →
+      (problem : Problem ℕ) → filed_under old.name file ≡ Some problem → Tells (Sweeps problem cells verb old new) written faults refusals print print (refused_finding why)
+  unselected_told print why u =
+      at_problem print print (refused_finding why) (tells_quietly written faults refusals (Sweeps there cells verb setup new) print (refused_finding why) (refusal_found why u))
 
   module _ (lp : LinearProgram) (ok : selected there (choice_of cells setup.options) ≡ Ok lp) where
-    unasked_found : (refusal : Refusal) → IsNotAsked verb there cells refusal → MatchResult (refused_finding refusal) (Sweeps there cells verb setup new Nothing) (λ h. h ≡ halt.NoMemory)
+    unasked_found : (why : Refusal) → IsNotAsked verb there cells why → MatchResult (refused_finding why) (Sweeps there cells verb setup new Nothing) (λ h. h ≡ halt.NoMemory)
     unasked_found (Fault fault) u = not_asked ok u
-    unasked_found (refusals.Overflow e) u = absurd u
+    unasked_found (refusal.Overflow e) u = absurd u
     unasked_found NoMemory u = refl
 
-    pub unasked_told : (print : P) (refusal : Refusal) → IsNotAsked verb there cells refusal →
-        (problem : Problem ℕ) → filed_under old.name file ≡ Some problem → Tells (Sweeps problem cells verb old new) written faults refusals print print (refused_finding refusal)
-    unasked_told print refusal u =
-        at_problem print print (refused_finding refusal) (tells_quietly written faults refusals (Sweeps there cells verb setup new) print (refused_finding refusal) (unasked_found refusal u))
+    pub unasked_told : (print : P) (why : Refusal) → IsNotAsked verb there cells why →
+        (problem : Problem ℕ) → filed_under old.name file ≡ Some problem → Tells (Sweeps problem cells verb old new) written faults refusals print print (refused_finding why)
+    unasked_told print why u =
+        at_problem print print (refused_finding why) (tells_quietly written faults refusals (Sweeps there cells verb setup new) print (refused_finding why) (unasked_found why u))
 
     pub run_told : (sweep : Sweep) → IsAsked verb there cells sweep → (print_old print_new : P) (result : Result Finding Halt) → new.name ≡ setup.name → new.options ≡ setup.options →
         Tells (SweepFinds (record { problem = there; lp = lp }) setup.basis new.basis sweep setup.engine.waypoints new.engine.waypoints) written faults refusals print_old print_new result →

@@ -1,4 +1,4 @@
--- What PRIMAL, SOLUTION and RANGE find, and what follows.
+-- What the verbs that ask of linear programming find, and what follows.
 --     PathFinds gain finding       the path from a basis ends so, or is stopped so
 --     Finds gain finding           PRIMAL finds this with a setup, and has this to print
 --     LinesFound gain finding      the lines of a basis are made, or their making is stopped so

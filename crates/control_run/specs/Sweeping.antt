@@ -2,7 +2,7 @@
 --     verb_of, change_of ..        the verb, and what it changes
 --     IsAsked, IsAskFault          what a verb asks for by the cells, and why it asks for nothing
 --     sweep_shown sweep            the run as code holds it, in the words of runs
---     Serves sheet sweep           the run can be made in the sheet's linear program
+--     Serves problem p sweep       the run can be made in the linear program p
 --     IsRunOverflow result         what a refused operation of a run comes to
 --     SweepFinds gain finding      the run from a basis ends so, or is stopped so
 --     Sweeps gain finding          the verb finds this with a setup, and has this to print
@@ -123,12 +123,10 @@ abbrev pub IsOf : Problem ℕ → OwnSweep → Type 0
 IsOf problem (own.Row name run) = (row_of problem name ≡ run.row) × IsFreeIn problem run.row × (run.from ≤ℚ run.to)
 IsOf problem (own.Set name run) = (shifts_of problem name ≡ run.shift.items) × (run.from ≤ℚ run.to)
 
--- the run can be made in the sheet's linear program
-abbrev pub Serves : OwnSheet → OwnSweep → Type 0
-Serves sheet (own.Row name run) =
-    (row_of sheet.problem.now name ≡ run.row) × IsRow sheet.lp.now.matrix run.row × HasNoLimits sheet.lp.now run.row × (run.from ≤ℚ run.to)
-Serves sheet (own.Set name run) =
-    (shifts_of sheet.problem.now name ≡ run.shift.items) × (length run.shift.items ≡ sheet.lp.now.rows) × (run.from ≤ℚ run.to)
+-- the run can be made in this linear program
+abbrev pub Serves : Problem ℕ → LinearProgram → OwnSweep → Type 0
+Serves problem p (own.Row name run) = (row_of problem name ≡ run.row) × IsRow p.matrix run.row × HasNoLimits p run.row × (run.from ≤ℚ run.to)
+Serves problem p (own.Set name run) = (shifts_of problem name ≡ run.shift.items) × (length run.shift.items ≡ p.rows) × (run.from ≤ℚ run.to)
 
 -- where a run stops; a limit of a row may be too large at the first value
 abbrev pub StopsSweep : OwnSheet → Sweep → Basis → Basis → List Basics → List Basics → PrimalStop → Type 0

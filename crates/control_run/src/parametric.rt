@@ -51,7 +51,7 @@ fn run_from<R: Rates>(
     requires sheet { IsSheet sheet }
     requires no_change { sheet.lp.now.change ≡ None }
     requires rates { HasRates (R.matrix rates.old) (R.basics rates.old) sheet.lp.now basis.old }
-    requires serves { Serves sheet sweep.now }
+    requires serves { Serves sheet.problem.now sheet.lp.now sweep.now }
     ensures answered { IfOk result (IsAnswered sheet.entry (sweep_shown sweep.now) basis.old
         basis.new (R.waypoints rates.old) (R.waypoints rates.new)) }
     ensures printable { IfOk result (λ answer. IsPrintable sheet.entry answer.report) }
@@ -182,7 +182,7 @@ fn follow<P: Sink, R: Rates>(
     requires sheet { IsSheet sheet }
     requires no_change { sheet.lp.now.change ≡ None }
     requires rates { HasRates (R.matrix rates.old) (R.basics rates.old) sheet.lp.now basis.old }
-    requires serves { Serves sheet sweep.now }
+    requires serves { Serves sheet.problem.now sheet.lp.now sweep.now }
     ensures tells { Tells (SweepFinds (sheet_shown sheet.entry) basis.old basis.new
         (sweep_shown sweep.now) (R.waypoints rates.old) (R.waypoints rates.new))
         P.written P.faults P.refusals print.old print.new result }

@@ -34,7 +34,7 @@ follow-requires-clause-rates g c =
 
 pub follow-requires-clause-serves : goal.follow-requires-clause-serves
 follow-requires-clause-serves g c =
-    serves c.in-Some.problem.now (choice_of c.args.cells.now c.setup.inside.options) c.in-Ok.lp c.in-Ok.ensures.selected _ refl refl c.in-Ok-asked.sweep c.in-Ok-asked.ensures.of
+    serves c.in-Some.problem.now (choice_of c.args.cells.now c.setup.inside.options) c.in-Ok.lp c.in-Ok.ensures.selected c.in-Ok-asked.sweep c.in-Ok-asked.ensures.of
 
 pub returns-in_err-finding-clause-tells : goal.returns-in_err-finding-clause-tells
 returns-in_err-finding-clause-tells g c =
