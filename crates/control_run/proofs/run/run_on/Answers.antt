@@ -2,7 +2,7 @@ use Rattle.answer_definitions.specs.Real.{linear_programming}
 use Rattle.job_devices.specs.Causes.{Rose}
 use Rattle.control_run.specs.Finishing.{failures_in_run}
 use Rattle.control_run.proofs.Answering.{job_answered}
-use Rattle.control_run.proofs.run.run_program.Goals as goal
+use Rattle.control_run.proofs.run.run_on.Goals as goal
 
 pub returns-clause-answer : goal.returns-clause-answer
 returns-clause-answer g c = λ job bytes of_job is_program same.
