@@ -18,7 +18,7 @@ use Rattle.run_definitions.specs.Answer as answers
 use Rattle.control_run.specs.declared.act.Halt.{Halt}
 use Rattle.control_run.specs.declared.act.Halt.TheVariants as halt
 use Rattle.control_run.specs.declared.end.End.{End}
-use Rattle.control_run.specs.declared.end.End.TheVariants.{Done, Infeasible, Unbounded, Verb, Deck, Limit, Statements, Overflow, Memory, NotBuilt}
+use Rattle.control_run.specs.declared.end.End.TheVariants.{Done, Infeasible, Unbounded, Verb, Deck, Limit, Statements, Overflow, Memory}
 use Rattle.control_run.specs.declared.status.Status.{Status}
 use Rattle.control_run.specs.declared.status.Status.TheVariants.{PrintFault, PunchFault}
 use Rattle.control_run.specs.Ends.{end_shown, code_of}
@@ -80,7 +80,6 @@ module _ (S : Solving) (program : Program) (cards : List (List ℕ)) {P U : Type
   no_fault Statements code low high e = omega (arith, low, high, e)
   no_fault (Overflow evidence place card) code low high e = omega (arith, low, high, e)
   no_fault Memory code low high e = omega (arith, low, high, e)
-  no_fault NotBuilt code low high e = omega (arith, low, high, e)
 
   print_rose : {old now later : P} {punch_old punch_now : U} {ending : Ending} {status : Status} → RunsTo S program cards written faults refusals old now punch_written punch_faults punch_refusals punch_old punch_now ending →
       Finishes written faults refusals now later ending status → (status_of ending ≡ 25 → ⊥) → status ≡ PrintFault → Rose (faults old) (faults later)

@@ -16,9 +16,9 @@ use Rattle.run_definitions.specs.State.{State, choice_of}
 use Rattle.run_definitions.specs.Verbs.{mark_after, verb_move}
 use Rattle.control_run.specs.declared.act.Act.TheVariants.{Next, Jump, Ends}
 use Rattle.control_run.specs.declared.end.End.TheVariants.{Done}
-use Rattle.control_run.specs.declared.machine.Machine.{Machine}
-use Rattle.control_run.specs.declared.machine.Setup.{Setup}
-use Rattle.control_run.specs.Stage.{stage}
+use Rattle.control_run.specs.Machines.{Machine}
+use Rattle.control_run.specs.Kept.{Setup}
+use Rattle.answer_definitions.specs.Real.{linear_programming}
 use Rattle.control_run.specs.Standing.{AreDemands, IsSelected, IsSolved, IsSound, Stands}
 use Rattle.control_run.specs.Statements.{Decides}
 
@@ -27,14 +27,14 @@ pub stands_changed : {cards : List (List ℕ)} {old : Machine} {position execute
     (v w : Cells) (m n : Option Mark) → v ≡ w → m ≡ n → Stands cards (record old { cells = w; mark = n }) position executed (record state { cells = v; mark = m })
 stands_changed s v w m n e f = record { is_position = s.is_position; is_executed = s.is_executed; cells = e; file = s.file; decks = s.decks; setup = s.setup; mark = f }
 
-pub initialz_decides : (card : ℕ) (old : Machine) (cells : Cells) → cells ≡ default_cells → Decides stage Initialz card old (record old { cells = cells; mark = None }) Next
-unfolding stage verb_move
+pub initialz_decides : (card : ℕ) (old : Machine) (cells : Cells) → cells ≡ default_cells → Decides linear_programming Initialz card old (record old { cells = cells; mark = None }) Next
+unfolding linear_programming verb_move
 initialz_decides card old cells e = λ cards position executed state s.
     (record state { cells = default_cells; mark = None }, refl, stands_changed s default_cells cells None None (sym e) refl)
 
 pub name_decides : (cell : NameCell) (name : List ℕ) (card : ℕ) (old : Machine) (cells : Cells) (mark : Option Mark) → cells ≡ move_name cell name old.cells → mark ≡ mark_after cell old.mark →
-    Decides stage (MoveName cell name) card old (record old { cells = cells; mark = mark }) Next
-unfolding stage verb_move
+    Decides linear_programming (MoveName cell name) card old (record old { cells = cells; mark = mark }) Next
+unfolding linear_programming verb_move
 name_decides cell name card old cells mark e f = λ cards position executed state s. (
   record state { cells = move_name cell name state.cells; mark = mark_after cell state.mark },
   refl,
@@ -42,34 +42,34 @@ name_decides cell name card old cells mark e f = λ cards position executed stat
 )
 
 pub number_decides : (cell : NumberCell) (value : ℚ) (card : ℕ) (old : Machine) (cells : Cells) → cells ≡ move_number cell value old.cells →
-    Decides stage (MoveNumber cell value) card old (record old { cells = cells }) Next
-unfolding stage verb_move
+    Decides linear_programming (MoveNumber cell value) card old (record old { cells = cells }) Next
+unfolding linear_programming verb_move
 number_decides cell value card old cells e = λ cards position executed state s. (
   record state { cells = move_number cell value state.cells },
   refl,
   stands_changed s (move_number cell value state.cells) cells state.mark old.mark (ap (move_number cell value) s.cells ∙ sym e) s.mark,
 )
 
-pub limit_decides : (limit : Option ℕ) (card : ℕ) (old : Machine) (cells : Cells) → cells ≡ move_limit limit old.cells → Decides stage (MoveLimit limit) card old (record old { cells = cells }) Next
-unfolding stage verb_move
+pub limit_decides : (limit : Option ℕ) (card : ℕ) (old : Machine) (cells : Cells) → cells ≡ move_limit limit old.cells → Decides linear_programming (MoveLimit limit) card old (record old { cells = cells }) Next
+unfolding linear_programming verb_move
 limit_decides limit card old cells e = λ cards position executed state s.
     (record state { cells = move_limit limit state.cells }, refl, stands_changed s (move_limit limit state.cells) cells state.mark old.mark (ap (move_limit limit) s.cells ∙ sym e) s.mark)
 
 pub demand_decides : (demand : Demand) (to card : ℕ) (old : Machine) (cells : Cells) → cells ≡ set_demand demand to old.cells →
-    Decides stage (Mvadr demand to) card old (record old { cells = cells }) Next
-unfolding stage verb_move
+    Decides linear_programming (Mvadr demand to) card old (record old { cells = cells }) Next
+unfolding linear_programming verb_move
 demand_decides demand to card old cells e = λ cards position executed state s. (
   record state { cells = set_demand demand to state.cells },
   refl,
   stands_changed s (set_demand demand to state.cells) cells state.mark old.mark (ap (set_demand demand to) s.cells ∙ sym e) s.mark,
 )
 
-pub goto_decides : (to card : ℕ) (machine : Machine) → 1 ≤ to → Decides stage (Goto to) card machine machine (Jump to)
-unfolding stage verb_move
+pub goto_decides : (to card : ℕ) (machine : Machine) → 1 ≤ to → Decides linear_programming (Goto to) card machine machine (Jump to)
+unfolding linear_programming verb_move
 goto_decides to card machine h = λ cards position executed state s. (state, refl, s, h)
 
-pub exit_decides : (card : ℕ) (machine : Machine) → Decides stage Exit card machine machine (Ends Done)
-unfolding stage verb_move
+pub exit_decides : (card : ℕ) (machine : Machine) → Decides linear_programming Exit card machine machine (Ends Done)
+unfolding linear_programming verb_move
 exit_decides card machine = λ cards position executed state s. refl
 
 -- ---- soundness

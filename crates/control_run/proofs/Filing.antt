@@ -22,15 +22,15 @@ use Rattle.listing_definitions.specs.Report as reports
 use Rattle.listing_definitions.specs.Text.{report_text}
 use Rattle.run_definitions.specs.State.{State, problem_of}
 use Rattle.run_definitions.specs.Moves.{Prints, Outcome, next, stops, Move, Gives, or_fault}
-use Rattle.run_definitions.specs.Verbs.{deck_stop, or_deck_fault, size_of, files, verb_move, statement_move}
+use Rattle.run_definitions.specs.Verbs.{deck_stop, or_deck_fault, size_of, files, verb_move}
 use Rattle.control_run.specs.declared.act.Act.TheVariants.{Next}
 use Rattle.control_run.specs.declared.act.Halt.TheVariants as halt
 use Rattle.control_run.specs.declared.taking.DeckVerb.{DeckVerb}
 use Rattle.control_run.specs.declared.taking.DeckVerb.TheVariants.{Convert}
 use Rattle.control_run.specs.declared.taking.Described.TheVariants as described
 use Rattle.control_run.specs.declared.end.End.TheVariants.{Verb}
-use Rattle.control_run.specs.declared.machine.Machine.{Machine}
-use Rattle.control_run.specs.Stage.{stage}
+use Rattle.control_run.specs.Machines.{Machine}
+use Rattle.answer_definitions.specs.Real.{linear_programming}
 use Rattle.control_run.specs.Standing.{filed, Stands}
 use Rattle.control_run.specs.Statements.{Comes, Executes}
 use Rattle.control_run.specs.Describing.{verb_of, report_of, decks_from, with_problem, IsDescribed, Describes, described_as}
@@ -53,12 +53,12 @@ put_in_front old new problem problems held put last (Some name) =
     ap by_test (same_either_way name problem.name) ∙ ap by_rest (held (Some name)) ∙ sym (put name)
 
 -- a deck fault
-gives_deck_fault : (card : ℕ) (found : Result (Problem ℕ) DeckFault) (go : Problem ℕ → Move) (fault : DeckFault) → found ≡ Err fault → Gives stage card (or_deck_fault found go) (stops (deck_stop fault))
-gives_deck_fault card found go fault err = subst (λ r. Gives stage card (or_deck_fault r go) (stops (deck_stop fault))) (sym err) refl
+gives_deck_fault : (card : ℕ) (found : Result (Problem ℕ) DeckFault) (go : Problem ℕ → Move) (fault : DeckFault) → found ≡ Err fault → Gives linear_programming card (or_deck_fault found go) (stops (deck_stop fault))
+gives_deck_fault card found go fault err = subst (λ r. Gives linear_programming card (or_deck_fault r go) (stops (deck_stop fault))) (sym err) refl
 
-gives_problem : (card : ℕ) (found : Result (Problem ℕ) DeckFault) (go : Problem ℕ → Move) (problem : Problem ℕ) (outcome : Outcome) → found ≡ Ok problem → Gives stage card (go problem) outcome →
-    Gives stage card (or_deck_fault found go) outcome
-gives_problem card found go problem outcome ok given = subst (λ r. Gives stage card (or_deck_fault r go) outcome) (sym ok) given
+gives_problem : (card : ℕ) (found : Result (Problem ℕ) DeckFault) (go : Problem ℕ → Move) (problem : Problem ℕ) (outcome : Outcome) → found ≡ Ok problem → Gives linear_programming card (go problem) outcome →
+    Gives linear_programming card (or_deck_fault found go) outcome
+gives_problem card found go problem outcome ok given = subst (λ r. Gives linear_programming card (or_deck_fault r go) outcome) (sym ok) given
 
 -- ---- a deck is taken
 
@@ -75,29 +75,29 @@ module _ (card : ℕ) (cards : List (List ℕ)) (machine : Machine) (wanted : Op
       ap (λ (c : Cells). deck_taken c.xdata state.decks) s.cells ∙ ap (deck_taken machine.cells.xdata) s.decks ∙
       ap (λ (w : Option Name). deck_taken w (decks_from machine.decks_from cards)) (sym same_name)
 
-  pub takes_nothing : deck_taken wanted (decks_from machine.decks_from cards) ≡ None → Gives stage card (takes card gives report state) (stops (VerbStop (record { fault = DeckNotFound; card = card })))
+  pub takes_nothing : deck_taken wanted (decks_from machine.decks_from cards) ≡ None → Gives linear_programming card (takes card gives report state) (stops (VerbStop (record { fault = DeckNotFound; card = card })))
   takes_nothing none = gives_fault card DeckNotFound (deck_taken state.cells.xdata state.decks) _ (deck_shown ∙ none)
 
   pub takes_refused : (deck : List Card) (rest : List (List Card)) (fault : DeckFault) → deck_taken wanted (decks_from machine.decks_from cards) ≡ Some (deck, rest) →
-      gives deck ≡ Err fault → Gives stage card (takes card gives report state) (stops (deck_stop fault))
+      gives deck ≡ Err fault → Gives linear_programming card (takes card gives report state) (stops (deck_stop fault))
   takes_refused deck rest fault taken err =
       gives_found card DeckNotFound (deck_taken state.cells.xdata state.decks) _ (deck, rest) _ (deck_shown ∙ taken) (gives_deck_fault card (gives deck) _ fault err)
 
   pub takes_problem : (deck : List Card) (rest : List (List Card)) (problem : Problem ℕ) → deck_taken wanted (decks_from machine.decks_from cards) ≡ Some (deck, rest) →
-      gives deck ≡ Ok problem → Gives stage card (takes card gives report state) (next (Prints (report (size_of problem))) (with_problem problem rest state))
+      gives deck ≡ Ok problem → Gives linear_programming card (takes card gives report state) (next (Prints (report (size_of problem))) (with_problem problem rest state))
   takes_problem deck rest problem taken ok =
       gives_found card DeckNotFound (deck_taken state.cells.xdata state.decks) _ (deck, rest) _ (deck_shown ∙ taken) (gives_problem card (gives deck) _ problem _ ok refl)
 
 -- the decks behind a card are those from the next card on
 pub filed_behind : (verb : DeckVerb) (card : ℕ) (cards : List (List ℕ)) (machine : Machine) (problem : Problem ℕ) (last from_card : ℕ) → last ≤ length cards → from_card ≡ last + 1 →
     ((position executed : ℕ) (state : State) → Stands cards machine position executed state →
-    Gives stage card (statement_move stage (verb_of verb) card state) (next (Prints (report_of verb (size_of problem))) (with_problem problem (decks_of (drop last (numbered_cards cards))) state))) →
-    IsDescribed stage verb card cards machine problem from_card
+    Gives linear_programming card (verb_move (verb_of verb) card state) (next (Prints (report_of verb (size_of problem))) (with_problem problem (decks_of (drop last (numbered_cards cards))) state))) →
+    IsDescribed linear_programming verb card cards machine problem from_card
 filed_behind verb card cards machine problem last from_card within is given =
     let behind : last ≡ from_card - 1 = omega (arith, is) in
     record {
       files = λ position executed state s.
-          subst (λ (n : ℕ). Gives stage card (statement_move stage (verb_of verb) card state) (next (Prints (report_of verb (size_of problem))) (with_problem problem (decks_of (drop n (numbered_cards cards))) state)))
+          subst (λ (n : ℕ). Gives linear_programming card (verb_move (verb_of verb) card state) (next (Prints (report_of verb (size_of problem))) (with_problem problem (decks_of (drop n (numbered_cards cards))) state)))
           behind (given position executed state s);
       first = omega (arith, is);
       last = omega (arith, is, within);
@@ -106,15 +106,15 @@ filed_behind verb card cards machine problem last from_card within is given =
 -- ---- what CONVERT finds
 
 module _ (card : ℕ) (cards : List (List ℕ)) (machine : Machine) (wanted : Option Name) (same_name : wanted ≡ machine.cells.xdata) where
-  pub finds_no_deck : deck_taken wanted (decks_from machine.decks_from cards) ≡ None → Describes stage Convert card cards machine (Ok (described.Ends (Verb DeckNotFound card)))
-  unfolding stage verb_move
+  pub finds_no_deck : deck_taken wanted (decks_from machine.decks_from cards) ≡ None → Describes linear_programming Convert card cards machine (Ok (described.Ends (Verb DeckNotFound card)))
+  unfolding linear_programming verb_move
   finds_no_deck none = λ position executed state s. takes_nothing card cards machine wanted same_name s (λ deck. conversion deck state.cells.xpbname) reports.Converted none
 
   pub finds_a_deck : (given : Result (Problem ℕ) DeckStop) (deck : List Card) (last from_card : ℕ) →
       deck_taken wanted (decks_from machine.decks_from cards) ≡ Some (deck, decks_of (drop last (numbered_cards cards))) →
       IfOk given (λ problem. conversion deck machine.cells.xpbname ≡ Ok problem) → IfErr given (Refuses deck machine.cells.xpbname) →
-      last ≤ length cards → from_card ≡ last + 1 → Describes stage Convert card cards machine (described_as given from_card)
-  unfolding stage verb_move
+      last ≤ length cards → from_card ≡ last + 1 → Describes linear_programming Convert card cards machine (described_as given from_card)
+  unfolding linear_programming verb_move
   finds_a_deck (Ok problem) deck last from_card taken ok err within is =
       filed_behind Convert card cards machine problem last from_card within is
       (λ position executed state s.
@@ -128,10 +128,10 @@ module _ (card : ℕ) (cards : List (List ℕ)) (machine : Machine) (wanted : Op
 -- ---- the statement
 
 module _ {P : Type 0} (written : P → Option (List ℕ)) (faults refusals : P → ℕ) (verb : DeckVerb) (card : ℕ) (cards : List (List ℕ)) (machine : Machine) where
-  module _ (problem : Problem ℕ) (from_card : ℕ) (file : Filed) (described : IsDescribed stage verb card cards machine problem from_card)
+  module _ (problem : Problem ℕ) (from_card : ℕ) (file : Filed) (described : IsDescribed linear_programming verb card cards machine problem from_card)
       (put : (name : Name) → filed_under name file ≡ (if same problem.name name then Some problem else filed_under name machine.file)) (last : file.last ≡ Some problem.name) where
     comes_filed : (position executed : ℕ) (state : State) → Stands cards machine position executed state →
-        Comes stage (verb_of verb) card cards position executed state (record machine { file = file; decks_from = from_card; setup = None; mark = None }) (Prints (report_of verb (size_of problem))) Next
+        Comes linear_programming (verb_of verb) card cards position executed state (record machine { file = file; decks_from = from_card; setup = None; mark = None }) (Prints (report_of verb (size_of problem))) Next
     comes_filed position executed state s = (
       with_problem problem (decks_from from_card cards) state,
       described.files position executed state s,
@@ -147,11 +147,11 @@ module _ {P : Type 0} (written : P → Option (List ℕ)) (faults refusals : P �
     )
 
     pub filed_done : {from to : P} → Writes {T = Unit {0}} written faults refusals from to (Ok tt) (report_text (report_of verb (size_of problem))) →
-        Executes stage (verb_of verb) card written faults refusals from to cards machine (record machine { file = file; decks_from = from_card; setup = None; mark = None }) (Ok Next)
-    filed_done writes = loudly stage (verb_of verb) card written faults refusals cards machine (report_of verb (size_of problem)) comes_filed writes
+        Executes linear_programming (verb_of verb) card written faults refusals from to cards machine (record machine { file = file; decks_from = from_card; setup = None; mark = None }) (Ok Next)
+    filed_done writes = loudly linear_programming (verb_of verb) card written faults refusals cards machine (report_of verb (size_of problem)) comes_filed writes
 
     pub filed_cut : {from to : P} (new : Machine) (stop : WriteStop) → Writes {T = Unit {0}} written faults refusals from to (Err stop) (report_text (report_of verb (size_of problem))) →
-        Executes stage (verb_of verb) card written faults refusals from to cards machine new (Err (halt.Print stop))
+        Executes linear_programming (verb_of verb) card written faults refusals from to cards machine new (Err (halt.Print stop))
     filed_cut new stop writes =
-        cut_off stage (verb_of verb) card written faults refusals cards machine new stop (report_of verb (size_of problem))
+        cut_off linear_programming (verb_of verb) card written faults refusals cards machine new stop (report_of verb (size_of problem))
         (λ position executed state s. let c = comes_filed position executed state s in (next (Prints (report_of verb (size_of problem))) c.0, c.1, refl)) writes

@@ -5,7 +5,7 @@ use Rattle.std.proofs.lemmas.List.Concat.{flat_map-append}
 use Rattle.job_devices.specs.Text.{IsFront, AppendsFront}
 use Rattle.deck_definitions.specs.Written.{card_text}
 use Rattle.listing_definitions.specs.Report.{Report}
-use Rattle.listing_definitions.specs.Ending.{Ending, Ended, WordsRefused, ControlStop, VerbStop, DeckStop, CardStop, LimitStop, StatementLimit, OverflowStop, ReadFault, PrintFault, PunchFault, Memory, NotBuilt}
+use Rattle.listing_definitions.specs.Ending.{Ending, Ended, WordsRefused, ControlStop, VerbStop, DeckStop, CardStop, LimitStop, StatementLimit, OverflowStop, ReadFault, PrintFault, PunchFault, Memory}
 use Rattle.listing_definitions.specs.Text.{report_text}
 use Rattle.listing_definitions.specs.Listing.{reports_text}
 use Rattle.run_definitions.specs.Moves.{Gain, Nothing, Prints, Punches, printed_by}
@@ -43,7 +43,6 @@ gains_all StatementLimit text = refl
 gains_all (OverflowStop overflow) text = refl
 gains_all ReadFault text = refl
 gains_all PrintFault text = refl
-gains_all NotBuilt text = refl
 
 pub gains_whole : (ending : Ending) (old new : Option (List ℕ)) (text : List ℕ) → Appends old new text → GainsBy ending old new text
 gains_whole ending old new text appends = (text, appends, gains_all ending text)
@@ -73,7 +72,6 @@ is_front StatementLimit gained text gains = ([], append-nil gained ∙ gains)
 is_front (OverflowStop overflow) gained text gains = ([], append-nil gained ∙ gains)
 is_front ReadFault gained text gains = ([], append-nil gained ∙ gains)
 is_front PrintFault gained text gains = ([], append-nil gained ∙ gains)
-is_front NotBuilt gained text gains = ([], append-nil gained ∙ gains)
 
 pub front_gained : (ending : Ending) (old new : Option (List ℕ)) (text : List ℕ) → GainsBy ending old new text → AppendsFront old new text
 front_gained ending old new text gains = (gains.0, is_front ending gains.0 text gains.2, gains.1)

@@ -16,13 +16,13 @@ use Rattle.listing_definitions.specs.Ending.{VerbStop}
 use Rattle.question_definitions.specs.Solving.{Solving}
 use Rattle.run_definitions.specs.State.{State, problem_of}
 use Rattle.run_definitions.specs.Moves.{Gain, Nothing, Prints, punched_by, Outcome, stops, Move, Gives, or_fault}
-use Rattle.run_definitions.specs.Verbs.{or_selection_fault, selection_verb_fault, statement_move}
+use Rattle.run_definitions.specs.Verbs.{or_selection_fault, selection_verb_fault, verb_move}
 use Rattle.control_run.specs.declared.act.Act.{Act}
 use Rattle.control_run.specs.declared.act.Halt.TheVariants as halt
-use Rattle.control_run.specs.declared.machine.Machine.{Machine}
+use Rattle.control_run.specs.Machines.{Machine}
 use Rattle.control_run.specs.Standing.{filed, Stands}
 use Rattle.control_run.specs.Statements.{Comes, Executes, gain_of, gain_text}
-use Rattle.control_run.specs.Stage.{stage}
+use Rattle.answer_definitions.specs.Real.{linear_programming}
 
 -- the problem that a cell names, or the one filed last, is the same in the state
 pub problem_shown : {cards : List (List ℕ)} {machine : Machine} {position executed : ℕ} {state : State} → Stands cards machine position executed state → (cell : Cells → Option Name) (found : Option (Problem ℕ)) →
@@ -31,24 +31,24 @@ problem_shown {machine = machine} {state = state} s cell found e = s.file (cell 
 
 -- a verb fault
 pub gives_fault : {X : Type 0} (card : ℕ) (fault : VerbFault) (found : Option X) (go : X → Move) → found ≡ None →
-    Gives stage card (or_fault card fault found go) (stops (VerbStop (record { fault = fault; card = card })))
-gives_fault card fault found go none = subst (λ o. Gives stage card (or_fault card fault o go) (stops (VerbStop (record { fault = fault; card = card })))) (sym none) refl
+    Gives linear_programming card (or_fault card fault found go) (stops (VerbStop (record { fault = fault; card = card })))
+gives_fault card fault found go none = subst (λ o. Gives linear_programming card (or_fault card fault o go) (stops (VerbStop (record { fault = fault; card = card })))) (sym none) refl
 
 -- no verb fault
-pub gives_found : {X : Type 0} (card : ℕ) (fault : VerbFault) (found : Option X) (go : X → Move) (x : X) (outcome : Outcome) → found ≡ Some x → Gives stage card (go x) outcome →
-    Gives stage card (or_fault card fault found go) outcome
-gives_found card fault found go x outcome some given = subst (λ o. Gives stage card (or_fault card fault o go) outcome) (sym some) given
+pub gives_found : {X : Type 0} (card : ℕ) (fault : VerbFault) (found : Option X) (go : X → Move) (x : X) (outcome : Outcome) → found ≡ Some x → Gives linear_programming card (go x) outcome →
+    Gives linear_programming card (or_fault card fault found go) outcome
+gives_found card fault found go x outcome some given = subst (λ o. Gives linear_programming card (or_fault card fault o go) outcome) (sym some) given
 
 -- a selection's fault
 pub gives_unselected : (card : ℕ) (found : Result LinearProgram SelectionFault) (go : LinearProgram → Move) (why : SelectionFault) (fault : VerbFault) → found ≡ Err why → selection_verb_fault why ≡ fault →
-    Gives stage card (or_selection_fault card found go) (stops (VerbStop (record { fault = fault; card = card })))
+    Gives linear_programming card (or_selection_fault card found go) (stops (VerbStop (record { fault = fault; card = card })))
 gives_unselected card found go why fault err is =
-    subst (λ r. Gives stage card (or_selection_fault card r go) (stops (VerbStop (record { fault = fault; card = card })))) (sym err)
+    subst (λ r. Gives linear_programming card (or_selection_fault card r go) (stops (VerbStop (record { fault = fault; card = card })))) (sym err)
     (subst (λ f. stops (VerbStop (record { fault = fault; card = card })) ≡ stops (VerbStop (record { fault = f; card = card }))) (sym is) refl)
 
-pub gives_selected : (card : ℕ) (found : Result LinearProgram SelectionFault) (go : LinearProgram → Move) (lp : LinearProgram) (outcome : Outcome) → found ≡ Ok lp → Gives stage card (go lp) outcome →
-    Gives stage card (or_selection_fault card found go) outcome
-gives_selected card found go lp outcome ok given = subst (λ r. Gives stage card (or_selection_fault card r go) outcome) (sym ok) given
+pub gives_selected : (card : ℕ) (found : Result LinearProgram SelectionFault) (go : LinearProgram → Move) (lp : LinearProgram) (outcome : Outcome) → found ≡ Ok lp → Gives linear_programming card (go lp) outcome →
+    Gives linear_programming card (or_selection_fault card found go) outcome
+gives_selected card found go lp outcome ok given = subst (λ r. Gives linear_programming card (or_selection_fault card r go) outcome) (sym ok) given
 
 -- ---- with what is printed
 
@@ -66,7 +66,7 @@ module _ (S : Solving) (verb : Verb ℕ) (card : ℕ) {P : Type 0} (written : P 
 
   -- the report is broken off
   pub cut_off : {print_old print_new : P} (new : Machine) (stop : WriteStop) (report : Report) →
-      ((position executed : ℕ) (state : State) → Stands cards old position executed state → (outcome : Outcome) × Gives S card (statement_move S verb card state) outcome × (gain_of outcome ≡ Prints report)) →
+      ((position executed : ℕ) (state : State) → Stands cards old position executed state → (outcome : Outcome) × Gives S card (verb_move verb card state) outcome × (gain_of outcome ≡ Prints report)) →
       Writes {T = Unit {0}} written faults refusals print_old print_new (Err stop) (report_text report) →
       Executes S verb card written faults refusals print_old print_new cards old new (Err (halt.Print stop))
   cut_off {print_old = print_old} {print_new = print_new} new stop report comes writes = λ position executed state s.

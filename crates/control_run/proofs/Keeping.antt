@@ -4,11 +4,12 @@ use Rattle.problem_file.specs.Filed.{Filed}
 use Rattle.listing_definitions.specs.declared.Mark.{Mark}
 use Rattle.control_definitions.specs.Cells.{Cells}
 use Rattle.control_run.specs.declared.finding.Finding.{Finding}
-use Rattle.control_run.specs.declared.finding.Finding.TheVariants.{Refused, Overflow, Limit, Ended, Shown}
-use Rattle.control_run.specs.declared.machine.Machine.{Machine}
-use Rattle.control_run.specs.declared.machine.Setup.{Setup}
-use Rattle.control_run.specs.Standing.{IsReady, IsSolved, IsSound}
+use Rattle.control_run.specs.declared.finding.Finding.TheVariants.{Refused, Overflow, Limit, Ended, Shown, Swept}
+use Rattle.control_run.specs.Machines.{Machine}
+use Rattle.control_run.specs.Kept.{Setup}
+use Rattle.control_run.specs.Standing.{AreDemands, IsReady, IsSolved, IsSound}
 use Rattle.control_run.specs.Findings.{IfEnded, mark_left}
+use Rattle.control_run.specs.Sweeping.{cells_left}
 
 pub ready_of : (file : Filed) (kept : Option Setup) (setup : Setup) → kept ≡ Some setup → IfSome kept (IsReady file) → IsReady file setup
 ready_of file kept setup is h = subst (λ (o : Option Setup). IfSome o (IsReady file)) is h
@@ -30,6 +31,7 @@ module _ (cells : Cells) (file : Filed) (setup new : Setup) where
   after_finding (Overflow e place) ends = tt
   after_finding Limit ends = tt
   after_finding Shown ends = tt
+  after_finding (Swept value) ends = tt
 
 module _ (cards : List (List ℕ)) (old : Machine) (setup new : Setup) (ready : IsReady old.file new) (s : IsSound cards old) where
   -- the mark stays
@@ -39,6 +41,18 @@ module _ (cards : List (List ℕ)) (old : Machine) (setup new : Setup) (ready : 
   -- there is none
   pub sound_cleared : IsSound cards (record old { setup = Some new; mark = None })
   sound_cleared = record { first = s.first; last = s.last; demands = s.demands; ready = ready; solved = tt }
+
+  -- there is none, and a run may have left its last value
+  demands_left : (finding : Finding) → AreDemands (cells_left finding old.cells)
+  demands_left (Refused fault) = s.demands
+  demands_left (Overflow e place) = s.demands
+  demands_left Limit = s.demands
+  demands_left (Ended mark) = s.demands
+  demands_left Shown = s.demands
+  demands_left (Swept value) = record { infeasible = s.demands.infeasible; unbounded = s.demands.unbounded }
+
+  pub sound_swept : (finding : Finding) (cells : Cells) → cells ≡ cells_left finding old.cells → IsSound cards (record old { setup = Some new; mark = None; cells = cells })
+  sound_swept finding cells e = record { first = s.first; last = s.last; demands = subst AreDemands (sym e) (demands_left finding); ready = ready; solved = tt }
 
   -- it is that of a finding
   pub sound_found : (finding : Finding) (mark : Option Mark) → mark ≡ mark_left finding → IfEnded finding (λ m. IsSolved m old.cells old.file new) → IsSound cards (record old { setup = Some new; mark = mark })

@@ -20,3 +20,9 @@ pub mod Primal_comes
 pub mod Keeping
 pub mod Showing
 pub mod Ranging
+pub mod Demanded
+pub mod Sweep_comes
+pub mod Sweep_lines
+pub mod Limit_formula
+pub mod Sweep_steps
+pub mod Asking

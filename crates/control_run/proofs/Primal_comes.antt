@@ -19,20 +19,19 @@ use Rattle.answer_definitions.specs.Verdicts.{IsSolved}
 use Rattle.answer_definitions.specs.Evidence.{OverflowsOnPath}
 use Rattle.run_definitions.specs.State.{Present, present_basis, path_of, State, choice_of, gone_through}
 use Rattle.run_definitions.specs.Moves.{Gain, Prints, punched_by, Outcome, Ends as EndsRun, stops, Move, MayStop, Asks, Gives, or_fault, InSelection, InAnswer, RangeOverflows}
-use Rattle.run_definitions.specs.Verbs.{mark_of, or_selection_fault, by_verdict, demanded, after_path, statement_move, verb_move}
+use Rattle.run_definitions.specs.Verbs.{mark_of, or_selection_fault, by_verdict, demanded, after_path, verb_move}
 use Rattle.control_run.specs.declared.act.Act.{Act}
 use Rattle.control_run.specs.declared.act.Halt.{Halt}
 use Rattle.control_run.specs.declared.end.End.{End}
 use Rattle.control_run.specs.declared.end.End.TheVariants as end
 use Rattle.control_run.specs.declared.finding.Finding.{Finding}
 use Rattle.control_run.specs.declared.finding.Finding.TheVariants.{Ended}
-use Rattle.control_run.specs.declared.machine.Machine.{Machine}
-use Rattle.control_run.specs.declared.machine.Setup.{Setup}
+use Rattle.control_run.specs.Machines.{Machine}
+use Rattle.control_run.specs.Kept.{Setup}
 use Rattle.control_run.specs.declared.selecting.Refusal.TheVariants.{Fault}
 use Rattle.control_run.specs.Choosing.{HasSelectionFault, HasRangeOverflow, refused_act}
 use Rattle.control_run.specs.Ends.{end_shown, place_shown}
-use Rattle.control_run.specs.Engine.{ways}
-use Rattle.control_run.specs.Stage.{stage}
+use Rattle.answer_definitions.specs.Real.{linear_programming}
 use Rattle.control_run.specs.Standing.{AreDemands, IsReady, ShowsSetup, Stands}
 use Rattle.control_run.specs.Statements.{Comes, Executes, Follows}
 use Rattle.control_run.specs.Findings.{PathReaches, PathOverflows, reached, at_limit, overflows, Finds, unselected, too_large, solved, Tells, demanded_act, act_of, mark_left}
@@ -55,25 +54,25 @@ sheet_of present lp = record { problem = present.problem; lp = lp }
 abbrev path_move : ℕ → State → Present → LinearProgram → Move
 path_move card state present lp =
     MayStop (InSelection present.problem (choice_of state.cells present.options))
-    (MayStop (InAnswer (OfPath state.cells.xiterlim) (sheet_of present lp) (path_of present))
-    (Asks (OfPath state.cells.xiterlim) (sheet_of present lp) (present_basis present) (after_path card present state)))
+    (MayStop (InAnswer (OfPath ByPrimal state.cells.xiterlim) (sheet_of present lp) (path_of present))
+    (Asks (OfPath ByPrimal state.cells.xiterlim) (sheet_of present lp) (present_basis present) (after_path ByPrimal card present state)))
 
 -- what PRIMAL does with a setup
 abbrev with_setup : ℕ → State → Present → Move
 with_setup card state present = or_selection_fault card (selected present.problem (choice_of state.cells present.options)) (path_move card state present)
 
-primal_gives : (card : ℕ) (state : State) (outcome : Outcome) → Gives stage card (or_fault card NoSetup state.setup (with_setup card state)) outcome → Gives stage card (statement_move stage Primal card state) outcome
-unfolding stage verb_move
+primal_gives : (card : ℕ) (state : State) (outcome : Outcome) → Gives linear_programming card (or_fault card NoSetup state.setup (with_setup card state)) outcome → Gives linear_programming card (verb_move Primal card state) outcome
+unfolding linear_programming verb_move
 primal_gives card state outcome g = g
 
-primal_without : (card : ℕ) (state : State) → state.setup ≡ None → Gives stage card (statement_move stage Primal card state) (stops (endings.VerbStop (record { fault = NoSetup; card = card })))
+primal_without : (card : ℕ) (state : State) → state.setup ≡ None → Gives linear_programming card (verb_move Primal card state) (stops (endings.VerbStop (record { fault = NoSetup; card = card })))
 primal_without card state none =
     primal_gives card state (stops (endings.VerbStop (record { fault = NoSetup; card = card }))) (gives_fault card NoSetup state.setup (with_setup card state) none)
 
 pub primal_no_setup : (card : ℕ) {P : Type 0} (written : P → Option (List ℕ)) (faults refusals : P → ℕ) (cards : List (List ℕ)) (machine : Machine) (print : P) → machine.setup ≡ None →
-    Executes stage Primal card written faults refusals print print cards machine machine (refused_act card (Fault NoSetup))
+    Executes linear_programming Primal card written faults refusals print print cards machine machine (refused_act card (Fault NoSetup))
 primal_no_setup card written faults refusals cards machine print none =
-    quietly stage Primal card written faults refusals cards machine print (λ position executed state s.
+    quietly linear_programming Primal card written faults refusals cards machine print (λ position executed state s.
     primal_without card state (subst (λ (kept : Option Setup). ShowsSetup machine.file kept state.setup) none s.setup))
 
 -- with a setup, whose problem is on file
@@ -88,20 +87,20 @@ module _ (card : ℕ) (cards : List (List ℕ)) (old : Machine) (setup new : Set
   abbrev after : Option Mark → Machine
   after mark = record old { setup = Some new; mark = mark }
 
-  setup_gives : (outcome : Outcome) → Gives stage card (with_setup card state present) outcome → Gives stage card (statement_move stage Primal card state) outcome
+  setup_gives : (outcome : Outcome) → Gives linear_programming card (with_setup card state present) outcome → Gives linear_programming card (verb_move Primal card state) outcome
   setup_gives outcome g = primal_gives card state outcome (gives_found card NoSetup state.setup (with_setup card state) present outcome p.is_shown g)
 
-  selected_gives : (lp : LinearProgram) → selected problem (choice_of old.cells setup.options) ≡ Ok lp → (outcome : Outcome) → Gives stage card (path_move card state present lp) outcome →
-      Gives stage card (statement_move stage Primal card state) outcome
+  selected_gives : (lp : LinearProgram) → selected problem (choice_of old.cells setup.options) ≡ Ok lp → (outcome : Outcome) → Gives linear_programming card (path_move card state present lp) outcome →
+      Gives linear_programming card (verb_move Primal card state) outcome
   selected_gives lp ok outcome g =
       setup_gives outcome (gives_selected card (selected problem (choice_of state.cells setup.options)) (path_move card state present) lp outcome
       (ap (λ (c : Cells). selected problem (choice_of c setup.options)) s.cells ∙ ok) g)
 
   path_gives : (lp : LinearProgram) → selected problem (choice_of old.cells setup.options) ≡ Ok lp → (answer : PathEnd) →
-      IsSolved (record { problem = problem; lp = lp }) setup.basis old.cells.xiterlim answer → Gives stage card (statement_move stage Primal card state) (after_path card present state answer)
-  unfolding stage
+      IsSolved (record { problem = problem; lp = lp }) setup.basis old.cells.xiterlim answer → Gives linear_programming card (verb_move Primal card state) (after_path ByPrimal card present state answer)
+  unfolding linear_programming
   path_gives lp ok answer right =
-      selected_gives lp ok (after_path card present state answer)
+      selected_gives lp ok (after_path ByPrimal card present state answer)
       (inl (inl (
         answer,
         subst (λ (c : Cells). IsSolved (record { problem = problem; lp = lp }) (present_basis present) c.xiterlim answer) (sym s.cells)
@@ -110,22 +109,22 @@ module _ (card : ℕ) (cards : List (List ℕ)) (old : Machine) (setup new : Set
       )))
 
   fault_gives : (fault : VerbFault) → HasSelectionFault problem (choice_of old.cells setup.options) fault →
-      Gives stage card (statement_move stage Primal card state) (stops (endings.VerbStop (record { fault = fault; card = card })))
+      Gives linear_programming card (verb_move Primal card state) (stops (endings.VerbStop (record { fault = fault; card = card })))
   fault_gives fault h =
       setup_gives (stops (endings.VerbStop (record { fault = fault; card = card })))
       (gives_unselected card (selected problem (choice_of state.cells setup.options)) (path_move card state present) h.why fault
       (ap (λ (c : Cells). selected problem (choice_of c setup.options)) s.cells ∙ h.is_refused) h.is_fault)
 
   range_gives : (e : Evidence) → HasRangeOverflow problem (choice_of old.cells setup.options) e →
-      Gives stage card (statement_move stage Primal card state) (stops (endings.OverflowStop (record { evidence = e; place = None; card = card })))
+      Gives linear_programming card (verb_move Primal card state) (stops (endings.OverflowStop (record { evidence = e; place = None; card = card })))
   range_gives e h =
       selected_gives h.lp h.is_selected (stops (endings.OverflowStop (record { evidence = e; place = None; card = card })))
       (inr (e, None, (subst (λ (c : Cells). RangeOverflows problem (choice_of c setup.options) e None) (sym s.cells) (h.is_refusal, refl)), refl))
 
   overflow_gives : (lp : LinearProgram) → selected problem (choice_of old.cells setup.options) ≡ Ok lp → (e : Evidence) (place : Option endings.Place) →
-      PathOverflows (record { problem = problem; lp = lp }) setup.basis new.basis old.cells.xiterlim (ways setup.engine) (ways new.engine) e place →
-      Gives stage card (statement_move stage Primal card state) (stops (endings.OverflowStop (record { evidence = e; place = place; card = card })))
-  unfolding stage
+      PathOverflows (record { problem = problem; lp = lp }) setup.basis new.basis old.cells.xiterlim setup.engine.waypoints new.engine.waypoints e place →
+      Gives linear_programming card (verb_move Primal card state) (stops (endings.OverflowStop (record { evidence = e; place = place; card = card })))
+  unfolding linear_programming
   overflow_gives lp ok e place h =
       selected_gives lp ok (stops (endings.OverflowStop (record { evidence = e; place = place; card = card })))
       (inl (inr (
@@ -138,7 +137,7 @@ module _ (card : ℕ) (cards : List (List ℕ)) (old : Machine) (setup new : Set
       )))
 
   after_stands : (lp : LinearProgram) → selected problem (choice_of old.cells setup.options) ≡ Ok lp → new.name ≡ setup.name → new.options ≡ setup.options →
-      (bases : List Basis) (verdict : Verdict) (check : Check) → PathReaches (record { problem = problem; lp = lp }) setup.basis new.basis old.cells.xiterlim (ways setup.engine) (ways new.engine) bases verdict check →
+      (bases : List Basis) (verdict : Verdict) (check : Check) → PathReaches (record { problem = problem; lp = lp }) setup.basis new.basis old.cells.xiterlim setup.engine.waypoints new.engine.waypoints bases verdict check →
       (mark : Mark) → Stands cards (after (Some mark)) position executed (record state { setup = Some (gone_through bases present); mark = Some mark })
   after_stands lp ok same_name same_options bases verdict check r mark =
       let same = same_matrix problem (choice_of old.cells setup.options) lp ok in
@@ -153,44 +152,44 @@ module _ (card : ℕ) (cards : List (List ℕ)) (old : Machine) (setup new : Set
       }
 
   demanded_comes : (move : Move) (mark : Mark) (report : Report) (then : State) → Stands cards (after (Some mark)) position executed then → (set : Option ℕ) → IfSome set (λ to. 1 ≤ to) →
-      (end : End) (code : ℕ) → endings.Ended code ≡ end_shown end → Gives stage card move (demanded set code report then) →
-      Follows stage card move cards (after (Some mark)) position executed (Prints report) (demanded_act set end)
+      (end : End) (code : ℕ) → endings.Ended code ≡ end_shown end → Gives linear_programming card move (demanded set code report then) →
+      Follows linear_programming card move cards (after (Some mark)) position executed (Prints report) (demanded_act set end)
   demanded_comes move mark report then t (Some to) first end code same g = (then, g, t, first)
-  demanded_comes move mark report then t None first end code same g = subst (λ (ending : endings.Ending). Gives stage card move (EndsRun (Prints report) ending)) same g
+  demanded_comes move mark report then t None first end code same g = subst (λ (ending : endings.Ending). Gives linear_programming card move (EndsRun (Prints report) ending)) same g
 
   verdict_comes : (move : Move) (mark : Mark) (report : Report) (then : State) → Stands cards (after (Some mark)) position executed then →
-      Gives stage card move (by_verdict mark report then) → Follows stage card move cards (after (Some mark)) position executed (Prints report) (act_of old.cells card (Ended mark))
+      Gives linear_programming card move (by_verdict mark report then) → Follows linear_programming card move cards (after (Some mark)) position executed (Prints report) (act_of old.cells card (Ended mark))
   verdict_comes move Optimal report then t g = (then, g, t)
   verdict_comes move Infeasible report then t g =
-      demanded_comes move Infeasible report then t old.cells.xdonfs demands.infeasible end.Infeasible 1 refl (subst (λ (c : Cells). Gives stage card move (demanded c.xdonfs 1 report then)) t.cells g)
+      demanded_comes move Infeasible report then t old.cells.xdonfs demands.infeasible end.Infeasible 1 refl (subst (λ (c : Cells). Gives linear_programming card move (demanded c.xdonfs 1 report then)) t.cells g)
   verdict_comes move Unbounded report then t g =
-      demanded_comes move Unbounded report then t old.cells.xdounb demands.unbounded end.Unbounded 2 refl (subst (λ (c : Cells). Gives stage card move (demanded c.xdounb 2 report then)) t.cells g)
+      demanded_comes move Unbounded report then t old.cells.xdounb demands.unbounded end.Unbounded 2 refl (subst (λ (c : Cells). Gives linear_programming card move (demanded c.xdounb 2 report then)) t.cells g)
 
   pub found_comes : (gain : Gain) (finding : Finding) → Finds problem old.cells setup new gain finding →
-      Comes stage Primal card cards position executed state (after (mark_left finding)) gain (act_of old.cells card finding)
+      Comes linear_programming Primal card cards position executed state (after (mark_left finding)) gain (act_of old.cells card finding)
   found_comes _ _ (unselected {fault = fault} h) = fault_gives fault h
   found_comes _ _ (too_large {e = e} h) = range_gives e h
   found_comes _ _ (solved {lp = lp} ok same_name same_options (reached {bases = bases} {verdict = verdict} {check = check} r)) =
-      verdict_comes (statement_move stage Primal card state) (mark_of verdict) (Solved ByPrimal verdict check) (record state { setup = Some (gone_through bases present); mark = Some (mark_of verdict) })
+      verdict_comes (verb_move Primal card state) (mark_of verdict) (Solved ByPrimal verdict check) (record state { setup = Some (gone_through bases present); mark = Some (mark_of verdict) })
       (after_stands lp ok same_name same_options bases verdict check r (mark_of verdict)) (path_gives lp ok (Reached bases verdict check) r.reaches)
   found_comes _ _ (solved {lp = lp} ok same_name same_options (at_limit right)) =
-      subst (λ (c : Cells). Gives stage card (statement_move stage Primal card state) (stops (endings.LimitStop (record { limit = steps_allowed c; card = card })))) s.cells (path_gives lp ok PathLimit right)
+      subst (λ (c : Cells). Gives linear_programming card (verb_move Primal card state) (stops (endings.LimitStop (record { limit = steps_allowed c; card = card })))) s.cells (path_gives lp ok PathLimit right)
   found_comes _ _ (solved {lp = lp} ok same_name same_options (overflows {e = e} {place = place} h)) = overflow_gives lp ok e (option_map place_shown place) h
 
 module _ (card : ℕ) {P : Type 0} (written : P → Option (List ℕ)) (faults refusals : P → ℕ) (print_old print_new : P) (cards : List (List ℕ)) (old : Machine) (setup new : Setup) (is_setup : old.setup ≡ Some setup)
     (ready : IsReady old.file setup) (demands : AreDemands old.cells) where
   pub primal_found : (finding : Finding) (mark : Option Mark) (then : Act) → mark ≡ mark_left finding → then ≡ act_of old.cells card finding →
       Tells (Finds ready.problem old.cells setup new) written faults refusals print_old print_new (Ok finding) →
-      Executes stage Primal card written faults refusals print_old print_new cards old (record old { setup = Some new; mark = mark }) (Ok then)
+      Executes linear_programming Primal card written faults refusals print_old print_new cards old (record old { setup = Some new; mark = mark }) (Ok then)
   primal_found finding mark then e f t =
-      subst (λ (m : Option Mark). Executes stage Primal card written faults refusals print_old print_new cards old (record old { setup = Some new; mark = m }) (Ok then)) (sym e)
-      (subst (λ (a : Act). Executes stage Primal card written faults refusals print_old print_new cards old (record old { setup = Some new; mark = mark_left finding }) (Ok a)) (sym f)
+      subst (λ (m : Option Mark). Executes linear_programming Primal card written faults refusals print_old print_new cards old (record old { setup = Some new; mark = m }) (Ok then)) (sym e)
+      (subst (λ (a : Act). Executes linear_programming Primal card written faults refusals print_old print_new cards old (record old { setup = Some new; mark = mark_left finding }) (Ok a)) (sym f)
       (told_executes Primal card written faults refusals cards old (Finds ready.problem old.cells setup new) (λ found. record old { setup = Some new; mark = mark_left found }) (act_of old.cells card)
       (no_cards_by ready.problem old.cells setup new)
       (λ gain found h position executed state s. found_comes card cards old setup new is_setup ready.problem ready.on_file demands position executed state s gain found h) print_old print_new finding t))
 
   pub primal_cut : (any : Machine) (h : Halt) → Tells (Finds ready.problem old.cells setup new) written faults refusals print_old print_new (Err h) →
-      Executes stage Primal card written faults refusals print_old print_new cards old any (Err h)
+      Executes linear_programming Primal card written faults refusals print_old print_new cards old any (Err h)
   primal_cut any h t =
       cut_executes Primal card written faults refusals cards old (Finds ready.problem old.cells setup new) (λ found. record old { setup = Some new; mark = mark_left found }) (act_of old.cells card)
       (no_cards_by ready.problem old.cells setup new)

@@ -17,14 +17,14 @@ use Rattle.listing_definitions.specs.Text.{report_text}
 use Rattle.question_definitions.specs.Solving.{Solving}
 use Rattle.run_definitions.specs.State.{State, problem_of}
 use Rattle.run_definitions.specs.Moves.{Gain, Punches, punched_by, Outcome, next, Does, Gives}
-use Rattle.run_definitions.specs.Verbs.{max_counted, statement_move, verb_move}
+use Rattle.run_definitions.specs.Verbs.{max_counted, verb_move}
 use Rattle.control_run.specs.declared.act.Act.{Act}
 use Rattle.control_run.specs.declared.act.Act.TheVariants.{Next, Ends}
 use Rattle.control_run.specs.declared.act.Halt.{Halt}
 use Rattle.control_run.specs.declared.act.Halt.TheVariants as halt
 use Rattle.control_run.specs.declared.end.End.TheVariants as ends
-use Rattle.control_run.specs.declared.machine.Machine.{Machine}
-use Rattle.control_run.specs.Stage.{stage}
+use Rattle.control_run.specs.Machines.{Machine}
+use Rattle.answer_definitions.specs.Real.{linear_programming}
 use Rattle.control_run.specs.Standing.{filed, Stands}
 use Rattle.control_run.specs.Statements.{gain_of, Executes}
 use Rattle.control_run.specs.Punching.{gain_cards, Performs}
@@ -80,26 +80,26 @@ cards_of problem = deck_cards (by_names problem)
 abbrev punches_it : State → Problem ℕ → Outcome
 punches_it state problem = next (Punches (Punched problem.name (min (length (cards_of problem)) max_counted)) (cards_of problem)) state
 
-punch_gives : (card : ℕ) (state : State) (problem : Problem ℕ) → problem_of state.cells.xpbname state.file ≡ Some problem → Gives stage card (statement_move stage Bcdout card state) (punches_it state problem)
-unfolding stage verb_move
+punch_gives : (card : ℕ) (state : State) (problem : Problem ℕ) → problem_of state.cells.xpbname state.file ≡ Some problem → Gives linear_programming card (verb_move Bcdout card state) (punches_it state problem)
+unfolding linear_programming verb_move
 punch_gives card state problem is = gives_found card NoProblem (problem_of state.cells.xpbname state.file) (λ (p : Problem ℕ). Does (punches_it state p)) problem (punches_it state problem) is refl
 
 module _ (card : ℕ) {P U : Type 0} (written : P → Option (List ℕ)) (faults refusals : P → ℕ) (punch_written : U → Option (List ℕ)) (punch_faults punch_refusals : U → ℕ) (cards : List (List ℕ)) (machine : Machine) where
   pub no_problem_punched : (print : P) (punch : U) → filed machine.cells.xpbname machine.file ≡ None →
-      Performs stage Bcdout card written faults refusals print print punch_written punch_faults punch_refusals punch punch cards machine machine (Ok (Ends (ends.Verb NoProblem card)))
-  unfolding stage verb_move
+      Performs linear_programming Bcdout card written faults refusals print print punch_written punch_faults punch_refusals punch punch cards machine machine (Ok (Ends (ends.Verb NoProblem card)))
+  unfolding linear_programming verb_move
   no_problem_punched print punch none =
-      punches_nothing punch_written punch_faults punch_refusals punch stage Bcdout card written faults refusals print print cards machine machine (Ok (Ends (ends.Verb NoProblem card)))
-      (quietly stage Bcdout card written faults refusals cards machine print
+      punches_nothing punch_written punch_faults punch_refusals punch linear_programming Bcdout card written faults refusals print print cards machine machine (Ok (Ends (ends.Verb NoProblem card)))
+      (quietly linear_programming Bcdout card written faults refusals cards machine print
       (λ position executed state s. gives_fault card NoProblem (problem_of state.cells.xpbname state.file) _ (problem_shown s (λ (c : Cells). c.xpbname) None none)))
 
   module _ (problem : Problem ℕ) (on_file : filed machine.cells.xpbname machine.file ≡ Some problem) where
-    gives_at : {position executed : ℕ} {state : State} → Stands cards machine position executed state → Gives stage card (statement_move stage Bcdout card state) (punches_it state problem)
+    gives_at : {position executed : ℕ} {state : State} → Stands cards machine position executed state → Gives linear_programming card (verb_move Bcdout card state) (punches_it state problem)
     gives_at {state = state} s = punch_gives card state problem (problem_shown s (λ (c : Cells). c.xpbname) (Some problem) on_file)
 
     -- the punch stops in the deck
     pub deck_cut : (print : P) {punch_old punch_new : U} {T : Type 0} (stop : WriteStop) → Writes {T = T} punch_written punch_faults punch_refusals punch_old punch_new (Err stop) (card_text (cards_of problem)) →
-        Performs stage Bcdout card written faults refusals print print punch_written punch_faults punch_refusals punch_old punch_new cards machine machine (Err (halt.Punch stop))
+        Performs linear_programming Bcdout card written faults refusals print print punch_written punch_faults punch_refusals punch_old punch_new cards machine machine (Err (halt.Punch stop))
     deck_cut print stop punches = λ position executed state s. record {
       report = Punched problem.name (min (length (cards_of problem)) max_counted);
       deck = cards_of problem;
@@ -117,7 +117,7 @@ module _ (card : ℕ) {P U : Type 0} (written : P → Option (List ℕ)) (faults
       own_line result prints = writes_same (ap (λ (n : Name). report_text (Punched n count)) is_name ∙ ap (λ (k : ℕ). report_text (Punched problem.name k)) is_count) prints
 
       pub deck_punched : Writes {T = Unit {0}} written faults refusals print_old print_new (Ok tt) (report_text (Punched name count)) →
-          Performs stage Bcdout card written faults refusals print_old print_new punch_written punch_faults punch_refusals punch_old punch_new cards machine machine (Ok Next)
+          Performs linear_programming Bcdout card written faults refusals print_old print_new punch_written punch_faults punch_refusals punch_old punch_new cards machine machine (Ok Next)
       deck_punched prints = λ position executed state s. record {
         gain = Punches (Punched problem.name (min (length (cards_of problem)) max_counted)) (cards_of problem);
         comes = (state, gives_at s, s);
@@ -127,7 +127,7 @@ module _ (card : ℕ) {P U : Type 0} (written : P → Option (List ℕ)) (faults
 
       -- the deck is punched, and the print stops in its line
       pub deck_line_cut : (stop : WriteStop) → Writes {T = Unit {0}} written faults refusals print_old print_new (Err stop) (report_text (Punched name count)) →
-          Performs stage Bcdout card written faults refusals print_old print_new punch_written punch_faults punch_refusals punch_old punch_new cards machine machine (Err (halt.Print stop))
+          Performs linear_programming Bcdout card written faults refusals print_old print_new punch_written punch_faults punch_refusals punch_old punch_new cards machine machine (Err (halt.Print stop))
       deck_line_cut stop prints = λ position executed state s. record {
         outcome = punches_it state problem;
         gives = gives_at s;

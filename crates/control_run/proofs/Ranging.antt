@@ -30,18 +30,18 @@ use Rattle.present_answers.specs.Answers.{sheet_shown}
 use Rattle.present_answers.specs.Stops.{RangesRefused}
 use Rattle.run_definitions.specs.State.{Present, State, choice_of, present_basis, path_of}
 use Rattle.run_definitions.specs.Moves.{Gain, Nothing, Prints, punched_by, Outcome, next, stops, InAnswer, Move, MayStop, Asks, Gives, or_fault}
-use Rattle.run_definitions.specs.Verbs.{if_optimal, or_selection_fault, verb_move, statement_move}
+use Rattle.run_definitions.specs.Verbs.{if_optimal, or_selection_fault, verb_move}
 use Rattle.control_run.specs.declared.act.Act.{Act}
 use Rattle.control_run.specs.declared.act.Halt.{Halt}
 use Rattle.control_run.specs.declared.act.Halt.TheVariants as halt
 use Rattle.control_run.specs.declared.end.Place.{Place as OwnPlace}
 use Rattle.control_run.specs.declared.finding.Finding.{Finding}
 use Rattle.control_run.specs.declared.finding.Finding.TheVariants.{Overflow, Shown}
-use Rattle.control_run.specs.declared.machine.Machine.{Machine}
-use Rattle.control_run.specs.declared.machine.Setup.{Setup}
+use Rattle.control_run.specs.Machines.{Machine}
+use Rattle.control_run.specs.Kept.{Setup}
 use Rattle.control_run.specs.declared.selecting.Refusal.TheVariants.{Fault}
 use Rattle.control_run.specs.Ends.{place_shown}
-use Rattle.control_run.specs.Stage.{stage}
+use Rattle.answer_definitions.specs.Real.{linear_programming}
 use Rattle.control_run.specs.Standing.{ShowsSetup, Stands}
 use Rattle.control_run.specs.Statements.{Comes, Executes}
 use Rattle.control_run.specs.Choosing.{refused_act}
@@ -79,11 +79,14 @@ pub ranges_overflow : (sheet : OwnSheet) (s : Basis) (before after : List Basics
 ranges_overflow sheet s before after e o place is =
     stopped (λ earlier lie. subst (λ (p : endings.Place). IsEvidence (RangeStatement sheet.lp.now) None 0 (earlier ++ s ∷ []) [] e (Some p)) (sym is) (o.shows earlier lie))
 
-module _ {P : Type 0} (written : P → Option (List ℕ)) (faults refusals : P → ℕ) (file : Filed) (setup : Setup) (there : Problem ℕ) (is_there : filed_under setup.name file ≡ Some there) where
+-- the setup that code has opened, which is the one that is spoken of
+module _ {P : Type 0} (written : P → Option (List ℕ)) (faults refusals : P → ℕ) (file : Filed) {setup old : Setup} (is_old : setup ≡ old) (there : Problem ℕ) (is_there : filed_under setup.name file ≡ Some there) where
   pub ranges_at : (print_old print_new : P) (result : Result Finding Halt) → Tells (ShowsRanges there setup) written faults refusals print_old print_new result →
-      (problem : Problem ℕ) → filed_under setup.name file ≡ Some problem → Tells (ShowsRanges problem setup) written faults refusals print_old print_new result
+      (problem : Problem ℕ) → filed_under old.name file ≡ Some problem → Tells (ShowsRanges problem old) written faults refusals print_old print_new result
   ranges_at print_old print_new result t problem on_file =
-      subst (λ (q : Problem ℕ). Tells (ShowsRanges q setup) written faults refusals print_old print_new result) (one_problem file setup there problem is_there on_file) t
+      subst (λ (s : Setup). Tells (ShowsRanges problem s) written faults refusals print_old print_new result) is_old
+      (subst (λ (q : Problem ℕ). Tells (ShowsRanges q setup) written faults refusals print_old print_new result)
+      (one_problem file setup there problem is_there (ap (λ (s : Setup). filed_under s.name file) is_old ∙ on_file)) t)
 
 same_some : {X : Type 0} (a b : X) → Some a ≡ Some b → a ≡ b
 same_some a b e = cc
@@ -120,35 +123,35 @@ module _ (card : ℕ) (state : State) where
   abbrev go_set_up : Present → Move
   go_set_up present = or_fault card verb_fault.NotSolved state.mark (go_marked present)
 
-  range_gives : (outcome : Outcome) → Gives stage card (or_fault card verb_fault.NoSetup state.setup go_set_up) outcome → Gives stage card (statement_move stage Ranging card state) outcome
-  unfolding stage verb_move
+  range_gives : (outcome : Outcome) → Gives linear_programming card (or_fault card verb_fault.NoSetup state.setup go_set_up) outcome → Gives linear_programming card (verb_move Ranging card state) outcome
+  unfolding linear_programming verb_move
   range_gives outcome g = g
 
-  gives_no_setup : state.setup ≡ None → Gives stage card (statement_move stage Ranging card state) (stops (endings.VerbStop (record { fault = verb_fault.NoSetup; card = card })))
+  gives_no_setup : state.setup ≡ None → Gives linear_programming card (verb_move Ranging card state) (stops (endings.VerbStop (record { fault = verb_fault.NoSetup; card = card })))
   gives_no_setup e = range_gives (stops (endings.VerbStop (record { fault = verb_fault.NoSetup; card = card }))) (gives_fault card verb_fault.NoSetup state.setup go_set_up e)
 
-  gives_set_up : (present : Present) (outcome : Outcome) → state.setup ≡ Some present → Gives stage card (go_set_up present) outcome → Gives stage card (statement_move stage Ranging card state) outcome
+  gives_set_up : (present : Present) (outcome : Outcome) → state.setup ≡ Some present → Gives linear_programming card (go_set_up present) outcome → Gives linear_programming card (verb_move Ranging card state) outcome
   gives_set_up present outcome e given = range_gives outcome (gives_found card verb_fault.NoSetup state.setup go_set_up present outcome e given)
 
   -- the mark is refused
-  gives_refused : (present : Present) (mark : Option Mark) (fault : VerbFault) → state.mark ≡ mark → range_fault mark ≡ Some fault → Gives stage card (go_set_up present) (stops (endings.VerbStop (record { fault = fault; card = card })))
+  gives_refused : (present : Present) (mark : Option Mark) (fault : VerbFault) → state.mark ≡ mark → range_fault mark ≡ Some fault → Gives linear_programming card (go_set_up present) (stops (endings.VerbStop (record { fault = fault; card = card })))
   gives_refused present None fault is e =
-      subst (λ (f : VerbFault). Gives stage card (go_set_up present) (stops (endings.VerbStop (record { fault = f; card = card })))) (same_some verb_fault.NotSolved fault e)
+      subst (λ (f : VerbFault). Gives linear_programming card (go_set_up present) (stops (endings.VerbStop (record { fault = f; card = card })))) (same_some verb_fault.NotSolved fault e)
       (gives_fault card verb_fault.NotSolved state.mark (go_marked present) is)
   gives_refused present (Some Optimal) fault is e = absurd (cc e)
   gives_refused present (Some Infeasible) fault is e =
-      subst (λ (f : VerbFault). Gives stage card (go_set_up present) (stops (endings.VerbStop (record { fault = f; card = card })))) (same_some verb_fault.NotOptimal fault e)
+      subst (λ (f : VerbFault). Gives linear_programming card (go_set_up present) (stops (endings.VerbStop (record { fault = f; card = card })))) (same_some verb_fault.NotOptimal fault e)
       (gives_found card verb_fault.NotSolved state.mark (go_marked present) Infeasible (stops (endings.VerbStop (record { fault = verb_fault.NotOptimal; card = card }))) is
       (gives_fault card verb_fault.NotOptimal (if_optimal Infeasible) (go_optimal present) refl))
   gives_refused present (Some Unbounded) fault is e =
-      subst (λ (f : VerbFault). Gives stage card (go_set_up present) (stops (endings.VerbStop (record { fault = f; card = card })))) (same_some verb_fault.NotOptimal fault e)
+      subst (λ (f : VerbFault). Gives linear_programming card (go_set_up present) (stops (endings.VerbStop (record { fault = f; card = card })))) (same_some verb_fault.NotOptimal fault e)
       (gives_found card verb_fault.NotSolved state.mark (go_marked present) Unbounded (stops (endings.VerbStop (record { fault = verb_fault.NotOptimal; card = card }))) is
       (gives_fault card verb_fault.NotOptimal (if_optimal Unbounded) (go_optimal present) refl))
 
 pub ranges_no_setup : (card : ℕ) {P : Type 0} (written : P → Option (List ℕ)) (faults refusals : P → ℕ) (cards : List (List ℕ)) (machine : Machine) (print : P) → machine.setup ≡ None →
-    Executes stage Ranging card written faults refusals print print cards machine machine (refused_act card (Fault verb_fault.NoSetup))
+    Executes linear_programming Ranging card written faults refusals print print cards machine machine (refused_act card (Fault verb_fault.NoSetup))
 ranges_no_setup card written faults refusals cards machine print none =
-    quietly stage Ranging card written faults refusals cards machine print (λ position executed state s.
+    quietly linear_programming Ranging card written faults refusals cards machine print (λ position executed state s.
     gives_no_setup card state (subst (λ (kept : Option Setup). ShowsSetup machine.file kept state.setup) none s.setup))
 
 module _ (card : ℕ) (cards : List (List ℕ)) (old : Machine) (setup : Setup) (is_setup : old.setup ≡ Some setup) (problem : Problem ℕ) (on_file : filed_under setup.name old.file ≡ Some problem) where
@@ -159,11 +162,11 @@ module _ (card : ℕ) (cards : List (List ℕ)) (old : Machine) (setup : Setup) 
     abbrev present : Present
     present = present_with problem setup.options p.opening p.steps
 
-    not_optimal : (fault : VerbFault) → range_fault old.mark ≡ Some fault → Gives stage card (statement_move stage Ranging card state) (stops (endings.VerbStop (record { fault = fault; card = card })))
+    not_optimal : (fault : VerbFault) → range_fault old.mark ≡ Some fault → Gives linear_programming card (verb_move Ranging card state) (stops (endings.VerbStop (record { fault = fault; card = card })))
     not_optimal fault is = gives_set_up card state present (stops (endings.VerbStop (record { fault = fault; card = card }))) p.is_shown (gives_refused card state present old.mark fault s.mark is)
 
     module _ (new : Setup) (is_mark : old.mark ≡ Some Optimal) (ok : selected problem (choice_of old.cells setup.options) ≡ Ok setup.lp) (k : IsSameSetup setup new) where
-      optimal_gives : (outcome : Outcome) → Gives stage card (go_shown card state present setup.lp) outcome → Gives stage card (statement_move stage Ranging card state) outcome
+      optimal_gives : (outcome : Outcome) → Gives linear_programming card (go_shown card state present setup.lp) outcome → Gives linear_programming card (verb_move Ranging card state) outcome
       optimal_gives outcome g =
           gives_set_up card state present outcome p.is_shown
           (gives_found card verb_fault.NotSolved state.mark (go_marked card state present) Optimal outcome (s.mark ∙ is_mark)
@@ -172,8 +175,8 @@ module _ (card : ℕ) (cards : List (List ℕ)) (old : Machine) (setup : Setup) 
           (ap (λ (c : Cells). selected problem (choice_of c setup.options)) s.cells ∙ ok) g)))
 
       pub ranged_comes : (gain : Gain) (finding : Finding) → ShowsRanges problem setup gain finding →
-          Comes stage Ranging card cards position executed state (record old { setup = Some new }) gain (act_of old.cells card finding)
-      unfolding stage
+          Comes linear_programming Ranging card cards position executed state (record old { setup = Some new }) gain (act_of old.cells card finding)
+      unfolding linear_programming
       ranged_comes _ _ (ranged {lines = lines} h) = (
         state,
         optimal_gives (printed card state lines) (inl (lines, subst (λ (b : Basis). IsRanged (record { problem = problem; lp = setup.lp }) b lines) (sym p.reached) h, refl)),
@@ -190,20 +193,20 @@ module _ (card : ℕ) (cards : List (List ℕ)) (old : Machine) (setup : Setup) 
           ))
 
   module _ {P : Type 0} (written : P → Option (List ℕ)) (faults refusals : P → ℕ) where
-    pub ranges_refused : (print : P) (any : Machine) (fault : VerbFault) → range_fault old.mark ≡ Some fault → Executes stage Ranging card written faults refusals print print cards old any (refused_act card (Fault fault))
+    pub ranges_refused : (print : P) (any : Machine) (fault : VerbFault) → range_fault old.mark ≡ Some fault → Executes linear_programming Ranging card written faults refusals print print cards old any (refused_act card (Fault fault))
     ranges_refused print any fault is =
-        quietly stage Ranging card written faults refusals cards old print {new = any} (λ position executed state s. not_optimal position executed state s fault is)
+        quietly linear_programming Ranging card written faults refusals cards old print {new = any} (λ position executed state s. not_optimal position executed state s fault is)
 
     module _ (print_old print_new : P) (new : Setup) (is_mark : old.mark ≡ Some Optimal) (ok : selected problem (choice_of old.cells setup.options) ≡ Ok setup.lp) (k : IsSameSetup setup new) where
       pub ranges_found : (finding : Finding) (then : Act) → then ≡ act_of old.cells card finding → Tells (ShowsRanges problem setup) written faults refusals print_old print_new (Ok finding) →
-          Executes stage Ranging card written faults refusals print_old print_new cards old (record old { setup = Some new }) (Ok then)
+          Executes linear_programming Ranging card written faults refusals print_old print_new cards old (record old { setup = Some new }) (Ok then)
       ranges_found finding then e t =
-          subst (λ (a : Act). Executes stage Ranging card written faults refusals print_old print_new cards old (record old { setup = Some new }) (Ok a)) (sym e)
+          subst (λ (a : Act). Executes linear_programming Ranging card written faults refusals print_old print_new cards old (record old { setup = Some new }) (Ok a)) (sym e)
           (told_executes Ranging card written faults refusals cards old (ShowsRanges problem setup) (λ found. record old { setup = Some new }) (act_of old.cells card) (no_cards_by problem setup)
           (λ gain found h position executed state s. ranged_comes position executed state s new is_mark ok k gain found h) print_old print_new finding t)
 
       pub ranges_broken : (any : Machine) (h : Halt) → Tells (ShowsRanges problem setup) written faults refusals print_old print_new (Err h) →
-          Executes stage Ranging card written faults refusals print_old print_new cards old any (Err h)
+          Executes linear_programming Ranging card written faults refusals print_old print_new cards old any (Err h)
       ranges_broken any h t =
           cut_executes Ranging card written faults refusals cards old (ShowsRanges problem setup) (λ found. record old { setup = Some new }) (act_of old.cells card) (no_cards_by problem setup)
           (λ gain found h position executed state s. ranged_comes position executed state s new is_mark ok k gain found h) print_old print_new any h t

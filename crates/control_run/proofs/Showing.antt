@@ -28,19 +28,18 @@ use Rattle.present_answers.specs.Answers.{sheet_shown}
 use Rattle.present_answers.specs.Stops.{SolutionRefused}
 use Rattle.run_definitions.specs.State.{Present, State, choice_of, present_basis, path_of}
 use Rattle.run_definitions.specs.Moves.{Gain, Nothing, Prints, punched_by, Outcome, next, stops, InAnswer, Move, MayStop, Asks, Gives, or_fault}
-use Rattle.run_definitions.specs.Verbs.{or_selection_fault, verb_move, statement_move}
+use Rattle.run_definitions.specs.Verbs.{or_selection_fault, verb_move}
 use Rattle.control_run.specs.declared.act.Act.{Act}
 use Rattle.control_run.specs.declared.act.Halt.{Halt}
 use Rattle.control_run.specs.declared.act.Halt.TheVariants as halt
 use Rattle.control_run.specs.declared.end.Place.{Place as OwnPlace}
 use Rattle.control_run.specs.declared.finding.Finding.{Finding}
 use Rattle.control_run.specs.declared.finding.Finding.TheVariants.{Overflow, Shown}
-use Rattle.control_run.specs.declared.machine.Machine.{Machine}
-use Rattle.control_run.specs.declared.machine.Setup.{Setup}
+use Rattle.control_run.specs.Machines.{Machine}
+use Rattle.control_run.specs.Kept.{Setup}
 use Rattle.control_run.specs.declared.selecting.Refusal.TheVariants.{Fault}
 use Rattle.control_run.specs.Ends.{place_shown}
-use Rattle.control_run.specs.Engine.{ways}
-use Rattle.control_run.specs.Stage.{stage}
+use Rattle.answer_definitions.specs.Real.{linear_programming}
 use Rattle.control_run.specs.Standing.{IsSelected, IsSolved, ShowsSetup, Stands}
 use Rattle.control_run.specs.Statements.{Comes, Executes}
 use Rattle.control_run.specs.Choosing.{refused_act}
@@ -85,7 +84,7 @@ pub record IsSameSetup (setup new : Setup) : Type 0 where
   pub options : new.options ≡ setup.options
   pub lp : new.lp ≡ setup.lp
   pub basis : new.basis ≡ setup.basis
-  pub keeps : KeepsWaypoints setup.lp.matrix (basics_of setup.basis) (ways setup.engine) (basics_of setup.basis) (ways new.engine)
+  pub keeps : KeepsWaypoints setup.lp.matrix (basics_of setup.basis) setup.engine.waypoints (basics_of setup.basis) new.engine.waypoints
 
 pub still_selected : (cells : Cells) (file : Filed) (setup new : Setup) → IsSameSetup setup new → IsSelected cells file setup → IsSelected cells file new
 still_selected cells file setup new k h = λ problem on_file.
@@ -97,11 +96,14 @@ still_solved cells file setup new mark k h = record {
   optimal = λ is. subst (λ (p : LinearProgram). IsOptimalBasis p new.basis) (sym k.lp) (subst (λ (b : Basis). IsOptimalBasis setup.lp b) (sym k.basis) (h.optimal is));
 }
 
-module _ {P : Type 0} (written : P → Option (List ℕ)) (faults refusals : P → ℕ) (file : Filed) (setup : Setup) (mark : Mark) (there : Problem ℕ) (is_there : filed_under setup.name file ≡ Some there) where
+-- the setup that code has opened, which is the one that is spoken of
+module _ {P : Type 0} (written : P → Option (List ℕ)) (faults refusals : P → ℕ) (file : Filed) {setup old : Setup} (is_old : setup ≡ old) (mark : Mark) (there : Problem ℕ) (is_there : filed_under setup.name file ≡ Some there) where
   pub lines_at : (print_old print_new : P) (result : Result Finding Halt) → Tells (Shows there setup mark) written faults refusals print_old print_new result →
-      (problem : Problem ℕ) → filed_under setup.name file ≡ Some problem → Tells (Shows problem setup mark) written faults refusals print_old print_new result
+      (problem : Problem ℕ) → filed_under old.name file ≡ Some problem → Tells (Shows problem old mark) written faults refusals print_old print_new result
   lines_at print_old print_new result t problem on_file =
-      subst (λ (q : Problem ℕ). Tells (Shows q setup mark) written faults refusals print_old print_new result) (one_problem file setup there problem is_there on_file) t
+      subst (λ (s : Setup). Tells (Shows problem s mark) written faults refusals print_old print_new result) is_old
+      (subst (λ (q : Problem ℕ). Tells (Shows q setup mark) written faults refusals print_old print_new result)
+      (one_problem file setup there problem is_there (ap (λ (s : Setup). filed_under s.name file) is_old ∙ on_file)) t)
 
 -- ---- the statement
 
@@ -125,20 +127,20 @@ module _ (card : ℕ) (state : State) where
   abbrev go_set_up : Present → Move
   go_set_up present = or_fault card verb_fault.NotSolved state.mark (go_marked present)
 
-  solution_gives : (outcome : Outcome) → Gives stage card (or_fault card verb_fault.NoSetup state.setup go_set_up) outcome → Gives stage card (statement_move stage SolutionVerb card state) outcome
-  unfolding stage verb_move
+  solution_gives : (outcome : Outcome) → Gives linear_programming card (or_fault card verb_fault.NoSetup state.setup go_set_up) outcome → Gives linear_programming card (verb_move SolutionVerb card state) outcome
+  unfolding linear_programming verb_move
   solution_gives outcome g = g
 
-  gives_no_setup : state.setup ≡ None → Gives stage card (statement_move stage SolutionVerb card state) (stops (endings.VerbStop (record { fault = verb_fault.NoSetup; card = card })))
+  gives_no_setup : state.setup ≡ None → Gives linear_programming card (verb_move SolutionVerb card state) (stops (endings.VerbStop (record { fault = verb_fault.NoSetup; card = card })))
   gives_no_setup e = solution_gives (stops (endings.VerbStop (record { fault = verb_fault.NoSetup; card = card }))) (gives_fault card verb_fault.NoSetup state.setup go_set_up e)
 
-  gives_set_up : (present : Present) (outcome : Outcome) → state.setup ≡ Some present → Gives stage card (go_set_up present) outcome → Gives stage card (statement_move stage SolutionVerb card state) outcome
+  gives_set_up : (present : Present) (outcome : Outcome) → state.setup ≡ Some present → Gives linear_programming card (go_set_up present) outcome → Gives linear_programming card (verb_move SolutionVerb card state) outcome
   gives_set_up present outcome e given = solution_gives outcome (gives_found card verb_fault.NoSetup state.setup go_set_up present outcome e given)
 
 pub solution_no_setup : (card : ℕ) {P : Type 0} (written : P → Option (List ℕ)) (faults refusals : P → ℕ) (cards : List (List ℕ)) (machine : Machine) (print : P) → machine.setup ≡ None →
-    Executes stage SolutionVerb card written faults refusals print print cards machine machine (refused_act card (Fault verb_fault.NoSetup))
+    Executes linear_programming SolutionVerb card written faults refusals print print cards machine machine (refused_act card (Fault verb_fault.NoSetup))
 solution_no_setup card written faults refusals cards machine print none =
-    quietly stage SolutionVerb card written faults refusals cards machine print (λ position executed state s.
+    quietly linear_programming SolutionVerb card written faults refusals cards machine print (λ position executed state s.
     gives_no_setup card state (subst (λ (kept : Option Setup). ShowsSetup machine.file kept state.setup) none s.setup))
 
 module _ (card : ℕ) (cards : List (List ℕ)) (old : Machine) (setup : Setup) (is_setup : old.setup ≡ Some setup) (problem : Problem ℕ) (on_file : filed_under setup.name old.file ≡ Some problem) where
@@ -149,13 +151,13 @@ module _ (card : ℕ) (cards : List (List ℕ)) (old : Machine) (setup : Setup) 
     abbrev present : Present
     present = present_with problem setup.options p.opening p.steps
 
-    not_solved : old.mark ≡ None → Gives stage card (statement_move stage SolutionVerb card state) (stops (endings.VerbStop (record { fault = verb_fault.NotSolved; card = card })))
+    not_solved : old.mark ≡ None → Gives linear_programming card (verb_move SolutionVerb card state) (stops (endings.VerbStop (record { fault = verb_fault.NotSolved; card = card })))
     not_solved none =
         gives_set_up card state present (stops (endings.VerbStop (record { fault = verb_fault.NotSolved; card = card }))) p.is_shown
         (gives_fault card verb_fault.NotSolved state.mark (go_marked card state present) (s.mark ∙ none))
 
     module _ (new : Setup) (mark : Mark) (is_mark : old.mark ≡ Some mark) (ok : selected problem (choice_of old.cells setup.options) ≡ Ok setup.lp) (k : IsSameSetup setup new) where
-      marked_gives : (outcome : Outcome) → Gives stage card (go_shown card state present mark setup.lp) outcome → Gives stage card (statement_move stage SolutionVerb card state) outcome
+      marked_gives : (outcome : Outcome) → Gives linear_programming card (go_shown card state present mark setup.lp) outcome → Gives linear_programming card (verb_move SolutionVerb card state) outcome
       marked_gives outcome g =
           gives_set_up card state present outcome p.is_shown
           (gives_found card verb_fault.NotSolved state.mark (go_marked card state present) mark outcome (s.mark ∙ is_mark)
@@ -165,8 +167,8 @@ module _ (card : ℕ) (cards : List (List ℕ)) (old : Machine) (setup : Setup) 
       pub still_stands : Stands cards (record old { setup = Some new }) position executed state
       still_stands =
           let same : matrix_of problem ≡ setup.lp.matrix = same_matrix problem (choice_of old.cells setup.options) setup.lp ok in
-          let lie : LieIn setup.lp.matrix (ways new.engine) (p.initial ++ setup.basis ∷ []) =
-          lie_later setup.lp.matrix p.initial setup.basis (ways setup.engine) (ways new.engine) k.keeps (lie_up_to problem setup state.setup p setup.lp same) in
+          let lie : LieIn setup.lp.matrix new.engine.waypoints (p.initial ++ setup.basis ∷ []) =
+          lie_later setup.lp.matrix p.initial setup.basis setup.engine.waypoints new.engine.waypoints k.keeps (lie_up_to problem setup state.setup p setup.lp same) in
           record {
             is_position = s.is_position;
             is_executed = s.is_executed;
@@ -180,14 +182,14 @@ module _ (card : ℕ) (cards : List (List ℕ)) (old : Machine) (setup : Setup) 
               steps = p.steps;
               is_shown = p.is_shown ∙ ap (λ (o : SetupOptions). Some (present_with problem o p.opening p.steps)) (sym k.options);
               reached = p.reached ∙ sym k.basis;
-              lie = subst (λ (bs : List Basis). LieIn (matrix_of problem) (ways new.engine) bs) (sym p.ends) (subst (λ (a : Matrix). LieIn a (ways new.engine) (p.initial ++ setup.basis ∷ [])) (sym same) lie);
+              lie = subst (λ (bs : List Basis). LieIn (matrix_of problem) new.engine.waypoints bs) (sym p.ends) (subst (λ (a : Matrix). LieIn a new.engine.waypoints (p.initial ++ setup.basis ∷ [])) (sym same) lie);
             };
             mark = s.mark;
           }
 
       pub shown_comes : (gain : Gain) (finding : Finding) → Shows problem setup mark gain finding →
-          Comes stage SolutionVerb card cards position executed state (record old { setup = Some new }) gain (act_of old.cells card finding)
-      unfolding stage
+          Comes linear_programming SolutionVerb card cards position executed state (record old { setup = Some new }) gain (act_of old.cells card finding)
+      unfolding linear_programming
       shown_comes _ _ (shown {lines = lines} h) =
           (state, marked_gives (printed card state mark lines) (inl (lines, subst (λ (b : Basis). IsShown (record { problem = problem; lp = setup.lp }) b lines) (sym p.reached) h, refl)), still_stands)
       shown_comes _ _ (overflows {e = e} {place = place} h) =
@@ -201,20 +203,20 @@ module _ (card : ℕ) (cards : List (List ℕ)) (old : Machine) (setup : Setup) 
           ))
 
   module _ {P : Type 0} (written : P → Option (List ℕ)) (faults refusals : P → ℕ) where
-    pub solution_not_solved : (print : P) (any : Machine) → old.mark ≡ None → Executes stage SolutionVerb card written faults refusals print print cards old any (refused_act card (Fault verb_fault.NotSolved))
+    pub solution_not_solved : (print : P) (any : Machine) → old.mark ≡ None → Executes linear_programming SolutionVerb card written faults refusals print print cards old any (refused_act card (Fault verb_fault.NotSolved))
     solution_not_solved print any none =
-        quietly stage SolutionVerb card written faults refusals cards old print {new = any} (λ position executed state s. not_solved position executed state s none)
+        quietly linear_programming SolutionVerb card written faults refusals cards old print {new = any} (λ position executed state s. not_solved position executed state s none)
 
     module _ (print_old print_new : P) (new : Setup) (mark : Mark) (is_mark : old.mark ≡ Some mark) (ok : selected problem (choice_of old.cells setup.options) ≡ Ok setup.lp) (k : IsSameSetup setup new) where
       pub solution_found : (finding : Finding) (then : Act) → then ≡ act_of old.cells card finding → Tells (Shows problem setup mark) written faults refusals print_old print_new (Ok finding) →
-          Executes stage SolutionVerb card written faults refusals print_old print_new cards old (record old { setup = Some new }) (Ok then)
+          Executes linear_programming SolutionVerb card written faults refusals print_old print_new cards old (record old { setup = Some new }) (Ok then)
       solution_found finding then e t =
-          subst (λ (a : Act). Executes stage SolutionVerb card written faults refusals print_old print_new cards old (record old { setup = Some new }) (Ok a)) (sym e)
+          subst (λ (a : Act). Executes linear_programming SolutionVerb card written faults refusals print_old print_new cards old (record old { setup = Some new }) (Ok a)) (sym e)
           (told_executes SolutionVerb card written faults refusals cards old (Shows problem setup mark) (λ found. record old { setup = Some new }) (act_of old.cells card) (no_cards_by problem setup mark)
           (λ gain found h position executed state s. shown_comes position executed state s new mark is_mark ok k gain found h) print_old print_new finding t)
 
       pub solution_cut : (any : Machine) (h : Halt) → Tells (Shows problem setup mark) written faults refusals print_old print_new (Err h) →
-          Executes stage SolutionVerb card written faults refusals print_old print_new cards old any (Err h)
+          Executes linear_programming SolutionVerb card written faults refusals print_old print_new cards old any (Err h)
       solution_cut any h t =
           cut_executes SolutionVerb card written faults refusals cards old (Shows problem setup mark) (λ found. record old { setup = Some new }) (act_of old.cells card) (no_cards_by problem setup mark)
           (λ gain found h position executed state s. shown_comes position executed state s new mark is_mark ok k gain found h) print_old print_new any h t

@@ -4,14 +4,14 @@ use Rattle.control_definitions.specs.Program.{Statement, Program}
 use Rattle.question_definitions.specs.Solving.{Solving}
 use Rattle.run_definitions.specs.State.{State}
 use Rattle.run_definitions.specs.Moves.{Gain, Punches, Outcome, Goes as GoesOn, Gives}
-use Rattle.run_definitions.specs.Verbs.{statement_move}
+use Rattle.run_definitions.specs.Verbs.{verb_move}
 use Rattle.run_definitions.specs.Run.{counted, Step}
 use Rattle.control_run.specs.declared.act.Act.{Act}
 use Rattle.control_run.specs.declared.act.Act.TheVariants as act
 use Rattle.control_run.specs.declared.act.Halt.{Halt}
 use Rattle.control_run.specs.declared.act.Halt.TheVariants as halt
 use Rattle.control_run.specs.declared.act.Turn.{Turn}
-use Rattle.control_run.specs.declared.machine.Machine.{Machine}
+use Rattle.control_run.specs.Machines.{Machine}
 use Rattle.control_run.specs.Standing.{Stands}
 use Rattle.control_run.specs.Statements.{Comes}
 use Rattle.control_run.specs.Punching.{Performs}
@@ -44,7 +44,7 @@ placed_stands to by s e = record {
 
 module _ (S : Solving) (program : Program) (cards : List (List ℕ)) (position : ℕ) (statement : Statement ℕ) (there : slice_get program.statements (position - 1) ≡ Some statement) where
   step_of : {machine : Machine} {executed : ℕ} {state : State} → Stands cards machine position executed state → executed < 100000 → (outcome : Outcome) →
-      Gives S statement.card (statement_move S statement.verb statement.card (counted state)) outcome → Step S program state outcome
+      Gives S statement.card (verb_move statement.verb statement.card (counted state)) outcome → Step S program state outcome
   step_of {state = state} s within outcome gives = record {
     statement = statement;
     is_at_position = subst (λ (n : ℕ). slice_get program.statements (n - 1) ≡ Some statement) (sym s.is_position) there;

@@ -10,7 +10,7 @@ use Rattle.control_definitions.specs.Program.{Verb}
 use Rattle.question_definitions.specs.Answers.{Basis}
 use Rattle.run_definitions.specs.State.{State}
 use Rattle.run_definitions.specs.Moves.{Gain, Nothing, punched_by, Outcome, Ends as EndsRun, next, jump, Move, Gives}
-use Rattle.run_definitions.specs.Verbs.{statement_move}
+use Rattle.run_definitions.specs.Verbs.{verb_move}
 use Rattle.control_run.specs.declared.act.Act.{Act}
 use Rattle.control_run.specs.declared.act.Act.TheVariants as act
 use Rattle.control_run.specs.declared.act.Halt.{Halt}
@@ -18,9 +18,9 @@ use Rattle.control_run.specs.declared.act.Halt.TheVariants as halt
 use Rattle.control_run.specs.declared.end.Place.{Place as OwnPlace}
 use Rattle.control_run.specs.declared.finding.Finding.{Finding}
 use Rattle.control_run.specs.declared.finding.Finding.TheVariants.{Overflow}
-use Rattle.control_run.specs.declared.machine.Machine.{Machine}
+use Rattle.control_run.specs.Machines.{Machine}
 use Rattle.control_run.specs.Ends.{end_shown, place_shown}
-use Rattle.control_run.specs.Stage.{stage}
+use Rattle.answer_definitions.specs.Real.{linear_programming}
 use Rattle.control_run.specs.Standing.{Stands}
 use Rattle.control_run.specs.Statements.{Comes, Executes, Follows, gain_of, gain_text}
 use Rattle.control_run.specs.Findings.{IsOverflowAt, told, no_memory, Tells}
@@ -53,8 +53,8 @@ module _ {P : Type 0} (written : P → Option (List ℕ)) (faults refusals : P �
   overflow_tells F print s after e _ no_memory holds = refl
 
 -- the outcome of a statement that comes to an act
-outcome_by : (card : ℕ) (move : Move) (cards : List (List ℕ)) (new : Machine) (position executed : ℕ) (gain : Gain) (then : Act) → Follows stage card move cards new position executed gain then →
-    (outcome : Outcome) × Gives stage card move outcome × (gain_of outcome ≡ gain)
+outcome_by : (card : ℕ) (move : Move) (cards : List (List ℕ)) (new : Machine) (position executed : ℕ) (gain : Gain) (then : Act) → Follows linear_programming card move cards new position executed gain then →
+    (outcome : Outcome) × Gives linear_programming card move outcome × (gain_of outcome ≡ gain)
 outcome_by card move cards new position executed gain act.Next f = (next gain f.0, f.1, refl)
 outcome_by card move cards new position executed gain (act.Jump to) f = (jump gain to f.0, f.1, refl)
 outcome_by card move cards new position executed gain (act.Ends end) f = (EndsRun gain (end_shown end), f, refl)
@@ -63,9 +63,9 @@ outcome_by card move cards new position executed gain (act.Ends end) f = (EndsRu
 module _ (verb : Verb ℕ) (card : ℕ) {P : Type 0} (written : P → Option (List ℕ)) (faults refusals : P → ℕ) (cards : List (List ℕ)) (old : Machine) (F : Gain → Finding → Type 0)
     (new : Finding → Machine) (then : Finding → Act) (no_cards : (gain : Gain) (finding : Finding) → F gain finding → punched_by gain ≡ [])
     (comes : (gain : Gain) (finding : Finding) → F gain finding → (position executed : ℕ) (state : State) → Stands cards old position executed state →
-    Comes stage verb card cards position executed state (new finding) gain (then finding)) where
+    Comes linear_programming verb card cards position executed state (new finding) gain (then finding)) where
   pub told_executes : (print_old print_new : P) (finding : Finding) → Tells F written faults refusals print_old print_new (Ok finding) →
-      Executes stage verb card written faults refusals print_old print_new cards old (new finding) (Ok (then finding))
+      Executes linear_programming verb card written faults refusals print_old print_new cards old (new finding) (Ok (then finding))
   told_executes print_old print_new finding t = λ position executed state s. record {
     gain = t.gain;
     no_cards = no_cards t.gain finding t.holds;
@@ -74,9 +74,9 @@ module _ (verb : Verb ℕ) (card : ℕ) {P : Type 0} (written : P → Option (Li
   }
 
   pub cut_executes : (print_old print_new : P) (any : Machine) (h : Halt) → Tells F written faults refusals print_old print_new (Err h) →
-      Executes stage verb card written faults refusals print_old print_new cards old any (Err h)
+      Executes linear_programming verb card written faults refusals print_old print_new cards old any (Err h)
   cut_executes print_old print_new any (halt.Print stop) t = λ position executed state s.
-      let o = outcome_by card (statement_move stage verb card state) cards (new t.finding) position executed t.gain (then t.finding) (comes t.gain t.finding t.holds position executed state s) in
+      let o = outcome_by card (verb_move verb card state) cards (new t.finding) position executed t.gain (then t.finding) (comes t.gain t.finding t.holds position executed state s) in
       record {
         outcome = o.0;
         no_cards = subst (λ (g : Gain). punched_by g ≡ []) (sym o.2) (no_cards t.gain t.finding t.holds);

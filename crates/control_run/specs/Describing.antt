@@ -10,7 +10,7 @@ use Rattle.listing_definitions.specs.Report as reports
 use Rattle.question_definitions.specs.Solving.{Solving}
 use Rattle.run_definitions.specs.State.{State}
 use Rattle.run_definitions.specs.Moves.{Nothing, Prints, next, Gives}
-use Rattle.run_definitions.specs.Verbs.{size_of, statement_move}
+use Rattle.run_definitions.specs.Verbs.{size_of, verb_move}
 use Rattle.control_run.specs.declared.act.Act.TheVariants as act
 use Rattle.control_run.specs.declared.act.Halt.{Halt}
 use Rattle.control_run.specs.declared.act.Halt.TheVariants as halt
@@ -19,7 +19,7 @@ use Rattle.control_run.specs.declared.taking.DeckVerb.TheVariants.{Convert, Revi
 use Rattle.control_run.specs.declared.taking.Described.{Described}
 use Rattle.control_run.specs.declared.taking.Described.TheVariants.{Filed, Ends}
 use Rattle.control_run.specs.declared.end.End.TheVariants as ends
-use Rattle.control_run.specs.declared.machine.Machine.{Machine}
+use Rattle.control_run.specs.Machines.{Machine}
 use Rattle.control_run.specs.Standing.{Stands}
 use Rattle.control_run.specs.Statements.{Comes}
 
@@ -45,7 +45,7 @@ with_problem problem decks state = record state { file = problem ∷ state.file;
 -- next card on.
 pub record IsDescribed (S : Solving) (verb : DeckVerb) (card : ℕ) (cards : List (List ℕ)) (machine : Machine) (problem : Problem ℕ) (from_card : ℕ) : Type 0 where
   pub files : (position executed : ℕ) (state : State) → Stands cards machine position executed state →
-      Gives S card (statement_move S (verb_of verb) card state) (next (Prints (report_of verb (size_of problem))) (with_problem problem (decks_from from_card cards) state))
+      Gives S card (verb_move (verb_of verb) card state) (next (Prints (report_of verb (size_of problem))) (with_problem problem (decks_from from_card cards) state))
   pub first : 1 ≤ from_card
   pub last : from_card ≤ length cards + 1
 

@@ -4,7 +4,7 @@ use Rattle.listing_definitions.specs.Ending.{Ending, Ended, VerbStop, LimitStop,
 use Rattle.listing_definitions.specs.Ending as endings
 use Rattle.run_definitions.specs.Verbs.{deck_stop}
 use Rattle.control_run.specs.declared.end.End.{End}
-use Rattle.control_run.specs.declared.end.End.TheVariants.{Done, Infeasible, Unbounded, Verb, Deck, Limit, Statements, Overflow, Memory, NotBuilt}
+use Rattle.control_run.specs.declared.end.End.TheVariants.{Done, Infeasible, Unbounded, Verb, Deck, Limit, Statements, Overflow, Memory}
 use Rattle.control_run.specs.declared.end.Place.{Place}
 use Rattle.control_run.specs.declared.status.Status.{Status}
 use Rattle.control_run.specs.declared.status.Status.TheVariants as status
@@ -24,7 +24,6 @@ end_shown Statements = StatementLimit
 end_shown (Overflow evidence place card) =
     OverflowStop (record { evidence = evidence; place = option_map place_shown place; card = card })
 end_shown Memory = endings.Memory
-end_shown NotBuilt = endings.NotBuilt
 
 -- the exit code of a status
 abbrev pub code_of : Status → ℕ
@@ -43,7 +42,6 @@ code_of status.ReadFault = 24
 code_of status.PrintFault = 25
 code_of status.PunchFault = 26
 code_of status.Memory = 28
-code_of status.NotBuilt = 30
 
 -- Words, control cards and the cards of a job are refused before its program runs, and the job is read before.
 abbrev pub IsStatusOfRun : Status → Type 0

@@ -1,4 +1,4 @@
--- What PRIMAL, SOLUTION and RANGE find, and what follows.
+-- What the verbs that ask of linear programming find, and what follows.
 --     PathFinds gain finding       the path from a basis ends so, or is stopped so
 --     Finds gain finding           PRIMAL finds this with a setup, and has this to print
 --     LinesFound gain finding      the lines of a basis are made, or their making is stopped so
@@ -44,14 +44,13 @@ use Rattle.control_run.specs.declared.end.End.{End}
 use Rattle.control_run.specs.declared.end.End.TheVariants as end
 use Rattle.control_run.specs.declared.end.Place.{Place as OwnPlace}
 use Rattle.control_run.specs.declared.finding.Finding.{Finding}
-use Rattle.control_run.specs.declared.finding.Finding.TheVariants.{Refused, Overflow, Limit, Ended, Shown}
-use Rattle.control_run.specs.declared.machine.Setup.{Setup}
+use Rattle.control_run.specs.declared.finding.Finding.TheVariants.{Refused, Overflow, Limit, Ended, Shown, Swept}
+use Rattle.control_run.specs.Kept.{Setup}
 use Rattle.control_run.specs.declared.selecting.Refusal.{Refusal}
 use Rattle.control_run.specs.declared.selecting.Refusal.TheVariants.{Fault, NoMemory}
 use Rattle.control_run.specs.declared.selecting.Refusal.TheVariants as refusals
 use Rattle.control_run.specs.Choosing.{HasSelectionFault, HasRangeOverflow}
 use Rattle.control_run.specs.Ends.{place_shown}
-use Rattle.control_run.specs.Engine.{ways}
 use Rattle.control_run.specs.Statements.{gain_text}
 
 -- ---- what stops a call
@@ -101,7 +100,7 @@ pub data Finds (problem : Problem ℕ) (cells : Cells) (setup new : Setup) : Gai
       selected problem (choice_of cells setup.options) ≡ Ok lp →
       new.name ≡ setup.name → new.options ≡ setup.options →
       PathFinds (record { problem = problem; lp = lp }) setup.basis new.basis cells.xiterlim
-      (ways setup.engine) (ways new.engine) gain finding →
+      setup.engine.waypoints new.engine.waypoints gain finding →
       Finds problem cells setup new gain finding
 
 -- a refusal is found, or there is no memory
@@ -129,7 +128,7 @@ module _ (sheet : Sheet) (s : Basis) (before : List Basics) where
 -- those of a setup's present basis, in the linear program that it keeps
 abbrev pub Shows : Problem ℕ → Setup → Mark → Gain → Finding → Type 0
 Shows problem setup mark = LinesFound (record { problem = problem; lp = setup.lp }) setup.basis
-    (ways setup.engine) mark
+    setup.engine.waypoints mark
 
 -- ---- the intervals of a basis
 
@@ -148,7 +147,7 @@ module _ (sheet : Sheet) (s : Basis) (before : List Basics) where
 
 -- those of a setup's present basis, in the linear program that it keeps
 abbrev pub ShowsRanges : Problem ℕ → Setup → Gain → Finding → Type 0
-ShowsRanges problem setup = RangesFound (record { problem = problem; lp = setup.lp }) setup.basis (ways setup.engine)
+ShowsRanges problem setup = RangesFound (record { problem = problem; lp = setup.lp }) setup.basis setup.engine.waypoints
 
 -- it needs a mark, and no other than OPTIMAL
 abbrev pub range_fault : Option Mark → Option VerbFault
@@ -187,8 +186,8 @@ abbrev pub demanded_act : Option ℕ → End → Act
 demanded_act (Some position) end = Jump position
 demanded_act None end = Ends end
 
--- an optimal verdict and the lines of a basis go on with the next statement; any other verdict goes by its demand, and what is neither
--- ends the run
+-- an optimal verdict, the lines of a basis and the intervals of a run go on with the next statement; any other verdict goes by its
+-- demand, and what is none of these ends the run
 abbrev pub act_of : Cells → ℕ → Finding → Act
 act_of cells card (Refused fault) = Ends (end.Verb fault card)
 act_of cells card (Overflow e place) = Ends (end.Overflow e place card)
@@ -197,6 +196,7 @@ act_of cells card (Ended Optimal) = Next
 act_of cells card (Ended Infeasible) = demanded_act cells.xdonfs end.Infeasible
 act_of cells card (Ended Unbounded) = demanded_act cells.xdounb end.Unbounded
 act_of cells card Shown = Next
+act_of cells card (Swept value) = Next
 
 -- a verdict leaves its mark, and what ends the run leaves none
 abbrev pub mark_left : Finding → Option Mark

@@ -1,5 +1,5 @@
-pub mod Stage
-pub mod Engine
+pub mod Kept
+pub mod Machines
 pub mod Ends
 pub mod Standing
 pub mod Statements
@@ -10,3 +10,4 @@ pub mod Choosing
 pub mod Findings
 pub mod Finishing
 pub mod Running
+pub mod Sweeping

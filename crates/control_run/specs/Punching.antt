@@ -9,11 +9,11 @@ use Rattle.listing_definitions.specs.Report.{Report}
 use Rattle.question_definitions.specs.Solving.{Solving}
 use Rattle.run_definitions.specs.State.{State}
 use Rattle.run_definitions.specs.Moves.{Gain, Punches, punched_by, Outcome, Goes, Gives}
-use Rattle.run_definitions.specs.Verbs.{statement_move}
+use Rattle.run_definitions.specs.Verbs.{verb_move}
 use Rattle.control_run.specs.declared.act.Act.{Act}
 use Rattle.control_run.specs.declared.act.Halt.{Halt}
 use Rattle.control_run.specs.declared.act.Halt.TheVariants as halt
-use Rattle.control_run.specs.declared.machine.Machine.{Machine}
+use Rattle.control_run.specs.Machines.{Machine}
 use Rattle.control_run.specs.Standing.{Stands}
 use Rattle.control_run.specs.Statements.{gain_text, gain_of, Comes}
 
@@ -33,7 +33,7 @@ module _ (S : Solving) (verb : Verb ℕ) (card : ℕ) {P U : Type 0} (written : 
   -- the statement comes to something, and the print stops before all that it gains is printed; what it punches is punched before
   pub record IsPrintCut (state : State) (stop : WriteStop) : Type 0 where
     pub outcome : Outcome
-    pub gives : Gives S card (statement_move S verb card state) outcome
+    pub gives : Gives S card (verb_move verb card state) outcome
     pub prints : Writes {T = Unit {0}} written faults refusals print_old print_new (Err stop) (gain_text (gain_of outcome))
     pub punches : Writes {T = Unit {0}} punch_written punch_faults punch_refusals punch_old punch_new (Ok tt) (gain_cards (gain_of outcome))
 
@@ -42,7 +42,7 @@ module _ (S : Solving) (verb : Verb ℕ) (card : ℕ) {P U : Type 0} (written : 
     pub report : Report
     pub deck : List (List ℕ)
     pub after : State
-    pub gives : Gives S card (statement_move S verb card state) (Goes (Punches report deck) after)
+    pub gives : Gives S card (verb_move verb card state) (Goes (Punches report deck) after)
     pub punches : Writes {T = Unit {0}} punch_written punch_faults punch_refusals punch_old punch_new (Err stop) (card_text deck)
     pub is_quiet : print_new ≡ print_old
 

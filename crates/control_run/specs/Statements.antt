@@ -11,12 +11,12 @@ use Rattle.listing_definitions.specs.Text.{report_text}
 use Rattle.question_definitions.specs.Solving.{Solving}
 use Rattle.run_definitions.specs.State.{State}
 use Rattle.run_definitions.specs.Moves.{Gain, Nothing, Prints, Punches, punched_by, Outcome, Goes, Ends, next, jump, Move, Gives}
-use Rattle.run_definitions.specs.Verbs.{statement_move}
+use Rattle.run_definitions.specs.Verbs.{verb_move}
 use Rattle.control_run.specs.declared.act.Act.{Act}
 use Rattle.control_run.specs.declared.act.Act.TheVariants as act
 use Rattle.control_run.specs.declared.act.Halt.{Halt}
 use Rattle.control_run.specs.declared.act.Halt.TheVariants as halt
-use Rattle.control_run.specs.declared.machine.Machine.{Machine}
+use Rattle.control_run.specs.Machines.{Machine}
 use Rattle.control_run.specs.Ends.{end_shown}
 use Rattle.control_run.specs.Standing.{Stands}
 
@@ -45,7 +45,7 @@ Follows S card move cards new position executed gain (act.Ends end) = Gives S ca
 
 module _ (S : Solving) (verb : Verb ℕ) (card : ℕ) where
   abbrev pub Comes : List (List ℕ) → ℕ → ℕ → State → Machine → Gain → Act → Type 0
-  Comes cards position executed state new gain act = Follows S card (statement_move S verb card state) cards new position executed gain act
+  Comes cards position executed state new gain act = Follows S card (verb_move verb card state) cards new position executed gain act
 
   -- from each state that the machine showed, the statement comes to this act, and prints nothing
   abbrev pub Decides : Machine → Machine → Act → Type 0
@@ -64,7 +64,7 @@ module _ (S : Solving) (verb : Verb ℕ) (card : ℕ) where
     pub record IsCutOff (state : State) (stop : WriteStop) : Type 0 where
       pub outcome : Outcome
       pub no_cards : punched_by (gain_of outcome) ≡ []
-      pub gives : Gives S card (statement_move S verb card state) outcome
+      pub gives : Gives S card (verb_move verb card state) outcome
       pub writes : Writes {T = Unit {0}} written faults refusals print_old print_new (Err stop) (gain_text (gain_of outcome))
 
     -- What a statement that punches nothing does from each state that the machine showed. Where it finds no memory, nothing is

@@ -1,19 +1,20 @@
 // BCDOUT.
 ghost use Rattle.std.specs.Prelude.{◌≡◌, ℕ, List};
 ghost use Rattle.control_definitions.specs.Program as program;
-ghost use Rattle.control_run.specs.Stage.{stage};
+ghost use Rattle.answer_definitions.specs.Real.{linear_programming};
 ghost use Rattle.control_run.specs.Punching.{Performs};
 
 use crate::act::{Act, Halt};
 use crate::end::End;
-use crate::machine::Machine;
+use crate::machine::{Machine, Setup};
 use bcd_out::deck_of;
 use control_definitions::NameCell;
 use job_devices::Sink;
 use listing_definitions::VerbFault;
+use lp_model::Engine;
 use report_text::{Report, text_of};
 
-impl Machine {
+impl<E: Engine> Machine<Setup<E>> {
     /// BCDOUT: punches the deck of the problem that XPBNAME names, or else of the one filed last, and prints the number of its
     /// cards.
     pub fn punch_problem<P: Sink, U: Sink>(
@@ -23,8 +24,9 @@ impl Machine {
         card: u32,
     ) -> Result<Act, Halt>
         ensures { (cards : List (List ℕ)) →
-            Performs stage program.Bcdout card P.written P.faults P.refusals print.old print.new
-            U.written U.faults U.refusals punch.old punch.new cards self.now self.now result }
+            Performs linear_programming program.Bcdout card P.written P.faults P.refusals print.old
+            print.new U.written U.faults U.refusals punch.old punch.new cards self.now self.now
+            result }
     {
         let Some(problem) = self.problem_in(NameCell::Xpbname) else {
             return Ok(Act::Ends(End::Verb {

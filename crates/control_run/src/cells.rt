@@ -2,16 +2,17 @@
 ghost use Rattle.std.specs.Prelude.{◌≡◌, ◌≤◌, ℕ, List, IfSome};
 ghost use Rattle.control_definitions.specs.Program as program;
 ghost use Rattle.run_definitions.specs.Verbs.{mark_after};
-ghost use Rattle.control_run.specs.Stage.{stage};
+ghost use Rattle.answer_definitions.specs.Real.{linear_programming};
 ghost use Rattle.control_run.specs.Standing.{IsSound};
 ghost use Rattle.control_run.specs.Statements.{Decides};
 
 use crate::act::Act;
 use crate::end::End;
-use crate::machine::Machine;
+use crate::machine::{Machine, Setup};
 use control_definitions::{Demand, NameCell, NumberCell};
 use frac128::Frac;
 use listing_definitions::Mark;
+use lp_model::Engine;
 use name_table::Name;
 use run_cells::Cells;
 
@@ -29,10 +30,11 @@ fn mark_after(cell: NameCell, mark: Option<Mark>) -> Option<Mark>
     }
 }
 
-impl Machine {
+impl<E: Engine> Machine<Setup<E>> {
     /// INITIALZ: the cells and demands become what they were at the start of the run, and the mark is cleared.
     pub fn initialize(&mut self) -> Act
-        ensures acts { (card : ℕ) → Decides stage program.Initialz card self.old self.new result }
+        ensures acts { (card : ℕ) → Decides linear_programming program.Initialz card self.old
+            self.new result }
         ensures sound { (cards : List (List ℕ)) → IsSound cards self.old → IsSound cards self.new }
     {
         self.cells = Cells::new();
@@ -42,8 +44,8 @@ impl Machine {
 
     /// MOVE of a name. Another objective or right-hand side clears the mark.
     pub fn move_name(&mut self, cell: NameCell, name: Name) -> Act
-        ensures acts { (card : ℕ) → Decides stage (program.MoveName cell name) card self.old
-            self.new result }
+        ensures acts { (card : ℕ) → Decides linear_programming (program.MoveName cell name) card
+            self.old self.new result }
         ensures sound { (cards : List (List ℕ)) → IsSound cards self.old → IsSound cards self.new }
     {
         self.cells.move_name(cell, name);
@@ -53,8 +55,8 @@ impl Machine {
 
     /// MOVE of a number.
     pub fn move_number(&mut self, cell: NumberCell, value: Frac) -> Act
-        ensures acts { (card : ℕ) → Decides stage (program.MoveNumber cell value) card self.old
-            self.new result }
+        ensures acts { (card : ℕ) → Decides linear_programming (program.MoveNumber cell value) card
+            self.old self.new result }
         ensures sound { (cards : List (List ℕ)) → IsSound cards self.old → IsSound cards self.new }
     {
         self.cells.move_number(cell, value);
@@ -64,8 +66,8 @@ impl Machine {
     /// MOVE of the number of steps that a verb may take, or of no limit on them.
     pub fn move_limit(&mut self, limit: Option<u32>) -> Act
         requires { IfSome limit (λ steps. steps ≤ 1000000) }
-        ensures acts { (card : ℕ) → Decides stage (program.MoveLimit limit) card self.old
-            self.new result }
+        ensures acts { (card : ℕ) → Decides linear_programming (program.MoveLimit limit) card
+            self.old self.new result }
         ensures sound { (cards : List (List ℕ)) → IsSound cards self.old → IsSound cards self.new }
     {
         self.cells.move_limit(limit);
@@ -75,8 +77,8 @@ impl Machine {
     /// MVADR: sets a demand to a position.
     pub fn set_demand(&mut self, demand: Demand, position: u32) -> Act
         requires { 1 ≤ position }
-        ensures acts { (card : ℕ) → Decides stage (program.Mvadr demand position) card self.old
-            self.new result }
+        ensures acts { (card : ℕ) → Decides linear_programming (program.Mvadr demand position) card
+            self.old self.new result }
         ensures sound { (cards : List (List ℕ)) → IsSound cards self.old → IsSound cards self.new }
     {
         self.cells.set_demand(demand, position);
@@ -86,14 +88,16 @@ impl Machine {
     /// GOTO: the statement at a position follows.
     pub fn jump(&self, position: u32) -> Act
         requires { 1 ≤ position }
-        ensures { (card : ℕ) → Decides stage (program.Goto position) card self.now self.now result }
+        ensures { (card : ℕ) → Decides linear_programming (program.Goto position) card self.now
+            self.now result }
     {
         Act::Jump(position)
     }
 
     /// EXIT: the run ends.
     pub fn exit(&self) -> Act
-        ensures { (card : ℕ) → Decides stage program.Exit card self.now self.now result }
+        ensures { (card : ℕ) → Decides linear_programming program.Exit card self.now self.now
+            result }
     {
         Act::Ends(End::Done)
     }

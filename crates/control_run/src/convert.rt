@@ -1,7 +1,7 @@
 // CONVERT.
 ghost use Rattle.std.specs.Prelude.{◌≡◌, ◌≤◌, length};
 ghost use Rattle.control_definitions.specs.Program as program;
-ghost use Rattle.control_run.specs.Stage.{stage};
+ghost use Rattle.answer_definitions.specs.Real.{linear_programming};
 ghost use Rattle.control_run.specs.Standing.{IsSound};
 ghost use Rattle.control_run.specs.Statements.{Executes};
 ghost use Rattle.control_run.specs.Describing.{Describes};
@@ -9,21 +9,22 @@ ghost use Rattle.control_run.specs.declared.taking.DeckVerb.TheVariants as deck_
 
 use crate::act::{Act, Halt};
 use crate::end::End;
-use crate::machine::Machine;
+use crate::machine::{Machine, Setup};
 use crate::taking::{DeckVerb, Described, described_as, next_card};
 use card_reader::Cards;
 use control_definitions::NameCell;
 use job_decks::take_deck;
 use job_devices::Sink;
 use listing_definitions::VerbFault;
+use lp_model::Engine;
 use mps_convert::convert;
 use std::alloc::Global;
 
-impl Machine {
+impl<E: Engine> Machine<Setup<E>> {
     // Takes a deck, and converts it.
     fn described(&self, alloc: Global, cards: &Cards, card: u32) -> Result<Described, Halt>
         requires { IsSound cards.now self.now }
-        ensures { Describes stage deck_verb.Convert card cards.now self.now result }
+        ensures { Describes linear_programming deck_verb.Convert card cards.now self.now result }
     {
         let wanted = self.cells.name(NameCell::Xdata);
         let Some(deck) = take_deck(cards, self.decks_from, wanted) else {
@@ -47,8 +48,8 @@ impl Machine {
         card: u32,
     ) -> Result<Act, Halt>
         requires { IsSound cards.now self.old }
-        ensures acts { Executes stage program.Convert card P.written P.faults P.refusals print.old
-            print.new cards.now self.old self.new result }
+        ensures acts { Executes linear_programming program.Convert card P.written P.faults
+            P.refusals print.old print.new cards.now self.old self.new result }
         ensures sound { IsSound cards.now self.new }
     {
         let described = self.described(alloc, cards, card)?;

@@ -42,6 +42,4 @@ pub enum End {
     },
     /// There is no memory.
     Memory,
-    /// The run meets what isn't built yet.
-    NotBuilt,
 }

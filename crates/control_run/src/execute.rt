@@ -2,15 +2,15 @@
 ghost use Rattle.std.specs.Prelude.{◌≡◌, ◌≤◌, length};
 ghost use Rattle.control_verbs.specs.Shown.{shown};
 ghost use Rattle.control_compiler.specs.Valid.{IsProgram};
-ghost use Rattle.control_run.specs.Stage.{stage};
+ghost use Rattle.answer_definitions.specs.Real.{linear_programming};
 ghost use Rattle.control_run.specs.Standing.{IsSound};
 ghost use Rattle.control_run.specs.Statements.{IsSoundVerb};
 ghost use Rattle.control_run.specs.Punching.{Performs};
 ghost use Rattle.control_run.specs.Running.{Steps};
 
 use crate::act::{Act, Halt, Turn};
-use crate::end::End;
-use crate::machine::Machine;
+use crate::machine::{Machine, Setup};
+use crate::parametric::{sweep_objective, sweep_rhs};
 use crate::primal::solve;
 use crate::ranges::show_ranges;
 use crate::setup::set_up;
@@ -19,12 +19,13 @@ use crate::title::print_title;
 use card_reader::Cards;
 use control_compiler::{Program, Verb};
 use job_devices::Sink;
+use lp_model::Engine;
 use std::alloc::Global;
 
 /// Does what the statement of a verb on a card says.
-fn execute<P: Sink, U: Sink>(
+fn execute<E: Engine, P: Sink, U: Sink>(
     alloc: Global,
-    machine: &mut Machine,
+    machine: &mut Machine<Setup<E>>,
     cards: &Cards,
     print: &mut P,
     punch: &mut U,
@@ -33,7 +34,7 @@ fn execute<P: Sink, U: Sink>(
 ) -> Result<Act, Halt>
     requires sound { IsSound cards.now machine.old }
     requires verb { IsSoundVerb (shown verb.now) }
-    ensures acts { Performs stage (shown verb.now) card
+    ensures acts { Performs linear_programming (shown verb.now) card
         P.written P.faults P.refusals print.old print.new U.written U.faults U.refusals
         punch.old punch.new
         cards.now machine.old machine.new result }
@@ -53,17 +54,17 @@ fn execute<P: Sink, U: Sink>(
         Verb::Solution => show_solution(alloc, machine, print, card),
         Verb::Revise => machine.revise(alloc, cards, print, card),
         Verb::Ranging => show_ranges(alloc, machine, print, card),
-        Verb::Paraobj => Ok(Act::Ends(End::NotBuilt)),
-        Verb::Pararhs => Ok(Act::Ends(End::NotBuilt)),
+        Verb::Paraobj => sweep_objective(alloc, machine, print, card),
+        Verb::Pararhs => sweep_rhs(alloc, machine, print, card),
         Verb::Bcdout => machine.punch_problem(print, punch, card),
         Verb::Exit => Ok(machine.exit()),
     }
 }
 
 /// Executes the statement at a position.
-pub fn step<P: Sink, U: Sink>(
+pub fn step<E: Engine, P: Sink, U: Sink>(
     alloc: Global,
-    machine: &mut Machine,
+    machine: &mut Machine<Setup<E>>,
     program: &Program,
     cards: &Cards,
     print: &mut P,
@@ -74,7 +75,7 @@ pub fn step<P: Sink, U: Sink>(
     requires first { 1 ≤ position }
     requires within { position ≤ length program.now.statements }
     requires sound { IsSound cards.now machine.old }
-    ensures steps { Steps stage program.now cards.now
+    ensures steps { Steps linear_programming program.now cards.now
         P.written P.faults P.refusals print.old print.new U.written U.faults U.refusals
         punch.old punch.new
         position machine.old machine.new result }

@@ -1,21 +1,23 @@
-// What PRIMAL, SOLUTION and RANGE find, and what follows.
+// What the verbs that ask of linear programming find, and what follows.
 ghost use Rattle.std.specs.Prelude.{◌≡◌, ◌≤◌, length, IfOk};
 ghost use Rattle.lp_definitions.specs.Basis.{basics_of};
 ghost use Rattle.lp_definitions.specs.Waypoints.{waypoint};
 ghost use Rattle.basis_values.specs.Calls.{HasRates};
 ghost use Rattle.control_run.specs.Ends.{place_shown};
-ghost use Rattle.control_run.specs.Findings.{IsOverflowAt, demanded_act, act_of, mark_left};
+ghost use Rattle.control_run.specs.Findings.{IsOverflowAt, refused_finding, demanded_act, act_of, mark_left};
 
 use crate::act::{Act, Halt};
 use crate::end::{End, Place};
+use crate::selecting::Refusal;
 use control_definitions::Demand;
+use frac128::Frac;
 use listing_definitions::{Mark, VerbFault};
 use lp_definitions::Evidence;
 use lp_model::{Basis, Lp, NoMemory, Rates};
 use run_cells::Cells;
 use std::alloc::Global;
 
-/// What PRIMAL, SOLUTION and RANGE find.
+/// What the verbs that ask of linear programming find.
 #[derive(Drop)]
 pub enum Finding {
     /// The statement is refused.
@@ -31,6 +33,8 @@ pub enum Finding {
     Ended(Mark),
     /// The lines of the basis are printed.
     Shown,
+    /// The parametric run has gone on to this value.
+    Swept(Frac),
 }
 
 // The place of an evidence at a basis, with the set that has this number among the waypoints.
@@ -57,6 +61,20 @@ fn place_at<R: Rates>(
         basis: basis.copy(alloc)?,
         way: marks,
     })
+}
+
+/// What a refusal comes to.
+pub fn refused(refusal: Refusal) -> Result<Finding, Halt>
+    ensures { result ≡ refused_finding refusal }
+{
+    match refusal {
+        Refusal::Fault(fault) => Ok(Finding::Refused(fault)),
+        Refusal::Overflow(evidence) => Ok(Finding::Overflow {
+            evidence,
+            place: None,
+        }),
+        Refusal::NoMemory => Err(Halt::NoMemory),
+    }
 }
 
 /// An operation is refused at a basis.
@@ -105,7 +123,7 @@ pub fn act_of(cells: &Cells, card: u32, finding: Finding) -> Act
             limit: cells.steps_allowed(),
             card,
         }),
-        Finding::Ended(Mark::Optimal) | Finding::Shown => Act::Next,
+        Finding::Ended(Mark::Optimal) | Finding::Shown | Finding::Swept(_) => Act::Next,
         Finding::Ended(Mark::Infeasible) => {
             demanded(cells.demand(Demand::Xdonfs), End::Infeasible)
         }
@@ -119,6 +137,10 @@ pub fn mark_left(finding: &Finding) -> Option<Mark>
 {
     match finding {
         Finding::Ended(left) => Some(*left),
-        Finding::Refused(_) | Finding::Overflow { .. } | Finding::Limit | Finding::Shown => None,
+        Finding::Refused(_)
+        | Finding::Overflow { .. }
+        | Finding::Limit
+        | Finding::Shown
+        | Finding::Swept(_) => None,
     }
 }

@@ -149,7 +149,6 @@ fn ending_of(end: &End) -> Ending<'_>
             card,
         } => overflow_of(evidence, place, *card),
         End::Memory => Ending::Memory,
-        End::NotBuilt => Ending::NotBuilt,
     }
 }
 
@@ -168,7 +167,6 @@ fn status_of(end: &End) -> Status
         End::Statements => Status::Statements,
         End::Overflow { .. } => Status::Overflow,
         End::Memory => Status::Memory,
-        End::NotBuilt => Status::NotBuilt,
     }
 }
 

@@ -10,6 +10,7 @@ mod execute;
 mod finding;
 mod finish;
 mod machine;
+mod parametric;
 mod primal;
 mod ranges;
 mod revise;
@@ -18,8 +19,9 @@ mod selecting;
 mod setup;
 mod solution;
 mod status;
+mod sweep;
 mod taking;
 mod title;
 
-pub use run::run_program;
+pub use run::{run_on, run_program};
 pub use status::Status;

@@ -12,47 +12,33 @@ ghost use Rattle.report_text.specs.Sheets.{IsSheet};
 ghost use Rattle.report_text.specs.Verdicts.{IsOutcome, verdict_shown, check_shown};
 ghost use Rattle.present_answers.specs.Reports.{sheet_shown};
 ghost use Rattle.run_definitions.specs.Verbs.{mark_of};
-ghost use Rattle.control_run.specs.Stage.{stage};
+ghost use Rattle.answer_definitions.specs.Real.{linear_programming};
 ghost use Rattle.control_run.specs.Standing.{AreDemands, IsReady, IsSolved, IsSound};
 ghost use Rattle.control_run.specs.Statements.{Executes};
-ghost use Rattle.control_run.specs.Findings.{PathReaches, PathFinds, Finds, Tells, refused_finding, IfEnded};
+ghost use Rattle.control_run.specs.Findings.{PathReaches, PathFinds, Finds, Tells, IfEnded};
 
 use crate::act::{Act, Halt};
-use crate::finding::{Finding, act_of, mark_left, overflow_at};
+use crate::finding::{Finding, act_of, mark_left, overflow_at, refused};
 use crate::machine::{Machine, Setup};
 use crate::selecting::{Refusal, select_present};
 use bounded_primal::PrimalStop;
 use job_devices::Sink;
 use listing_definitions::{Mark, Solver, VerbFault};
-use lp_model::{Basis, Outcome, Rates};
+use lp_model::{Basis, Engine, Outcome, Rates};
 use present_answers::{PathReport, path_from};
 use problem_file::ProblemFile;
 use report_text::{Report, Sheet, text_of};
 use run_cells::Cells;
 use std::alloc::Global;
 
-// The mark that the verdict of an outcome leaves.
-fn mark_of(outcome: &Outcome) -> Mark
+/// The mark of the verdict of an outcome.
+pub fn mark_of(outcome: &Outcome) -> Mark
     ensures { (sheet : sheets.Sheet) → result ≡ mark_of (verdict_shown sheet outcome.now) }
 {
     match outcome {
         Outcome::Optimal { .. } => Mark::Optimal,
         Outcome::Crossed { .. } | Outcome::Infeasible { .. } => Mark::Infeasible,
         Outcome::Unbounded { .. } => Mark::Unbounded,
-    }
-}
-
-// What a refusal comes to.
-fn refused(refusal: Refusal) -> Result<Finding, Halt>
-    ensures { result ≡ refused_finding refusal }
-{
-    match refusal {
-        Refusal::Fault(fault) => Ok(Finding::Refused(fault)),
-        Refusal::Overflow(evidence) => Ok(Finding::Overflow {
-            evidence,
-            place: None,
-        }),
-        Refusal::NoMemory => Err(Halt::NoMemory),
     }
 }
 
@@ -110,11 +96,11 @@ fn follow<P: Sink, R: Rates>(
 }
 
 // Selects by the cells as they stand, and follows the path from the present basis of a setup.
-fn find<P: Sink>(
+fn find<E: Engine, P: Sink>(
     alloc: Global,
     cells: &Cells,
     file: &ProblemFile,
-    setup: &mut Setup,
+    setup: &mut Setup<E>,
     print: &mut P,
 ) -> Result<Finding, Halt>
     requires { IsReady file.now setup.old }
@@ -151,17 +137,17 @@ fn find<P: Sink>(
 ///
 /// The statement is refused where there is no setup, and where the cells select nothing. It ends the run where the path goes on past
 /// the limit of steps, if there is one, and where an operation is refused. Where there is no memory, nothing is printed.
-pub fn solve<P: Sink>(
+pub fn solve<E: Engine, P: Sink>(
     alloc: Global,
-    machine: &mut Machine,
+    machine: &mut Machine<Setup<E>>,
     print: &mut P,
     card: u32,
 ) -> Result<Act, Halt>
     requires demands { AreDemands machine.old.cells }
     requires ready { IfSome machine.old.setup (IsReady machine.old.file) }
     ensures acts { (cards : List (List ℕ)) →
-        Executes stage program.Primal card P.written P.faults P.refusals print.old print.new cards
-        machine.old machine.new result }
+        Executes linear_programming program.Primal card P.written P.faults P.refusals print.old
+        print.new cards machine.old machine.new result }
     ensures sound { (cards : List (List ℕ)) → IsSound cards machine.old →
         IsSound cards machine.new }
 {

@@ -34,8 +34,6 @@ pub enum Status {
     PunchFault,
     /// Memory ran out.
     Memory,
-    /// The run meets what isn't built yet.
-    NotBuilt,
 }
 
 impl Status {
@@ -61,7 +59,6 @@ impl Status {
             Status::PrintFault => 25,
             Status::PunchFault => 26,
             Status::Memory => 28,
-            Status::NotBuilt => 30,
         }
     }
 }

@@ -4,17 +4,18 @@ ghost use Rattle.problem_definitions.specs.Problem.{entry_count};
 ghost use Rattle.listing_definitions.specs.Text.{report_text};
 ghost use Rattle.report_text.specs.Shown.{IsReport, text_shown};
 ghost use Rattle.run_definitions.specs.Verbs.{size_of};
-ghost use Rattle.control_run.specs.Stage.{stage};
+ghost use Rattle.answer_definitions.specs.Real.{linear_programming};
 ghost use Rattle.control_run.specs.Standing.{IsSound};
 ghost use Rattle.control_run.specs.Statements.{Executes};
 ghost use Rattle.control_run.specs.Describing.{verb_of, report_of, Describes, described_as};
 
 use crate::act::{Act, Halt};
 use crate::end::End;
-use crate::machine::Machine;
+use crate::machine::{Machine, Setup};
 use card_reader::Cards;
 use deck_fields::DeckStop;
 use job_devices::Sink;
+use lp_model::Engine;
 use problem_file::Problem;
 use report_text::{Report, text_of};
 
@@ -89,7 +90,7 @@ pub fn described_as(given: Result<Problem, DeckStop>, next: u32) -> Result<Descr
     }
 }
 
-impl Machine {
+impl<E: Engine> Machine<Setup<E>> {
     /// Files the problem that a statement found, and prints its size. Setup and mark are cleared.
     pub fn file_described<P: Sink>(
         &mut self,
@@ -100,9 +101,10 @@ impl Machine {
         card: u32,
     ) -> Result<Act, Halt>
         requires sound { IsSound cards.now self.old }
-        requires described { Describes stage verb card cards.now self.old (Ok described) }
-        ensures acts { Executes stage (verb_of verb) card P.written P.faults P.refusals print.old
-            print.new cards.now self.old self.new result }
+        requires described { Describes linear_programming verb card cards.now self.old
+            (Ok described) }
+        ensures acts { Executes linear_programming (verb_of verb) card P.written P.faults P.refusals
+            print.old print.new cards.now self.old self.new result }
         ensures sound { IsSound cards.now self.new }
     {
         match described {

@@ -1,8 +1,8 @@
 // TITLE.
 ghost use Rattle.std.specs.Prelude.{◌≡◌, ℕ, List};
 ghost use Rattle.control_definitions.specs.Program as program;
-ghost use Rattle.control_run.specs.declared.machine.Machine as machines;
-ghost use Rattle.control_run.specs.Stage.{stage};
+ghost use Rattle.control_run.specs.Machines as machines;
+ghost use Rattle.answer_definitions.specs.Real.{linear_programming};
 ghost use Rattle.control_run.specs.Statements.{Executes};
 
 use crate::act::{Act, Halt};
@@ -12,9 +12,9 @@ use report_text::{Report, text_of};
 
 /// TITLE: prints a text.
 pub fn print_title<P: Sink>(print: &mut P, text: &Text) -> Result<Act, Halt>
-    ensures { (card : ℕ) (cards : List (List ℕ)) (machine : machines.Machine) → Executes stage
-        (program.Title text.now) card P.written P.faults P.refusals print.old print.new cards
-        machine machine result }
+    ensures { (card : ℕ) (cards : List (List ℕ)) (machine : machines.Machine) → Executes
+        linear_programming (program.Title text.now) card P.written P.faults P.refusals print.old
+        print.new cards machine machine result }
 {
     text_of(&Report::Title { text: text.bytes() }, print)?;
     Ok(Act::Next)

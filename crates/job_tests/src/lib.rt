@@ -4,10 +4,16 @@
 #[cfg(test)]
 mod devices;
 #[cfg(test)]
+mod engines;
+#[cfg(test)]
 mod jobs;
+#[cfg(test)]
+mod no_memory;
 #[cfg(test)]
 mod rows;
 #[cfg(test)]
 mod runs;
+#[cfg(test)]
+mod sweeps;
 #[cfg(test)]
 mod words;

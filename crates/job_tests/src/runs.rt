@@ -4,6 +4,7 @@ use crate::rows::{
     CONTROL_FAULTS, DECK_FAULTS, DECKS, OVERFLOWS, PLANS, RANGES, REVISIONS, Row, VERB_FAULTS,
     VERDICTS,
 };
+use crate::sweeps::PARAMETRIC;
 use std::alloc::Global;
 use std::test::Fail;
 
@@ -37,6 +38,12 @@ fn plans_are_solved(rt: HostRuntime) -> Result<(), Fail> {
 #[test]
 fn intervals_are_exact(rt: HostRuntime) -> Result<(), Fail> {
     assert_eq!(rt; first_untold(rt.alloc(), &RANGES)?, None);
+    Ok(())
+}
+
+#[test]
+fn parametric_runs_are_exact(rt: HostRuntime) -> Result<(), Fail> {
+    assert_eq!(rt; first_untold(rt.alloc(), &PARAMETRIC)?, None);
     Ok(())
 }
 

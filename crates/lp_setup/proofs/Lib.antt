@@ -6,3 +6,5 @@ pub mod Faults
 pub mod Lawful
 pub mod Program
 pub mod Selecting
+pub mod FreeRows
+pub mod ValuesInSets

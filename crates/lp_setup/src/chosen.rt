@@ -1,5 +1,5 @@
 // The objective row and the sets that apply.
-ghost use Rattle.std.specs.Prelude.{◌≡◌, ◌<◌, ◌≤◌, ◌+◌, length, position, true, false, option_map, find};
+ghost use Rattle.std.specs.Prelude.{◌≡◌, ◌<◌, ◌≤◌, ◌+◌, length, position, true, Some, false, option_map, find};
 ghost use Rattle.std.specs.List.{IsDistinct};
 ghost use Rattle.std.specs.Option.{IfSome, IfNone, ForSome, option_copied};
 ghost use Rattle.problem_definitions.specs.Names.{same};
@@ -50,6 +50,14 @@ fn number_at(place: Option<usize>) -> Option<u32>
     }
 }
 
+/// The number of the row of this name.
+pub fn row_number(rows: &[RowDecl], name: &Name) -> Option<u32>
+    requires few { length rows.now ≤ 1000 }
+    ensures number { result ≡ objective_of rows.now (Some name.now) }
+{
+    number_at(named_row(rows, name))
+}
+
 /// The number of the objective row: of the chosen one, or else of the first N row.
 pub fn objective_row(rows: &[RowDecl], chosen: Option<Name>) -> Option<u32>
     requires few { length rows.now ≤ 1000 }
@@ -58,11 +66,11 @@ pub fn objective_row(rows: &[RowDecl], chosen: Option<Name>) -> Option<u32>
     let Some(name) = chosen else {
         return number_at(first_free_row(rows));
     };
-    number_at(named_row(rows, &name))
+    row_number(rows, &name)
 }
 
 /// Whether there is an N row of this name.
-fn has_free_row(rows: &[RowDecl], name: &Name) -> bool
+pub fn has_free_row(rows: &[RowDecl], name: &Name) -> bool
     ensures { result ≡ has_free rows.now name.now }
 {
     rows.iter()
@@ -89,7 +97,7 @@ fn value_set<'a>(sets: &'a [ValueSet], name: &Name) -> Option<&'a ValueSet>
 }
 
 /// The items of the set of right-hand sides or of ranges with this name.
-fn values_named<'a>(sets: &'a [ValueSet], name: &Name) -> Option<&'a [DeckEntry]>
+pub fn values_named<'a>(sets: &'a [ValueSet], name: &Name) -> Option<&'a [DeckEntry]>
     requires { IsDistinct same (group_names sets.now) }
     ensures missing { IfNone result (has_group sets.now name.now ≡ false) }
     ensures found { IfSome result (λ items. (has_group sets.now name.now ≡ true) ×

@@ -1,6 +1,7 @@
 //! The linear program of a selection: of a problem, the rows, sets and options that are chosen.
 #![tactic(auto)]
 
+mod changes;
 mod choice;
 mod chosen;
 mod limits;
@@ -8,6 +9,7 @@ mod parts;
 mod selection;
 mod stop;
 
+pub use changes::{free_row, set_values};
 pub use choice::{Choice, SetupChoice};
 pub use lp_model::{Entry, Evidence, Lp, Sense};
 pub use selection::select;

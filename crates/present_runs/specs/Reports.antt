@@ -2,6 +2,7 @@
 --     end_shown sheet sweep report bases   the report of a run that has gone over these bases, as an end of the run
 --     IsOpening report                     the report of an opening that isn't optimal
 --     IsOpeningChecked p report refused    the check of an opening that isn't optimal, in the linear program at the first value
+--     IsPrintable sheet report             the report can be printed
 --     IsAnswered                           the run from s has ended at now, and the report tells its end
 --     RunOverflowsThere                    the run has come to now, where it may stop with this evidence
 --     LimitOverflows                       it may stop there with evidence of a limit at the first value, which has no place
@@ -24,7 +25,8 @@ use Rattle.answer_definitions.specs.Verdicts.{found}
 use Rattle.answer_definitions.specs.Sweeps.{family_of, IsFace, sheet_at, interval_of, end_of, IsSwept}
 use Rattle.answer_definitions.specs.Evidence.{OverflowsAt}
 use Rattle.report_text.specs.declared.sheet.Sheet.{Sheet}
-use Rattle.report_text.specs.Verdicts.{verdict_shown, check_shown}
+use Rattle.report_text.specs.Parametric.{IsParametric}
+use Rattle.report_text.specs.Verdicts.{IsOutcome, verdict_shown, check_shown}
 use Rattle.run_calls.specs.Calls.{StandsThere}
 use Rattle.run_calls.specs.Calls as calls
 use Rattle.present_answers.specs.Answers.{sheet_shown}
@@ -49,6 +51,11 @@ IsOpening (reports.Run run) = ⊥
 abbrev pub IsOpeningChecked : LinearProgram → ParaReport → Option Refused → Type 0
 IsOpeningChecked p (reports.Opening outcome) refused = IsCheckedSo p outcome (found (check_shown refused))
 IsOpeningChecked p (reports.Run run) refused = refused ≡ None
+
+-- the lists of a report have a place for each variable of the sheet's program, whose rows and columns have names
+abbrev pub IsPrintable : Sheet → ParaReport → Type 0
+IsPrintable sheet (reports.Opening outcome) = IsOutcome sheet outcome
+IsPrintable sheet (reports.Run run) = IsParametric sheet run
 
 module _ (sheet : Sheet) (sweep : Sweep) (s now : Basis) (before after : List Basics) where
   -- the run goes over these bases, of which the last is now; for every list of bases that ends with s, in which the waypoints lay

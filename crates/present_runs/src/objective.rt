@@ -4,9 +4,10 @@ ghost use Rattle.std.specs.Prelude.{◌≡◌, None, IfOk, IfErr};
 ghost use Rattle.exact_values.specs.Rational.{◌≤ℚ◌};
 ghost use Rattle.lp_definitions.specs.LinearProgram.{IsRow, HasNoLimits};
 ghost use Rattle.basis_values.specs.Calls.{HasRates};
+ghost use Rattle.report_text.specs.Sheets.{IsSheet};
 ghost use Rattle.para_objective.specs.Faces.{family};
 ghost use Rattle.para_objective.specs.Runs.{ObjectiveFollows, IsTrueObjective};
-ghost use Rattle.present_runs.specs.Reports.{IsOpening, IsOpeningChecked};
+ghost use Rattle.present_runs.specs.Reports.{IsOpening, IsOpeningChecked, IsPrintable};
 ghost use Rattle.present_runs.specs.Objective.{IsObjectiveAnswered, ObjectiveRunStops};
 
 use crate::check::refusal_of;
@@ -55,6 +56,7 @@ pub fn objective_run_of<R: Rates>(
     rates: &mut R,
     run: &ParaObj,
 ) -> Result<RunReport, PrimalStop>
+    requires sheet { IsSheet sheet }
     requires no_change { sheet.lp.now.change ≡ None }
     requires rates { HasRates (R.matrix rates.old) (R.basics rates.old) sheet.lp.now basis.old }
     requires row { IsRow sheet.lp.now.matrix run.now.row }
@@ -64,6 +66,7 @@ pub fn objective_run_of<R: Rates>(
         (R.waypoints rates.old) (R.waypoints rates.new)) }
     ensures truth { IfOk result
         (λ answer. IsTrueObjective sheet.entry.lp.now run.now answer.report) }
+    ensures printable { IfOk result (λ answer. IsPrintable sheet.entry answer.report) }
     ensures stops { IfErr result (ObjectiveRunStops sheet.entry run.now basis.old basis.new
         (R.waypoints rates.old) (R.waypoints rates.new)) }
     ensures rates { HasRates (R.matrix rates.new) (R.basics rates.new)

@@ -6,9 +6,10 @@ ghost use Rattle.lp_model.specs.RatesCalls.{IfOverflow};
 ghost use Rattle.evidence_definitions.specs.Statements.{Pararhs};
 ghost use Rattle.evidence_definitions.specs.Evidence.{ShiftHolds};
 ghost use Rattle.basis_values.specs.Calls.{HasRates};
+ghost use Rattle.report_text.specs.Sheets.{IsSheet};
 ghost use Rattle.para_rhs.specs.Faces.{family};
 ghost use Rattle.para_rhs.specs.Runs.{RhsFollows, IsTrueRhs};
-ghost use Rattle.present_runs.specs.Reports.{IsOpening, IsOpeningChecked};
+ghost use Rattle.present_runs.specs.Reports.{IsOpening, IsOpeningChecked, IsPrintable};
 ghost use Rattle.present_runs.specs.RightHandSide.{IsRhsAnswered, RhsRunStops};
 
 use crate::check::refusal_of;
@@ -64,6 +65,7 @@ pub fn rhs_run_of<R: Rates>(
     rates: &mut R,
     run: &ParaRhs,
 ) -> Result<RunReport, PrimalStop>
+    requires sheet { IsSheet sheet }
     requires no_change { sheet.lp.now.change ≡ None }
     requires rates { HasRates (R.matrix rates.old) (R.basics rates.old) sheet.lp.now basis.old }
     requires shifts { length run.now.shift.items ≡ sheet.lp.now.rows }
@@ -71,6 +73,7 @@ pub fn rhs_run_of<R: Rates>(
     ensures answered { IfOk result (IsRhsAnswered sheet.entry run.now basis.old basis.new
         (R.waypoints rates.old) (R.waypoints rates.new)) }
     ensures truth { IfOk result (λ answer. IsTrueRhs sheet.entry.lp.now run.now answer.report) }
+    ensures printable { IfOk result (λ answer. IsPrintable sheet.entry answer.report) }
     ensures stops { IfErr result (RhsRunStops sheet.entry run.now basis.old basis.new
         (R.waypoints rates.old) (R.waypoints rates.new)) }
     ensures rates { HasRates (R.matrix rates.new) (R.basics rates.new)

@@ -1,92 +1,20 @@
--- A free row of a lawful problem is a row without limits of each linear program that is selected of it; and what a parametric run
--- changes is a part of the problem, with the name that its cell has.
-use Rattle.std.proofs.Common.{◌≡◌, ℕ, ◌+◌, ◌<◌, Bool, true, false, cond, not, ◌&&◌, ◌||◌, List, [], ◌∷◌, map, refl, ap, ap₂, subst, sym, arith}
-use Rattle.std.specs.Prelude.{Option, Some, None, Ok, nat_lt, option_map, option_and_then, unwrap_or, is_none, if◌then◌else◌}
-use Rattle.std.specs.List.{position_or_len}
-use Rattle.std.proofs.lemmas.List.{length-map}
+-- What a parametric run changes is a part of the problem, with the name that its cell has.
+use Rattle.std.proofs.Common.{◌≡◌, ℕ, Bool, true, false, refl, subst}
+use Rattle.std.specs.Prelude.{Option, Some, None, Ok, option_and_then, if◌then◌else◌}
 use Rattle.std.proofs.lemmas.Option.{same_Some}
-use Rattle.card_definitions.specs.Words.{◌⟹◌, first_fault}
-use Rattle.lp_definitions.specs.LinearProgram.{LinearProgram, IsRow, HasNoLimits, IsLinearProgram}
-use Rattle.lp_setup.proofs.Lawful.{program_is_lawful}
-use Rattle.problem_definitions.specs.Kinds.{is_free_kind}
-use Rattle.problem_definitions.specs.Names.{Name, same, has_name, number_in}
-use Rattle.problem_definitions.specs.Problem.{Row, Problem, has_free_row, has_group}
+use Rattle.lp_setup.proofs.FreeRows.{row_is_free}
+use Rattle.problem_definitions.specs.Names.{Name}
+use Rattle.problem_definitions.specs.Problem.{Problem, has_free_row, has_group}
 use Rattle.control_definitions.specs.Cells.{Cells}
 use Rattle.problem_definitions.specs.Valid.{IsProblem}
-use Rattle.problem_definitions.proofs.Places.{number_in-within}
-use Rattle.selection_definitions.specs.declared.SelectionFault.{SelectionFault}
-use Rattle.selection_definitions.specs.declared.SelectionFault.TheVariants.{NoObjective, ObjectiveNotFree, NoRhsSet, NoRangeSet, NoBoundSet}
-use Rattle.selection_definitions.specs.Choice.{Choice, objective_of, is_not_free, misses_set, selection_fault}
-use Rattle.selection_definitions.specs.Selection.{matrix_of, program_of_choice, selected}
+use Rattle.selection_definitions.specs.Choice.{Choice}
+use Rattle.selection_definitions.specs.Selection.{selected}
 use Rattle.question_definitions.specs.Answers.{Sheet, Changing, Row as RowChange, Set, changing_name}
-use Rattle.answer_definitions.specs.Sweeps.{row_of}
 use Rattle.sweep_laws.specs.Laws.{ChangesFreely}
 use Rattle.exact_values.specs.Rational.{ℚ}
 use Rattle.exact_values.specs.Tests.{lt_ℚ}
 use Rattle.run_definitions.specs.Verbs.{change_row, change_set, not_less}
 use Rattle.run_laws.specs.Truth.{IsOfProblem, named_by}
-use Rattle.run_laws.proofs.Selected.{is_chosen}
-
--- ---- the row of a name
-
--- a free row of this name is a row of this name
-free_is_there : (name : Name) (rows : List (Row ℕ)) → has_free_row rows name ≡ true → has_name (map (λ (row : Row ℕ). row.name) rows) name ≡ true
-free_is_there name [] free = absurd (cc free)
-free_is_there name (row ∷ rows) free = by (same name row.name) (is_free_kind row.kind) free (free_is_there name rows)
-  where
-    by : (named kind : Bool) → (named && kind || has_free_row rows name) ≡ true → (has_free_row rows name ≡ true → has_name (map (λ (row : Row ℕ). row.name) rows) name ≡ true) →
-        (named || has_name (map (λ (row : Row ℕ). row.name) rows) name) ≡ true
-    by true kind free rest = refl
-    by false kind free rest = rest free
-
-first_named : (name : Name) (rows : List (Row ℕ)) → position_or_len (same name) (map (λ (row : Row ℕ). row.name) rows) ≡ position_or_len (λ (row : Row ℕ). same name row.name) rows
-first_named name [] = refl
-first_named name (row ∷ rows) = ap (λ n. cond (not (same name row.name)) (1 + n) 0) (first_named name rows)
-
--- its number is that of the objective row, where it is chosen as such
-objective_number : (name : Name) (rows : List (Row ℕ)) → number_in (map (λ (row : Row ℕ). row.name) rows) name ≡ unwrap_or (objective_of rows (Some name)) 0
-objective_number name rows =
-    ap₂ (λ i n. unwrap_or (option_map (λ place. place + 1) (cond (nat_lt i n) (Some i) None)) 0) (first_named name rows) (length-map rows (λ (row : Row ℕ). row.name))
-
-above_zero : (o : Option ℕ) → 0 < unwrap_or o 0 → is_none o ≡ false
-above_zero None above = absurd (omega (arith, above))
-above_zero (Some number) above = refl
-
-is_there : (name : Name) (rows : List (Row ℕ)) → has_free_row rows name ≡ true → is_none (objective_of rows (Some name)) ≡ false
-is_there name rows free =
-    above_zero (objective_of rows (Some name))
-    (subst (λ n. 0 < n) (objective_number name rows) (number_in-within (map (λ (row : Row ℕ). row.name) rows) name (free_is_there name rows free)).positive)
-
--- ---- another objective row
-
--- the same choice with this row as its objective
-abbrev with_objective : Choice → Name → Choice
-with_objective choice name = record choice { objective = Some name }
-
--- where the first two tests find no fault either, there is none
-none_again : (a b c d : Bool) (rest : List (Option SelectionFault)) → first_fault ((a ⟹ NoObjective) ∷ (b ⟹ ObjectiveNotFree) ∷ rest) ≡ None → c ≡ false → d ≡ false →
-    first_fault ((c ⟹ NoObjective) ∷ (d ⟹ ObjectiveNotFree) ∷ rest) ≡ None
-none_again true b c d rest none there free = absurd (cc none)
-none_again false true c d rest none there free = absurd (cc none)
-none_again false false c d rest none there free = rw (there, free) none
-
-faultless_too : (problem : Problem ℕ) (choice : Choice) (name : Name) → has_free_row problem.rows name ≡ true → selection_fault problem choice ≡ None → selection_fault problem (with_objective choice name) ≡ None
-unfolding selection_fault
-faultless_too problem choice name free none =
-    let sets : List (Option SelectionFault) =
-    (misses_set problem.rhs choice.rhs ⟹ NoRhsSet) ∷ (misses_set problem.ranges choice.options.range ⟹ NoRangeSet) ∷ (misses_set problem.bounds choice.options.bound ⟹ NoBoundSet) ∷ [] in
-    none_again (is_none (objective_of problem.rows choice.objective)) (is_not_free problem.rows choice.objective) (is_none (objective_of problem.rows (Some name))) (is_not_free problem.rows (Some name)) sets
-    none (is_there name problem.rows free) (ap not free)
-
--- what is selected with it has the same matrix and limits, and its objective row is without limits
-row_is_free : (problem : Problem ℕ) (choice : Choice) (lp : LinearProgram) (name : Name) → IsProblem problem → selected problem choice ≡ Ok lp → has_free_row problem.rows name ≡ true →
-    IsRow lp.matrix (row_of problem name) × HasNoLimits lp (row_of problem name)
-row_is_free problem choice lp name is e free =
-    let chosen = is_chosen problem choice lp e in
-    let lawful : IsLinearProgram (program_of_choice problem (with_objective choice name)) = program_is_lawful problem (with_objective choice name) is (faultless_too problem choice name free chosen.0) in
-    let at : IsRow (matrix_of problem) (row_of problem name) × HasNoLimits (program_of_choice problem choice) (row_of problem name) =
-    subst (λ k. IsRow (matrix_of problem) k × HasNoLimits (program_of_choice problem choice) k) (sym (objective_number name problem.rows)) (lawful.objective_row, lawful.objective_free) in
-    subst (λ (p : LinearProgram). IsRow p.matrix (row_of problem name) × HasNoLimits p (row_of problem name)) chosen.1 at
 
 -- ---- parametric runs
 

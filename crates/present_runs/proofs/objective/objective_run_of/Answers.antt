@@ -1,4 +1,5 @@
 use Rattle.std.proofs.lemmas.Result.{err_from_is_err_and}
+use Rattle.present_runs.proofs.Printable.{objective_printable}
 use Rattle.present_runs.proofs.Facts.{objective_answered, objective_stops, objective_unchecked}
 use Rattle.present_runs.proofs.objective.objective_run_of.Goals as goal
 
@@ -15,3 +16,8 @@ returns-in_err-refused-clause-stops g c =
 pub returns-clause-answered : goal.returns-clause-answered
 returns-clause-answered g c =
     objective_answered c.args.sheet c.args.run.now c.args.basis.now c.para_obj.new.basis (g.R.Rates.waypoints c.args.rates.now) (g.R.Rates.waypoints c.para_obj.new.rates) c.in_ok-report.report c.in_ok-refused.refused c.in_ok-report.ensures.ends c.in_ok-refused.ensures.checked
+
+pub returns-clause-printable : goal.returns-clause-printable
+returns-clause-printable g c =
+    objective_printable c.args.sheet c.requires.sheet c.args.run.now.row c.args.run.now.from c.args.run.now.to c.args.basis.now c.para_obj.new.basis c.args.run.now.limit c.args.sheet.lp.now.matrix
+    (g.R.Rates.waypoints c.args.rates.now) (g.R.Rates.waypoints c.para_obj.new.rates) c.in_ok-report.report c.in_ok-report.ensures.ends c.in_ok-report.ensures.truth

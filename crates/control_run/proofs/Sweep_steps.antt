@@ -1,0 +1,212 @@
+-- What PARAOBJ and PARARHS find.
+use Rattle.std.proofs.Common.{◌≡◌, ◌≢◌, ℕ, ◌≤◌, ◌⊎◌, inl, inr, List, [], ◌∷◌, ◌++◌, Option, None, Some, Result, Ok, Err, length, map, refl, sym, ap, subst, ◌∙◌}
+use Rattle.std.specs.Prelude.{MatchResult, IfOk, IfErr}
+use native.Mathlib.Decide.{ℕ_discrete}
+use Rattle.std.specs.List.{enumerate_from}
+use Rattle.std.proofs.lemmas.List.{length-map}
+use Rattle.std.proofs.lemmas.List.FromFn.{length-enumerate_from}
+use Rattle.exact_values.specs.Rational.{ℚ}
+use Rattle.frac128.specs.declared.Refused.{Refused as RefusedOperation}
+use Rattle.job_devices.specs.declared.device.WriteStop.{WriteStop}
+use Rattle.job_devices.specs.Text.{Writes}
+use Rattle.lp_definitions.specs.LinearProgram.{LinearProgram, IsRow, HasNoLimits}
+use Rattle.lp_definitions.specs.Basis.{Basics, basics_of}
+use Rattle.lp_definitions.specs.Waypoints.{waypoint}
+use Rattle.lp_definitions.specs.declared.Evidence.{Evidence}
+use Rattle.lp_model.specs.declared.reports.Outcome.{Outcome}
+use Rattle.lp_model.specs.declared.reports.ParaReport.TheVariants as para_reports
+use Rattle.lp_model.specs.declared.reports.ParaRun.{ParaRun}
+use Rattle.problem_definitions.specs.Names.{Name}
+use Rattle.problem_definitions.specs.Problem.{Problem}
+use Rattle.problem_file.specs.Filed.{Filed, filed_under}
+use Rattle.control_definitions.specs.Cells.{Cells}
+use Rattle.selection_definitions.specs.Choice.{Choice}
+use Rattle.selection_definitions.specs.Selection.{selected}
+use Rattle.listing_definitions.specs.declared.Mark.{Mark}
+use Rattle.listing_definitions.specs.declared.Solver.{Solver}
+use Rattle.listing_definitions.specs.Report.{Verdict, Check, Solved, Parametric, Chain}
+use Rattle.listing_definitions.specs.Text.{report_text}
+use Rattle.listing_definitions.specs.Ending as endings
+use Rattle.question_definitions.specs.Answers.{Basis, Sheet, sweeper, changing_name, Sweep, OfSweep, SweepLimit}
+use Rattle.answer_definitions.specs.Sweeps.{row_of, shifts_of, sheet_at, interval_of, end_of, IsSwept}
+use Rattle.answer_definitions.specs.Evidence.{OverflowsAt}
+use Rattle.bounded_primal.specs.declared.moves.PrimalStop.{PrimalStop}
+use Rattle.bounded_primal.specs.declared.moves.PrimalStop.TheVariants as stops
+use Rattle.report_text.specs.declared.sheet.Sheet.{Sheet as OwnSheet}
+use Rattle.report_text.specs.Parametric.{chain_shown}
+use Rattle.report_text.specs.Verdicts.{verdict_shown, check_shown}
+use Rattle.run_calls.specs.Calls as calls
+use Rattle.present_answers.specs.Reports.{sheet_shown}
+use Rattle.present_runs.specs.Reports.{IsAnswered, RunOverflowsThere, LimitOverflows, SweepStops}
+use Rattle.run_definitions.specs.State.{choice_of}
+use Rattle.run_definitions.specs.Moves.{Gain, Nothing, Prints}
+use Rattle.run_definitions.specs.Verbs.{mark_of, last_value}
+use Rattle.control_run.specs.declared.act.Halt.{Halt}
+use Rattle.control_run.specs.declared.act.Halt.TheVariants as halt
+use Rattle.control_run.specs.declared.end.Place.{Place as OwnPlace}
+use Rattle.control_run.specs.declared.finding.Finding.{Finding}
+use Rattle.control_run.specs.declared.finding.Finding.TheVariants.{Ended, Overflow, Swept}
+use Rattle.control_run.specs.Kept.{Setup}
+use Rattle.control_run.specs.declared.selecting.Refusal.{Refusal}
+use Rattle.control_run.specs.declared.selecting.Refusal.TheVariants.{Fault, NoMemory}
+use Rattle.control_run.specs.declared.selecting.Refusal.TheVariants as refusal
+use Rattle.control_run.specs.declared.sweep.Sweep.{Sweep as OwnSweep}
+use Rattle.control_run.specs.declared.sweep.Sweep.TheVariants as own
+use Rattle.control_run.specs.declared.sweep.SweepVerb.{SweepVerb}
+use Rattle.control_run.specs.Choosing.{IsUnselected}
+use Rattle.control_run.specs.Ends.{place_shown}
+use Rattle.control_run.specs.Findings.{IsOverflowAt, Tells, refused_finding}
+use Rattle.control_run.specs.Sweeping.{IsNotAsked, IsAsked, sweep_shown, IsOf, Serves, value_left, IsRunOverflow, SweepReaches, SweepFinds, opened, chained, overflows, Sweeps, unselected, too_large, not_asked, swept}
+use Rattle.control_run.proofs.Telling.{tells_more, tells_quietly, overflow_tells}
+use Rattle.control_run.proofs.Present.{one_problem}
+use Rattle.control_run.proofs.Solving_steps.{as_many_rows}
+use Rattle.control_run.proofs.Limit_formula.{placed_apart, unplaced_limit}
+use Rattle.control_run.proofs.Sweep_lines.{last_same, chain_same}
+
+-- ---- what is printed of a run
+
+module _ (sheet : OwnSheet) (sweep : Sweep) (s now : Basis) (before after : List Basics) (refused : Option RefusedOperation) (by : Solver) (named : by ≡ sweeper sweep.changing) where
+  abbrev Finds : Gain → Finding → Type 0
+  Finds = SweepFinds (sheet_shown sheet) s now sweep before after
+
+  -- a verdict on the opening
+  module _ (outcome : Outcome) (a : IsAnswered sheet sweep s now before after (record { report = para_reports.Opening outcome; refused = refused })) where
+    abbrev verdict : Gain
+    verdict = Prints (Solved by (verdict_shown sheet outcome) (check_shown refused))
+
+    opening_found : Finds verdict (Ended (mark_of (verdict_shown sheet outcome)))
+    opening_found =
+        subst (λ (b : Solver). Finds (Prints (Solved b (verdict_shown sheet outcome) (check_shown refused))) (Ended (mark_of (verdict_shown sheet outcome)))) (sym named)
+        (opened {bases = a.bases} (record { reaches = a.swept; leads = a.leads; lie = a.lie }))
+
+    module _ {P : Type 0} (written : P → Option (List ℕ)) (faults refusals : P → ℕ) (print_old print_new : P) where
+      pub opening_told : (mark : Mark) → mark ≡ mark_of (verdict_shown sheet outcome) → Writes {T = Unit {0}} written faults refusals print_old print_new (Ok tt) (report_text (Solved by (verdict_shown sheet outcome) (check_shown refused))) →
+          Tells Finds written faults refusals print_old print_new (Ok (Ended mark))
+      opening_told mark e writes = record { gain = verdict; holds = subst (λ (m : Mark). Finds verdict (Ended m)) (sym e) opening_found; writes = writes }
+
+      pub opening_cut : (stop : WriteStop) → Writes {T = Unit {0}} written faults refusals print_old print_new (Err stop) (report_text (Solved by (verdict_shown sheet outcome) (check_shown refused))) →
+          Tells Finds written faults refusals print_old print_new (Err (halt.Print stop))
+      opening_cut stop writes = record { gain = verdict; finding = Ended (mark_of (verdict_shown sheet outcome)); holds = opening_found; writes = writes }
+
+  -- the intervals and their end
+  module _ (run : ParaRun) (a : IsAnswered sheet sweep s now before after (record { report = para_reports.Run run; refused = refused })) (change : Name) (from to : ℚ)
+      (changes : change ≡ changing_name sweep.changing) (begins : from ≡ sweep.from) (goes : to ≡ sweep.to) where
+    abbrev intervals : Gain
+    intervals = Prints (Parametric by (chain_shown sheet change from to run))
+
+    abbrev whole : Chain
+    whole = record {
+      from = sweep.from;
+      change = changing_name sweep.changing;
+      intervals = map (interval_of (sheet_at (sheet_shown sheet) sweep.changing sweep.from)) (map calls.part_of run.parts);
+      end = end_of (sheet_shown sheet) sweep.to (calls.end_of run.end);
+    }
+
+    same_chain : whole ≡ chain_shown sheet change from to run
+    same_chain = sym (chain_same sheet sweep.changing (changing_name sweep.changing) sweep.from sweep.to run) ∙ (λ i. chain_shown sheet (sym changes i) (sym begins i) (sym goes i) run)
+
+    same_last : last_value (end_of (sheet_shown sheet) sweep.to (calls.end_of run.end)) ≡ value_left to run.end
+    same_last = last_same sheet sweep.to run.end ∙ ap (λ (x : ℚ). value_left x run.end) (sym goes)
+
+    chain_found : (value : ℚ) → value ≡ value_left to run.end → Finds intervals (Swept value)
+    chain_found value e =
+        subst (λ (v : ℚ). Finds intervals (Swept v)) (same_last ∙ sym e)
+        (subst (λ (c : Chain). Finds (Prints (Parametric by c)) (Swept (last_value (end_of (sheet_shown sheet) sweep.to (calls.end_of run.end))))) same_chain
+        (subst (λ (b : Solver). Finds (Prints (Parametric b whole)) (Swept (last_value (end_of (sheet_shown sheet) sweep.to (calls.end_of run.end))))) (sym named)
+        (chained {bases = a.bases} (record { reaches = a.swept; leads = a.leads; lie = a.lie }))))
+
+    module _ {P : Type 0} (written : P → Option (List ℕ)) (faults refusals : P → ℕ) (print_old print_new : P) where
+      pub chain_told : (value : ℚ) → value ≡ value_left to run.end → Writes {T = Unit {0}} written faults refusals print_old print_new (Ok tt) (report_text (Parametric by (chain_shown sheet change from to run))) →
+          Tells Finds written faults refusals print_old print_new (Ok (Swept value))
+      chain_told value e writes = record { gain = intervals; holds = chain_found value e; writes = writes }
+
+      pub chain_cut : (stop : WriteStop) → Writes {T = Unit {0}} written faults refusals print_old print_new (Err stop) (report_text (Parametric by (chain_shown sheet change from to run))) →
+          Tells Finds written faults refusals print_old print_new (Err (halt.Print stop))
+      chain_cut stop writes = record { gain = intervals; finding = Swept (value_left to run.end); holds = chain_found (value_left to run.end) refl; writes = writes }
+
+-- ---- where a run stops
+
+module _ {P : Type 0} (written : P → Option (List ℕ)) (faults refusals : P → ℕ) (sheet : OwnSheet) (sweep : Sweep) (s now : Basis) (before after : List Basics) (e : Evidence)
+    (o : RunOverflowsThere sheet sweep s now before after e ⊎ LimitOverflows sheet sweep s now before after e) where
+  abbrev Stops : Gain → Finding → Type 0
+  Stops = SweepFinds (sheet_shown sheet) s now sweep before after
+
+  -- where it isn't formula 13, it is at a basis
+  pub is_way : e.formula ≢ 13 → e.way ≤ length after
+  is_way other = by o
+    where
+      by : RunOverflowsThere sheet sweep s now before after e ⊎ LimitOverflows sheet sweep s now before after e → e.way ≤ length after
+      by (inl there) = there.is_way
+      by (inr limit) = absurd (other (unplaced_limit (sheet_shown sheet) (s ∷ []) sweep e (limit.overflows [])))
+
+  at_limit_formula : e.formula ≡ 13 → Stops Nothing (Overflow e None)
+  at_limit_formula is = overflows {place = None} (λ earlier lie. by o earlier (λ there. placed_apart (sheet_shown sheet) (earlier ++ s ∷ []) sweep e _ (there.overflows earlier lie) is))
+    where
+      by : RunOverflowsThere sheet sweep s now before after e ⊎ LimitOverflows sheet sweep s now before after e → (earlier : List Basis) → (RunOverflowsThere sheet sweep s now before after e → ⊥) →
+          OverflowsAt (OfSweep sweep) (sheet_shown sheet) (earlier ++ s ∷ []) e None
+      by (inl there) earlier apart = absurd (apart there)
+      by (inr limit) earlier apart = limit.overflows earlier
+
+  at_place : e.formula ≢ 13 → (place : OwnPlace) → place_shown place ≡ record { basis = now; way = waypoint (basics_of now) after e.way } → Stops Nothing (Overflow e (Some place))
+  at_place other place is = by o
+    where
+      by : RunOverflowsThere sheet sweep s now before after e ⊎ LimitOverflows sheet sweep s now before after e → Stops Nothing (Overflow e (Some place))
+      by (inl there) = overflows (λ earlier lie. subst (λ (p : endings.Place). OverflowsAt (OfSweep sweep) (sheet_shown sheet) (earlier ++ s ∷ []) e (Some p)) (sym is) (there.overflows earlier lie))
+      by (inr limit) = absurd (other (unplaced_limit (sheet_shown sheet) (s ∷ []) sweep e (limit.overflows [])))
+
+  pub run_overflow_tells : (print : P) (result : Result Finding Halt) → IsRunOverflow now after e result → Tells Stops written faults refusals print print result
+  run_overflow_tells print result told = by (ℕ_discrete e.formula 13)
+    where
+      by : Dec (e.formula ≡ 13) → Tells Stops written faults refusals print print result
+      by (yes is) = subst (λ (r : Result Finding Halt). Tells Stops written faults refusals print print r) (sym (told.0 is)) (tells_quietly written faults refusals Stops print (Ok (Overflow e None)) (at_limit_formula is))
+      by (no other) = overflow_tells written faults refusals Stops print now after e result (told.1 other) (at_place other)
+
+-- ---- what is asked for can be run
+
+module _ (problem : Problem ℕ) (choice : Choice) (lp : LinearProgram) (ok : selected problem choice ≡ Ok lp) where
+  values_counted : (name : Name) → length (shifts_of problem name) ≡ length problem.rows
+  values_counted name = length-map (enumerate_from 1 problem.rows) _ ∙ length-enumerate_from 1 problem.rows
+
+  pub serves : (sweep : OwnSweep) → IsOf problem sweep → Serves problem lp sweep
+  serves (own.Row name run) is = let free = is.1 choice lp ok in (is.0, free.0, free.1, is.2)
+  serves (own.Set name run) is = (is.0, ap length (sym is.0) ∙ values_counted name ∙ as_many_rows problem choice lp ok, is.1)
+
+-- ---- what is found with a setup
+
+-- The setup that code has opened, which is the one that is spoken of, and what is left of it.
+module _ {P : Type 0} (written : P → Option (List ℕ)) (faults refusals : P → ℕ) (verb : SweepVerb) (cells : Cells) (file : Filed) {setup old : Setup} (is_old : setup ≡ old) (new : Setup) (there : Problem ℕ) (is_there : filed_under setup.name file ≡ Some there) where
+  at_problem : (print_old print_new : P) (result : Result Finding Halt) → Tells (Sweeps there cells verb setup new) written faults refusals print_old print_new result →
+      (problem : Problem ℕ) → filed_under old.name file ≡ Some problem → Tells (Sweeps problem cells verb old new) written faults refusals print_old print_new result
+  at_problem print_old print_new result t problem on_file =
+      subst (λ (s : Setup). Tells (Sweeps problem cells verb s new) written faults refusals print_old print_new result) is_old
+      (subst (λ (q : Problem ℕ). Tells (Sweeps q cells verb setup new) written faults refusals print_old print_new result)
+      (one_problem file setup there problem is_there (ap (λ (s : Setup). filed_under s.name file) is_old ∙ on_file)) t)
+
+  refusal_found : (why : Refusal) → IsUnselected there (choice_of cells setup.options) why → MatchResult (refused_finding why) (Sweeps there cells verb setup new Nothing) (λ h. h ≡ halt.NoMemory)
+  refusal_found (Fault fault) u = unselected u
+  refusal_found (refusal.Overflow e) u = too_large u
+  refusal_found NoMemory u = refl
+
+  pub unselected_told : (print : P) (why : Refusal) → IsUnselected there (choice_of cells setup.options) why →
+      (problem : Problem ℕ) → filed_under old.name file ≡ Some problem → Tells (Sweeps problem cells verb old new) written faults refusals print print (refused_finding why)
+  unselected_told print why u =
+      at_problem print print (refused_finding why) (tells_quietly written faults refusals (Sweeps there cells verb setup new) print (refused_finding why) (refusal_found why u))
+
+  module _ (lp : LinearProgram) (ok : selected there (choice_of cells setup.options) ≡ Ok lp) where
+    unasked_found : (why : Refusal) → IsNotAsked verb there cells why → MatchResult (refused_finding why) (Sweeps there cells verb setup new Nothing) (λ h. h ≡ halt.NoMemory)
+    unasked_found (Fault fault) u = not_asked ok u
+    unasked_found (refusal.Overflow e) u = absurd u
+    unasked_found NoMemory u = refl
+
+    pub unasked_told : (print : P) (why : Refusal) → IsNotAsked verb there cells why →
+        (problem : Problem ℕ) → filed_under old.name file ≡ Some problem → Tells (Sweeps problem cells verb old new) written faults refusals print print (refused_finding why)
+    unasked_told print why u =
+        at_problem print print (refused_finding why) (tells_quietly written faults refusals (Sweeps there cells verb setup new) print (refused_finding why) (unasked_found why u))
+
+    pub run_told : (sweep : Sweep) → IsAsked verb there cells sweep → (print_old print_new : P) (result : Result Finding Halt) → new.name ≡ setup.name → new.options ≡ setup.options →
+        Tells (SweepFinds (record { problem = there; lp = lp }) setup.basis new.basis sweep setup.engine.waypoints new.engine.waypoints) written faults refusals print_old print_new result →
+        (problem : Problem ℕ) → filed_under old.name file ≡ Some problem → Tells (Sweeps problem cells verb old new) written faults refusals print_old print_new result
+    run_told sweep a print_old print_new result same_name same_options t =
+        at_problem print_old print_new result
+        (tells_more written faults refusals (SweepFinds (record { problem = there; lp = lp }) setup.basis new.basis sweep setup.engine.waypoints new.engine.waypoints) (Sweeps there cells verb setup new) print_old print_new
+        (λ gain finding f. swept ok a same_name same_options f) result t)

@@ -1,0 +1,205 @@
+-- What PARAOBJ and PARARHS ask for, what they find, and what is left.
+--     verb_of, change_of ..        the verb, and what it changes
+--     IsAsked, IsAskFault          what a verb asks for by the cells, and why it asks for nothing
+--     sweep_shown sweep            the run as code holds it, in the words of runs
+--     Serves problem p sweep       the run can be made in the linear program p
+--     IsRunOverflow result         what a refused operation of a run comes to
+--     SweepFinds gain finding      the run from a basis ends so, or is stopped so
+--     Sweeps gain finding          the verb finds this with a setup, and has this to print
+--     cells_left finding cells     the cells after it
+use Rattle.std.specs.Prelude.{◌≡◌, ◌≢◌, ◌⊎◌, ℕ, List, [], ◌∷◌, ◌++◌, Bool, true, Option, Some, None, Result, Ok, Err, IfSome, length, option_map, option_and_then}
+use Rattle.exact_values.specs.Rational.{ℚ, ◌≤ℚ◌}
+use Rattle.lp_definitions.specs.LinearProgram.{LinearProgram, IsRow, HasNoLimits}
+use Rattle.lp_definitions.specs.Basis.{Basics}
+use Rattle.lp_definitions.specs.declared.Evidence.{Evidence}
+use Rattle.lp_model.specs.declared.reports.ParaEnd.{ParaEnd}
+use Rattle.lp_model.specs.declared.reports.ParaEnd.TheVariants.{AtMax, Unbounded, Infeasible}
+use Rattle.path_definitions.specs.Path.{last_of}
+use Rattle.problem_definitions.specs.Names.{Name}
+use Rattle.problem_definitions.specs.Problem.{Problem}
+use Rattle.lp_setup.specs.Changes.{IsFreeIn}
+use Rattle.selection_definitions.specs.Selection.{selected}
+use Rattle.listing_definitions.specs.declared.VerbFault.{VerbFault}
+use Rattle.listing_definitions.specs.declared.VerbFault.TheVariants.{NoChangeRow, NoChangeSet, NoParmax, ParmaxBelow}
+use Rattle.listing_definitions.specs.declared.Solver.{Solver}
+use Rattle.listing_definitions.specs.Report.{Verdict, Check, Interval, ChainEnd, Solved, Parametric}
+use Rattle.listing_definitions.specs.Ending.{Place}
+use Rattle.control_definitions.specs.Program as program
+use Rattle.control_definitions.specs.Cells.{Cells, steps_allowed}
+use Rattle.basis_values.specs.Calls.{LieIn}
+use Rattle.bounded_primal.specs.declared.moves.PrimalStop.{PrimalStop}
+use Rattle.question_definitions.specs.Answers.{Basis, Sheet, Changing, Row, Set, changing_name, sweeper, Sweep, OfSweep, SweepEnd, Opening, Chained, SweepLimit}
+use Rattle.answer_definitions.specs.Sweeps.{row_of, shifts_of, IsSwept}
+use Rattle.answer_definitions.specs.Evidence.{OverflowsAt}
+use Rattle.report_text.specs.declared.sheet.Sheet.{Sheet as OwnSheet}
+use Rattle.present_answers.specs.Reports.{sheet_shown}
+use Rattle.present_runs.specs.Objective as objective
+use Rattle.present_runs.specs.Reports.{RunOverflowsThere, LimitOverflows, SweepStops}
+use Rattle.present_runs.specs.RightHandSide as right_hand_side
+use Rattle.run_definitions.specs.State.{choice_of}
+use Rattle.run_definitions.specs.Moves.{Gain, Nothing, Prints}
+use Rattle.run_definitions.specs.Verbs.{change_row, change_set, not_less, mark_of, last_value}
+use Rattle.control_run.specs.declared.act.Halt.{Halt}
+use Rattle.control_run.specs.declared.end.Place.{Place as OwnPlace}
+use Rattle.control_run.specs.declared.finding.Finding.{Finding}
+use Rattle.control_run.specs.declared.finding.Finding.TheVariants.{Refused, Overflow, Limit, Ended, Swept}
+use Rattle.control_run.specs.Kept.{Setup}
+use Rattle.control_run.specs.declared.selecting.Refusal.{Refusal}
+use Rattle.control_run.specs.declared.selecting.Refusal.TheVariants.{Fault, NoMemory}
+use Rattle.control_run.specs.declared.selecting.Refusal.TheVariants as refusals
+use Rattle.control_run.specs.declared.sweep.SweepVerb.{SweepVerb}
+use Rattle.control_run.specs.declared.sweep.SweepVerb.TheVariants.{Paraobj, Pararhs}
+use Rattle.control_run.specs.declared.sweep.Sweep.{Sweep as OwnSweep}
+use Rattle.control_run.specs.declared.sweep.Sweep.TheVariants as own
+use Rattle.control_run.specs.Choosing.{HasSelectionFault, HasRangeOverflow}
+use Rattle.control_run.specs.Ends.{place_shown}
+use Rattle.control_run.specs.Findings.{IsOverflowAt}
+
+-- ---- what a verb asks for
+
+-- the verb of a statement that makes a parametric run
+abbrev pub verb_of : SweepVerb → program.Verb ℕ
+verb_of Paraobj = program.Paraobj
+verb_of Pararhs = program.Pararhs
+
+-- the name of what it changes
+abbrev pub name_moved : SweepVerb → Cells → Option Name
+name_moved Paraobj cells = cells.xchrow
+name_moved Pararhs cells = cells.xchcol
+
+-- what has this name
+abbrev pub change_of : SweepVerb → Problem ℕ → Name → Option Changing
+change_of Paraobj = change_row
+change_of Pararhs = change_set
+
+-- it is refused so where nothing has
+abbrev pub change_fault : SweepVerb → VerbFault
+change_fault Paraobj = NoChangeRow
+change_fault Pararhs = NoChangeSet
+
+-- what stands in XPARMAX, where it isn't less than XPARAM
+pub record IsLastValue (cells : Cells) (to : ℚ) : Type 0 where
+  pub last : ℚ
+  pub is_moved : cells.xparmax ≡ Some last
+  pub is_last : not_less cells.xparam last ≡ Some to
+
+-- there is none, or it is less
+pub data IsLastFault (cells : Cells) : VerbFault → Type 0 where
+  no_last : cells.xparmax ≡ None → IsLastFault cells NoParmax
+  below : {last : ℚ} → cells.xparmax ≡ Some last → not_less cells.xparam last ≡ None → IsLastFault cells ParmaxBelow
+
+module _ (verb : SweepVerb) (problem : Problem ℕ) (cells : Cells) where
+  -- what changes has the name that was moved to its cell
+  abbrev pub Changes : Changing → Type 0
+  Changes changing = option_and_then (change_of verb problem) (name_moved verb cells) ≡ Some changing
+
+  -- the run goes from XPARAM to XPARMAX, which isn't less, in as many steps as a verb may take
+  pub record IsAsked (sweep : Sweep) : Type 0 where
+    pub changes : Changes sweep.changing
+    pub is_last : IsLastValue cells sweep.to
+    pub is_first : sweep.from ≡ cells.xparam
+    pub is_limit : sweep.limit ≡ steps_allowed cells
+
+  -- nothing has the name of what is to change; or the last value is refused
+  pub data IsAskFault : VerbFault → Type 0 where
+    no_change : option_and_then (change_of verb problem) (name_moved verb cells) ≡ None → IsAskFault (change_fault verb)
+    no_value : {changing : Changing} {fault : VerbFault} → Changes changing → IsLastFault cells fault → IsAskFault fault
+
+  -- want of memory may come at any time, and no sum is made
+  abbrev pub IsNotAsked : Refusal → Type 0
+  IsNotAsked (Fault fault) = IsAskFault fault
+  IsNotAsked (refusals.Overflow e) = ⊥
+  IsNotAsked NoMemory = Unit {0}
+
+-- ---- the run
+
+abbrev pub sweep_shown : OwnSweep → Sweep
+sweep_shown (own.Row name run) = objective.sweep_of name run
+sweep_shown (own.Set name run) = right_hand_side.sweep_of name run
+
+-- the row has this name, and no limits in what is selected, or the shifts are those of the set; and the last value isn't less than the
+-- first
+abbrev pub IsOf : Problem ℕ → OwnSweep → Type 0
+IsOf problem (own.Row name run) = (row_of problem name ≡ run.row) × IsFreeIn problem run.row × (run.from ≤ℚ run.to)
+IsOf problem (own.Set name run) = (shifts_of problem name ≡ run.shift.items) × (run.from ≤ℚ run.to)
+
+-- the run can be made in this linear program
+abbrev pub Serves : Problem ℕ → LinearProgram → OwnSweep → Type 0
+Serves problem p (own.Row name run) = (row_of problem name ≡ run.row) × IsRow p.matrix run.row × HasNoLimits p run.row × (run.from ≤ℚ run.to)
+Serves problem p (own.Set name run) = (shifts_of problem name ≡ run.shift.items) × (length run.shift.items ≡ p.rows) × (run.from ≤ℚ run.to)
+
+-- where a run stops; a limit of a row may be too large at the first value
+abbrev pub StopsSweep : OwnSheet → Sweep → Basis → Basis → List Basics → List Basics → PrimalStop → Type 0
+StopsSweep sheet sweep s now before after stop =
+    SweepStops sheet sweep s now before after
+    (λ e. RunOverflowsThere sheet sweep s now before after e ⊎ LimitOverflows sheet sweep s now before after e) stop
+
+-- the value at which a run has ended, where it is asked to go up to this one
+abbrev pub value_left : ℚ → ParaEnd → ℚ
+value_left to AtMax = to
+value_left to (Unbounded past point direction) = past
+value_left to (Infeasible past ray) = past
+
+-- an operation of a run is refused: formula 13 is that of a limit at the first value, which has no place
+abbrev pub IsRunOverflow : Basis → List Basics → Evidence → Result Finding Halt → Type 0
+IsRunOverflow s after e result =
+    (e.formula ≡ 13 → result ≡ Ok (Overflow e None)) × (e.formula ≢ 13 → IsOverflowAt s after e result)
+
+-- ---- what is found
+
+module _ (sheet : Sheet) (s now : Basis) (sweep : Sweep) (before after : List Basics) where
+  -- The run from s goes over these bases to now, and ends there so. For every list of bases that ends with s, in which the waypoints
+  -- lay before, they lie after in that list followed by these bases.
+  pub record SweepReaches (bases : List Basis) (end : SweepEnd) : Type 0 where
+    pub reaches : IsSwept sheet s sweep end
+    pub leads : last_of s bases ≡ now
+    pub lie : (earlier : List Basis) → LieIn sheet.lp.matrix before (earlier ++ s ∷ []) →
+        LieIn sheet.lp.matrix after (earlier ++ s ∷ bases)
+
+  -- for every list of bases that ends with s, in which the waypoints lay before, the run from there may stop with this evidence
+  abbrev pub SweepOverflows : Evidence → Option Place → Type 0
+  SweepOverflows e place = (earlier : List Basis) →
+      LieIn sheet.lp.matrix before (earlier ++ s ∷ []) →
+      OverflowsAt (OfSweep sweep) sheet (earlier ++ s ∷ []) e place
+
+  -- the verdict on its opening is printed; or its intervals are, and it has come to this value; or it goes on past the limit; or an
+  -- operation is refused
+  pub data SweepFinds : Gain → Finding → Type 0 where
+    opened : {bases : List Basis} {verdict : Verdict} {check : Check} →
+        SweepReaches bases (Opening bases verdict check) →
+        SweepFinds (Prints (Solved (sweeper sweep.changing) verdict check)) (Ended (mark_of verdict))
+    chained : {bases : List Basis} {intervals : List Interval} {end : ChainEnd} →
+        SweepReaches bases (Chained bases intervals end) →
+        SweepFinds
+        (Prints (Parametric (sweeper sweep.changing) (record { from = sweep.from; change = changing_name sweep.changing; intervals = intervals; end = end })))
+        (Swept (last_value end))
+    at_limit : IsSwept sheet s sweep SweepLimit → SweepFinds Nothing Limit
+    overflows : {e : Evidence} {place : Option OwnPlace} →
+        SweepOverflows e (option_map place_shown place) → SweepFinds Nothing (Overflow e place)
+
+-- With these cells the selection of a setup's problem is refused, or what the verb asks for is; or the run is made from the present
+-- basis, and the setup keeps where it has come to.
+pub data Sweeps (problem : Problem ℕ) (cells : Cells) (verb : SweepVerb) (setup new : Setup) : Gain → Finding → Type 0 where
+  unselected : {fault : VerbFault} →
+      HasSelectionFault problem (choice_of cells setup.options) fault →
+      Sweeps problem cells verb setup new Nothing (Refused fault)
+  too_large : {e : Evidence} → HasRangeOverflow problem (choice_of cells setup.options) e →
+      Sweeps problem cells verb setup new Nothing (Overflow e None)
+  not_asked : {lp : LinearProgram} {fault : VerbFault} →
+      selected problem (choice_of cells setup.options) ≡ Ok lp →
+      IsAskFault verb problem cells fault →
+      Sweeps problem cells verb setup new Nothing (Refused fault)
+  swept : {lp : LinearProgram} {sweep : Sweep} {gain : Gain} {finding : Finding} →
+      selected problem (choice_of cells setup.options) ≡ Ok lp →
+      IsAsked verb problem cells sweep →
+      new.name ≡ setup.name → new.options ≡ setup.options →
+      SweepFinds (record { problem = problem; lp = lp }) setup.basis new.basis sweep
+      setup.engine.waypoints new.engine.waypoints gain finding →
+      Sweeps problem cells verb setup new gain finding
+
+-- ---- what is left
+
+-- a run that has gone on leaves XPARAM at its last value
+abbrev pub cells_left : Finding → Cells → Cells
+cells_left (Swept value) cells = record cells { xparam = value }
+cells_left _ cells = cells

@@ -1,0 +1,318 @@
+// PARAOBJ and PARARHS.
+ghost use Rattle.std.specs.Prelude.{◌≡◌, ◌≢◌, ◌≤◌, ℕ, List, Option, None, IfSome, IfOk, IfErr, length};
+ghost use Rattle.problem_definitions.specs.Problem.{Problem};
+ghost use Rattle.problem_file.specs.Filed.{filed_under};
+ghost use Rattle.control_definitions.specs.Program as program;
+ghost use Rattle.frac128.specs.declared.Refused.{Refused as RefusedOperation};
+ghost use Rattle.lp_definitions.specs.Basis.{Basics};
+ghost use Rattle.lp_model.specs.declared.reports.ParaReport.TheVariants as para_reports;
+ghost use Rattle.question_definitions.specs.Answers as answers;
+ghost use Rattle.basis_values.specs.Calls.{HasRates};
+ghost use Rattle.report_text.specs.Sheets.{IsSheet};
+ghost use Rattle.report_text.specs.Verdicts.{IsOutcome};
+ghost use Rattle.report_text.specs.Parametric.{IsParametric};
+ghost use Rattle.answer_definitions.specs.Real.{linear_programming};
+ghost use Rattle.present_answers.specs.Reports.{sheet_shown};
+ghost use Rattle.present_runs.specs.Reports.{IsAnswered, IsPrintable};
+ghost use Rattle.control_run.specs.Standing.{AreDemands, IsReady, IsSound};
+ghost use Rattle.control_run.specs.Statements.{Executes};
+ghost use Rattle.control_run.specs.Findings.{Tells};
+ghost use Rattle.control_run.specs.Sweeping.{verb_of, sweep_shown, Serves, StopsSweep, SweepFinds, Sweeps, IsRunOverflow, value_left, cells_left};
+
+use crate::act::{Act, Halt};
+use crate::finding::{Finding, act_of, overflow_at, refused};
+use crate::machine::{Machine, Setup};
+use crate::primal::mark_of;
+use crate::selecting::{Refusal, select_present};
+use crate::sweep::{Sweep, SweepVerb, asked};
+use bounded_primal::PrimalStop;
+use frac128::{Frac, Refused};
+use job_devices::Sink;
+use listing_definitions::VerbFault;
+use lp_definitions::Evidence;
+use lp_model::{Basis, Engine, Lp, Outcome, ParaEnd, ParaReport, ParaRun, Rates};
+use present_runs::{RunReport, objective_run_of, rhs_run_of};
+use problem_file::ProblemFile;
+use report_text::{Report, Sheet, text_of};
+use run_cells::{Cells, NumberCell};
+use std::alloc::Global;
+
+// The number of the formula of a row's limit at a value of the parameter.
+const LIMIT_FORMULA: u8 = 13;
+
+// Makes the run from a basis.
+fn run_from<R: Rates>(
+    alloc: Global,
+    sheet: Sheet<'_>,
+    basis: &mut Basis,
+    rates: &mut R,
+    sweep: &Sweep,
+) -> Result<RunReport, PrimalStop>
+    requires sheet { IsSheet sheet }
+    requires no_change { sheet.lp.now.change ≡ None }
+    requires rates { HasRates (R.matrix rates.old) (R.basics rates.old) sheet.lp.now basis.old }
+    requires serves { Serves sheet.problem.now sheet.lp.now sweep.now }
+    ensures answered { IfOk result (IsAnswered sheet.entry (sweep_shown sweep.now) basis.old
+        basis.new (R.waypoints rates.old) (R.waypoints rates.new)) }
+    ensures printable { IfOk result (λ answer. IsPrintable sheet.entry answer.report) }
+    ensures stops { IfErr result (StopsSweep sheet.entry (sweep_shown sweep.now) basis.old
+        basis.new (R.waypoints rates.old) (R.waypoints rates.new)) }
+    ensures rates { HasRates (R.matrix rates.new) (R.basics rates.new)
+        sheet.entry.lp.now basis.new }
+{
+    match sweep {
+        Sweep::Row { run, .. } => objective_run_of(alloc, sheet, basis, rates, run),
+        Sweep::Set { run, .. } => rhs_run_of(alloc, sheet, basis, rates, run),
+    }
+}
+
+// Prints the verdict on an opening that isn't optimal.
+fn print_opening<P: Sink>(
+    sheet: Sheet<'_>,
+    sweep: &Sweep,
+    outcome: &Outcome,
+    refused: Option<Refused>,
+    print: &mut P,
+) -> Result<Finding, Halt>
+    requires { IsOutcome sheet outcome.now }
+    ensures { (s reached : answers.Basis) (before after : List Basics) →
+        IsAnswered sheet.entry (sweep_shown sweep.now) s reached before after
+        (record { report = para_reports.Opening outcome.now; refused = refused }) →
+        Tells (SweepFinds (sheet_shown sheet.entry) s reached (sweep_shown sweep.now) before after)
+        P.written P.faults P.refusals print.old print.new result }
+{
+    let verdict = Report::Solved {
+        by: sweep.solver(),
+        sheet,
+        outcome,
+        refused,
+    };
+    text_of(&verdict, print)?;
+    Ok(Finding::Ended(mark_of(outcome)))
+}
+
+// The value at which a run ends.
+fn last_value(run: &ParaRun, to: Frac) -> Frac
+    ensures { result ≡ value_left to run.now.end }
+{
+    match &run.end {
+        ParaEnd::AtMax => to,
+        ParaEnd::Unbounded { past, .. } | ParaEnd::Infeasible { past, .. } => *past,
+    }
+}
+
+// Prints the intervals of a run and its end.
+fn print_chain<P: Sink>(
+    sheet: Sheet<'_>,
+    sweep: &Sweep,
+    run: &ParaRun,
+    print: &mut P,
+) -> Result<Finding, Halt>
+    requires { IsParametric sheet run.now }
+    ensures { (s reached : answers.Basis) (before after : List Basics) (refused : Option RefusedOperation) →
+        IsAnswered sheet.entry (sweep_shown sweep.now) s reached before after
+        (record { report = para_reports.Run run.now; refused = refused }) →
+        Tells (SweepFinds (sheet_shown sheet.entry) s reached (sweep_shown sweep.now) before after)
+        P.written P.faults P.refusals print.old print.new result }
+{
+    let to = sweep.to();
+    let report = Report::Parametric {
+        by: sweep.solver(),
+        sheet,
+        change: sweep.change(),
+        from: sweep.from(),
+        to,
+        run,
+    };
+    text_of(&report, print)?;
+    Ok(Finding::Swept(last_value(run, to)))
+}
+
+// Prints what a run has come to.
+fn print_run<P: Sink>(
+    sheet: Sheet<'_>,
+    sweep: &Sweep,
+    answer: &RunReport,
+    print: &mut P,
+) -> Result<Finding, Halt>
+    requires { IsPrintable sheet answer.now.report }
+    ensures { (s reached : answers.Basis) (before after : List Basics) →
+        IsAnswered sheet.entry (sweep_shown sweep.now) s reached before after answer.now →
+        Tells (SweepFinds (sheet_shown sheet.entry) s reached (sweep_shown sweep.now) before after)
+        P.written P.faults P.refusals print.old print.new result }
+{
+    match &answer.report {
+        ParaReport::Opening(outcome) => {
+            print_opening(sheet, sweep, outcome, answer.refused, print)
+        }
+        ParaReport::Run(run) => print_chain(sheet, sweep, run, print),
+    }
+}
+
+// An operation of a run is refused: at a basis, or in a limit of a row at the first value, which has no place.
+fn overflow_in<R: Rates>(
+    alloc: Global,
+    lp: &Lp,
+    basis: &Basis,
+    rates: &R,
+    evidence: Evidence,
+) -> Result<Finding, Halt>
+    requires rates { HasRates (R.matrix rates.now) (R.basics rates.now) lp.now basis.now }
+    requires way { evidence.formula ≢ 13 → evidence.way ≤ length (R.waypoints rates.now) }
+    ensures { IsRunOverflow basis.now (R.waypoints rates.now) evidence result }
+{
+    if evidence.formula == LIMIT_FORMULA {
+        return Ok(Finding::Overflow {
+            evidence,
+            place: None,
+        });
+    }
+    overflow_at(alloc, lp, basis, rates, evidence)
+}
+
+// Makes the run from a basis, and prints what it has come to.
+fn follow<P: Sink, R: Rates>(
+    alloc: Global,
+    sheet: Sheet<'_>,
+    basis: &mut Basis,
+    rates: &mut R,
+    sweep: &Sweep,
+    print: &mut P,
+) -> Result<Finding, Halt>
+    requires sheet { IsSheet sheet }
+    requires no_change { sheet.lp.now.change ≡ None }
+    requires rates { HasRates (R.matrix rates.old) (R.basics rates.old) sheet.lp.now basis.old }
+    requires serves { Serves sheet.problem.now sheet.lp.now sweep.now }
+    ensures tells { Tells (SweepFinds (sheet_shown sheet.entry) basis.old basis.new
+        (sweep_shown sweep.now) (R.waypoints rates.old) (R.waypoints rates.new))
+        P.written P.faults P.refusals print.old print.new result }
+    ensures rates { HasRates (R.matrix rates.new) (R.basics rates.new)
+        sheet.entry.lp.now basis.new }
+{
+    match run_from(alloc, sheet, basis, rates, sweep) {
+        Ok(answer) => print_run(sheet, sweep, &answer, print),
+        Err(PrimalStop::Limit) => Ok(Finding::Limit),
+        Err(PrimalStop::Overflow(evidence)) => {
+            overflow_in(alloc, sheet.lp, basis, rates, evidence)
+        }
+        Err(PrimalStop::NoMemory) => Err(Halt::NoMemory),
+    }
+}
+
+// Selects by the cells as they stand, and makes the run that a verb asks for, from the present basis of a setup.
+fn find<E: Engine, P: Sink>(
+    alloc: Global,
+    cells: &Cells,
+    file: &ProblemFile,
+    setup: &mut Setup<E>,
+    verb: SweepVerb,
+    print: &mut P,
+) -> Result<Finding, Halt>
+    requires { IsReady file.now setup.old }
+    ensures tells { (problem : Problem ℕ) → filed_under setup.old.name file.now ≡ Some problem →
+        Tells (Sweeps problem cells.now verb setup.old setup.new) P.written P.faults P.refusals
+        print.old print.new result }
+    ensures ready { IsReady file.now setup.new }
+{
+    // a setup's problem stays on file
+    let Some(problem) = file.get(&setup.name) else {
+        return Ok(Finding::Refused(VerbFault::NoSetup));
+    };
+    let lp = match select_present(alloc, problem, cells, setup.options) {
+        Ok(lp) => lp,
+        Err(refusal) => return refused(refusal),
+    };
+    let sweep = match asked(alloc, problem, cells, verb) {
+        Ok(sweep) => sweep,
+        Err(refusal) => return refused(refusal),
+    };
+    let sheet = Sheet { problem, lp: &lp };
+    let finding = follow(
+        alloc,
+        sheet,
+        &mut setup.basis,
+        &mut setup.engine,
+        &sweep,
+        print,
+    )?;
+    setup.lp = lp;
+    Ok(finding)
+}
+
+// A run that has gone on leaves its last value in XPARAM.
+fn leave_value(cells: &mut Cells, finding: &Finding)
+    ensures { cells.new ≡ cells_left finding.now cells.old }
+{
+    if let Finding::Swept(value) = finding {
+        cells.move_number(NumberCell::Xparam, *value);
+    }
+}
+
+// Selects by the cells as they stand, and makes the run from XPARAM to XPARMAX, from the present basis. Its intervals and its end are
+// printed, its last value is left in XPARAM, and the next statement follows. An opening that isn't optimal prints its verdict and goes
+// by the demand, if that is set. Neither leaves a mark.
+fn sweep<E: Engine, P: Sink>(
+    alloc: Global,
+    machine: &mut Machine<Setup<E>>,
+    print: &mut P,
+    card: u32,
+    verb: SweepVerb,
+) -> Result<Act, Halt>
+    requires demands { AreDemands machine.old.cells }
+    requires ready { IfSome machine.old.setup (IsReady machine.old.file) }
+    ensures acts { (cards : List (List ℕ)) →
+        Executes linear_programming (verb_of verb) card P.written P.faults P.refusals print.old
+        print.new cards machine.old machine.new result }
+    ensures sound { (cards : List (List ℕ)) → IsSound cards machine.old →
+        IsSound cards machine.new }
+{
+    let Some(setup) = &mut machine.setup else {
+        return Refusal::Fault(VerbFault::NoSetup).act(card);
+    };
+    machine.mark = None;
+    let finding = find(alloc, &machine.cells, &machine.file, setup, verb, print)?;
+    leave_value(&mut machine.cells, &finding);
+    Ok(act_of(&machine.cells, card, finding))
+}
+
+/// PARAOBJ: selects again by the cells as they stand, and makes the run of the objective from XPARAM to XPARMAX, from the present basis.
+/// Its intervals and its end are printed, its last value is left in XPARAM, and the next statement follows. An opening that isn't
+/// optimal prints its verdict and goes by the demand, if that is set. Neither leaves a mark.
+///
+/// The statement is refused where there is no setup, where the cells select nothing, where XCHROW names no N row, and where XPARMAX
+/// isn't set or is less than XPARAM. It ends the run where the run along the parameter goes on past the limit of steps, and where an
+/// operation is refused. Where there is no memory, nothing is printed.
+pub fn sweep_objective<E: Engine, P: Sink>(
+    alloc: Global,
+    machine: &mut Machine<Setup<E>>,
+    print: &mut P,
+    card: u32,
+) -> Result<Act, Halt>
+    requires demands { AreDemands machine.old.cells }
+    requires ready { IfSome machine.old.setup (IsReady machine.old.file) }
+    ensures acts { (cards : List (List ℕ)) →
+        Executes linear_programming program.Paraobj card P.written P.faults P.refusals print.old
+        print.new cards machine.old machine.new result }
+    ensures sound { (cards : List (List ℕ)) → IsSound cards machine.old →
+        IsSound cards machine.new }
+{
+    sweep(alloc, machine, print, card, SweepVerb::Paraobj)
+}
+
+/// PARARHS: the same of the right-hand side, where XCHCOL names the set that is added to it.
+pub fn sweep_rhs<E: Engine, P: Sink>(
+    alloc: Global,
+    machine: &mut Machine<Setup<E>>,
+    print: &mut P,
+    card: u32,
+) -> Result<Act, Halt>
+    requires demands { AreDemands machine.old.cells }
+    requires ready { IfSome machine.old.setup (IsReady machine.old.file) }
+    ensures acts { (cards : List (List ℕ)) →
+        Executes linear_programming program.Pararhs card P.written P.faults P.refusals print.old
+        print.new cards machine.old machine.new result }
+    ensures sound { (cards : List (List ℕ)) → IsSound cards machine.old →
+        IsSound cards machine.new }
+{
+    sweep(alloc, machine, print, card, SweepVerb::Pararhs)
+}
