@@ -138,11 +138,11 @@ def try_expected(folder):
     made = call(SCRIPTS / "expected_listing.py", "--make", "2").stdout
     check("expected_listing.py --make", made == b"CONVERT TRANSP   ROWS 5 COLUMNS 4 ENTRIES 12\nSETUP   TRANSP   MIN\n"
           b"PRIMAL OPTIMAL STEPS 4 OBJECTIVE 180 CHECKED\nEND 0\n")
-    for words, count in ((("--itself", "0", "12"), 12), (("--itself", "--parametric", "--revise", "40", "8"), 8)):
+    for words, count in ((("--itself", "40", "8"), 8), (("--itself", "--no-parametric", "--no-revise", "0", "12"), 12)):
         told = call(SCRIPTS / "random_jobs.py", *words)
         said = told.stdout.decode()
         check(f"random_jobs.py {words}: {said}", told.returncode == 0 and said.startswith(f"{count} jobs, 0 differ") and "optimal" in said)
-    for words in (("x",), ("1", "2", "3"), ("--itself", "--unproved")):
+    for words in (("x",), ("1", "2", "3"), ("--itself", "--unproved"), ("--revise",)):
         check(f"random_jobs.py: wrong use {words}", call(SCRIPTS / "random_jobs.py", *words).returncode == 64)
     check("random_jobs.py --help", call(SCRIPTS / "random_jobs.py", "--help").returncode == 0)
 
@@ -216,6 +216,26 @@ def try_listings():
     check("listing2json.py: BCDOUT", reports("bcdout-one", "bcdout") == [{"report": "bcdout", "name": "ONE", "cards": 10}])
 
 
+# A job, a listing, and what scripts/explain says of them; a listing of another job is explained by itself.
+EXPLAINED = (
+    ("examples/pararhs", "examples/pararhs", (
+        "Theta from 0 to 10: the objective is 90 + 3 theta, from 90 to 120.\nTheta from 10 to 15: the objective is 70 + 5 theta, from 120 to 145.\n"
+        "  FARM     BS, now UL: it has left the basis, and stands at its upper limit\n  COOP     LL, now BS: it has entered the basis\n"
+        "XPARMAX is reached, and XPARAM is left at 15:", "Theta from 15 to 18: the objective is 70 + 5 theta, from 145 to 160.\nPast theta = 18 no plan",
+        "-1 x NEED     which is at least 30 + theta: at most -30 - theta\n", "1/2 x FARM     which is at most 40: at most 20\n",
+        "together 0, and at most 18 - theta, which is less than 0 past 18:", "moves that end by its factor at most.")),
+    ("examples/paraobj", "examples/paraobj", (
+        "Theta from 0 to 2: the objective is 0.\nTheta from 2 to 15: the objective is -32 + 16 theta, from 0 to 208.\n  HOURS    BS, now UL:",
+        "  MAKE     LL, now BS:", "Past theta = 15 the objective has no bound.", "  BUY      changes by 1 a unit of the way\n\n"
+        "Each time the objective changes by -15 + theta, which is more than 0 past 15.")),
+    ("examples/first", "examples/pararhs", ("1/2 x FARM     which is at most its upper limit\n",)),
+    ("examples/first", "examples/paraobj", ("PROFIT   changes by -15 a unit of the way\n",)),
+    ("scripts/known/pararhs-point-interval", "scripts/known/pararhs-point-interval", ("At theta = 0 alone: the objective is 1.\n",)),
+    ("scripts/known/paraobj-unbounded-opening", "scripts/known/paraobj-unbounded-opening", (
+        "At XPARAM, where PARAOBJ begins, there is no best plan, so there are no intervals.\nThe objective has no bound.",)),
+)
+
+
 def try_explain(folder):
     examples = runner.TOP / "examples"
     told = call(SCRIPTS / "explain", examples / "conflict.job", examples / "conflict.listing").stdout.decode()
@@ -224,6 +244,22 @@ def try_explain(folder):
     listing.write_text("STOP 12 DECK FAULT 6 CARD 12\n")
     told = call(SCRIPTS / "explain", examples / "faults/deck-06.job", listing).stdout.decode()
     check("explain names the rows that are known", "Known rows: 'COST'" in told and "PROFIT    1" in told)
+    for job, name, wanted in EXPLAINED:
+        told = call(SCRIPTS / "explain", runner.TOP / f"{job}.job", runner.TOP / f"{name}.listing").stdout.decode()
+        for text in wanted:
+            check(f"explain {job} {name}: no {text!r} in {told}", text in told)
+    broken = folder / "broken.listing"
+    for old in ("TO 10", "BS 90", "1/2\nEND"):
+        for word in ("NONE", "1/0"):
+            broken.write_text((examples / "pararhs.listing").read_text().replace(old, re.sub(r"\d+(/\d+)?", word, old), 1))
+            check(f"explain: {old} as {word}", call(SCRIPTS / "explain", examples / "pararhs.job", broken).returncode == 65)
+    # at 20 the dairy needs 50, and has 28 trips and half of 40 churns: 48
+    late, listing = folder / "late.job", folder / "late.listing"
+    late.write_text((examples / "pararhs.job").read_text().replace("MOVE(XPARMAX,15)", "MOVE(XPARAM,20)\n         MOVE(XPARMAX,25)"))
+    listing.write_bytes(call(SCRIPTS / "expected_listing.py", late).stdout)
+    told = call(SCRIPTS / "explain", late, listing).stdout.decode()
+    for text in ("At XPARAM, where PARARHS begins", "which is at least 50: at most -50\n", "together 0, and at most -2: so"):
+        check(f"explain: no plan at XPARAM: no {text!r} in {told}", text in told)
 
 
 def try_help(folder):

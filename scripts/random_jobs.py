@@ -1,12 +1,13 @@
 #!/usr/bin/env python3
 """Compares the program with scripts/expected_listing.py on small jobs made at random: rows of each type, ranges, bounds of each type,
-MIN and MAX, RANGE, two right-hand sides in one run, the deck written out. Outside the gate: a run of 300 takes two minutes unproved, a few seconds else.
+MIN and MAX, RANGE, two right-hand sides in one run, PARAOBJ and PARARHS, REVISE, the deck written out. Outside the gate: a run of 300 takes some
+minutes unproved, a few seconds else.
 
-usage: random_jobs.py [--unproved | --itself] [--parametric] [--revise] [FIRST [COUNT]]      jobs FIRST, FIRST + 1, ..; 0 and 300 where nothing is said
+usage: random_jobs.py [--unproved | --itself] [--no-parametric] [--no-revise] [FIRST [COUNT]]      jobs FIRST, FIRST + 1, ..; 0 and 300 where nothing is said
 
 It prints how many differ, and the first of them whole; ends with 1 where one does, with 70 where there is no program. --unproved: the
-program as it stands, where no proved one is. --parametric, --revise: PARAOBJ and PARARHS, REVISE besides. --itself: no program runs; what
-expected_listing.py says is checked by the meaning of the words, where a job is small enough (scripts/every_basis.py)."""
+program as it stands, where no proved one is. --no-parametric: without PARAOBJ and PARARHS; --no-revise: without REVISE. --itself: no program
+runs; what expected_listing.py says is checked by the meaning of the words, where a job is small enough (scripts/every_basis.py)."""
 import collections, random, re, sys
 import every_basis, expected_listing, runner
 
@@ -33,21 +34,22 @@ def solving(name):
 
 
 def sweeping(chance, verb, change):
-    "a parametric run, after which the next one goes on"
-    first = chance.randint(-9, 9)
+    "a parametric run, after which the next one goes on; more have a plan where it begins near 0"
+    first = chance.choice((0, 0, -1, -0.5, 1, chance.randint(-9, 9)))
     return statements(change, f"MOVE(XPARAM,{first})", f"MOVE(XPARMAX,{first + chance.choice((0, 1, 5, 20, 999))})", f"MVADR(XDONFS,{verb}N)",
                       f"MVADR(XDOUNB,{verb}N)", verb, f"{verb}N:TITLE('NEXT')")
 
 
 class Deck:
     """the sections of a deck made at random. A friendly one has whole entries and a plan that keeps most of its limits, so that more of its jobs
-    have a best plan."""
+    have a best plan; in half of these each column has two limits, so that a parametric run goes through more intervals."""
     def __init__(self, chance):
         self.rows = [("N", "OBJ"), ("N", "CHG")]
         self.rows += [(chance.choice("LGELGN" if chance.random() < 0.2 else "LGE"), f"R{k}") for k in range(chance.randint(1, 4))]
         chance.shuffle(self.rows)
         is_friendly = chance.random() < 0.7
-        plan = {f"C{j}": chance.randint(0, 5) for j in range(chance.randint(0, 6))}
+        is_boxed = is_friendly and chance.random() < 0.5
+        plan = {f"C{j}": chance.randint(0, 5) for j in range(chance.randint(3 if is_boxed else 0, 6))}
         entries = {(column, row): chance.randint(-9, 9) if is_friendly else number(chance)
                    for column in plan for _, row in self.rows if chance.random() < 0.7}
         self.entries = [(column, row, value) for (column, row), value in entries.items()]
@@ -60,8 +62,8 @@ class Deck:
                     self.values.append((name, row, kept + room if is_friendly else number(chance)))
         self.ranges = [("RG", row, number(chance)) for kind, row in self.rows if kind != "N" and chance.random() < 0.3]
         for column in dict.fromkeys(column for column, _ in entries):
-            if chance.random() < 0.55:
-                for kind in chance.choice((["UP"], ["LO"], ["FX"], ["FR"], ["MI"], ["LO", "UP"])):
+            if is_boxed or chance.random() < 0.55:
+                for kind in ["LO", "UP"] if is_boxed else chance.choice((["UP"], ["LO"], ["FX"], ["FR"], ["MI"], ["LO", "UP"])):
                     room = {"LO": -chance.randint(0, 5), "UP": chance.randint(0, 5)}.get(kind, 0)
                     value = "" if kind in ("FR", "MI") else plan[column] + room if is_friendly else number(chance)
                     self.bounds.append(f" {kind} {'BD':<10}{column:<10}{value}".rstrip())
@@ -140,7 +142,7 @@ def revising(chance, deck):
 SENSES = ("'MIN'", "'MAX'")
 
 
-def job(seed, is_parametric=False, revises=False):
+def job(seed, is_parametric, revises):
     chance = random.Random(seed)
     deck = Deck(chance)
     words = (["'RANGE','RG'"] if deck.ranges else []) + (["'BOUND','BD'"] if deck.bounds else []) + [chance.choice(SENSES)]
@@ -180,13 +182,13 @@ def by_program(jobs, expected, unproved):
 
 
 def main(words):
-    modes = {word for word in words if word in ("--unproved", "--itself", "--parametric", "--revise")}
+    modes = {word for word in words if word in ("--unproved", "--itself", "--no-parametric", "--no-revise")}
     numbers = [word for word in words if word not in modes]
     if any(not word.isdigit() for word in numbers) or len(numbers) > 2 or {"--unproved", "--itself"} <= modes:
         print(__doc__)
         return 0 if words in (["-h"], ["--help"]) else 64
     first, count = [int(word) for word in numbers] + [0, 300][len(numbers):]
-    jobs = {str(seed): job(seed, "--parametric" in modes, "--revise" in modes) for seed in range(first, first + count)}
+    jobs = {str(seed): job(seed, "--no-parametric" not in modes, "--no-revise" not in modes) for seed in range(first, first + count)}
     expected, verdicts, looked, wrong = {}, collections.Counter(), 0, {}
     for name, text in jobs.items():
         run = every_basis.Watched(text) if "--itself" in modes else expected_listing.Run(text)

@@ -1,6 +1,7 @@
 -- Bounds and the ends that they make.
 use Rattle.std.proofs.Common.{◌≡◌, ◌≢◌, pos, refl, sym, subst, subst₂, ◌∙◌, ◌⊎◌, inl, inr, Bool, true, false, Option, Some, None}
 use Rattle.std.specs.Prelude.{◌↔◌, not, cond}
+use Rattle.std.proofs.lemmas.Bool.{both_ways}
 use Rattle.exact_values.specs.Rational.{ℚ, zero_ℚ, neg_ℚ, ◌*ℚ◌, ◌/ℚ◌, ◌≤ℚ◌, ◌<ℚ◌}
 use Rattle.exact_values.specs.Tests.{lt_ℚ}
 use Rattle.exact_values.proofs.Inverse.{div-mul_cancel}
@@ -12,9 +13,6 @@ use Rattle.affine_conditions.specs.Ends.{MeetsBy, Meets, is_high, end_of, IsOnSi
 use Rattle.affine_conditions.specs.declared.tightening.Bound.{Bound}
 use Rattle.affine_conditions.specs.declared.tightening.End.{End}
 use Rattle.affine_conditions.specs.declared.tightening.Ends.{Ends}
-
-clash : true ≡ false → ⊥
-clash e = cc
 
 -- ---- products and factors
 
@@ -106,7 +104,7 @@ module _ (high : Bool) (b : Bound) (apart : b.slope ≢ zero_ℚ) (side : high �
   pub made_end : (kept : Option End) (present : End) → kept ≡ Some present → (made : End) → made ≡ end_of b → (test : Bool) → test ≡ false → (IsOnSide high made.value present.value → test ≡ true) → IsNearer high b kept (Some made)
   made_end kept present is made made_is test fails told =
       subst₂ (λ k m. IsNearer high b k (Some m)) (sym is) (sym made_is)
-      (made_there present (subst (λ (m : End). IsOnSide high present.value m.value) made_is (side_total high present.value made.value (λ h. clash (sym (told h) ∙ fails)))))
+      (made_there present (subst (λ (m : End). IsOnSide high present.value m.value) made_is (side_total high present.value made.value (λ h. both_ways _ fails (told h)))))
 
 -- ---- an interval
 

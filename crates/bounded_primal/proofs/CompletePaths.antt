@@ -12,7 +12,8 @@ use Rattle.path_definitions.specs.Counts.{counted_steps}
 use Rattle.path_laws.specs.Laws.{IsNonsingularBasis}
 use Rattle.path_laws.proofs.OnePath.{one_path, not_both}
 use Rattle.termination_laws.specs.Laws.{lists_of}
-use Rattle.bounded_primal.specs.Calls.{HasRates, CallEnds, outcome_of}
+use Rattle.basis_values.specs.Calls.{HasRates}
+use Rattle.bounded_primal.specs.Calls.{CallEnds, outcome_of}
 use Rattle.bounded_primal.specs.Stops.{PrimalStops, FreeStops}
 use Rattle.bounded_primal.specs.Complete.{EndsUnhindered, EndsFreely, IsEndOr, IsEndOrMemory, IsFreeEndOrMemory}
 use Rattle.bounded_primal.specs.declared.moves.PrimalStop.{PrimalStop}

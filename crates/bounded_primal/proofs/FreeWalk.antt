@@ -14,7 +14,8 @@ use Rattle.lp_model.specs.declared.reports.Outcome.{Outcome}
 use Rattle.path_definitions.specs.Counts.{counted_steps}
 use Rattle.evidence_definitions.specs.Statements.{SolvingStatement}
 use Rattle.evidence_definitions.specs.Evidence.{IsAhead}
-use Rattle.bounded_primal.specs.Calls.{HasRates, CallEnds, job_of}
+use Rattle.basis_values.specs.Calls.{HasRates, job_of}
+use Rattle.bounded_primal.specs.Calls.{CallEnds}
 use Rattle.bounded_primal.specs.Stops.{primal_stop_of, PrimalStops, FreeStops}
 use Rattle.bounded_primal.specs.Turns.{EndsHere, EvidenceAt, TurnStops}
 use Rattle.bounded_primal.specs.declared.moves.PrimalStop.{PrimalStop}

@@ -1,14 +1,3 @@
-pub mod Covered
-pub mod Existence
-pub mod Lengths
-pub mod Nearest
-pub mod PointSums
-pub mod PriceLaws
-pub mod RatesStops
-pub mod Refusals
-pub mod Skips
-pub mod Writes
-pub mod TermLaws
 pub mod Returns
 pub mod StepFacts
 pub mod StepRefusals
@@ -22,3 +11,6 @@ pub mod WalkCases
 pub mod TrueOutcomes
 pub mod FreeWalk
 pub mod CompletePaths
+pub mod StopperFacts
+pub mod Inside
+pub mod AtOnce

@@ -12,7 +12,8 @@ use Rattle.lp_laws.proofs.WaypointLaws.{within_itself, within_by}
 use Rattle.path_definitions.specs.Path.{IsStep, EndsAt, IsPath, last_of}
 use Rattle.path_definitions.specs.Counts.{counted_steps}
 use Rattle.evidence_definitions.specs.Evidence.{EvidenceHolds}
-use Rattle.bounded_primal.specs.Calls.{CallEnds, LieIn, WaypointsFollow, job_of, outcome_of}
+use Rattle.basis_values.specs.Calls.{LieIn, job_of}
+use Rattle.bounded_primal.specs.Calls.{CallEnds, WaypointsFollow, outcome_of}
 use Rattle.bounded_primal.specs.Stops.{PathFrom, PrimalStops}
 use Rattle.bounded_primal.specs.Turns.{EndsHere, TurnStops}
 use Rattle.bounded_primal.specs.declared.moves.PrimalStop.{PrimalStop}

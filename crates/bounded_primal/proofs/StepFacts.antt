@@ -20,10 +20,11 @@ use Rattle.lp_laws.proofs.Points.{IsPointOf-replaced, IsPointOf-flipped}
 use Rattle.path_definitions.specs.Moves.{signed, limit_ahead, room, stopper}
 use Rattle.path_laws.proofs.Stoppers.{stopper_some, reaches_limit}
 use Rattle.evidence_definitions.specs.Formulas.{limit_numbered, number_of_limit}
-use Rattle.bounded_primal.specs.Calls.{HasRates}
-use Rattle.bounded_primal.specs.Moves.{motion, stop_at, IsStepBy, is_stopper, brings}
+use Rattle.basis_values.specs.Calls.{HasRates}
+use Rattle.basis_values.specs.Motions.{motion}
+use Rattle.bounded_primal.specs.Moves.{stop_at, IsStepBy, is_stopper, brings}
 use Rattle.bounded_primal.specs.declared.moves.Stopper.{Stopper}
-use Rattle.bounded_primal.proofs.Lengths.{signed_over}
+use Rattle.basis_values.proofs.Lengths.{signed_over}
 
 -- the stopper goes to a limit that it has, and the step brings it there
 pub record ReachesLimit (p : LinearProgram) (z d : Vector) (by : Stopper) : Type 0 where

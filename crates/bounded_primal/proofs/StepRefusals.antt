@@ -19,13 +19,13 @@ use Rattle.lp_laws.proofs.Uniqueness.{one_direction}
 use Rattle.evidence_definitions.specs.Formulas.{MoveFormula, f8, f9, IsStepTo}
 use Rattle.evidence_definitions.specs.Statements.{Primal, belongs, is_between}
 use Rattle.evidence_definitions.specs.Evidence.{ShowsRefusal, by_move, names_waypoint}
-use Rattle.bounded_primal.specs.Calls.{HasRates, StopsAt, job_of}
+use Rattle.basis_values.specs.Calls.{HasRates, StopsAt, job_of}
 use Rattle.bounded_primal.specs.Moves.{IsStepBy, StepRefused}
 use Rattle.bounded_primal.specs.Steps.{MovedRefused, of_product, of_sum, SomeMovedRefused}
 use Rattle.bounded_primal.specs.declared.moves.Stopper.{Stopper}
-use Rattle.bounded_primal.proofs.Existence.{rates_exist}
-use Rattle.bounded_primal.proofs.Refusals.{IsTableau-changed, no_parameter}
-use Rattle.bounded_primal.proofs.RatesStops.{stops_by_exchange, keeps_at}
+use Rattle.basis_values.proofs.Existence.{rates_exist}
+use Rattle.basis_values.proofs.Refusals.{IsTableau-changed, no_parameter}
+use Rattle.basis_values.proofs.RatesStops.{stops_by_exchange, keeps_at}
 use Rattle.bounded_primal.proofs.StepFacts.{ReachesLimit, reaches}
 
 -- the formulas of a move name no waypoint, and know of no change row

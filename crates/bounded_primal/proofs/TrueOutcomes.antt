@@ -20,7 +20,8 @@ use Rattle.path_laws.proofs.Endless.{crossed_end, unbounded_end}
 use Rattle.path_laws.proofs.Rays.{infeasible_end}
 use Rattle.path_laws.proofs.OnePath.{path_leads}
 use Rattle.path_definitions.specs.Counts.{counted_steps}
-use Rattle.bounded_primal.specs.Calls.{HasRates, CallEnds, outcome_of}
+use Rattle.basis_values.specs.Calls.{HasRates}
+use Rattle.bounded_primal.specs.Calls.{CallEnds, outcome_of}
 use Rattle.bounded_primal.specs.Outcomes.{IsTrueOutcome}
 use Rattle.bounded_primal.specs.Turns.{EndsHere}
 use Rattle.bounded_primal.proofs.PathWalk.{begins, ends_there}

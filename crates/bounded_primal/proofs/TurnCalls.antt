@@ -14,8 +14,8 @@ use Rattle.path_definitions.specs.Moves.{is_below, is_outside, entering}
 use Rattle.path_definitions.specs.Path.{Move, after, IsStep}
 use Rattle.path_laws.proofs.Numbered.{find_some}
 use Rattle.evidence_definitions.specs.Statements.{PathMoves}
-use Rattle.bounded_primal.specs.Calls.{HasRates, LieIn}
-use Rattle.bounded_primal.specs.Moves.{motion}
+use Rattle.basis_values.specs.Calls.{HasRates, LieIn}
+use Rattle.basis_values.specs.Motions.{motion}
 use Rattle.bounded_primal.specs.Turns.{IsUncrossed, least_outside, mover_by, ReturnStops, by_column, by_return, RunStops, by_direction, by_stopper, EvidenceAt, TurnStops, TurnFound}
 use Rattle.bounded_primal.specs.declared.moves.PrimalStop.{PrimalStop}
 use Rattle.bounded_primal.specs.declared.moves.PrimalStop.TheVariants.{Limit, Overflow, NoMemory}

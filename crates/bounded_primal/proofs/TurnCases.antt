@@ -14,8 +14,9 @@ use Rattle.lp_model.specs.declared.reports.Outcome.{Outcome}
 use Rattle.lp_model.specs.declared.reports.Outcome.TheVariants.{Optimal, Infeasible}
 use Rattle.path_definitions.specs.Moves.{is_below, entering}
 use Rattle.evidence_definitions.specs.Formulas.{limit_numbered, number_of_limit}
-use Rattle.bounded_primal.specs.Calls.{HasRates, PointRefused}
-use Rattle.bounded_primal.specs.Moves.{may_move, motion, stopper_of, return_by, move_by}
+use Rattle.basis_values.specs.Calls.{HasRates, PointRefused}
+use Rattle.basis_values.specs.Motions.{may_move, motion}
+use Rattle.bounded_primal.specs.Moves.{stopper_of, return_by, move_by}
 use Rattle.bounded_primal.specs.Stops.{primal_stop_of}
 use Rattle.bounded_primal.specs.Turns.{IsUncrossed, least_outside, ray_from, mover_by, Betters, IsEndless, ReturnStops, RunStops, EndsHere, MovesOn, TurnStops}
 use Rattle.bounded_primal.specs.declared.moves.PrimalStop.TheVariants.{Limit}

@@ -27,12 +27,13 @@ use Rattle.path_laws.proofs.Rays.{Breaks, breaks_lower, breaks_upper, broken_bas
 use Rattle.path_laws.proofs.Steps.{rate_apart}
 use Rattle.evidence_definitions.specs.Formulas.{limit_numbered, number_of_limit}
 use Rattle.evidence_definitions.specs.Statements.{PathMoves, PathEnters}
-use Rattle.bounded_primal.specs.Moves.{may_move, motion, stop_at, stopper_of, return_by, IsStepBy, is_stopper, brings, move_by}
+use Rattle.basis_values.specs.Motions.{may_move, motion}
+use Rattle.bounded_primal.specs.Moves.{stop_at, stopper_of, return_by, IsStepBy, is_stopper, brings, move_by}
 use Rattle.bounded_primal.specs.Turns.{IsUncrossed, least_outside, ray_from, worth_by, moved_by, mover_by, IsEndless, EndsHere, MovesOn}
 use Rattle.bounded_primal.specs.declared.turns.Mover.{Mover}
 use Rattle.bounded_primal.specs.declared.moves.Stopper.{Stopper}
-use Rattle.bounded_primal.proofs.Existence.{rates_exist}
-use Rattle.bounded_primal.proofs.RatesStops.{tableau_of, IsTableau-of}
+use Rattle.basis_values.proofs.Existence.{rates_exist}
+use Rattle.basis_values.proofs.RatesStops.{tableau_of, IsTableau-of}
 use Rattle.bounded_primal.proofs.SameChoices.{entering_same, stopper_same, listed_is}
 
 signed_zero : (up : Bool) → signed up zero_ℚ ≡ zero_ℚ

@@ -22,7 +22,7 @@ use Rattle.postoptimal_definitions.specs.ObjectiveRun.{objective_family}
 use Rattle.evidence_definitions.specs.Formulas.{PointFormula, f6, f7, MoveFormula, f8, f9, limit_numbered, number_of_limit}
 use Rattle.evidence_definitions.specs.Statements.{SolvingStatement, Primal, is_between, belongs, program_at, PathMoves, PathEnters, MovesAt, EntersAt}
 use Rattle.evidence_definitions.specs.Evidence.{Formula, by_exchange, by_entry, by_carried, by_point, by_slack, by_move, by_ratio, by_range, by_objective, by_slope, ShowsRefusal, IsLeaver, GoesTo, TakesStep, IsOfMove}
-use Rattle.bounded_primal.specs.Calls.{StopsAt, job_of, is_of_point, PointRefused}
+use Rattle.basis_values.specs.Calls.{StopsAt, job_of, is_of_point, PointRefused}
 use Rattle.bounded_primal.specs.Moves.{StopperRefused, StepRefused, stopper_of, move_by}
 use Rattle.bounded_primal.specs.Steps.{ReturnRefused, of_distance, of_quotient}
 use Rattle.bounded_primal.specs.Stops.{primal_stop_of}
@@ -31,9 +31,9 @@ use Rattle.lp_model.specs.RatesCalls.{IfOverflow}
 use Rattle.lp_model.specs.declared.Stop.{Stop}
 use Rattle.lp_model.specs.declared.Stop.TheVariants as stop
 use Rattle.bounded_primal.specs.declared.moves.Stopper.{Stopper}
-use Rattle.bounded_primal.proofs.Covered.{stops_covered}
-use Rattle.bounded_primal.proofs.Existence.{rates_exist}
-use Rattle.bounded_primal.proofs.Refusals.{stops_at_basis}
+use Rattle.basis_values.proofs.Covered.{stops_covered}
+use Rattle.basis_values.proofs.Existence.{rates_exist}
+use Rattle.basis_values.proofs.Refusals.{stops_at_basis}
 
 -- ---- the limits to which a step may go
 

@@ -1,10 +1,6 @@
 pub mod Calls
-pub mod Formulas
-pub mod Reach
 pub mod Moves
 pub mod Stops
-pub mod Points
-pub mod Prices
 pub mod Steps
 pub mod Turns
 pub mod Outcomes

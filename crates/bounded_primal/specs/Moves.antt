@@ -1,12 +1,10 @@
 -- What a move asks and gives.
---     may_move p s up q            q may move up, or down
---     motion d up                  how fast each variable moves, where what has the direction d rises or falls
 --     stopper_of p z d up          what stops that motion
 --     return_by p z d k to         what brings k to the limit of the status to
 --     IsStepBy p s z d q by        by is what stops the motion, or it brings a basic to a limit
 --     move_by q by                 the move of the basis
 --     StopperRefused, StepRefused  evidence of a refused call
-use Rattle.std.specs.Prelude.{◌≡◌, ℕ, Bool, ◌&&◌, ◌||◌, not, List, [], ◌∷◌, Option, Some, IsSome, option_map, unwrap_or, if◌then◌else◌, IsTrue, nat_eq, Result, IfErr}
+use Rattle.std.specs.Prelude.{◌≡◌, ℕ, Bool, ◌&&◌, ◌||◌, not, List, [], ◌∷◌, Option, Some, IsSome, option_map, unwrap_or, IsTrue, nat_eq, Result, IfErr}
 use Rattle.exact_values.specs.Rational.{ℚ, zero_ℚ, ◌-ℚ◌, ◌/ℚ◌}
 use Rattle.lp_definitions.specs.LinearProgram.{LinearProgram, Vector}
 use Rattle.lp_definitions.specs.Solutions.{IsFeasible}
@@ -15,18 +13,13 @@ use Rattle.lp_definitions.specs.declared.Evidence.{Evidence}
 use Rattle.lp_definitions.specs.declared.Status.{Status}
 use Rattle.lp_model.specs.declared.Stop.{Stop}
 use Rattle.lp_model.specs.RatesCalls.{IfOverflow}
-use Rattle.path_definitions.specs.Moves.{may_rise, may_fall, signed, room, stopper, reached}
+use Rattle.path_definitions.specs.Moves.{signed, room, stopper, reached}
 use Rattle.path_definitions.specs.Path.{Move}
 use Rattle.evidence_definitions.specs.Formulas.{limit_numbered, number_of_limit}
 use Rattle.evidence_definitions.specs.Statements.{Primal, belongs, is_between}
-use Rattle.bounded_primal.specs.Calls.{StopsAt}
+use Rattle.basis_values.specs.Calls.{StopsAt}
+use Rattle.basis_values.specs.Motions.{may_move, motion}
 use Rattle.bounded_primal.specs.declared.moves.Stopper.{Stopper}
-
-abbrev pub may_move : LinearProgram → List Status → Bool → ℕ → Bool
-may_move p s up q = if up then may_rise p s q else may_fall p s q
-
-abbrev pub motion : Vector → Bool → Vector
-motion d up k = signed up (d k)
 
 -- k as what stops the motion: the change of what moves, and the limit that k reaches
 abbrev pub stop_at : LinearProgram → Vector → Vector → Bool → ℕ → Stopper

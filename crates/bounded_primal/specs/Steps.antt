@@ -10,9 +10,9 @@ use Rattle.lp_definitions.specs.LinearProgram.{LinearProgram, Vector}
 use Rattle.lp_definitions.specs.declared.Evidence.{Evidence}
 use Rattle.lp_definitions.specs.declared.Status.{Status}
 use Rattle.evidence_definitions.specs.Formulas.{limit_numbered, number_of_limit}
-use Rattle.bounded_primal.specs.Formulas.{IsRefusal}
-use Rattle.bounded_primal.specs.Reach.{reach_formula}
-use Rattle.bounded_primal.specs.declared.formula.Formula.{Formula}
+use Rattle.basis_values.specs.Formulas.{IsRefusal}
+use Rattle.basis_values.specs.Reach.{reach_formula}
+use Rattle.basis_values.specs.declared.formula.Formula.{Formula}
 use Rattle.bounded_primal.specs.declared.moves.Stopper.{Stopper}
 
 abbrev pub step_formula : ℕ → ℕ → ℕ → ℕ → Formula

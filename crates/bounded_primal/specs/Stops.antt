@@ -1,14 +1,13 @@
 -- What holds after a solving call stopped.
-use Rattle.std.specs.Prelude.{◌≡◌, ℕ, ◌≤◌, List, length, Result, IfErr}
+use Rattle.std.specs.Prelude.{◌≡◌, ℕ, ◌≤◌, List, length}
 use Rattle.lp_definitions.specs.LinearProgram.{LinearProgram}
 use Rattle.lp_definitions.specs.Basis.{Basics}
 use Rattle.lp_definitions.specs.declared.Status.{Status}
 use Rattle.lp_model.specs.declared.Stop.{Stop}
 use Rattle.lp_model.specs.declared.Stop.TheVariants as stop
-use Rattle.lp_model.specs.RatesCalls.{IfOverflow}
 use Rattle.path_definitions.specs.Path.{IsPath, last_of}
 use Rattle.termination_laws.specs.Laws.{lists_of}
-use Rattle.bounded_primal.specs.Calls.{PathGoesOn, StopsOnPath, PointRefused, RangeRefused}
+use Rattle.bounded_primal.specs.Calls.{PathGoesOn, StopsOnPath}
 use Rattle.bounded_primal.specs.declared.moves.PrimalStop.{PrimalStop}
 use Rattle.bounded_primal.specs.declared.moves.PrimalStop.TheVariants.{Limit, Overflow, NoMemory}
 
@@ -29,10 +28,3 @@ PrimalStops p s now limit before after NoMemory = (bases : List (List Status)) �
 -- what stops a path without a limit: the path has fewer steps than there are status lists, so as many would never be reached
 abbrev pub FreeStops : LinearProgram → List Status → List Status → List Basics → List Basics → Stop → Type 0
 FreeStops p s now before after stop = PrimalStops p s now (lists_of p) before after (primal_stop_of stop)
-
--- an overflow of `point_of` and `prices_of`, and one of `range`
-abbrev pub PointOverflow : Result (Unit {0}) Stop → LinearProgram → List Status → List Basics → List Basics → Type 0
-PointOverflow result p s before after = IfErr result (λ stop. IfOverflow stop (PointRefused p before s after))
-
-abbrev pub RangeOverflow : {T : Type 0} → Result T Stop → LinearProgram → List Status → List Basics → List Basics → Type 0
-RangeOverflow result p s before after = IfErr result (λ stop. IfOverflow stop (RangeRefused p before s after))

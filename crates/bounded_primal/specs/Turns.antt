@@ -21,8 +21,10 @@ use Rattle.evidence_definitions.specs.Statements.{PathMoves, PathEnters}
 use Rattle.evidence_definitions.specs.Evidence.{EvidenceHolds}
 use Rattle.lp_model.specs.declared.Stop.{Stop}
 use Rattle.bounded_primal.specs.Stops.{primal_stop_of}
-use Rattle.bounded_primal.specs.Calls.{LieIn, job_of, outcome_of, PointRefused}
-use Rattle.bounded_primal.specs.Moves.{motion, IsStepBy, move_by, StopperRefused}
+use Rattle.basis_values.specs.Calls.{LieIn, job_of, PointRefused}
+use Rattle.bounded_primal.specs.Calls.{outcome_of}
+use Rattle.basis_values.specs.Motions.{motion}
+use Rattle.bounded_primal.specs.Moves.{IsStepBy, move_by, StopperRefused}
 use Rattle.bounded_primal.specs.Steps.{ReturnRefused}
 use Rattle.bounded_primal.specs.declared.moves.PrimalStop.{PrimalStop}
 use Rattle.bounded_primal.specs.declared.moves.PrimalStop.TheVariants.{Limit, Overflow, NoMemory}

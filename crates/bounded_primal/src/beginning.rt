@@ -2,7 +2,7 @@
 
 ghost use Rattle.std.specs.Prelude.{◌≡◌, [], ◌∷◌, IfOk};
 ghost use Rattle.lp_definitions.specs.Basis.{opening_statuses};
-ghost use Rattle.bounded_primal.specs.Calls.{HasRates, LieIn};
+ghost use Rattle.basis_values.specs.Calls.{HasRates, LieIn};
 
 use lp_model::{Basis, Engine, Lp, NoMemory};
 use std::alloc::Global;

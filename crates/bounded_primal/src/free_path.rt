@@ -7,18 +7,18 @@ ghost use Rattle.lp_definitions.specs.Waypoints.{KeepsWaypoints};
 ghost use Rattle.lp_definitions.specs.declared.Status.{Status};
 ghost use Rattle.path_definitions.specs.Path.{Ending};
 ghost use Rattle.termination_laws.specs.Laws.{lists_of};
-ghost use Rattle.bounded_primal.specs.Calls.{HasRates, CallEnds, WaypointsFollow};
+ghost use Rattle.basis_values.specs.Calls.{HasRates};
+ghost use Rattle.bounded_primal.specs.Calls.{CallEnds, WaypointsFollow};
 ghost use Rattle.bounded_primal.specs.Complete.{EndsFreely, IsFreeEndOrMemory};
 ghost use Rattle.bounded_primal.specs.Outcomes.{IsTrueOutcome};
 ghost use Rattle.bounded_primal.specs.Stops.{primal_stop_of, FreeStops};
-ghost use Rattle.bounded_primal.specs.Turns.{IsUncrossed, FreeTurnFound};
+ghost use Rattle.bounded_primal.specs.Turns.{IsUncrossed, least_outside, FreeTurnFound};
 
-use crate::choices::crossed;
 use crate::moves::PrimalStop;
-use crate::path::room;
-use crate::point::point_of;
+use crate::path::{outside_after, room};
 use crate::step::take_step;
 use crate::turns::{Turn, next_turn};
+use basis_values::{crossed, outside, point_of};
 use frac128::Frac;
 use lp_model::{Basis, Lp, Outcome, Rates, Stop};
 use std::alloc::Global;
@@ -37,7 +37,8 @@ fn unlimited(stop: PrimalStop) -> Stop
     }
 }
 
-/// What the path does at the basis, where a step is always left. `row` and `direction` are room.
+/// What the path does at the basis, where `broken` is the least-numbered basic outside its limits, and a step is always left. `row`
+/// and `direction` are room.
 fn free_turn<R: Rates>(
     alloc: Global,
     lp: &Lp,
@@ -46,6 +47,7 @@ fn free_turn<R: Rates>(
     point: &[Frac],
     row: &mut [Frac],
     direction: &mut [Frac],
+    broken: Option<u32>,
     steps: u32,
 ) -> Result<Turn, Stop>
     requires lawful { IsLinearProgram lp.now }
@@ -55,6 +57,7 @@ fn free_turn<R: Rates>(
     requires direction_places { length direction.old ≡ size lp.now.matrix }
     requires point { IsPointOf lp.now basis.now (value_at point.now) }
     requires uncrossed { IsUncrossed lp.now }
+    requires broken { broken ≡ least_outside lp.now basis.now (value_at point.now) }
     ensures turn { FreeTurnFound result lp.now basis.now steps (value_at point.now)
         (value_at direction.new)
         (R.waypoints rates.old) (R.waypoints rates.new) }
@@ -62,7 +65,9 @@ fn free_turn<R: Rates>(
     ensures waypoints { KeepsWaypoints lp.now.matrix (basics_of basis.now) (R.waypoints rates.old)
         (basics_of basis.now) (R.waypoints rates.new) }
 {
-    match next_turn(alloc, lp, basis, rates, point, row, direction, steps, 1) {
+    match next_turn(
+        alloc, lp, basis, rates, point, row, direction, broken, steps, 1,
+    ) {
         Ok(turn) => Ok(turn),
         Err(stop) => Err(unlimited(stop)),
     }
@@ -98,12 +103,16 @@ fn walk_free<R: Rates, L: Ledger>(
 {
     let (mut book, mut share) = blank.open::<L>();
     point_of(alloc, lp, basis, rates, point)?;
+    let mut broken = outside(lp, basis, point);
     let mut steps: u32 = 0;
     loop {
-        match free_turn(alloc, lp, basis, rates, point, row, direction, steps)? {
+        match free_turn(
+            alloc, lp, basis, rates, point, row, direction, broken, steps,
+        )? {
             Turn::Ends(outcome) => return Ok(outcome),
             Turn::Moves { q, by } => take_step(lp, basis, rates, point, direction, q, &by)?,
         }
+        broken = outside_after(lp, basis, point, broken);
         book.add(&mut share, 1);
         steps = steps.saturating_add(1);
     }

@@ -3,26 +3,18 @@
 #![tactic(auto)]
 
 mod beginning;
-mod choices;
-mod formula;
 mod free_path;
 mod moves;
 mod path;
-mod point;
-mod prices;
-mod reach;
 mod step;
 mod stopping;
 mod turns;
 
+pub use basis_values::{Formula, counted, may_lower, plus_product, point_of, prices_of};
 pub use beginning::opening;
-pub use choices::{counted, may_lower};
-pub use formula::{Formula, plus_product};
 pub use free_path::primal_free;
 pub use moves::{PrimalStop, Stopper};
 pub use path::primal;
-pub use point::point_of;
-pub use prices::prices_of;
 pub use step::{returning, take_step};
 pub use stopping::stopper;
 pub use turns::{limit_broken, ray_of, return_of};

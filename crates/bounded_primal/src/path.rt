@@ -1,21 +1,21 @@
 //! The path of the bounded simplex method.
 
-ghost use Rattle.std.specs.Prelude.{◌≡◌, ◌<◌, List, length, vec_len, IfOk, IfErr, IsErrOf};
-ghost use Rattle.lp_definitions.specs.LinearProgram.{size, IsLinearProgram};
+ghost use Rattle.std.specs.Prelude.{◌≡◌, ◌<◌, None, List, length, vec_len, IfOk, IfErr, IsErrOf};
+ghost use Rattle.lp_definitions.specs.LinearProgram.{size, value_at, IsLinearProgram};
 ghost use Rattle.lp_definitions.specs.declared.Status.{Status};
 ghost use Rattle.path_definitions.specs.Path.{Ending};
-ghost use Rattle.bounded_primal.specs.Calls.{HasRates, CallEnds, WaypointsFollow};
+ghost use Rattle.basis_values.specs.Calls.{HasRates};
+ghost use Rattle.bounded_primal.specs.Calls.{CallEnds, WaypointsFollow};
 ghost use Rattle.bounded_primal.specs.Complete.{EndsUnhindered, IsEndOrMemory};
 ghost use Rattle.bounded_primal.specs.Outcomes.{IsTrueOutcome};
 ghost use Rattle.bounded_primal.specs.Stops.{PrimalStops};
-ghost use Rattle.bounded_primal.specs.Turns.{IsUncrossed};
+ghost use Rattle.bounded_primal.specs.Turns.{IsUncrossed, least_outside};
 ghost use Rattle.termination_laws.specs.Laws.{lists_of};
 
-use crate::choices::crossed;
 use crate::moves::PrimalStop;
-use crate::point::point_of;
 use crate::step::take_step;
 use crate::turns::{Turn, next_turn};
+use basis_values::{crossed, outside, point_of};
 use frac128::Frac;
 use lp_model::{Basis, Lp, NoMemory, Outcome, Rates};
 use std::alloc::Global;
@@ -25,6 +25,19 @@ pub fn room(alloc: Global, size: usize) -> Result<Vec<Frac>, NoMemory>
     ensures { IfOk result (λ room. vec_len room ≡ size) }
 {
     vec![in alloc; Frac::whole(0); size].map_err(|_| NoMemory)
+}
+
+/// The least-numbered basic outside its limits after a step. Where there was none before the step, there is none.
+pub fn outside_after(lp: &Lp, basis: &Basis, point: &[Frac], broken: Option<u32>) -> Option<u32>
+    requires counted { length basis.now ≡ size lp.now.matrix }
+    requires places { length point.now ≡ size lp.now.matrix }
+    requires stays { broken ≡ None → least_outside lp.now basis.now (value_at point.now) ≡ None }
+    ensures { result ≡ least_outside lp.now basis.now (value_at point.now) }
+{
+    if broken.is_none() {
+        return None;
+    }
+    outside(lp, basis, point)
 }
 
 /// Makes the basis's point, and goes from basis to basis with it. `point`, `row` and `direction` are room.
@@ -52,6 +65,7 @@ fn walk<R: Rates>(
         (R.waypoints rates.new) }
 {
     point_of(alloc, lp, basis, rates, point)?;
+    let mut broken = outside(lp, basis, point);
     let mut steps = 0;
     loop {
         match next_turn(
@@ -62,12 +76,14 @@ fn walk<R: Rates>(
             point,
             row,
             direction,
+            broken,
             steps,
             limit - steps,
         )? {
             Turn::Ends(outcome) => return Ok(outcome),
             Turn::Moves { q, by } => take_step(lp, basis, rates, point, direction, q, &by)?,
         }
+        broken = outside_after(lp, basis, point, broken);
         steps += 1;
     }
 }

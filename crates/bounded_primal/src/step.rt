@@ -7,13 +7,12 @@ ghost use Rattle.lp_definitions.specs.Basis.{basics_of, IsNonbasic, IsPointOf, I
 ghost use Rattle.lp_definitions.specs.Waypoints.{KeepsWaypoints};
 ghost use Rattle.path_definitions.specs.Path.{after};
 ghost use Rattle.evidence_definitions.specs.Formulas.{limit_numbered, number_of_limit};
-ghost use Rattle.bounded_primal.specs.Calls.{HasRates};
+ghost use Rattle.basis_values.specs.Calls.{HasRates};
 ghost use Rattle.bounded_primal.specs.Moves.{IsStepBy, move_by, return_by, StepOverflow};
 ghost use Rattle.bounded_primal.specs.Steps.{IsMoved, MovedRefused, SomeMovedRefused, ReturnRefused, step_formula};
 
-use crate::formula::{Formula, plus_product};
 use crate::moves::Stopper;
-use crate::reach;
+use basis_values::{Formula, plus_product, reach};
 use frac128::Frac;
 use lp_model::{Basis, Evidence, Lp, Rates, Status, Stop};
 

@@ -1,20 +1,33 @@
 //! What stops a move.
 
-ghost use Rattle.std.specs.Prelude.{◌≡◌, length, IfOk, IfErr, IsTrue};
+ghost use Rattle.std.specs.Prelude.{◌≡◌, ◌↔◌, Some, length, IfOk, IfErr, IsTrue};
+ghost use Rattle.exact_values.specs.Rational.{zero_ℚ};
 ghost use Rattle.lp_definitions.specs.LinearProgram.{size, value_at, IsVariable};
 ghost use Rattle.lp_definitions.specs.Solutions.{IsFeasible};
 ghost use Rattle.lp_definitions.specs.Basis.{basics_of, IsBasis, IsNonbasic, IsNonsingular, IsPointOf, IsDirectionOf};
 ghost use Rattle.path_definitions.specs.Moves.{room, signed, reached};
-ghost use Rattle.bounded_primal.specs.Moves.{may_move, motion, stopper_of, StopperRefused};
-ghost use Rattle.bounded_primal.specs.Reach.{IsNearest, SomeRoomRefused};
+ghost use Rattle.basis_values.specs.Motions.{may_move, motion};
+ghost use Rattle.bounded_primal.specs.Moves.{stopper_of, StopperRefused};
+ghost use Rattle.basis_values.specs.Reach.{length_of, IsNearest, SomeRoomRefused};
 
-use crate::choices::{counted, is_less};
 use crate::moves::Stopper;
-use crate::reach::{Reach, length_to, nearer};
+use basis_values::reach::{Reach, length_to, nearer};
+use basis_values::{counted, is_less};
 use frac128::Frac;
 use lp_model::{Basis, Evidence, Lp, Status};
 
-/// What reaches a limit first where `q` moves up or down.
+/// Whether a limit is reached at once.
+fn is_at_once(nearest: &Option<Reach>) -> bool
+    ensures { IsTrue result ↔ (length_of nearest.now ≡ Some zero_ℚ) }
+{
+    match nearest {
+        Some(reach) => reach.length.is_zero(),
+        None => false,
+    }
+}
+
+/// What reaches a limit first where `q` moves up or down from the feasible point. The search ends where a limit is reached at once,
+/// since none is reached sooner.
 fn nearest(
     lp: &Lp,
     point: &[Frac],
@@ -24,6 +37,7 @@ fn nearest(
 ) -> Result<Option<Reach>, Evidence>
     requires point_places { length point.now ≡ size lp.now.matrix }
     requires direction_places { length direction.now ≡ size lp.now.matrix }
+    requires feasible { IsFeasible lp.now (value_at point.now) }
     ensures nearest { IfOk result (IsNearest (room lp.now (value_at point.now)
         (motion (value_at direction.now) up)) (size lp.now.matrix)) }
     ensures refused { IfErr result (SomeRoomRefused lp.now (value_at point.now)
@@ -33,6 +47,9 @@ fn nearest(
     for k in 0..lp.number_of_variables() {
         let length = length_to(lp, point, direction, up, q, k + 1)?;
         nearest = nearer(nearest, length, k + 1);
+        if is_at_once(&nearest) {
+            return Ok(nearest);
+        }
     }
     Ok(nearest)
 }

@@ -9,15 +9,15 @@ ghost use Rattle.lp_definitions.specs.Waypoints.{KeepsWaypoints};
 ghost use Rattle.lp_model.specs.RatesCalls.{IsRowOf, IfOverflow};
 ghost use Rattle.path_definitions.specs.Moves.{signed, entering};
 ghost use Rattle.evidence_definitions.specs.Formulas.{limit_numbered, number_of_limit};
-ghost use Rattle.bounded_primal.specs.Calls.{HasRates, PointRefused};
-ghost use Rattle.bounded_primal.specs.Moves.{may_move, motion, return_by, stopper_of as stopper_by};
+ghost use Rattle.basis_values.specs.Calls.{HasRates, PointRefused};
+ghost use Rattle.basis_values.specs.Motions.{may_move, motion};
+ghost use Rattle.bounded_primal.specs.Moves.{return_by, stopper_of as stopper_by};
 ghost use Rattle.bounded_primal.specs.Turns.{IsUncrossed, least_outside, ray_from, mover_by, Betters, IsEndless, ReturnStops, RunStops, TurnFound};
 
-use crate::choices::{counted, enterer, is_less, lies_below, outside};
 use crate::moves::{PrimalStop, Stopper};
-use crate::prices::fill_prices;
 use crate::step::returning;
 use crate::stopping::stopper;
+use basis_values::{counted, enterer, fill_prices, is_less, lies_below};
 use frac128::Frac;
 use lp_model::{
     Basis, Direction, Lp, NoMemory, Outcome, Point, Prices, Rates, Ray, Sense, Status, Stop,
@@ -386,7 +386,7 @@ fn second_phase<R: Rates>(
     }
 }
 
-/// What the path does at the basis. `row` and `direction` are room.
+/// What the path does at the basis, where `broken` is the least-numbered basic outside its limits. `row` and `direction` are room.
 pub fn next_turn<R: Rates>(
     alloc: Global,
     lp: &Lp,
@@ -395,6 +395,7 @@ pub fn next_turn<R: Rates>(
     point: &[Frac],
     row: &mut [Frac],
     direction: &mut [Frac],
+    broken: Option<u32>,
     steps: u32,
     left: u32,
 ) -> Result<Turn, PrimalStop>
@@ -405,13 +406,14 @@ pub fn next_turn<R: Rates>(
     requires direction_places { length direction.old ≡ size lp.now.matrix }
     requires point { IsPointOf lp.now basis.now (value_at point.now) }
     requires uncrossed { IsUncrossed lp.now }
+    requires broken { broken ≡ least_outside lp.now basis.now (value_at point.now) }
     ensures turn { TurnFound result lp.now basis.now steps left (value_at point.now)
         (value_at direction.new) (R.waypoints rates.old) (R.waypoints rates.new) }
     ensures rates { HasRates (R.matrix rates.new) (R.basics rates.new) lp.now basis.now }
     ensures waypoints { KeepsWaypoints lp.now.matrix (basics_of basis.now) (R.waypoints rates.old)
         (basics_of basis.now) (R.waypoints rates.new) }
 {
-    match outside(lp, basis, point) {
+    match broken {
         Some(r) => first_phase(
             alloc, lp, basis, rates, point, row, direction, r, steps, left,
         ),

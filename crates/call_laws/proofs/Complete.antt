@@ -7,7 +7,7 @@ use Rattle.lp_definitions.specs.declared.Status.{Status}
 use Rattle.lp_model.specs.declared.Stop.{Stop}
 use Rattle.lp_model.specs.declared.Stop.TheVariants as stop
 use Rattle.lp_model.specs.declared.reports.RangeReport.{RangeReport}
-use Rattle.bounded_primal.specs.Calls.{RangeRefused}
+use Rattle.basis_values.specs.Calls.{RangeRefused}
 use Rattle.call_laws.specs.Complete.{IsAnswerOfRange, IsReportOrMemory}
 
 pub range_answered : (p : LinearProgram) (s : List Status) (before after : List Basics) (result : Result RangeReport Stop) → IsAnswerOfRange p s before after result →

@@ -11,8 +11,8 @@ use Rattle.lp_model.specs.declared.Stop.{Stop}
 use Rattle.lp_model.specs.declared.Stop.TheVariants as stop
 use Rattle.lp_model.specs.declared.reports.RangeReport.{RangeReport}
 use Rattle.postoptimal_definitions.specs.Ranges.{IsRangeReport}
-use Rattle.bounded_primal.specs.Calls.{RangeRefused}
-use Rattle.bounded_primal.specs.Stops.{RangeOverflow}
+use Rattle.basis_values.specs.Calls.{RangeRefused}
+use Rattle.basis_values.specs.Stops.{RangeOverflow}
 use Rattle.ranging.specs.Lists.{report_of}
 
 -- What `range` promises of its result at the basis s.

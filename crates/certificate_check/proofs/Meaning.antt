@@ -1,8 +1,9 @@
 -- What the parts of a check say where they are checked.
 use Rattle.std.proofs.Common.{◌≡◌, ℕ, zero, suc, ◌+◌, ◌<◌, ◌≤◌, ◌≢◌, List, [], ◌∷◌, ◌++◌, map, refl, sym, ap, ◌∙◌, arith, Bool, true, false, not, Option, Some, None, subst, cond}
-use Rattle.std.specs.Prelude.{if◌then◌else◌, ◌&&◌, is_some, is_none, IfSome, filter, unwrap_or}
+use Rattle.std.specs.Prelude.{if◌then◌else◌, is_some, is_none, IfSome, filter, unwrap_or}
 use Rattle.std.specs.declared.cmp.Ordering.{Ordering}
 use Rattle.std.specs.declared.cmp.Ordering.TheVariants.{Less, Equal, Greater}
+use Rattle.std.proofs.lemmas.Bool.{and_parts, not-false}
 use native.Mathlib.Decide.{ℕ_discrete}
 use Rattle.frac128.specs.declared.Op.{Op}
 use Rattle.frac128.specs.declared.Op.TheVariants.{Sub}
@@ -10,8 +11,9 @@ use Rattle.frac128.specs.Operations.{refuses}
 use Rattle.exact_values.proofs.Ring_laws.{zero-add, zero-mul}
 use Rattle.exact_values.specs.Rational.{ℚ, zero_ℚ, ◌+ℚ◌, ◌-ℚ◌, ◌*ℚ◌, ◌≤ℚ◌, ◌<ℚ◌, compare_ℚ}
 use Rattle.exact_values.specs.Sums.{sum_up_to}
-use Rattle.exact_values.specs.Tests.{le_ℚ, eq_ℚ, is_less, is_equal}
-use Rattle.exact_values.proofs.Compare.{lt_from_compare, same_from_compare, le_from_compare, compare_from_lt}
+use Rattle.exact_values.specs.Tests.{eq_ℚ}
+use Rattle.exact_values.proofs.Compare.{lt_from_compare, same_from_compare, compare_from_lt}
+use Rattle.exact_values.proofs.Tests_laws.{same_from_test, le_from_test}
 use Rattle.exact_values.proofs.Order.{lt_not_le, le_of_lt, apart_from_above, apart_from_below}
 use Rattle.lp_definitions.specs.LinearProgram.{LinearProgram, Vector, IsMatrix, IsColumn, IsVariable, KeepsEquations, numbers_from, variables, column, entry, lower_of, upper_of, cost, for_min, size}
 use Rattle.lp_definitions.specs.Solutions.{IsWithinLimits, IsFeasible, AreProvingPrices, IsCrossed, IsRay, ProvesUnbounded, limit_against}
@@ -25,26 +27,6 @@ use Rattle.lp_laws.proofs.Rays.{limit_of_positive, limit_of_negative}
 use Rattle.certificate_check.proofs.Products.{sum_of-all, sum_of-filtered, sum_of-entries}
 
 -- ---- tests
-
-pub same_from_test : (x y : ℚ) → eq_ℚ x y ≡ true → x ≡ y
-same_from_test x y h = same_from_compare (at (compare_ℚ x y) h)
-  where
-    at : (o : Ordering) → is_equal o ≡ true → o ≡ Equal
-    at Less e = cc
-    at Equal e = refl
-    at Greater e = cc
-
-pub le_from_test : (x y : ℚ) → le_ℚ x y ≡ true → x ≤ℚ y
-le_from_test x y h = le_from_compare (λ less. at (compare_ℚ y x) less h)
-  where
-    at : (o : Ordering) → o ≡ Less → not (is_less o) ≡ true → ⊥
-    at Less less e = cc
-    at Equal less e = cc
-    at Greater less e = cc
-
-both_true : (a b : Bool) → (a && b) ≡ true → (a ≡ true) × (b ≡ true)
-both_true true b h = (refl, h)
-both_true false b h = cc
 
 above_lower : (low : Option ℚ) (v : ℚ) → is_not_below low v ≡ true → IfSome low (λ l. l ≤ℚ v)
 above_lower None v h = tt
@@ -79,10 +61,6 @@ asked_positive x negative positive h above = at (compare_ℚ x zero_ℚ) h (λ l
     at Equal h less equal = absurd (equal refl)
     at Greater h less equal = h
 
-not_false : (b : Bool) → not b ≡ false → b ≡ true
-not_false true h = refl
-not_false false h = cc
-
 -- what follows an operation is checked where both are
 past_operation : (op : Op) (x y : ℚ) (steps : List Step) → verdict_of (operation op x y ∷ steps) ≡ Checked → verdict_of steps ≡ Checked
 past_operation op x y steps e = by_test (refuses op x y) e
@@ -103,7 +81,7 @@ module _ (p : LinearProgram) where
   pub within_if_checked : (z : Vector) → verdict_of (within_limits p z) ≡ Checked → IsWithinLimits p z
   within_if_checked z e k is =
       let here = each_checked (within_limit p z) 1 (size p.matrix) k e is.0 (omega (arith, is.1)) in
-      let both = both_true (is_not_below (lower_of p k) (z k)) (is_not_above (upper_of p k) (z k)) (holds_if_checked 2 k _ here) in
+      let both = and_parts (is_not_below (lower_of p k) (z k)) (is_not_above (upper_of p k) (z k)) (holds_if_checked 2 k _ here) in
       (above_lower (lower_of p k) (z k) both.0, below_upper (upper_of p k) (z k) both.1)
 
   pub feasible_if_checked : (z : Vector) → verdict_of (feasible_point p z) ≡ Checked → IsFeasible p z
@@ -173,13 +151,13 @@ module _ (p : LinearProgram) where
           (checked-append (comparison 2 first (is_some (limit_against p w first)) ∷ []) (sum_steps sum (limit_product p w first ∷ []) ++ later_limits w sum first n) e).0
       by_test true is e (no other) later =
           later (sum +ℚ product_of (limit_product p w first)) (checked-append (comparison 2 first (is_some (limit_against p w first)) ∷ sum_steps sum (limit_product p w first ∷ [])) (later_limits w sum first n) e).1 (omega arith) (omega arith) apart
-      by_test false is e (yes same) later = absurd (apart (ap w (sym same) ∙ same_from_test (w first) zero_ℚ (not_false (eq_ℚ (w first) zero_ℚ) is)))
+      by_test false is e (yes same) later = absurd (apart (ap w (sym same) ∙ same_from_test (w first) zero_ℚ (not-false (eq_ℚ (w first) zero_ℚ) is)))
       by_test false is e (no other) later = later sum e (omega arith) (omega arith) apart
 
   -- the products of the multipliers that are not 0 add up to those of all
   pub sum_of_met : (w : Vector) → sum_of zero_ℚ (map (limit_product p w) (multiplied p w)) ≡ sum_up_to (size p.matrix) (λ k. w k *ℚ unwrap_or (limit_against p w k) zero_ℚ)
   sum_of_met w =
-      sum_of-filtered (λ k. not (eq_ℚ (w k) zero_ℚ)) (limit_product p w) (λ k none. ap (λ s. s *ℚ unwrap_or (limit_against p w k) zero_ℚ) (same_from_test (w k) zero_ℚ (not_false (eq_ℚ (w k) zero_ℚ) none)) ∙ zero-mul (unwrap_or (limit_against p w k) zero_ℚ)) zero_ℚ (variables p.matrix)
+      sum_of-filtered (λ k. not (eq_ℚ (w k) zero_ℚ)) (limit_product p w) (λ k none. ap (λ s. s *ℚ unwrap_or (limit_against p w k) zero_ℚ) (same_from_test (w k) zero_ℚ (not-false (eq_ℚ (w k) zero_ℚ) none)) ∙ zero-mul (unwrap_or (limit_against p w k) zero_ℚ)) zero_ℚ (variables p.matrix)
       ∙ sum_of-all (limit_product p w) (size p.matrix)
 
   negative_if_checked : (w : Vector) → verdict_of (ray_sum p w) ≡ Checked → sum_up_to (size p.matrix) (λ k. w k *ℚ unwrap_or (limit_against p w k) zero_ℚ) <ℚ zero_ℚ

@@ -3,14 +3,16 @@ use Rattle.std.proofs.Common.{◌≡◌, ℕ, zero, suc, ◌+◌, ◌<◌, ◌�
 use Rattle.std.specs.Prelude.{if◌then◌else◌, ◌&&◌, is_some, is_none, IfSome}
 use Rattle.std.specs.List.{flat_map}
 use Rattle.std.specs.declared.cmp.Ordering.{Ordering}
+use Rattle.std.proofs.lemmas.Bool.{and_from}
+use Rattle.std.proofs.lemmas.Option.{same_Some}
 use Rattle.frac128.specs.declared.Op.{Op}
 use Rattle.frac128.specs.declared.Op.TheVariants.{Add, Sub, Mul}
 use Rattle.frac128.specs.Operations.{refuses}
 use Rattle.exact_values.specs.Rational.{ℚ, zero_ℚ, ◌+ℚ◌, ◌-ℚ◌, ◌*ℚ◌, ◌≤ℚ◌, ◌<ℚ◌, compare_ℚ}
 use Rattle.exact_values.specs.Sums.{sum_up_to}
-use Rattle.exact_values.specs.Tests.{lt_ℚ, le_ℚ, eq_ℚ, is_less, is_equal}
-use Rattle.exact_values.proofs.Order.{lt_not_le}
-use Rattle.exact_values.proofs.Compare.{lt_from_compare, same_from_compare, gt_from_compare, compare_from_same}
+use Rattle.exact_values.specs.Tests.{lt_ℚ, eq_ℚ}
+use Rattle.exact_values.proofs.Tests_laws.{test_from_le, test_from_same}
+use Rattle.exact_values.proofs.Compare.{lt_from_compare, same_from_compare, gt_from_compare}
 use Rattle.exact_values.proofs.Ring_laws.{zero-add}
 use Rattle.lp_definitions.specs.declared.Change.{Change}
 use Rattle.lp_definitions.specs.LinearProgram.{LinearProgram, Vector, IsMatrix, IsColumn, IsVariable, KeepsEquations, numbers_from, entry, lower_of, upper_of, cost, for_min, size}
@@ -65,35 +67,17 @@ never_each f first (suc n) h =
 
 -- ---- tests
 
-test_of_same : {x y : ℚ} → x ≡ y → eq_ℚ x y ≡ true
-test_of_same e = ap is_equal (compare_from_same e)
-
-test_of_le : (x y : ℚ) → x ≤ℚ y → le_ℚ x y ≡ true
-test_of_le x y h = at (compare_ℚ y x) (λ less. lt_not_le (lt_from_compare less) h)
-  where
-    at : (o : Ordering) → (o ≡ Less → ⊥) → not (is_less o) ≡ true
-    at Less off = absurd (off refl)
-    at Equal off = refl
-    at Greater off = refl
-
 is_above : (low : Option ℚ) (v : ℚ) → IfSome low (λ l. l ≤ℚ v) → is_not_below low v ≡ true
 is_above None v h = refl
-is_above (Some l) v h = test_of_le l v h
+is_above (Some l) v h = test_from_le l v h
 
 is_below : (high : Option ℚ) (v : ℚ) → IfSome high (λ u. v ≤ℚ u) → is_not_above high v ≡ true
 is_below None v h = refl
-is_below (Some u) v h = test_of_le v u h
-
-both_hold : (a b : Bool) → a ≡ true → b ≡ true → (a && b) ≡ true
-both_hold true b p q = q
-both_hold false b p q = cc
+is_below (Some u) v h = test_from_le v u h
 
 stands : (limit : Option ℚ) (v : ℚ) → limit ≡ Some v → is_at limit v ≡ true
 stands None v e = cc
-stands (Some l) v e = test_of_same (some_same l v e)
-  where
-    some_same : (l v : ℚ) → Some l ≡ Some v → l ≡ v
-    some_same l v e = cc
+stands (Some l) v e = test_from_same l v (same_Some l v e)
 
 absent : (limit : Option ℚ) → limit ≡ None → is_none limit ≡ true
 absent None e = refl
@@ -122,13 +106,13 @@ module _ (p : LinearProgram) where
       never-append (sum_steps zero_ℚ (row_products p z i)) (comparison part i (eq_ℚ (sum_of zero_ℚ (row_products p z i)) (z i)) ∷ [])
       (never_sum zero_ℚ (row_products p z i))
       (never_comparison part i (eq_ℚ (sum_of zero_ℚ (row_products p z i)) (z i))
-      (test_of_same (sum_of-all (λ j. record { left = entry p.matrix i j; right = z (p.rows + j) }) p.cols ∙ sym (keeps i (low, omega arith))))))
+      (test_from_same _ _ (sum_of-all (λ j. record { left = entry p.matrix i j; right = z (p.rows + j) }) p.cols ∙ sym (keeps i (low, omega arith))))))
 
   never_limits : (z : Vector) → IsWithinLimits p z → NeverFails (within_limits p z)
   never_limits z within = never_each (within_limit p z) 1 (size p.matrix) (λ k low high.
       let both = within k (low, omega arith) in
       never_comparison 2 k (is_not_below (lower_of p k) (z k) && is_not_above (upper_of p k) (z k))
-      (both_hold (is_not_below (lower_of p k) (z k)) (is_not_above (upper_of p k) (z k)) (is_above (lower_of p k) (z k) both.0) (is_below (upper_of p k) (z k) both.1)))
+      (and_from (is_not_below (lower_of p k) (z k)) (is_not_above (upper_of p k) (z k)) (is_above (lower_of p k) (z k) both.0) (is_below (upper_of p k) (z k) both.1)))
 
   never_point : (z : Vector) → IsFeasible p z → NeverFails (feasible_point p z)
   never_point z h = never-append (equations p 1 z) (within_limits p z) (never_equations 1 z h.keeps) (never_limits z h.within)
@@ -143,7 +127,7 @@ module _ (p : LinearProgram) where
       (never_combined (λ i. entry p.matrix i j))
       (never-append (sum_steps zero_ℚ (column_products p y j)) (operation Sub (cost p j) total ∷ ending)
       (never_sum zero_ℚ (column_products p y j))
-      (never_operation Sub (cost p j) total ending (never_comparison 3 (p.rows + j) (eq_ℚ (cost p j -ℚ total) (y (p.rows + j))) (test_of_same same)))))
+      (never_operation Sub (cost p j) total ending (never_comparison 3 (p.rows + j) (eq_ℚ (cost p j -ℚ total) (y (p.rows + j))) (test_from_same _ _ same)))))
 
   pub never_optimal : IsMatrix p.matrix → (z y : Vector) → IsFeasible p z → AreProvingPrices p z y → NeverFails (feasible_point p z ++ (reduced_costs p y ++ standing_prices p z y))
   never_optimal matrix z y feasible proving =
@@ -179,7 +163,7 @@ module _ (p : LinearProgram) where
       let total = sum_of (w (p.rows + j)) (column_products p w j) in
       never-append (sum_steps (w (p.rows + j)) (column_products p w j)) (comparison 1 (p.rows + j) (eq_ℚ total zero_ℚ) ∷ [])
       (never_sum (w (p.rows + j)) (column_products p w j))
-      (never_comparison 1 (p.rows + j) (eq_ℚ total zero_ℚ) (test_of_same (products_of_column p matrix w (w (p.rows + j)) j is ∙ vanishes j is))))
+      (never_comparison 1 (p.rows + j) (eq_ℚ total zero_ℚ) (test_from_same _ _ (products_of_column p matrix w (w (p.rows + j)) j is ∙ vanishes j is))))
 
   -- each multiplier that is not 0 meets a limit
   met : (w : Vector) → IsRay p w → (k : ℕ) → IsVariable p.matrix k → w k ≢ zero_ℚ → is_some (limit_against p w k) ≡ true
@@ -202,7 +186,7 @@ module _ (p : LinearProgram) where
       by_test (not (eq_ℚ (w first) zero_ℚ)) (λ is. all first (omega arith) (omega arith) (λ e. apart_by_test e is)) (λ next. never_met w (suc first) n next (λ k low high. all k (omega arith) (omega arith)))
     where
       apart_by_test : w first ≡ zero_ℚ → not (eq_ℚ (w first) zero_ℚ) ≡ true → ⊥
-      apart_by_test e is = let same : eq_ℚ (w first) zero_ℚ ≡ true = test_of_same e in let clash : not true ≡ true = ap not (sym same) ∙ is in cc
+      apart_by_test e is = let same : eq_ℚ (w first) zero_ℚ ≡ true = test_from_same _ _ e in let clash : not true ≡ true = ap not (sym same) ∙ is in cc
 
       by_test : (b : Bool) → (b ≡ true → is_some (limit_against p w first) ≡ true) → ((next : ℚ) → NeverFails (ray_limits p w next (multiplied_from p w (suc first) n)))
           → NeverFails (ray_limits p w sum (cond b (first ∷ multiplied_from p w (suc first) n) (multiplied_from p w (suc first) n)))

@@ -13,6 +13,7 @@ use Rattle.lp_definitions.specs.declared.Status.TheVariants.{Bs, Ll, Ul, Fr}
 use Rattle.path_definitions.specs.Moves.{is_fixed, on_limits}
 use Rattle.path_laws.specs.Laws.{IsNonsingularBasis}
 use Rattle.path_laws.proofs.Numbered.{get_or-listed}
+use Rattle.changed_programs.proofs.Tableaus.{row_variable}
 use Rattle.postoptimal_definitions.specs.RhsRun.{shift_of, shifted, rhs_family}
 
 limit_is : (a : Matrix) (shift : List ℚ) (theta : ℚ) (limit : ℕ → Option ℚ) (k : ℕ) → IsVariable a k →
@@ -70,13 +71,10 @@ module _ (p : LinearProgram) (shift : List ℚ) (theta : ℚ) where
   pub upper_is : (k : ℕ) → IsVariable p.matrix k → upper_of (rhs_family p shift theta) k ≡ moved theta (shift_of p.matrix shift k) (upper_of p k)
   upper_is k is = limit_is p.matrix shift theta (upper_of p) k is
 
-  row_is : (i : ℕ) → IsRow p.matrix i → IsVariable p.matrix i
-  row_is i row = (row.0, omega (arith, row.1))
-
   pub free_to : (i : ℕ) → IsRow p.matrix i → HasNoLimits p i → HasNoLimits (rhs_family p shift theta) i
   free_to i row free = (
-    lower_is i (row_is i row) ∙ none_to (by i) (lower_of p i) free.0,
-    upper_is i (row_is i row) ∙ none_to (by i) (upper_of p i) free.1,
+    lower_is i (row_variable p.matrix i row) ∙ none_to (by i) (lower_of p i) free.0,
+    upper_is i (row_variable p.matrix i row) ∙ none_to (by i) (upper_of p i) free.1,
   )
 
   -- so the two programs have the same bases
@@ -85,8 +83,8 @@ module _ (p : LinearProgram) (shift : List ℚ) (theta : ℚ) where
     counted = basis.counted;
     m_basics = basis.m_basics;
     free_rows = λ i row free. basis.free_rows i row (
-      none_from (by i) (lower_of p i) (sym (lower_is i (row_is i row)) ∙ free.0),
-      none_from (by i) (upper_of p i) (sym (upper_is i (row_is i row)) ∙ free.1),
+      none_from (by i) (lower_of p i) (sym (lower_is i (row_variable p.matrix i row)) ∙ free.0),
+      none_from (by i) (upper_of p i) (sym (upper_is i (row_variable p.matrix i row)) ∙ free.1),
     );
     allowed = λ k is. subst (λ low. IsAllowed (status_of s k) low (upper_of (rhs_family p shift theta) k)) (sym (lower_is k is))
         (subst (λ high. IsAllowed (status_of s k) (option_map (by k) (lower_of p k)) high) (sym (upper_is k is))

@@ -63,7 +63,7 @@ module _ (p : LinearProgram) (shift : List ℚ) (s : List Status) (at : IsNonsin
         (stands k is (status_of s k) refl (point.placed k is));
   }
 
--- what the point's value of k is within its limits at x
+-- the point's value at k is within its limits at x just where the conditions of k hold
 within_is : (p : LinearProgram) (shift : List ℚ) (z v : Vector) (x : ℚ) (k : ℕ) → IsVariable p.matrix k →
     IsWithin (lower_of (rhs_family p shift x) k) (upper_of (rhs_family p shift x) k) (along z x v k) ↔ SidesHold (shift_sides p shift z v k) x
 within_is p shift z v x k is = (

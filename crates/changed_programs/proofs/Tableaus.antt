@@ -2,7 +2,7 @@
 use Rattle.std.proofs.Common.{◌≡◌, ℕ, ◌⊎◌, inl, inr, List, refl, ap, ap₂, ◌∙◌, Option, Some, None, false, arith, subst}
 use Rattle.std.specs.Prelude.{◌↔◌}
 use Rattle.exact_values.specs.Rational.{◌+ℚ◌, ◌*ℚ◌}
-use Rattle.lp_definitions.specs.LinearProgram.{LinearProgram, IsRow, IsVariable, lower_of, upper_of, with_change_row, for_min}
+use Rattle.lp_definitions.specs.LinearProgram.{Matrix, LinearProgram, IsRow, IsVariable, lower_of, upper_of, with_change_row, for_min}
 use Rattle.lp_definitions.specs.Basis.{is_in, is_basic, basics_of, status_of, IsBasis, IsNonbasic, IsNonsingular, IsOptimalBasis, IsFixed, IsRightAt, Tableau, IsTableau, objective_rate}
 use Rattle.lp_definitions.specs.declared.Change.{Change}
 use Rattle.lp_definitions.specs.declared.Status.{Status}
@@ -14,17 +14,17 @@ use Rattle.path_laws.proofs.Ends.{right, IsFeasible-same}
 use Rattle.changed_programs.specs.Changes.{ChangeIsRow, HasRows, IsRightTableau}
 use Rattle.changed_programs.proofs.Booleans.{right_betters_not}
 
-module _ (p : LinearProgram) (s : List Status) (basis : IsBasis p s) (one : IsNonsingular p.matrix (basics_of s)) (rows : HasRows p) where
-  -- a variable is a row's
-  row_variable : (i : ℕ) → IsRow p.matrix i → IsVariable p.matrix i
-  row_variable i is = (is.0, omega (arith, is.1))
+-- a row is a variable
+pub row_variable : (a : Matrix) (i : ℕ) → IsRow a i → IsVariable a i
+row_variable a i is = (is.0, omega (arith, is.1))
 
+module _ (p : LinearProgram) (s : List Status) (basis : IsBasis p s) (one : IsNonsingular p.matrix (basics_of s)) (rows : HasRows p) where
   -- the objective's rates of two tableaus are the same
   same_rates : (t u : Tableau) → IsTableau p s t → IsTableau p s u → (k : ℕ) → IsNonbasic p.matrix (basics_of s) k → objective_rate p t.rate k ≡ objective_rate p u.rate k
   same_rates t u first second k out = at p.change rows.change
     where
       same : (i : ℕ) → IsRow p.matrix i → t.rate i k ≡ u.rate i k
-      same i is = one_table p.matrix (basics_of s) t.rate u.rate one first.are_rates second.are_rates i k (row_variable i is) out
+      same i is = one_table p.matrix (basics_of s) t.rate u.rate one first.are_rates second.are_rates i k (row_variable p.matrix i is) out
 
       at : (c : Option Change) → ChangeIsRow p.matrix c → with_change_row c (λ i. t.rate i k) (t.rate p.objective k) ≡ with_change_row c (λ i. u.rate i k) (u.rate p.objective k)
       at None is = same p.objective rows.objective

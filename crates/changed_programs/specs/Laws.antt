@@ -54,9 +54,9 @@ pub record ChangedLaws : Type 0 where
   -- x is added to the limit at which a nonbasic stands
   pub limit : (p : LinearProgram) (s : List Status) (t : Tableau) → IsPresent p s t → (k : ℕ) → IsVariable p.matrix k
       → stands_at_limit (status_of s k) ≡ true → (x : ℚ) → IsOptimalBasis (with_limit p s k (t.point k +ℚ x)) s ↔ LimitStays p s t k x
-  -- x times its shift is added to each limit of a row; v is the slope of the basis's point, and its point need not be feasible
+  -- x times its shift is added to each limit of a row: the basis's point, which need not be feasible, moves with the slope v
   pub limits : (p : LinearProgram) (s : List Status) (t : Tableau) → IsDualFeasibleBasis p s t → (shift : List ℚ) (v : Vector)
       → IsSlope p s shift v → (x : ℚ) → IsOptimalBasis (rhs_family p shift x) s ↔ ValuesStay p shift t.point v x
-  -- and a basis that is optimal at one value of x is dual feasible
+  -- and a basis that is optimal at one value of x is dual feasible at each
   pub dual_feasible : (p : LinearProgram) (s : List Status) (t : Tableau) → IsBasis p s → IsNonsingular p.matrix (basics_of s)
       → HasRows p → IsTableau p s t → (shift : List ℚ) (x : ℚ) → IsOptimalBasis (rhs_family p shift x) s → IsDualFeasibleBasis p s t

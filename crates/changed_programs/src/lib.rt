@@ -1,6 +1,6 @@
-//! When a basis stays optimal while one number of its linear program changes: a limit, a cost, or a multiple of a row that is
-//! added to the objective. The point and the rates of the basis are affine in that number, so the basis is optimal just where
-//! finitely many affine functions are at least 0.
+//! When a basis stays optimal while one number of its linear program changes: a limit, a cost, a multiple of a row that is added
+//! to the objective, or a multiple of their shifts that is added to the limits of the rows. The point and the rates of the basis
+//! are affine in that number, so the basis is optimal just where finitely many affine functions are at least 0.
 //! The functions here do nothing. Each promises laws, so that the check proves them.
 #![tactic(auto)]
 

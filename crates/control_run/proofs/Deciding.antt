@@ -16,8 +16,8 @@ use Rattle.run_definitions.specs.State.{State, choice_of}
 use Rattle.run_definitions.specs.Verbs.{mark_after, verb_move}
 use Rattle.control_run.specs.declared.act.Act.TheVariants.{Next, Jump, Ends}
 use Rattle.control_run.specs.declared.end.End.TheVariants.{Done}
-use Rattle.control_run.specs.declared.machine.Machine.{Machine}
-use Rattle.control_run.specs.declared.machine.Setup.{Setup}
+use Rattle.control_run.specs.Machines.{Machine}
+use Rattle.control_run.specs.Kept.{Setup}
 use Rattle.answer_definitions.specs.Real.{linear_programming}
 use Rattle.control_run.specs.Standing.{AreDemands, IsSelected, IsSolved, IsSound, Stands}
 use Rattle.control_run.specs.Statements.{Decides}

@@ -12,7 +12,7 @@ use Rattle.run_definitions.specs.Verbs.{by_verdict, demanded}
 use Rattle.control_run.specs.declared.end.End.{End}
 use Rattle.control_run.specs.declared.end.End.TheVariants as end
 use Rattle.control_run.specs.declared.finding.Finding.TheVariants.{Ended}
-use Rattle.control_run.specs.declared.machine.Machine.{Machine}
+use Rattle.control_run.specs.Machines.{Machine}
 use Rattle.control_run.specs.Ends.{end_shown}
 use Rattle.control_run.specs.Standing.{AreDemands, Stands}
 use Rattle.control_run.specs.Statements.{Follows}

@@ -29,7 +29,7 @@ use Rattle.control_run.specs.declared.taking.DeckVerb.{DeckVerb}
 use Rattle.control_run.specs.declared.taking.DeckVerb.TheVariants.{Convert}
 use Rattle.control_run.specs.declared.taking.Described.TheVariants as described
 use Rattle.control_run.specs.declared.end.End.TheVariants.{Verb}
-use Rattle.control_run.specs.declared.machine.Machine.{Machine}
+use Rattle.control_run.specs.Machines.{Machine}
 use Rattle.answer_definitions.specs.Real.{linear_programming}
 use Rattle.control_run.specs.Standing.{filed, Stands}
 use Rattle.control_run.specs.Statements.{Comes, Executes}

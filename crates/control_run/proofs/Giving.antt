@@ -19,7 +19,7 @@ use Rattle.run_definitions.specs.Moves.{Gain, Nothing, Prints, punched_by, Outco
 use Rattle.run_definitions.specs.Verbs.{or_selection_fault, selection_verb_fault, verb_move}
 use Rattle.control_run.specs.declared.act.Act.{Act}
 use Rattle.control_run.specs.declared.act.Halt.TheVariants as halt
-use Rattle.control_run.specs.declared.machine.Machine.{Machine}
+use Rattle.control_run.specs.Machines.{Machine}
 use Rattle.control_run.specs.Standing.{filed, Stands}
 use Rattle.control_run.specs.Statements.{Comes, Executes, gain_of, gain_text}
 use Rattle.answer_definitions.specs.Real.{linear_programming}

@@ -13,14 +13,14 @@ use Rattle.problem_file.specs.Filed.{Filed, filed_under}
 use Rattle.control_definitions.specs.Program.{SetupOptions}
 use Rattle.selection_definitions.specs.Selection.{matrix_of}
 use Rattle.question_definitions.specs.Answers.{Basis}
-use Rattle.bounded_primal.specs.Calls.{HasRates, LieIn, WaypointsFollow}
+use Rattle.basis_values.specs.Calls.{HasRates, LieIn}
+use Rattle.bounded_primal.specs.Calls.{WaypointsFollow}
 use Rattle.report_text.specs.declared.sheet.Sheet.{Sheet}
 use Rattle.report_text.specs.Verdicts.{verdict_shown, check_shown}
 use Rattle.present_answers.specs.declared.path.PathReport.{PathReport}
 use Rattle.present_answers.specs.Reports.{sheet_shown, IsReached}
 use Rattle.run_definitions.specs.State.{Present, gone_through}
-use Rattle.control_run.specs.declared.machine.Setup.{Setup}
-use Rattle.control_run.specs.Engine.{ways}
+use Rattle.control_run.specs.Kept.{Setup}
 use Rattle.control_run.specs.Standing.{IsPresent}
 use Rattle.control_run.specs.Findings.{PathReaches}
 
@@ -45,7 +45,7 @@ pub record IsPresentOf (problem : Problem ℕ) (setup : Setup) (shown : Option P
   pub steps : List Basis
   pub is_shown : shown ≡ Some (present_with problem setup.options opening steps)
   pub reached : last_of opening steps ≡ setup.basis
-  pub lie : LieIn (matrix_of problem) (ways setup.engine) (opening ∷ steps)
+  pub lie : LieIn (matrix_of problem) setup.engine.waypoints (opening ∷ steps)
   pub initial : List Basis
   pub ends : opening ∷ steps ≡ initial ++ setup.basis ∷ []
 
@@ -64,19 +64,19 @@ present_at file setup shown problem on_file p =
       steps = p.steps;
       is_shown = p.is_shown ∙ ap (λ (q : Problem ℕ). Some (present_with q setup.options p.opening p.steps)) same;
       reached = p.reached;
-      lie = subst (λ (q : Problem ℕ). LieIn (matrix_of q) (ways setup.engine) (p.opening ∷ p.steps)) same p.lie;
+      lie = subst (λ (q : Problem ℕ). LieIn (matrix_of q) setup.engine.waypoints (p.opening ∷ p.steps)) same p.lie;
       initial = b.0;
       ends = b.1 ∙ ap (λ s. b.0 ++ s ∷ []) p.reached;
     }
 
 module _ (problem : Problem ℕ) (setup : Setup) (shown : Option Present) (p : IsPresentOf problem setup shown) (lp : LinearProgram) (same : matrix_of problem ≡ lp.matrix) where
   -- the waypoints lie in a list that ends with the basis
-  pub lie_up_to : LieIn lp.matrix (ways setup.engine) (p.initial ++ setup.basis ∷ [])
-  lie_up_to = subst (λ (a : Matrix). LieIn a (ways setup.engine) (p.initial ++ setup.basis ∷ [])) same (subst (λ (bs : List Basis). LieIn (matrix_of problem) (ways setup.engine) bs) p.ends p.lie)
+  pub lie_up_to : LieIn lp.matrix setup.engine.waypoints (p.initial ++ setup.basis ∷ [])
+  lie_up_to = subst (λ (a : Matrix). LieIn a setup.engine.waypoints (p.initial ++ setup.basis ∷ [])) same (subst (λ (bs : List Basis). LieIn (matrix_of problem) setup.engine.waypoints bs) p.ends p.lie)
 
   -- the present basis after a path
   pub goes_through : (file : Filed) (new : Setup) (bases : List Basis) → filed_under setup.name file ≡ Some problem → new.name ≡ setup.name → new.options ≡ setup.options →
-      last_of setup.basis bases ≡ new.basis → LieIn lp.matrix (ways new.engine) (p.initial ++ setup.basis ∷ bases) →
+      last_of setup.basis bases ≡ new.basis → LieIn lp.matrix new.engine.waypoints (p.initial ++ setup.basis ∷ bases) →
       IsPresent file new (Some (gone_through bases (present_with problem setup.options p.opening p.steps)))
   goes_through file new bases on_file same_name same_options leads lie = record {
     problem = problem;
@@ -85,8 +85,8 @@ module _ (problem : Problem ℕ) (setup : Setup) (shown : Option Present) (p : I
     steps = p.steps ++ bases;
     is_shown = ap (λ (o : SetupOptions). Some (present_with problem o p.opening (p.steps ++ bases))) (sym same_options);
     reached = last_then p.opening p.steps bases ∙ ap (λ s. last_of s bases) p.reached ∙ leads;
-    lie = subst (λ (a : Matrix). LieIn a (ways new.engine) (p.opening ∷ p.steps ++ bases)) (sym same)
-        (subst (λ (bs : List Basis). LieIn lp.matrix (ways new.engine) bs) (sym (append_assoc p.initial (setup.basis ∷ []) bases) ∙ ap (λ bs. bs ++ bases) (sym p.ends)) lie);
+    lie = subst (λ (a : Matrix). LieIn a new.engine.waypoints (p.opening ∷ p.steps ++ bases)) (sym same)
+        (subst (λ (bs : List Basis). LieIn lp.matrix new.engine.waypoints bs) (sym (append_assoc p.initial (setup.basis ∷ []) bases) ∙ ap (λ bs. bs ++ bases) (sym p.ends)) lie);
   }
 
 -- ---- the waypoints after calls at the present basis

@@ -22,12 +22,12 @@ use Rattle.run_definitions.specs.Verbs.{mark_of, or_selection_fault, after_path,
 use Rattle.control_run.specs.declared.act.Act.{Act}
 use Rattle.control_run.specs.declared.act.Halt.{Halt}
 use Rattle.control_run.specs.declared.finding.Finding.{Finding}
-use Rattle.control_run.specs.declared.machine.Machine.{Machine}
-use Rattle.control_run.specs.declared.machine.Setup.{Setup}
+use Rattle.control_run.specs.declared.finding.Finding.TheVariants.{Ended}
+use Rattle.control_run.specs.Machines.{Machine}
+use Rattle.control_run.specs.Kept.{Setup}
 use Rattle.control_run.specs.declared.selecting.Refusal.TheVariants.{Fault}
 use Rattle.control_run.specs.Choosing.{HasSelectionFault, HasRangeOverflow, refused_act}
-use Rattle.control_run.specs.Ends.{place_shown}
-use Rattle.control_run.specs.Engine.{ways}
+use Rattle.control_run.specs.Ends.{end_shown, place_shown}
 use Rattle.answer_definitions.specs.Real.{linear_programming}
 use Rattle.control_run.specs.Standing.{AreDemands, IsReady, ShowsSetup, Stands}
 use Rattle.control_run.specs.Statements.{Comes, Executes}
@@ -120,7 +120,7 @@ module _ (card : ℕ) (cards : List (List ℕ)) (old : Machine) (setup new : Set
       (inr (e, None, (subst (λ (c : Cells). RangeOverflows problem (choice_of c setup.options) e None) (sym s.cells) (h.is_refusal, refl)), refl))
 
   overflow_gives : (lp : LinearProgram) → selected problem (choice_of old.cells setup.options) ≡ Ok lp → (e : Evidence) (place : Option endings.Place) →
-      PathOverflows (record { problem = problem; lp = lp }) setup.basis new.basis old.cells.xiterlim (ways setup.engine) (ways new.engine) e place →
+      PathOverflows (record { problem = problem; lp = lp }) setup.basis new.basis old.cells.xiterlim setup.engine.waypoints new.engine.waypoints e place →
       Gives linear_programming card (verb_move Primal card state) (stops (endings.OverflowStop (record { evidence = e; place = place; card = card })))
   unfolding linear_programming
   overflow_gives lp ok e place h =
@@ -135,7 +135,7 @@ module _ (card : ℕ) (cards : List (List ℕ)) (old : Machine) (setup new : Set
       )))
 
   after_stands : (lp : LinearProgram) → selected problem (choice_of old.cells setup.options) ≡ Ok lp → new.name ≡ setup.name → new.options ≡ setup.options →
-      (bases : List Basis) (verdict : Verdict) (check : Check) → PathReaches (record { problem = problem; lp = lp }) setup.basis new.basis old.cells.xiterlim (ways setup.engine) (ways new.engine) bases verdict check →
+      (bases : List Basis) (verdict : Verdict) (check : Check) → PathReaches (record { problem = problem; lp = lp }) setup.basis new.basis old.cells.xiterlim setup.engine.waypoints new.engine.waypoints bases verdict check →
       (mark : Mark) → Stands cards (after (Some mark)) position executed (record state { setup = Some (gone_through bases present); mark = Some mark })
   after_stands lp ok same_name same_options bases verdict check r mark =
       let same = same_matrix problem (choice_of old.cells setup.options) lp ok in

@@ -23,7 +23,7 @@ use Rattle.control_run.specs.declared.act.Act.TheVariants.{Next, Ends}
 use Rattle.control_run.specs.declared.act.Halt.{Halt}
 use Rattle.control_run.specs.declared.act.Halt.TheVariants as halt
 use Rattle.control_run.specs.declared.end.End.TheVariants as ends
-use Rattle.control_run.specs.declared.machine.Machine.{Machine}
+use Rattle.control_run.specs.Machines.{Machine}
 use Rattle.answer_definitions.specs.Real.{linear_programming}
 use Rattle.control_run.specs.Standing.{filed, Stands}
 use Rattle.control_run.specs.Statements.{gain_of, Executes}

@@ -37,8 +37,8 @@ use Rattle.control_run.specs.declared.act.Halt.TheVariants as halt
 use Rattle.control_run.specs.declared.end.Place.{Place as OwnPlace}
 use Rattle.control_run.specs.declared.finding.Finding.{Finding}
 use Rattle.control_run.specs.declared.finding.Finding.TheVariants.{Overflow, Shown}
-use Rattle.control_run.specs.declared.machine.Machine.{Machine}
-use Rattle.control_run.specs.declared.machine.Setup.{Setup}
+use Rattle.control_run.specs.Machines.{Machine}
+use Rattle.control_run.specs.Kept.{Setup}
 use Rattle.control_run.specs.declared.selecting.Refusal.TheVariants.{Fault}
 use Rattle.control_run.specs.Ends.{place_shown}
 use Rattle.answer_definitions.specs.Real.{linear_programming}
@@ -79,11 +79,14 @@ pub ranges_overflow : (sheet : OwnSheet) (s : Basis) (before after : List Basics
 ranges_overflow sheet s before after e o place is =
     stopped (λ earlier lie. subst (λ (p : endings.Place). IsEvidence (RangeStatement sheet.lp.now) None 0 (earlier ++ s ∷ []) [] e (Some p)) (sym is) (o.shows earlier lie))
 
-module _ {P : Type 0} (written : P → Option (List ℕ)) (faults refusals : P → ℕ) (file : Filed) (setup : Setup) (there : Problem ℕ) (is_there : filed_under setup.name file ≡ Some there) where
+-- the setup that code has opened, which is the one that is spoken of
+module _ {P : Type 0} (written : P → Option (List ℕ)) (faults refusals : P → ℕ) (file : Filed) {setup old : Setup} (is_old : setup ≡ old) (there : Problem ℕ) (is_there : filed_under setup.name file ≡ Some there) where
   pub ranges_at : (print_old print_new : P) (result : Result Finding Halt) → Tells (ShowsRanges there setup) written faults refusals print_old print_new result →
-      (problem : Problem ℕ) → filed_under setup.name file ≡ Some problem → Tells (ShowsRanges problem setup) written faults refusals print_old print_new result
+      (problem : Problem ℕ) → filed_under old.name file ≡ Some problem → Tells (ShowsRanges problem old) written faults refusals print_old print_new result
   ranges_at print_old print_new result t problem on_file =
-      subst (λ (q : Problem ℕ). Tells (ShowsRanges q setup) written faults refusals print_old print_new result) (one_problem file setup there problem is_there on_file) t
+      subst (λ (s : Setup). Tells (ShowsRanges problem s) written faults refusals print_old print_new result) is_old
+      (subst (λ (q : Problem ℕ). Tells (ShowsRanges q setup) written faults refusals print_old print_new result)
+      (one_problem file setup there problem is_there (ap (λ (s : Setup). filed_under s.name file) is_old ∙ on_file)) t)
 
 same_some : {X : Type 0} (a b : X) → Some a ≡ Some b → a ≡ b
 same_some a b e = cc

@@ -9,7 +9,7 @@ use Rattle.lp_definitions.specs.LinearProgram.{Matrix, LinearProgram, lower_of, 
 use Rattle.lp_definitions.specs.Basis.{Basics, basics_of, IsAllowed, IsNonsingular}
 use Rattle.lp_definitions.specs.declared.Status.{Status}
 use Rattle.lp_definitions.specs.declared.Status.TheVariants.{Bs, Ll, Ul, Fr}
-use Rattle.bounded_primal.specs.Calls.{HasRates}
+use Rattle.basis_values.specs.Calls.{HasRates}
 use Rattle.card_definitions.specs.Words.{unless}
 use Rattle.problem_definitions.specs.declared.RowKind.{RowKind}
 use Rattle.problem_definitions.specs.declared.RowKind.TheVariants.{N, G, L, E}

@@ -8,7 +8,7 @@ use Rattle.problem_file.specs.Filed.{Filed, filed_under}
 use Rattle.lp_definitions.specs.declared.Evidence.{Evidence}
 use Rattle.lp_definitions.specs.LinearProgram.{Matrix, LinearProgram}
 use Rattle.lp_definitions.specs.Basis.{opening_statuses}
-use Rattle.bounded_primal.specs.Calls.{LieIn}
+use Rattle.basis_values.specs.Calls.{LieIn}
 use Rattle.control_definitions.specs.Program.{SetupOptions, Setup as SetupVerb}
 use Rattle.selection_definitions.specs.Selection.{selected}
 use Rattle.listing_definitions.specs.declared.VerbFault.{VerbFault}
@@ -23,11 +23,10 @@ use Rattle.run_definitions.specs.Moves.{Prints, Outcome, next, stops, InSelectio
 use Rattle.run_definitions.specs.Verbs.{or_selection_fault, verb_move}
 use Rattle.control_run.specs.declared.act.Act.TheVariants.{Next}
 use Rattle.control_run.specs.declared.act.Halt.TheVariants as halt
-use Rattle.control_run.specs.declared.machine.Machine.{Machine}
+use Rattle.control_run.specs.Machines.{Machine}
 use Rattle.control_run.specs.declared.selecting.Refusal.{Refusal}
 use Rattle.control_run.specs.declared.selecting.Refusal.TheVariants.{Fault, Overflow, NoMemory}
-use Rattle.control_run.specs.declared.setup.Opened.{Opened}
-use Rattle.control_run.specs.Engine.{ways}
+use Rattle.control_run.specs.Machines.{Opened}
 use Rattle.answer_definitions.specs.Real.{linear_programming}
 use Rattle.control_run.specs.Standing.{Stands, named, filed}
 use Rattle.control_run.specs.Statements.{Executes}
@@ -135,8 +134,8 @@ module _ (card : ℕ) {P : Type 0} (written : P → Option (List ℕ)) (faults r
         steps = [];
         is_shown = ap (λ (chosen : SetupOptions). Some (kept o.problem chosen (opening_statuses opened.setup.lp))) (sym o.are_options);
         reached = sym o.is_opening;
-        lie = subst (λ (a : Matrix). LieIn a (ways opened.setup.engine) (opening_statuses opened.setup.lp ∷ [])) (sym (same_matrix o.problem (choice_of machine.cells options) opened.setup.lp o.is_selected))
-            (subst (λ (s : Basis). LieIn opened.setup.lp.matrix (ways opened.setup.engine) (s ∷ [])) o.is_opening o.lie);
+        lie = subst (λ (a : Matrix). LieIn a opened.setup.engine.waypoints (opening_statuses opened.setup.lp ∷ [])) (sym (same_matrix o.problem (choice_of machine.cells options) opened.setup.lp o.is_selected))
+            (subst (λ (s : Basis). LieIn opened.setup.lp.matrix opened.setup.engine.waypoints (s ∷ [])) o.is_opening o.lie);
       };
       mark = refl;
     }

@@ -10,7 +10,7 @@ use Rattle.lp_definitions.specs.declared.Evidence.{Evidence}
 use Rattle.evidence_definitions.specs.Statements.{Solution as SolutionStatement}
 use Rattle.problem_definitions.specs.Problem.{Problem}
 use Rattle.problem_file.specs.Filed.{Filed, filed_under}
-use Rattle.bounded_primal.specs.Calls.{LieIn}
+use Rattle.basis_values.specs.Calls.{LieIn}
 use Rattle.report_text.specs.Lines.{solution_lines}
 use Rattle.listing_definitions.specs.Text.{report_text}
 use Rattle.control_definitions.specs.Program.{SetupOptions, Solution as SolutionVerb}
@@ -35,11 +35,10 @@ use Rattle.control_run.specs.declared.act.Halt.TheVariants as halt
 use Rattle.control_run.specs.declared.end.Place.{Place as OwnPlace}
 use Rattle.control_run.specs.declared.finding.Finding.{Finding}
 use Rattle.control_run.specs.declared.finding.Finding.TheVariants.{Overflow, Shown}
-use Rattle.control_run.specs.declared.machine.Machine.{Machine}
-use Rattle.control_run.specs.declared.machine.Setup.{Setup}
+use Rattle.control_run.specs.Machines.{Machine}
+use Rattle.control_run.specs.Kept.{Setup}
 use Rattle.control_run.specs.declared.selecting.Refusal.TheVariants.{Fault}
 use Rattle.control_run.specs.Ends.{place_shown}
-use Rattle.control_run.specs.Engine.{ways}
 use Rattle.answer_definitions.specs.Real.{linear_programming}
 use Rattle.control_run.specs.Standing.{IsSelected, IsSolved, ShowsSetup, Stands}
 use Rattle.control_run.specs.Statements.{Comes, Executes}
@@ -85,7 +84,7 @@ pub record IsSameSetup (setup new : Setup) : Type 0 where
   pub options : new.options ≡ setup.options
   pub lp : new.lp ≡ setup.lp
   pub basis : new.basis ≡ setup.basis
-  pub keeps : KeepsWaypoints setup.lp.matrix (basics_of setup.basis) (ways setup.engine) (basics_of setup.basis) (ways new.engine)
+  pub keeps : KeepsWaypoints setup.lp.matrix (basics_of setup.basis) setup.engine.waypoints (basics_of setup.basis) new.engine.waypoints
 
 pub still_selected : (cells : Cells) (file : Filed) (setup new : Setup) → IsSameSetup setup new → IsSelected cells file setup → IsSelected cells file new
 still_selected cells file setup new k h = λ problem on_file.
@@ -97,11 +96,14 @@ still_solved cells file setup new mark k h = record {
   optimal = λ is. subst (λ (p : LinearProgram). IsOptimalBasis p new.basis) (sym k.lp) (subst (λ (b : Basis). IsOptimalBasis setup.lp b) (sym k.basis) (h.optimal is));
 }
 
-module _ {P : Type 0} (written : P → Option (List ℕ)) (faults refusals : P → ℕ) (file : Filed) (setup : Setup) (mark : Mark) (there : Problem ℕ) (is_there : filed_under setup.name file ≡ Some there) where
+-- the setup that code has opened, which is the one that is spoken of
+module _ {P : Type 0} (written : P → Option (List ℕ)) (faults refusals : P → ℕ) (file : Filed) {setup old : Setup} (is_old : setup ≡ old) (mark : Mark) (there : Problem ℕ) (is_there : filed_under setup.name file ≡ Some there) where
   pub lines_at : (print_old print_new : P) (result : Result Finding Halt) → Tells (Shows there setup mark) written faults refusals print_old print_new result →
-      (problem : Problem ℕ) → filed_under setup.name file ≡ Some problem → Tells (Shows problem setup mark) written faults refusals print_old print_new result
+      (problem : Problem ℕ) → filed_under old.name file ≡ Some problem → Tells (Shows problem old mark) written faults refusals print_old print_new result
   lines_at print_old print_new result t problem on_file =
-      subst (λ (q : Problem ℕ). Tells (Shows q setup mark) written faults refusals print_old print_new result) (one_problem file setup there problem is_there on_file) t
+      subst (λ (s : Setup). Tells (Shows problem s mark) written faults refusals print_old print_new result) is_old
+      (subst (λ (q : Problem ℕ). Tells (Shows q setup mark) written faults refusals print_old print_new result)
+      (one_problem file setup there problem is_there (ap (λ (s : Setup). filed_under s.name file) is_old ∙ on_file)) t)
 
 -- ---- the statement
 
@@ -165,8 +167,8 @@ module _ (card : ℕ) (cards : List (List ℕ)) (old : Machine) (setup : Setup) 
       pub still_stands : Stands cards (record old { setup = Some new }) position executed state
       still_stands =
           let same : matrix_of problem ≡ setup.lp.matrix = same_matrix problem (choice_of old.cells setup.options) setup.lp ok in
-          let lie : LieIn setup.lp.matrix (ways new.engine) (p.initial ++ setup.basis ∷ []) =
-          lie_later setup.lp.matrix p.initial setup.basis (ways setup.engine) (ways new.engine) k.keeps (lie_up_to problem setup state.setup p setup.lp same) in
+          let lie : LieIn setup.lp.matrix new.engine.waypoints (p.initial ++ setup.basis ∷ []) =
+          lie_later setup.lp.matrix p.initial setup.basis setup.engine.waypoints new.engine.waypoints k.keeps (lie_up_to problem setup state.setup p setup.lp same) in
           record {
             is_position = s.is_position;
             is_executed = s.is_executed;
@@ -180,7 +182,7 @@ module _ (card : ℕ) (cards : List (List ℕ)) (old : Machine) (setup : Setup) 
               steps = p.steps;
               is_shown = p.is_shown ∙ ap (λ (o : SetupOptions). Some (present_with problem o p.opening p.steps)) (sym k.options);
               reached = p.reached ∙ sym k.basis;
-              lie = subst (λ (bs : List Basis). LieIn (matrix_of problem) (ways new.engine) bs) (sym p.ends) (subst (λ (a : Matrix). LieIn a (ways new.engine) (p.initial ++ setup.basis ∷ [])) (sym same) lie);
+              lie = subst (λ (bs : List Basis). LieIn (matrix_of problem) new.engine.waypoints bs) (sym p.ends) (subst (λ (a : Matrix). LieIn a new.engine.waypoints (p.initial ++ setup.basis ∷ [])) (sym same) lie);
             };
             mark = s.mark;
           }

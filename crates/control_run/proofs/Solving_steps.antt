@@ -10,7 +10,7 @@ use Rattle.lp_definitions.specs.declared.Evidence.{Evidence}
 use Rattle.path_definitions.specs.Path.{Ending, EndsOptimal, EndsCrossed, EndsInfeasible, EndsUnbounded, EndsAt}
 use Rattle.path_laws.specs.Laws.{IsNonsingularBasis}
 use Rattle.path_laws.proofs.Ends.{optimal_end}
-use Rattle.bounded_primal.specs.Calls.{HasRates}
+use Rattle.basis_values.specs.Calls.{HasRates}
 use Rattle.problem_definitions.specs.Problem.{Problem}
 use Rattle.problem_file.specs.Filed.{Filed, filed_under}
 use Rattle.control_definitions.specs.Cells.{Cells}
@@ -35,13 +35,12 @@ use Rattle.control_run.specs.declared.act.Halt.TheVariants as halt
 use Rattle.control_run.specs.declared.end.Place.{Place as OwnPlace}
 use Rattle.control_run.specs.declared.finding.Finding.{Finding}
 use Rattle.control_run.specs.declared.finding.Finding.TheVariants.{Ended, Overflow}
-use Rattle.control_run.specs.declared.machine.Setup.{Setup}
+use Rattle.control_run.specs.Kept.{Setup}
 use Rattle.control_run.specs.declared.selecting.Refusal.{Refusal}
 use Rattle.control_run.specs.declared.selecting.Refusal.TheVariants.{Fault, NoMemory}
 use Rattle.control_run.specs.declared.selecting.Refusal.TheVariants as refusals
 use Rattle.control_run.specs.Choosing.{IsUnselected}
 use Rattle.control_run.specs.Ends.{place_shown}
-use Rattle.control_run.specs.Engine.{matrix, basics, ways}
 use Rattle.control_run.specs.Standing.{IsReady, IsSelected}
 use Rattle.control_run.specs.Findings.{PathReaches, PathFinds, reached, at_limit, overflows, Finds, unselected, too_large, solved, Tells, refused_finding, IfEnded}
 use Rattle.control_run.proofs.Selected.{same_matrix, no_change, rates_carry}
@@ -100,29 +99,29 @@ module _ (file : Filed) (setup : Setup) (r : IsReady file setup) (problem : Prob
 
   module _ (cells : Cells) (lp : LinearProgram) (ok : selected problem (choice_of cells setup.options) ≡ Ok lp) where
     -- the setup's rates are those of what is selected now
-    pub ready_rates : HasRates (matrix setup.engine) (basics setup.engine) lp setup.basis
-    ready_rates = rates_carry problem r.choice (choice_of cells setup.options) setup.lp lp r.has_options own_selected ok (matrix setup.engine) (basics setup.engine) setup.basis r.rates
+    pub ready_rates : HasRates setup.engine.matrix setup.engine.basics lp setup.basis
+    ready_rates = rates_carry problem r.choice (choice_of cells setup.options) setup.lp lp r.has_options own_selected ok setup.engine.matrix setup.engine.basics setup.basis r.rates
 
     -- and the other way
-    pub ready_again : (new : Setup) → new.name ≡ setup.name → new.options ≡ setup.options → new.lp ≡ setup.lp → HasRates (matrix new.engine) (basics new.engine) lp new.basis → IsReady file new
+    pub ready_again : (new : Setup) → new.name ≡ setup.name → new.options ≡ setup.options → new.lp ≡ setup.lp → HasRates new.engine.matrix new.engine.basics lp new.basis → IsReady file new
     ready_again new same_name same_options same_lp has = record {
       problem = problem;
       on_file = ap (λ name. filed_under name file) same_name ∙ on_file;
       choice = r.choice;
       has_options = r.has_options ∙ sym same_options;
       is_selected = own_selected ∙ ap Ok (sym same_lp);
-      rates = subst (λ (p : LinearProgram). HasRates (matrix new.engine) (basics new.engine) p new.basis) (sym same_lp)
-          (rates_carry problem (choice_of cells setup.options) r.choice lp setup.lp (sym r.has_options) ok own_selected (matrix new.engine) (basics new.engine) new.basis has);
+      rates = subst (λ (p : LinearProgram). HasRates new.engine.matrix new.engine.basics p new.basis) (sym same_lp)
+          (rates_carry problem (choice_of cells setup.options) r.choice lp setup.lp (sym r.has_options) ok own_selected new.engine.matrix new.engine.basics new.basis has);
     }
 
-    pub ready_solved : (new : Setup) → new.name ≡ setup.name → new.options ≡ setup.options → new.lp ≡ lp → HasRates (matrix new.engine) (basics new.engine) lp new.basis → IsReady file new
+    pub ready_solved : (new : Setup) → new.name ≡ setup.name → new.options ≡ setup.options → new.lp ≡ lp → HasRates new.engine.matrix new.engine.basics lp new.basis → IsReady file new
     ready_solved new same_name same_options same_lp has = record {
       problem = problem;
       on_file = ap (λ name. filed_under name file) same_name ∙ on_file;
       choice = choice_of cells setup.options;
       has_options = sym same_options;
       is_selected = ok ∙ ap Ok (sym same_lp);
-      rates = subst (λ (p : LinearProgram). HasRates (matrix new.engine) (basics new.engine) p new.basis) (sym same_lp) has;
+      rates = subst (λ (p : LinearProgram). HasRates new.engine.matrix new.engine.basics p new.basis) (sym same_lp) has;
     }
 
     pub now_selected : (new : Setup) → new.name ≡ setup.name → new.options ≡ setup.options → new.lp ≡ lp → IsSelected cells file new
@@ -159,23 +158,26 @@ solved_ends sheet s now limit before after _ _ lawful at (reached {bases = bases
 solved_ends sheet s now limit before after _ _ lawful at (at_limit h) Fact gives = tt
 solved_ends sheet s now limit before after _ _ lawful at (overflows h) Fact gives = tt
 
-module _ {P : Type 0} (written : P → Option (List ℕ)) (faults refusals : P → ℕ) (cells : Cells) (file : Filed) (setup new : Setup) (there : Problem ℕ) (is_there : filed_under setup.name file ≡ Some there) where
+-- The setup that code has opened, which is the one that is spoken of, and what is left of it.
+module _ {P : Type 0} (written : P → Option (List ℕ)) (faults refusals : P → ℕ) (cells : Cells) (file : Filed) {setup old : Setup} (is_old : setup ≡ old) (new : Setup) (there : Problem ℕ) (is_there : filed_under setup.name file ≡ Some there) where
   at_problem : (print_old print_new : P) (result : Result Finding Halt) → Tells (Finds there cells setup new) written faults refusals print_old print_new result →
-      (problem : Problem ℕ) → filed_under setup.name file ≡ Some problem → Tells (Finds problem cells setup new) written faults refusals print_old print_new result
+      (problem : Problem ℕ) → filed_under old.name file ≡ Some problem → Tells (Finds problem cells old new) written faults refusals print_old print_new result
   at_problem print_old print_new result t problem on_file =
-      subst (λ (q : Problem ℕ). Tells (Finds q cells setup new) written faults refusals print_old print_new result) (one_problem file setup there problem is_there on_file) t
+      subst (λ (s : Setup). Tells (Finds problem cells s new) written faults refusals print_old print_new result) is_old
+      (subst (λ (q : Problem ℕ). Tells (Finds q cells setup new) written faults refusals print_old print_new result)
+      (one_problem file setup there problem is_there (ap (λ (s : Setup). filed_under s.name file) is_old ∙ on_file)) t)
 
   pub refusal_told : (print : P) (refusal : Refusal) → IsUnselected there (choice_of cells setup.options) refusal →
-      (problem : Problem ℕ) → filed_under setup.name file ≡ Some problem → Tells (Finds problem cells setup new) written faults refusals print print (refused_finding refusal)
+      (problem : Problem ℕ) → filed_under old.name file ≡ Some problem → Tells (Finds problem cells old new) written faults refusals print print (refused_finding refusal)
   refusal_told print refusal u =
       at_problem print print (refused_finding refusal) (tells_quietly written faults refusals (Finds there cells setup new) print (refused_finding refusal) (refusal_found there cells setup new refusal u))
 
   pub path_told : (lp : LinearProgram) (limit : Option ℕ) (print_old print_new : P) (result : Result Finding Halt) → limit ≡ cells.xiterlim → selected there (choice_of cells setup.options) ≡ Ok lp →
       new.name ≡ setup.name → new.options ≡ setup.options →
-      Tells (PathFinds (record { problem = there; lp = lp }) setup.basis new.basis limit (ways setup.engine) (ways new.engine)) written faults refusals print_old print_new result →
-      (problem : Problem ℕ) → filed_under setup.name file ≡ Some problem → Tells (Finds problem cells setup new) written faults refusals print_old print_new result
+      Tells (PathFinds (record { problem = there; lp = lp }) setup.basis new.basis limit setup.engine.waypoints new.engine.waypoints) written faults refusals print_old print_new result →
+      (problem : Problem ℕ) → filed_under old.name file ≡ Some problem → Tells (Finds problem cells old new) written faults refusals print_old print_new result
   path_told lp limit print_old print_new result within ok same_name same_options t =
       at_problem print_old print_new result
-      (tells_more written faults refusals (PathFinds (record { problem = there; lp = lp }) setup.basis new.basis limit (ways setup.engine) (ways new.engine)) (Finds there cells setup new) print_old print_new
+      (tells_more written faults refusals (PathFinds (record { problem = there; lp = lp }) setup.basis new.basis limit setup.engine.waypoints new.engine.waypoints) (Finds there cells setup new) print_old print_new
       (λ gain finding f. solved ok same_name same_options
-      (subst (λ (n : Option ℕ). PathFinds (record { problem = there; lp = lp }) setup.basis new.basis n (ways setup.engine) (ways new.engine) gain finding) within f)) result t)
+      (subst (λ (n : Option ℕ). PathFinds (record { problem = there; lp = lp }) setup.basis new.basis n setup.engine.waypoints new.engine.waypoints gain finding) within f)) result t)

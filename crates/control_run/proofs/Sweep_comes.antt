@@ -22,14 +22,13 @@ use Rattle.run_definitions.specs.Verbs.{mark_of, last_value, not_less, or_select
 use Rattle.control_run.specs.declared.act.Act.{Act}
 use Rattle.control_run.specs.declared.act.Halt.{Halt}
 use Rattle.control_run.specs.declared.finding.Finding.{Finding}
-use Rattle.control_run.specs.declared.machine.Machine.{Machine}
-use Rattle.control_run.specs.declared.machine.Setup.{Setup}
+use Rattle.control_run.specs.Machines.{Machine}
+use Rattle.control_run.specs.Kept.{Setup}
 use Rattle.control_run.specs.declared.selecting.Refusal.TheVariants.{Fault}
 use Rattle.control_run.specs.declared.sweep.SweepVerb.{SweepVerb}
 use Rattle.control_run.specs.declared.sweep.SweepVerb.TheVariants.{Paraobj, Pararhs}
 use Rattle.control_run.specs.Choosing.{HasSelectionFault, HasRangeOverflow, refused_act}
 use Rattle.control_run.specs.Ends.{place_shown}
-use Rattle.control_run.specs.Engine.{ways}
 use Rattle.control_run.specs.Standing.{AreDemands, IsReady, ShowsSetup, Stands}
 use Rattle.control_run.specs.Statements.{Comes, Executes}
 use Rattle.control_run.specs.Findings.{Tells, act_of}
@@ -167,7 +166,7 @@ module _ (verb : SweepVerb) (card : ℕ) (cards : List (List ℕ)) (old : Machin
         run_gives (after_sweep card sweep present state answer)
         (inl (answer, subst (λ (b : Basis). IsSwept sheet b sweep answer) (sym p.reached) right, refl))
 
-    overflow_gives : (e : Evidence) (place : Option endings.Place) → SweepOverflows sheet setup.basis new.basis sweep (ways setup.engine) (ways new.engine) e place →
+    overflow_gives : (e : Evidence) (place : Option endings.Place) → SweepOverflows sheet setup.basis new.basis sweep setup.engine.waypoints new.engine.waypoints e place →
         Gives linear_programming card (verb_move (verb_of verb) card state) (stops (endings.OverflowStop (record { evidence = e; place = place; card = card })))
     unfolding linear_programming
     overflow_gives e place h =
@@ -180,7 +179,7 @@ module _ (verb : SweepVerb) (card : ℕ) (cards : List (List ℕ)) (old : Machin
           refl,
         ))
 
-    after_stands : new.name ≡ setup.name → new.options ≡ setup.options → (bases : List Basis) (end : SweepEnd) → SweepReaches sheet setup.basis new.basis sweep (ways setup.engine) (ways new.engine) bases end →
+    after_stands : new.name ≡ setup.name → new.options ≡ setup.options → (bases : List Basis) (end : SweepEnd) → SweepReaches sheet setup.basis new.basis sweep setup.engine.waypoints new.engine.waypoints bases end →
         (theirs own : Cells) → theirs ≡ own → Stands cards (after own) position executed (record state { setup = Some (gone_through bases present); mark = None; cells = theirs })
     after_stands same_name same_options bases end r theirs own same_cells =
         let same = same_matrix problem (choice_of old.cells setup.options) lp ok in

@@ -44,7 +44,7 @@ use Rattle.control_run.specs.declared.act.Halt.TheVariants as halt
 use Rattle.control_run.specs.declared.end.Place.{Place as OwnPlace}
 use Rattle.control_run.specs.declared.finding.Finding.{Finding}
 use Rattle.control_run.specs.declared.finding.Finding.TheVariants.{Ended, Overflow, Swept}
-use Rattle.control_run.specs.declared.machine.Setup.{Setup}
+use Rattle.control_run.specs.Kept.{Setup}
 use Rattle.control_run.specs.declared.selecting.Refusal.{Refusal}
 use Rattle.control_run.specs.declared.selecting.Refusal.TheVariants.{Fault, NoMemory}
 use Rattle.control_run.specs.declared.selecting.Refusal.TheVariants as refusal
@@ -53,9 +53,8 @@ use Rattle.control_run.specs.declared.sweep.Sweep.TheVariants as own
 use Rattle.control_run.specs.declared.sweep.SweepVerb.{SweepVerb}
 use Rattle.control_run.specs.Choosing.{IsUnselected}
 use Rattle.control_run.specs.Ends.{place_shown}
-use Rattle.control_run.specs.Engine.{ways}
-use Rattle.control_run.specs.Findings.{Tells, refused_finding}
-use Rattle.control_run.specs.Sweeping.{IsNotAsked, IsAsked, IsOf, Serves, value_left, IsRunOverflow, SweepFinds, opened, chained, overflows, Sweeps, unselected, too_large, not_asked, swept}
+use Rattle.control_run.specs.Findings.{IsOverflowAt, Tells, refused_finding}
+use Rattle.control_run.specs.Sweeping.{IsNotAsked, IsAsked, sweep_shown, IsOf, Serves, value_left, IsRunOverflow, SweepReaches, SweepFinds, opened, chained, overflows, Sweeps, unselected, too_large, not_asked, swept}
 use Rattle.control_run.proofs.Telling.{tells_more, tells_quietly, overflow_tells}
 use Rattle.control_run.proofs.Present.{one_problem}
 use Rattle.control_run.proofs.Solving_steps.{as_many_rows}
@@ -172,11 +171,14 @@ module _ (problem : Problem ℕ) (choice : Choice) (lp : LinearProgram) (ok : se
 
 -- ---- what is found with a setup
 
-module _ {P : Type 0} (written : P → Option (List ℕ)) (faults refusals : P → ℕ) (verb : SweepVerb) (cells : Cells) (file : Filed) (setup new : Setup) (there : Problem ℕ) (is_there : filed_under setup.name file ≡ Some there) where
+-- The setup that code has opened, which is the one that is spoken of, and what is left of it.
+module _ {P : Type 0} (written : P → Option (List ℕ)) (faults refusals : P → ℕ) (verb : SweepVerb) (cells : Cells) (file : Filed) {setup old : Setup} (is_old : setup ≡ old) (new : Setup) (there : Problem ℕ) (is_there : filed_under setup.name file ≡ Some there) where
   at_problem : (print_old print_new : P) (result : Result Finding Halt) → Tells (Sweeps there cells verb setup new) written faults refusals print_old print_new result →
-      (problem : Problem ℕ) → filed_under setup.name file ≡ Some problem → Tells (Sweeps problem cells verb setup new) written faults refusals print_old print_new result
+      (problem : Problem ℕ) → filed_under old.name file ≡ Some problem → Tells (Sweeps problem cells verb old new) written faults refusals print_old print_new result
   at_problem print_old print_new result t problem on_file =
-      subst (λ (q : Problem ℕ). Tells (Sweeps q cells verb setup new) written faults refusals print_old print_new result) (one_problem file setup there problem is_there on_file) t
+      subst (λ (s : Setup). Tells (Sweeps problem cells verb s new) written faults refusals print_old print_new result) is_old
+      (subst (λ (q : Problem ℕ). Tells (Sweeps q cells verb setup new) written faults refusals print_old print_new result)
+      (one_problem file setup there problem is_there (ap (λ (s : Setup). filed_under s.name file) is_old ∙ on_file)) t)
 
   refusal_found : (why : Refusal) → IsUnselected there (choice_of cells setup.options) why → MatchResult (refused_finding why) (Sweeps there cells verb setup new Nothing) (λ h. h ≡ halt.NoMemory)
   refusal_found (Fault fault) u = unselected u
@@ -184,7 +186,7 @@ module _ {P : Type 0} (written : P → Option (List ℕ)) (faults refusals : P �
   refusal_found NoMemory u = refl
 
   pub unselected_told : (print : P) (why : Refusal) → IsUnselected there (choice_of cells setup.options) why →
-      (problem : Problem ℕ) → filed_under setup.name file ≡ Some problem → Tells (Sweeps problem cells verb setup new) written faults refusals print print (refused_finding why)
+      (problem : Problem ℕ) → filed_under old.name file ≡ Some problem → Tells (Sweeps problem cells verb old new) written faults refusals print print (refused_finding why)
   unselected_told print why u =
       at_problem print print (refused_finding why) (tells_quietly written faults refusals (Sweeps there cells verb setup new) print (refused_finding why) (refusal_found why u))
 
@@ -195,14 +197,14 @@ module _ {P : Type 0} (written : P → Option (List ℕ)) (faults refusals : P �
     unasked_found NoMemory u = refl
 
     pub unasked_told : (print : P) (why : Refusal) → IsNotAsked verb there cells why →
-        (problem : Problem ℕ) → filed_under setup.name file ≡ Some problem → Tells (Sweeps problem cells verb setup new) written faults refusals print print (refused_finding why)
+        (problem : Problem ℕ) → filed_under old.name file ≡ Some problem → Tells (Sweeps problem cells verb old new) written faults refusals print print (refused_finding why)
     unasked_told print why u =
         at_problem print print (refused_finding why) (tells_quietly written faults refusals (Sweeps there cells verb setup new) print (refused_finding why) (unasked_found why u))
 
     pub run_told : (sweep : Sweep) → IsAsked verb there cells sweep → (print_old print_new : P) (result : Result Finding Halt) → new.name ≡ setup.name → new.options ≡ setup.options →
-        Tells (SweepFinds (record { problem = there; lp = lp }) setup.basis new.basis sweep (ways setup.engine) (ways new.engine)) written faults refusals print_old print_new result →
-        (problem : Problem ℕ) → filed_under setup.name file ≡ Some problem → Tells (Sweeps problem cells verb setup new) written faults refusals print_old print_new result
+        Tells (SweepFinds (record { problem = there; lp = lp }) setup.basis new.basis sweep setup.engine.waypoints new.engine.waypoints) written faults refusals print_old print_new result →
+        (problem : Problem ℕ) → filed_under old.name file ≡ Some problem → Tells (Sweeps problem cells verb old new) written faults refusals print_old print_new result
     run_told sweep a print_old print_new result same_name same_options t =
         at_problem print_old print_new result
-        (tells_more written faults refusals (SweepFinds (record { problem = there; lp = lp }) setup.basis new.basis sweep (ways setup.engine) (ways new.engine)) (Sweeps there cells verb setup new) print_old print_new
+        (tells_more written faults refusals (SweepFinds (record { problem = there; lp = lp }) setup.basis new.basis sweep setup.engine.waypoints new.engine.waypoints) (Sweeps there cells verb setup new) print_old print_new
         (λ gain finding f. swept ok a same_name same_options f) result t)

@@ -18,7 +18,7 @@ use Rattle.control_run.specs.declared.act.Halt.TheVariants as halt
 use Rattle.control_run.specs.declared.end.Place.{Place as OwnPlace}
 use Rattle.control_run.specs.declared.finding.Finding.{Finding}
 use Rattle.control_run.specs.declared.finding.Finding.TheVariants.{Overflow}
-use Rattle.control_run.specs.declared.machine.Machine.{Machine}
+use Rattle.control_run.specs.Machines.{Machine}
 use Rattle.control_run.specs.Ends.{end_shown, place_shown}
 use Rattle.answer_definitions.specs.Real.{linear_programming}
 use Rattle.control_run.specs.Standing.{Stands}

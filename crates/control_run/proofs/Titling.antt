@@ -10,7 +10,7 @@ use Rattle.run_definitions.specs.Moves.{Prints, next, Gives}
 use Rattle.run_definitions.specs.Verbs.{verb_move}
 use Rattle.control_run.specs.declared.act.Act.TheVariants.{Next}
 use Rattle.control_run.specs.declared.act.Halt.TheVariants as halt
-use Rattle.control_run.specs.declared.machine.Machine.{Machine}
+use Rattle.control_run.specs.Machines.{Machine}
 use Rattle.answer_definitions.specs.Real.{linear_programming}
 use Rattle.control_run.specs.Statements.{Executes}
 use Rattle.control_run.proofs.Giving.{loudly, cut_off}

@@ -20,7 +20,7 @@ use Rattle.control_run.specs.declared.act.Halt.TheVariants as halt
 use Rattle.control_run.specs.declared.act.Turn.{Turn}
 use Rattle.control_run.specs.declared.act.Turn.TheVariants.{Goes, Ends}
 use Rattle.control_run.specs.declared.end.End.{End}
-use Rattle.control_run.specs.declared.machine.Machine.{Machine}
+use Rattle.control_run.specs.Machines.{Machine}
 use Rattle.control_run.specs.Ends.{end_shown}
 use Rattle.control_run.specs.Standing.{IsSound, Stands}
 use Rattle.control_run.specs.Statements.{gain_text, gain_of}

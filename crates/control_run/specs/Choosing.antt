@@ -7,7 +7,7 @@ use Rattle.problem_definitions.specs.Problem.{Problem}
 use Rattle.lp_definitions.specs.LinearProgram.{LinearProgram}
 use Rattle.lp_definitions.specs.Basis.{opening_statuses}
 use Rattle.lp_definitions.specs.declared.Evidence.{Evidence}
-use Rattle.bounded_primal.specs.Calls.{HasRates, LieIn}
+use Rattle.basis_values.specs.Calls.{HasRates, LieIn}
 use Rattle.control_definitions.specs.Program.{SetupOptions}
 use Rattle.selection_definitions.specs.declared.SelectionFault.{SelectionFault}
 use Rattle.selection_definitions.specs.Choice.{Choice}
@@ -28,8 +28,7 @@ use Rattle.control_run.specs.declared.act.Halt.TheVariants as halt
 use Rattle.control_run.specs.declared.end.End.TheVariants as ends
 use Rattle.control_run.specs.declared.selecting.Refusal.{Refusal}
 use Rattle.control_run.specs.declared.selecting.Refusal.TheVariants.{Fault, Overflow, NoMemory}
-use Rattle.control_run.specs.declared.setup.Opened.{Opened}
-use Rattle.control_run.specs.Engine.{matrix, basics, ways}
+use Rattle.control_run.specs.Machines.{Opened}
 use Rattle.control_run.specs.Standing.{named, filed}
 
 -- a refused statement ends the run
@@ -81,9 +80,9 @@ module _ (cells : Cells) (file : Filed) (options : SetupOptions) where
     pub are_options : opened.setup.options ≡ options
     pub is_selected : selected problem (choice_of cells options) ≡ Ok opened.setup.lp
     pub is_opening : opened.setup.basis ≡ opening_statuses opened.setup.lp
-    pub rates : HasRates (matrix opened.setup.engine) (basics opened.setup.engine) opened.setup.lp
+    pub rates : HasRates opened.setup.engine.matrix opened.setup.engine.basics opened.setup.lp
         opened.setup.basis
-    pub lie : LieIn opened.setup.lp.matrix (ways opened.setup.engine) (opened.setup.basis ∷ [])
+    pub lie : LieIn opened.setup.lp.matrix opened.setup.engine.waypoints (opened.setup.basis ∷ [])
 
   -- there is no such problem, or its selection is refused
   pub data IsSetupFault (refusal : Refusal) : Type 0 where

@@ -19,7 +19,7 @@ use Rattle.control_run.specs.declared.taking.DeckVerb.TheVariants.{Convert, Revi
 use Rattle.control_run.specs.declared.taking.Described.{Described}
 use Rattle.control_run.specs.declared.taking.Described.TheVariants.{Filed, Ends}
 use Rattle.control_run.specs.declared.end.End.TheVariants as ends
-use Rattle.control_run.specs.declared.machine.Machine.{Machine}
+use Rattle.control_run.specs.Machines.{Machine}
 use Rattle.control_run.specs.Standing.{Stands}
 use Rattle.control_run.specs.Statements.{Comes}
 

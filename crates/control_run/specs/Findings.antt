@@ -32,7 +32,7 @@ use Rattle.question_definitions.specs.Answers.{Basis, Sheet, PathLimit}
 use Rattle.answer_definitions.specs.Verdicts.{ReachesVerdict, IsSolved}
 use Rattle.answer_definitions.specs.Sections.{IsShown, IsRanged}
 use Rattle.answer_definitions.specs.Evidence.{IsEvidence, OverflowsOnPath}
-use Rattle.bounded_primal.specs.Calls.{LieIn}
+use Rattle.basis_values.specs.Calls.{LieIn}
 use Rattle.run_definitions.specs.State.{choice_of}
 use Rattle.run_definitions.specs.Moves.{Gain, Nothing, Prints}
 use Rattle.run_definitions.specs.Verbs.{mark_of}
@@ -45,13 +45,12 @@ use Rattle.control_run.specs.declared.end.End.TheVariants as end
 use Rattle.control_run.specs.declared.end.Place.{Place as OwnPlace}
 use Rattle.control_run.specs.declared.finding.Finding.{Finding}
 use Rattle.control_run.specs.declared.finding.Finding.TheVariants.{Refused, Overflow, Limit, Ended, Shown, Swept}
-use Rattle.control_run.specs.declared.machine.Setup.{Setup}
+use Rattle.control_run.specs.Kept.{Setup}
 use Rattle.control_run.specs.declared.selecting.Refusal.{Refusal}
 use Rattle.control_run.specs.declared.selecting.Refusal.TheVariants.{Fault, NoMemory}
 use Rattle.control_run.specs.declared.selecting.Refusal.TheVariants as refusals
 use Rattle.control_run.specs.Choosing.{HasSelectionFault, HasRangeOverflow}
 use Rattle.control_run.specs.Ends.{place_shown}
-use Rattle.control_run.specs.Engine.{ways}
 use Rattle.control_run.specs.Statements.{gain_text}
 
 -- ---- what stops a call
@@ -101,7 +100,7 @@ pub data Finds (problem : Problem ℕ) (cells : Cells) (setup new : Setup) : Gai
       selected problem (choice_of cells setup.options) ≡ Ok lp →
       new.name ≡ setup.name → new.options ≡ setup.options →
       PathFinds (record { problem = problem; lp = lp }) setup.basis new.basis cells.xiterlim
-      (ways setup.engine) (ways new.engine) gain finding →
+      setup.engine.waypoints new.engine.waypoints gain finding →
       Finds problem cells setup new gain finding
 
 -- a refusal is found, or there is no memory
@@ -129,7 +128,7 @@ module _ (sheet : Sheet) (s : Basis) (before : List Basics) where
 -- those of a setup's present basis, in the linear program that it keeps
 abbrev pub Shows : Problem ℕ → Setup → Mark → Gain → Finding → Type 0
 Shows problem setup mark = LinesFound (record { problem = problem; lp = setup.lp }) setup.basis
-    (ways setup.engine) mark
+    setup.engine.waypoints mark
 
 -- ---- the intervals of a basis
 
@@ -148,7 +147,7 @@ module _ (sheet : Sheet) (s : Basis) (before : List Basics) where
 
 -- those of a setup's present basis, in the linear program that it keeps
 abbrev pub ShowsRanges : Problem ℕ → Setup → Gain → Finding → Type 0
-ShowsRanges problem setup = RangesFound (record { problem = problem; lp = setup.lp }) setup.basis (ways setup.engine)
+ShowsRanges problem setup = RangesFound (record { problem = problem; lp = setup.lp }) setup.basis setup.engine.waypoints
 
 -- it needs a mark, and no other than OPTIMAL
 abbrev pub range_fault : Option Mark → Option VerbFault

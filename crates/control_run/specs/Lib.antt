@@ -1,4 +1,5 @@
-pub mod Engine
+pub mod Kept
+pub mod Machines
 pub mod Ends
 pub mod Standing
 pub mod Statements

@@ -13,7 +13,7 @@ use Rattle.run_definitions.specs.Verbs.{verb_move}
 use Rattle.control_run.specs.declared.act.Act.{Act}
 use Rattle.control_run.specs.declared.act.Halt.{Halt}
 use Rattle.control_run.specs.declared.act.Halt.TheVariants as halt
-use Rattle.control_run.specs.declared.machine.Machine.{Machine}
+use Rattle.control_run.specs.Machines.{Machine}
 use Rattle.control_run.specs.Standing.{Stands}
 use Rattle.control_run.specs.Statements.{gain_text, gain_of, Comes}
 

@@ -13,7 +13,7 @@ use Rattle.problem_definitions.specs.Names.{Name}
 use Rattle.problem_definitions.specs.Problem.{Problem}
 use Rattle.problem_file.specs.Filed.{Filed, filed_under}
 use Rattle.path_definitions.specs.Path.{last_of}
-use Rattle.bounded_primal.specs.Calls.{HasRates, LieIn}
+use Rattle.basis_values.specs.Calls.{HasRates, LieIn}
 use Rattle.listing_definitions.specs.declared.Mark.{Mark}
 use Rattle.listing_definitions.specs.declared.Mark.TheVariants.{Optimal}
 use Rattle.selection_definitions.specs.Choice.{Choice}
@@ -21,9 +21,8 @@ use Rattle.selection_definitions.specs.Selection.{matrix_of, selected}
 use Rattle.control_definitions.specs.Cells.{Cells}
 use Rattle.question_definitions.specs.Answers.{Basis}
 use Rattle.run_definitions.specs.State.{Present, State, problem_of, choice_of}
-use Rattle.control_run.specs.declared.machine.Machine.{Machine}
-use Rattle.control_run.specs.declared.machine.Setup.{Setup}
-use Rattle.control_run.specs.Engine.{matrix, basics, ways}
+use Rattle.control_run.specs.Machines.{Machine}
+use Rattle.control_run.specs.Kept.{Setup}
 
 -- ---- what holds of each machine
 
@@ -40,7 +39,7 @@ pub record IsReady (file : Filed) (setup : Setup) : Type 0 where
   pub choice : Choice
   pub has_options : choice.options ≡ setup.options
   pub is_selected : selected problem choice ≡ Ok setup.lp
-  pub rates : HasRates (matrix setup.engine) (basics setup.engine) setup.lp setup.basis
+  pub rates : HasRates setup.engine.matrix setup.engine.basics setup.lp setup.basis
 
 -- the present cells select the linear program that the setup keeps
 abbrev pub IsSelected : Cells → Filed → Setup → Type 0
@@ -82,7 +81,7 @@ pub record IsPresent (file : Filed) (setup : Setup) (shown : Option Present) : T
   pub is_shown :
       shown ≡ Some (record { problem = problem; options = setup.options; opening = opening; steps = steps })
   pub reached : last_of opening steps ≡ setup.basis
-  pub lie : LieIn (matrix_of problem) (ways setup.engine) (opening ∷ steps)
+  pub lie : LieIn (matrix_of problem) setup.engine.waypoints (opening ∷ steps)
 
 -- the state has a setup where the machine has one
 abbrev pub ShowsSetup : Filed → Option Setup → Option Present → Type 0

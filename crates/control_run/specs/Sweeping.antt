@@ -25,7 +25,7 @@ use Rattle.listing_definitions.specs.Report.{Verdict, Check, Interval, ChainEnd,
 use Rattle.listing_definitions.specs.Ending.{Place}
 use Rattle.control_definitions.specs.Program as program
 use Rattle.control_definitions.specs.Cells.{Cells, steps_allowed}
-use Rattle.bounded_primal.specs.Calls.{LieIn}
+use Rattle.basis_values.specs.Calls.{LieIn}
 use Rattle.bounded_primal.specs.declared.moves.PrimalStop.{PrimalStop}
 use Rattle.question_definitions.specs.Answers.{Basis, Sheet, Changing, changing_name, sweeper, Sweep, OfSweep, SweepEnd, Opening, Chained, SweepLimit}
 use Rattle.answer_definitions.specs.Sweeps.{row_of, shifts_of, IsSwept}
@@ -41,7 +41,7 @@ use Rattle.control_run.specs.declared.act.Halt.{Halt}
 use Rattle.control_run.specs.declared.end.Place.{Place as OwnPlace}
 use Rattle.control_run.specs.declared.finding.Finding.{Finding}
 use Rattle.control_run.specs.declared.finding.Finding.TheVariants.{Refused, Overflow, Limit, Ended, Swept}
-use Rattle.control_run.specs.declared.machine.Setup.{Setup}
+use Rattle.control_run.specs.Kept.{Setup}
 use Rattle.control_run.specs.declared.selecting.Refusal.{Refusal}
 use Rattle.control_run.specs.declared.selecting.Refusal.TheVariants.{Fault, NoMemory}
 use Rattle.control_run.specs.declared.selecting.Refusal.TheVariants as refusals
@@ -51,7 +51,6 @@ use Rattle.control_run.specs.declared.sweep.Sweep.{Sweep as OwnSweep}
 use Rattle.control_run.specs.declared.sweep.Sweep.TheVariants as own
 use Rattle.control_run.specs.Choosing.{HasSelectionFault, HasRangeOverflow}
 use Rattle.control_run.specs.Ends.{place_shown}
-use Rattle.control_run.specs.Engine.{ways}
 use Rattle.control_run.specs.Findings.{IsOverflowAt}
 
 -- ---- what a verb asks for
@@ -193,7 +192,7 @@ pub data Sweeps (problem : Problem ℕ) (cells : Cells) (verb : SweepVerb) (setu
       IsAsked verb problem cells sweep →
       new.name ≡ setup.name → new.options ≡ setup.options →
       SweepFinds (record { problem = problem; lp = lp }) setup.basis new.basis sweep
-      (ways setup.engine) (ways new.engine) gain finding →
+      setup.engine.waypoints new.engine.waypoints gain finding →
       Sweeps problem cells verb setup new gain finding
 
 -- ---- what is left

@@ -6,14 +6,15 @@ ghost use Rattle.control_run.specs.Punching.{Performs};
 
 use crate::act::{Act, Halt};
 use crate::end::End;
-use crate::machine::Machine;
+use crate::machine::{Machine, Setup};
 use bcd_out::deck_of;
 use control_definitions::NameCell;
 use job_devices::Sink;
 use listing_definitions::VerbFault;
+use lp_model::Engine;
 use report_text::{Report, text_of};
 
-impl Machine {
+impl<E: Engine> Machine<Setup<E>> {
     /// BCDOUT: punches the deck of the problem that XPBNAME names, or else of the one filed last, and prints the number of its
     /// cards.
     pub fn punch_problem<P: Sink, U: Sink>(

@@ -8,10 +8,11 @@ ghost use Rattle.control_run.specs.Statements.{Decides};
 
 use crate::act::Act;
 use crate::end::End;
-use crate::machine::Machine;
+use crate::machine::{Machine, Setup};
 use control_definitions::{Demand, NameCell, NumberCell};
 use frac128::Frac;
 use listing_definitions::Mark;
+use lp_model::Engine;
 use name_table::Name;
 use run_cells::Cells;
 
@@ -29,7 +30,7 @@ fn mark_after(cell: NameCell, mark: Option<Mark>) -> Option<Mark>
     }
 }
 
-impl Machine {
+impl<E: Engine> Machine<Setup<E>> {
     /// INITIALZ: the cells and demands become what they were at the start of the run, and the mark is cleared.
     pub fn initialize(&mut self) -> Act
         ensures acts { (card : ℕ) → Decides linear_programming program.Initialz card self.old

@@ -9,17 +9,18 @@ ghost use Rattle.control_run.specs.declared.taking.DeckVerb.TheVariants as deck_
 
 use crate::act::{Act, Halt};
 use crate::end::End;
-use crate::machine::Machine;
+use crate::machine::{Machine, Setup};
 use crate::taking::{DeckVerb, Described, described_as, next_card};
 use card_reader::Cards;
 use control_definitions::NameCell;
 use job_decks::take_deck;
 use job_devices::Sink;
 use listing_definitions::VerbFault;
+use lp_model::Engine;
 use mps_convert::convert;
 use std::alloc::Global;
 
-impl Machine {
+impl<E: Engine> Machine<Setup<E>> {
     // Takes a deck, and converts it.
     fn described(&self, alloc: Global, cards: &Cards, card: u32) -> Result<Described, Halt>
         requires { IsSound cards.now self.now }

@@ -9,7 +9,7 @@ ghost use Rattle.control_run.specs.Punching.{Performs};
 ghost use Rattle.control_run.specs.Running.{Steps};
 
 use crate::act::{Act, Halt, Turn};
-use crate::machine::Machine;
+use crate::machine::{Machine, Setup};
 use crate::parametric::{sweep_objective, sweep_rhs};
 use crate::primal::solve;
 use crate::ranges::show_ranges;
@@ -19,12 +19,13 @@ use crate::title::print_title;
 use card_reader::Cards;
 use control_compiler::{Program, Verb};
 use job_devices::Sink;
+use lp_model::Engine;
 use std::alloc::Global;
 
 /// Does what the statement of a verb on a card says.
-fn execute<P: Sink, U: Sink>(
+fn execute<E: Engine, P: Sink, U: Sink>(
     alloc: Global,
-    machine: &mut Machine,
+    machine: &mut Machine<Setup<E>>,
     cards: &Cards,
     print: &mut P,
     punch: &mut U,
@@ -61,9 +62,9 @@ fn execute<P: Sink, U: Sink>(
 }
 
 /// Executes the statement at a position.
-pub fn step<P: Sink, U: Sink>(
+pub fn step<E: Engine, P: Sink, U: Sink>(
     alloc: Global,
-    machine: &mut Machine,
+    machine: &mut Machine<Setup<E>>,
     program: &Program,
     cards: &Cards,
     print: &mut P,

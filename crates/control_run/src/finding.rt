@@ -2,7 +2,7 @@
 ghost use Rattle.std.specs.Prelude.{◌≡◌, ◌≤◌, length, IfOk};
 ghost use Rattle.lp_definitions.specs.Basis.{basics_of};
 ghost use Rattle.lp_definitions.specs.Waypoints.{waypoint};
-ghost use Rattle.bounded_primal.specs.Calls.{HasRates};
+ghost use Rattle.basis_values.specs.Calls.{HasRates};
 ghost use Rattle.control_run.specs.Ends.{place_shown};
 ghost use Rattle.control_run.specs.Findings.{IsOverflowAt, refused_finding, demanded_act, act_of, mark_left};
 

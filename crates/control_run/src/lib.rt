@@ -23,5 +23,5 @@ mod sweep;
 mod taking;
 mod title;
 
-pub use run::run_program;
+pub use run::{run_on, run_program};
 pub use status::Status;

@@ -7,7 +7,7 @@ ghost use Rattle.frac128.specs.declared.Refused.{Refused as RefusedOperation};
 ghost use Rattle.lp_definitions.specs.Basis.{Basics};
 ghost use Rattle.lp_model.specs.declared.reports.ParaReport.TheVariants as para_reports;
 ghost use Rattle.question_definitions.specs.Answers as answers;
-ghost use Rattle.bounded_primal.specs.Calls.{HasRates};
+ghost use Rattle.basis_values.specs.Calls.{HasRates};
 ghost use Rattle.report_text.specs.Sheets.{IsSheet};
 ghost use Rattle.report_text.specs.Verdicts.{IsOutcome};
 ghost use Rattle.report_text.specs.Parametric.{IsParametric};
@@ -30,7 +30,7 @@ use frac128::{Frac, Refused};
 use job_devices::Sink;
 use listing_definitions::VerbFault;
 use lp_definitions::Evidence;
-use lp_model::{Basis, Lp, Outcome, ParaEnd, ParaReport, ParaRun, Rates};
+use lp_model::{Basis, Engine, Lp, Outcome, ParaEnd, ParaReport, ParaRun, Rates};
 use present_runs::{RunReport, objective_run_of, rhs_run_of};
 use problem_file::ProblemFile;
 use report_text::{Report, Sheet, text_of};
@@ -200,11 +200,11 @@ fn follow<P: Sink, R: Rates>(
 }
 
 // Selects by the cells as they stand, and makes the run that a verb asks for, from the present basis of a setup.
-fn find<P: Sink>(
+fn find<E: Engine, P: Sink>(
     alloc: Global,
     cells: &Cells,
     file: &ProblemFile,
-    setup: &mut Setup,
+    setup: &mut Setup<E>,
     verb: SweepVerb,
     print: &mut P,
 ) -> Result<Finding, Halt>
@@ -251,9 +251,9 @@ fn leave_value(cells: &mut Cells, finding: &Finding)
 // Selects by the cells as they stand, and makes the run from XPARAM to XPARMAX, from the present basis. Its intervals and its end are
 // printed, its last value is left in XPARAM, and the next statement follows. An opening that isn't optimal prints its verdict and goes
 // by the demand, if that is set. Neither leaves a mark.
-fn sweep<P: Sink>(
+fn sweep<E: Engine, P: Sink>(
     alloc: Global,
-    machine: &mut Machine,
+    machine: &mut Machine<Setup<E>>,
     print: &mut P,
     card: u32,
     verb: SweepVerb,
@@ -282,9 +282,9 @@ fn sweep<P: Sink>(
 /// The statement is refused where there is no setup, where the cells select nothing, where XCHROW names no N row, and where XPARMAX
 /// isn't set or is less than XPARAM. It ends the run where the run along the parameter goes on past the limit of steps, and where an
 /// operation is refused. Where there is no memory, nothing is printed.
-pub fn sweep_objective<P: Sink>(
+pub fn sweep_objective<E: Engine, P: Sink>(
     alloc: Global,
-    machine: &mut Machine,
+    machine: &mut Machine<Setup<E>>,
     print: &mut P,
     card: u32,
 ) -> Result<Act, Halt>
@@ -300,9 +300,9 @@ pub fn sweep_objective<P: Sink>(
 }
 
 /// PARARHS: the same of the right-hand side, where XCHCOL names the set that is added to it.
-pub fn sweep_rhs<P: Sink>(
+pub fn sweep_rhs<E: Engine, P: Sink>(
     alloc: Global,
-    machine: &mut Machine,
+    machine: &mut Machine<Setup<E>>,
     print: &mut P,
     card: u32,
 ) -> Result<Act, Halt>

@@ -6,7 +6,7 @@ ghost use Rattle.control_definitions.specs.Program as program;
 ghost use Rattle.lp_definitions.specs.LinearProgram.{IsLinearProgram};
 ghost use Rattle.lp_definitions.specs.Basis.{Basics};
 ghost use Rattle.question_definitions.specs.Answers as answers;
-ghost use Rattle.bounded_primal.specs.Calls.{HasRates};
+ghost use Rattle.basis_values.specs.Calls.{HasRates};
 ghost use Rattle.report_text.specs.declared.sheet.Sheet as sheets;
 ghost use Rattle.report_text.specs.Sheets.{IsSheet};
 ghost use Rattle.report_text.specs.Verdicts.{IsOutcome, verdict_shown, check_shown};
@@ -24,7 +24,7 @@ use crate::selecting::{Refusal, select_present};
 use bounded_primal::PrimalStop;
 use job_devices::Sink;
 use listing_definitions::{Mark, Solver, VerbFault};
-use lp_model::{Basis, Outcome, Rates};
+use lp_model::{Basis, Engine, Outcome, Rates};
 use present_answers::{PathReport, path_from};
 use problem_file::ProblemFile;
 use report_text::{Report, Sheet, text_of};
@@ -96,11 +96,11 @@ fn follow<P: Sink, R: Rates>(
 }
 
 // Selects by the cells as they stand, and follows the path from the present basis of a setup.
-fn find<P: Sink>(
+fn find<E: Engine, P: Sink>(
     alloc: Global,
     cells: &Cells,
     file: &ProblemFile,
-    setup: &mut Setup,
+    setup: &mut Setup<E>,
     print: &mut P,
 ) -> Result<Finding, Halt>
     requires { IsReady file.now setup.old }
@@ -137,9 +137,9 @@ fn find<P: Sink>(
 ///
 /// The statement is refused where there is no setup, and where the cells select nothing. It ends the run where the path goes on past
 /// the limit of steps, if there is one, and where an operation is refused. Where there is no memory, nothing is printed.
-pub fn solve<P: Sink>(
+pub fn solve<E: Engine, P: Sink>(
     alloc: Global,
-    machine: &mut Machine,
+    machine: &mut Machine<Setup<E>>,
     print: &mut P,
     card: u32,
 ) -> Result<Act, Halt>

@@ -7,10 +7,9 @@ ghost use Rattle.lp_definitions.specs.Waypoints.{KeepsWaypoints};
 ghost use Rattle.control_definitions.specs.Program as program;
 ghost use Rattle.report_text.specs.Lines.{range_lines};
 ghost use Rattle.report_text.specs.Sheets.{IsSheet};
-ghost use Rattle.bounded_primal.specs.Calls.{HasRates};
+ghost use Rattle.basis_values.specs.Calls.{HasRates};
 ghost use Rattle.answer_definitions.specs.Sections.{IsRanged};
 ghost use Rattle.present_answers.specs.Answers.{sheet_shown, AreRanged};
-ghost use Rattle.control_run.specs.Engine.{ways};
 ghost use Rattle.answer_definitions.specs.Real.{linear_programming};
 ghost use Rattle.control_run.specs.Standing.{IsReady, IsSolved, IsSound};
 ghost use Rattle.control_run.specs.Statements.{Executes};
@@ -22,7 +21,7 @@ use crate::machine::{Machine, Setup};
 use crate::selecting::Refusal;
 use job_devices::Sink;
 use listing_definitions::{Mark, VerbFault};
-use lp_model::{Basis, Rates, Stop};
+use lp_model::{Basis, Engine, Rates, Stop};
 use present_answers::{Ranged, ranges_of};
 use problem_file::ProblemFile;
 use report_text::{Report, Sheet, text_of};
@@ -82,10 +81,10 @@ fn range_basis<P: Sink, R: Rates>(
 }
 
 // Shows the intervals of the present basis of a setup.
-fn range_setup<P: Sink>(
+fn range_setup<E: Engine, P: Sink>(
     alloc: Global,
     file: &ProblemFile,
-    setup: &mut Setup,
+    setup: &mut Setup<E>,
     print: &mut P,
 ) -> Result<Finding, Halt>
     requires ready { IsReady file.now setup.old }
@@ -99,7 +98,7 @@ fn range_setup<P: Sink>(
     ensures lp { setup.new.lp ≡ setup.old.lp }
     ensures basis { setup.new.basis ≡ setup.old.basis }
     ensures waypoints { KeepsWaypoints setup.old.lp.matrix (basics_of setup.old.basis)
-        (ways setup.old.engine) (basics_of setup.old.basis) (ways setup.new.engine) }
+        setup.old.engine.waypoints (basics_of setup.old.basis) setup.new.engine.waypoints }
 {
     // a setup's problem stays on file
     let Some(problem) = file.get(&setup.name) else {
@@ -125,9 +124,9 @@ fn range_fault(mark: Option<Mark>) -> Option<VerbFault>
 
 /// RANGE: prints the intervals in which the present basis stays optimal. It needs a setup and the mark OPTIMAL, and speaks of the linear
 /// program that PRIMAL solved.
-pub fn show_ranges<P: Sink>(
+pub fn show_ranges<E: Engine, P: Sink>(
     alloc: Global,
-    machine: &mut Machine,
+    machine: &mut Machine<Setup<E>>,
     print: &mut P,
     card: u32,
 ) -> Result<Act, Halt>

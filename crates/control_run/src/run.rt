@@ -13,12 +13,17 @@ use crate::act::{Halt, Turn};
 use crate::end::End;
 use crate::execute::step;
 use crate::finish::{finish, finish_halted};
-use crate::machine::Machine;
+use crate::machine::{Machine, Setup};
 use crate::status::Status;
 use card_reader::Cards;
 use control_compiler::Program;
 use job_devices::Sink;
+use lp_model::Engine;
+use reinversion::ProductForm;
 use std::alloc::Global;
+
+/// What keeps the rates of a run.
+type RunEngine = ProductForm;
 
 /// A run executes at most so many statements.
 const MAX_EXECUTED: u32 = 100_000;
@@ -34,7 +39,7 @@ fn first_behind(program: &Program, cards: &Cards) -> u32
 }
 
 // Executes the statements of a program until the run ends.
-fn run<P: Sink, U: Sink>(
+fn run<E: Engine, P: Sink, U: Sink>(
     alloc: Global,
     program: &Program,
     cards: &Cards,
@@ -46,7 +51,7 @@ fn run<P: Sink, U: Sink>(
         punch.old punch.new
         result }
 {
-    let mut machine = Machine::new(alloc, first_behind(program, cards));
+    let mut machine = Machine::<Setup<E>>::new(alloc, first_behind(program, cards));
     let mut position = 1;
     let mut executed = 0;
     while position <= program.count() {
@@ -64,7 +69,7 @@ fn run<P: Sink, U: Sink>(
 }
 
 // Runs a program to its end, and prints that end too.
-fn run_to_end<P: Sink, U: Sink>(
+fn run_to_end<E: Engine, P: Sink, U: Sink>(
     alloc: Global,
     program: &Program,
     cards: &Cards,
@@ -84,13 +89,53 @@ fn run_to_end<P: Sink, U: Sink>(
         Rose (U.faults punch.old) (U.faults punch.new) }
     ensures own { IsStatusOfRun result }
 {
-    match run(alloc, program, cards, print, punch) {
+    match run::<E, P, U>(alloc, program, cards, print, punch) {
         Ok(end) => finish(print, &end),
         Err(halt) => finish_halted(print, halt),
     }
 }
 
-/// Runs a compiled program over the cards of its job: prints the listing, punches the decks, and answers how the run ended.
+/// Runs a compiled program over the cards of its job, with the rates of any engine: prints the listing, punches the decks, and
+/// answers how the run ended.
+///
+/// A run ends by itself; where memory is wanted, or a write to the punch fails, the listing ends with that, if it can. After a
+/// fault of the print, or where the print itself wants memory, nothing more is printed. After a fault of the punch, or where it
+/// wants memory, nothing more is punched: it has gained all that was punched so far, and a front of the deck in hand.
+pub fn run_on<E: Engine, P: Sink, U: Sink>(
+    alloc: Global,
+    program: &Program,
+    cards: &Cards,
+    print: &mut P,
+    punch: &mut U,
+) -> Status
+    // for any program and any cards
+    ensures run { IsRunAnswer linear_programming program.now cards.now
+        (Rose (P.faults print.old) (P.faults print.new))
+        (Rose (P.refusals print.old) (P.refusals print.new))
+        (Rose (U.faults punch.old) (U.faults punch.new))
+        (Rose (U.refusals punch.old) (U.refusals punch.new))
+        (code_of result) (P.written print.old) (P.written print.new)
+        (U.written punch.old) (U.written punch.new) }
+    // for those of a job
+    ensures answer { (job : Job) (bytes : List ℕ) → bytes_of job ≡ Some bytes →
+        IsProgramOf bytes program.now → cards.now ≡ cards_of bytes →
+        IsAnswered linear_programming job
+        (failures_in_run (Rose (P.faults print.old) (P.faults print.new))
+        (Rose (U.faults punch.old) (U.faults punch.new))
+        (Rose (P.refusals print.old) (P.refusals print.new)))
+        (code_of result) (Appends (P.written print.old) (P.written print.new))
+        (Appends (U.written punch.old) (U.written punch.new)) }
+    ensures print_fault { result ≡ Status.PrintFault →
+        Rose (P.faults print.old) (P.faults print.new) }
+    ensures punch_fault { result ≡ Status.PunchFault →
+        Rose (U.faults punch.old) (U.faults punch.new) }
+    ensures own { IsStatusOfRun result }
+{
+    run_to_end::<E, P, U>(alloc, program, cards, print, punch)
+}
+
+/// Runs a compiled program over the cards of its job, with the rates of the product form: prints the listing, punches the decks, and
+/// answers how the run ended, as `run_on` does.
 ///
 /// A run ends by itself; where memory is wanted, or a write to the punch fails, the listing ends with that, if it can. After a
 /// fault of the print, or where the print itself wants memory, nothing more is printed. After a fault of the punch, or where it
@@ -125,5 +170,5 @@ pub fn run_program<P: Sink, U: Sink>(
         Rose (U.faults punch.old) (U.faults punch.new) }
     ensures own { IsStatusOfRun result }
 {
-    run_to_end(alloc, program, cards, print, punch)
+    run_on::<RunEngine, P, U>(alloc, program, cards, print, punch)
 }

@@ -10,12 +10,13 @@ ghost use Rattle.control_run.specs.Statements.{Executes};
 ghost use Rattle.control_run.specs.Choosing.{IsOpened, IsNotOpened};
 
 use crate::act::{Act, Halt};
-use crate::machine::{Machine, RunEngine, Setup};
+use crate::machine::{Machine, Setup};
 use crate::selecting::{Refusal, select_present};
 use bounded_primal::opening;
 use control_verbs::SetupOptions;
 use job_devices::Sink;
 use listing_definitions::VerbFault;
+use lp_model::Engine;
 use lp_setup::SetupChoice;
 use name_table::Name;
 use problem_file::{Problem, ProblemFile};
@@ -25,9 +26,9 @@ use std::alloc::Global;
 
 /// A problem that was chosen: its own name, and what is kept of it.
 #[derive(Drop)]
-pub struct Opened {
+pub struct Opened<S> {
     pub name: Name,
-    pub setup: Setup,
+    pub setup: S,
 }
 
 // The options that stand on the card.
@@ -51,7 +52,7 @@ pub fn wanted_name(moved: Option<Name>, file: &ProblemFile) -> Option<Name>
     }
 }
 
-impl Machine {
+impl<E: Engine> Machine<Setup<E>> {
     /// The problem that this cell names, or else the one filed last.
     pub fn problem_in(&self, cell: NameCell) -> Option<&Problem>
         ensures { option_copied result ≡ filed (name_in cell self.now.cells) self.now.file }
@@ -62,12 +63,12 @@ impl Machine {
 }
 
 // Chooses the problem, selects of it, and opens with the basis of that selection.
-fn open(
+fn open<E: Engine>(
     alloc: Global,
     cells: &Cells,
     file: &ProblemFile,
     options: SetupChoice,
-) -> Result<Opened, Refusal>
+) -> Result<Opened<Setup<E>>, Refusal>
     ensures opened { IfOk result (IsOpened cells.now file.now options) }
     ensures refused { IfErr result (IsNotOpened cells.now file.now options) }
 {
@@ -81,7 +82,7 @@ fn open(
         Ok(lp) => lp,
         Err(refusal) => return Err(refusal),
     };
-    let Ok((basis, engine)) = opening::<RunEngine>(alloc, &lp) else {
+    let Ok((basis, engine)) = opening::<E>(alloc, &lp) else {
         return Err(Refusal::NoMemory);
     };
     Ok(Opened {
@@ -98,9 +99,9 @@ fn open(
 
 /// SETUP: chooses the problem that XPBNAME names, or else the one filed last, selects of it by the present cells and these options,
 /// and keeps it with the opening basis and its rates. Clears the mark.
-pub fn set_up<P: Sink>(
+pub fn set_up<E: Engine, P: Sink>(
     alloc: Global,
-    machine: &mut Machine,
+    machine: &mut Machine<Setup<E>>,
     print: &mut P,
     card: u32,
     options: &SetupOptions,

@@ -11,10 +11,11 @@ ghost use Rattle.control_run.specs.Describing.{verb_of, report_of, Describes, de
 
 use crate::act::{Act, Halt};
 use crate::end::End;
-use crate::machine::Machine;
+use crate::machine::{Machine, Setup};
 use card_reader::Cards;
 use deck_fields::DeckStop;
 use job_devices::Sink;
+use lp_model::Engine;
 use problem_file::Problem;
 use report_text::{Report, text_of};
 
@@ -89,7 +90,7 @@ pub fn described_as(given: Result<Problem, DeckStop>, next: u32) -> Result<Descr
     }
 }
 
-impl Machine {
+impl<E: Engine> Machine<Setup<E>> {
     /// Files the problem that a statement found, and prints its size. Setup and mark are cleared.
     pub fn file_described<P: Sink>(
         &mut self,

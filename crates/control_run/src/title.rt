@@ -1,7 +1,7 @@
 // TITLE.
 ghost use Rattle.std.specs.Prelude.{◌≡◌, ℕ, List};
 ghost use Rattle.control_definitions.specs.Program as program;
-ghost use Rattle.control_run.specs.declared.machine.Machine as machines;
+ghost use Rattle.control_run.specs.Machines as machines;
 ghost use Rattle.answer_definitions.specs.Real.{linear_programming};
 ghost use Rattle.control_run.specs.Statements.{Executes};
 

@@ -68,12 +68,22 @@ fn each_read_of_a_job_may_fail(rt: HostRuntime) -> Result<(), Fail> {
     Ok(())
 }
 
+// A job of whose writes to the print and to the punch these fail.
+fn where_writes_fail(
+    alloc: Global,
+    job: &[u8],
+    failing_writes: &[u64],
+    failing_punches: &[u64],
+) -> Result<Answer, Fail> {
+    let source = MemorySource::new(alloc, job, &[])?;
+    answer_from(alloc, &[], source, failing_writes, failing_punches)
+}
+
 // How many writes a row makes: with each of them failing the listing is cut short, and with the next one it is whole. None where
 // it is answered otherwise.
 fn writes_made(alloc: Global, row: &Row) -> Result<Option<u64>, Fail> {
     for made in 0..MANY {
-        let job = MemorySource::new(alloc, row.job, &[])?;
-        let answer = answer_from(alloc, &[], job, &[made + 1], &[])?;
+        let answer = where_writes_fail(alloc, row.job, &[made + 1], &[])?;
         if answer.is(row.status, row.listing) {
             return Ok(Some(made));
         }
@@ -101,33 +111,30 @@ fn each_write_of_a_listing_may_fail(rt: HostRuntime) -> Result<(), Fail> {
 fn a_punch_that_fails_breaks_the_deck_off(rt: HostRuntime) -> Result<(), Fail> {
     let row = &DECKS[0];
     for write in 1..18 {
-        let call = Call {
-            words: &[],
-            job: row.job,
-            failing_reads: &[],
-            failing_writes: &[],
-            failing_punches: &[write],
-        };
-        let answer = answer_to(rt.alloc(), &call)?;
+        let answer = where_writes_fail(rt.alloc(), row.job, &[], &[write])?;
         let listing = b"CONVERT ONE      ROWS 2 COLUMNS 1 ENTRIES 2\nSTOP 26 PUNCH FAULT\n";
         let cards = answer.punch.bytes();
         assert!(rt; answer.is_punched(26, listing, cards));
         assert!(rt; row.cards.starts_with(cards) && cards.len() < row.cards.len());
     }
+    let unbroken = where_writes_fail(rt.alloc(), row.job, &[], &[18])?;
+    assert!(rt; unbroken.is_punched(row.status, row.listing, row.cards));
+    Ok(())
+}
+
+// The line of the conversion is printed in eleven writes; the next one is that of the stop.
+#[test]
+fn a_print_may_fail_after_the_punch(rt: HostRuntime) -> Result<(), Fail> {
+    let answer = where_writes_fail(rt.alloc(), DECKS[0].job, &[12], &[1])?;
+    let listing = b"CONVERT ONE      ROWS 2 COLUMNS 1 ENTRIES 2\n";
+    assert!(rt; answer.is_punched(25, listing, b""));
     Ok(())
 }
 
 #[test]
-fn a_print_that_fails_behind_a_deck_leaves_it_whole(rt: HostRuntime) -> Result<(), Fail> {
+fn a_print_that_fails_after_a_deck_leaves_it_whole(rt: HostRuntime) -> Result<(), Fail> {
     let row = &DECKS[0];
-    let call = Call {
-        words: &[],
-        job: row.job,
-        failing_reads: &[],
-        failing_writes: &[13],
-        failing_punches: &[],
-    };
-    let answer = answer_to(rt.alloc(), &call)?;
+    let answer = where_writes_fail(rt.alloc(), row.job, &[13], &[])?;
     let listing = b"CONVERT ONE      ROWS 2 COLUMNS 1 ENTRIES 2\nBCDOUT  ";
     assert!(rt; answer.is_punched(25, listing, row.cards));
     Ok(())

@@ -4,7 +4,11 @@
 #[cfg(test)]
 mod devices;
 #[cfg(test)]
+mod engines;
+#[cfg(test)]
 mod jobs;
+#[cfg(test)]
+mod no_memory;
 #[cfg(test)]
 mod rows;
 #[cfg(test)]

@@ -3,12 +3,11 @@
 use Rattle.std.proofs.Common.{◌≡◌, ℕ, List, Option, None, Some, refl, subst}
 use Rattle.std.specs.Io.KnownBytes.{Appends}
 use Rattle.job_devices.specs.Causes.{Rose}
-use Rattle.answer_definitions.specs.Real.{staged}
+use Rattle.answer_definitions.specs.Real.{linear_programming}
 use Rattle.deck_definitions.specs.Transport.{made_job}
 use Rattle.run_definitions.specs.Answer.{Job, WithoutBytes, Read, Made, Failures, words_refused, memory_at_start, IsAnswered}
-use Rattle.run_laws.specs.Laws.{KnowsSolving}
 use Rattle.run_laws.specs.Headline.{IsTrueAnswer}
-use Rattle.run_laws.proofs.Runs.{knows_staged, answer_holds}
+use Rattle.run_laws.proofs.Runs.{knows_linear_programming, answer_holds}
 use Rattle.run_functions.specs.Laws.{IsFunction}
 use Rattle.run_functions.specs.Complete.{IsComplete}
 use Rattle.run_functions.proofs.Runs.{is_function, answers_once}
@@ -16,7 +15,6 @@ use Rattle.run_functions.proofs.Complete.{answer_is_complete}
 use Rattle.command_line.specs.declared.request.Request.{Request}
 use Rattle.command_line.specs.declared.request.Request.TheVariants as request
 use Rattle.control_run.specs.declared.status.Status.{Status}
-use Rattle.control_run.specs.Stage.{builds, stage}
 use Rattle.control_run.specs.Ends.{code_of}
 use Rattle.control_run.specs.Finishing.{failures_in_run}
 use Rattle.mps_cli.specs.declared.stop.Stop.{Stop}
@@ -29,31 +27,26 @@ use Rattle.mps_cli.specs.Asked.{IsAsked, refused, from_source, generated, IsGive
 use Rattle.mps_cli.proofs.Ending_answers.{ending_answer}
 use Rattle.mps_cli.proofs.May_end.{answered_too}
 
-stage_knows : KnowsSolving stage
-unfolding stage
-stage_knows = knows_staged builds
+-- a run is a function but for the choice to stop with an overflow
+runs_are_functions : IsFunction linear_programming
+runs_are_functions = is_function linear_programming knows_linear_programming answers_once
 
--- no parametric run is built
-stage_is_function : IsFunction stage
-unfolding stage
-stage_is_function = is_function (staged builds) (knows_staged builds) (answers_once builds)
-
-true_answer : {job : Job} {failures : Failures} {status : ℕ} {PrintGains PunchGains : List ℕ → Type 0} → IsAnswered stage job failures status PrintGains PunchGains →
-    IsTrueAnswer stage job failures status PrintGains PunchGains
+true_answer : {job : Job} {failures : Failures} {status : ℕ} {PrintGains PunchGains : List ℕ → Type 0} → IsAnswered linear_programming job failures status PrintGains PunchGains →
+    IsTrueAnswer linear_programming job failures status PrintGains PunchGains
 true_answer is = record {
   printed = is.0;
   punched = is.1;
   print_gains = is.2;
   punch_gains = is.3;
   is_answer = is.4;
-  each_holds = answer_holds stage stage_knows is.4;
+  each_holds = answer_holds linear_programming knows_linear_programming is.4;
 }
 
 -- a true answer is complete
-pub complete_answer : {job : Job} {failures : Failures} {status : ℕ} {PrintGains PunchGains : List ℕ → Type 0} → IsTrueAnswer stage job failures status PrintGains PunchGains →
-    IsComplete stage job failures status PrintGains PunchGains
+pub complete_answer : {job : Job} {failures : Failures} {status : ℕ} {PrintGains PunchGains : List ℕ → Type 0} → IsTrueAnswer linear_programming job failures status PrintGains PunchGains →
+    IsComplete linear_programming job failures status PrintGains PunchGains
 complete_answer {job} {failures} {status} {PrintGains} {PunchGains} is =
-    answer_is_complete stage job failures status PrintGains PunchGains is.printed is.punched stage_is_function is.print_gains is.punch_gains is.is_answer
+    answer_is_complete linear_programming job failures status PrintGains PunchGains is.printed is.punched runs_are_functions is.print_gains is.punch_gains is.is_answer
 
 -- ---- the job that is asked for
 
@@ -79,42 +72,42 @@ module _ (asked : Option Request) (told : Option (List ℕ)) (status : Status) w
   module _ {P : Type 0} (written : P → Option (List ℕ)) (faults refusals : P → ℕ) {old new : P} (read_failed punch_failed : Type 0) (punch : Option (List ℕ)) where
     -- the words are refused
     words_headline : asked ≡ None → EndsWith written faults refusals old new Words status → (job : Job) → IsAsked asked told job →
-        IsTrueAnswer stage job (record { read = read_failed; print = Rose (faults old) (faults new); punch = punch_failed; memory = Rose (refusals old) (refusals new) })
+        IsTrueAnswer linear_programming job (record { read = read_failed; print = Rose (faults old) (faults new); punch = punch_failed; memory = Rose (refusals old) (refusals new) })
         (code_of status) (Appends (written old) (written new)) (Appends punch punch)
     words_headline none ends =
-        by_words _ asked told none (true_answer (ending_answer stage WithoutBytes _ Words (words_refused refl) written faults refusals punch status (λ e. e) (λ e. e) ends))
+        by_words _ asked told none (true_answer (ending_answer linear_programming WithoutBytes _ Words (words_refused refl) written faults refusals punch status (λ e. e) (λ e. e) ends))
 
     -- memory is wanted while the words are read
     memory_headline : EndsWith written faults refusals old new Memory status → (job : Job) → IsAsked asked told job →
-        IsTrueAnswer stage job (record { read = read_failed; print = Rose (faults old) (faults new); punch = punch_failed; memory = Rose (refusals old) (refusals new) })
+        IsTrueAnswer linear_programming job (record { read = read_failed; print = Rose (faults old) (faults new); punch = punch_failed; memory = Rose (refusals old) (refusals new) })
         (code_of status) (Appends (written old) (written new)) (Appends punch punch)
-    memory_headline ends job is = true_answer (ending_answer stage job _ Memory memory_at_start written faults refusals punch status (λ e. e) (λ e. e) ends)
+    memory_headline ends job is = true_answer (ending_answer linear_programming job _ Memory memory_at_start written faults refusals punch status (λ e. e) (λ e. e) ends)
 
     -- the words ask for nothing
     pub stopped_headline : (stop : WordsStop) → (stop ≡ stops.Refused → asked ≡ None) → EndsWith written faults refusals old new (stop_of_words stop) status → (job : Job) → IsAsked asked told job →
-        IsTrueAnswer stage job (record { read = read_failed; print = Rose (faults old) (faults new); punch = punch_failed; memory = Rose (refusals old) (refusals new) })
+        IsTrueAnswer linear_programming job (record { read = read_failed; print = Rose (faults old) (faults new); punch = punch_failed; memory = Rose (refusals old) (refusals new) })
         (code_of status) (Appends (written old) (written new)) (Appends punch punch)
     stopped_headline stops.Refused are_refused ends = words_headline (are_refused refl) ends
     stopped_headline stops.NoMemory are_refused ends = memory_headline ends
 
   -- the job is read
   pub read_headline : (failures : Failures) (PrintGains PunchGains : List ℕ → Type 0) → asked ≡ Some request.Read →
-      ((given : Job) (bytes : List ℕ) → IsGiven told failures.read given bytes → IsAnswered stage given failures (code_of status) PrintGains PunchGains) →
-      (job : Job) → IsAsked asked told job → IsTrueAnswer stage job failures (code_of status) PrintGains PunchGains
+      ((given : Job) (bytes : List ℕ) → IsGiven told failures.read given bytes → IsAnswered linear_programming given failures (code_of status) PrintGains PunchGains) →
+      (job : Job) → IsAsked asked told job → IsTrueAnswer linear_programming job failures (code_of status) PrintGains PunchGains
   read_headline failures PrintGains PunchGains read answers =
       by_source _ asked told read (λ bytes known. true_answer (answers (Read bytes) bytes (record { has_bytes = refl; is_told = known; is_read = λ failed. refl })))
 
   -- the job is made
   pub made_headline : (read_failed print_failed punch_failed memory_wanted : Type 0) (PrintGains PunchGains : List ℕ → Type 0) (size : ℕ) → asked ≡ Some (request.Make size) →
-      IsAnswered stage (Made (made_job size)) (failures_in_run print_failed punch_failed memory_wanted) (code_of status) PrintGains PunchGains →
+      IsAnswered linear_programming (Made (made_job size)) (failures_in_run print_failed punch_failed memory_wanted) (code_of status) PrintGains PunchGains →
       (job : Job) → IsAsked asked told job →
-      IsTrueAnswer stage job (record { read = read_failed; print = print_failed; punch = punch_failed; memory = memory_wanted }) (code_of status) PrintGains PunchGains
+      IsTrueAnswer linear_programming job (record { read = read_failed; print = print_failed; punch = punch_failed; memory = memory_wanted }) (code_of status) PrintGains PunchGains
   made_headline read_failed print_failed punch_failed memory_wanted PrintGains PunchGains size made answer =
       by_size _ asked told size made (true_answer
-      (answered_too stage (Made (made_job size)) (failures_in_run print_failed punch_failed memory_wanted) _ (λ e. absurd e) (λ e. e) (λ e. e) (λ e. e) (code_of status) PrintGains PunchGains answer))
+      (answered_too linear_programming (Made (made_job size)) (failures_in_run print_failed punch_failed memory_wanted) _ (λ e. absurd e) (λ e. e) (λ e. e) (λ e. e) (code_of status) PrintGains PunchGains answer))
 
   -- a job that is asked for as a request is
   pub same_headline : (failures : Failures) (PrintGains PunchGains : List ℕ → Type 0) (request : Request) → asked ≡ Some request →
-      ((job : Job) → IsAsked (Some request) told job → IsTrueAnswer stage job failures (code_of status) PrintGains PunchGains) →
-      (job : Job) → IsAsked asked told job → IsTrueAnswer stage job failures (code_of status) PrintGains PunchGains
+      ((job : Job) → IsAsked (Some request) told job → IsTrueAnswer linear_programming job failures (code_of status) PrintGains PunchGains) →
+      (job : Job) → IsAsked asked told job → IsTrueAnswer linear_programming job failures (code_of status) PrintGains PunchGains
   same_headline failures PrintGains PunchGains request is answers job asks = answers job (subst (λ (o : Option Request). IsAsked o told job) is asks)

@@ -77,7 +77,6 @@ module _ (asked : Option Request) (read_failed is_read : Type 0) where
   run_cause print_failed punch_failed GainsFrontOf status.PrintFault is own failed stopped = (failed refl, at_hand is)
   run_cause print_failed punch_failed GainsFrontOf status.PunchFault is own failed stopped = (is, stopped refl)
   run_cause print_failed punch_failed GainsFrontOf status.Memory is own failed stopped = tt
-  run_cause print_failed punch_failed GainsFrontOf status.NotBuilt is own failed stopped = is
 
 -- of a job that is read
 pub why : (read_failed is_read : Type 0) (stop : Stop) → HasStopCause read_failed is_read stop → IsWhy (Some request.Read) read_failed is_read stop
@@ -113,7 +112,6 @@ module _ (asked other : Option Request) (read_failed is_read other_failed other_
   likewise status.PrintFault is = (is.0, printed_likewise is.1)
   likewise status.PunchFault is = (hand is.0, is.1)
   likewise status.Memory is = tt
-  likewise status.NotBuilt is = hand is
 
 -- a job that is asked for as another is
 pub same_cause : {asked : Option Request} (request : Request) (read_failed is_read print_failed punch_failed : Type 0) (GainsFrontOf : List ℕ → Type 0) (ended : Status) → asked ≡ Some request →

@@ -5,6 +5,7 @@ ghost use Rattle.job_devices.specs.Causes.{Rose};
 ghost use Rattle.job_devices.specs.Memory.{sure_left};
 ghost use Rattle.job_devices.specs.Text.{AppendsFront};
 ghost use Rattle.card_reader.specs.Reading.{ReadsFront, ReadsJob};
+ghost use Rattle.answer_definitions.specs.Real.{linear_programming};
 ghost use Rattle.deck_definitions.specs.Transport.{made_job};
 ghost use Rattle.run_definitions.specs.Answer.{Job, Made, IsAnswered};
 ghost use Rattle.run_functions.specs.Complete.{IsComplete};
@@ -13,7 +14,6 @@ ghost use Rattle.stop_laws.specs.Stands.{StandsAfter};
 ghost use Rattle.command_line.specs.Sizes.{max_size};
 ghost use Rattle.command_line.specs.Requests.{HasSize};
 ghost use Rattle.command_line.specs.Requests as requests;
-ghost use Rattle.control_run.specs.Stage.{stage};
 ghost use Rattle.control_run.specs.Ends.{code_of};
 ghost use Rattle.control_run.specs.Finishing.{failures_in_run};
 ghost use Rattle.mps_cli.specs.Asked.{IsAsked, IsGiven};
@@ -37,7 +37,7 @@ fn run_source<S: Source, P: Sink, U: Sink>(
 ) -> Status
     ensures answer { (given : Job) (bytes : List ℕ) →
         IsGiven (S.left job.old) (Rose (S.faults job.old) (S.faults job.new)) given bytes →
-        IsAnswered stage given
+        IsAnswered linear_programming given
         (record {
           read = Rose (S.faults job.old) (S.faults job.new);
           print = Rose (P.faults print.old) (P.faults print.new);
@@ -78,7 +78,7 @@ fn made_source(alloc: Global, size: u32) -> Result<SureSource, NoMemory>
 fn run_made<P: Sink, U: Sink>(alloc: Global, size: u32, print: &mut P, punch: &mut U) -> Status
     requires least { 1 ≤ size }
     requires most { size ≤ max_size }
-    ensures answer { IsAnswered stage (Made (made_job size))
+    ensures answer { IsAnswered linear_programming (Made (made_job size))
         (failures_in_run (Rose (P.faults print.old) (P.faults print.new))
         (Rose (U.faults punch.old) (U.faults punch.new))
         (Rose (P.refusals print.old) (P.refusals print.new)))
@@ -109,7 +109,7 @@ fn run_request<S: Source, P: Sink, U: Sink>(
 ) -> Status
     requires { HasSize request }
     ensures headline { (asked : Job) → IsAsked (Some request) (S.left job.old) asked →
-        IsTrueAnswer stage asked
+        IsTrueAnswer linear_programming asked
         (record {
           read = Rose (S.faults job.old) (S.faults job.new);
           print = Rose (P.faults print.old) (P.faults print.new);
@@ -161,10 +161,13 @@ pub fn run_job<S: Source, P: Sink, U: Sink>(
     // of that listing, as the status says; and each report of this run holds of the state in which it was made: a SOLUTION
     // OPTIMAL is a feasible point that no feasible point betters, with prices that prove it; a verdict OPTIMAL has the
     // objective of such a point; a verdict of infeasibility prints a crossed variable or a ray, and one of unboundedness a
-    // feasible point with a direction, and these prove it. So it is wherever the words, or the source, tell the job.
+    // feasible point with a direction, and these prove it; RANGE prints where the basis stays optimal; at every value in an
+    // interval of PARAOBJ or PARARHS the printed point is best and the printed prices prove it, each interval begins where the
+    // one before ended, and the last ends at the last value, or a proof for every greater value closes the run. So it is
+    // wherever the words, or the source, tell the job.
     ensures headline { (asked : Job) →
         IsAsked (requests.asked (map string_bytes words.now)) (S.left job.old) asked →
-        IsTrueAnswer stage asked
+        IsTrueAnswer linear_programming asked
         (record {
           read = Rose (S.faults job.old) (S.faults job.new);
           print = Rose (P.faults print.old) (P.faults print.new);
@@ -180,7 +183,7 @@ pub fn run_job<S: Source, P: Sink, U: Sink>(
     // failed and the status is 24, or the print and it is 25, or the punch and it is 26, or it is 28, want of memory.
     ensures complete { (asked : Job) →
         IsAsked (requests.asked (map string_bytes words.now)) (S.left job.old) asked →
-        IsComplete stage asked
+        IsComplete linear_programming asked
         (record {
           read = Rose (S.faults job.old) (S.faults job.new);
           print = Rose (P.faults print.old) (P.faults print.new);
@@ -197,7 +200,7 @@ pub fn run_job<S: Source, P: Sink, U: Sink>(
     // memory, a front of a listing that the job may have, and a front of its cards.
     ensures stands { (asked : Job) →
         IsAsked (requests.asked (map string_bytes words.now)) (S.left job.old) asked →
-        StandsAfter stage asked
+        StandsAfter linear_programming asked
         (record {
           read = Rose (S.faults job.old) (S.faults job.new);
           print = Rose (P.faults print.old) (P.faults print.new);

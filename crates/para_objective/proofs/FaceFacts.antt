@@ -20,7 +20,8 @@ use Rattle.path_laws.proofs.Stoppers.{stopper_some}
 use Rattle.path_laws.proofs.Tests.{lt_true}
 use Rattle.postoptimal_definitions.specs.Chain.{FaceMoves, FaceDone, FaceEnds, UnboundedPast}
 use Rattle.postoptimal_definitions.specs.ObjectiveRun.{objective_family, change_rate, face_mover, face_until, face_by, objective_face, IsObjectiveFace}
-use Rattle.bounded_primal.specs.Moves.{may_move, motion, stop_at, stopper_of, IsStepBy, is_stopper, move_by}
+use Rattle.basis_values.specs.Motions.{may_move, motion}
+use Rattle.bounded_primal.specs.Moves.{stop_at, stopper_of, IsStepBy, is_stopper, move_by}
 use Rattle.bounded_primal.specs.declared.moves.Stopper.{Stopper}
 use Rattle.bounded_primal.proofs.SameChoices.{stopper_same, listed_is}
 use Rattle.run_calls.specs.Calls.{end_of}

@@ -14,7 +14,7 @@ use Rattle.lp_model.specs.declared.Stop.TheVariants as stop
 use Rattle.path_definitions.specs.Path.{Move, after}
 use Rattle.postoptimal_definitions.specs.Chain.{FaceMoves, IsFaceStep, AtBreak}
 use Rattle.evidence_definitions.specs.Statements.{EntersAt}
-use Rattle.bounded_primal.specs.Calls.{PointRefused}
+use Rattle.basis_values.specs.Calls.{PointRefused}
 use Rattle.bounded_primal.specs.Moves.{StepRefused}
 use Rattle.bounded_primal.specs.Stops.{primal_stop_of}
 use Rattle.bounded_primal.specs.Turns.{RunStops, by_direction, by_stopper}

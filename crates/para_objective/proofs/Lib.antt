@@ -9,3 +9,4 @@ pub mod FaceFacts
 pub mod FaceWalk
 pub mod ChainWalk
 pub mod OpeningFacts
+pub mod Complete

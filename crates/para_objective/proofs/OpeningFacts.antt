@@ -21,7 +21,8 @@ use Rattle.postoptimal_definitions.specs.Chain.{InOpening, IsFailure, IsChain, I
 use Rattle.postoptimal_definitions.specs.ObjectiveRun.{objective_family}
 use Rattle.evidence_definitions.specs.Statements.{Paraobj}
 use Rattle.evidence_definitions.specs.Evidence.{Formula, by_exchange, by_entry, by_carried, by_point, by_slack, by_move, by_ratio, by_range, by_objective, by_slope, ShowsRefusal, GoesTo, IsAhead, with_ahead, EvidenceHolds}
-use Rattle.bounded_primal.specs.Calls.{LieIn, CallEnds, WaypointsFollow, outcome_of}
+use Rattle.basis_values.specs.Calls.{LieIn}
+use Rattle.bounded_primal.specs.Calls.{CallEnds, WaypointsFollow, outcome_of}
 use Rattle.bounded_primal.specs.Stops.{PrimalStops}
 use Rattle.bounded_primal.specs.declared.moves.PrimalStop.{PrimalStop}
 use Rattle.bounded_primal.specs.declared.moves.PrimalStop.TheVariants.{Limit, Overflow, NoMemory}

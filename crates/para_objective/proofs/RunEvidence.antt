@@ -14,10 +14,10 @@ use Rattle.lp_laws.proofs.Statuses.{basics_of-replaced}
 use Rattle.lp_laws.proofs.WaypointLaws.{within_itself}
 use Rattle.evidence_definitions.specs.Statements.{Paraobj, is_between, thetas_of, EntersAt, MovesAt}
 use Rattle.evidence_definitions.specs.Evidence.{ShowsRefusal}
-use Rattle.bounded_primal.specs.Calls.{StopsAt, job_of, is_of_point, PointRefused}
+use Rattle.basis_values.specs.Calls.{StopsAt, job_of, is_of_point, PointRefused}
 use Rattle.bounded_primal.specs.Moves.{StopperRefused, StepRefused, move_by}
 use Rattle.bounded_primal.specs.declared.moves.Stopper.{Stopper}
-use Rattle.bounded_primal.proofs.Covered.{stops_covered}
+use Rattle.basis_values.proofs.Covered.{stops_covered}
 use Rattle.run_calls.specs.Walks.{EvidenceHere}
 use Rattle.run_calls.proofs.Evidence.{evidence_here, evidence_ahead, evidence_own}
 use Rattle.para_objective.specs.Reach.{EndRefused}

@@ -20,7 +20,8 @@ use Rattle.path_definitions.specs.Path.{after, last_of}
 use Rattle.postoptimal_definitions.specs.Chain.{FaceTurn, FaceMoves, FaceDone, FaceEnds, IsFacePath, AtBreak}
 use Rattle.postoptimal_definitions.specs.ObjectiveRun.{objective_family, IsObjectiveFace}
 use Rattle.evidence_definitions.specs.Statements.{SolvingStatement, Paraobj, EntersAt}
-use Rattle.bounded_primal.specs.Moves.{motion, IsStepBy, move_by}
+use Rattle.basis_values.specs.Motions.{motion}
+use Rattle.bounded_primal.specs.Moves.{IsStepBy, move_by}
 use Rattle.bounded_primal.specs.declared.moves.PrimalStop.{PrimalStop}
 use Rattle.bounded_primal.specs.declared.moves.Stopper.{Stopper}
 use Rattle.run_calls.specs.Calls.{end_of, WaypointsFollowRun, RunOverflows, RunStops}

@@ -4,6 +4,7 @@
 --     OpensFrom                    a run that may open its first interval at the basis s
 --     ChainStops, ChainFollows     what holds of each such run after a call that has stopped; where the waypoints lie then
 --     ObjectiveEnds, ObjectiveStops, ObjectiveFollows     what the whole call promises
+--     ObjectiveUnhindered          the run that the whole call has to answer
 use Rattle.std.specs.Prelude.{◌≡◌, ℕ, ◌+◌, ◌≤◌, List, map, length}
 use Rattle.exact_values.specs.Rational.{ℚ}
 use Rattle.lp_definitions.specs.LinearProgram.{LinearProgram}
@@ -12,9 +13,10 @@ use Rattle.lp_definitions.specs.declared.Status.{Status}
 use Rattle.lp_model.specs.declared.reports.ParaReport.{ParaReport}
 use Rattle.lp_model.specs.declared.reports.ParaRun.{ParaRun}
 use Rattle.path_definitions.specs.Path.{last_of}
-use Rattle.postoptimal_definitions.specs.Chain.{IsChain, Place, basis_of}
+use Rattle.postoptimal_definitions.specs.Chain.{RunReport, IsChain, Place, basis_of}
 use Rattle.bounded_primal.specs.declared.moves.PrimalStop.{PrimalStop}
 use Rattle.run_calls.specs.Calls.{part_of, end_of, RunEnds, WaypointsFollowRun, RunOverflows, RunStops}
+use Rattle.run_calls.specs.Complete.{RunEndsUnhindered}
 use Rattle.run_calls.specs.Truth.{IsTrueReported}
 use Rattle.run_calls.specs.Walks.{HasRun, MayOpen}
 use Rattle.para_objective.specs.Faces.{family, Face, statement}
@@ -67,3 +69,9 @@ module _ (p : LinearProgram) (run : ParaObj) where
 
   abbrev pub IsTrueObjective : ParaReport → Type 0
   IsTrueObjective = IsTrueReported (family p run) run.from run.to
+
+  -- the run from s ends within the limit, and wherever the call may be on it, no evidence of an overflow holds
+  abbrev pub ObjectiveUnhindered : List Status → List Basics → RunReport → List (List Status) → Type 0
+  ObjectiveUnhindered s before =
+      RunEndsUnhindered (family p run) (Face p run) run.from run.to s run.limit
+      (λ now after e. RunOverflows (family p run) (Face p run) run.from run.to s now run.limit (statement p run) p.matrix before after e)

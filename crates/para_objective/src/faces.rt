@@ -6,8 +6,9 @@ ghost use Rattle.lp_definitions.specs.Solutions.{IsFeasible};
 ghost use Rattle.lp_definitions.specs.Basis.{basics_of, ArePricesOf, IsNonbasic, IsDirectionOf, IsOptimalBasis, IsPointOf};
 ghost use Rattle.lp_definitions.specs.Waypoints.{KeepsWaypoints};
 ghost use Rattle.lp_model.specs.RatesCalls.{IsRowOf, IfOverflow};
-ghost use Rattle.bounded_primal.specs.Calls.{HasRates};
-ghost use Rattle.bounded_primal.specs.Moves.{may_move, motion, stopper_of as stopper_by};
+ghost use Rattle.basis_values.specs.Calls.{HasRates};
+ghost use Rattle.basis_values.specs.Motions.{may_move, motion};
+ghost use Rattle.bounded_primal.specs.Moves.{stopper_of as stopper_by};
 ghost use Rattle.bounded_primal.specs.Turns.{RunStops};
 ghost use Rattle.para_objective.specs.Faces.{family, face_up, IsEndlessPast, FaceFound, FacesFound, FacesFollow};
 

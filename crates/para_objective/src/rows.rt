@@ -5,8 +5,8 @@ ghost use Rattle.lp_definitions.specs.LinearProgram.{size, value_at, IsRow, HasN
 ghost use Rattle.lp_definitions.specs.Basis.{basics_of, ArePricesOf, IsBasic, IsNonbasic, IsDirectionOf};
 ghost use Rattle.lp_definitions.specs.Waypoints.{KeepsWaypoints};
 ghost use Rattle.lp_model.specs.RatesCalls.{IsRowOf};
-ghost use Rattle.bounded_primal.specs.Calls.{HasRates};
-ghost use Rattle.bounded_primal.specs.Stops.{PointOverflow};
+ghost use Rattle.basis_values.specs.Calls.{HasRates};
+ghost use Rattle.basis_values.specs.Stops.{PointOverflow};
 
 use frac128::Frac;
 use lp_model::{Basis, Lp, Rates, Stop};

@@ -1,15 +1,19 @@
 //! The run: its opening path, and the chain of intervals.
 
-ghost use Rattle.std.specs.Prelude.{◌≡◌, ◌≤◌, ◌∷◌, ◌++◌, [], None, length, OnOk, IfOk, IfErr};
+ghost use Rattle.std.specs.Prelude.{◌≡◌, ◌≤◌, List, ◌∷◌, ◌++◌, [], None, length, OnOk, IfOk, IfErr};
 ghost use Rattle.exact_values.specs.Rational.{◌≤ℚ◌};
 ghost use Rattle.exact_values.specs.Tests.{eq_ℚ};
 ghost use Rattle.lp_definitions.specs.LinearProgram.{size, value_at, IsRow, HasNoLimits, IsLinearProgram};
 ghost use Rattle.lp_definitions.specs.Basis.{IsOptimalBasis, IsPointOf};
-ghost use Rattle.bounded_primal.specs.Calls.{HasRates, CallEnds, WaypointsFollow};
+ghost use Rattle.basis_values.specs.Calls.{HasRates};
+ghost use Rattle.bounded_primal.specs.Calls.{CallEnds, WaypointsFollow};
 ghost use Rattle.bounded_primal.specs.Outcomes.{IsTrueOutcome};
+ghost use Rattle.lp_definitions.specs.declared.Status.{Status};
 ghost use Rattle.path_definitions.specs.Counts.{last_count};
+ghost use Rattle.postoptimal_definitions.specs.Chain.{RunReport};
+ghost use Rattle.run_calls.specs.Complete.{IsRunOrMemory};
 ghost use Rattle.para_objective.specs.Faces.{family};
-ghost use Rattle.para_objective.specs.Runs.{ChainEnds, ChainStops, ChainFollows, ObjectiveEnds, ObjectiveStops, ObjectiveFollows, IsTrueObjective};
+ghost use Rattle.para_objective.specs.Runs.{ChainEnds, ChainStops, ChainFollows, ObjectiveEnds, ObjectiveStops, ObjectiveFollows, ObjectiveUnhindered, IsTrueObjective};
 
 use crate::faces::{AfterFaces, faces};
 use crate::parts::{ParaObj, copied, part, zeros};
@@ -198,7 +202,8 @@ fn limit_of(run: &ParaObj) -> u32
 /// intervals follow, each as far as its basis stays optimal (Gass and Saaty, The Computational Algorithm for the Parametric Objective
 /// Function, 1955); at a break the least-numbered nonbasic moves that may better the row at no cost, until none is left. `Limit`
 /// comes exactly where the run has not ended after `run.limit` steps, opening and breaks together. The basis and the rates are those
-/// that the run has reached, after a stop too.
+/// that the run has reached, after a stop too. Where the run ends within the limit and no evidence of an overflow holds on it, the
+/// answer is its report, or there is no memory.
 pub fn para_obj<R: Rates>(
     alloc: Global,
     lp: &Lp,
@@ -219,6 +224,9 @@ pub fn para_obj<R: Rates>(
     ensures waypoints { ObjectiveFollows lp.now run.now basis.old basis.new
         (R.waypoints rates.old) (R.waypoints rates.new) }
     ensures truth { IfOk result (IsTrueObjective lp.now run.now) }
+    ensures complete { (report : RunReport) → (path : List (List Status)) →
+        ObjectiveUnhindered lp.now run.now basis.old (R.waypoints rates.old) report path →
+        IsRunOrMemory basis.old report path basis.new result }
 {
     let _size = lp.number_of_variables();
     let _limit = limit_of(run);

@@ -14,9 +14,9 @@ use Rattle.lp_laws.proofs.Values.{clash}
 use Rattle.path_definitions.specs.Moves.{is_no_later, signed, may_rise, may_fall}
 use Rattle.path_laws.proofs.Numbered.{find_first, list_all_from, list_all_true}
 use Rattle.path_laws.proofs.Searches.{least_none}
-use Rattle.bounded_primal.specs.Formulas.{IsRefusal}
-use Rattle.bounded_primal.specs.Reach.{IsNearest, sooner}
-use Rattle.bounded_primal.proofs.Nearest.{next_nearest}
+use Rattle.basis_values.specs.Formulas.{IsRefusal}
+use Rattle.basis_values.specs.Reach.{IsNearest, sooner}
+use Rattle.basis_values.proofs.Nearest.{next_nearest}
 use Rattle.sweep_laws.proofs.Leads.{signed_zero}
 use Rattle.para_rhs.specs.Cheapest.{brings, ratio_of, cheapest_by, ratio_if, ratio_at, reach_by, IsCandidate, IsBest, ratio_formula, KeptRefused, of_best, of_other, SomeRatioRefused}
 use Rattle.para_rhs.specs.declared.ratios.Candidate.{Candidate}

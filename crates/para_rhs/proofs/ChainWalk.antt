@@ -19,7 +19,7 @@ use Rattle.path_definitions.specs.Path.{last_of}
 use Rattle.path_laws.specs.Laws.{IsNonsingularBasis}
 use Rattle.postoptimal_definitions.specs.Chain.{Part, AtBreak, FaceDone, FaceEnds, IsPart, IsChain, at_max, past_break}
 use Rattle.postoptimal_definitions.specs.RhsRun.{rhs_family}
-use Rattle.bounded_primal.specs.Calls.{PointRefused}
+use Rattle.basis_values.specs.Calls.{PointRefused}
 use Rattle.bounded_primal.specs.Stops.{primal_stop_of}
 use Rattle.bounded_primal.specs.declared.moves.PrimalStop.{PrimalStop}
 use Rattle.run_calls.specs.Begun.{IsBegun, nothing, then}

@@ -24,15 +24,15 @@ use Rattle.path_definitions.specs.Moves.{signed}
 use Rattle.path_laws.specs.Laws.{IsNonsingularBasis}
 use Rattle.postoptimal_definitions.specs.Chain.{FaceMoves}
 use Rattle.postoptimal_definitions.specs.RhsRun.{rhs_family, IsSlope, IsRhsFace}
-use Rattle.bounded_primal.specs.Calls.{StopsAt, PointRefused}
+use Rattle.basis_values.specs.Calls.{StopsAt, PointRefused}
 use Rattle.bounded_primal.specs.Moves.{StepRefused, move_by}
 use Rattle.bounded_primal.specs.Steps.{ReturnRefused, of_distance, of_quotient}
 use Rattle.bounded_primal.specs.Stops.{primal_stop_of}
 use Rattle.bounded_primal.specs.Turns.{ReturnStops, by_column, by_return}
 use Rattle.bounded_primal.specs.declared.moves.Stopper.{Stopper}
-use Rattle.bounded_primal.proofs.Covered.{point_refused_later}
-use Rattle.bounded_primal.proofs.Existence.{rates_exist}
-use Rattle.bounded_primal.proofs.Refusals.{stops_at_basis}
+use Rattle.basis_values.proofs.Covered.{point_refused_later}
+use Rattle.basis_values.proofs.Existence.{rates_exist}
+use Rattle.basis_values.proofs.Refusals.{stops_at_basis}
 use Rattle.run_calls.specs.Walks.{EvidenceHere, FaceStops}
 use Rattle.run_calls.proofs.Evidence.{evidence_ahead, evidence_own}
 use Rattle.sweep_laws.proofs.Leads.{is_mover}

@@ -28,7 +28,7 @@ use Rattle.postoptimal_definitions.specs.Chain.{FaceMoves, FaceDone, FaceEnds, I
 use Rattle.postoptimal_definitions.specs.RhsRun.{rhs_family, IsSlope, leaving, leaves_below, leaves_above, face_exchange, face_at, rhs_face, IsRhsFace}
 use Rattle.bounded_primal.specs.Moves.{return_by, IsStepBy, brings}
 use Rattle.bounded_primal.specs.Turns.{ray_from}
-use Rattle.bounded_primal.proofs.Existence.{rates_exist}
+use Rattle.basis_values.proofs.Existence.{rates_exist}
 use Rattle.bounded_primal.proofs.SameChoices.{listed_is}
 use Rattle.changed_programs.proofs.MovedLimits.{lower_is, upper_is}
 use Rattle.changed_programs.proofs.RightHandSides.{points}

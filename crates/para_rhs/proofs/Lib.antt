@@ -19,3 +19,4 @@ pub mod FaceEvidence
 pub mod IntervalFacts
 pub mod ChainWalk
 pub mod OpeningFacts
+pub mod Complete

@@ -14,7 +14,7 @@ use Rattle.affine_conditions.proofs.Single.{holds_on}
 use Rattle.changed_programs.specs.Changes.{SidesHold, condition}
 use Rattle.lp_definitions.specs.LinearProgram.{LinearProgram, Vector, size, lower_of, upper_of}
 use Rattle.lp_definitions.specs.declared.Evidence.{Evidence}
-use Rattle.bounded_primal.specs.Formulas.{IsRefusal}
+use Rattle.basis_values.specs.Formulas.{IsRefusal}
 use Rattle.frac128.specs.declared.Op.TheVariants.{Sub, Div}
 use Rattle.postoptimal_definitions.specs.RhsRun.{shift_of}
 use Rattle.para_rhs.specs.Limits.{limit_on, number_of}

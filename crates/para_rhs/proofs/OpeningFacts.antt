@@ -29,7 +29,8 @@ use Rattle.postoptimal_definitions.specs.RhsRun.{rhs_family}
 use Rattle.evidence_definitions.specs.Statements.{Primal, Pararhs, is_between, shift_at}
 use Rattle.evidence_definitions.specs.Formulas.{PointFormula, f6, f7, f10_product, f10_sum, SlackFormula, f6_slack, MoveFormula, f8, f9, RatioFormula, f14, RangeFormula, f15_limit, f15_nonbasic, f15_basic, ObjectiveFormula, f16, f17_product, f17_sum, SlopeFormula, f18_product, f18_sum, f18_difference, f18_quotient}
 use Rattle.evidence_definitions.specs.Evidence.{Formula, by_exchange, by_entry, by_carried, by_point, by_slack, by_move, by_ratio, by_range, by_objective, by_slope, ShowsRefusal, GoesTo, IsAhead, with_ahead, EvidenceHolds, ShiftHolds}
-use Rattle.bounded_primal.specs.Calls.{HasRates, LieIn, CallEnds, WaypointsFollow, job_of, outcome_of}
+use Rattle.basis_values.specs.Calls.{HasRates, LieIn, job_of}
+use Rattle.bounded_primal.specs.Calls.{CallEnds, WaypointsFollow, outcome_of}
 use Rattle.bounded_primal.specs.Stops.{PrimalStops, primal_stop_of}
 use Rattle.bounded_primal.specs.declared.moves.PrimalStop.{PrimalStop}
 use Rattle.bounded_primal.specs.declared.moves.PrimalStop.TheVariants.{Limit, Overflow, NoMemory}

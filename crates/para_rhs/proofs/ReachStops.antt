@@ -18,7 +18,7 @@ use Rattle.lp_laws.proofs.Ordered.{combination_in_order}
 use Rattle.lp_laws.proofs.Values.{clash}
 use Rattle.path_laws.specs.Laws.{IsNonsingularBasis}
 use Rattle.postoptimal_definitions.specs.RhsRun.{shift_of, IsSlope}
-use Rattle.bounded_primal.proofs.Existence.{rates_exist}
+use Rattle.basis_values.proofs.Existence.{rates_exist}
 use Rattle.para_rhs.specs.Limits.{number_of}
 use Rattle.para_rhs.specs.Reach.{VariableRefused, of_closing, of_distance, of_quotient, SomeVariableRefused}
 use Rattle.para_rhs.specs.Refusals.{RunRefused}

@@ -12,7 +12,7 @@ use Rattle.lp_definitions.specs.declared.Evidence.{Evidence}
 use Rattle.lp_definitions.specs.declared.Status.{Status}
 use Rattle.lp_laws.proofs.Values.{clash}
 use Rattle.lp_laws.proofs.WaypointLaws.{Covers, Covers-all, within_itself}
-use Rattle.bounded_primal.specs.Calls.{StopsAt, job_of, is_of_point, PointRefused}
+use Rattle.basis_values.specs.Calls.{StopsAt, job_of, is_of_point, PointRefused}
 use Rattle.run_calls.specs.Walks.{EvidenceHere}
 use Rattle.run_calls.proofs.Evidence.{evidence_here}
 use Rattle.para_rhs.specs.Refusals.{RunRefused}

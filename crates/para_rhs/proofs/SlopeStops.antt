@@ -18,8 +18,8 @@ use Rattle.lp_laws.proofs.Values.{clash}
 use Rattle.lp_laws.proofs.WaypointLaws.{Covers, covered}
 use Rattle.path_laws.specs.Laws.{IsNonsingularBasis}
 use Rattle.postoptimal_definitions.specs.RhsRun.{shift_of}
-use Rattle.bounded_primal.specs.Calls.{job_of, is_of_point, PointRefused}
-use Rattle.bounded_primal.proofs.RatesStops.{tableau_of, IsTableau-of}
+use Rattle.basis_values.specs.Calls.{job_of, is_of_point, PointRefused}
+use Rattle.basis_values.proofs.RatesStops.{tableau_of, IsTableau-of}
 use Rattle.para_rhs.specs.Refusals.{RunRefused}
 use Rattle.para_rhs.specs.Slopes.{slope_program, slope_evidence}
 use Rattle.para_rhs.proofs.Families.{family_at_zero}

@@ -18,10 +18,10 @@ use Rattle.lp_definitions.specs.LinearProgram.{LinearProgram, Vector, IsVariable
 use Rattle.lp_definitions.specs.declared.Evidence.{Evidence}
 use Rattle.lp_definitions.specs.declared.Status.{Status}
 use Rattle.path_definitions.specs.Moves.{least, lowers, signed}
-use Rattle.bounded_primal.specs.Formulas.{IsRefusal}
-use Rattle.bounded_primal.specs.Reach.{IsNearest}
-use Rattle.bounded_primal.specs.declared.formula.Formula.{Formula}
-use Rattle.bounded_primal.specs.declared.reach.Reach.{Reach}
+use Rattle.basis_values.specs.Formulas.{IsRefusal}
+use Rattle.basis_values.specs.Reach.{IsNearest}
+use Rattle.basis_values.specs.declared.formula.Formula.{Formula}
+use Rattle.basis_values.specs.declared.reach.Reach.{Reach}
 use Rattle.para_rhs.specs.declared.ratios.Candidate.{Candidate}
 
 abbrev pub brings : LinearProgram → List Status → Vector → Bool → ℕ → Bool

@@ -13,8 +13,8 @@ use Rattle.frac128.specs.declared.Op.TheVariants.{Add, Mul}
 use Rattle.lp_definitions.specs.LinearProgram.{LinearProgram, IsVariable, lower_of, upper_of}
 use Rattle.lp_definitions.specs.declared.Evidence.{Evidence}
 use Rattle.postoptimal_definitions.specs.RhsRun.{shift_of}
-use Rattle.bounded_primal.specs.Formulas.{IsRefusal}
-use Rattle.bounded_primal.specs.declared.formula.Formula.{Formula}
+use Rattle.basis_values.specs.Formulas.{IsRefusal}
+use Rattle.basis_values.specs.declared.formula.Formula.{Formula}
 use Rattle.para_rhs.specs.declared.limits.Side.{Side}
 use Rattle.para_rhs.specs.declared.limits.Side.TheVariants.{Lower, Upper}
 

@@ -24,8 +24,8 @@ use Rattle.lp_definitions.specs.declared.Evidence.{Evidence}
 use Rattle.lp_definitions.specs.declared.Status.{Status}
 use Rattle.postoptimal_definitions.specs.Chain.{ReachesTo}
 use Rattle.postoptimal_definitions.specs.RhsRun.{shift_of, rhs_family}
-use Rattle.bounded_primal.specs.Formulas.{IsRefusal}
-use Rattle.bounded_primal.specs.declared.formula.Formula.{Formula}
+use Rattle.basis_values.specs.Formulas.{IsRefusal}
+use Rattle.basis_values.specs.declared.formula.Formula.{Formula}
 use Rattle.para_rhs.specs.Limits.{limit_on, number_of, is_upper}
 use Rattle.para_rhs.specs.declared.limits.Side.{Side}
 use Rattle.para_rhs.specs.declared.limits.Side.TheVariants.{Lower, Upper}

@@ -6,6 +6,7 @@
 --     ChainStops, ChainFollows     what holds of each such run after a call that has stopped; where the waypoints lie then
 --     Overflows e                  why a call stops by an overflow
 --     RhsEnds, RhsStops, RhsFollows     what the whole call promises
+--     RhsUnhindered                the run that the whole call has to answer
 use Rattle.std.specs.Prelude.{◌≡◌, ℕ, ◌+◌, ◌≤◌, ◌⊎◌, List, [], map, length}
 use Rattle.exact_values.specs.Rational.{ℚ}
 use Rattle.lp_definitions.specs.LinearProgram.{LinearProgram}
@@ -15,11 +16,12 @@ use Rattle.lp_definitions.specs.declared.Status.{Status}
 use Rattle.lp_model.specs.declared.reports.ParaReport.{ParaReport}
 use Rattle.lp_model.specs.declared.reports.ParaRun.{ParaRun}
 use Rattle.path_definitions.specs.Path.{last_of}
-use Rattle.postoptimal_definitions.specs.Chain.{IsChain, Place, basis_of}
+use Rattle.postoptimal_definitions.specs.Chain.{RunReport, IsChain, Place, basis_of}
 use Rattle.evidence_definitions.specs.Evidence.{ShiftHolds}
 use Rattle.bounded_primal.specs.declared.moves.PrimalStop.{PrimalStop}
 use Rattle.bounded_primal.specs.declared.moves.PrimalStop.TheVariants.{Limit, Overflow, NoMemory}
 use Rattle.run_calls.specs.Calls.{part_of, end_of, RunEnds, StandsThere, WaypointsFollowRun, RunOverflows, RunStops}
+use Rattle.run_calls.specs.Complete.{RunEndsUnhindered}
 use Rattle.run_calls.specs.Truth.{IsTrueReported}
 use Rattle.run_calls.specs.Walks.{HasRun, MayOpen}
 use Rattle.para_rhs.specs.Faces.{family, Face, statement}
@@ -83,3 +85,9 @@ module _ (p : LinearProgram) (run : ParaRhs) where
 
   abbrev pub IsTrueRhs : ParaReport → Type 0
   IsTrueRhs = IsTrueReported (family p run) run.from run.to
+
+  -- the run from s ends within the limit, and wherever the call may be on it, no evidence of an overflow holds, nor any of a limit
+  -- that could not be made
+  abbrev pub RhsUnhindered : List Status → List Basics → RunReport → List (List Status) → Type 0
+  RhsUnhindered s before =
+      RunEndsUnhindered (family p run) (Face p run) run.from run.to s run.limit (λ now after e. Overflows s now before after e)

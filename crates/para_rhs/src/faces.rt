@@ -6,8 +6,8 @@ ghost use Rattle.lp_definitions.specs.Basis.{basics_of, ArePricesOf, IsBasic, Is
 ghost use Rattle.lp_definitions.specs.Waypoints.{KeepsWaypoints};
 ghost use Rattle.lp_model.specs.RatesCalls.{IsRowOf, IfOverflow};
 ghost use Rattle.postoptimal_definitions.specs.RhsRun.{IsSlope};
-ghost use Rattle.bounded_primal.specs.Calls.{HasRates};
-ghost use Rattle.bounded_primal.specs.Stops.{PointOverflow};
+ghost use Rattle.basis_values.specs.Calls.{HasRates};
+ghost use Rattle.basis_values.specs.Stops.{PointOverflow};
 ghost use Rattle.bounded_primal.specs.Turns.{ray_from};
 ghost use Rattle.para_rhs.specs.Faces.{family, IsStuckPast, FaceFound, FacesFound, FacesFollow};
 ghost use Rattle.para_rhs.specs.Refusals.{RunRefused};

@@ -9,7 +9,7 @@ ghost use Rattle.lp_definitions.specs.RatesEvidence.{Names};
 ghost use Rattle.lp_definitions.specs.Basis.{Basics, IsPointOf};
 ghost use Rattle.path_laws.specs.Laws.{IsNonsingularBasis};
 ghost use Rattle.postoptimal_definitions.specs.RhsRun.{shift_of, IsSlope};
-ghost use Rattle.bounded_primal.specs.Formulas.{IsRefusal};
+ghost use Rattle.basis_values.specs.Formulas.{IsRefusal};
 ghost use Rattle.para_rhs.specs.Limits.{limit_on, number_of};
 ghost use Rattle.para_rhs.specs.Reach.{side_ahead, bound_of, limit_sides, IsNarrowed, high_of, IsReachOf, IsReachFromAny, basic_formula, VariableRefused, SomeVariableRefused};
 ghost use Rattle.para_rhs.specs.Refusals.{RunRefused};

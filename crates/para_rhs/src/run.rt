@@ -1,17 +1,21 @@
 //! The run: its opening path, and the chain of intervals.
 
-ghost use Rattle.std.specs.Prelude.{◌≡◌, ◌≤◌, ◌∷◌, ◌++◌, [], None, length, OnOk, IfOk, IfErr};
+ghost use Rattle.std.specs.Prelude.{◌≡◌, ◌≤◌, List, ◌∷◌, ◌++◌, [], None, length, OnOk, IfOk, IfErr};
 ghost use Rattle.exact_values.specs.Rational.{◌≤ℚ◌};
 ghost use Rattle.exact_values.specs.Tests.{eq_ℚ};
 ghost use Rattle.lp_definitions.specs.LinearProgram.{size, value_at, IsLinearProgram};
 ghost use Rattle.lp_definitions.specs.Basis.{basics_of, IsOptimalBasis, IsPointOf};
 ghost use Rattle.lp_definitions.specs.Waypoints.{KeepsWaypoints};
-ghost use Rattle.bounded_primal.specs.Calls.{HasRates, CallEnds, WaypointsFollow};
+ghost use Rattle.basis_values.specs.Calls.{HasRates};
+ghost use Rattle.bounded_primal.specs.Calls.{CallEnds, WaypointsFollow};
 ghost use Rattle.bounded_primal.specs.Outcomes.{IsTrueOutcome};
-ghost use Rattle.bounded_primal.specs.Stops.{PointOverflow};
+ghost use Rattle.basis_values.specs.Stops.{PointOverflow};
+ghost use Rattle.lp_definitions.specs.declared.Status.{Status};
 ghost use Rattle.path_definitions.specs.Counts.{last_count};
+ghost use Rattle.postoptimal_definitions.specs.Chain.{RunReport};
+ghost use Rattle.run_calls.specs.Complete.{IsRunOrMemory};
 ghost use Rattle.para_rhs.specs.Faces.{family};
-ghost use Rattle.para_rhs.specs.Runs.{told_at, ChainEnds, ChainStops, ChainFollows, RhsEnds, RhsStops, RhsFollows, IsTrueRhs};
+ghost use Rattle.para_rhs.specs.Runs.{told_at, ChainEnds, ChainStops, ChainFollows, RhsEnds, RhsStops, RhsFollows, RhsUnhindered, IsTrueRhs};
 
 use crate::faces::{AfterFaces, faces, fill_motion};
 use crate::limits::program_at;
@@ -248,7 +252,8 @@ fn limit_of(run: &ParaRhs) -> u32
 /// Function, 1955), and at a break it takes steps of Lemke's dual method (The Dual Method of Solving the Linear Programming Problem,
 /// 1954): the least-numbered basic that would leave a limit goes, for the nonbasic that brings it back at the least price, and of
 /// equals the least-numbered, until none is left. `Limit` comes exactly where the run has not ended after `run.limit` steps, opening
-/// and breaks together. The basis and the rates are those that the run has reached, after a stop too.
+/// and breaks together. The basis and the rates are those that the run has reached, after a stop too. Where the run ends within the
+/// limit and no evidence of an overflow holds on it, the answer is its report, or there is no memory.
 pub fn para_rhs<R: Rates>(
     alloc: Global,
     lp: &Lp,
@@ -268,6 +273,9 @@ pub fn para_rhs<R: Rates>(
     ensures waypoints { RhsFollows lp.now run.now basis.old basis.new
         (R.waypoints rates.old) (R.waypoints rates.new) }
     ensures truth { IfOk result (IsTrueRhs lp.now run.now) }
+    ensures complete { (report : RunReport) → (path : List (List Status)) →
+        RhsUnhindered lp.now run.now basis.old (R.waypoints rates.old) report path →
+        IsRunOrMemory basis.old report path basis.new result }
 {
     let _size = lp.number_of_variables();
     let _limit = limit_of(run);

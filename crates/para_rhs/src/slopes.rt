@@ -5,7 +5,7 @@ ghost use Rattle.lp_definitions.specs.LinearProgram.{size, value_at, IsVariable,
 ghost use Rattle.lp_definitions.specs.Basis.{basics_of};
 ghost use Rattle.lp_definitions.specs.Waypoints.{KeepsWaypoints};
 ghost use Rattle.lp_model.specs.RatesCalls.{IfOverflow};
-ghost use Rattle.bounded_primal.specs.Calls.{HasRates};
+ghost use Rattle.basis_values.specs.Calls.{HasRates};
 ghost use Rattle.postoptimal_definitions.specs.RhsRun.{shift_of, IsSlope};
 ghost use Rattle.para_rhs.specs.Limits.{limit_on};
 ghost use Rattle.para_rhs.specs.Refusals.{RunRefused};

@@ -1,13 +1,14 @@
 -- What crossed, unbounded ends tell: limits that exclude each other, and a direction without end.
-use Rattle.std.proofs.Common.{◌≡◌, ℕ, suc, ◌+◌, ◌⊎◌, inl, inr, Bool, true, false, List, refl, sym, ap, subst, ◌∙◌, arith}
+use Rattle.std.proofs.Common.{◌≡◌, ℕ, suc, ◌+◌, ◌⊎◌, inl, inr, Bool, true, false, List, refl, sym, ap, subst, subst₂, ◌∙◌, arith}
 use Rattle.std.specs.Prelude.{Option, Some, None, not, ◌&&◌, ◌||◌, option_map, if◌then◌else◌}
+use Rattle.std.proofs.lemmas.Bool.{or_right}
 use Rattle.exact_values.specs.Rational.{ℚ, zero_ℚ, neg_ℚ, ◌-ℚ◌, ◌*ℚ◌, ◌/ℚ◌, ◌<ℚ◌}
 use Rattle.exact_values.specs.Tests.{lt_ℚ}
 use Rattle.exact_values.proofs.Ring.{by_ring2, by_ring3, ◌⊕◌, ◌⊗◌, ◌≐◌, opposite}
 use Rattle.exact_values.proofs.Sums.{sum_to-same, sum_to-neg}
 use Rattle.exact_values.proofs.Order.{le_of_lt, lt_not_le}
 use Rattle.lp_definitions.specs.LinearProgram.{Matrix, LinearProgram, Vector, value_at, size, IsVariable, KeepsEquations, lower_of, upper_of, for_min, entry, combined, with_change_row, objective_value, IsLinearProgram, ChangeIsFree}
-use Rattle.lp_definitions.specs.Solutions.{IsCrossed, ProvesUnbounded}
+use Rattle.lp_definitions.specs.Solutions.{IsFeasible, IsCrossed, ProvesUnbounded}
 use Rattle.lp_definitions.specs.Basis.{basics_of, status_of, is_basic, IsBasis, IsNonbasic, Tableau, IsTableau}
 use Rattle.lp_definitions.specs.declared.Change.{Change}
 use Rattle.lp_definitions.specs.declared.Sense.{Sense}
@@ -16,7 +17,7 @@ use Rattle.lp_definitions.specs.declared.Status.{Status}
 use Rattle.lp_definitions.specs.declared.Status.TheVariants.{Bs, Ll, Ul, Fr}
 use Rattle.lp_laws.proofs.Equations.{KeepsEquations-same}
 use Rattle.lp_laws.proofs.Uniqueness.{is_in-basics_of}
-use Rattle.path_definitions.specs.Moves.{on_limits, is_crossed, is_fixed, rises_from, falls_from, lowers, signed, goes_up, limit_ahead, entering}
+use Rattle.path_definitions.specs.Moves.{on_limits, is_crossed, is_fixed, rises_from, falls_from, lowers, signed, goes_up, limit_ahead, entering, stopper}
 use Rattle.path_definitions.specs.Path.{EndsCrossed, EndsUnbounded, Ends, EndsAt, listed, speeds, worth_rate}
 use Rattle.path_laws.proofs.Tests.{lt_false, lt_true, neg_below}
 use Rattle.path_laws.proofs.Numbered.{find_some}
@@ -52,30 +53,29 @@ lowering st r fixed true above true falling below_is above_is up down e = (nonba
 lowering st r fixed true true false true below_is above_is up down e = (nonbasic_status st (rw (up, down) refl), inl refl)
 lowering st r fixed true true false false below_is above_is up down e = cc
 lowering st r fixed true false false falling below_is above_is up down e = cc
-lowering st r fixed false true rising true below_is above_is up down e = (nonbasic_status st (rw (up, down) (or_true rising)), inr (lt_true zero_ℚ r above_is))
-  where
-    or_true : (b : Bool) → (b || true) ≡ true
-    or_true true = refl
-    or_true false = refl
+lowering st r fixed false true rising true below_is above_is up down e = (nonbasic_status st (rw (up, down) (or_right rising true refl)), inr (lt_true zero_ℚ r above_is))
 lowering st r fixed false true rising false below_is above_is up down e = cc
 lowering st r fixed false false rising falling below_is above_is up down e = cc
 
--- what is found to enter is a nonbasic variable; it rises, or its rate is positive
+-- what lowers a quantity, as what is found to enter, is a nonbasic variable; it rises, or its rate is positive
 pub record IsEntering (p : LinearProgram) (s : List Status) (f : Vector) (q : ℕ) : Type 0 where
   pub is_variable : IsVariable p.matrix q
   pub nonbasic : IsNonbasic p.matrix (basics_of s) q
   pub turns : (goes_up f q ≡ true) ⊎ (zero_ℚ <ℚ f q)
 
-pub enters : (p : LinearProgram) (s : List Status) (f : Vector) (q : ℕ) → IsBasis p s → entering p s f ≡ Some q → IsEntering p s f q
-enters p s f q basis e =
-    let found = find_some (lowers p s f) (size p.matrix) 1 q e in
-    let is : IsVariable p.matrix q = (found.low, omega (arith, found.high)) in
-    let moving = lowering (status_of s q) (f q) (is_fixed p q) (lt_ℚ (f q) zero_ℚ) (lt_ℚ zero_ℚ (f q)) (rises_from (status_of s q)) (falls_from (status_of s q)) refl refl refl refl found.passes in
+pub lowering_enters : (p : LinearProgram) (s : List Status) (f : Vector) (q : ℕ) → IsBasis p s → IsVariable p.matrix q → lowers p s f q ≡ true → IsEntering p s f q
+lowering_enters p s f q basis is e =
+    let moving = lowering (status_of s q) (f q) (is_fixed p q) (lt_ℚ (f q) zero_ℚ) (lt_ℚ zero_ℚ (f q)) (rises_from (status_of s q)) (falls_from (status_of s q)) refl refl refl refl e in
     record {
       is_variable = is;
       nonbasic = (is, is_in-basics_of s q is.0 (omega (arith, is.1, basis.counted)) ∙ moving.0);
       turns = moving.1;
     }
+
+pub enters : (p : LinearProgram) (s : List Status) (f : Vector) (q : ℕ) → IsBasis p s → entering p s f ≡ Some q → IsEntering p s f q
+enters p s f q basis e =
+    let found = find_some (lowers p s f) (size p.matrix) 1 q e in
+    lowering_enters p s f q basis (found.low, omega (arith, found.high)) found.passes
 
 -- ---- a direction without end
 
@@ -87,7 +87,7 @@ with_change_row-neg : (change : Option Change) (f : Vector) (v : ℚ) → with_c
 with_change_row-neg None f v = refl
 with_change_row-neg (Some c) f v = by_ring3 v c.theta (f c.row) (λ v x y. opposite v ⊕ x ⊗ opposite y ≐ opposite (v ⊕ x ⊗ y)) refl
 
-keeps-signed : (a : Matrix) (up : Bool) (d : Vector) → KeepsEquations a d → KeepsEquations a (λ k. signed up (d k))
+pub keeps-signed : (a : Matrix) (up : Bool) (d : Vector) → KeepsEquations a d → KeepsEquations a (λ k. signed up (d k))
 keeps-signed a true d keeps i row = keeps i row
 keeps-signed a false d keeps i row =
     ap neg_ℚ (keeps i row) ∙ sym (sum_to-neg a.cols (λ j. entry a i (suc j) *ℚ d (a.rows + suc j)))
@@ -144,15 +144,29 @@ objective_value-same p d e lawful same =
     objective-same p.objective p.change d e (same p.objective (lawful.objective_row.0, omega (arith, lawful.objective_row.1)))
     (λ c is. same c.row (change_row_is p p.change lawful.change_free c is))
 
+-- nothing stops a motion from a feasible point that betters the objective: that proves the program unbounded
+pub motion_proves : (p : LinearProgram) (z v : Vector) → IsLinearProgram p → IsFeasible p z → KeepsEquations p.matrix v → stopper p z v ≡ None → for_min p.sense (objective_value p v) <ℚ zero_ℚ →
+    ProvesUnbounded p (value_at (listed p.matrix z)) (value_at (listed p.matrix v))
+motion_proves p z v lawful feasible keeps stops betters = record {
+  feasible = IsFeasible-same p z (value_at (listed p.matrix z)) (at z) feasible;
+  keeps = KeepsEquations-same p.matrix v (value_at (listed p.matrix v)) (at v) keeps;
+  falls = λ k is h. ahead_of_falling p v k (none_ahead k is) (subst (λ x. x <ℚ zero_ℚ) (sym (at v k is)) h);
+  rises = λ k is h. ahead_of_rising p v k (none_ahead k is) (subst (λ x. zero_ℚ <ℚ x) (sym (at v k is)) h);
+  betters = subst (λ x. for_min p.sense x <ℚ zero_ℚ) (objective_value-same p v (value_at (listed p.matrix v)) lawful (at v)) betters;
+}
+  where
+    at : (d : Vector) (k : ℕ) → IsVariable p.matrix k → d k ≡ value_at (listed p.matrix d) k
+    at d k is = sym (value_at-listed p.matrix d k is)
+
+    none_ahead : (k : ℕ) → IsVariable p.matrix k → limit_ahead p v k ≡ None
+    none_ahead k is = room_none (limit_ahead p v k) (z k) (v k) (stopper_none p z v stops k is)
+
 -- an unbounded end: the point is feasible, and the direction betters the objective without end
 pub unbounded_end : (p : LinearProgram) (s : List Status) (z d : List ℚ) → IsLinearProgram p → IsBasis p s → EndsAt p s (EndsUnbounded z d) → ProvesUnbounded p (value_at z) (value_at d)
-unbounded_end p s z d lawful basis ends = record {
-  feasible = IsFeasible-same p t.point (value_at z) at_point (feasible p s t basis ends.is_tableau turn.1.phase);
-  keeps = KeepsEquations-same p.matrix v (value_at d) at_direction (bettering_keeps p s t basis ends.is_tableau turn.0 entered);
-  falls = λ k is h. ahead_of_falling p v k (none_ahead k is) (subst (λ x. x <ℚ zero_ℚ) (sym (at_direction k is)) h);
-  rises = λ k is h. ahead_of_rising p v k (none_ahead k is) (subst (λ x. zero_ℚ <ℚ x) (sym (at_direction k is)) h);
-  betters = subst (λ x. for_min p.sense x <ℚ zero_ℚ) (objective_value-same p v (value_at d) lawful at_direction) (bettering_betters p s t basis ends.is_tableau turn.0 entered);
-}
+unbounded_end p s z d lawful basis ends =
+    subst₂ (λ (xs ys : List ℚ). ProvesUnbounded p (value_at xs) (value_at ys)) (sym z_is) (sym d_is)
+    (motion_proves p t.point (bettering p s t turn.0) lawful (feasible p s t basis ends.is_tableau turn.1.phase)
+    (bettering_keeps p s t basis ends.is_tableau turn.0 entered) turn.1.stops (bettering_betters p s t basis ends.is_tableau turn.0 entered))
   where
     t : Tableau
     t = ends.tableau
@@ -163,20 +177,8 @@ unbounded_end p s z d lawful basis ends = record {
     entered : IsEntering p s (worth_rate p s t) turn.0
     entered = enters p s (worth_rate p s t) turn.0 basis turn.1.moves
 
-    v : Vector
-    v = bettering p s t turn.0
+    z_is : z ≡ listed p.matrix t.point
+    z_is = let e = turn.1.gives in cc
 
-    at_point : (k : ℕ) → IsVariable p.matrix k → t.point k ≡ value_at z k
-    at_point k is =
-        let e = turn.1.gives in
-        let same : z ≡ listed p.matrix t.point = cc in
-        sym (ap (λ xs. value_at xs k) same ∙ value_at-listed p.matrix t.point k is)
-
-    at_direction : (k : ℕ) → IsVariable p.matrix k → v k ≡ value_at d k
-    at_direction k is =
-        let e = turn.1.gives in
-        let same : d ≡ listed p.matrix v = cc in
-        sym (ap (λ xs. value_at xs k) same ∙ value_at-listed p.matrix v k is)
-
-    none_ahead : (k : ℕ) → IsVariable p.matrix k → limit_ahead p v k ≡ None
-    none_ahead k is = room_none (limit_ahead p v k) (t.point k) (v k) (stopper_none p t.point v turn.1.stops k is)
+    d_is : d ≡ listed p.matrix (bettering p s t turn.0)
+    d_is = let e = turn.1.gives in cc

@@ -1,6 +1,8 @@
 -- What an end of the path tells of the point, the prices and the direction at which it ends.
 use Rattle.std.proofs.Common.{◌≡◌, ℕ, ◌-◌, ◌⊎◌, inl, inr, Bool, true, false, List, refl, sym, ap, subst, ◌∙◌, arith}
 use Rattle.std.specs.Prelude.{Option, Some, None, IfSome, not, ◌&&◌, ◌||◌}
+use Rattle.std.proofs.lemmas.Bool.{or_parts}
+use Rattle.std.proofs.lemmas.Option.{same_Some}
 use Rattle.exact_values.specs.Rational.{ℚ, zero_ℚ, ◌≤ℚ◌}
 use Rattle.exact_values.specs.Tests.{lt_ℚ, eq_ℚ}
 use Rattle.exact_values.proofs.Order.{le_refl, le_antisymm}
@@ -20,11 +22,8 @@ use Rattle.path_laws.proofs.Tests.{lt_false, eq_true}
 use Rattle.path_laws.proofs.Numbered.{find_none, get_or-listed}
 use Rattle.path_laws.proofs.Turns.{IsSecondPhase, IsOptimalTurn, rule_of, optimal_turn}
 
-or_false : (a b : Bool) → (a || b) ≡ false → (a ≡ false) × (b ≡ false)
-or_false true b e = cc
-or_false false b e = (refl, e)
-
-and_false : (a b : Bool) → (a && b) ≡ false → b ≡ true → a ≡ false
+-- a test that fails, one part of which passes
+pub and_false : (a b : Bool) → (a && b) ≡ false → b ≡ true → a ≡ false
 and_false true b e h = cc
 and_false false b e h = refl
 
@@ -53,14 +52,23 @@ from_upper : (z : ℚ) (low : Option ℚ) → on_limits (λ l u. lt_ℚ u l) low
 from_upper z None e = tt
 from_upper z (Some l) e = lt_false z l e
 
-inside : (st : Status) (low high : Option ℚ) (z : ℚ) → IsAllowed st low high → StandsAt st low high z → on_limits (λ l u. lt_ℚ u l) low high ≡ false →
+pub inside : (st : Status) (low high : Option ℚ) (z : ℚ) → IsAllowed st low high → StandsAt st low high z → on_limits (λ l u. lt_ℚ u l) low high ≡ false →
     (is_basic st ≡ true → (on_limit (λ l. lt_ℚ z l) low || on_limit (λ u. lt_ℚ u z) high) ≡ false) → IfSome low (λ l. l ≤ℚ z) × IfSome high (λ u. z ≤ℚ u)
-inside Bs low high z allowed stands uncrossed basic = let h = or_false _ _ (basic refl) in (below_none z low h.0, above_none z high h.1)
+inside Bs low high z allowed stands uncrossed basic = let h = or_parts _ _ (basic refl) in (below_none z low h.0, above_none z high h.1)
 inside Ll low high z allowed stands uncrossed basic =
     (rw stands (le_refl z), from_lower z high (rw stands at uncrossed))
 inside Ul low high z allowed stands uncrossed basic =
     (from_upper z low (rw stands at uncrossed), rw stands (le_refl z))
 inside Fr low high z allowed stands uncrossed basic = (rw allowed.0 tt, rw allowed.1 tt)
+
+-- and a value within its limits is so with the limit that is there
+pub low_of : (low : Option ℚ) (z l : ℚ) → IfSome low (λ l. l ≤ℚ z) → low ≡ Some l → l ≤ℚ z
+low_of None z l h e = cc
+low_of (Some m) z l h e = subst (λ y. y ≤ℚ z) (same_Some m l e) h
+
+pub high_of : (high : Option ℚ) (z u : ℚ) → IfSome high (λ u. z ≤ℚ u) → high ≡ Some u → z ≤ℚ u
+high_of None z u h e = cc
+high_of (Some m) z u h e = subst (λ y. z ≤ℚ y) (same_Some m u e) h
 
 -- a rate at which a nonbasic may not move so as to lower the quantity is right, unless the nonbasic is fixed
 fixed_from : (low high : Option ℚ) → on_limits eq_ℚ low high ≡ true → (v : ℚ) × (low ≡ Some v) × (high ≡ Some v)
@@ -73,10 +81,10 @@ pub right : (st : Status) (low high : Option ℚ) (r : ℚ) (fixed : Bool) → o
     ((v : ℚ) × (low ≡ Some v) × (high ≡ Some v)) ⊎ IsRightAt st r
 right st low high r true is e = inl (fixed_from low high is)
 right Bs low high r false is e = inr tt
-right Ll low high r false is e = inr (lt_false r zero_ℚ (and_false _ _ (or_false _ _ e).0 refl))
-right Ul low high r false is e = inr (lt_false zero_ℚ r (and_false _ _ (or_false _ _ e).1 refl))
+right Ll low high r false is e = inr (lt_false r zero_ℚ (and_false _ _ (or_parts _ _ e).0 refl))
+right Ul low high r false is e = inr (lt_false zero_ℚ r (and_false _ _ (or_parts _ _ e).1 refl))
 right Fr low high r false is e =
-    let h = or_false _ _ e in inr (le_antisymm (lt_false zero_ℚ r (and_false _ _ h.1 refl)) (lt_false r zero_ℚ (and_false _ _ h.0 refl)))
+    let h = or_parts _ _ e in inr (le_antisymm (lt_false zero_ℚ r (and_false _ _ h.1 refl)) (lt_false r zero_ℚ (and_false _ _ h.0 refl)))
 
 module _ (p : LinearProgram) (s : List Status) (t : Tableau) (basis : IsBasis p s) (tab : IsTableau p s t) where
   -- at the basis of a path that is not crossed and has no basic outside its limits the point is feasible

@@ -1,6 +1,7 @@
 pub mod Numbered
 pub mod Tests
 pub mod Stoppers
+pub mod Motions
 pub mod Turns
 pub mod Ends
 pub mod Endless

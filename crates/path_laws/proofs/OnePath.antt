@@ -14,15 +14,16 @@ pub path_leads : (p : LinearProgram) (s : List Status) (bases : List (List Statu
 path_leads p s [] at path = at
 path_leads p s (next ∷ bases) at path = path_leads p next bases (step_leads p s next at path.0) path.1
 
-module _ (p : LinearProgram) (lawful : IsLinearProgram p) where
-  same_tableau : (s : List Status) → IsNonsingularBasis p s → (t u : Tableau) → IsTableau p s t → IsTableau p s u → SameTableau p s t u
-  same_tableau s at t u first second = record {
-    points = one_point p s t.point u.point at.is_basis.counted at.nonsingular first.is_point second.is_point;
-    rates = one_table p.matrix (basics_of s) t.rate u.rate at.nonsingular first.are_rates second.are_rates;
-  }
+-- two tableaus of a basis have the same values and rates
+pub same_tableau : (p : LinearProgram) (s : List Status) → IsNonsingularBasis p s → (t u : Tableau) → IsTableau p s t → IsTableau p s u → SameTableau p s t u
+same_tableau p s at t u first second = record {
+  points = one_point p s t.point u.point at.is_basis.counted at.nonsingular first.is_point second.is_point;
+  rates = one_table p.matrix (basics_of s) t.rate u.rate at.nonsingular first.are_rates second.are_rates;
+}
 
+module _ (p : LinearProgram) (lawful : IsLinearProgram p) where
   one_turn : (s : List Status) → IsNonsingularBasis p s → (t u : Tableau) → IsTableau p s t → IsTableau p s u → turn p s t ≡ turn p s u
-  one_turn s at t u first second = turn_same p s t u lawful at.is_basis (same_tableau s at t u first second)
+  one_turn s at t u first second = turn_same p s t u lawful at.is_basis (same_tableau p s at t u first second)
 
   pub one_step : (s next other : List Status) → IsNonsingularBasis p s → IsStep p s next → IsStep p s other → next ≡ other
   one_step s next other at first second =

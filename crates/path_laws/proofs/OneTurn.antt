@@ -3,7 +3,7 @@ use Rattle.std.proofs.Common.{◌≡◌, ℕ, Bool, true, false, List, refl, sym
 use Rattle.std.specs.Prelude.{Option, Some, None, not, ◌&&◌, ◌||◌, option_map, if◌then◌else◌, nat_eq}
 use Rattle.exact_values.specs.Rational.{ℚ, zero_ℚ, one_ℚ, neg_ℚ, ◌-ℚ◌, ◌/ℚ◌}
 use Rattle.exact_values.specs.Tests.{lt_ℚ}
-use Rattle.lp_definitions.specs.LinearProgram.{LinearProgram, Vector, size, IsVariable, IsLinearProgram, lower_of, upper_of, for_min}
+use Rattle.lp_definitions.specs.LinearProgram.{Matrix, LinearProgram, Vector, size, IsVariable, IsLinearProgram, lower_of, upper_of, for_min}
 use Rattle.lp_definitions.specs.Basis.{is_in, basics_of, status_of, is_basic, IsBasis, IsNonbasic, Tableau, price_at, objective_rate}
 use Rattle.lp_definitions.specs.declared.Status.{Status}
 use Rattle.lp_definitions.specs.declared.Status.TheVariants.{Bs, Ll, Ul, Fr}
@@ -32,20 +32,25 @@ idle_basic Ul a b c e = cc
 idle_basic Fr a b c e = cc
 
 module _ (p : LinearProgram) (s : List Status) (basis : IsBasis p s) where
-  among : (k : ℕ) → IsVariable p.matrix k → is_in (basics_of s) k ≡ is_basic (status_of s k)
-  among k is = is_in-basics_of s k is.0 (omega (arith, is.1, basis.counted))
+  pub lowers_idle : (f : Vector) (k : ℕ) → IsVariable p.matrix k → is_in (basics_of s) k ≡ true → lowers p s f k ≡ false
+  lowers_idle f k is mark =
+      idle_basic (status_of s k) (lt_ℚ (f k) zero_ℚ) (lt_ℚ zero_ℚ (f k)) (not (is_fixed p k)) (sym (is_in-basics_of s k is.0 (omega (arith, is.1, basis.counted))) ∙ mark)
+
+  -- quantities with the same rate at k, if it is nonbasic
+  pub lowers_same : (f g : Vector) (k : ℕ) → IsVariable p.matrix k → (IsNonbasic p.matrix (basics_of s) k → f k ≡ g k) → lowers p s f k ≡ lowers p s g k
+  lowers_same f g k is same = by_mark (is_in (basics_of s) k) refl
+    where
+      by_mark : (mark : Bool) → is_in (basics_of s) k ≡ mark → lowers p s f k ≡ lowers p s g k
+      by_mark true mark = lowers_idle f k is mark ∙ sym (lowers_idle g k is mark)
+      by_mark false mark =
+          ap (λ v. (lt_ℚ v zero_ℚ && (rises_from (status_of s k) && not (is_fixed p k))) || (lt_ℚ zero_ℚ v && (falls_from (status_of s k) && not (is_fixed p k)))) (same (is, mark))
 
   -- quantities with the same rates at the nonbasics are lowered by the same variable
   entering_same : (f g : Vector) → ((k : ℕ) → IsNonbasic p.matrix (basics_of s) k → f k ≡ g k) → entering p s f ≡ entering p s g
-  entering_same f g same = find_same (lowers p s f) (lowers p s g) (size p.matrix) 1 (λ k low high. at k (low, omega (arith, high)) (is_in (basics_of s) k) refl)
-    where
-      at : (k : ℕ) → IsVariable p.matrix k → (mark : Bool) → is_in (basics_of s) k ≡ mark → lowers p s f k ≡ lowers p s g k
-      at k is true mark =
-          let basic : is_basic (status_of s k) ≡ true = sym (among k is) ∙ mark in
-          idle_basic (status_of s k) (lt_ℚ (f k) zero_ℚ) (lt_ℚ zero_ℚ (f k)) (not (is_fixed p k)) basic
-          ∙ sym (idle_basic (status_of s k) (lt_ℚ (g k) zero_ℚ) (lt_ℚ zero_ℚ (g k)) (not (is_fixed p k)) basic)
-      at k is false mark =
-          ap (λ v. (lt_ℚ v zero_ℚ && (rises_from (status_of s k) && not (is_fixed p k))) || (lt_ℚ zero_ℚ v && (falls_from (status_of s k) && not (is_fixed p k)))) (same k (is, mark))
+  entering_same f g same = find_same (lowers p s f) (lowers p s g) (size p.matrix) 1 (λ k low high. lowers_same f g k (low, omega (arith, high)) (same k))
+
+pub listed_same : (a : Matrix) (v w : Vector) → ((k : ℕ) → IsVariable a k → v k ≡ w k) → listed a v ≡ listed a w
+listed_same a v w h = map_same v w (size a) 1 (λ k low high. h k (low, omega (arith, high)))
 
 -- the variable that stops a motion, from the values and the speeds at the variables
 room_at : LinearProgram → ℕ → ℚ → ℚ → Option ℚ
@@ -55,7 +60,7 @@ room_same : (p : LinearProgram) (z y v w : Vector) (k : ℕ) → z k ≡ y k →
 unfolding room_at
 room_same p z y v w k first second = ap₂ (room_at p k) first second
 
-stopper_same : (p : LinearProgram) (z y v w : Vector) → ((k : ℕ) → IsVariable p.matrix k → z k ≡ y k) → ((k : ℕ) → IsVariable p.matrix k → v k ≡ w k) → stopper p z v ≡ stopper p y w
+pub stopper_same : (p : LinearProgram) (z y v w : Vector) → ((k : ℕ) → IsVariable p.matrix k → z k ≡ y k) → ((k : ℕ) → IsVariable p.matrix k → v k ≡ w k) → stopper p z v ≡ stopper p y w
 stopper_same p z y v w first second =
     find_same (reaches_first p z v) (reaches_first p y w) (size p.matrix) 1 (λ k low high.
     list_all_same (λ i. is_no_later (room p z v k) (room p z v i)) (λ i. is_no_later (room p y w k) (room p y w i)) (size p.matrix) 1 (λ i from to.
@@ -76,9 +81,6 @@ module _ (p : LinearProgram) (s : List Status) (t u : Tableau) (lawful : IsLinea
   worth_same : (q : ℕ) → IsNonbasic p.matrix (basics_of s) q → worth_rate p s t q ≡ worth_rate p s u q
   worth_same q out = ap (for_min p.sense) (objective_value-same p (λ i. t.rate i q) (λ i. u.rate i q) lawful (λ i is. same.rates i q is out))
 
-  listed_same : (v w : Vector) → ((k : ℕ) → IsVariable p.matrix k → v k ≡ w k) → listed p.matrix v ≡ listed p.matrix w
-  listed_same v w h = map_same v w (size p.matrix) 1 (λ k low high. h k (low, omega (arith, high)))
-
   prices_same : (k : ℕ) → IsVariable p.matrix k → price_at p (basics_of s) t.rate k ≡ price_at p (basics_of s) u.rate k
   prices_same k is = at (is_in (basics_of s) k) refl
     where
@@ -86,7 +88,7 @@ module _ (p : LinearProgram) (s : List Status) (t u : Tableau) (lawful : IsLinea
       at true mark = refl
       at false mark = objective_value-same p (λ i. t.rate i k) (λ i. u.rate i k) lawful (λ i out. same.rates i k out (is, mark))
 
-  ray_same : (r : ℕ) → IsVariable p.matrix r → (below : Bool) → (k : ℕ) → IsVariable p.matrix k → ray_of (basics_of s) t.rate r below k ≡ ray_of (basics_of s) u.rate r below k
+  pub ray_same : (r : ℕ) → IsVariable p.matrix r → (below : Bool) → (k : ℕ) → IsVariable p.matrix k → ray_of (basics_of s) t.rate r below k ≡ ray_of (basics_of s) u.rate r below k
   ray_same r found below k is = at (nat_eq k r) (is_in (basics_of s) k) refl
     where
       at : (own mark : Bool) → is_in (basics_of s) k ≡ mark →
@@ -99,11 +101,11 @@ module _ (p : LinearProgram) (s : List Status) (t u : Tableau) (lawful : IsLinea
   back_same r is (Some q) = ap (λ b. Moves (record { enters = q; leaves = r; to = if b then Ll else Ul })) (below_same r is)
   back_same r is None =
       ap (λ b. Ends (EndsInfeasible (listed p.matrix (ray_of (basics_of s) t.rate r b)))) (below_same r is)
-      ∙ ap (λ xs. Ends (EndsInfeasible xs)) (listed_same _ _ (ray_same r is (is_below p u.point r)))
+      ∙ ap (λ xs. Ends (EndsInfeasible xs)) (listed_same p.matrix _ _ (ray_same r is (is_below p u.point r)))
 
   run_same : (q : ℕ) (v w : Vector) → ((k : ℕ) → IsVariable p.matrix k → v k ≡ w k) → (o : Option ℕ) → ((k : ℕ) → o ≡ Some k → IsVariable p.matrix k) → run_until p s t q v o ≡ run_until p s u q w o
   run_same q v w h (Some k) found = ap (λ x. Moves (record { enters = q; leaves = k; to = if lt_ℚ zero_ℚ x then Ul else Ll })) (h k (found k refl))
-  run_same q v w h None found = ap₂ (λ xs ys. Ends (EndsUnbounded xs ys)) (listed_same t.point u.point same.points) (listed_same v w h)
+  run_same q v w h None found = ap₂ (λ xs ys. Ends (EndsUnbounded xs ys)) (listed_same p.matrix t.point u.point same.points) (listed_same p.matrix v w h)
 
   speeds_same : (q : ℕ) → IsNonbasic p.matrix (basics_of s) q → (k : ℕ) → IsVariable p.matrix k → speeds t.rate (goes_up (worth_rate p s t) q) q k ≡ speeds u.rate (goes_up (worth_rate p s u) q) q k
   speeds_same q out k is = ap₂ (λ r v. signed (lt_ℚ r zero_ℚ) v) (worth_same q out) (same.rates k q is out)
@@ -113,7 +115,7 @@ module _ (p : LinearProgram) (s : List Status) (t u : Tableau) (lawful : IsLinea
       let h = speeds_same q (out q refl) in
       ap (run_until p s t q (speeds t.rate (goes_up (worth_rate p s t) q) q)) (stopper_same p t.point u.point _ _ same.points h)
       ∙ run_same q _ _ h (stopper p u.point (speeds u.rate (goes_up (worth_rate p s u) q) q)) (λ k e. let f = find_some _ (size p.matrix) 1 k e in (f.low, omega (arith, f.high)))
-  better_same None out = ap₂ (λ xs ys. Ends (EndsOptimal xs ys)) (listed_same t.point u.point same.points) (listed_same _ _ prices_same)
+  better_same None out = ap₂ (λ xs ys. Ends (EndsOptimal xs ys)) (listed_same p.matrix t.point u.point same.points) (listed_same p.matrix _ _ prices_same)
 
   excess_same : (r : ℕ) → IsVariable p.matrix r → (q : ℕ) → IsNonbasic p.matrix (basics_of s) q → excess_rate t.rate r (is_below p t.point r) q ≡ excess_rate u.rate r (is_below p u.point r) q
   excess_same r is q out = ap₂ (λ b v. signed (not b) v) (below_same r is) (same.rates r q is out)

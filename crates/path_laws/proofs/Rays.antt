@@ -2,6 +2,7 @@
 use Rattle.std.proofs.Common.{◌≡◌, ◌≢◌, ℕ, suc, ◌+◌, ◌⊎◌, inl, inr, Bool, true, false, List, refl, sym, ap, ap₂, subst, ◌∙◌, arith, pos, cond}
 use Rattle.std.specs.Prelude.{Option, Some, None, not, ◌&&◌, ◌||◌, unwrap_or, if◌then◌else◌, nat_eq, eqb}
 use Rattle.std.proofs.lemmas.Bool.Decides.{eqb_tells}
+use Rattle.std.proofs.lemmas.Bool.{and_parts}
 use Rattle.divisors.specs.Gcd.{gcd}
 use Rattle.exact_values.specs.Rational.{ℚ, whole, fraction, zero_ℚ, one_ℚ, neg_ℚ, ◌+ℚ◌, ◌*ℚ◌, ◌≤ℚ◌, ◌<ℚ◌}
 use Rattle.exact_values.specs.Tests.{lt_ℚ}
@@ -80,10 +81,6 @@ broken_by (Some l) high z true e h = breaks_lower l refl refl (lt_true z l e)
 broken_by low None z false e h = cc
 broken_by low (Some u) z false e h = breaks_upper u refl refl (lt_true u z h)
 
-and_parts : (a b : Bool) → (a && b) ≡ true → (a ≡ true) × (b ≡ true)
-and_parts true b e = (refl, e)
-and_parts false b e = cc
-
 module _ (p : LinearProgram) (s : List Status) (t : Tableau) (r : ℕ) (phase : IsFirstPhase p s t r) where
   found : IsFound (λ k. is_in (basics_of s) k && is_outside p t.point k) (size p.matrix) 1 r
   found = find_some (λ k. is_in (basics_of s) k && is_outside p t.point k) (size p.matrix) 1 r phase.broken
@@ -94,7 +91,7 @@ module _ (p : LinearProgram) (s : List Status) (t : Tableau) (r : ℕ) (phase : 
   pub broken_limit : Breaks (lower_of p r) (upper_of p r) (t.point r) (is_below p t.point r)
   broken_limit = broken_by (lower_of p r) (upper_of p r) (t.point r) (is_below p t.point r) refl (and_parts (is_in (basics_of s) r) (is_outside p t.point r) found.passes).1
 
--- ---- the ray of a stuck first phase
+-- ---- the ray of a basic outside its limits that nothing brings back
 
 turned_signs : (b : Bool) (v : ℚ) → signed (not b) v ≡ neg_ℚ (signed b v)
 turned_signs true v = refl
@@ -113,10 +110,8 @@ unfolding neg_ℚ ◌+ℚ◌ fraction whole gcd
 plus_one = record { below = refl }
 
 module _ (p : LinearProgram) (s : List Status) (t : Tableau) (basis : IsBasis p s) (one : IsNonsingular p.matrix (basics_of s)) (tab : IsTableau p s t)
-    (r : ℕ) (phase : IsFirstPhase p s t r) (stuck : mover p s t (Some r) ≡ None) where
-  abbrev below : Bool
-  below = is_below p t.point r
-
+    (r : ℕ) (below : Bool) (leaves : IsBasic p.matrix (basics_of s) r) (breaks : Breaks (lower_of p r) (upper_of p r) (t.point r) below)
+    (idle : (k : ℕ) → IsVariable p.matrix k → IsFixed p k ⊎ IsRightAt (status_of s k) (excess_rate t.rate r below k)) where
   abbrev ray : Vector
   ray = ray_of (basics_of s) t.rate r below
 
@@ -134,7 +129,7 @@ module _ (p : LinearProgram) (s : List Status) (t : Tableau) (basis : IsBasis p 
   ray_nonbasic k is = at (eqb_tells k r)
     where
       at : (((eqb k r ≡ true) × (k ≡ r)) ⊎ ((eqb k r ≡ false) × (k ≢ r))) → ray k ≡ signed below (t.rate r k)
-      at (inl same) = absurd (clash (sym (broken_basic p s t r phase).1 ∙ ap (is_in (basics_of s)) (sym same.1) ∙ is))
+      at (inl same) = absurd (clash (sym leaves.1 ∙ ap (is_in (basics_of s)) (sym same.1) ∙ is))
       at (inr other) = rw (other.0, is) refl
 
   -- the ray is a multiple of what makes the row of r vanish
@@ -150,18 +145,13 @@ module _ (p : LinearProgram) (s : List Status) (t : Tableau) (basis : IsBasis p 
   ray_vanishes x keeps =
       sum_to-same (size p.matrix) _ _ (λ k low. ap (λ v. v *ℚ x (suc k)) (ray_multiple (suc k)) ∙ mul_assoc own (multiplier (basics_of s) t.rate r (suc k)) (x (suc k)))
       ∙ sum_to-mul_left (size p.matrix) own (λ k. multiplier (basics_of s) t.rate r (suc k) *ℚ x (suc k))
-      ∙ ap (λ v. own *ℚ v) (multiplier_vanishes p.matrix (basics_of s) t.rate tab.are_rates one r (broken_basic p s t r phase) x keeps)
+      ∙ ap (λ v. own *ℚ v) (multiplier_vanishes p.matrix (basics_of s) t.rate tab.are_rates one r leaves x keeps)
       ∙ mul-zero own
 
   on_column : (j : ℕ) → IsColumn p.matrix j → column_value p.matrix ray j ≡ zero_ℚ
   on_column j is = sym (functional_at_unit p.matrix ray j is) ∙ ray_vanishes (unit p.matrix j) (KeepsEquations-unit p.matrix j is)
 
   -- each multiplier but that of r meets a limit at which the point stands
-  idle : (k : ℕ) → IsVariable p.matrix k → IsFixed p k ⊎ IsRightAt (status_of s k) (excess_rate t.rate r below k)
-  idle k is =
-      right (status_of s k) (lower_of p k) (upper_of p k) (excess_rate t.rate r below k) (is_fixed p k) refl
-      (find_none (lowers p s (excess_rate t.rate r below)) (size p.matrix) 1 stuck k is.0 (omega (arith, is.1)))
-
   ray_meets : (k : ℕ) → IsVariable p.matrix k → k ≢ r → Meets (lower_of p k) (upper_of p k) (t.point k) (ray k)
   ray_meets k is other = at (is_in (basics_of s) k) refl
     where
@@ -172,18 +162,18 @@ module _ (p : LinearProgram) (s : List Status) (t : Tableau) (basis : IsBasis p 
 
   -- and r itself the limit that it broke
   pub ray_is : IsRay p ray
-  ray_is = by_limit (broken_limit p s t r phase)
+  ray_is = by_limit breaks
     where
       by_limit : Breaks (lower_of p r) (upper_of p r) (t.point r) below → IsRay p ray
       by_limit (breaks_lower l is limit broken) =
-          ray_below p ray t.point r (broken_basic p s t r phase).0 on_column tab.is_point.keeps (λ k is other. (ray_meets k is other).positive) (λ k is other. (ray_meets k is other).negative)
+          ray_below p ray t.point r leaves.0 on_column tab.is_point.keeps (λ k is other. (ray_meets k is other).positive) (λ k is other. (ray_meets k is other).negative)
           l (subst (λ v. v <ℚ zero_ℚ) (sym (ray_own ∙ ap (λ b. signed b (neg_ℚ one_ℚ)) is)) minus_one) limit broken
       by_limit (breaks_upper u is limit broken) =
-          ray_above p ray t.point r (broken_basic p s t r phase).0 on_column tab.is_point.keeps (λ k is other. (ray_meets k is other).positive) (λ k is other. (ray_meets k is other).negative)
+          ray_above p ray t.point r leaves.0 on_column tab.is_point.keeps (λ k is other. (ray_meets k is other).positive) (λ k is other. (ray_meets k is other).negative)
           u (subst (λ v. zero_ℚ <ℚ v) (sym (ray_own ∙ ap (λ b. signed b (neg_ℚ one_ℚ)) is)) plus_one) limit broken
 
 -- a vector with the same multipliers is a ray too
-IsRay-same : (p : LinearProgram) (w v : Vector) → ((k : ℕ) → IsVariable p.matrix k → w k ≡ v k) → IsRay p w → IsRay p v
+pub IsRay-same : (p : LinearProgram) (w v : Vector) → ((k : ℕ) → IsVariable p.matrix k → w k ≡ v k) → IsRay p w → IsRay p v
 IsRay-same p w v same h = record {
   vanishes = λ j is.
       sym (ap₂ ◌+ℚ◌ (same (p.rows + j) (omega (arith, is.0), omega (arith, is.1)))
@@ -194,9 +184,19 @@ IsRay-same p w v same h = record {
   negative = subst (λ x. x <ℚ zero_ℚ) (sum_to-same (size p.matrix) _ _ (λ k low. ap (λ x. x *ℚ unwrap_or (if lt_ℚ zero_ℚ x then upper_of p (suc k) else lower_of p (suc k)) zero_ℚ) (same (suc k) (omega arith, omega (arith, low))))) h.negative;
 }
 
+-- in a first phase that is stuck
+stuck_ray : (p : LinearProgram) (s : List Status) (t : Tableau) → IsBasis p s → IsNonsingular p.matrix (basics_of s) → IsTableau p s t → (r : ℕ) → IsFirstPhase p s t r →
+    mover p s t (Some r) ≡ None → IsRay p (ray_of (basics_of s) t.rate r (is_below p t.point r))
+stuck_ray p s t basis one tab r phase stuck = ray_is p s t basis one tab r (is_below p t.point r) (broken_basic p s t r phase) (broken_limit p s t r phase) idle
+  where
+    idle : (k : ℕ) → IsVariable p.matrix k → IsFixed p k ⊎ IsRightAt (status_of s k) (excess_rate t.rate r (is_below p t.point r) k)
+    idle k is =
+        right (status_of s k) (lower_of p k) (upper_of p k) (excess_rate t.rate r (is_below p t.point r) k) (is_fixed p k) refl
+        (find_none (lowers p s (excess_rate t.rate r (is_below p t.point r))) (size p.matrix) 1 stuck k is.0 (omega (arith, is.1)))
+
 -- an infeasible end: its ray is a proof
 pub infeasible_end : (p : LinearProgram) (s : List Status) (w : List ℚ) → IsBasis p s → IsNonsingular p.matrix (basics_of s) → EndsAt p s (EndsInfeasible w) → IsRay p (value_at w)
-infeasible_end p s w basis one ends = IsRay-same p ray_at (value_at w) at (ray_is p s ends.tableau basis one ends.is_tableau turn.0 turn.1.phase turn.1.moves)
+infeasible_end p s w basis one ends = IsRay-same p ray_at (value_at w) at (stuck_ray p s ends.tableau basis one ends.is_tableau turn.0 turn.1.phase turn.1.moves)
   where
     turn : (r : ℕ) × IsStuckTurn p s ends.tableau (Ends (EndsInfeasible w)) r
     turn = stuck_turn p s ends.tableau w (rule_of p s ends.tableau (Ends (EndsInfeasible w)) ends.turns)

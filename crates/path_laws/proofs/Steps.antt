@@ -17,7 +17,7 @@ use Rattle.lp_laws.proofs.Exchange.{IsNonsingular-exchanged, AreRates-exchanged}
 use Rattle.lp_laws.proofs.Statuses.{basics_of-replaced, basics_of-flipped, status_of_basic, status_of_nonbasic, IsBasis-replaced, IsBasis-flipped, IsBasis-opening, basics_of-opening}
 use Rattle.lp_laws.proofs.Opening.{IsNonsingular-row_basics}
 use Rattle.path_definitions.specs.Moves.{is_below, signed, goes_up, limit_ahead, room, reached, stopper}
-use Rattle.path_definitions.specs.Path.{Move, Moves, after, IsStep, excess_rate, worth_rate}
+use Rattle.path_definitions.specs.Path.{Move, Moves, after, speeds, IsStep, excess_rate, worth_rate}
 use Rattle.path_laws.specs.Laws.{IsNonsingularBasis}
 use Rattle.path_laws.proofs.Tests.{lt_true}
 use Rattle.path_laws.proofs.Stoppers.{stopper_some, reaches_limit}
@@ -31,10 +31,10 @@ pub record MayStand (p : LinearProgram) (k : ℕ) (to : Status) : Type 0 where
   pub limited : to ≢ Fr
   pub allowed : IsAllowed to (lower_of p k) (upper_of p k)
 
-lower_apart : (Ll ≢ Bs) × (Ll ≢ Fr)
+pub lower_apart : (Ll ≢ Bs) × (Ll ≢ Fr)
 lower_apart = ((λ e. cc), (λ e. cc))
 
-upper_apart : (Ul ≢ Bs) × (Ul ≢ Fr)
+pub upper_apart : (Ul ≢ Bs) × (Ul ≢ Fr)
 upper_apart = ((λ e. cc), (λ e. cc))
 
 -- a basis with its rates
@@ -48,7 +48,7 @@ module _ (p : LinearProgram) (s : List Status) (t : Tableau) (basis : IsBasis p 
   not_basic q out e = clash (sym (ap is_basic e) ∙ status_of_nonbasic p s basis q out)
 
   -- q becomes basic, and the basic r comes to a limit
-  exchange_leads : (r q : ℕ) (to : Status) → IsBasic p.matrix (basics_of s) r → IsNonbasic p.matrix (basics_of s) q → MayStand p r to → t.rate r q ≢ zero_ℚ → LeadsTo p (with_status (with_status s q Bs) r to)
+  pub exchange_leads : (r q : ℕ) (to : Status) → IsBasic p.matrix (basics_of s) r → IsNonbasic p.matrix (basics_of s) q → MayStand p r to → t.rate r q ≢ zero_ℚ → LeadsTo p (with_status (with_status s q Bs) r to)
   exchange_leads r q to leaves enters stands pivot = record {
     at = record {
       is_basis = IsBasis-replaced p s basis r q to leaves.0 enters.0 (status_of_basic p s basis r leaves) (not_basic q enters) stands.nonbasic stands.limited stands.allowed;
@@ -72,7 +72,7 @@ module _ (p : LinearProgram) (s : List Status) (t : Tableau) (basis : IsBasis p 
 
 -- ---- the two kinds of steps
 
-signed_zero : (up : Bool) → signed up zero_ℚ ≡ zero_ℚ
+pub signed_zero : (up : Bool) → signed up zero_ℚ ≡ zero_ℚ
 signed_zero true = refl
 signed_zero false = by_ring1 zero_ℚ (λ z. opposite (number (pos 0)) ≐ number (pos 0)) refl
 
@@ -119,6 +119,33 @@ stopper_ahead p z v k e =
 stands_ahead : (p : LinearProgram) (k : ℕ) (v : ℚ) (to : Status) → IsAhead (lower_of p k) (upper_of p k) v to → MayStand p k to
 stands_ahead p k v to h = record { nonbasic = h.apart.0; limited = h.apart.1; allowed = h.allowed }
 
+-- a nonbasic q rises or falls until k stops it
+module _ (p : LinearProgram) (s : List Status) (t : Tableau) (basis : IsBasis p s) (one : IsNonsingular p.matrix (basics_of s)) (tab : IsTableau p s t) (q k : ℕ) (up : Bool)
+    (enters : IsNonbasic p.matrix (basics_of s) q) (stops : stopper p t.point (speeds t.rate up q) ≡ Some k) where
+  ahead : IsAhead (lower_of p k) (upper_of p k) (speeds t.rate up q k) (reached (speeds t.rate up q) k)
+  ahead = stopper_ahead p t.point (speeds t.rate up q) k stops
+
+  k_is : IsVariable p.matrix k
+  k_is = (stopper_some p t.point (speeds t.rate up q) k stops).0
+
+  pivot : t.rate k q ≢ zero_ℚ
+  pivot zero = ahead.moves (ap (signed up) zero ∙ signed_zero up)
+
+  -- another nonbasic doesn't move
+  marked : k ≢ q → (mark : Bool) → is_in (basics_of s) k ≡ mark → is_in (basics_of s) k ≡ true
+  marked other true is = is
+  marked other false is = absurd (pivot ((tab.are_rates q enters).others k (k_is, is) other))
+
+  by_number : (((eqb k q ≡ true) × (k ≡ q)) ⊎ ((eqb k q ≡ false) × (k ≢ q))) → LeadsTo p (with_status (with_status s q Bs) k (reached (speeds t.rate up q) k))
+  by_number (inl same) =
+      subst (λ j. LeadsTo p (with_status (with_status s q Bs) j (reached (speeds t.rate up q) k))) (sym same.1)
+      (flip_leads p s t basis one tab q (reached (speeds t.rate up q) k) enters (subst (λ j. MayStand p j (reached (speeds t.rate up q) k)) same.1 (stands_ahead p k (speeds t.rate up q k) (reached (speeds t.rate up q) k) ahead)))
+  by_number (inr other) =
+      exchange_leads p s t basis one tab k q (reached (speeds t.rate up q) k) (k_is, marked other.1 (is_in (basics_of s) k) refl) enters (stands_ahead p k (speeds t.rate up q k) (reached (speeds t.rate up q) k) ahead) pivot
+
+  pub motion_leads : LeadsTo p (with_status (with_status s q Bs) k (reached (speeds t.rate up q) k))
+  motion_leads = by_number (eqb_tells k q)
+
 module _ (p : LinearProgram) (s : List Status) (t : Tableau) (basis : IsBasis p s) (one : IsNonsingular p.matrix (basics_of s)) (tab : IsTableau p s t) where
   -- first phase
   brought_leads : (m : Move) (r q : ℕ) → IsBroughtTurn p s t (Moves m) r q → LeadsTo p (after s m)
@@ -145,29 +172,8 @@ module _ (p : LinearProgram) (s : List Status) (t : Tableau) (basis : IsBasis p 
   stopped_leads m q k h =
       let e = h.gives in
       let is : m ≡ record { enters = q; leaves = k; to = reached (bettering p s t q) k } = cc in
-      subst (λ m. LeadsTo p (after s m)) (sym is) (by_number (eqb_tells k q))
-    where
-      entered : IsEntering p s (worth_rate p s t) q
-      entered = enters p s (worth_rate p s t) q basis h.moves
-
-      ahead : IsAhead (lower_of p k) (upper_of p k) (bettering p s t q k) (reached (bettering p s t q) k)
-      ahead = stopper_ahead p t.point (bettering p s t q) k h.stops
-
-      k_is : IsVariable p.matrix k
-      k_is = (stopper_some p t.point (bettering p s t q) k h.stops).0
-
-      pivot : t.rate k q ≢ zero_ℚ
-      pivot zero = ahead.moves (ap (signed (goes_up (worth_rate p s t) q)) zero ∙ signed_zero (goes_up (worth_rate p s t) q))
-
-      marked : k ≢ q → (mark : Bool) → is_in (basics_of s) k ≡ mark → is_in (basics_of s) k ≡ true
-      marked other true is = is
-      marked other false is = absurd (pivot ((tab.are_rates q entered.nonbasic).others k (k_is, is) other))
-
-      by_number : (((eqb k q ≡ true) × (k ≡ q)) ⊎ ((eqb k q ≡ false) × (k ≢ q))) → LeadsTo p (with_status (with_status s q Bs) k (reached (bettering p s t q) k))
-      by_number (inl same) =
-          subst (λ j. LeadsTo p (with_status (with_status s q Bs) j (reached (bettering p s t q) k))) (sym same.1)
-          (flip_leads p s t basis one tab q (reached (bettering p s t q) k) entered.nonbasic (subst (λ j. MayStand p j (reached (bettering p s t q) k)) same.1 (stands_ahead p k (bettering p s t q k) (reached (bettering p s t q) k) ahead)))
-      by_number (inr other) = exchange_leads p s t basis one tab k q (reached (bettering p s t q) k) (k_is, marked other.1 (is_in (basics_of s) k) refl) entered.nonbasic (stands_ahead p k (bettering p s t q k) (reached (bettering p s t q) k) ahead) pivot
+      subst (λ m. LeadsTo p (after s m)) (sym is)
+      (motion_leads p s t basis one tab q k (goes_up (worth_rate p s t) q) (enters p s (worth_rate p s t) q basis h.moves).nonbasic h.stops)
 
   leads : (m : Move) → MovingRule p s t m → LeadsTo p (after s m)
   leads m (brings r q h) = brought_leads m r q h

@@ -4,6 +4,7 @@ use Rattle.std.specs.Prelude.{Option, Some, None}
 use Rattle.exact_values.specs.Rational.{ℚ, ◌≤ℚ◌}
 use Rattle.exact_values.proofs.Order.{le_refl, le_trans, le_total}
 use Rattle.lp_definitions.specs.LinearProgram.{LinearProgram, Vector, IsVariable, size}
+use Rattle.lp_laws.proofs.Values.{clash}
 use Rattle.path_definitions.specs.Moves.{is_no_later, reaches_first, room, stopper}
 use Rattle.path_laws.proofs.Tests.{le_true, le_from}
 use Rattle.path_laws.proofs.Numbered.{find_none, find_some, list_all_from, list_all_true, from_first}
@@ -17,9 +18,6 @@ no_later-trans (Some a) (Some b) (Some c) first second = le_from a c (le_trans (
 pub reaches_limit : (a b : Option ℚ) → is_no_later a b ≡ true → (x : ℚ) × (a ≡ Some x)
 reaches_limit None b e = cc
 reaches_limit (Some a) b e = (a, refl)
-
-clash : true ≡ false → ⊥
-clash e = cc
 
 module _ (f : ℕ → Option ℚ) where
   -- k reaches its limit, and none of the numbers sooner

@@ -9,7 +9,7 @@ use Rattle.lp_definitions.specs.Basis.{Basics}
 use Rattle.lp_definitions.specs.Waypoints.{KeepsWaypoints}
 use Rattle.lp_definitions.specs.declared.Status.{Status}
 use Rattle.lp_laws.proofs.Values.{sub-zero}
-use Rattle.bounded_primal.specs.Calls.{HasRates}
+use Rattle.basis_values.specs.Calls.{HasRates}
 
 pub value_read : (xs : List ℚ) (k : ℕ) (x : ℚ) → k - 1 < length xs → x ≡ get_or xs (k - 1) x → x ≡ value_at xs k
 value_read xs k x below is = is ∙ get_or_default xs (k - 1) x zero_ℚ below

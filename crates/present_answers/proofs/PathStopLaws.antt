@@ -11,7 +11,8 @@ use Rattle.evidence_definitions.specs.Evidence.{EvidenceHolds}
 use Rattle.question_definitions.specs.Answers.{Basis}
 use Rattle.answer_definitions.specs.Evidence.{last_basis}
 use Rattle.report_text.specs.declared.sheet.Sheet.{Sheet}
-use Rattle.bounded_primal.specs.Calls.{PathGoesOn, StopsOnPath, job_of}
+use Rattle.basis_values.specs.Calls.{job_of}
+use Rattle.bounded_primal.specs.Calls.{PathGoesOn, StopsOnPath}
 use Rattle.bounded_primal.specs.Stops.{PrimalStops}
 use Rattle.bounded_primal.specs.declared.moves.PrimalStop.{PrimalStop}
 use Rattle.bounded_primal.specs.declared.moves.PrimalStop.TheVariants.{Limit, Overflow, NoMemory}

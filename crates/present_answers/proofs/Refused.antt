@@ -16,7 +16,7 @@ use Rattle.lp_model.proofs.Stops.{IfOverflow-map}
 use Rattle.evidence_definitions.specs.Formulas.{f6_slack}
 use Rattle.evidence_definitions.specs.Statements.{Primal, Solution, is_between, belongs, thetas_of}
 use Rattle.evidence_definitions.specs.Evidence.{Formula, by_exchange, by_entry, by_carried, by_point, by_slack, by_move, by_ratio, by_range, by_objective, by_slope, ShowsRefusal, GoesTo, names_waypoint}
-use Rattle.bounded_primal.specs.Calls.{job_of, is_of_point, PointRefused}
+use Rattle.basis_values.specs.Calls.{job_of, is_of_point, PointRefused}
 use Rattle.present_answers.specs.Slack.{SomeSlackRefused}
 use Rattle.present_answers.specs.Stops.{SolutionRefused}
 

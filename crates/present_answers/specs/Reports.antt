@@ -21,7 +21,8 @@ use Rattle.answer_definitions.specs.Verdicts.{ReachesVerdict}
 use Rattle.answer_definitions.specs.Evidence.{OverflowsOnPath}
 use Rattle.report_text.specs.declared.sheet.Sheet.{Sheet}
 use Rattle.report_text.specs.Verdicts.{verdict_shown, check_shown}
-use Rattle.bounded_primal.specs.Calls.{PathGoesOn, LieIn}
+use Rattle.basis_values.specs.Calls.{LieIn}
+use Rattle.bounded_primal.specs.Calls.{PathGoesOn}
 use Rattle.bounded_primal.specs.Stops.{PathFrom}
 use Rattle.bounded_primal.specs.declared.moves.PrimalStop.{PrimalStop}
 use Rattle.bounded_primal.specs.declared.moves.PrimalStop.TheVariants.{Limit, Overflow, NoMemory}

@@ -9,7 +9,7 @@ use Rattle.lp_definitions.specs.declared.Evidence.{Evidence}
 use Rattle.lp_definitions.specs.declared.Status.{Status}
 use Rattle.evidence_definitions.specs.Statements.{Solution, Range}
 use Rattle.answer_definitions.specs.Evidence.{IsEvidence}
-use Rattle.bounded_primal.specs.Calls.{LieIn}
+use Rattle.basis_values.specs.Calls.{LieIn}
 
 -- it names a waypoint that the rates have after the call; and for every list of bases that ends with s, and in which the waypoints
 -- lay before the call, it is evidence on that list, with the basics of s and of that waypoint

@@ -1,7 +1,8 @@
 //! The path from the present basis.
 
 ghost use Rattle.std.specs.Prelude.{◌≡◌, None, IsSome, IfOk, IfErr, IsErrOf};
-ghost use Rattle.bounded_primal.specs.Calls.{HasRates, CallEnds, WaypointsFollow};
+ghost use Rattle.basis_values.specs.Calls.{HasRates};
+ghost use Rattle.bounded_primal.specs.Calls.{CallEnds, WaypointsFollow};
 ghost use Rattle.bounded_primal.specs.Outcomes.{IsTrueOutcome};
 ghost use Rattle.bounded_primal.specs.Stops.{PrimalStops};
 ghost use Rattle.report_text.specs.Sheets.{IsSheet};

@@ -3,7 +3,7 @@ ghost use Rattle.std.specs.Prelude.{◌≡◌, None, IfOk, IfErr};
 ghost use Rattle.lp_definitions.specs.Basis.{basics_of, IsOptimalBasis};
 ghost use Rattle.lp_definitions.specs.Waypoints.{KeepsWaypoints};
 ghost use Rattle.lp_model.specs.RatesCalls.{IfOverflow};
-ghost use Rattle.bounded_primal.specs.Calls.{HasRates};
+ghost use Rattle.basis_values.specs.Calls.{HasRates};
 ghost use Rattle.answer_definitions.specs.Sections.{IsRanged};
 ghost use Rattle.report_text.specs.Lines.{range_lines};
 ghost use Rattle.present_answers.specs.Answers.{sheet_shown, AreRanged};

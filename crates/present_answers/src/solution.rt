@@ -4,7 +4,7 @@ ghost use Rattle.lp_definitions.specs.LinearProgram.{size, value_at};
 ghost use Rattle.lp_definitions.specs.Basis.{basics_of, IsPointOf, ArePricesOf};
 ghost use Rattle.lp_definitions.specs.Waypoints.{KeepsWaypoints};
 ghost use Rattle.lp_model.specs.RatesCalls.{IfOverflow};
-ghost use Rattle.bounded_primal.specs.Calls.{HasRates, PointRefused};
+ghost use Rattle.basis_values.specs.Calls.{HasRates, PointRefused};
 ghost use Rattle.answer_definitions.specs.Sections.{IsShown};
 ghost use Rattle.report_text.specs.Lines.{solution_lines};
 ghost use Rattle.present_answers.specs.Answers.{sheet_shown, AreShown};

@@ -17,7 +17,7 @@ use Rattle.lp_model.specs.declared.reports.ParaReport.{ParaReport}
 use Rattle.lp_model.specs.declared.reports.ParaReport.TheVariants as reports
 use Rattle.path_definitions.specs.Path.{last_of}
 use Rattle.postoptimal_definitions.specs.Chain.{basis_of}
-use Rattle.bounded_primal.specs.Calls.{LieIn}
+use Rattle.basis_values.specs.Calls.{LieIn}
 use Rattle.bounded_primal.specs.declared.moves.PrimalStop.{PrimalStop}
 use Rattle.bounded_primal.specs.declared.moves.PrimalStop.TheVariants.{Limit, Overflow, NoMemory}
 use Rattle.question_definitions.specs.Answers.{Basis, Sweep, OfSweep, SweepEnd, Opening, Chained, SweepLimit}

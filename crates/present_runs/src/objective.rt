@@ -3,7 +3,7 @@
 ghost use Rattle.std.specs.Prelude.{◌≡◌, None, IfOk, IfErr};
 ghost use Rattle.exact_values.specs.Rational.{◌≤ℚ◌};
 ghost use Rattle.lp_definitions.specs.LinearProgram.{IsRow, HasNoLimits};
-ghost use Rattle.bounded_primal.specs.Calls.{HasRates};
+ghost use Rattle.basis_values.specs.Calls.{HasRates};
 ghost use Rattle.report_text.specs.Sheets.{IsSheet};
 ghost use Rattle.para_objective.specs.Faces.{family};
 ghost use Rattle.para_objective.specs.Runs.{ObjectiveFollows, IsTrueObjective};

@@ -5,7 +5,7 @@ ghost use Rattle.exact_values.specs.Rational.{◌≤ℚ◌};
 ghost use Rattle.lp_model.specs.RatesCalls.{IfOverflow};
 ghost use Rattle.evidence_definitions.specs.Statements.{Pararhs};
 ghost use Rattle.evidence_definitions.specs.Evidence.{ShiftHolds};
-ghost use Rattle.bounded_primal.specs.Calls.{HasRates};
+ghost use Rattle.basis_values.specs.Calls.{HasRates};
 ghost use Rattle.report_text.specs.Sheets.{IsSheet};
 ghost use Rattle.para_rhs.specs.Faces.{family};
 ghost use Rattle.para_rhs.specs.Runs.{RhsFollows, IsTrueRhs};

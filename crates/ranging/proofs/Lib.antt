@@ -7,3 +7,4 @@ pub mod AtBasis
 pub mod Refused
 pub mod Listed
 pub mod Items
+pub mod Complete

@@ -8,7 +8,7 @@ use Rattle.lp_definitions.specs.Basis.{Basics, basics_of, IsBasic, IsPointOf, Ar
 use Rattle.lp_definitions.specs.declared.Evidence.{Evidence}
 use Rattle.lp_definitions.specs.declared.Status.{Status}
 use Rattle.lp_model.specs.RatesCalls.{IsRowOf}
-use Rattle.bounded_primal.specs.Calls.{RangeRefused}
+use Rattle.basis_values.specs.Calls.{RangeRefused}
 use Rattle.ranging.specs.Refusals.{IsRefusal}
 use Rattle.ranging.specs.RowEnds.{RatioRefused}
 use Rattle.ranging.specs.LimitEnds.{IsLimitRefused, IsRateRefused}

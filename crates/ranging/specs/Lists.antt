@@ -7,7 +7,7 @@ use Rattle.std.specs.Prelude.{◌≡◌, ◌↔◌, ℕ, Bool, List, map, All, O
 use Rattle.exact_values.specs.Rational.{ℚ}
 use Rattle.affine_conditions.specs.declared.tightening.End.{End}
 use Rattle.affine_conditions.specs.declared.tightening.Ends.{Ends}
-use Rattle.bounded_primal.specs.Calls.{RangeRefused}
+use Rattle.basis_values.specs.Calls.{RangeRefused}
 use Rattle.lp_definitions.specs.LinearProgram.{LinearProgram}
 use Rattle.lp_definitions.specs.Basis.{Basics}
 use Rattle.lp_definitions.specs.declared.Evidence.{Evidence}

@@ -4,8 +4,8 @@ ghost use Rattle.std.specs.Prelude.{◌≡◌, ◌≢◌, ◌-◌, None, length,
 ghost use Rattle.lp_definitions.specs.LinearProgram.{size, value_at, IsVariable, IsLinearProgram};
 ghost use Rattle.lp_definitions.specs.Basis.{basics_of, IsBasic, IsPointOf, ArePricesOf, IsOptimalBasis};
 ghost use Rattle.lp_definitions.specs.Waypoints.{KeepsWaypoints};
-ghost use Rattle.bounded_primal.specs.Calls.{HasRates};
-ghost use Rattle.bounded_primal.specs.Stops.{RangeOverflow};
+ghost use Rattle.basis_values.specs.Calls.{HasRates};
+ghost use Rattle.basis_values.specs.Stops.{RangeOverflow};
 ghost use Rattle.ranging.specs.Tables.{AreEndsOfRow, AllMet, AllFound};
 
 use crate::choices::stands_basic;

@@ -5,12 +5,13 @@ ghost use Rattle.lp_definitions.specs.LinearProgram.{size, value_at, IsLinearPro
 ghost use Rattle.lp_definitions.specs.Basis.{basics_of, IsPointOf, ArePricesOf, IsOptimalBasis};
 ghost use Rattle.lp_definitions.specs.Waypoints.{KeepsWaypoints};
 ghost use Rattle.postoptimal_definitions.specs.Ranges.{IsRangeReport};
-ghost use Rattle.bounded_primal.specs.Calls.{HasRates};
-ghost use Rattle.bounded_primal.specs.Stops.{RangeOverflow};
+ghost use Rattle.basis_values.specs.Calls.{HasRates};
+ghost use Rattle.basis_values.specs.Stops.{RangeOverflow};
 ghost use Rattle.lp_model.specs.RatesCalls.{IfOverflow};
 ghost use Rattle.ranging.specs.LimitEnds.{no_ends};
 ghost use Rattle.ranging.specs.Tables.{AllMet, AllFound};
 ghost use Rattle.ranging.specs.Lists.{RefusedAnywhere, report_of};
+ghost use Rattle.ranging.specs.Complete.{HasNoEvidence, IsReportOrMemory};
 
 use crate::lists::{cost_list, limit_list, row_list};
 use crate::pass::pass;
@@ -101,7 +102,8 @@ fn range_at<R: Rates>(
 /// The intervals in which the basis stays optimal: of each limit at which a nonbasic stands, of each column's cost, and of the
 /// multiple of each basic row but the objective that is added to the objective. The three lists are in ascending number, and a
 /// value lies between the ends of its interval exactly where the basis is optimal in the changed program. The row of each basic
-/// is read once. An overflow comes only with evidence of it at this basis.
+/// is read once. An overflow comes only with evidence of it at this basis; where none holds, the answer is the report, or there is
+/// no memory.
 pub fn range<R: Rates>(
     alloc: Global,
     lp: &Lp,
@@ -117,6 +119,8 @@ pub fn range<R: Rates>(
         (basics_of basis.now) (R.waypoints rates.new) }
     ensures overflow { RangeOverflow result lp.now basis.now (R.waypoints rates.old)
         (R.waypoints rates.new) }
+    ensures complete { HasNoEvidence lp.now basis.now (R.waypoints rates.old) →
+        IsReportOrMemory lp.now basis.now result }
 {
     let size = lp.number_of_variables() as usize;
     let mut point = vec![in alloc; Frac::whole(0); size].map_err(|_| NoMemory)?;

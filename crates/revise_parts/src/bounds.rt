@@ -29,22 +29,12 @@ fn meets(first: BoundKind, second: BoundKind) -> bool
     touches_top(first) && touches_top(second) || touches_bottom(first) && touches_bottom(second)
 }
 
-// The bounds without those of a column that touch an end which this type touches.
-fn without_ends(
-    alloc: Global,
-    kind: BoundKind,
-    column: &Name,
-    bounds: &[NamedBound],
-) -> Result<Vec<NamedBound>, CardStop>
-    ensures { IfOk result (λ left. left.items ≡ filter (λ other. not
-        (same column.now other.column && meet kind other.kind)) bounds.now) }
+// Takes out the bounds of a column that touch an end which this type touches.
+fn remove_ends(kind: BoundKind, column: &Name, bounds: &mut Vec<NamedBound>)
+    ensures { bounds.new.items ≡ filter (λ other. not
+        (same column.now other.column && meet kind other.kind)) bounds.old.items }
 {
-    let left = bounds
-        .iter()
-        .copied()
-        .filter(|other| !(*column == other.column && meets(kind, other.kind)))
-        .collect(alloc)?;
-    Ok(left)
+    bounds.retain(|other| !(*column == other.column && meets(kind, other.kind)));
 }
 
 // The bounds that don't stand on this column.
@@ -79,7 +69,6 @@ fn bound_from(kind: BoundKind, card: &DataCard<'_>) -> Result<NamedBound, CardSt
 
 // Puts the bound of this type on a card at the end of those that touch none of its ends.
 fn put_bound_from(
-    alloc: Global,
     kind: BoundKind,
     card: &DataCard<'_>,
     items: &mut Vec<NamedBound>,
@@ -88,7 +77,7 @@ fn put_bound_from(
         items.old.items) }
 {
     let bound = bound_from(kind, card)?;
-    *items = without_ends(alloc, kind, &card.name2, items)?;
+    remove_ends(kind, &card.name2, items);
     items.push(bound)?;
     Ok(())
 }
@@ -104,7 +93,7 @@ pub fn change_bounds(
         items.old.items) }
 {
     match change {
-        BoundChange::Put(kind) => put_bound_from(alloc, kind, card, items),
+        BoundChange::Put(kind) => put_bound_from(kind, card, items),
         BoundChange::Without => {
             *items = bounds_without(alloc, &card.name2, items)?;
             Ok(())

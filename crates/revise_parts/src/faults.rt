@@ -115,8 +115,7 @@ fn put_pairs_fault(
     ensures { result ≡ puts_fault seen.now Columns (items_of card.now.name1 columns.now)
         (sum_by (λ column. length column.items) columns.now) (pairs_of (shown card.now)) }
 {
-    let count = item_count(columns);
-    puts_fault_of(seen, Section::Columns, columns, count, card)
+    puts_fault_of(seen, Section::Columns, columns, columns, card)
 }
 
 // The fault of a card's column that is to be modified, and then of its pairs.
@@ -156,7 +155,7 @@ pub fn modified_set_fault(
     if !is_blank(card.kind) {
         return Some(DeckFaultKind::ExtraField);
     }
-    puts_fault_of(seen, section, &[], 0, card)
+    puts_fault_of(seen, section, &[], &[], card)
 }
 
 // The fault of what a card deletes of these columns or sets.

@@ -1,5 +1,5 @@
 // The tests of the pairs of a card.
-ghost use Rattle.std.specs.Prelude.{◌≡◌, ◌≤◌, ◌+◌, ◌^◌, ◌||◌, [], None, Some, if◌then◌else◌};
+ghost use Rattle.std.specs.Prelude.{◌≡◌, ◌≤◌, ◌+◌, ◌^◌, ◌||◌, [], None, Some, if◌then◌else◌, length, sum_by};
 ghost use Rattle.std.specs.Option.{option_or};
 ghost use Rattle.problem_definitions.specs.Names.{same};
 ghost use Rattle.problem_definitions.specs.Problem.{has_entry};
@@ -11,7 +11,7 @@ ghost use Rattle.deck_parts.specs.Fields_shown.{shown, pair_shown};
 ghost use Rattle.revise_definitions.specs.Tests.{puts_fault};
 ghost use Rattle.revise_parts.specs.Summary.{put_test, pair_test};
 
-use crate::groups::finds_item;
+use crate::groups::{finds_item, item_count};
 use crate::parts::{EntryGroup, NamedProblem};
 use crate::rows::{finds_free_row, finds_row};
 use deck_parts::{
@@ -104,6 +104,28 @@ fn count_with(count: u128, is_there: bool) -> u128
     count + 1
 }
 
+// The number of entries that an added one is counted with: none is counted where it only replaces one.
+fn count_before(counted: &[EntryGroup], is_there: bool) -> u128
+    ensures { result ≡ (if is_there then 0 else sum_by (λ group. length group.items)
+        counted.now) }
+{
+    if is_there {
+        return 0;
+    }
+    item_count(counted)
+}
+
+// The same for a second pair, where the first replaces an entry or adds one.
+fn count_between(counted: &[EntryGroup], is_first: bool, is_second: bool) -> u128
+    ensures { result ≡ (if is_second then 0 else sum_by (λ group. length group.items) counted.now +
+        (if is_first then 0 else 1)) }
+{
+    if is_second {
+        return 0;
+    }
+    count_with(item_count(counted), is_first)
+}
+
 // Whether a row is that of the pair before, or has an item.
 fn is_second_there(groups: &[EntryGroup], name: &Name, first: &Name, row: &Name) -> bool
     ensures { result ≡ (same row.now first.now || has_entry (items_of name.now
@@ -125,25 +147,25 @@ pub fn first_of(
     }
 }
 
-/// The fault of a card's pairs that replace items of the group in field 2 or add some, where so many entries are there.
+/// The fault of a card's pairs that replace items of the group in field 2 or add some, where these groups are counted.
 pub fn puts_fault_of(
     seen: &NamedProblem,
     section: Section,
     groups: &[EntryGroup],
-    count: u128,
+    counted: &[EntryGroup],
     card: &DataCard<'_>,
 ) -> Option<DeckFaultKind>
-    requires { count ≤ 2 ^ 127 }
-    ensures { result ≡ puts_fault seen.now section (items_of card.now.name1 groups.now) count
-        (pairs_of (shown card.now)) }
+    ensures { result ≡ puts_fault seen.now section (items_of card.now.name1 groups.now)
+        (sum_by (λ group. length group.items) counted.now) (pairs_of (shown card.now)) }
 {
     let first = first_pair(card);
     let is_first = finds_item(groups, &card.name1, &first.row);
-    let fault = put_fault_at(seen, section, is_first, count, &first);
+    let before = count_before(counted, is_first);
+    let fault = put_fault_at(seen, section, is_first, before, &first);
     match second_pair(card) {
         Some(second) => {
             let is_second = is_second_there(groups, &card.name1, &first.row, &second.row);
-            let more = count_with(count, is_first);
+            let more = count_between(counted, is_first, is_second);
             let other = put_fault_at(seen, section, is_second, more, &second);
             first_of(fault, other)
         }

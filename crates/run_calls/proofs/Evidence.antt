@@ -16,7 +16,7 @@ use Rattle.path_definitions.specs.Path.{Move, after}
 use Rattle.evidence_definitions.specs.Formulas.{PointFormula, f6, f7, f10_product, f10_sum, SlackFormula, f6_slack, MoveFormula, f8, f9, IsStepTo, RatioFormula, f14, RangeFormula, f15_limit, f15_nonbasic, f15_basic, ObjectiveFormula, f16, f17_product, f17_sum, SlopeFormula, f18_product, f18_sum, f18_difference, f18_quotient}
 use Rattle.evidence_definitions.specs.Statements.{SolvingStatement, Primal, is_between, belongs, program_at, change_row, shift_at, thetas_of, MovesAt}
 use Rattle.evidence_definitions.specs.Evidence.{Formula, by_exchange, by_entry, by_carried, by_point, by_slack, by_move, by_ratio, by_range, by_objective, by_slope, ShowsRefusal, GoesTo, IsOfMove}
-use Rattle.bounded_primal.specs.Calls.{StopsAt, job_of}
+use Rattle.basis_values.specs.Calls.{StopsAt, job_of}
 use Rattle.run_calls.specs.Walks.{EvidenceHere}
 
 -- p with any change row, or none

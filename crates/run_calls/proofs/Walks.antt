@@ -13,7 +13,7 @@ use Rattle.path_definitions.specs.Path.{IsPath, EndsAt, EndsOptimal, last_of}
 use Rattle.postoptimal_definitions.specs.Chain.{FaceTurn, FaceDone, ReachesTo, IsFaceStep, IsFacePath, Place, InOpening, AtBreak, basis_of, break_of, Reaches, begins, path_step, first_break, face_step, next_break}
 use Rattle.evidence_definitions.specs.Statements.{SolvingStatement}
 use Rattle.evidence_definitions.specs.Evidence.{EvidenceHolds}
-use Rattle.bounded_primal.specs.Calls.{LieIn}
+use Rattle.basis_values.specs.Calls.{LieIn}
 use Rattle.bounded_primal.specs.declared.moves.PrimalStop.{PrimalStop}
 use Rattle.bounded_primal.specs.declared.moves.PrimalStop.TheVariants.{Limit, Overflow, NoMemory}
 use Rattle.run_calls.specs.Calls.{StandsThere, WaypointsFollowRun, RunOverflows, RunStops}

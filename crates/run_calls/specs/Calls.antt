@@ -25,7 +25,8 @@ use Rattle.path_definitions.specs.Path.{Ending, last_of}
 use Rattle.postoptimal_definitions.specs.Chain.{Part, ChainEnd, AtMax, UnboundedPast, InfeasiblePast, FaceTurn, IsRun, IsFailedOpening, Place, break_of, basis_of, Reaches, RunGoesOnFor}
 use Rattle.evidence_definitions.specs.Statements.{SolvingStatement}
 use Rattle.evidence_definitions.specs.Evidence.{EvidenceHolds}
-use Rattle.bounded_primal.specs.Calls.{LieIn, outcome_of}
+use Rattle.basis_values.specs.Calls.{LieIn}
+use Rattle.bounded_primal.specs.Calls.{outcome_of}
 use Rattle.bounded_primal.specs.declared.moves.PrimalStop.{PrimalStop}
 use Rattle.bounded_primal.specs.declared.moves.PrimalStop.TheVariants.{Limit, Overflow, NoMemory}
 

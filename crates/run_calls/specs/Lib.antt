@@ -2,3 +2,4 @@ pub mod Calls
 pub mod Begun
 pub mod Walks
 pub mod Truth
+pub mod Complete

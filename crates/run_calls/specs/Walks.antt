@@ -14,7 +14,7 @@ use Rattle.lp_definitions.specs.declared.Status.{Status}
 use Rattle.postoptimal_definitions.specs.Chain.{FaceTurn, ReachesTo, IsFaceStep, Place, AtBreak, basis_of, Reaches}
 use Rattle.evidence_definitions.specs.Statements.{SolvingStatement}
 use Rattle.evidence_definitions.specs.Evidence.{EvidenceHolds}
-use Rattle.bounded_primal.specs.Calls.{LieIn}
+use Rattle.basis_values.specs.Calls.{LieIn}
 use Rattle.bounded_primal.specs.declared.moves.PrimalStop.{PrimalStop}
 use Rattle.bounded_primal.specs.declared.moves.PrimalStop.TheVariants.{Limit, Overflow, NoMemory}
 

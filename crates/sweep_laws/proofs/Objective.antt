@@ -1,6 +1,7 @@
 -- A face step of a parametric run of the objective leads from a nonsingular basis to a nonsingular basis.
 use Rattle.std.proofs.Common.{◌≡◌, ℕ, List, refl, sym, subst}
 use Rattle.std.specs.Prelude.{Option, Some, None, ◌&&◌}
+use Rattle.std.proofs.lemmas.Bool.{and_parts}
 use Rattle.exact_values.specs.Rational.{ℚ, zero_ℚ}
 use Rattle.exact_values.specs.Tests.{eq_ℚ}
 use Rattle.lp_definitions.specs.LinearProgram.{LinearProgram, Vector}
@@ -12,7 +13,7 @@ use Rattle.path_laws.specs.Laws.{IsNonsingularBasis}
 use Rattle.path_laws.proofs.Searches.{found_passes}
 use Rattle.postoptimal_definitions.specs.Chain.{FaceMoves}
 use Rattle.postoptimal_definitions.specs.ObjectiveRun.{objective_family, change_rate, face_mover, face_until, face_by, objective_face, IsObjectiveFace}
-use Rattle.sweep_laws.proofs.Leads.{and_parts, is_mover, stopped_leads}
+use Rattle.sweep_laws.proofs.Leads.{is_mover, stopped_leads}
 
 -- the change row is added to the objective; matrix and limits are as they were
 pub to_objective : (p : LinearProgram) (h : ℕ) (theta : ℚ) (s : List Status) → IsNonsingularBasis p s → IsNonsingularBasis (objective_family p h theta) s

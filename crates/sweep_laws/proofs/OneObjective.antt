@@ -1,6 +1,7 @@
 -- What is done at a break of a parametric run of the objective is one thing.
 use Rattle.std.proofs.Common.{◌≡◌, ℕ, Bool, true, false, List, refl, sym, ap, ap₂, ◌∙◌, arith}
 use Rattle.std.specs.Prelude.{Option, Some, None, ◌&&◌, if◌then◌else◌}
+use Rattle.std.proofs.lemmas.Bool.{and_parts, and_right}
 use Rattle.exact_values.specs.Rational.{ℚ, zero_ℚ}
 use Rattle.exact_values.specs.Tests.{eq_ℚ, lt_ℚ}
 use Rattle.lp_definitions.specs.LinearProgram.{LinearProgram, Vector, size, IsRow, IsVariable, HasNoLimits, IsLinearProgram, for_min}
@@ -16,9 +17,10 @@ use Rattle.path_laws.proofs.OneTurn.{SameTableau}
 use Rattle.path_laws.proofs.Searches.{found_passes}
 use Rattle.postoptimal_definitions.specs.Chain.{FaceTurn, FaceMoves, FaceEnds, UnboundedPast}
 use Rattle.postoptimal_definitions.specs.ObjectiveRun.{objective_family, change_rate, face_mover, face_until, face_by, objective_face, IsObjectiveFace}
-use Rattle.sweep_laws.proofs.Leads.{and_parts, is_mover}
+use Rattle.sweep_laws.proofs.Leads.{is_mover}
 use Rattle.sweep_laws.proofs.Objective.{to_objective}
-use Rattle.sweep_laws.proofs.Alike.{same_tableau, listed_same, lowers_idle, lowers_same, stopper_same}
+use Rattle.path_laws.proofs.OneTurn.{listed_same, lowers_idle, lowers_same, stopper_same}
+use Rattle.path_laws.proofs.OnePath.{same_tableau}
 
 -- a row without limits is added to the objective
 pub lawful_objective : (p : LinearProgram) (h : ℕ) → IsLinearProgram p → IsRow p.matrix h → HasNoLimits p h → (theta : ℚ) → IsLinearProgram (objective_family p h theta)
@@ -31,10 +33,6 @@ lawful_objective p h lawful row free theta = record {
   objective_free = lawful.objective_free;
   change_free = (row, free);
 }
-
-pub and_false : (a b : Bool) → b ≡ false → (a && b) ≡ false
-and_false true b e = e
-and_false false b e = refl
 
 module _ (p : LinearProgram) (h : ℕ) (theta : ℚ) (s : List Status) (t u : Tableau) (lawful : IsLinearProgram p) (row : IsRow p.matrix h) (at : IsNonsingularBasis p s) (same : SameTableau p s t u) where
   rate_same : (q : ℕ) → IsNonbasic p.matrix (basics_of s) q → objective_rate p t.rate q ≡ objective_rate p u.rate q
@@ -51,10 +49,10 @@ module _ (p : LinearProgram) (h : ℕ) (theta : ℚ) (s : List Status) (t u : Ta
     where
       by_mark : (mark : Bool) → is_in (basics_of s) q ≡ mark → moves t q ≡ moves u q
       by_mark true mark =
-          and_false (eq_ℚ (objective_rate p t.rate q) zero_ℚ) (lowers p s (change_rate p h theta s t) q) (lowers_idle p s at (change_rate p h theta s t) q is mark)
-          ∙ sym (and_false (eq_ℚ (objective_rate p u.rate q) zero_ℚ) (lowers p s (change_rate p h theta s u) q) (lowers_idle p s at (change_rate p h theta s u) q is mark))
+          and_right (eq_ℚ (objective_rate p t.rate q) zero_ℚ) (lowers p s (change_rate p h theta s t) q) (lowers_idle p s at.is_basis (change_rate p h theta s t) q is mark)
+          ∙ sym (and_right (eq_ℚ (objective_rate p u.rate q) zero_ℚ) (lowers p s (change_rate p h theta s u) q) (lowers_idle p s at.is_basis (change_rate p h theta s u) q is mark))
       by_mark false mark =
-          ap₂ (λ r b. eq_ℚ r zero_ℚ && b) (rate_same q (is, mark)) (lowers_same p s at (change_rate p h theta s t) (change_rate p h theta s u) q is (change_same q))
+          ap₂ (λ r b. eq_ℚ r zero_ℚ && b) (rate_same q (is, mark)) (lowers_same p s at.is_basis (change_rate p h theta s t) (change_rate p h theta s u) q is (change_same q))
 
   mover_same : face_mover p h theta s t ≡ face_mover p h theta s u
   mover_same = find_same (moves t) (moves u) (size p.matrix) 1 (λ k low high. moves_same k (low, omega (arith, high)))

@@ -1,8 +1,8 @@
 -- What is done at a break of a parametric run of the right-hand side is one thing.
 use Rattle.std.proofs.Common.{◌≡◌, ℕ, Bool, true, false, List, length, refl, sym, ap, ap₂, ◌∙◌, arith}
-use Rattle.std.specs.Prelude.{Option, Some, None, not, ◌&&◌, ◌||◌, if◌then◌else◌, nat_eq}
+use Rattle.std.specs.Prelude.{Option, Some, None, not, ◌&&◌, ◌||◌}
 use Rattle.std.proofs.lemmas.List.{length-map}
-use Rattle.exact_values.specs.Rational.{ℚ, zero_ℚ, one_ℚ, neg_ℚ, ◌/ℚ◌}
+use Rattle.exact_values.specs.Rational.{ℚ, ◌/ℚ◌}
 use Rattle.exact_values.specs.Tests.{eq_ℚ, lt_ℚ, le_ℚ, magnitude}
 use Rattle.lp_definitions.specs.LinearProgram.{Matrix, LinearProgram, Vector, size, IsVariable, IsLinearProgram, ChangeIsFree, lower_of, upper_of}
 use Rattle.lp_definitions.specs.Basis.{is_in, basics_of, IsNonbasic, Tableau}
@@ -14,14 +14,14 @@ use Rattle.path_definitions.specs.Moves.{on_limit, signed}
 use Rattle.path_definitions.specs.Path.{ray_of, excess_rate}
 use Rattle.path_laws.specs.Laws.{IsNonsingularBasis}
 use Rattle.path_laws.proofs.Numbered.{find_same, list_all_same}
-use Rattle.path_laws.proofs.OneTurn.{SameTableau}
+use Rattle.path_laws.proofs.OnePath.{same_tableau}
+use Rattle.path_laws.proofs.OneTurn.{SameTableau, listed_same, lowers_idle, lowers_same, ray_same}
 use Rattle.path_laws.proofs.Searches.{found_passes}
 use Rattle.postoptimal_definitions.specs.Chain.{FaceTurn, FaceEnds, InfeasiblePast}
 use Rattle.path_definitions.specs.DualRatio.{brings_back, ratio, is_cheapest, cheapest}
 use Rattle.postoptimal_definitions.specs.RhsRun.{shift_of, shifted, rhs_family, IsSlope, leaves_below, leaves_above, leaving, face_exchange, face_at, rhs_face, IsRhsFace}
 use Rattle.changed_programs.proofs.MovedLimits.{free_to}
 use Rattle.sweep_laws.proofs.Rhs.{to_rhs}
-use Rattle.sweep_laws.proofs.Alike.{same_tableau, listed_same, lowers_idle, lowers_same}
 
 -- ---- each program of the family is one
 
@@ -62,10 +62,10 @@ module _ (p : LinearProgram) (shift : List ℚ) (theta : ℚ) (s : List Status) 
   -- the basic r, with the side on which it leaves
   module _ (r : ℕ) (is_r : IsVariable p.matrix r) (below : Bool) where
     brings_same : (q : ℕ) → IsVariable p.matrix q → brings_back p s t r below q ≡ brings_back p s u r below q
-    brings_same q is = lowers_same p s at (excess_rate t.rate r below) (excess_rate u.rate r below) q is (λ out. ap (signed (not below)) (same.rates r q is_r out))
+    brings_same q is = lowers_same p s at.is_basis (excess_rate t.rate r below) (excess_rate u.rate r below) q is (λ out. ap (signed (not below)) (same.rates r q is_r out))
 
     brings_idle : (t : Tableau) (v : Vector) (q : ℕ) → IsVariable p.matrix q → is_in (basics_of s) q ≡ true → brings_back p s t r below q ≡ false
-    brings_idle t v q is mark = lowers_idle p s at (excess_rate t.rate r below) q is mark
+    brings_idle t v q is mark = lowers_idle p s at.is_basis (excess_rate t.rate r below) q is mark
 
     ratio_same : (q : ℕ) → IsNonbasic p.matrix (basics_of s) q → ratio p s t r q ≡ ratio p s u r q
     ratio_same q out =
@@ -102,18 +102,9 @@ module _ (p : LinearProgram) (shift : List ℚ) (theta : ℚ) (s : List Status) 
     cheapest_same : cheapest p s t r below ≡ cheapest p s u r below
     cheapest_same = find_same (enters t v) (enters u w) (size p.matrix) 1 (λ k low high. enters_same k (low, omega (arith, high)))
 
-    ray_same : (k : ℕ) → IsVariable p.matrix k → ray_of (basics_of s) t.rate r below k ≡ ray_of (basics_of s) u.rate r below k
-    ray_same k is = by_mark (nat_eq k r) (is_in (basics_of s) k) refl
-      where
-        by_mark : (own mark : Bool) → is_in (basics_of s) k ≡ mark →
-            (if own then signed below (neg_ℚ one_ℚ) else (if mark then zero_ℚ else signed below (t.rate r k))) ≡ (if own then signed below (neg_ℚ one_ℚ) else (if mark then zero_ℚ else signed below (u.rate r k)))
-        by_mark true mark e = refl
-        by_mark false true e = refl
-        by_mark false false e = ap (signed below) (same.rates r k is_r (is, e))
-
     exchange_same : (o : Option ℕ) → face_exchange p shift theta s t v r below o ≡ face_exchange p shift theta s u w r below o
     exchange_same (Some q) = refl
-    exchange_same None = ap (λ xs. FaceEnds (InfeasiblePast theta xs)) (listed_same p.matrix (ray_of (basics_of s) t.rate r below) (ray_of (basics_of s) u.rate r below) ray_same)
+    exchange_same None = ap (λ xs. FaceEnds (InfeasiblePast theta xs)) (listed_same p.matrix (ray_of (basics_of s) t.rate r below) (ray_of (basics_of s) u.rate r below) (ray_same p s t u lawful at.is_basis same r is_r below))
 
   at_same : (o : Option ℕ) → ((r : ℕ) → o ≡ Some r → IsVariable p.matrix r) → face_at p shift theta s t v o ≡ face_at p shift theta s u w o
   at_same (Some r) found =

@@ -1,6 +1,7 @@
 -- A face step of a parametric run of the right-hand side leads from a nonsingular basis to a nonsingular basis.
 use Rattle.std.proofs.Common.{◌≡◌, ◌≢◌, ℕ, Bool, true, false, List, refl, sym, ap, subst, ◌∙◌}
 use Rattle.std.specs.Prelude.{Option, Some, None, not, ◌&&◌, ◌||◌, if◌then◌else◌}
+use Rattle.std.proofs.lemmas.Bool.{and_parts}
 use Rattle.exact_values.specs.Rational.{ℚ, zero_ℚ}
 use Rattle.exact_values.specs.Tests.{eq_ℚ, lt_ℚ}
 use Rattle.lp_definitions.specs.LinearProgram.{LinearProgram, Vector, IsVariable, lower_of, upper_of}
@@ -15,7 +16,8 @@ use Rattle.postoptimal_definitions.specs.Chain.{FaceMoves}
 use Rattle.path_definitions.specs.DualRatio.{brings_back, is_cheapest, cheapest}
 use Rattle.postoptimal_definitions.specs.RhsRun.{shift_of, rhs_family, leaves_below, leaves_above, leaving, face_exchange, face_at, rhs_face, IsRhsFace}
 use Rattle.changed_programs.proofs.MovedLimits.{basis_to, basis_from}
-use Rattle.sweep_laws.proofs.Leads.{and_parts, IsMover, is_mover, signed_zero, MayStand, lower_apart, upper_apart, exchange_leads}
+use Rattle.path_laws.proofs.Steps.{MayStand, signed_zero, lower_apart, upper_apart, exchange_leads}
+use Rattle.sweep_laws.proofs.Leads.{IsMover, is_mover}
 
 -- the programs have the same nonsingular bases
 module _ (p : LinearProgram) (shift : List ℚ) (theta : ℚ) (s : List Status) where
@@ -90,7 +92,7 @@ module _ (p : LinearProgram) (shift : List ℚ) (theta : ℚ) (s : List Status) 
 
     exchange_is : IsNonsingularBasis p (after s m)
     exchange_is = subst (λ m. IsNonsingularBasis p (after s m)) (sym move.gives)
-        (exchange_leads p s t at tab r q (if below r then Ll else Ul) (found.0, tests.0) mover.nonbasic stands pivot)
+        (exchange_leads p s t at.is_basis at.nonsingular tab r q (if below r then Ll else Ul) (found.0, tests.0) mover.nonbasic stands pivot).at
 
   move_leads : (m : Move) → IsNonsingularBasis p s → IsTableau p s t → rhs_face p shift theta s t v ≡ FaceMoves m → IsNonsingularBasis p (after s m)
   move_leads m at tab e = let move = face_move m e in exchange_is at tab m move.0 move.1 move.2

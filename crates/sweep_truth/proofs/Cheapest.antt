@@ -1,6 +1,7 @@
 -- Where no variable is found to bring a basic back, none may.
 use Rattle.std.proofs.Common.{◌≡◌, ℕ, zero, suc, ◌+◌, ◌<◌, ◌≤◌, ◌⊎◌, inl, inr, Bool, true, false, List, refl, sym, ap₂, ◌∙◌, arith}
 use Rattle.std.specs.Prelude.{None, not, ◌&&◌, ◌||◌}
+use Rattle.std.proofs.lemmas.Bool.{or_right}
 use Rattle.exact_values.specs.Rational.{ℚ, ◌≤ℚ◌}
 use Rattle.exact_values.specs.Tests.{le_ℚ}
 use Rattle.exact_values.proofs.Order.{le_refl, le_trans, le_total}
@@ -12,10 +13,6 @@ use Rattle.lp_laws.proofs.Values.{clash}
 use Rattle.path_definitions.specs.DualRatio.{brings_back, ratio, is_cheapest, cheapest}
 use Rattle.path_laws.proofs.Numbered.{from_first, list_all_from}
 use Rattle.path_laws.proofs.Searches.{none_passes}
-
-or_right : (a b : Bool) → b ≡ true → (a || b) ≡ true
-or_right true b e = refl
-or_right false b e = e
 
 -- what is no greater than one number that is no greater than a second one
 no_greater : (a : Bool) (x y z : ℚ) → x ≤ℚ y → (not a || le_ℚ y z) ≡ true → (not a || le_ℚ x z) ≡ true

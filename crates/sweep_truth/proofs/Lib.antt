@@ -7,6 +7,5 @@ pub mod ObjectiveEnds
 pub mod RhsSlopes
 pub mod RhsGrowth
 pub mod Cheapest
-pub mod StuckRays
 pub mod RhsEnds
 pub mod Runs

@@ -1,32 +1,30 @@
 -- In a run of the objective the point stays feasible at a break, and a direction in which nothing stops the change row proves for
 -- every greater value that the program is unbounded.
 use Rattle.std.proofs.Common.{◌≡◌, ◌≢◌, ℕ, Bool, true, false, List, refl, sym, subst, pos}
-use Rattle.std.specs.Prelude.{Option, Some, None, ◌&&◌, option_map, if◌then◌else◌}
-use Rattle.exact_values.specs.Rational.{ℚ, zero_ℚ, one_ℚ, neg_ℚ, ◌+ℚ◌, ◌-ℚ◌, ◌*ℚ◌, ◌/ℚ◌, ◌<ℚ◌}
+use Rattle.std.specs.Prelude.{Option, Some, None, ◌&&◌}
+use Rattle.std.proofs.lemmas.Bool.{and_parts}
+use Rattle.exact_values.specs.Rational.{ℚ, zero_ℚ, one_ℚ, neg_ℚ, ◌+ℚ◌, ◌-ℚ◌, ◌*ℚ◌, ◌<ℚ◌}
 use Rattle.exact_values.specs.Tests.{eq_ℚ, lt_ℚ}
-use Rattle.exact_values.proofs.Ring.{by_ring1, by_ring3, by_ring4, same_by_one, ◌⊕◌, ◌⊖◌, ◌⊗◌, ◌≐◌, number, opposite}
-use Rattle.exact_values.proofs.Order.{le_of_lt, lt_from_le, lt_by_product}
-use Rattle.exact_values.proofs.Tests_laws.{test_from_lt, lt_fails_from_le}
-use Rattle.lp_definitions.specs.LinearProgram.{Matrix, LinearProgram, Vector, value_at, IsRow, IsVariable, HasNoLimits, IsLinearProgram, KeepsEquations, lower_of, upper_of, for_min, objective_value}
+use Rattle.exact_values.proofs.Ring.{by_ring3, by_ring4, same_by_one, ◌⊕◌, ◌⊖◌, ◌⊗◌, ◌≐◌, number, opposite}
+use Rattle.exact_values.proofs.Order.{lt_from_le, lt_by_product}
+use Rattle.lp_definitions.specs.LinearProgram.{LinearProgram, Vector, value_at, IsRow, HasNoLimits, IsLinearProgram, for_min, objective_value}
 use Rattle.lp_definitions.specs.Solutions.{IsFeasible, ProvesUnbounded}
 use Rattle.lp_definitions.specs.Basis.{IsOptimalBasis, Tableau, IsTableau, objective_rate}
 use Rattle.lp_definitions.specs.declared.Sense.{Sense}
 use Rattle.lp_definitions.specs.declared.Sense.TheVariants.{Min, Max}
 use Rattle.lp_definitions.specs.declared.Status.{Status}
 use Rattle.lp_laws.proofs.Duality.{unbounded_by_direction}
-use Rattle.lp_laws.proofs.Equations.{KeepsEquations-same, KeepsEquations-scale}
 use Rattle.lp_laws.proofs.Uniqueness.{one_point}
-use Rattle.path_definitions.specs.Moves.{signed, goes_up, lowers, room, stopper}
+use Rattle.path_definitions.specs.Moves.{signed, goes_up, lowers, stopper}
 use Rattle.path_definitions.specs.Path.{Move, after, listed, speeds, stopped_by}
 use Rattle.path_laws.specs.Laws.{IsNonsingularBasis}
-use Rattle.path_laws.proofs.Endless.{objective_value-same}
-use Rattle.path_laws.proofs.Ends.{IsFeasible-same, value_at-listed}
+use Rattle.path_laws.proofs.Endless.{keeps-signed, motion_proves}
+use Rattle.path_laws.proofs.Ends.{IsFeasible-same}
 use Rattle.path_laws.proofs.Searches.{found_passes}
-use Rattle.path_laws.proofs.Stoppers.{stopper_none}
 use Rattle.path_laws.proofs.Tests.{lt_true, lt_false, eq_true, neg_below}
 use Rattle.postoptimal_definitions.specs.Chain.{ChainEnd, UnboundedPast, FaceMoves, FaceEnds}
 use Rattle.postoptimal_definitions.specs.ObjectiveRun.{objective_family, change_rate, face_mover, face_until, face_by, objective_face, IsObjectiveFace}
-use Rattle.sweep_laws.proofs.Leads.{and_parts, IsMover, is_mover}
+use Rattle.sweep_laws.proofs.Leads.{IsMover, is_mover}
 use Rattle.sweep_laws.proofs.Objective.{to_objective}
 use Rattle.sweep_laws.proofs.OneObjective.{lawful_objective}
 use Rattle.sweep_truth.specs.Truth.{IsEndlessBy, IsTrueEnd}
@@ -132,22 +130,6 @@ objective_kept p h theta s m at have face =
 
 -- ---- a direction without end
 
--- nothing is ahead of a variable that falls, or of one that rises
-none_from : (o : Option ℚ) (z v : ℚ) → option_map (λ l. (l -ℚ z) /ℚ v) o ≡ None → o ≡ None
-none_from None z v e = refl
-none_from (Some l) z v e = cc
-
-nothing_below : (low high : Option ℚ) (z v : ℚ) → option_map (λ l. (l -ℚ z) /ℚ v) (if lt_ℚ zero_ℚ v then high else (if lt_ℚ v zero_ℚ then low else None)) ≡ None → v <ℚ zero_ℚ → low ≡ None
-nothing_below low high z v e falls = none_from low z v (rw (lt_fails_from_le zero_ℚ v (le_of_lt falls), test_from_lt v zero_ℚ falls) at e)
-
-nothing_above : (low high : Option ℚ) (z v : ℚ) → option_map (λ l. (l -ℚ z) /ℚ v) (if lt_ℚ zero_ℚ v then high else (if lt_ℚ v zero_ℚ then low else None)) ≡ None → zero_ℚ <ℚ v → high ≡ None
-nothing_above low high z v e rises = none_from high z v (rw (test_from_lt zero_ℚ v rises) at e)
-
-keeps_signed : (a : Matrix) (up : Bool) (d : Vector) → KeepsEquations a d → KeepsEquations a (λ k. signed up (d k))
-keeps_signed a true d keeps = keeps
-keeps_signed a false d keeps =
-    KeepsEquations-same a (λ k. neg_ℚ one_ℚ *ℚ d k) (λ k. neg_ℚ (d k)) (λ k is. by_ring1 (d k) (λ d. opposite (number (pos 1)) ⊗ d ≐ opposite d) refl) (KeepsEquations-scale a (neg_ℚ one_ℚ) d keeps)
-
 -- past theta the objective betters: its rate is 0 at theta, and theta's part betters
 value_past : (sense : Sense) (up : Bool) (o h theta x : ℚ) → o +ℚ theta *ℚ h ≡ zero_ℚ → for_min sense (signed up o +ℚ x *ℚ signed up h) ≡ (x -ℚ theta) *ℚ signed up (for_min sense h)
 value_past Min true o h theta x e = same_by_one one_ℚ e (by_ring4 o h theta x (λ o h y x. o ⊕ x ⊗ h ≐ (x ⊖ y) ⊗ h ⊕ number (pos 1) ⊗ (o ⊕ y ⊗ h ⊖ number (pos 0))) refl)
@@ -177,17 +159,8 @@ module _ (p : LinearProgram) (h : ℕ) (theta : ℚ) (s : List Status) (t : Tabl
   abbrev d : Vector
   d = motion (objective_family p h theta) h theta s t q
 
-  at_point : (k : ℕ) → IsVariable p.matrix k → t.point k ≡ value_at (listed p.matrix t.point) k
-  at_point k is = sym (value_at-listed p.matrix t.point k is)
-
-  at_direction : (k : ℕ) → IsVariable p.matrix k → d k ≡ value_at (listed p.matrix d) k
-  at_direction k is = sym (value_at-listed p.matrix d k is)
-
   feasible_here : IsFeasible (objective_family p h theta) t.point
   feasible_here = tableau_feasible (objective_family p h theta) s t (to_objective p h theta s at) tab (to_family p h theta s have)
-
-  nothing_ahead : (k : ℕ) → IsVariable p.matrix k → room (objective_family p h theta) t.point d k ≡ None
-  nothing_ahead = stopper_none (objective_family p h theta) t.point d stops
 
   betters : for_min p.sense (objective_value (objective_family p h x) d) <ℚ zero_ℚ
   betters =
@@ -198,14 +171,8 @@ module _ (p : LinearProgram) (h : ℕ) (theta : ℚ) (s : List Status) (t : Tabl
   endless = record { proof = proof; unbounded = unbounded_by_direction (objective_family p h x) (value_at (listed p.matrix t.point)) (value_at (listed p.matrix d)) proof }
     where
       proof : ProvesUnbounded (objective_family p h x) (value_at (listed p.matrix t.point)) (value_at (listed p.matrix d))
-      proof = record {
-        feasible = IsFeasible-same (objective_family p h x) t.point (value_at (listed p.matrix t.point)) at_point (record { keeps = feasible_here.keeps; within = feasible_here.within });
-        keeps = KeepsEquations-same p.matrix d (value_at (listed p.matrix d)) at_direction
-            (keeps_signed p.matrix (goes_up (change_rate (objective_family p h theta) h theta s t) q) (λ i. t.rate i q) (tab.are_rates q mover.mover.nonbasic).keeps);
-        falls = λ k is down. nothing_below (lower_of p k) (upper_of p k) (t.point k) (d k) (nothing_ahead k is) (subst (λ y. y <ℚ zero_ℚ) (sym (at_direction k is)) down);
-        rises = λ k is up. nothing_above (lower_of p k) (upper_of p k) (t.point k) (d k) (nothing_ahead k is) (subst (λ y. zero_ℚ <ℚ y) (sym (at_direction k is)) up);
-        betters = subst (λ y. for_min p.sense y <ℚ zero_ℚ) (objective_value-same (objective_family p h x) d (value_at (listed p.matrix d)) (lawful x) at_direction) betters;
-      }
+      proof = motion_proves (objective_family p h x) t.point d (lawful x) (record { keeps = feasible_here.keeps; within = feasible_here.within })
+          (keeps-signed p.matrix (goes_up (change_rate (objective_family p h theta) h theta s t) q) (λ i. t.rate i q) (tab.are_rates q mover.mover.nonbasic).keeps) stops betters
 
 pub objective_closes : (p : LinearProgram) (h : ℕ) → IsLinearProgram p → IsRow p.matrix h → HasNoLimits p h → (theta max : ℚ) (s : List Status) (end : ChainEnd) → IsNonsingularBasis p s → theta <ℚ max →
     HasFeasiblePoint p s → IsObjectiveFace p h theta s (FaceEnds end) → IsTrueEnd (objective_family p h) max theta end

@@ -1,6 +1,7 @@
 -- In a run of the objective an interval past a break is longer than a point.
 use Rattle.std.proofs.Common.{◌≡◌, ℕ, Bool, true, false, List, refl, sym, ap, ap₂, ◌∙◌, pos, subst}
 use Rattle.std.specs.Prelude.{Option, Some, None, ◌&&◌, ◌||◌}
+use Rattle.std.proofs.lemmas.Bool.{or_right}
 use Rattle.exact_values.specs.Rational.{ℚ, zero_ℚ, neg_ℚ, ◌+ℚ◌, ◌*ℚ◌, ◌<ℚ◌}
 use Rattle.exact_values.specs.Tests.{eq_ℚ, lt_ℚ}
 use Rattle.exact_values.proofs.Ring.{by_ring1, by_ring3, ◌⊕◌, ◌⊗◌, ◌≐◌, number, opposite}
@@ -55,10 +56,6 @@ record IsStill (w v x : ℚ) (rises falls : Bool) : Type 0 where
   zero_rate : w +ℚ x *ℚ v ≡ zero_ℚ
   moves : ((lt_ℚ v zero_ℚ && rises) || (lt_ℚ zero_ℚ v && falls)) ≡ true
 
-or_true : (a : Bool) → (a || true) ≡ true
-or_true true = refl
-or_true false = refl
-
 if_there : (may : Bool) (a b : ℚ) (c : Condition) → condition_if may a b ≡ Some c → (may ≡ true) × (condition a b ≡ c)
 if_there true a b c e = let same : condition a b ≡ c = cc in (refl, same)
 if_there false a b c e = cc
@@ -69,7 +66,7 @@ still_first w v x rises falls may ends = record { zero_rate = ends.is_zero; move
 still_second : (w v x : ℚ) (rises falls : Bool) → falls ≡ true → EndsAt x (condition (neg_ℚ w) (neg_ℚ v)) → IsStill w v x rises falls
 still_second w v x rises falls may ends = record {
   zero_rate = by_ring3 w x v (λ w x v. w ⊕ x ⊗ v ≐ opposite (opposite w ⊕ x ⊗ opposite v)) refl ∙ ap neg_ℚ ends.is_zero ∙ by_ring1 v (λ v. opposite (number (pos 0)) ≐ number (pos 0)) refl;
-  moves = rw (test_from_lt zero_ℚ v above, may) (or_true (lt_ℚ v zero_ℚ && rises));
+  moves = rw (test_from_lt zero_ℚ v above, may) (or_right (lt_ℚ v zero_ℚ && rises) true refl);
 }
   where
     above : zero_ℚ <ℚ v

@@ -2,6 +2,7 @@
 -- value that the program is infeasible.
 use Rattle.std.proofs.Common.{◌≡◌, ℕ, ◌⊎◌, inl, inr, Bool, true, false, List, refl, sym, ap, subst, ◌∙◌, pos, arith}
 use Rattle.std.specs.Prelude.{Option, Some, None, ◌&&◌, ◌||◌}
+use Rattle.std.proofs.lemmas.Bool.{and_parts}
 use Rattle.exact_values.specs.Rational.{ℚ, zero_ℚ, one_ℚ, ◌+ℚ◌, ◌-ℚ◌, ◌*ℚ◌, ◌<ℚ◌}
 use Rattle.exact_values.specs.Tests.{eq_ℚ, lt_ℚ}
 use Rattle.exact_values.proofs.Ring.{by_ring4, by_ring5, same_by_one, ◌⊕◌, ◌⊖◌, ◌⊗◌, ◌≐◌, number}
@@ -20,17 +21,15 @@ use Rattle.path_definitions.specs.Path.{listed, ray_of, excess_rate}
 use Rattle.path_definitions.specs.DualRatio.{cheapest}
 use Rattle.path_laws.specs.Laws.{IsNonsingularBasis}
 use Rattle.path_laws.proofs.Ends.{right, value_at-listed}
-use Rattle.path_laws.proofs.Rays.{Breaks, breaks_lower, breaks_upper}
+use Rattle.path_laws.proofs.Rays.{Breaks, breaks_lower, breaks_upper, ray_is, IsRay-same}
 use Rattle.path_laws.proofs.Searches.{found_passes}
 use Rattle.path_laws.proofs.Tests.{lt_true, eq_true}
 use Rattle.postoptimal_definitions.specs.Chain.{ChainEnd, InfeasiblePast, FaceEnds}
 use Rattle.postoptimal_definitions.specs.RhsRun.{shift_of, rhs_family, IsSlope, leaves_below, leaves_above, leaving, face_exchange, face_at, rhs_face, IsRhsFace}
 use Rattle.changed_programs.proofs.MovedLimits.{moved, lower_is, upper_is, fixed_at, free_unshifted}
-use Rattle.sweep_laws.proofs.Leads.{and_parts}
 use Rattle.sweep_laws.proofs.Rhs.{to_rhs}
 use Rattle.sweep_truth.specs.Truth.{IsRefutedBy, IsTrueEnd}
 use Rattle.sweep_truth.proofs.Cheapest.{cheapest_none}
-use Rattle.sweep_truth.proofs.StuckRays.{ray_is, IsRay-same}
 
 -- ---- what is done at a break
 
@@ -177,7 +176,7 @@ module _ (p : LinearProgram) (shift : List ℚ) (theta : ℚ) (s : List Status) 
   refuted =
       let is : IsRay (rhs_family p shift x) (value_at (listed p.matrix ray)) =
       IsRay-same (rhs_family p shift x) ray (value_at (listed p.matrix ray)) (λ k is. sym (value_at-listed p.matrix ray k is))
-      (ray_is (rhs_family p shift x) s (record { point = later; rate = t.rate }) (to_rhs p shift x s at) (record { is_point = later_point; are_rates = tab.are_rates })
+      (ray_is (rhs_family p shift x) s (record { point = later; rate = t.rate }) (to_rhs p shift x s at).is_basis at.nonsingular (record { is_point = later_point; are_rates = tab.are_rates })
       stuck.r below (found.0, tests.0) breaks_later idle) in
       record { ray = is; infeasible = infeasible_by_ray (rhs_family p shift x) (value_at (listed p.matrix ray)) is }
 

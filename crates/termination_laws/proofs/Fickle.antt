@@ -8,6 +8,7 @@ use Rattle.lp_definitions.specs.Basis.{status_of, with_status, is_basic, IsBasis
 use Rattle.lp_definitions.specs.declared.Status.{Status}
 use Rattle.lp_definitions.specs.declared.Status.TheVariants.{Bs}
 use Rattle.lp_laws.proofs.Statuses.{basic_from, changed_own, changed_other}
+use Rattle.lp_laws.proofs.Values.{clash}
 use Rattle.path_definitions.specs.Path.{after}
 use Rattle.termination_laws.proofs.Walks.{Visit, In, IsWalk, Turned, turn_to}
 
@@ -124,10 +125,7 @@ module _ (p : LinearProgram) where
         by_mark true e =
             let basic = basic_from (status_of s k) e in
             subst (λ st. Rests k st v) (sym basic) ((stays_basic s s vs walk ex never basic).0 v i)
-        by_mark false e = stays_out (status_of s k) s s vs walk ex never refl (λ basic. clashes (sym (ap is_basic basic) ∙ e)) v i
-          where
-            clashes : true ≡ false → ⊥
-            clashes h = cc
+        by_mark false e = stays_out (status_of s k) s s vs walk ex never refl (λ basic. clash (sym (ap is_basic basic) ∙ e)) v i
 
     -- where it comes in again it has the status that it had
     record ComesIn (st : Status) (vs : List Visit) : Type 0 where

@@ -21,11 +21,11 @@ use Rattle.path_definitions.specs.Path.{excess_rate, mover}
 use Rattle.path_laws.specs.Laws.{IsNonsingularBasis}
 use Rattle.path_laws.proofs.Numbered.{find_none, find_some}
 use Rattle.path_laws.proofs.Turns.{IsFirstPhase}
-use Rattle.path_laws.proofs.Ends.{right}
+use Rattle.path_laws.proofs.Ends.{right, inside, low_of, high_of}
 use Rattle.path_laws.proofs.Endless.{enters, IsEntering}
 use Rattle.path_laws.proofs.Rays.{Breaks, breaks_lower, breaks_upper, broken_basic, broken_limit}
 use Rattle.termination_laws.proofs.Numbers.{find_before, against_product, still_product, weighed, sum_positive, signed_sum}
-use Rattle.termination_laws.proofs.Resting.{StopsAt, idle_stops, moving, comes_back, inside, low_of, high_of}
+use Rattle.termination_laws.proofs.Resting.{StopsAt, idle_stops, moving, comes_back}
 
 and_right : (a b : Bool) → (a && b) ≡ false → a ≡ true → b ≡ false
 and_right true b e h = e

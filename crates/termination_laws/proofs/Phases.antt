@@ -17,14 +17,13 @@ use Rattle.path_definitions.specs.Moves.{is_below, room}
 use Rattle.path_definitions.specs.Path.{Moves, after, IsStep, stopped_by, excess_rate, turn}
 use Rattle.path_laws.specs.Laws.{IsNonsingularBasis, IsNoWorse}
 use Rattle.path_laws.proofs.Turns.{IsFirstPhase, IsBroughtTurn, IsStoppedTurn, MovingRule, brings, stops, bettering, moving_turn, rule_of}
-use Rattle.path_laws.proofs.Ends.{feasible, IsFeasible-same}
+use Rattle.path_laws.proofs.Ends.{feasible, IsFeasible-same, low_of, high_of}
 use Rattle.path_laws.proofs.Endless.{IsEntering, enters, objective_value-same}
 use Rattle.path_laws.proofs.Rays.{Breaks, breaks_lower, breaks_upper, broken_basic, broken_limit}
 use Rattle.path_laws.proofs.Steps.{step_leads}
 use Rattle.path_laws.proofs.Second.{feasible_step}
 use Rattle.termination_laws.proofs.Walks.{Visit, In, IsWalk, Turned, turn_to}
 use Rattle.termination_laws.proofs.Fickle.{Exchanges, FicklePair, fickle_pair}
-use Rattle.termination_laws.proofs.Resting.{low_of, high_of}
 use Rattle.termination_laws.proofs.Runs.{IsRun, run_of, move_is, entered, k_is, run_no_worse, no_length, stopped_leaves, mover_enters, reached_apart}
 use Rattle.termination_laws.proofs.FirstClash.{first_clash}
 use Rattle.termination_laws.proofs.SecondClash.{second_clash}

@@ -1,24 +1,23 @@
 -- What the status of a nonbasic tells of its motion: one that may not move stands at the limit ahead, and one that may doesn't.
 use Rattle.std.proofs.Common.{◌≡◌, ◌≢◌, ◌⊎◌, inl, inr, Bool, true, false, pos, refl, sym, ap, subst, ◌∙◌}
-use Rattle.std.specs.Prelude.{Option, Some, None, IfSome, not, ◌&&◌, ◌||◌, option_map, if◌then◌else◌}
+use Rattle.std.specs.Prelude.{Option, Some, None, not, ◌&&◌, ◌||◌, option_map, if◌then◌else◌}
+use Rattle.std.proofs.lemmas.Bool.{or_cases}
+use Rattle.std.proofs.lemmas.Option.{same_Some}
 use Rattle.exact_values.specs.Rational.{ℚ, zero_ℚ, ◌-ℚ◌, ◌*ℚ◌, ◌/ℚ◌, ◌≤ℚ◌, ◌<ℚ◌}
 use Rattle.exact_values.specs.Tests.{lt_ℚ, eq_ℚ}
 use Rattle.exact_values.proofs.Ring.{by_ring2, by_ring3, ◌⊕◌, ◌⊖◌, ◌⊗◌, ◌≐◌, number}
 use Rattle.exact_values.proofs.Ring_laws.{zero-mul}
 use Rattle.exact_values.proofs.Tests_laws.{apart_from_eq_fails}
 use Rattle.exact_values.proofs.Inverse.{div-mul_cancel, div_is}
-use Rattle.exact_values.proofs.Order.{le_refl, le_of_lt, lt_irrefl, lt_not_le, lt_by_product, le_antisymm, apart_from_above, apart_from_below}
+use Rattle.exact_values.proofs.Order.{le_of_lt, lt_irrefl, lt_not_le, lt_by_product, le_antisymm, apart_from_above, apart_from_below}
 use Rattle.lp_definitions.specs.Basis.{is_basic, IsAllowed, StandsAt, IsRightAt}
 use Rattle.lp_definitions.specs.declared.Status.{Status}
 use Rattle.lp_definitions.specs.declared.Status.TheVariants.{Bs, Ll, Ul, Fr}
 use Rattle.lp_laws.proofs.Values.{same_from_difference}
-use Rattle.path_definitions.specs.Moves.{on_limit, on_limits, rises_from, falls_from}
+use Rattle.path_definitions.specs.Moves.{on_limits, rises_from, falls_from}
 use Rattle.path_laws.proofs.Tests.{lt_true, lt_false}
 use Rattle.path_laws.proofs.Rays.{Breaks, breaks_lower, breaks_upper}
 use Rattle.termination_laws.proofs.Numbers.{Against}
-
-pub some_value : {a b : ℚ} → Some a ≡ Some b → a ≡ b
-some_value e = cc
 
 -- the variable stands at the limit towards which it would lower the quantity
 pub record StopsAt (low high : Option ℚ) (z w : ℚ) : Type 0 where
@@ -46,10 +45,6 @@ pub data Moving (st : Status) (fixed : Bool) (w : ℚ) : Type 0 where
   rising_from : w <ℚ zero_ℚ → rises_from st ≡ true → fixed ≡ false → Moving st fixed w
   falling_from : zero_ℚ <ℚ w → falls_from st ≡ true → fixed ≡ false → Moving st fixed w
 
-or_true : (a b : Bool) → (a || b) ≡ true → (a ≡ true) ⊎ (b ≡ true)
-or_true true b e = inl refl
-or_true false b e = inr e
-
 all_true : (a b c : Bool) → (a && (b && not c)) ≡ true → (a ≡ true) × (b ≡ true) × (c ≡ false)
 all_true true true false e = (refl, refl, refl)
 all_true true true true e = cc
@@ -57,7 +52,7 @@ all_true true false c e = cc
 all_true false b c e = cc
 
 pub moving : (st : Status) (fixed : Bool) (w : ℚ) → ((lt_ℚ w zero_ℚ && (rises_from st && not fixed)) || (lt_ℚ zero_ℚ w && (falls_from st && not fixed))) ≡ true → Moving st fixed w
-moving st fixed w e = by_way (or_true _ _ e)
+moving st fixed w e = by_way (or_cases _ _ e)
   where
     by_way : (((lt_ℚ w zero_ℚ && (rises_from st && not fixed)) ≡ true) ⊎ ((lt_ℚ zero_ℚ w && (falls_from st && not fixed)) ≡ true)) → Moving st fixed w
     by_way (inl h) = let parts = all_true _ _ _ h in rising_from (lt_true w zero_ℚ parts.0) parts.1 parts.2
@@ -75,12 +70,12 @@ room_to limit z d = option_map (λ l. (l -ℚ z) /ℚ d) limit
 room_none : (limit : Option ℚ) (z d : ℚ) → d ≢ zero_ℚ → room_to limit z d ≡ Some zero_ℚ → limit ≡ Some z
 room_none None z d apart e = cc
 room_none (Some l) z d apart e =
-    ap (λ v. Some v) (same_from_difference l z (sym (div-mul_cancel (l -ℚ z) d apart) ∙ ap (λ x. x *ℚ d) (some_value e) ∙ zero-mul d))
+    ap (λ v. Some v) (same_from_difference l z (sym (div-mul_cancel (l -ℚ z) d apart) ∙ ap (λ x. x *ℚ d) (same_Some _ _ e) ∙ zero-mul d))
 
 none_room : (limit : Option ℚ) (z d : ℚ) → d ≢ zero_ℚ → limit ≡ Some z → room_to limit z d ≡ Some zero_ℚ
 none_room None z d apart e = cc
 none_room (Some l) z d apart e =
-    ap (λ v. Some v) (div_is (l -ℚ z) d zero_ℚ apart (ap (λ x. x -ℚ z) (some_value e) ∙ by_ring2 z d (λ z d. z ⊖ z ≐ number (pos 0) ⊗ d) refl))
+    ap (λ v. Some v) (div_is (l -ℚ z) d zero_ℚ apart (ap (λ x. x -ℚ z) (same_Some _ _ e) ∙ by_ring2 z d (λ z d. z ⊖ z ≐ number (pos 0) ⊗ d) refl))
 
 -- where it stands at the limit ahead, there is no room
 pub no_room : (low high : Option ℚ) (z d : ℚ) → (zero_ℚ <ℚ d → high ≡ Some z) → (d <ℚ zero_ℚ → low ≡ Some z) → d ≢ zero_ℚ → room_to (ahead low high d) z d ≡ Some zero_ℚ
@@ -126,7 +121,7 @@ comes_back st fixed low high z y e below is stands moving (breaks_lower l at_low
   where
     lower : (st : Status) → st ≡ Ll → StandsAt st low high z → Moving st fixed e → zero_ℚ <ℚ (y -ℚ z) *ℚ e
     lower Ll same at_z (rising_from h up free) =
-        let l_is : l ≡ z = some_value (sym limit ∙ at_z) in
+        let l_is : l ≡ z = same_Some _ _ (sym limit ∙ at_z) in
         lt_by_product (subst (λ x. y <ℚ x) l_is broken) h (by_ring3 y z e (λ y z e. (y ⊖ z) ⊗ e ≐ number (pos 0) ⊕ (z ⊖ y) ⊗ (number (pos 0) ⊖ e)) refl)
     lower Ll same at_z (falling_from h down free) = cc
     lower Bs same at_z moves = cc
@@ -136,47 +131,9 @@ comes_back st fixed low high z y e below is stands moving (breaks_upper u at_hig
   where
     upper : (st : Status) → st ≡ Ul → StandsAt st low high z → Moving st fixed e → zero_ℚ <ℚ (y -ℚ z) *ℚ e
     upper Ul same at_z (falling_from h down free) =
-        let u_is : u ≡ z = some_value (sym limit ∙ at_z) in
+        let u_is : u ≡ z = same_Some _ _ (sym limit ∙ at_z) in
         lt_by_product (subst (λ x. x <ℚ y) u_is broken) h (by_ring3 y z e (λ y z e. (y ⊖ z) ⊗ e ≐ number (pos 0) ⊕ (y ⊖ z) ⊗ (e ⊖ number (pos 0))) refl)
     upper Ul same at_z (rising_from h up free) = cc
     upper Bs same at_z moves = cc
     upper Ll same at_z moves = cc
     upper Fr same at_z moves = cc
-
--- ---- within limits
-
-or_false : (a b : Bool) → (a || b) ≡ false → (a ≡ false) × (b ≡ false)
-or_false true b e = cc
-or_false false b e = (refl, e)
-
-below_none : (z : ℚ) (low : Option ℚ) → on_limit (λ l. lt_ℚ z l) low ≡ false → IfSome low (λ l. l ≤ℚ z)
-below_none z None e = tt
-below_none z (Some l) e = lt_false z l e
-
-above_none : (z : ℚ) (high : Option ℚ) → on_limit (λ u. lt_ℚ u z) high ≡ false → IfSome high (λ u. z ≤ℚ u)
-above_none z None e = tt
-above_none z (Some u) e = lt_false u z e
-
-from_lower : (z : ℚ) (high : Option ℚ) → on_limits (λ l u. lt_ℚ u l) (Some z) high ≡ false → IfSome high (λ u. z ≤ℚ u)
-from_lower z None e = tt
-from_lower z (Some u) e = lt_false u z e
-
-from_upper : (z : ℚ) (low : Option ℚ) → on_limits (λ l u. lt_ℚ u l) low (Some z) ≡ false → IfSome low (λ l. l ≤ℚ z)
-from_upper z None e = tt
-from_upper z (Some l) e = lt_false z l e
-
--- a nonbasic at limits that are not crossed, or a basic that breaks none, is within its limits
-pub inside : (st : Status) (low high : Option ℚ) (z : ℚ) → IsAllowed st low high → StandsAt st low high z → on_limits (λ l u. lt_ℚ u l) low high ≡ false →
-    (is_basic st ≡ true → (on_limit (λ l. lt_ℚ z l) low || on_limit (λ u. lt_ℚ u z) high) ≡ false) → IfSome low (λ l. l ≤ℚ z) × IfSome high (λ u. z ≤ℚ u)
-inside Bs low high z allowed stands uncrossed basic = let h = or_false _ _ (basic refl) in (below_none z low h.0, above_none z high h.1)
-inside Ll low high z allowed stands uncrossed basic = (rw stands (le_refl z), from_lower z high (rw stands at uncrossed))
-inside Ul low high z allowed stands uncrossed basic = (from_upper z low (rw stands at uncrossed), rw stands (le_refl z))
-inside Fr low high z allowed stands uncrossed basic = (rw allowed.0 tt, rw allowed.1 tt)
-
-pub low_of : (low : Option ℚ) (z l : ℚ) → IfSome low (λ l. l ≤ℚ z) → low ≡ Some l → l ≤ℚ z
-low_of None z l h e = cc
-low_of (Some m) z l h e = subst (λ y. y ≤ℚ z) (some_value e) h
-
-pub high_of : (high : Option ℚ) (z u : ℚ) → IfSome high (λ u. z ≤ℚ u) → high ≡ Some u → z ≤ℚ u
-high_of None z u h e = cc
-high_of (Some m) z u h e = subst (λ y. z ≤ℚ y) (some_value e) h

@@ -1,10 +1,9 @@
 -- In the second phase, at one point, the variable that was stopped is not the one to come in again, where nothing past it has changed.
-use Rattle.std.proofs.Common.{◌≡◌, ◌≢◌, ℕ, suc, ◌<◌, ◌≤◌, ◌⊎◌, inl, inr, Bool, true, false, List, pos, refl, sym, ap, subst, ◌∙◌, arith}
+use Rattle.std.proofs.Common.{◌≡◌, ◌≢◌, ℕ, suc, ◌<◌, ◌≤◌, ◌⊎◌, inl, inr, true, false, List, refl, sym, ap, subst, ◌∙◌, arith}
 use Rattle.std.specs.Prelude.{Some, None, eqb, leb}
 use Rattle.std.proofs.lemmas.Bool.Decides.{eqb_tells, leb_tells}
 use Rattle.exact_values.specs.Rational.{zero_ℚ, ◌*ℚ◌, ◌≤ℚ◌, ◌<ℚ◌}
 use Rattle.exact_values.specs.Sums.{sum_to}
-use Rattle.exact_values.proofs.Ring.{by_ring1, ◌≐◌, number, opposite}
 use Rattle.exact_values.proofs.Order.{le_of_lt, lt_not_le, lt_or_le, apart_from_above, apart_from_below}
 use Rattle.exact_values.proofs.Sums.{sum_to-nonnegative}
 use Rattle.lp_definitions.specs.LinearProgram.{LinearProgram, Vector, size, IsVariable, IsLinearProgram, KeepsEquations, lower_of, upper_of, for_min, objective_value}
@@ -22,12 +21,9 @@ use Rattle.path_laws.proofs.Stoppers.{stopper_some}
 use Rattle.path_laws.proofs.Turns.{bettering}
 use Rattle.path_laws.proofs.Ends.{right}
 use Rattle.path_laws.proofs.Endless.{enters, IsEntering, bettering_keeps, bettering_betters}
+use Rattle.path_laws.proofs.Steps.{signed_zero}
 use Rattle.termination_laws.proofs.Numbers.{find_before, against_product, still_product, weighed, for_min_sum}
 use Rattle.termination_laws.proofs.Resting.{StopsAt, idle_stops, moving, no_room, blocked}
-
-pub signed_zero : (up : Bool) → signed up zero_ℚ ≡ zero_ℚ
-signed_zero true = refl
-signed_zero false = by_ring1 zero_ℚ (λ z. opposite (number (pos 0)) ≐ number (pos 0)) refl
 
 -- at the first basis t betters the objective, and at the second t stops q at once
 module _ (p : LinearProgram) (lawful : IsLinearProgram p) (s₁ s₂ : List Status) (t₁ t₂ : Tableau) (at₁ : IsNonsingularBasis p s₁) (at₂ : IsNonsingularBasis p s₂) (tab₁ : IsTableau p s₁ t₁) (tab₂ : IsTableau p s₂ t₂)

@@ -7,6 +7,7 @@ use Rattle.termination_laws.specs.Laws.{lists_of}
 use Rattle.bounded_primal.proofs.PathWalk.{begins_at, follows, follows_later}
 use Rattle.bounded_primal.proofs.WalkCases.{stops_at_once, step_stops, walk_more}
 use Rattle.bounded_primal.proofs.FreeWalk.{reached_short, free_ends, free_stops, counted_more, one_less}
+use Rattle.bounded_primal.proofs.Inside.{stays_inside}
 use Rattle.path_definitions.specs.Counts.{counted_steps}
 use Rattle.bounded_primal.proofs.free_path.walk_free.Goals as goal
 
@@ -31,6 +32,7 @@ loop-share-init g c = record {
     same_basics = c.in_ok-point_of.ensures.basics ∙ c.requires.rates.same_basics;
   };
   point = c.in_ok-point_of.ensures.point;
+  broken = c.outside-broken.ensures;
   reached = rw c.open-book.ensures.total (begins_at c.args.lp.now c.args.basis.now (g.R.Rates.waypoints c.args.rates.now) (g.R.Rates.waypoints c.point_of.new.rates) c.in_ok-point_of.ensures.waypoints);
 }
 
@@ -74,6 +76,12 @@ returns-in_err-take_step-in-Moves-clause-waypoints g c =
     (keeps_then c.args.lp.now.matrix (basics_of c.loop-share.basis) (g.R.Rates.waypoints c.loop-share.rates) (basics_of c.loop-share.basis) (g.R.Rates.waypoints c.free_turn.new.rates) (g.R.Rates.waypoints c.take_step.new.rates)
     c.in_ok-outcome.ensures.waypoints (rw (c.in_err-take_step-in-Moves.ensures.unchanged) at c.in_err-take_step-in-Moves.ensures.waypoints)))
 
+pub outside_after-broken-requires-clause-stays : goal.outside_after-broken-requires-clause-stays
+outside_after-broken-requires-clause-stays g c none =
+    let moves = rw c.in-Moves.is at c.in_ok-outcome.ensures.turn in
+    stays_inside c.args.lp.now (g.R.Rates.matrix c.loop-share.rates) (g.R.Rates.basics c.loop-share.rates) c.loop-share.basis c.loop-share.invariant.rates (value_at c.loop-share.point) c.loop-share.invariant.point c.requires.uncrossed (sym c.loop-share.invariant.broken ∙ none)
+    c.requires.lawful (value_at c.free_turn.new.direction) c.in-Moves.q c.in-Moves.by 1 moves c.take_step.new.basis c.in_ok-take_step-in-Moves.ensures.basis (value_at c.take_step.new.point) c.in_ok-take_step-in-Moves.ensures.point
+
 pub loop-share-smaller : goal.loop-share-smaller
 loop-share-smaller g c =
     let moves = rw c.in-Moves.is at c.in_ok-outcome.ensures.turn in
@@ -89,5 +97,6 @@ loop-share-preserved g c =
       counted = c.saturating_add-steps.ensures ∙ counted_more c.loop-share.steps c.loop-share.book.total c.loop-share.invariant.counted ∙ ap counted_steps (sym c.add.ensures.total);
       rates = c.in_ok-take_step-in-Moves.ensures.rates;
       point = c.in_ok-take_step-in-Moves.ensures.point;
+      broken = c.outside_after-broken.ensures;
       reached = rw c.add.ensures.total (walk_more c.args.lp.now c.loop-share.basis (value_at c.loop-share.point) (value_at c.free_turn.new.direction) c.in-Moves.q c.in-Moves.by 1 moves c.args.basis.now (g.R.Rates.waypoints c.args.rates.now) (g.R.Rates.waypoints c.loop-share.rates) c.loop-share.book.total c.loop-share.invariant.reached c.take_step.new.basis (g.R.Rates.waypoints c.free_turn.new.rates) (g.R.Rates.waypoints c.take_step.new.rates) c.in_ok-take_step-in-Moves.ensures.basis c.in_ok-outcome.ensures.waypoints c.in_ok-take_step-in-Moves.ensures.waypoints);
     }

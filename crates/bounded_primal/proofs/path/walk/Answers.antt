@@ -1,10 +1,11 @@
-use Rattle.std.proofs.Common.{◌≡◌, ◌-◌, ◌∙◌, refl, arith}
+use Rattle.std.proofs.Common.{◌≡◌, ◌-◌, ◌∙◌, refl, sym, arith}
 use Rattle.std.proofs.lemmas.Result.{err_from_is_err_and}
 use Rattle.lp_definitions.specs.LinearProgram.{value_at}
 use Rattle.lp_definitions.specs.Basis.{basics_of}
 use Rattle.lp_laws.proofs.WaypointLaws.{keeps_then}
 use Rattle.bounded_primal.proofs.PathWalk.{begins_at, ends_there, stops_there, follows, follows_later}
 use Rattle.bounded_primal.proofs.WalkCases.{stops_at_once, walk_more, walk_stops}
+use Rattle.bounded_primal.proofs.Inside.{stays_inside}
 use Rattle.path_definitions.specs.Counts.{counted_steps}
 use Rattle.bounded_primal.proofs.path.walk.Goals as goal
 
@@ -22,6 +23,7 @@ loop-outcome-init g c = record {
     same_basics = c.in_ok-point_of.ensures.basics ∙ c.requires.rates.same_basics;
   };
   point = c.in_ok-point_of.ensures.point;
+  broken = c.outside-broken.ensures;
   within = omega arith;
   reached = begins_at c.args.lp.now c.args.basis.now (g.R.Rates.waypoints c.args.rates.now) (g.R.Rates.waypoints c.point_of.new.rates) c.in_ok-point_of.ensures.waypoints;
 }
@@ -42,12 +44,19 @@ returns-in_err-take_step-in-Moves-clause-stops g c =
     let moves = rw c.in-Moves.is at c.in_ok-outcome.ensures.turn in
     rw (p.1, p.2, c.in_err-take_step-in-Moves.ensures.unchanged) (walk_stops c.args.lp.now c.loop-outcome.basis (value_at c.loop-outcome.point) (value_at c.next_turn.new.direction) c.in-Moves.q c.in-Moves.by (c.args.limit - c.loop-outcome.steps) moves c.args.basis.now (g.R.Rates.waypoints c.args.rates.now) (g.R.Rates.waypoints c.loop-outcome.rates) c.loop-outcome.steps c.loop-outcome.invariant.reached (g.R.Rates.waypoints c.next_turn.new.rates) (g.R.Rates.waypoints c.take_step.new.rates) c.in_err-take_step-in-Moves.field-0.0 c.args.limit c.loop-outcome.invariant.within refl c.in_ok-outcome.ensures.waypoints c.in_err-take_step-in-Moves.ensures.overflow)
 
+pub outside_after-broken-requires-clause-stays : goal.outside_after-broken-requires-clause-stays
+outside_after-broken-requires-clause-stays g c none =
+    let moves = rw c.in-Moves.is at c.in_ok-outcome.ensures.turn in
+    stays_inside c.args.lp.now (g.R.Rates.matrix c.loop-outcome.rates) (g.R.Rates.basics c.loop-outcome.rates) c.loop-outcome.basis c.loop-outcome.invariant.rates (value_at c.loop-outcome.point) c.loop-outcome.invariant.point c.requires.uncrossed (sym c.loop-outcome.invariant.broken ∙ none)
+    c.requires.lawful (value_at c.next_turn.new.direction) c.in-Moves.q c.in-Moves.by (c.args.limit - c.loop-outcome.steps) moves c.take_step.new.basis c.in_ok-take_step-in-Moves.ensures.basis (value_at c.take_step.new.point) c.in_ok-take_step-in-Moves.ensures.point
+
 pub loop-outcome-preserved : goal.loop-outcome-preserved
 loop-outcome-preserved g c =
     let moves = rw c.in-Moves.is at c.in_ok-outcome.ensures.turn in
     record {
       rates = c.in_ok-take_step-in-Moves.ensures.rates;
       point = c.in_ok-take_step-in-Moves.ensures.point;
+      broken = c.outside_after-broken.ensures;
       within = omega (arith, moves.was_left);
       reached = walk_more c.args.lp.now c.loop-outcome.basis (value_at c.loop-outcome.point) (value_at c.next_turn.new.direction) c.in-Moves.q c.in-Moves.by (c.args.limit - c.loop-outcome.steps) moves c.args.basis.now (g.R.Rates.waypoints c.args.rates.now) (g.R.Rates.waypoints c.loop-outcome.rates) c.loop-outcome.steps c.loop-outcome.invariant.reached c.take_step.new.basis (g.R.Rates.waypoints c.next_turn.new.rates) (g.R.Rates.waypoints c.take_step.new.rates) c.in_ok-take_step-in-Moves.ensures.basis c.in_ok-outcome.ensures.waypoints c.in_ok-take_step-in-Moves.ensures.waypoints;
     }

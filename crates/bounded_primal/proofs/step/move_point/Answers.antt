@@ -2,7 +2,7 @@ use Rattle.std.proofs.Common.{◌≡◌, ◌+◌, Err, rules, sym, ◌∙◌, su
 use Rattle.exact_values.specs.Rational.{ℚ}
 use Rattle.lp_definitions.specs.LinearProgram.{value_at}
 use Rattle.bounded_primal.specs.Steps.{MovedRefused}
-use Rattle.bounded_primal.proofs.Skips.{value_next}
+use Rattle.basis_values.proofs.Skips.{value_next}
 use Rattle.bounded_primal.proofs.step.move_point.Goals as goal
 
 pub returns-in_err-next-clause-refused : goal.returns-in_err-next-clause-refused

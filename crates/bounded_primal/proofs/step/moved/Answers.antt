@@ -1,4 +1,4 @@
-use Rattle.bounded_primal.proofs.Skips.{stays_put}
+use Rattle.basis_values.proofs.Skips.{stays_put}
 use Rattle.bounded_primal.proofs.step.moved.Goals as goal
 
 pub returns-then-is_zero-clause-value : goal.returns-then-is_zero-clause-value

@@ -3,7 +3,7 @@ use Rattle.lp_definitions.specs.LinearProgram.{value_at}
 use Rattle.lp_definitions.specs.Basis.{Basics, basics_of, exchanged}
 use Rattle.lp_definitions.specs.Waypoints.{KeepsWaypoints}
 use Rattle.lp_laws.specs.Vectors.{along}
-use Rattle.bounded_primal.proofs.Covered.{keeps_same}
+use Rattle.basis_values.proofs.Covered.{keeps_same}
 use Rattle.bounded_primal.proofs.StepFacts.{reaches, leaver_basic, leaver_status, basics_replaced, has_replaced, point_replaced, basics_flipped, has_flipped, point_flipped, flip_is, point_same}
 use Rattle.bounded_primal.proofs.StepRefusals.{move_refused, exchange_refused, keeps_to}
 use Rattle.bounded_primal.proofs.step.take_step.Goals as goal

@@ -1,8 +1,9 @@
-use Rattle.std.proofs.Common.{◌≡◌, ◌+◌, Err, rules, arith}
+use Rattle.std.proofs.Common.{◌≡◌, ◌+◌, Err, refl, rules, arith}
 use Rattle.lp_definitions.specs.LinearProgram.{value_at}
 use Rattle.path_definitions.specs.Moves.{room}
-use Rattle.bounded_primal.specs.Moves.{motion}
-use Rattle.bounded_primal.proofs.Lengths.{nearest_more}
+use Rattle.basis_values.specs.Motions.{motion}
+use Rattle.basis_values.proofs.Lengths.{nearest_more}
+use Rattle.bounded_primal.proofs.AtOnce.{nearest_at_once}
 use Rattle.bounded_primal.proofs.stopping.nearest.Goals as goal
 
 pub returns-in_err-length-clause-refused : goal.returns-in_err-length-clause-refused
@@ -14,3 +15,9 @@ pub loop-k-preserved : goal.loop-k-preserved
 loop-k-preserved c =
     nearest_more (room c.args.lp.now (value_at c.args.point.now) (motion (value_at c.args.direction.now) c.args.up)) c.loop-k.k c.loop-k.nearest c.nearer-nearest.result c.in_ok-length.length
     c.loop-k.invariant c.in_ok-length.ensures.length c.nearer-nearest.ensures
+
+pub returns-then-is_at_once-clause-nearest : goal.returns-then-is_at_once-clause-nearest
+returns-then-is_at_once-clause-nearest c =
+    nearest_at_once c.args.lp.now (value_at c.args.point.now) (motion (value_at c.args.direction.now) c.args.up) c.requires.feasible (c.loop-k.k + 1) (omega arith) c.nearer-nearest.result (c.if-is_at_once.ensures.0 refl)
+    (nearest_more (room c.args.lp.now (value_at c.args.point.now) (motion (value_at c.args.direction.now) c.args.up)) c.loop-k.k c.loop-k.nearest c.nearer-nearest.result c.in_ok-length.length
+    c.loop-k.invariant c.in_ok-length.ensures.length c.nearer-nearest.ensures)

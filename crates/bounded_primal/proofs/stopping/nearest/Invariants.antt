@@ -1,7 +1,7 @@
 use Rattle.lp_definitions.specs.LinearProgram.{value_at}
 use Rattle.path_definitions.specs.Moves.{room}
-use Rattle.bounded_primal.specs.Moves.{motion}
-use Rattle.bounded_primal.specs.Reach.{IsNearest}
+use Rattle.basis_values.specs.Motions.{motion}
+use Rattle.basis_values.specs.Reach.{IsNearest}
 use Rattle.bounded_primal.proofs.stopping.nearest.Given as goal
 
 abbrev pub invariant-loop-k : goal.invariant-loop-k

@@ -1,10 +1,11 @@
 use Rattle.std.proofs.Common.{◌≡◌, Err, rules, arith}
 use Rattle.lp_definitions.specs.LinearProgram.{value_at, size}
 use Rattle.path_definitions.specs.Moves.{room}
-use Rattle.bounded_primal.specs.Moves.{motion}
-use Rattle.bounded_primal.proofs.Skips.{value_read}
-use Rattle.bounded_primal.proofs.Nearest.{stop_found, nothing_found, found_within}
-use Rattle.bounded_primal.proofs.Refusals.{call_refused}
+use Rattle.basis_values.specs.Motions.{motion}
+use Rattle.basis_values.proofs.Skips.{value_read}
+use Rattle.basis_values.proofs.Nearest.{found_within}
+use Rattle.bounded_primal.proofs.StopperFacts.{stop_found, nothing_found}
+use Rattle.bounded_primal.proofs.StopperFacts.{call_refused}
 use Rattle.bounded_primal.proofs.stopping.stopper.Goals as goal
 
 pub returns-in_err-found-clause-refused : goal.returns-in_err-found-clause-refused

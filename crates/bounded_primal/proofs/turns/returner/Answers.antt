@@ -1,5 +1,5 @@
 use Rattle.std.proofs.Common.{◌≡◌, Err, rules}
-use Rattle.bounded_primal.proofs.RatesStops.{row_refused}
+use Rattle.basis_values.proofs.RatesStops.{row_refused}
 use Rattle.bounded_primal.proofs.turns.returner.Goals as goal
 
 pub returns-in_err-row-clause-overflow : goal.returns-in_err-row-clause-overflow

@@ -1,6 +1,6 @@
 use Rattle.std.proofs.Common.{◌≡◌, ◌≤◌, ℕ, vec_len}
 use Rattle.lp_definitions.specs.LinearProgram.{value_at}
-use Rattle.bounded_primal.specs.Moves.{motion}
+use Rattle.basis_values.specs.Motions.{motion}
 use Rattle.bounded_primal.proofs.turns.signed_direction.Given as goal
 
 abbrev pub invariant-loop-k : goal.invariant-loop-k

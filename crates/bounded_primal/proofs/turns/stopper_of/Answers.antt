@@ -2,7 +2,7 @@ use Rattle.std.proofs.Common.{◌≡◌, Err, rules}
 use Rattle.lp_definitions.specs.LinearProgram.{value_at}
 use Rattle.lp_model.proofs.Stops.{IfOverflow-map}
 use Rattle.bounded_primal.specs.Turns.{by_direction, by_stopper}
-use Rattle.bounded_primal.proofs.RatesStops.{column_refused}
+use Rattle.basis_values.proofs.RatesStops.{column_refused}
 use Rattle.bounded_primal.proofs.turns.stopper_of.Goals as goal
 
 pub returns-in_err-column-clause-overflow : goal.returns-in_err-column-clause-overflow

@@ -2,6 +2,7 @@
 use Rattle.std.proofs.Common.{Ok, Err, refl, sym}
 use Rattle.std.proofs.lemmas.Result.{err_from_is_err_and}
 use Rattle.run_definitions.specs.State.{choice_of}
+use Rattle.control_run.specs.Standing.{IsReady}
 use Rattle.control_run.specs.Sweeping.{sweep_shown}
 use Rattle.control_run.proofs.Selected.{no_change}
 use Rattle.control_run.proofs.Solving_steps.{as_many_rows, as_many_columns, ready_rates, ready_again, ready_solved}
@@ -11,46 +12,46 @@ use Rattle.control_run.proofs.parametric.find.Goals as goal
 pub returns-in-Err-clause-tells : goal.returns-in-Err-clause-tells
 returns-in-Err-clause-tells g c =
     rw c.refused.ensures
-    (unselected_told g.P.Sink.written g.P.Sink.faults g.P.Sink.refusals c.args.verb c.args.cells.now c.args.file.now c.args.setup.now _ c.in-Some.problem.now (sym c.in-Some.ensures) c.args.print.now c.in-Err.refusal c.in-Err.ensures.refused)
+    (unselected_told g.P.Sink.written g.P.Sink.faults g.P.Sink.refusals c.args.verb c.args.cells.now c.args.file.now c.setup.view_is _ c.in-Some.problem.now (sym c.in-Some.ensures) c.args.print.now c.in-Err.refusal c.in-Err.ensures.refused)
 
 pub returns-in-Err-asked-clause-tells : goal.returns-in-Err-asked-clause-tells
 returns-in-Err-asked-clause-tells g c =
     rw c.refused-in-Err-asked.ensures
-    (unasked_told g.P.Sink.written g.P.Sink.faults g.P.Sink.refusals c.args.verb c.args.cells.now c.args.file.now c.args.setup.now _ c.in-Some.problem.now (sym c.in-Some.ensures) c.in-Ok.lp c.in-Ok.ensures.selected c.args.print.now c.in-Err-asked.refusal c.in-Err-asked.ensures.refused)
+    (unasked_told g.P.Sink.written g.P.Sink.faults g.P.Sink.refusals c.args.verb c.args.cells.now c.args.file.now c.setup.view_is _ c.in-Some.problem.now (sym c.in-Some.ensures) c.in-Ok.lp c.in-Ok.ensures.selected c.args.print.now c.in-Err-asked.refusal c.in-Err-asked.ensures.refused)
 
 pub follow-requires-clause-sheet : goal.follow-requires-clause-sheet
 follow-requires-clause-sheet g c = record {
-  rows = as_many_rows c.in-Some.problem.now (choice_of c.args.cells.now c.args.setup.now.options) c.in-Ok.lp c.in-Ok.ensures.selected;
-  columns = as_many_columns c.in-Some.problem.now (choice_of c.args.cells.now c.args.setup.now.options) c.in-Ok.lp c.in-Ok.ensures.selected;
+  rows = as_many_rows c.in-Some.problem.now (choice_of c.args.cells.now c.setup.inside.options) c.in-Ok.lp c.in-Ok.ensures.selected;
+  columns = as_many_columns c.in-Some.problem.now (choice_of c.args.cells.now c.setup.inside.options) c.in-Ok.lp c.in-Ok.ensures.selected;
 }
 
 pub follow-requires-clause-no_change : goal.follow-requires-clause-no_change
-follow-requires-clause-no_change g c = no_change c.in-Some.problem.now (choice_of c.args.cells.now c.args.setup.now.options) c.in-Ok.lp c.in-Ok.ensures.selected
+follow-requires-clause-no_change g c = no_change c.in-Some.problem.now (choice_of c.args.cells.now c.setup.inside.options) c.in-Ok.lp c.in-Ok.ensures.selected
 
 pub follow-requires-clause-rates : goal.follow-requires-clause-rates
 follow-requires-clause-rates g c =
-    ready_rates c.args.file.now c.args.setup.now c.requires c.in-Some.problem.now (sym c.in-Some.ensures) c.args.cells.now c.in-Ok.lp c.in-Ok.ensures.selected
+    ready_rates c.args.file.now _ (subst (IsReady c.args.file.now) (sym c.setup.view_is) c.requires) c.in-Some.problem.now (sym c.in-Some.ensures) c.args.cells.now c.in-Ok.lp c.in-Ok.ensures.selected
 
 pub follow-requires-clause-serves : goal.follow-requires-clause-serves
 follow-requires-clause-serves g c =
-    serves c.in-Some.problem.now (choice_of c.args.cells.now c.args.setup.now.options) c.in-Ok.lp c.in-Ok.ensures.selected c.in-Ok-asked.sweep c.in-Ok-asked.ensures.of
+    serves c.in-Some.problem.now (choice_of c.args.cells.now c.setup.inside.options) c.in-Ok.lp c.in-Ok.ensures.selected c.in-Ok-asked.sweep c.in-Ok-asked.ensures.of
 
 pub returns-in_err-finding-clause-tells : goal.returns-in_err-finding-clause-tells
 returns-in_err-finding-clause-tells g c =
     let p = err_from_is_err_and c.from_residual.result c.from_residual.ensures.1 in
     rw (p.1, p.2)
-    (run_told g.P.Sink.written g.P.Sink.faults g.P.Sink.refusals c.args.verb c.args.cells.now c.args.file.now c.args.setup.now _ c.in-Some.problem.now (sym c.in-Some.ensures) c.in-Ok.lp c.in-Ok.ensures.selected (sweep_shown c.in-Ok-asked.sweep) c.in-Ok-asked.ensures.asked
+    (run_told g.P.Sink.written g.P.Sink.faults g.P.Sink.refusals c.args.verb c.args.cells.now c.args.file.now c.setup.view_is _ c.in-Some.problem.now (sym c.in-Some.ensures) c.in-Ok.lp c.in-Ok.ensures.selected (sweep_shown c.in-Ok-asked.sweep) c.in-Ok-asked.ensures.asked
     c.args.print.now c.follow.new.print (Err c.in_err-finding.field-0.0) refl refl c.in_err-finding.ensures.tells)
 
 pub returns-in_err-finding-clause-ready : goal.returns-in_err-finding-clause-ready
 returns-in_err-finding-clause-ready g c =
-    ready_again c.args.file.now c.args.setup.now c.requires c.in-Some.problem.now (sym c.in-Some.ensures) c.args.cells.now c.in-Ok.lp c.in-Ok.ensures.selected _ refl refl refl c.follow.ensures.rates
+    ready_again c.args.file.now _ (subst (IsReady c.args.file.now) (sym c.setup.view_is) c.requires) c.in-Some.problem.now (sym c.in-Some.ensures) c.args.cells.now c.in-Ok.lp c.in-Ok.ensures.selected _ refl refl refl c.follow.ensures.rates
 
 pub returns-clause-tells : goal.returns-clause-tells
 returns-clause-tells g c =
-    run_told g.P.Sink.written g.P.Sink.faults g.P.Sink.refusals c.args.verb c.args.cells.now c.args.file.now c.args.setup.now _ c.in-Some.problem.now (sym c.in-Some.ensures) c.in-Ok.lp c.in-Ok.ensures.selected (sweep_shown c.in-Ok-asked.sweep) c.in-Ok-asked.ensures.asked
+    run_told g.P.Sink.written g.P.Sink.faults g.P.Sink.refusals c.args.verb c.args.cells.now c.args.file.now c.setup.view_is _ c.in-Some.problem.now (sym c.in-Some.ensures) c.in-Ok.lp c.in-Ok.ensures.selected (sweep_shown c.in-Ok-asked.sweep) c.in-Ok-asked.ensures.asked
     c.args.print.now c.follow.new.print (Ok c.in_ok-finding.finding) refl refl c.in_ok-finding.ensures.tells
 
 pub returns-clause-ready : goal.returns-clause-ready
 returns-clause-ready g c =
-    ready_solved c.args.file.now c.args.setup.now c.requires c.in-Some.problem.now (sym c.in-Some.ensures) c.args.cells.now c.in-Ok.lp c.in-Ok.ensures.selected _ refl refl refl c.follow.ensures.rates
+    ready_solved c.args.file.now _ (subst (IsReady c.args.file.now) (sym c.setup.view_is) c.requires) c.in-Some.problem.now (sym c.in-Some.ensures) c.args.cells.now c.in-Ok.lp c.in-Ok.ensures.selected _ refl refl refl c.follow.ensures.rates

@@ -1,18 +1,22 @@
-use Rattle.std.proofs.Common.{sym}
+use Rattle.std.proofs.Common.{sym, subst}
+use Rattle.control_run.specs.Standing.{IsReady}
 use Rattle.control_run.proofs.Solving_steps.{ready_rows, ready_columns, ready_unchanged}
 use Rattle.control_run.proofs.Ranging.{ranges_at}
 use Rattle.control_run.proofs.ranges.range_setup.Goals as goal
 
 pub range_basis-requires-clause-sheet : goal.range_basis-requires-clause-sheet
-range_basis-requires-clause-sheet g c = record {
-  rows = ready_rows c.args.file.now c.args.setup.now c.requires.ready c.in-Some.problem.now (sym c.in-Some.ensures);
-  columns = ready_columns c.args.file.now c.args.setup.now c.requires.ready c.in-Some.problem.now (sym c.in-Some.ensures);
-}
+range_basis-requires-clause-sheet g c =
+    let ready = subst (IsReady c.args.file.now) (sym c.setup.view_is) c.requires.ready in
+    record {
+      rows = ready_rows c.args.file.now _ ready c.in-Some.problem.now (sym c.in-Some.ensures);
+      columns = ready_columns c.args.file.now _ ready c.in-Some.problem.now (sym c.in-Some.ensures);
+    }
 
 pub range_basis-requires-clause-no_change : goal.range_basis-requires-clause-no_change
-range_basis-requires-clause-no_change g c = ready_unchanged c.args.file.now c.args.setup.now c.requires.ready c.in-Some.problem.now (sym c.in-Some.ensures)
+range_basis-requires-clause-no_change g c =
+    ready_unchanged c.args.file.now _ (subst (IsReady c.args.file.now) (sym c.setup.view_is) c.requires.ready) c.in-Some.problem.now (sym c.in-Some.ensures)
 
 pub returns-clause-tells : goal.returns-clause-tells
 returns-clause-tells g c =
-    ranges_at g.P.Sink.written g.P.Sink.faults g.P.Sink.refusals c.args.file.now c.args.setup.now c.in-Some.problem.now (sym c.in-Some.ensures) c.args.print.now c.range_basis.new.print c.range_basis.result
+    ranges_at g.P.Sink.written g.P.Sink.faults g.P.Sink.refusals c.args.file.now c.setup.view_is c.in-Some.problem.now (sym c.in-Some.ensures) c.args.print.now c.range_basis.new.print c.range_basis.result
     c.range_basis.ensures.tells

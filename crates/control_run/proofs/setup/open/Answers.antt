@@ -5,7 +5,7 @@ use Rattle.control_run.proofs.Setting.{filed_by, not_opened}
 use Rattle.control_run.proofs.setup.open.Goals as goal
 
 pub returns-in-Err-clause-refused : goal.returns-in-Err-clause-refused
-returns-in-Err-clause-refused c =
+returns-in-Err-clause-refused g c =
     let is_named = ap (λ (wanted : Option Name). named wanted c.args.file.now) (sym c.name.ensures) ∙ sym c.wanted_name.ensures ∙ c.in-Some.is in
     not_opened c.args.cells.now c.args.file.now c.args.options c.in-Some-get.problem.now
     (filed_by c.args.cells.now.xpbname c.args.file.now c.in-Some.name (Some c.in-Some-get.problem.now) is_named (sym c.in-Some-get.ensures))

@@ -1,18 +1,22 @@
-use Rattle.std.proofs.Common.{sym}
+use Rattle.std.proofs.Common.{sym, subst}
+use Rattle.control_run.specs.Standing.{IsReady}
 use Rattle.control_run.proofs.Solving_steps.{ready_rows, ready_columns, ready_unchanged}
 use Rattle.control_run.proofs.Showing.{lines_at}
 use Rattle.control_run.proofs.solution.show_setup.Goals as goal
 
 pub show_basis-requires-clause-sheet : goal.show_basis-requires-clause-sheet
-show_basis-requires-clause-sheet g c = record {
-  rows = ready_rows c.args.file.now c.args.setup.now c.requires c.in-Some.problem.now (sym c.in-Some.ensures);
-  columns = ready_columns c.args.file.now c.args.setup.now c.requires c.in-Some.problem.now (sym c.in-Some.ensures);
-}
+show_basis-requires-clause-sheet g c =
+    let ready = subst (IsReady c.args.file.now) (sym c.setup.view_is) c.requires in
+    record {
+      rows = ready_rows c.args.file.now _ ready c.in-Some.problem.now (sym c.in-Some.ensures);
+      columns = ready_columns c.args.file.now _ ready c.in-Some.problem.now (sym c.in-Some.ensures);
+    }
 
 pub show_basis-requires-clause-no_change : goal.show_basis-requires-clause-no_change
-show_basis-requires-clause-no_change g c = ready_unchanged c.args.file.now c.args.setup.now c.requires c.in-Some.problem.now (sym c.in-Some.ensures)
+show_basis-requires-clause-no_change g c =
+    ready_unchanged c.args.file.now _ (subst (IsReady c.args.file.now) (sym c.setup.view_is) c.requires) c.in-Some.problem.now (sym c.in-Some.ensures)
 
 pub returns-clause-tells : goal.returns-clause-tells
 returns-clause-tells g c =
-    lines_at g.P.Sink.written g.P.Sink.faults g.P.Sink.refusals c.args.file.now c.args.setup.now c.args.mark c.in-Some.problem.now (sym c.in-Some.ensures) c.args.print.now c.show_basis.new.print c.show_basis.result
+    lines_at g.P.Sink.written g.P.Sink.faults g.P.Sink.refusals c.args.file.now c.setup.view_is c.args.mark c.in-Some.problem.now (sym c.in-Some.ensures) c.args.print.now c.show_basis.new.print c.show_basis.result
     c.show_basis.ensures.tells

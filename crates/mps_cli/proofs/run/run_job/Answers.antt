@@ -4,7 +4,7 @@ use Rattle.command_line.specs.declared.request.Request.{Request}
 use Rattle.mps_cli.specs.declared.stop.Stop.{Stop}
 use Rattle.mps_cli.specs.Endings.{EndsWith}
 use Rattle.stop_laws.proofs.Standing.{stands_after}
-use Rattle.control_run.specs.Stage.{stage}
+use Rattle.answer_definitions.specs.Real.{linear_programming}
 use Rattle.mps_cli.specs.Causes.{nothing}
 use Rattle.mps_cli.proofs.Why.{why_words, ending_cause, same_cause, same_punch}
 use Rattle.mps_cli.proofs.Truth.{complete_answer, stopped_headline, same_headline}
@@ -20,7 +20,7 @@ pub returns-in-Ok-clause-complete : goal.returns-in-Ok-clause-complete
 returns-in-Ok-clause-complete g c job is = complete_answer (returns-in-Ok-clause-headline g c job is)
 
 pub returns-in-Ok-clause-stands : goal.returns-in-Ok-clause-stands
-returns-in-Ok-clause-stands g c job is = stands_after stage (returns-in-Ok-clause-headline g c job is)
+returns-in-Ok-clause-stands g c job is = stands_after linear_programming (returns-in-Ok-clause-headline g c job is)
 
 pub returns-in-Ok-clause-punch : goal.returns-in-Ok-clause-punch
 returns-in-Ok-clause-punch g c = same_punch c.in-Ok.request _ _ _ c.run_request.result c.in-Ok.ensures.accepted c.run_request.ensures.punch
@@ -43,7 +43,7 @@ pub returns-in-Err-clause-complete : goal.returns-in-Err-clause-complete
 returns-in-Err-clause-complete g c job is = complete_answer (returns-in-Err-clause-headline g c job is)
 
 pub returns-in-Err-clause-stands : goal.returns-in-Err-clause-stands
-returns-in-Err-clause-stands g c job is = stands_after stage (returns-in-Err-clause-headline g c job is)
+returns-in-Err-clause-stands g c job is = stands_after linear_programming (returns-in-Err-clause-headline g c job is)
 
 pub returns-in-Err-clause-punch : goal.returns-in-Err-clause-punch
 returns-in-Err-clause-punch g c = nothing refl

@@ -1,7 +1,7 @@
 use Rattle.std.proofs.Common.{refl, ap, Some, arith}
 use Rattle.deck_definitions.specs.Transport.{made_job}
 use Rattle.run_definitions.specs.Answer.{Made, memory_at_start}
-use Rattle.control_run.specs.Stage.{stage}
+use Rattle.answer_definitions.specs.Real.{linear_programming}
 use Rattle.command_line.specs.declared.request.Request.TheVariants.{Make}
 use Rattle.mps_cli.specs.declared.stop.Stop.TheVariants.{Memory}
 use Rattle.mps_cli.proofs.Ending_answers.{ending_answer}
@@ -13,7 +13,7 @@ use Rattle.mps_cli.proofs.run.run_made.Goals as goal
 pub returns-in-Ok-clause-answer : goal.returns-in-Ok-clause-answer
 returns-in-Ok-clause-answer g c =
     let bytes = made_job c.args.size in
-    answered_too stage (Made bytes) _ _ (λ e. absurd (omega (arith, e))) (λ e. e) (λ e. e) (λ e. e) _ _ _
+    answered_too linear_programming (Made bytes) _ _ (λ e. absurd (omega (arith, e))) (λ e. e) (λ e. e) (λ e. e) _ _ _
     (c.run_source.ensures.answer (Made bytes) bytes (record { has_bytes = refl; is_told = ap (λ b. Some b) c.in-Ok.ensures; is_read = λ e. absurd (omega (arith, e)) }))
 
 pub returns-in-Ok-clause-cause : goal.returns-in-Ok-clause-cause
@@ -21,7 +21,7 @@ returns-in-Ok-clause-cause g c = source_cause _ _ _ _ _ c.run_source.result c.ar
 
 pub returns-in-Err-clause-answer : goal.returns-in-Err-clause-answer
 returns-in-Err-clause-answer g c =
-    ending_answer stage (Made (made_job c.args.size)) _ Memory memory_at_start g.P.Sink.written g.P.Sink.faults g.P.Sink.refusals (g.U.Sink.written c.args.punch.now) c.end_job.result (λ e. e) (λ e. e) c.end_job.ensures
+    ending_answer linear_programming (Made (made_job c.args.size)) _ Memory memory_at_start g.P.Sink.written g.P.Sink.faults g.P.Sink.refusals (g.U.Sink.written c.args.punch.now) c.end_job.result (λ e. e) (λ e. e) c.end_job.ensures
 
 pub returns-in-Err-clause-cause : goal.returns-in-Err-clause-cause
 returns-in-Err-clause-cause g c = ending_cause (Some (Make c.args.size)) _ _ _ g.P.Sink.written g.P.Sink.faults g.P.Sink.refusals Memory c.end_job.result tt c.end_job.ensures

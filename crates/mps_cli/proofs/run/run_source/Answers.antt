@@ -1,6 +1,6 @@
 use Rattle.std.proofs.Common.{refl, Some}
 use Rattle.control_run.specs.Finishing.{failures_in_run}
-use Rattle.control_run.specs.Stage.{stage}
+use Rattle.answer_definitions.specs.Real.{linear_programming}
 use Rattle.command_line.specs.declared.request.Request.TheVariants.{Read}
 use Rattle.mps_cli.proofs.Ending_answers.{ending_answer}
 use Rattle.mps_cli.specs.Causes.{nothing, in_run}
@@ -11,7 +11,7 @@ use Rattle.mps_cli.proofs.run.run_source.Goals as goal
 pub returns-in-Ok-clause-answer : goal.returns-in-Ok-clause-answer
 returns-in-Ok-clause-answer g c given bytes is =
     let are = prepared_of bytes c.in-Ok.prepared is.is_told c.in-Ok.ensures.prepared in
-    answered_too stage given _ _ (λ e. absurd e) (λ e. e) (λ e. e) (λ e. e) _ _ _ (c.run_program.ensures.answer given bytes is.has_bytes are.1 are.0)
+    answered_too linear_programming given _ _ (λ e. absurd e) (λ e. e) (λ e. e) (λ e. e) _ _ _ (c.run_program.ensures.answer given bytes is.has_bytes are.1 are.0)
 
 pub returns-in-Ok-clause-cause : goal.returns-in-Ok-clause-cause
 returns-in-Ok-clause-cause g c =
@@ -19,7 +19,7 @@ returns-in-Ok-clause-cause g c =
 
 pub returns-in-Err-clause-answer : goal.returns-in-Err-clause-answer
 returns-in-Err-clause-answer g c given bytes is =
-    ending_answer stage given _ c.in-Err.stop (may_stop stage given bytes _ _ is.has_bytes is.is_read c.in-Err.stop is.is_told c.in-Err.ensures.stop c.in-Err.ensures.cause)
+    ending_answer linear_programming given _ c.in-Err.stop (may_stop linear_programming given bytes _ _ is.has_bytes is.is_read c.in-Err.stop is.is_told c.in-Err.ensures.stop c.in-Err.ensures.cause)
     g.P.Sink.written g.P.Sink.faults g.P.Sink.refusals (g.U.Sink.written c.args.punch.now) c.end_job.result (λ e. e) (λ e. e) c.end_job.ensures
 
 pub returns-in-Err-clause-cause : goal.returns-in-Err-clause-cause

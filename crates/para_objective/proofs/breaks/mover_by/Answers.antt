@@ -1,5 +1,5 @@
 use Rattle.std.proofs.Common.{sym, ◌∙◌, arith}
-use Rattle.bounded_primal.proofs.Skips.{found_least, found_none, one_more}
+use Rattle.basis_values.proofs.Skips.{found_least, found_none, one_more}
 use Rattle.lp_definitions.specs.LinearProgram.{value_at}
 use Rattle.para_objective.specs.Breaks.{is_mover}
 use Rattle.para_objective.proofs.Movers.{mover_at}

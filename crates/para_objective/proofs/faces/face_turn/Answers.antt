@@ -4,8 +4,9 @@ use Rattle.std.proofs.lemmas.Result.{err_from_is_err_and}
 use Rattle.lp_definitions.specs.LinearProgram.{value_at}
 use Rattle.lp_definitions.specs.Basis.{basics_of}
 use Rattle.path_definitions.specs.Path.{after}
-use Rattle.bounded_primal.specs.Moves.{may_move, move_by}
-use Rattle.bounded_primal.proofs.Covered.{keeps_same}
+use Rattle.basis_values.specs.Motions.{may_move}
+use Rattle.bounded_primal.specs.Moves.{move_by}
+use Rattle.basis_values.proofs.Covered.{keeps_same}
 use Rattle.para_objective.proofs.FaceFacts.{face_done, feasible, nonbasic, may, face_ends, face_moves, face_keeps, face_pivot, face_by_stopper, face_enters}
 use Rattle.para_objective.proofs.FaceWalk.{turn_stops}
 use Rattle.para_objective.proofs.faces.face_turn.Goals as goal

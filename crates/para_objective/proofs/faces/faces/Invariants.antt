@@ -2,7 +2,7 @@ use Rattle.std.proofs.Common.{◌-◌}
 use Rattle.lp_definitions.specs.LinearProgram.{value_at}
 use Rattle.lp_definitions.specs.Basis.{basics_of, ArePricesOf, IsOptimalBasis, IsPointOf}
 use Rattle.lp_model.specs.RatesCalls.{IsRowOf}
-use Rattle.bounded_primal.specs.Calls.{HasRates}
+use Rattle.basis_values.specs.Calls.{HasRates}
 use Rattle.para_objective.specs.Faces.{family, FacesReach, AnyRun}
 use Rattle.para_objective.proofs.faces.faces.Given as goal
 

@@ -4,9 +4,9 @@ use Rattle.lp_definitions.specs.LinearProgram.{value_at}
 use Rattle.lp_definitions.specs.Basis.{basics_of, ArePricesOf}
 use Rattle.lp_laws.proofs.WaypointLaws.{keeps_then}
 use Rattle.lp_model.proofs.Stops.{IfOverflow-map}
-use Rattle.bounded_primal.proofs.TermLaws.{IfErr-map}
-use Rattle.bounded_primal.proofs.Covered.{point_refused_later}
-use Rattle.bounded_primal.proofs.PriceLaws.{plain_prices}
+use Rattle.basis_values.proofs.TermLaws.{IfErr-map}
+use Rattle.basis_values.proofs.Covered.{point_refused_later}
+use Rattle.basis_values.proofs.PriceLaws.{plain_prices}
 use Rattle.para_objective.proofs.FaceWalk.{on_ok}
 use Rattle.para_objective.proofs.rows.fill_rows.Goals as goal
 

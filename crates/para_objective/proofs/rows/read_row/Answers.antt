@@ -1,6 +1,6 @@
-use Rattle.bounded_primal.proofs.TermLaws.{IfErr-map}
+use Rattle.basis_values.proofs.TermLaws.{IfErr-map}
 use Rattle.bounded_primal.proofs.TurnCalls.{has_same}
-use Rattle.bounded_primal.proofs.RatesStops.{row_refused, keeps_at}
+use Rattle.basis_values.proofs.RatesStops.{row_refused, keeps_at}
 use Rattle.para_objective.proofs.rows.read_row.Goals as goal
 
 pub row-requires-clause-basic : goal.row-requires-clause-basic

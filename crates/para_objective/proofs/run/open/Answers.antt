@@ -1,7 +1,7 @@
 use Rattle.std.proofs.Common.{[], refl, arith}
 use Rattle.std.proofs.lemmas.Result.{err_from_is_err_and}
 use Rattle.bounded_primal.specs.declared.moves.PrimalStop.TheVariants.{NoMemory}
-use Rattle.bounded_primal.proofs.TermLaws.{IfErr-map}
+use Rattle.basis_values.proofs.TermLaws.{IfErr-map}
 use Rattle.para_objective.proofs.OpeningFacts.{opening_stops}
 use Rattle.para_objective.proofs.run.open.Goals as goal
 

@@ -1,6 +1,6 @@
 use Rattle.std.proofs.Common.{rules, ◌≡◌, ◌+◌, Err, sym, ◌∙◌, ap, arith}
 use Rattle.lp_definitions.specs.LinearProgram.{value_at}
-use Rattle.bounded_primal.proofs.Skips.{value_next, found_least, found_none, one_more}
+use Rattle.basis_values.proofs.Skips.{value_next, found_least, found_none, one_more}
 use Rattle.para_rhs.specs.Breaks.{leaves, is_there}
 use Rattle.para_rhs.proofs.Leavers.{side_here}
 use Rattle.para_rhs.proofs.Narrowing.{refused_at}

@@ -3,8 +3,8 @@ use Rattle.exact_values.specs.Rational.{ℚ, ◌-ℚ◌, ◌*ℚ◌}
 use Rattle.exact_values.specs.Tests.{eq_ℚ}
 use Rattle.frac128.specs.declared.Op.TheVariants.{Sub}
 use Rattle.postoptimal_definitions.specs.RhsRun.{shift_of}
-use Rattle.bounded_primal.specs.Formulas.{IsRefusal}
-use Rattle.bounded_primal.specs.declared.formula.Formula.{Formula}
+use Rattle.basis_values.specs.Formulas.{IsRefusal}
+use Rattle.basis_values.specs.declared.formula.Formula.{Formula}
 use Rattle.para_rhs.specs.Limits.{number_of}
 use Rattle.para_rhs.specs.Reach.{of_distance, basic_formula}
 use Rattle.para_rhs.proofs.Leavers.{product_test}

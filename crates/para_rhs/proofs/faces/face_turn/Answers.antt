@@ -16,7 +16,7 @@ use Rattle.run_calls.specs.Calls.{end_of}
 use Rattle.bounded_primal.specs.Moves.{IsStepBy, move_by, return_by}
 use Rattle.bounded_primal.specs.Turns.{ray_from}
 use Rattle.bounded_primal.specs.declared.moves.Stopper.{Stopper}
-use Rattle.bounded_primal.proofs.Covered.{keeps_same}
+use Rattle.basis_values.proofs.Covered.{keeps_same}
 use Rattle.para_rhs.specs.Breaks.{IsFaceLeaver}
 use Rattle.para_rhs.specs.Cheapest.{cheapest_by, SomeRatioRefused}
 use Rattle.para_rhs.specs.Faces.{IsStuckPast}

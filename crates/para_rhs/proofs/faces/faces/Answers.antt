@@ -7,7 +7,7 @@ use Rattle.lp_model.specs.RatesCalls.{IfOverflow}
 use Rattle.postoptimal_definitions.specs.RhsRun.{IsSlope}
 use Rattle.bounded_primal.specs.Moves.{move_by}
 use Rattle.bounded_primal.proofs.StepFacts.{step_reaches, limit_apart}
-use Rattle.bounded_primal.proofs.Covered.{keeps_same}
+use Rattle.basis_values.proofs.Covered.{keeps_same}
 use Rattle.para_rhs.specs.Faces.{family}
 use Rattle.para_rhs.specs.Refusals.{RunRefused}
 use Rattle.para_rhs.proofs.FaceEvidence.{step_stops, motion_stops}

@@ -1,8 +1,8 @@
 use Rattle.lp_definitions.specs.Basis.{basics_of}
 use Rattle.lp_laws.proofs.WaypointLaws.{keeps_then}
 use Rattle.lp_model.proofs.Stops.{IfOverflow-map}
-use Rattle.bounded_primal.proofs.TermLaws.{IfErr-map}
-use Rattle.bounded_primal.proofs.Covered.{point_refused_later}
+use Rattle.basis_values.proofs.TermLaws.{IfErr-map}
+use Rattle.basis_values.proofs.Covered.{point_refused_later}
 use Rattle.para_rhs.proofs.RunEvidence.{of_point}
 use Rattle.para_rhs.proofs.faces.fill_motion.Goals as goal
 

@@ -1,6 +1,6 @@
 use Rattle.std.proofs.Common.{ap, Some, sym, ◌∙◌}
 use Rattle.lp_laws.proofs.Values.{clash}
-use Rattle.bounded_primal.proofs.Skips.{stays_put}
+use Rattle.basis_values.proofs.Skips.{stays_put}
 use Rattle.para_rhs.proofs.limits.limit_moved.Goals as goal
 
 pub returns-then-is_zero-clause-value : goal.returns-then-is_zero-clause-value

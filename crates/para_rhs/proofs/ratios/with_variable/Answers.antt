@@ -3,7 +3,7 @@ use Rattle.std.specs.Prelude.{Option, not}
 use Rattle.exact_values.specs.Rational.{ℚ}
 use Rattle.lp_definitions.specs.LinearProgram.{value_at}
 use Rattle.path_definitions.specs.Moves.{lowers, signed}
-use Rattle.bounded_primal.proofs.Skips.{value_read}
+use Rattle.basis_values.proofs.Skips.{value_read}
 use Rattle.para_rhs.specs.Cheapest.{brings, IsBest}
 use Rattle.para_rhs.specs.declared.ratios.Candidate.{Candidate}
 use Rattle.para_rhs.proofs.BestRatio.{brings_apart, best_without, best_first, best_kept, best_refused}

@@ -1,6 +1,6 @@
 use Rattle.std.proofs.Common.{rules, ◌≡◌, Err, arith}
 use Rattle.lp_definitions.specs.LinearProgram.{value_at}
-use Rattle.bounded_primal.proofs.Skips.{value_next}
+use Rattle.basis_values.proofs.Skips.{value_next}
 use Rattle.para_rhs.proofs.Narrowing.{next_reach, refused_at}
 use Rattle.para_rhs.proofs.reaching.ends_by.Goals as goal
 

@@ -2,8 +2,8 @@ use Rattle.std.proofs.Common.{rules, ◌≡◌, Err, sym, ◌∙◌, ap, subst, 
 use Rattle.exact_values.specs.Rational.{ℚ, ◌-ℚ◌}
 use Rattle.frac128.specs.declared.Op.TheVariants.{Sub, Div}
 use Rattle.postoptimal_definitions.specs.RhsRun.{shift_of}
-use Rattle.bounded_primal.specs.Formulas.{IsRefusal}
-use Rattle.bounded_primal.specs.declared.formula.Formula.{Formula}
+use Rattle.basis_values.specs.Formulas.{IsRefusal}
+use Rattle.basis_values.specs.declared.formula.Formula.{Formula}
 use Rattle.para_rhs.specs.Limits.{number_of}
 use Rattle.para_rhs.specs.Reach.{of_distance, of_quotient, basic_formula}
 use Rattle.para_rhs.proofs.Narrowing.{apart_if_ahead, closing_apart}

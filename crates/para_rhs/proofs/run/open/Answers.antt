@@ -6,7 +6,7 @@ use Rattle.lp_model.specs.RatesCalls.{IfOverflow}
 use Rattle.evidence_definitions.specs.Statements.{Pararhs}
 use Rattle.evidence_definitions.specs.Evidence.{ShiftHolds}
 use Rattle.postoptimal_definitions.specs.RhsRun.{rhs_family}
-use Rattle.bounded_primal.specs.Calls.{HasRates}
+use Rattle.basis_values.specs.Calls.{HasRates}
 use Rattle.bounded_primal.specs.Outcomes.{IsTrueOutcome}
 use Rattle.bounded_primal.specs.Stops.{PrimalStops}
 use Rattle.para_rhs.proofs.OpeningFacts.{to_first, from_first, opening_stops, no_opening}

@@ -1,6 +1,9 @@
-use Rattle.std.proofs.Common.{rules}
+use Rattle.std.proofs.Common.{rules, Ok}
 use Rattle.std.proofs.lemmas.Result.{err_from_is_err_and}
 use Rattle.lp_definitions.specs.LinearProgram.{IsLinearProgram}
+use Rattle.lp_model.specs.declared.reports.Outcome.TheVariants.{Crossed, Infeasible, Unbounded}
+use Rattle.lp_model.specs.declared.reports.ParaReport.TheVariants.{Opening, Run}
+use Rattle.para_rhs.proofs.Complete.{rhs_answers}
 use Rattle.para_rhs.proofs.OpeningFacts.{opening_follows, opening_reported, first_optimal, first_opens, run_ends, run_true, chain_stops}
 use Rattle.para_rhs.proofs.run.para_rhs.Goals as goal
 
@@ -61,3 +64,35 @@ returns-clause-ends g c =
 
 pub returns-clause-waypoints : goal.returns-clause-waypoints
 returns-clause-waypoints g c = opening_follows c.args.lp.now c.args.run.now c.args.basis.now c.open.new.basis (g.R.Rates.waypoints c.args.rates.now) (g.R.Rates.waypoints c.open.new.rates) c.in_ok-outcome.ensures.waypoints
+
+pub returns-in_err-outcome-clause-complete : goal.returns-in_err-outcome-clause-complete
+returns-in_err-outcome-clause-complete g c =
+    let p = err_from_is_err_and c.from_residual.result c.from_residual.ensures.1 in
+    let lawful : IsLinearProgram c.args.lp.now = search rules in
+    rhs_answers c.args.lp.now c.args.run.now lawful c.args.basis.now (record { is_basis = c.requires.rates.is_basis; nonsingular = c.requires.rates.nonsingular }) c.open.new.basis (g.R.Rates.waypoints c.args.rates.now) (g.R.Rates.waypoints c.open.new.rates) c.from_residual.result (rw (p.1) tt) (rw (p.1, p.2) c.in_err-outcome.ensures.stops)
+
+pub returns-in_err-chain-in-Optimal-clause-complete : goal.returns-in_err-chain-in-Optimal-clause-complete
+returns-in_err-chain-in-Optimal-clause-complete g c =
+    let p = err_from_is_err_and c.from_residual-in_err-chain-in-Optimal.result c.from_residual-in_err-chain-in-Optimal.ensures.1 in
+    let lawful : IsLinearProgram c.args.lp.now = search rules in
+    rhs_answers c.args.lp.now c.args.run.now lawful c.args.basis.now (record { is_basis = c.requires.rates.is_basis; nonsingular = c.requires.rates.nonsingular }) c.go_on.new.basis (g.R.Rates.waypoints c.args.rates.now) (g.R.Rates.waypoints c.go_on.new.rates) c.from_residual-in_err-chain-in-Optimal.result (rw (p.1) tt) (returns-in_err-chain-in-Optimal-clause-stops g c)
+
+pub returns-in-Optimal-clause-complete : goal.returns-in-Optimal-clause-complete
+returns-in-Optimal-clause-complete g c =
+    let lawful : IsLinearProgram c.args.lp.now = search rules in
+    rhs_answers c.args.lp.now c.args.run.now lawful c.args.basis.now (record { is_basis = c.requires.rates.is_basis; nonsingular = c.requires.rates.nonsingular }) c.go_on.new.basis (g.R.Rates.waypoints c.args.rates.now) (g.R.Rates.waypoints c.go_on.new.rates) (Ok (Run c.in_ok-chain-in-Optimal.chain)) (returns-in-Optimal-clause-ends g c) tt
+
+pub returns-in-Crossed-clause-complete : goal.returns-in-Crossed-clause-complete
+returns-in-Crossed-clause-complete g c =
+    let lawful : IsLinearProgram c.args.lp.now = search rules in
+    rhs_answers c.args.lp.now c.args.run.now lawful c.args.basis.now (record { is_basis = c.requires.rates.is_basis; nonsingular = c.requires.rates.nonsingular }) c.open.new.basis (g.R.Rates.waypoints c.args.rates.now) (g.R.Rates.waypoints c.open.new.rates) (Ok (Opening (Crossed c.in-Crossed.k))) (returns-in-Crossed-clause-ends g c) tt
+
+pub returns-in-Infeasible-clause-complete : goal.returns-in-Infeasible-clause-complete
+returns-in-Infeasible-clause-complete g c =
+    let lawful : IsLinearProgram c.args.lp.now = search rules in
+    rhs_answers c.args.lp.now c.args.run.now lawful c.args.basis.now (record { is_basis = c.requires.rates.is_basis; nonsingular = c.requires.rates.nonsingular }) c.open.new.basis (g.R.Rates.waypoints c.args.rates.now) (g.R.Rates.waypoints c.open.new.rates) (Ok (Opening (Infeasible c.in-Infeasible.steps c.in-Infeasible.ray))) (returns-in-Infeasible-clause-ends g c) tt
+
+pub returns-clause-complete : goal.returns-clause-complete
+returns-clause-complete g c =
+    let lawful : IsLinearProgram c.args.lp.now = search rules in
+    rhs_answers c.args.lp.now c.args.run.now lawful c.args.basis.now (record { is_basis = c.requires.rates.is_basis; nonsingular = c.requires.rates.nonsingular }) c.open.new.basis (g.R.Rates.waypoints c.args.rates.now) (g.R.Rates.waypoints c.open.new.rates) (Ok (Opening (Unbounded c.in-Unbounded.steps c.in-Unbounded.point c.in-Unbounded.direction))) (returns-clause-ends g c) tt

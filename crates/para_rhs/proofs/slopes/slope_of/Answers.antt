@@ -2,8 +2,8 @@ use Rattle.std.proofs.Common.{sym, subst}
 use Rattle.lp_definitions.specs.Basis.{basics_of, IsPointOf}
 use Rattle.lp_definitions.specs.LinearProgram.{LinearProgram, value_at}
 use Rattle.lp_definitions.specs.declared.Evidence.{Evidence}
-use Rattle.bounded_primal.specs.Calls.{HasRates, PointRefused}
-use Rattle.bounded_primal.proofs.Covered.{keeps_same}
+use Rattle.basis_values.specs.Calls.{HasRates, PointRefused}
+use Rattle.basis_values.proofs.Covered.{keeps_same}
 use Rattle.para_rhs.specs.Refusals.{RunRefused}
 use Rattle.para_rhs.proofs.SlopePrograms.{to_slope, is_slope}
 use Rattle.para_rhs.proofs.SlopeStops.{slope_refused}

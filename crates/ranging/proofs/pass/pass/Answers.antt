@@ -3,7 +3,7 @@ use Rattle.lp_definitions.specs.LinearProgram.{value_at, size}
 use Rattle.lp_definitions.specs.Basis.{basics_of}
 use Rattle.lp_laws.proofs.WaypointLaws.{keeps_then}
 use Rattle.lp_model.proofs.Stops.{IfOverflow-map}
-use Rattle.bounded_primal.proofs.Covered.{keeps_same}
+use Rattle.basis_values.proofs.Covered.{keeps_same}
 use Rattle.ranging.specs.Tables.{AllMet, AllFound}
 use Rattle.ranging.proofs.AtBasis.{found_none}
 use Rattle.ranging.proofs.Shown.{range_refused_later}

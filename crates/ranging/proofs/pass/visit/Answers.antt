@@ -3,7 +3,7 @@ use Rattle.lp_definitions.specs.LinearProgram.{value_at}
 use Rattle.lp_definitions.specs.Basis.{basics_of}
 use Rattle.lp_model.specs.RatesCalls.{IsRowOf}
 use Rattle.lp_model.proofs.Stops.{IfOverflow-map}
-use Rattle.bounded_primal.proofs.RatesStops.{row_refused}
+use Rattle.basis_values.proofs.RatesStops.{row_refused}
 use Rattle.ranging.proofs.Shown.{range_by_point}
 use Rattle.ranging.proofs.AtBasis.{within, holds_now, ends_of_row, met_more}
 use Rattle.ranging.proofs.Refused.{limits_refused, ratio_refused}

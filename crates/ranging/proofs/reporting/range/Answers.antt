@@ -3,7 +3,8 @@ use Rattle.lp_definitions.specs.LinearProgram.{value_at}
 use Rattle.lp_definitions.specs.Basis.{basics_of, ArePricesOf}
 use Rattle.lp_laws.proofs.WaypointLaws.{keeps_then}
 use Rattle.lp_model.proofs.Stops.{IfOverflow-map}
-use Rattle.bounded_primal.proofs.Covered.{keeps_same}
+use Rattle.basis_values.proofs.Covered.{keeps_same}
+use Rattle.ranging.proofs.Complete.{range_answers}
 use Rattle.ranging.proofs.Results.{take_all, IfErr-map}
 use Rattle.ranging.proofs.Shown.{range_by_point, range_refused_later}
 use Rattle.ranging.proofs.reporting.range.Goals as goal
@@ -53,3 +54,17 @@ returns-clause-overflow g c =
     (keeps_then c.args.lp.now.matrix (basics_of c.args.basis.now) (g.R.Rates.waypoints c.args.rates.now) (basics_of c.args.basis.now) (g.R.Rates.waypoints c.point_of.new.rates) (g.R.Rates.waypoints c.prices_of.new.rates)
     c.point_of.ensures.waypoints c.prices_of.ensures.waypoints) x) h)
     c.range_at.ensures.overflow
+
+pub returns-in_err-point_of-clause-complete : goal.returns-in_err-point_of-clause-complete
+returns-in_err-point_of-clause-complete g c =
+    let is_err : c.from_residual-in_err-point_of.result ≡ Err c.in_err-point_of.field-0.0 = search rules in
+    range_answers c.args.lp.now c.args.basis.now (g.R.Rates.waypoints c.args.rates.now) (g.R.Rates.waypoints c.point_of.new.rates) c.from_residual-in_err-point_of.result (rw is_err tt) (returns-in_err-point_of-clause-overflow g c)
+
+pub returns-in_err-prices_of-clause-complete : goal.returns-in_err-prices_of-clause-complete
+returns-in_err-prices_of-clause-complete g c =
+    let is_err : c.from_residual-in_err-prices_of.result ≡ Err c.in_err-prices_of.field-0.0 = search rules in
+    range_answers c.args.lp.now c.args.basis.now (g.R.Rates.waypoints c.args.rates.now) (g.R.Rates.waypoints c.prices_of.new.rates) c.from_residual-in_err-prices_of.result (rw is_err tt) (returns-in_err-prices_of-clause-overflow g c)
+
+pub returns-clause-complete : goal.returns-clause-complete
+returns-clause-complete g c =
+    range_answers c.args.lp.now c.args.basis.now (g.R.Rates.waypoints c.args.rates.now) (g.R.Rates.waypoints c.range_at.new.rates) c.range_at.result c.range_at.ensures.report (returns-clause-overflow g c)

@@ -1,0 +1,95 @@
+-- How long a motion lasts until a variable reaches the limit ahead of it.
+use Rattle.std.proofs.Common.{◌≡◌, ◌≢◌, ℕ, ◌+◌, Bool, true, false, refl, sym, ◌∙◌, ap, ap₂, subst, arith, add-one, pos}
+use Rattle.std.specs.Prelude.{Option, Some, None, option_map}
+use Rattle.exact_values.specs.Rational.{ℚ, zero_ℚ, one_ℚ, neg_ℚ, inverse_ℚ, ◌-ℚ◌, ◌*ℚ◌, ◌/ℚ◌}
+use Rattle.exact_values.specs.Tests.{lt_ℚ}
+use Rattle.exact_values.proofs.Inverse.{inverse-neg}
+use Rattle.exact_values.proofs.Order.{lt_irrefl}
+use Rattle.exact_values.proofs.Ring.{by_ring1, by_ring2, number, ◌⊗◌, ◌≐◌, opposite}
+use Rattle.lp_definitions.specs.LinearProgram.{LinearProgram, Vector, lower_of, upper_of}
+use Rattle.path_definitions.specs.Moves.{limit_ahead, room, signed}
+use Rattle.path_laws.proofs.Tests.{lt_true}
+use Rattle.basis_values.specs.Motions.{motion}
+use Rattle.frac128.specs.declared.Op.TheVariants.{Sub, Div}
+use Rattle.lp_definitions.specs.declared.Evidence.{Evidence}
+use Rattle.basis_values.specs.Formulas.{IsRefusal}
+use Rattle.basis_values.specs.declared.formula.Formula.{Formula}
+use Rattle.basis_values.specs.Reach.{IsAhead, IsNearest, sooner, reach_formula, RoomRefused, of_distance, of_quotient}
+use Rattle.basis_values.specs.declared.reach.Ahead.{Ahead}
+use Rattle.basis_values.specs.declared.reach.Reach.{Reach}
+use Rattle.basis_values.proofs.Nearest.{next_nearest}
+
+-- what rests has no limit ahead
+pub none_ahead : (p : LinearProgram) (k : ℕ) (v : ℚ) → v ≡ zero_ℚ → IsAhead p (λ _. v) k None
+none_ahead p k v e = subst (λ (x : ℚ). limit_ahead p (λ _. x) k ≡ None) (sym e) (rw at_rest refl)
+  where
+    by_test : (b : Bool) → lt_ℚ zero_ℚ zero_ℚ ≡ b → lt_ℚ zero_ℚ zero_ℚ ≡ false
+    by_test true is = absurd (lt_irrefl (lt_true zero_ℚ zero_ℚ is))
+    by_test false is = is
+
+    at_rest : lt_ℚ zero_ℚ zero_ℚ ≡ false
+    at_rest = by_test (lt_ℚ zero_ℚ zero_ℚ) refl
+
+pub ahead_up : (p : LinearProgram) (k : ℕ) (v l : ℚ) → lt_ℚ zero_ℚ v ≡ true → upper_of p k ≡ Some l → IsAhead p (λ _. v) k (Some (record { term = 2; limit = l }))
+ahead_up p k v l up is = (rw up is, is, omega arith, λ e. lt_irrefl (lt_true zero_ℚ zero_ℚ (subst (λ (x : ℚ). lt_ℚ zero_ℚ x ≡ true) e up)))
+
+pub ahead_down : (p : LinearProgram) (k : ℕ) (v l : ℚ) → lt_ℚ zero_ℚ v ≡ false → lt_ℚ v zero_ℚ ≡ true → lower_of p k ≡ Some l → IsAhead p (λ _. v) k (Some (record { term = 1; limit = l }))
+ahead_down p k v l not_up down is = (rw (not_up, down) is, is, omega arith, λ e. lt_irrefl (lt_true zero_ℚ zero_ℚ (subst (λ (x : ℚ). lt_ℚ x zero_ℚ ≡ true) e down)))
+
+pub ahead_at : (p : LinearProgram) (v : Vector) (k : ℕ) (speed : ℚ) (o : Option Ahead) → speed ≡ v k → IsAhead p (λ _. speed) k o → IsAhead p v k o
+ahead_at p v k speed None e h = subst (λ (x : ℚ). limit_ahead p (λ _. x) k ≡ None) e h
+ahead_at p v k speed (Some a) e h = (subst (λ (x : ℚ). limit_ahead p (λ _. x) k ≡ Some a.limit) e h.0, h.1, h.2, λ vanishes. h.3 (e ∙ vanishes))
+
+-- over the opposite of a rate
+over_opposite : (x d : ℚ) → d ≢ zero_ℚ → neg_ℚ (x /ℚ d) ≡ x /ℚ neg_ℚ d
+over_opposite x d some = by_ring2 x (inverse_ℚ d) (λ x i. opposite (x ⊗ i) ≐ x ⊗ opposite i) refl ∙ ap (λ i. x *ℚ i) (sym (inverse-neg d some))
+
+pub signed_apart : (up : Bool) (d : ℚ) → signed up d ≢ zero_ℚ → d ≢ zero_ℚ
+signed_apart true d some = some
+signed_apart false d some = λ vanishes. some (ap neg_ℚ vanishes ∙ neg_nothing)
+  where
+    neg_nothing : neg_ℚ zero_ℚ ≡ zero_ℚ
+    neg_nothing = by_ring1 zero_ℚ (λ x. opposite (number (pos 0)) ≐ number (pos 0)) refl
+
+pub signed_over : (up : Bool) (x d : ℚ) → d ≢ zero_ℚ → signed up (x /ℚ d) ≡ x /ℚ signed up d
+signed_over true x d some = refl
+signed_over false x d some = over_opposite x d some
+
+pub length_found : (p : LinearProgram) (z d : Vector) (up : Bool) (k : ℕ) (l change : ℚ) → limit_ahead p (motion d up) k ≡ Some l → d k ≢ zero_ℚ → change ≡ (l -ℚ z k) /ℚ d k → Some (signed up change) ≡ room p z (motion d up) k
+length_found p z d up k l change ahead moves is =
+    ap (λ x. Some (signed up x)) is ∙ ap Some (signed_over up (l -ℚ z k) (d k) moves) ∙ sym (ap (option_map (λ l. (l -ℚ z k) /ℚ motion d up k)) ahead)
+
+pub no_length : (p : LinearProgram) (z v : Vector) (k : ℕ) → limit_ahead p v k ≡ None → None ≡ room p z v k
+no_length p z v k e = sym (ap (option_map (λ l. (l -ℚ z k) /ℚ v k)) e)
+
+-- ---- what is refused
+
+module _ (p : LinearProgram) (z d : Vector) (up : Bool) (q k : ℕ) (a : Ahead) (speed rate value : ℚ) (rate_is : rate ≡ d k) (speed_is : speed ≡ signed up rate) (ahead : IsAhead p (λ _. speed) k (Some a)) (value_is : value ≡ z k) where
+  there : IsAhead p (motion d up) k (Some a)
+  there = ahead_at p (motion d up) k speed (Some a) (speed_is ∙ ap (signed up) rate_is) ahead
+
+  pub moves : rate ≢ zero_ℚ
+  moves = signed_apart up rate (λ e. ahead.3 (speed_is ∙ e))
+
+  pub distance_refused : (f : Formula) (e : Evidence) → f ≡ reach_formula 6 0 k a.term → IsRefusal f Sub a.limit value e → RoomRefused p z d up q k e
+  distance_refused f e is h =
+      of_distance a.term a.limit there.2 there.0 there.1
+      (subst (λ (x : ℚ). IsRefusal (reach_formula 6 0 k a.term) Sub a.limit x e) value_is (subst (λ (g : Formula). IsRefusal g Sub a.limit value e) is h))
+
+  pub change_refused : (f : Formula) (e : Evidence) (distance : ℚ) → distance ≡ a.limit -ℚ value → f ≡ reach_formula 7 q k a.term → IsRefusal f Div distance rate e → rate ≢ one_ℚ → RoomRefused p z d up q k e
+  change_refused f e distance far is h other =
+      of_quotient a.term a.limit there.0 there.1 (λ vanishes. moves (rate_is ∙ vanishes)) (λ own. other (rate_is ∙ own))
+      (subst (λ (x : ℚ). IsRefusal (reach_formula 7 q k a.term) Div (a.limit -ℚ z k) x e) rate_is
+      (subst (λ (x : ℚ). IsRefusal (reach_formula 7 q k a.term) Div x rate e) (far ∙ ap (λ v. a.limit -ℚ v) value_is) (subst (λ (g : Formula). IsRefusal g Div distance rate e) is h)))
+
+  pub length_is : (distance change length : ℚ) → distance ≡ a.limit -ℚ value → change ≡ distance /ℚ rate → length ≡ signed up change → Some length ≡ room p z (motion d up) k
+  length_is distance change length far is counted =
+      ap Some counted
+      ∙ length_found p z d up k a.limit change there.0 (λ vanishes. moves (rate_is ∙ vanishes)) (is ∙ ap₂ (λ x y. x /ℚ y) (far ∙ ap (λ v. a.limit -ℚ v) value_is) rate_is)
+
+-- ---- the search goes on
+
+pub nearest_more : (f : ℕ → Option ℚ) (n : ℕ) (nearest next : Option Reach) (length : Option ℚ) → IsNearest f n nearest → length ≡ f (n + 1) → next ≡ sooner nearest length (n + 1) → IsNearest f (n + 1) next
+nearest_more f n nearest next length h is found =
+    subst (λ (r : Option Reach). IsNearest f (n + 1) r) (sym (found ∙ ap (λ o. sooner nearest o (n + 1)) is))
+    (subst (λ (m : ℕ). IsNearest f m (sooner nearest (f m) m)) (sym (add-one n)) (next_nearest f n nearest h))

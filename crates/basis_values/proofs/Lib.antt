@@ -1,0 +1,10 @@
+pub mod Covered
+pub mod Existence
+pub mod Lengths
+pub mod Nearest
+pub mod PointSums
+pub mod PriceLaws
+pub mod RatesStops
+pub mod Refusals
+pub mod Skips
+pub mod TermLaws

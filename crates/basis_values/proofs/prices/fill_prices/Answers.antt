@@ -1,0 +1,39 @@
+use Rattle.std.proofs.Common.{◌≡◌, ℕ, Err, None, rules, subst}
+use Rattle.lp_definitions.specs.LinearProgram.{value_at}
+use Rattle.lp_definitions.specs.Basis.{basics_of}
+use Rattle.lp_model.specs.RatesCalls.{IsRowOf}
+use Rattle.lp_laws.proofs.WaypointLaws.{keeps_then}
+use Rattle.lp_model.proofs.Stops.{IfOverflow-map}
+use Rattle.basis_values.proofs.TermLaws.{IfErr-map}
+use Rattle.basis_values.proofs.Covered.{point_refused_later}
+use Rattle.basis_values.proofs.RatesStops.{row_refused, keeps_at}
+use Rattle.basis_values.proofs.PriceLaws.{plain_prices}
+use Rattle.basis_values.proofs.prices.fill_prices.Goals as goal
+
+pub returns-in_err-row-clause-overflow : goal.returns-in_err-row-clause-overflow
+returns-in_err-row-clause-overflow g c =
+    let is_err : c.from_residual.result ≡ Err c.in_err-row.field-0.0 = search rules in
+    rw is_err (row_refused c.args.lp.now c.args.basis.now (g.R.Rates.matrix c.args.rates.now) (g.R.Rates.basics c.args.rates.now) (g.R.Rates.basics c.row.new.self) (g.R.Rates.waypoints c.args.rates.now) (g.R.Rates.waypoints c.row.new.self) c.in_err-row.field-0.0
+    c.requires.rates c.row.ensures.same_basics c.row.ensures.waypoints c.in_err-row.ensures.overflow)
+
+pub returns-in-None-clause-prices : goal.returns-in-None-clause-prices
+returns-in-None-clause-prices g c =
+    let same : c.lp.inside.objective ≡ c.args.lp.now.objective = search rules in
+    let none : c.args.lp.now.change ≡ None = search rules in
+    plain_prices c.args.lp.now c.args.basis.now (value_at c.row.new.out) none
+    (subst (λ (o : ℕ). IsRowOf c.args.lp.now.matrix (basics_of c.args.basis.now) o (value_at c.row.new.out)) same (rw (c.requires.rates.same_matrix, c.requires.rates.same_basics) at c.in_ok-row.ensures.rates))
+
+pub returns-in-Some-clause-waypoints : goal.returns-in-Some-clause-waypoints
+returns-in-Some-clause-waypoints g c =
+    keeps_then c.args.lp.now.matrix (basics_of c.args.basis.now) (g.R.Rates.waypoints c.args.rates.now) (basics_of c.args.basis.now) (g.R.Rates.waypoints c.row.new.self) (g.R.Rates.waypoints c.add_change_row.new.rates)
+    (keeps_at c.args.lp.now c.args.basis.now (g.R.Rates.matrix c.args.rates.now) (g.R.Rates.basics c.args.rates.now) (g.R.Rates.basics c.row.new.self) (g.R.Rates.waypoints c.args.rates.now) (g.R.Rates.waypoints c.row.new.self)
+    c.requires.rates c.row.ensures.same_basics c.row.ensures.waypoints)
+    c.add_change_row.ensures.waypoints
+
+pub returns-in-Some-clause-overflow : goal.returns-in-Some-clause-overflow
+returns-in-Some-clause-overflow g c =
+    IfErr-map c.add_change_row.result
+    (λ stop h. IfOverflow-map stop (λ e x. point_refused_later c.args.lp.now (g.R.Rates.waypoints c.args.rates.now) (g.R.Rates.waypoints c.row.new.self) (g.R.Rates.waypoints c.add_change_row.new.rates) c.args.basis.now e
+    (keeps_at c.args.lp.now c.args.basis.now (g.R.Rates.matrix c.args.rates.now) (g.R.Rates.basics c.args.rates.now) (g.R.Rates.basics c.row.new.self) (g.R.Rates.waypoints c.args.rates.now) (g.R.Rates.waypoints c.row.new.self)
+    c.requires.rates c.row.ensures.same_basics c.row.ensures.waypoints) x) h)
+    c.add_change_row.ensures.overflow

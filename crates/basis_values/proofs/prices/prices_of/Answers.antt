@@ -1,0 +1,17 @@
+use Rattle.std.proofs.Common.{◌≡◌, ◌∙◌, drop, length, arith}
+use Rattle.lp_definitions.specs.Basis.{basics_of}
+use Rattle.basis_values.proofs.PriceLaws.{take_all}
+use Rattle.basis_values.proofs.Covered.{keeps_same}
+use Rattle.basis_values.proofs.prices.prices_of.Goals as goal
+
+pub returns-in_err-change-clause-waypoints : goal.returns-in_err-change-clause-waypoints
+returns-in_err-change-clause-waypoints g c = keeps_same c.args.lp.now.matrix (basics_of c.args.basis.now) (g.R.Rates.waypoints c.args.rates.now)
+
+pub returns-in_err-prices-clause-waypoints : goal.returns-in_err-prices-clause-waypoints
+returns-in_err-prices-clause-waypoints g c = keeps_same c.args.lp.now.matrix (basics_of c.args.basis.now) (g.R.Rates.waypoints c.args.rates.now)
+
+pub returns-clause-prices : goal.returns-clause-prices
+returns-clause-prices g c =
+    let same : c.copy_from_slice.new.self ≡ c.fill_prices.new.prices = c.copy_from_slice.ensures.after ∙ c.deref.ensures.value
+    ∙ take_all c.fill_prices.new.prices (drop (length c.fill_prices.new.prices) c.in_ok-prices.prices.items) c.in_ok-prices.prices.len (omega arith) in
+    rw same c.in_ok-fill_prices.ensures.prices

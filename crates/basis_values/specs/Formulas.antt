@@ -1,0 +1,14 @@
+-- A refused operation of a formula at the basis itself.
+--     IsRefusal f op left right e  the evidence has the formula with its numbers, and the operation with its operands
+use Rattle.std.specs.Prelude.{◌≡◌}
+use Rattle.exact_values.specs.Rational.{ℚ}
+use Rattle.frac128.specs.declared.Op.{Op}
+use Rattle.lp_definitions.specs.RatesEvidence.{Names, Refuses}
+use Rattle.lp_definitions.specs.declared.Evidence.{Evidence}
+use Rattle.basis_values.specs.declared.formula.Formula.{Formula}
+
+pub record IsRefusal (f : Formula) (op : Op) (left right : ℚ) (e : Evidence) : Type 0 where
+  pub names : Names e f.number f.p f.q f.i f.j f.term
+  pub no_way : e.way ≡ 0
+  pub is_theta : e.theta ≡ f.theta
+  pub refuses : Refuses e op left right

@@ -1,0 +1,29 @@
+-- Prices with a change row, variable by variable.
+--     AreChanged theta h o n y     y has theta times h added to o at the first n variables
+--     ChangedRefused               the product at j is refused, or the sum with it
+use Rattle.std.specs.Prelude.{◌≡◌, ◌≢◌, ℕ, ◌≤◌}
+use Rattle.exact_values.specs.Rational.{ℚ, zero_ℚ, ◌+ℚ◌, ◌*ℚ◌}
+use Rattle.frac128.specs.declared.Op.TheVariants.{Add, Mul}
+use Rattle.lp_definitions.specs.LinearProgram.{Vector}
+use Rattle.lp_definitions.specs.declared.Evidence.{Evidence}
+use Rattle.basis_values.specs.Formulas.{IsRefusal}
+use Rattle.basis_values.specs.declared.formula.Formula.{Formula}
+
+-- the formula of the price of j
+abbrev pub price_formula : ℕ → ℚ → Formula
+price_formula j theta = record { number = 17; p = 0; q = 0; i = 0; j = j; term = 0; theta = theta }
+
+pub data ChangedRefused (theta change rate : ℚ) (j : ℕ) (e : Evidence) : Type 0 where
+  of_product : IsRefusal (price_formula j theta) Mul theta change e → ChangedRefused theta change rate j e
+  of_sum : IsRefusal (price_formula j theta) Add rate (theta *ℚ change) e → ChangedRefused theta change rate j e
+
+abbrev pub AreChanged : ℚ → Vector → Vector → ℕ → Vector → Type 0
+AreChanged theta h o n y = (k : ℕ) → 1 ≤ k → k ≤ n → y k ≡ o k +ℚ theta *ℚ h k
+
+-- the price of some variable is refused, whose change is not 0
+pub record SomeChangedRefused (theta : ℚ) (h o : Vector) (n : ℕ) (e : Evidence) : Type 0 where
+  pub j : ℕ
+  pub low : 1 ≤ j
+  pub high : j ≤ n
+  pub changes : h j ≢ zero_ℚ
+  pub refused : ChangedRefused theta (h j) (o j) j e

@@ -1,0 +1,56 @@
+-- The search for what stops a motion, variable by variable.
+--     sooner nearest room k        k, if it reaches a limit before what is nearest so far
+--     IsNearest f n nearest        what reaches a limit first of the variables up to n, where f has the lengths
+--     RoomRefused                  the distance of k to the limit ahead is refused, or that over the rate of k
+use Rattle.std.specs.Prelude.{◌≡◌, ◌≢◌, ℕ, ◌≤◌, ◌<◌, Bool, true, false, Option, Some, None, option_map, if◌then◌else◌}
+use Rattle.exact_values.specs.Rational.{ℚ, zero_ℚ, one_ℚ, ◌-ℚ◌}
+use Rattle.frac128.specs.declared.Op.TheVariants.{Sub, Div}
+use Rattle.lp_definitions.specs.LinearProgram.{LinearProgram, Vector, IsVariable}
+use Rattle.lp_definitions.specs.declared.Evidence.{Evidence}
+use Rattle.path_definitions.specs.Moves.{limit_ahead, is_no_later}
+use Rattle.evidence_definitions.specs.Formulas.{limit_numbered}
+use Rattle.basis_values.specs.Formulas.{IsRefusal}
+use Rattle.basis_values.specs.Motions.{motion}
+use Rattle.basis_values.specs.declared.formula.Formula.{Formula}
+use Rattle.basis_values.specs.declared.reach.Reach.{Reach}
+use Rattle.basis_values.specs.declared.reach.Ahead.{Ahead}
+
+abbrev pub length_of : Option Reach → Option ℚ
+length_of nearest = option_map (λ r. r.length) nearest
+
+abbrev pub reach_of : ℕ → ℚ → Reach
+reach_of k l = record { p = k; length = l }
+
+abbrev pub sooner : Option Reach → Option ℚ → ℕ → Option Reach
+sooner nearest room k = if is_no_later (length_of nearest) room then nearest else option_map (reach_of k) room
+
+-- r reaches a limit, none up to n does so sooner, and each before it later
+pub record IsFirst (f : ℕ → Option ℚ) (n : ℕ) (r : Reach) : Type 0 where
+  pub low : 1 ≤ r.p
+  pub high : r.p ≤ n
+  pub reaches : f r.p ≡ Some r.length
+  pub first : (i : ℕ) → 1 ≤ i → i ≤ n → is_no_later (f r.p) (f i) ≡ true
+  pub later : (j : ℕ) → 1 ≤ j → j < r.p → is_no_later (f j) (f r.p) ≡ false
+
+abbrev pub IsNearest : (ℕ → Option ℚ) → ℕ → Option Reach → Type 0
+IsNearest f n None = (k : ℕ) → 1 ≤ k → k ≤ n → f k ≡ None
+IsNearest f n (Some r) = IsFirst f n r
+
+-- formula 6 or 7 of k and its limit of this number
+abbrev pub reach_formula : ℕ → ℕ → ℕ → ℕ → Formula
+reach_formula number q k term = record { number = number; p = 0; q = q; i = k; j = 0; term = term; theta = zero_ℚ }
+
+pub data RoomRefused (p : LinearProgram) (z d : Vector) (up : Bool) (q k : ℕ) (e : Evidence) : Type 0 where
+  of_distance : (term : ℕ) (l : ℚ) → term < 3 → limit_ahead p (motion d up) k ≡ Some l → limit_numbered p k term ≡ Some l →
+      IsRefusal (reach_formula 6 0 k term) Sub l (z k) e → RoomRefused p z d up q k e
+  of_quotient : (term : ℕ) (l : ℚ) → limit_ahead p (motion d up) k ≡ Some l → limit_numbered p k term ≡ Some l → d k ≢ zero_ℚ → d k ≢ one_ℚ →
+      IsRefusal (reach_formula 7 q k term) Div (l -ℚ z k) (d k) e → RoomRefused p z d up q k e
+
+-- the limit ahead of k with its number, if there is one
+abbrev pub IsAhead : LinearProgram → Vector → ℕ → Option Ahead → Type 0
+IsAhead p v k None = limit_ahead p v k ≡ None
+IsAhead p v k (Some a) = (limit_ahead p v k ≡ Some a.limit) × (limit_numbered p k a.term ≡ Some a.limit) × (a.term < 3) × (v k ≢ zero_ℚ)
+
+-- the length of some variable is refused
+abbrev pub SomeRoomRefused : LinearProgram → Vector → Vector → Bool → ℕ → Evidence → Type 0
+SomeRoomRefused p z d up q e = (k : ℕ) × IsVariable p.matrix k × RoomRefused p z d up q k e

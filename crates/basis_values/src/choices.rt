@@ -1,0 +1,149 @@
+//! The least-numbered variables that the path chooses.
+
+ghost use Rattle.std.specs.Prelude.{◌≡◌, ◌&&◌, ◌≤◌, length};
+ghost use Rattle.exact_values.specs.Tests.{lt_ℚ};
+ghost use Rattle.lp_definitions.specs.LinearProgram.{size, value_at, IsVariable};
+ghost use Rattle.lp_definitions.specs.Basis.{basics_of, is_in};
+ghost use Rattle.path_definitions.specs.Moves.{least, is_crossed, is_fixed, is_below, is_above, is_outside, lowers, entering, signed};
+ghost use Rattle.basis_values.specs.Motions.{motion};
+
+use frac128::Frac;
+use lp_model::{Basis, Lp, Status};
+
+/// Whether `x` is below `y`.
+pub fn is_less(x: Frac, y: Frac) -> bool
+    ensures { result ≡ lt_ℚ x y }
+{
+    x.compare(y).is_lt()
+}
+
+/// The value as it counts upward or downward.
+pub fn counted(value: Frac, up: bool) -> Frac
+    ensures { result ≡ signed up value }
+{
+    if up { value } else { value.neg() }
+}
+
+/// Whether both limits are there, and the lower one is above the upper one.
+fn crosses(lp: &Lp, k: u32) -> bool
+    requires { IsVariable lp.now.matrix k }
+    ensures { result ≡ is_crossed lp.now k }
+{
+    match (lp.lower_limit(k), lp.upper_limit(k)) {
+        (Some(lower), Some(upper)) => is_less(upper, lower),
+        _ => false,
+    }
+}
+
+/// The least-numbered variable whose lower limit is above its upper one.
+pub fn crossed(lp: &Lp) -> Option<u32>
+    ensures { result ≡ least lp.now (is_crossed lp.now) }
+{
+    for k in 0..lp.number_of_variables() {
+        if crosses(lp, k + 1) {
+            return Some(k + 1);
+        }
+    }
+    None
+}
+
+/// Whether `k` lies below its lower limit.
+pub fn lies_below(lp: &Lp, point: &[Frac], k: u32) -> bool
+    requires variable { IsVariable lp.now.matrix k }
+    requires places { length point.now ≡ size lp.now.matrix }
+    ensures { result ≡ is_below lp.now (value_at point.now) k }
+{
+    match lp.lower_limit(k) {
+        Some(lower) => is_less(point[k as usize - 1], lower),
+        None => false,
+    }
+}
+
+/// Whether `k` lies above its upper limit.
+fn lies_above(lp: &Lp, point: &[Frac], k: u32) -> bool
+    requires variable { IsVariable lp.now.matrix k }
+    requires places { length point.now ≡ size lp.now.matrix }
+    ensures { result ≡ is_above lp.now (value_at point.now) k }
+{
+    match lp.upper_limit(k) {
+        Some(upper) => is_less(upper, point[k as usize - 1]),
+        None => false,
+    }
+}
+
+/// Whether `k` is basic.
+pub fn stands_basic(basis: &Basis, k: u32) -> bool
+    requires low { 1 ≤ k }
+    requires high { k ≤ length basis.now }
+    ensures { result ≡ is_in (basics_of basis.now) k }
+{
+    basis.status(k) == Status::Bs
+}
+
+/// Whether `k` is basic, and outside its limits.
+fn lies_outside(lp: &Lp, basis: &Basis, point: &[Frac], k: u32) -> bool
+    requires variable { IsVariable lp.now.matrix k }
+    requires counted { length basis.now ≡ size lp.now.matrix }
+    requires places { length point.now ≡ size lp.now.matrix }
+    ensures { result ≡ (is_in (basics_of basis.now) k && is_outside lp.now (value_at point.now) k) }
+{
+    stands_basic(basis, k) && (lies_below(lp, point, k) || lies_above(lp, point, k))
+}
+
+/// The least-numbered basic outside its limits.
+pub fn outside(lp: &Lp, basis: &Basis, point: &[Frac]) -> Option<u32>
+    requires counted { length basis.now ≡ size lp.now.matrix }
+    requires places { length point.now ≡ size lp.now.matrix }
+    ensures { result ≡ least lp.now (λ k. is_in (basics_of basis.now) k && is_outside lp.now
+        (value_at point.now) k) }
+{
+    for k in 0..lp.number_of_variables() {
+        if lies_outside(lp, basis, point, k + 1) {
+            return Some(k + 1);
+        }
+    }
+    None
+}
+
+/// Whether both limits are there, and equal.
+fn stands_fixed(lp: &Lp, k: u32) -> bool
+    requires { IsVariable lp.now.matrix k }
+    ensures { result ≡ is_fixed lp.now k }
+{
+    match (lp.lower_limit(k), lp.upper_limit(k)) {
+        (Some(lower), Some(upper)) => lower.compare(upper).is_eq(),
+        _ => false,
+    }
+}
+
+/// Whether `k` may move so as to lower a quantity that has this rate at it.
+pub fn may_lower(lp: &Lp, basis: &Basis, rate: Frac, k: u32) -> bool
+    requires variable { IsVariable lp.now.matrix k }
+    requires counted { length basis.now ≡ size lp.now.matrix }
+    ensures { result ≡ lowers lp.now basis.now (λ _. rate) k }
+{
+    let zero = Frac::whole(0);
+    let moves = match basis.status(k) {
+        Status::Bs => false,
+        Status::Ll => is_less(rate, zero),
+        Status::Ul => is_less(zero, rate),
+        Status::Fr => is_less(rate, zero) || is_less(zero, rate),
+    };
+    moves && !stands_fixed(lp, k)
+}
+
+/// The least-numbered nonbasic that may move so as to lower a quantity with these rates, or, where they don't count up, one with
+/// the opposite rates.
+pub fn enterer(lp: &Lp, basis: &Basis, rates: &[Frac], up: bool) -> Option<u32>
+    requires counted { length basis.now ≡ size lp.now.matrix }
+    requires places { length rates.now ≡ size lp.now.matrix }
+    ensures { result ≡ entering lp.now basis.now (motion (value_at rates.now) up) }
+{
+    for k in 0..lp.number_of_variables() {
+        let rate = rates[k as usize];
+        if may_lower(lp, basis, counted(rate, up), k + 1) {
+            return Some(k + 1);
+        }
+    }
+    None
+}

@@ -1,0 +1,117 @@
+//! The operations of a formula at the basis itself. None is made that need not be: a sum with 0, a product with 0 or 1, a quotient
+//! by 1.
+
+ghost use Rattle.std.specs.Prelude.{◌≡◌, ◌≢◌, ◌↔◌, IsTrue, IfOk, IfErr, IfSome, OnErr};
+ghost use Rattle.exact_values.specs.Rational.{zero_ℚ, one_ℚ, ◌+ℚ◌, ◌-ℚ◌, ◌*ℚ◌, ◌/ℚ◌};
+ghost use Rattle.lp_definitions.specs.RatesEvidence.{Names};
+ghost use Rattle.basis_values.specs.Formulas.{IsRefusal};
+
+use frac128::{Frac, Op, Refused};
+use lp_model::Evidence;
+
+/// A formula with its numbers, and the value of the parameter.
+#[derive(Clone, Copy)]
+pub struct Formula {
+    pub number: u8,
+    pub p: u32,
+    pub q: u32,
+    pub i: u32,
+    pub j: u32,
+    pub term: u32,
+    pub theta: Frac,
+}
+
+/// Whether the fraction is 1.
+fn is_one(x: Frac) -> bool
+    ensures { IsTrue result ↔ (x ≡ one_ℚ) }
+{
+    x == Frac::whole(1)
+}
+
+/// The sum with the product, also where the product doesn't fit but the sum can be had by its parts.
+pub fn plus_product(sum: Frac, x: Frac, y: Frac) -> Option<Frac>
+    ensures { IfSome result (λ more. more ≡ sum +ℚ x *ℚ y) }
+{
+    sum.sub_product(x.neg(), y)
+}
+
+impl Formula {
+    /// Evidence that an operation is refused.
+    fn evidence(self, refused: Refused) -> Evidence
+        ensures names { Names result self.number self.p self.q self.i self.j self.term }
+        ensures no_way { result.way ≡ 0 }
+        ensures theta { result.theta ≡ self.theta }
+        ensures refused { result.refused ≡ refused }
+    {
+        Evidence {
+            formula: self.number,
+            way: 0,
+            p: self.p,
+            q: self.q,
+            i: self.i,
+            j: self.j,
+            term: self.term,
+            theta: self.theta,
+            refused,
+        }
+    }
+
+    /// The sum.
+    pub fn sum(self, left: Frac, right: Frac) -> Result<Frac, Evidence>
+        ensures value { IfOk result (λ sum. sum ≡ left +ℚ right) }
+        ensures refused { IfErr result (IsRefusal self Op.Add left right) }
+        ensures left { OnErr result (left ≢ zero_ℚ) }
+        ensures right { OnErr result (right ≢ zero_ℚ) }
+    {
+        if left.is_zero() {
+            return Ok(right);
+        }
+        if right.is_zero() {
+            return Ok(left);
+        }
+        left.add(right).map_err(|refused| self.evidence(refused))
+    }
+
+    /// The difference.
+    pub fn difference(self, left: Frac, right: Frac) -> Result<Frac, Evidence>
+        ensures value { IfOk result (λ difference. difference ≡ left -ℚ right) }
+        ensures refused { IfErr result (IsRefusal self Op.Sub left right) }
+    {
+        if left.is_zero() {
+            return Ok(right.neg());
+        }
+        if right.is_zero() {
+            return Ok(left);
+        }
+        left.sub(right).map_err(|refused| self.evidence(refused))
+    }
+
+    /// The product.
+    pub fn product(self, left: Frac, right: Frac) -> Result<Frac, Evidence>
+        ensures value { IfOk result (λ product. product ≡ left *ℚ right) }
+        ensures refused { IfErr result (IsRefusal self Op.Mul left right) }
+        ensures left { OnErr result (left ≢ zero_ℚ) }
+        ensures right { OnErr result (right ≢ zero_ℚ) }
+    {
+        if left.is_zero() || is_one(right) {
+            return Ok(left);
+        }
+        if right.is_zero() || is_one(left) {
+            return Ok(right);
+        }
+        left.mul(right).map_err(|refused| self.evidence(refused))
+    }
+
+    /// The quotient.
+    pub fn quotient(self, left: Frac, right: Frac) -> Result<Frac, Evidence>
+        requires { right ≢ zero_ℚ }
+        ensures value { IfOk result (λ quotient. quotient ≡ left /ℚ right) }
+        ensures refused { IfErr result (IsRefusal self Op.Div left right) }
+        ensures divides { OnErr result (right ≢ one_ℚ) }
+    {
+        if left.is_zero() || is_one(right) {
+            return Ok(left);
+        }
+        left.div(right).map_err(|refused| self.evidence(refused))
+    }
+}

@@ -1,0 +1,262 @@
+//! The point of a basis.
+
+ghost use Rattle.std.specs.Prelude.{◌≡◌, ◌≤◌, ◌<◌, ◌+◌, ◌-◌, ◌^◌, ℕ, true, if◌then◌else◌, length, vec_len, OnOk, OnErr, IfOk, IfErr};
+ghost use Rattle.exact_values.specs.Rational.{◌+ℚ◌, ◌*ℚ◌};
+ghost use Rattle.lp_definitions.specs.LinearProgram.{size, value_at, IsVariable, IsLinearProgram};
+ghost use Rattle.lp_definitions.specs.Basis.{basics_of, is_in, IsBasis, IsPointOf};
+ghost use Rattle.lp_definitions.specs.Waypoints.{KeepsWaypoints};
+ghost use Rattle.lp_laws.specs.Points.{standing};
+ghost use Rattle.basis_values.specs.Calls.{HasRates};
+ghost use Rattle.basis_values.specs.Stops.{PointOverflow};
+ghost use Rattle.basis_values.specs.Points.{TermRefused, ColumnTermRefused, IsSoFar, AreAdded, nonbasics_to, term_of};
+
+use crate::choices::stands_basic;
+use crate::formula::{Formula, plus_product};
+use frac128::Frac;
+use lp_model::{Basis, Evidence, Lp, NoMemory, Rates, Status, Stop};
+use std::alloc::Global;
+
+/// The value of a nonbasic, and 0 at a basic.
+fn place(lp: &Lp, basis: &Basis, k: u32) -> Frac
+    requires variable { IsVariable lp.now.matrix k }
+    requires basis { IsBasis lp.now basis.now }
+    ensures { result ≡ standing lp.now basis.now k }
+{
+    match basis.status(k) {
+        Status::Bs | Status::Fr => Frac::whole(0),
+        Status::Ll => lp.lower_limit(k).unwrap_or(Frac::whole(0)),
+        Status::Ul => lp.upper_limit(k).unwrap_or(Frac::whole(0)),
+    }
+}
+
+/// The values of the nonbasics, and 0 at the basics.
+fn places(alloc: Global, lp: &Lp, basis: &Basis) -> Result<Vec<Frac>, NoMemory>
+    requires { IsBasis lp.now basis.now }
+    ensures places { IfOk result (λ values. vec_len values ≡ size lp.now.matrix) }
+    ensures standing { IfOk result (λ values. (k : ℕ) → IsVariable lp.now.matrix k → value_at
+        values.items k ≡ standing lp.now basis.now k) }
+{
+    let mut values = Vec::new(alloc);
+    for k in 0..lp.number_of_variables() {
+        values.push(place(lp, basis, k + 1)).map_err(|_| NoMemory)?;
+    }
+    Ok(values)
+}
+
+/// Formula 10 of the sum of `i`, at the nonbasic `j` before which so many others stand.
+fn formula(i: u32, j: u32, term: u32) -> Formula
+    ensures { result ≡ term_of i j term }
+{
+    Formula {
+        number: 10,
+        p: 0,
+        q: 0,
+        i,
+        j,
+        term,
+        theta: Frac::whole(0),
+    }
+}
+
+/// The sum with the rate times the value, by the plain operations.
+fn plainly_with_term(
+    sum: Frac,
+    rate: Frac,
+    value: Frac,
+    i: u32,
+    j: u32,
+    term: u32,
+) -> Result<Frac, Evidence>
+    ensures value { IfOk result (λ more. more ≡ sum +ℚ rate *ℚ value) }
+    ensures refused { IfErr result (TermRefused rate value sum i j term) }
+{
+    let product = formula(i, j, term).product(rate, value)?;
+    formula(i, j, term).sum(sum, product)
+}
+
+/// The same, also where only the plain operations are refused.
+fn with_term(
+    sum: Frac,
+    rate: Frac,
+    value: Frac,
+    i: u32,
+    j: u32,
+    term: u32,
+) -> Result<Frac, Evidence>
+    ensures value { IfOk result (λ more. more ≡ sum +ℚ rate *ℚ value) }
+    ensures refused { IfErr result (TermRefused rate value sum i j term) }
+{
+    match plainly_with_term(sum, rate, value, i, j, term) {
+        Ok(more) => Ok(more),
+        Err(evidence) => match plus_product(sum, rate, value) {
+            Some(more) => Ok(more),
+            None => Err(evidence),
+        },
+    }
+}
+
+/// What a variable comes to: a basic's sum with its term, and a nonbasic's value as it is.
+fn with_own_term(
+    basis: &Basis,
+    sum: Frac,
+    rate: Frac,
+    value: Frac,
+    i: u32,
+    j: u32,
+    term: u32,
+) -> Result<Frac, Evidence>
+    requires low { 1 ≤ i }
+    requires high { i ≤ length basis.now }
+    ensures value { IfOk result (λ more. more ≡ (if is_in (basics_of basis.now) i then sum +ℚ rate
+        *ℚ value else sum)) }
+    ensures basic { OnErr result (is_in (basics_of basis.now) i ≡ true) }
+    ensures refused { IfErr result (TermRefused rate value sum i j term) }
+{
+    if stands_basic(basis, i) {
+        with_term(sum, rate, value, i, j, term)
+    } else {
+        Ok(sum)
+    }
+}
+
+/// Adds the column, times the value of `j`, at the basics.
+fn add_multiple(
+    basis: &Basis,
+    column: &[Frac],
+    value: Frac,
+    j: u32,
+    term: u32,
+    point: &mut [Frac],
+) -> Result<(), Evidence>
+    requires small { length basis.now < 2 ^ 32 }
+    requires column { length column.now ≡ length basis.now }
+    requires places { length point.old ≡ length basis.now }
+    ensures added { OnOk result (AreAdded (basics_of basis.now) (value_at column.now) value
+        (value_at point.old) (length basis.now) (value_at point.new)) }
+    ensures refused { IfErr result (ColumnTermRefused (basics_of basis.now) (value_at column.now)
+        value (value_at point.old) j term (length basis.now)) }
+{
+    for k in 0..point.len() {
+        let i = k as u32 + 1;
+        let sum = point[k];
+        let rate = column[k];
+        let more = with_own_term(basis, sum, rate, value, i, j, term)?;
+        point[k] = more;
+    }
+    Ok(())
+}
+
+/// How many of the first `k + 1` variables are nonbasic, where so many of the first `k` are.
+fn counted_on(basis: &Basis, count: u32, k: u32) -> u32
+    requires fits { k + 1 < 2 ^ 32 }
+    requires high { k < length basis.now }
+    requires small { count ≤ k }
+    requires counted { count ≡ length (nonbasics_to (basics_of basis.now) k) }
+    ensures small { result ≤ k + 1 }
+    ensures counted { result ≡ length (nonbasics_to (basics_of basis.now) (k + 1)) }
+{
+    if stands_basic(basis, k + 1) {
+        count
+    } else {
+        count + 1
+    }
+}
+
+/// Adds the direction of `j`, times its value, if it is nonbasic. `term` nonbasics stand before it, and `column` is room for the
+/// direction.
+fn add_direction<R: Rates>(
+    lp: &Lp,
+    basis: &Basis,
+    rates: &mut R,
+    j: u32,
+    term: u32,
+    column: &mut [Frac],
+    point: &mut [Frac],
+) -> Result<(), Stop>
+    requires rates { HasRates (R.matrix rates.old) (R.basics rates.old) lp.now basis.now }
+    requires lawful { IsLinearProgram lp.now }
+    requires variable { IsVariable lp.now.matrix j }
+    requires term { term ≡ length (nonbasics_to (basics_of basis.now) (j - 1)) }
+    requires column { length column.old ≡ size lp.now.matrix }
+    requires places { length point.old ≡ size lp.now.matrix }
+    requires so_far { IsSoFar lp.now.matrix (basics_of basis.now) (standing lp.now basis.now)
+        (j - 1) (value_at point.old) }
+    ensures so_far { OnOk result (IsSoFar lp.now.matrix (basics_of basis.now)
+        (standing lp.now basis.now) j (value_at point.new)) }
+    ensures matrix { R.matrix rates.new ≡ R.matrix rates.old }
+    ensures basics { R.basics rates.new ≡ R.basics rates.old }
+    ensures waypoints { KeepsWaypoints lp.now.matrix (basics_of basis.now) (R.waypoints rates.old)
+        (basics_of basis.now) (R.waypoints rates.new) }
+    ensures overflow { PointOverflow result lp.now basis.now (R.waypoints rates.old)
+        (R.waypoints rates.new) }
+{
+    if stands_basic(basis, j) {
+        return Ok(());
+    }
+    let value = point[j as usize - 1];
+    if value.is_zero() {
+        return Ok(());
+    }
+    rates.column(j, column)?;
+    match add_multiple(basis, column, value, j, term, point) {
+        Ok(()) => Ok(()),
+        Err(evidence) => Err(Stop::Overflow(evidence)),
+    }
+}
+
+/// Adds the directions of the nonbasics, each times the nonbasic's value.
+fn add_directions<R: Rates>(
+    lp: &Lp,
+    basis: &Basis,
+    rates: &mut R,
+    column: &mut [Frac],
+    point: &mut [Frac],
+) -> Result<(), Stop>
+    requires rates { HasRates (R.matrix rates.old) (R.basics rates.old) lp.now basis.now }
+    requires lawful { IsLinearProgram lp.now }
+    requires column { length column.old ≡ size lp.now.matrix }
+    requires places { length point.old ≡ size lp.now.matrix }
+    requires begins { (k : ℕ) → IsVariable lp.now.matrix k → value_at point.old k ≡ standing lp.now
+        basis.now k }
+    ensures point { OnOk result (IsPointOf lp.now basis.now (value_at point.new)) }
+    ensures matrix { R.matrix rates.new ≡ R.matrix rates.old }
+    ensures basics { R.basics rates.new ≡ R.basics rates.old }
+    ensures waypoints { KeepsWaypoints lp.now.matrix (basics_of basis.now) (R.waypoints rates.old)
+        (basics_of basis.now) (R.waypoints rates.new) }
+    ensures overflow { PointOverflow result lp.now basis.now (R.waypoints rates.old)
+        (R.waypoints rates.new) }
+{
+    let mut nonbasics = 0;
+    for k in 0..lp.number_of_variables() {
+        add_direction(lp, basis, rates, k + 1, nonbasics, column, point)?;
+        nonbasics = counted_on(basis, nonbasics, k);
+    }
+    Ok(())
+}
+
+/// Fills `out`, which has a place for each variable, with the basis's point. After a Stop `out` is as before.
+pub fn point_of<R: Rates>(
+    alloc: Global,
+    lp: &Lp,
+    basis: &Basis,
+    rates: &mut R,
+    out: &mut [Frac],
+) -> Result<(), Stop>
+    requires rates { HasRates (R.matrix rates.old) (R.basics rates.old) lp.now basis.now }
+    requires places { length out.old ≡ size lp.now.matrix }
+    ensures point { OnOk result (IsPointOf lp.now basis.now (value_at out.new)) }
+    ensures unchanged { OnErr result (out.new ≡ out.old) }
+    ensures matrix { R.matrix rates.new ≡ R.matrix rates.old }
+    ensures basics { R.basics rates.new ≡ R.basics rates.old }
+    ensures waypoints { KeepsWaypoints lp.now.matrix (basics_of basis.now) (R.waypoints rates.old)
+        (basics_of basis.now) (R.waypoints rates.new) }
+    ensures overflow { PointOverflow result lp.now basis.now (R.waypoints rates.old)
+        (R.waypoints rates.new) }
+{
+    let size = lp.number_of_variables() as usize;
+    let mut column = vec![in alloc; Frac::whole(0); size].map_err(|_| NoMemory)?;
+    let mut point = places(alloc, lp, basis)?;
+    add_directions(lp, basis, rates, &mut column, &mut point)?;
+    out.copy_from_slice(&point);
+    Ok(())
+}

@@ -1,0 +1,163 @@
+//! The prices of a basis.
+
+ghost use Rattle.std.specs.Prelude.{◌≡◌, ◌≢◌, ◌<◌, ◌^◌, Some, length, OnOk, OnErr, IfOk, IfErr};
+ghost use Rattle.exact_values.specs.Rational.{zero_ℚ, ◌+ℚ◌, ◌*ℚ◌};
+ghost use Rattle.lp_definitions.specs.LinearProgram.{size, value_at, IsLinearProgram};
+ghost use Rattle.lp_definitions.specs.Basis.{basics_of, ArePricesOf};
+ghost use Rattle.lp_definitions.specs.Waypoints.{KeepsWaypoints};
+ghost use Rattle.lp_model.specs.RatesCalls.{IsRowOf};
+ghost use Rattle.basis_values.specs.Calls.{HasRates};
+ghost use Rattle.basis_values.specs.Stops.{PointOverflow};
+ghost use Rattle.basis_values.specs.Prices.{ChangedRefused, SomeChangedRefused, AreChanged, price_formula};
+
+use crate::formula::{Formula, plus_product};
+use frac128::Frac;
+use lp_model::{Basis, Change, Evidence, Lp, NoMemory, Rates, Stop};
+use std::alloc::Global;
+
+/// Formula 17 at `j`.
+fn formula(j: u32, theta: Frac) -> Formula
+    ensures { result ≡ price_formula j theta }
+{
+    Formula {
+        number: 17,
+        p: 0,
+        q: 0,
+        i: 0,
+        j,
+        term: 0,
+        theta,
+    }
+}
+
+/// The rate of the objective row at `j`, plus theta times that of the change row, by the plain operations.
+fn plainly_changed(rate: Frac, theta: Frac, change: Frac, j: u32) -> Result<Frac, Evidence>
+    ensures value { IfOk result (λ price. price ≡ rate +ℚ theta *ℚ change) }
+    ensures refused { IfErr result (ChangedRefused theta change rate j) }
+    ensures needed { OnErr result (change ≢ zero_ℚ) }
+{
+    let product = formula(j, theta).product(theta, change)?;
+    formula(j, theta).sum(rate, product)
+}
+
+/// The same, also where only the plain operations are refused.
+fn changed(rate: Frac, theta: Frac, change: Frac, j: u32) -> Result<Frac, Evidence>
+    ensures value { IfOk result (λ price. price ≡ rate +ℚ theta *ℚ change) }
+    ensures refused { IfErr result (ChangedRefused theta change rate j) }
+    ensures needed { OnErr result (change ≢ zero_ℚ) }
+{
+    match plainly_changed(rate, theta, change, j) {
+        Ok(price) => Ok(price),
+        Err(evidence) => match plus_product(rate, theta, change) {
+            Some(price) => Ok(price),
+            None => Err(evidence),
+        },
+    }
+}
+
+/// Adds theta times the rates of the change row.
+fn add_changes(theta: Frac, change: &[Frac], prices: &mut [Frac]) -> Result<(), Evidence>
+    requires small { length change.now < 2 ^ 32 }
+    requires places { length prices.old ≡ length change.now }
+    ensures changed { OnOk result (AreChanged theta (value_at change.now) (value_at prices.old)
+        (length change.now) (value_at prices.new)) }
+    ensures refused { IfErr result (SomeChangedRefused theta (value_at change.now)
+        (value_at prices.old) (length change.now)) }
+{
+    for k in 0..prices.len() {
+        let rate = prices[k];
+        let added = change[k];
+        let price = changed(rate, theta, added, k as u32 + 1)?;
+        prices[k] = price;
+    }
+    Ok(())
+}
+
+/// Adds the rates of the change row, theta times, to those of the objective row. `change` is room for them.
+fn add_change_row<R: Rates>(
+    lp: &Lp,
+    basis: &Basis,
+    rates: &mut R,
+    added: Change,
+    change: &mut [Frac],
+    prices: &mut [Frac],
+) -> Result<(), Stop>
+    requires rates { HasRates (R.matrix rates.old) (R.basics rates.old) lp.now basis.now }
+    requires lawful { IsLinearProgram lp.now }
+    requires added { lp.now.change ≡ Some added }
+    requires change { length change.old ≡ size lp.now.matrix }
+    requires places { length prices.old ≡ size lp.now.matrix }
+    requires objective { IsRowOf lp.now.matrix (basics_of basis.now) lp.now.objective
+        (value_at prices.old) }
+    ensures prices { OnOk result (ArePricesOf lp.now basis.now (value_at prices.new)) }
+    ensures matrix { R.matrix rates.new ≡ R.matrix rates.old }
+    ensures basics { R.basics rates.new ≡ R.basics rates.old }
+    ensures waypoints { KeepsWaypoints lp.now.matrix (basics_of basis.now) (R.waypoints rates.old)
+        (basics_of basis.now) (R.waypoints rates.new) }
+    ensures overflow { PointOverflow result lp.now basis.now (R.waypoints rates.old)
+        (R.waypoints rates.new) }
+{
+    if added.theta.is_zero() {
+        return Ok(());
+    }
+    rates.row(added.row, change)?;
+    match add_changes(added.theta, change, prices) {
+        Ok(()) => Ok(()),
+        Err(evidence) => Err(Stop::Overflow(evidence)),
+    }
+}
+
+/// Fills `prices` with the objective's rates. `change` is room for the rates of the change row.
+pub fn fill_prices<R: Rates>(
+    lp: &Lp,
+    basis: &Basis,
+    rates: &mut R,
+    change: &mut [Frac],
+    prices: &mut [Frac],
+) -> Result<(), Stop>
+    requires rates { HasRates (R.matrix rates.old) (R.basics rates.old) lp.now basis.now }
+    requires lawful { IsLinearProgram lp.now }
+    requires change { length change.old ≡ size lp.now.matrix }
+    requires places { length prices.old ≡ size lp.now.matrix }
+    ensures prices { OnOk result (ArePricesOf lp.now basis.now (value_at prices.new)) }
+    ensures matrix { R.matrix rates.new ≡ R.matrix rates.old }
+    ensures basics { R.basics rates.new ≡ R.basics rates.old }
+    ensures waypoints { KeepsWaypoints lp.now.matrix (basics_of basis.now) (R.waypoints rates.old)
+        (basics_of basis.now) (R.waypoints rates.new) }
+    ensures overflow { PointOverflow result lp.now basis.now (R.waypoints rates.old)
+        (R.waypoints rates.new) }
+{
+    rates.row(lp.objective, prices)?;
+    match lp.change {
+        None => Ok(()),
+        Some(added) => add_change_row(lp, basis, rates, added, change, prices),
+    }
+}
+
+/// Fills `out`, which has a place for each variable, with the basis's prices: the objective's rates at the nonbasics, and 0 at
+/// the basics. After a Stop `out` is as before.
+pub fn prices_of<R: Rates>(
+    alloc: Global,
+    lp: &Lp,
+    basis: &Basis,
+    rates: &mut R,
+    out: &mut [Frac],
+) -> Result<(), Stop>
+    requires rates { HasRates (R.matrix rates.old) (R.basics rates.old) lp.now basis.now }
+    requires places { length out.old ≡ size lp.now.matrix }
+    ensures prices { OnOk result (ArePricesOf lp.now basis.now (value_at out.new)) }
+    ensures unchanged { OnErr result (out.new ≡ out.old) }
+    ensures matrix { R.matrix rates.new ≡ R.matrix rates.old }
+    ensures basics { R.basics rates.new ≡ R.basics rates.old }
+    ensures waypoints { KeepsWaypoints lp.now.matrix (basics_of basis.now) (R.waypoints rates.old)
+        (basics_of basis.now) (R.waypoints rates.new) }
+    ensures overflow { PointOverflow result lp.now basis.now (R.waypoints rates.old)
+        (R.waypoints rates.new) }
+{
+    let size = lp.number_of_variables() as usize;
+    let mut change = vec![in alloc; Frac::whole(0); size].map_err(|_| NoMemory)?;
+    let mut prices = vec![in alloc; Frac::whole(0); size].map_err(|_| NoMemory)?;
+    fill_prices(lp, basis, rates, &mut change, &mut prices)?;
+    out.copy_from_slice(&prices);
+    Ok(())
+}

@@ -1,0 +1,111 @@
+//! How long a motion lasts until a variable reaches a limit.
+
+ghost use Rattle.std.specs.Prelude.{◌≡◌, length, IfOk, IfErr};
+ghost use Rattle.lp_definitions.specs.LinearProgram.{size, value_at, IsVariable};
+ghost use Rattle.path_definitions.specs.Moves.{room};
+ghost use Rattle.basis_values.specs.Motions.{motion};
+ghost use Rattle.basis_values.specs.Reach.{RoomRefused, IsAhead, sooner, reach_formula};
+
+use crate::choices::{counted, is_less};
+use crate::formula::Formula;
+use frac128::Frac;
+use lp_model::{Evidence, Lp};
+
+/// A variable that reaches a limit after this length.
+#[derive(Clone, Copy)]
+pub struct Reach {
+    pub p: u32,
+    pub length: Frac,
+}
+
+/// The limit ahead of a variable: the number `term` is 1 for the lower one and 2 for the upper one.
+#[derive(Clone, Copy)]
+struct Ahead {
+    term: u32,
+    limit: Frac,
+}
+
+/// Formula 6 or 7 of the variable `k` and its limit of this number.
+pub fn formula(number: u8, q: u32, k: u32, term: u32) -> Formula
+    ensures { result ≡ reach_formula number q k term }
+{
+    Formula {
+        number,
+        p: 0,
+        q,
+        i: k,
+        j: 0,
+        term,
+        theta: Frac::whole(0),
+    }
+}
+
+/// The limit ahead of `k`, which moves at this speed.
+fn limit_before(lp: &Lp, speed: Frac, k: u32) -> Option<Ahead>
+    requires { IsVariable lp.now.matrix k }
+    ensures { IsAhead lp.now (λ _. speed) k result }
+{
+    if speed.is_zero() {
+        return None;
+    }
+    let zero = Frac::whole(0);
+    if is_less(zero, speed) {
+        let upper = lp.upper_limit(k)?;
+        Some(Ahead {
+            term: 2,
+            limit: upper,
+        })
+    } else if is_less(speed, zero) {
+        let lower = lp.lower_limit(k)?;
+        Some(Ahead {
+            term: 1,
+            limit: lower,
+        })
+    } else {
+        None
+    }
+}
+
+/// How long `q` moves until `k` reaches the limit ahead of it.
+pub fn length_to(
+    lp: &Lp,
+    point: &[Frac],
+    direction: &[Frac],
+    up: bool,
+    q: u32,
+    k: u32,
+) -> Result<Option<Frac>, Evidence>
+    requires variable { IsVariable lp.now.matrix k }
+    requires point_places { length point.now ≡ size lp.now.matrix }
+    requires direction_places { length direction.now ≡ size lp.now.matrix }
+    ensures length { IfOk result (λ found. found ≡ room lp.now (value_at point.now)
+        (motion (value_at direction.now) up) k) }
+    ensures refused { IfErr result (RoomRefused lp.now (value_at point.now)
+        (value_at direction.now) up q k) }
+{
+    let rate = direction[k as usize - 1];
+    let speed = counted(rate, up);
+    let Some(ahead) = limit_before(lp, speed, k) else {
+        return Ok(None);
+    };
+    let distance = formula(6, 0, k, ahead.term).difference(ahead.limit, point[k as usize - 1])?;
+    let change = formula(7, q, k, ahead.term).quotient(distance, rate)?;
+    Ok(Some(counted(change, up)))
+}
+
+/// What is nearer: what was nearest so far, or `k` at this length.
+pub fn nearer(nearest: Option<Reach>, length: Option<Frac>, k: u32) -> Option<Reach>
+    ensures { result ≡ sooner nearest length k }
+{
+    match (nearest, length) {
+        (None, length) => length.map(|length| Reach { p: k, length }),
+        (Some(nearest), None) => Some(nearest),
+        (Some(nearest), Some(length)) => {
+            if is_less(length, nearest.length) {
+                Some(Reach { p: k, length })
+            } else {
+                Some(nearest)
+            }
+        }
+    }
+}

@@ -1,6 +1,0 @@
-use Rattle.std.proofs.Common.{◌≡◌, ℕ, ◌≤◌, false}
-use Rattle.path_definitions.specs.Moves.{is_crossed}
-use Rattle.bounded_primal.proofs.choices.crossed.Given as goal
-
-abbrev pub invariant-loop-k : goal.invariant-loop-k
-invariant-loop-k l = (j : ℕ) → 1 ≤ j → j ≤ l.k → is_crossed l.lp j ≡ false

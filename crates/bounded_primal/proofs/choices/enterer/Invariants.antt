@@ -1,8 +1,0 @@
-use Rattle.std.proofs.Common.{◌≡◌, ℕ, ◌≤◌, false}
-use Rattle.lp_definitions.specs.LinearProgram.{value_at}
-use Rattle.path_definitions.specs.Moves.{lowers}
-use Rattle.bounded_primal.specs.Moves.{motion}
-use Rattle.bounded_primal.proofs.choices.enterer.Given as goal
-
-abbrev pub invariant-loop-k : goal.invariant-loop-k
-invariant-loop-k l = (j : ℕ) → 1 ≤ j → j ≤ l.k → lowers l.lp l.basis (motion (value_at l.rates) l.up) j ≡ false

@@ -1,0 +1,23 @@
+-- What SETUP keeps, as contracts see it, whichever engine has the rates.
+--     Engine       what an engine promises of its rates
+--     Setup        what SETUP keeps
+use Rattle.std.specs.Prelude.{List}
+use Rattle.lp_definitions.specs.LinearProgram.{Matrix, LinearProgram}
+use Rattle.lp_definitions.specs.Basis.{Basics}
+use Rattle.problem_definitions.specs.Names.{Name}
+use Rattle.control_definitions.specs.Program.{SetupOptions}
+use Rattle.question_definitions.specs.Answers.{Basis}
+
+-- the numbers that the rates belong to, the present basics, and the sets that the inverse has passed through
+pub record Engine : Type 0 where
+  pub matrix : Matrix
+  pub basics : Basics
+  pub waypoints : List Basics
+
+-- the name under which the problem is on file, the options, the linear program that was selected last, the present basis and its rates
+pub record Setup : Type 0 where
+  pub name : Name
+  pub options : SetupOptions
+  pub lp : LinearProgram
+  pub basis : Basis
+  pub engine : Engine

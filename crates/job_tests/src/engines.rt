@@ -1,0 +1,72 @@
+// The machine over more than one engine: the listing and the status of a job don't depend on what keeps the rates.
+use crate::no_memory::NoRoom;
+use crate::rows::{PLANS, RANGES, Row};
+use crate::sweeps::PARAMETRIC;
+use card_reader::read_job;
+use control_compiler::compile;
+use control_run::{Status, run_on};
+use job_devices::{MemorySink, MemorySource};
+use lp_model::Engine;
+use rates_dense::Dense;
+use reinversion::ProductForm;
+use std::alloc::Global;
+use std::test::Fail;
+
+/// What the program of a job is answered, over an engine.
+#[derive(Drop)]
+struct Run {
+    status: Status,
+    print: MemorySink,
+}
+
+// Runs the program of a job, with the rates of an engine.
+fn run_of<E: Engine>(alloc: Global, job: &[u8]) -> Result<Run, Fail> {
+    let mut source = MemorySource::new(alloc, job, &[])?;
+    let cards = read_job(alloc, &mut source)?;
+    let program = compile(alloc, &cards)?;
+    let mut print = MemorySink::new(alloc, &[])?;
+    let mut punch = MemorySink::new(alloc, &[])?;
+    let status = run_on::<E, MemorySink, MemorySink>(
+        alloc, &program, &cards, &mut print, &mut punch,
+    );
+    Ok(Run { status, print })
+}
+
+// The name of the first of these jobs that has another status or listing over this engine.
+fn first_untold<E: Engine>(alloc: Global, rows: &[Row]) -> Result<Option<&'static str>, Fail> {
+    for row in rows {
+        let run = run_of::<E>(alloc, row.job)?;
+        if run.status.code() != row.status || run.print.bytes() != row.listing {
+            return Ok(Some(row.name));
+        }
+    }
+    Ok(None)
+}
+
+#[test]
+fn the_table_of_rates_runs_jobs(rt: HostRuntime) -> Result<(), Fail> {
+    assert_eq!(rt; first_untold::<Dense>(rt.alloc(), &PLANS)?, None);
+    assert_eq!(rt; first_untold::<Dense>(rt.alloc(), &RANGES)?, None);
+    assert_eq!(rt; first_untold::<Dense>(rt.alloc(), &PARAMETRIC)?, None);
+    Ok(())
+}
+
+#[test]
+fn the_product_form_runs_jobs(rt: HostRuntime) -> Result<(), Fail> {
+    assert_eq!(rt; first_untold::<ProductForm>(rt.alloc(), &PLANS)?, None);
+    assert_eq!(rt; first_untold::<ProductForm>(rt.alloc(), &RANGES)?, None);
+    assert_eq!(rt; first_untold::<ProductForm>(rt.alloc(), &PARAMETRIC)?, None);
+    Ok(())
+}
+
+#[test]
+fn an_engine_without_memory_ends_the_run(rt: HostRuntime) -> Result<(), Fail> {
+    let run = run_of::<NoRoom>(
+        rt.alloc(),
+        b"         PROGRAM\n         CONVERT\n         SETUP\n         PRIMAL\n         EXIT\n         PEND\nNAME          ONE\nROWS\n N  COST\n G  LOW\nCOLUMNS\n    X         COST      1\n    X         LOW       1\nRHS\n    B         LOW       1\nENDATA\n",
+    )?;
+    assert_eq!(rt; run.status, Status::Memory);
+    let listing: &[u8] = b"CONVERT ONE      ROWS 2 COLUMNS 1 ENTRIES 2\nSTOP 28 MEMORY\n";
+    assert!(rt; run.print.bytes() == listing);
+    Ok(())
+}
