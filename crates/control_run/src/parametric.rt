@@ -109,7 +109,8 @@ fn print_chain<P: Sink>(
     print: &mut P,
 ) -> Result<Finding, Halt>
     requires { IsParametric sheet run.now }
-    ensures { (s reached : answers.Basis) (before after : List Basics) (refused : Option RefusedOperation) →
+    ensures { (s reached : answers.Basis) (before after : List Basics)
+        (refused : Option RefusedOperation) →
         IsAnswered sheet.entry (sweep_shown sweep.now) s reached before after
         (record { report = para_reports.Run run.now; refused = refused }) →
         Tells (SweepFinds (sheet_shown sheet.entry) s reached (sweep_shown sweep.now) before after)

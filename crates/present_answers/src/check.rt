@@ -41,3 +41,11 @@ pub fn refused_of(verdict: Verdict) -> Option<Refused>
         Verdict::Checked | Verdict::Failed { .. } => None,
     }
 }
+
+/// The first operation that the check of a true outcome is refused, if one is.
+pub fn refusal_of(lp: &Lp, outcome: &Outcome) -> Option<Refused>
+    requires { IsTrueOutcome lp.now outcome.now }
+    ensures { IsCheckedSo lp.now outcome.now (found (check_shown result)) }
+{
+    refused_of(check_of(lp, outcome))
+}

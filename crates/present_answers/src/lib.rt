@@ -9,6 +9,7 @@ mod ranges;
 mod slack;
 mod solution;
 
+pub use check::refusal_of;
 pub use path::{PathReport, path_from};
 pub use ranges::{Ranged, ranges_of};
 pub use solution::{Shown, solution_of};

@@ -47,8 +47,8 @@ fn outcome_from<R: Rates>(
     }
 }
 
-/// Follows the path from the basis to its end, for at most `limit` steps if there is a limit, and checks what it came to. The basis and the rates are
-/// those that the path has reached, after a stop too.
+/// Follows the path from the basis to its end, for at most `limit` steps if there is a limit, and checks what it came to. The basis
+/// and the rates are those that the path has reached, after a stop too.
 pub fn path_from<R: Rates>(
     alloc: Global,
     sheet: Sheet<'_>,

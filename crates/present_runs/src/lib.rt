@@ -2,7 +2,6 @@
 //! opening path isn't optimal.
 #![tactic(auto)]
 
-mod check;
 mod objective;
 mod report;
 mod right_hand_side;

@@ -10,12 +10,12 @@ ghost use Rattle.para_objective.specs.Runs.{ObjectiveFollows, IsTrueObjective};
 ghost use Rattle.present_runs.specs.Reports.{IsOpening, IsOpeningChecked, IsPrintable};
 ghost use Rattle.present_runs.specs.Objective.{IsObjectiveAnswered, ObjectiveRunStops};
 
-use crate::check::refusal_of;
 use crate::report::RunReport;
 use bounded_primal::PrimalStop;
 use frac128::Refused;
 use lp_model::{Basis, Change, Lp, NoMemory, ParaReport, Rates};
 use para_objective::{ParaObj, para_obj};
+use present_answers::refusal_of;
 use report_text::Sheet;
 use std::alloc::Global;
 

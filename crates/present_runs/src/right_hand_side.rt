@@ -12,12 +12,12 @@ ghost use Rattle.para_rhs.specs.Runs.{RhsFollows, IsTrueRhs};
 ghost use Rattle.present_runs.specs.Reports.{IsOpening, IsOpeningChecked, IsPrintable};
 ghost use Rattle.present_runs.specs.RightHandSide.{IsRhsAnswered, RhsRunStops};
 
-use crate::check::refusal_of;
 use crate::report::RunReport;
 use bounded_primal::PrimalStop;
 use frac128::Refused;
 use lp_model::{Basis, Lp, ParaReport, Rates, Stop};
 use para_rhs::{ParaRhs, para_rhs, program_at};
+use present_answers::refusal_of;
 use report_text::Sheet;
 use std::alloc::Global;
 
