@@ -32,15 +32,15 @@ impl<E: Engine> Model for Setup<E> {
     ghost Value = { Kept };
 
     ghost view = { λ s. record {
-        name = s.name;
-        options = s.options;
-        lp = s.lp;
-        basis = s.basis;
-        engine = record {
-            matrix = E.matrix s.engine;
-            basics = E.basics s.engine;
-            waypoints = E.waypoints s.engine;
-        };
+      name = s.name;
+      options = s.options;
+      lp = s.lp;
+      basis = s.basis;
+      engine = record {
+        matrix = E.matrix s.engine;
+        basics = E.basics s.engine;
+        waypoints = E.waypoints s.engine;
+      };
     } };
 }
 

@@ -26,7 +26,9 @@ fn run_of<E: Engine>(alloc: Global, job: &[u8]) -> Result<Run, Fail> {
     let program = compile(alloc, &cards)?;
     let mut print = MemorySink::new(alloc, &[])?;
     let mut punch = MemorySink::new(alloc, &[])?;
-    let status = run_on::<E, MemorySink, MemorySink>(alloc, &program, &cards, &mut print, &mut punch);
+    let status = run_on::<E, MemorySink, MemorySink>(
+        alloc, &program, &cards, &mut print, &mut punch,
+    );
     Ok(Run { status, print })
 }
 
