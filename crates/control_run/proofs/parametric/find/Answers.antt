@@ -1,5 +1,5 @@
 -- The setup, its selection and what is asked for.
-use Rattle.std.proofs.Common.{Ok, Err, refl, sym}
+use Rattle.std.proofs.Common.{Ok, Err, refl, sym, subst}
 use Rattle.std.proofs.lemmas.Result.{err_from_is_err_and}
 use Rattle.run_definitions.specs.State.{choice_of}
 use Rattle.control_run.specs.Standing.{IsReady}
