@@ -1,5 +1,4 @@
 mod Keyed
-mod CardNames
 mod NumbersTold
 mod Second
 mod Grouped

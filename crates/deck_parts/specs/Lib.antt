@@ -1,3 +1,2 @@
 pub mod Told
 pub mod Shown
-pub mod Fields_shown

@@ -10,14 +10,13 @@ ghost use Rattle.deck_definitions.specs.Tests.{bound_value_fault, bounds_fault};
 ghost use Rattle.deck_definitions.proofs.Steps.{with_group};
 ghost use Rattle.deck_parts.specs.Told.{Tells};
 ghost use Rattle.deck_parts.specs.Shown.{group_at, bounds_alone, bound_end_fault, bound_rest_fault, column_number};
-ghost use Rattle.deck_parts.specs.Fields_shown.{shown};
+ghost use Rattle.deck_cards.specs.Shown.{shown};
 
 use crate::bounds::{Bounds, NamedBound};
 use crate::card_stop::{CardStop, fault_behind};
-use crate::data_card::DataCard;
 use crate::groups::Groups;
 use crate::pairs::number_in;
-use crate::words::{bound_kind, is_blank};
+use deck_cards::{DataCard, bound_kind, is_blank};
 use deck_definitions::DeckFaultKind;
 use deck_fields::Decimal;
 use indexmap::IndexMap;

@@ -11,14 +11,14 @@ ghost use Rattle.deck_definitions.specs.declared.Section.TheVariants.{Columns};
 ghost use Rattle.deck_definitions.specs.Tests.{pairs_fault};
 ghost use Rattle.deck_parts.specs.Told.{Tells};
 ghost use Rattle.deck_parts.specs.Shown.{rows_alone, group_at, column_fault, row_number, column_number};
-ghost use Rattle.deck_parts.specs.Fields_shown.{shown};
+ghost use Rattle.deck_cards.specs.Shown.{shown};
 
 use crate::card_stop::CardStop;
-use crate::data_card::DataCard;
 use crate::entries::Entries;
 use crate::numbers::number_from;
 use crate::pairs::take_pairs;
 use crate::rows::Rows;
+use deck_cards::DataCard;
 use deck_definitions::{DeckFaultKind, Section};
 use indexmap::IndexMap;
 use name_table::Name;

@@ -5,9 +5,7 @@
 mod additions;
 mod bound_sets;
 mod bounds;
-mod card_reading;
 mod card_stop;
-mod data_card;
 mod entries;
 mod groups;
 mod numbers;
@@ -15,13 +13,10 @@ mod on_row;
 mod pairs;
 mod rows;
 mod sections;
-mod words;
 
 pub use bound_sets::{BoundSets, bound_value, take_bound_card};
 pub use bounds::{touches_bottom, touches_top};
-pub use card_reading::{first_pair, name_in, read_data_card, second_pair};
 pub use card_stop::CardStop;
-pub use data_card::{DataCard, PairText};
 pub use deck_definitions::{DeckFaultKind, Section};
 pub use groups::Groups;
 pub use pairs::number_in;
@@ -29,7 +24,4 @@ pub use rows::{Rows, is_free};
 pub use sections::{
     has_more, is_marker, new_row_fault, order_fault, row_kind_of, take_column_card, take_row_card,
     take_set_card,
-};
-pub use words::{
-    bound_kind, first_word, is_blank, is_columns, is_ranges, is_word, row_kind, section_named,
 };

@@ -6,16 +6,14 @@ ghost use Rattle.deck_definitions.specs.DataCards.{entry_of, entries_of, pairs_o
 ghost use Rattle.deck_definitions.specs.Tests.{number_fault_from, value_fault, pair_row_fault, pair_fault, pairs_fault};
 ghost use Rattle.deck_parts.specs.Told.{Tells};
 ghost use Rattle.deck_parts.specs.Shown.{rows_alone, pair_value_fault};
-ghost use Rattle.deck_parts.specs.Fields_shown.{shown, pair_shown};
+ghost use Rattle.deck_cards.specs.Shown.{shown, pair_shown};
 
-use crate::card_reading::{first_pair, second_pair};
 use crate::card_stop::{CardStop, fault_behind};
-use crate::data_card::{DataCard, PairText};
 use crate::entries::Entries;
 use crate::on_row::OnRow;
 use crate::rows::{FoundRow, Rows, is_free};
-use crate::words::{is_blank, is_columns, is_ranges};
 use card_definitions::NumberFault;
+use deck_cards::{DataCard, PairText, first_pair, is_blank, is_columns, is_ranges, second_pair};
 use deck_definitions::{DeckFaultKind, Section};
 use deck_fields::{Decimal, number};
 use name_table::Name;

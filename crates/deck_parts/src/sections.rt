@@ -10,13 +10,12 @@ ghost use Rattle.deck_definitions.specs.Sections.{may_follow, rank, furthest_nex
 ghost use Rattle.deck_definitions.specs.Tests.{filled_from_3, rows_fault, columns_fault, set_fault};
 ghost use Rattle.deck_parts.specs.Told.{Tells};
 ghost use Rattle.deck_parts.specs.Shown.{rows_alone, columns_alone, row_kind_fault};
-ghost use Rattle.deck_parts.specs.Fields_shown.{shown};
+ghost use Rattle.deck_cards.specs.Shown.{shown};
 
 use crate::card_stop::{CardStop, fault_behind};
-use crate::data_card::DataCard;
 use crate::groups::Groups;
 use crate::rows::Rows;
-use crate::words::{is_blank, is_combination, is_word, row_kind};
+use deck_cards::{DataCard, is_blank, is_combination, is_word, row_kind};
 use deck_definitions::{DeckFaultKind, Section};
 use problem_definitions::{MAX_ROWS, RowKind};
 use std::alloc::Global;

@@ -9,14 +9,14 @@ ghost use Rattle.deck_definitions.specs.Tests.{columns_fault};
 ghost use Rattle.deck_definitions.specs.Conversion.{section_card_fault};
 ghost use Rattle.deck_parts.specs.Told.{Tells};
 ghost use Rattle.deck_parts.specs.Shown.{columns_alone};
-ghost use Rattle.deck_parts.specs.Fields_shown.{shown};
+ghost use Rattle.deck_cards.specs.Shown.{shown};
 
 use crate::reading::Draft;
 use card_reader::Card;
+use deck_cards::{DataCard, first_word, read_data_card, section_named};
 use deck_parts::{
-    BoundSets, CardStop, DataCard, DeckFaultKind, Groups, Rows, Section, first_word,
-    is_blank as is_empty_text, order_fault, read_data_card, section_named, take_bound_card,
-    take_column_card, take_row_card, take_set_card,
+    BoundSets, CardStop, DeckFaultKind, Groups, Rows, Section, is_blank as is_empty_text,
+    order_fault, take_bound_card, take_column_card, take_row_card, take_set_card,
 };
 use name_table::Name;
 use problem_file::{NoMemory, Problem};
@@ -143,7 +143,7 @@ impl DeckDraft {
     ghost use Rattle.deck_definitions.proofs.Steps.{with_card};
     ghost use Rattle.mps_convert.specs.State.{with_data, state_of};
     ghost use Rattle.deck_parts.specs.Told.{Tells};
-    ghost use Rattle.deck_parts.specs.Fields_shown.{shown};
+    ghost use Rattle.deck_cards.specs.Shown.{shown};
     ghost use Rattle.mps_convert.specs.Draft_shown.{problem_shown, problem_named};
     ghost use Rattle.problem_definitions.specs.Numbering.{numbered};
     ghost use Rattle.problem_definitions.specs.Valid.{IsProblem};

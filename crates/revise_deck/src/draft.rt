@@ -7,7 +7,8 @@ use crate::sections::{
     next_section,
 };
 use card_reader::Card;
-use deck_parts::{CardStop, DataCard, DeckFaultKind, Section, name_in, read_data_card};
+use deck_cards::{DataCard, name_in, read_data_card};
+use deck_parts::{CardStop, DeckFaultKind, Section};
 use revise_definitions::Action;
 use revise_parts::{NamedProblem, UnderAction, edit, edit_fault_of};
 use std::alloc::Global;
@@ -35,7 +36,7 @@ impl ReviseDraft {
     ghost use Rattle.deck_definitions.specs.Conversion.{form_fault, section_card_fault};
     ghost use Rattle.revise_definitions.specs.Revision.{may_come_after};
     ghost use Rattle.deck_parts.specs.Told.{Tells};
-    ghost use Rattle.deck_parts.specs.Fields_shown.{shown};
+    ghost use Rattle.deck_cards.specs.Shown.{shown};
     ghost use Rattle.revise_definitions.specs.Actions.{is_action_card, action_on, anchor_on};
     ghost use Rattle.revise_definitions.specs.Tests.{action_fault};
     ghost use Rattle.revise_parts.specs.Summary.{under_of, with_card_under, edit_test, edited_by};

@@ -4,8 +4,8 @@ ghost use Rattle.problem_definitions.specs.Names.{name_at};
 ghost use Rattle.problem_definitions.specs.Numbering.{entry_by, row_by, bound_by, group_by, by_names};
 ghost use Rattle.problem_definitions.specs.Problem.{group_names};
 
+use deck_cards::name_in;
 use deck_fields::DeckStop;
-use deck_parts::name_in;
 use name_table::Name;
 use problem_file::{BoundItem, BoundSet, ColumnDecl, DeckEntry, Problem, RowDecl, ValueSet};
 use revise_parts::{BoundGroup, EntryGroup, NamedBound, NamedEntry, NamedProblem, NamedRow};

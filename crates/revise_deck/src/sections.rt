@@ -15,9 +15,8 @@ ghost use Rattle.revise_definitions.specs.Tests.{has_anchor, action_fault, inser
 ghost use Rattle.revise_definitions.specs.Revision.{may_come_after};
 
 use card_reader::Card;
-use deck_parts::{
-    CardStop, DeckFaultKind, Section, first_word, is_blank, is_word, name_in, section_named,
-};
+use deck_cards::{first_word, is_blank, is_word, name_in, section_named};
+use deck_parts::{CardStop, DeckFaultKind, Section};
 use name_table::Name;
 use revise_definitions::Action;
 use revise_parts::{NamedProblem, finds_group, finds_row};

@@ -4,13 +4,14 @@ ghost use Rattle.problem_definitions.specs.Names.{same};
 ghost use Rattle.problem_definitions.specs.Kinds.{meet};
 ghost use Rattle.problem_definitions.specs.Problem.{has_bound};
 ghost use Rattle.deck_definitions.specs.DataCards.{bound_of};
-ghost use Rattle.deck_parts.specs.Fields_shown.{shown};
+ghost use Rattle.deck_cards.specs.Shown.{shown};
 ghost use Rattle.revise_definitions.specs.Edits.{put_bound, without_column};
 ghost use Rattle.revise_parts.specs.Changes.{bounds_changed};
 
 use crate::changes::BoundChange;
 use crate::parts::NamedBound;
-use deck_parts::{CardStop, DataCard, bound_value, touches_bottom, touches_top};
+use deck_cards::DataCard;
+use deck_parts::{CardStop, bound_value, touches_bottom, touches_top};
 use name_table::Name;
 use problem_definitions::BoundKind;
 use std::alloc::Global;

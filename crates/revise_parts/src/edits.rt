@@ -3,7 +3,7 @@ ghost use Rattle.std.specs.Prelude.{◌≡◌, ◌+◌, ◌++◌, ◌∷◌, [],
 ghost use Rattle.problem_definitions.specs.Groups.{in_all, filled};
 ghost use Rattle.problem_definitions.specs.Problem.{group_names};
 ghost use Rattle.deck_definitions.specs.DataCards.{entries_of};
-ghost use Rattle.deck_parts.specs.Fields_shown.{shown};
+ghost use Rattle.deck_cards.specs.Shown.{shown};
 ghost use Rattle.revise_definitions.specs.Edits.{without_row, without_column, delete_row, delete_column, edit_sets, edit_bounds};
 ghost use Rattle.revise_parts.specs.Summary.{place_among, row_inserted, column_inserted, rows_edited, columns_edited, edited_by};
 
@@ -17,7 +17,8 @@ use crate::parts::{BoundGroup, EntryGroup, NamedProblem, NamedRow};
 use crate::rows::{insert_at, insert_row_at, row_number, rows_modified, rows_without};
 use crate::sets::{change_bound_set, delete_set_bounds, remove_empty_sets, without_column_in_all};
 use crate::under::{UnderAction, place_for};
-use deck_parts::{CardStop, DataCard, Section, bound_kind, is_blank};
+use deck_cards::{DataCard, bound_kind, is_blank};
+use deck_parts::{CardStop, Section};
 use name_table::Name;
 use revise_definitions::Action;
 use std::alloc::Global;

@@ -2,14 +2,15 @@
 ghost use Rattle.std.specs.Prelude.{◌≡◌, ◌++◌, ◌∷◌, [], IfOk, OnOk, map, if◌then◌else◌};
 ghost use Rattle.problem_definitions.specs.Names.{same};
 ghost use Rattle.deck_definitions.specs.DataCards.{entry_of, entries_of};
-ghost use Rattle.deck_parts.specs.Fields_shown.{shown, pair_shown};
+ghost use Rattle.deck_cards.specs.Shown.{shown, pair_shown};
 ghost use Rattle.revise_parts.specs.Changes.{entries_changed};
 ghost use Rattle.problem_definitions.specs.Problem.{has_entry};
 ghost use Rattle.revise_definitions.specs.Edits.{put_entry, put_entries, without_row};
 
 use crate::changes::EntryChange;
 use crate::parts::NamedEntry;
-use deck_parts::{CardStop, DataCard, PairText, first_pair, number_in, second_pair};
+use deck_cards::{DataCard, PairText, first_pair, second_pair};
+use deck_parts::{CardStop, number_in};
 use name_table::Name;
 use std::alloc::Global;
 

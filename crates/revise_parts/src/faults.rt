@@ -6,7 +6,7 @@ ghost use Rattle.problem_definitions.specs.Groups.{items_of};
 ghost use Rattle.deck_definitions.specs.DataCards.{pairs_of};
 ghost use Rattle.deck_definitions.specs.declared.Section.TheVariants.{Columns};
 ghost use Rattle.deck_definitions.specs.Tests.{kind_filled, marks, filled_from_4, rows_fault, pairs_fault, of_bound_type};
-ghost use Rattle.deck_parts.specs.Fields_shown.{shown};
+ghost use Rattle.deck_cards.specs.Shown.{shown};
 ghost use Rattle.revise_definitions.specs.Tests.{has_range, puts_fault, modify_rows_fault, delete_rows_fault, modify_columns_fault, modify_sets_fault, delete_entry_fault, delete_columns_fault, delete_sets_fault, modify_bound_fault, delete_bounds_fault};
 ghost use Rattle.revise_parts.specs.Summary.{insert_columns_test};
 
@@ -16,9 +16,9 @@ use crate::pairs::{first_of, pairs_fault_of, puts_fault_of};
 use crate::parts::{EntryGroup, NamedProblem};
 use crate::rows::finds_row;
 use crate::sets::{finds_set, finds_set_bound};
+use deck_cards::{DataCard, bound_kind, is_blank};
 use deck_parts::{
-    DataCard, DeckFaultKind, Section, bound_kind, bound_value, has_more, is_blank, is_free,
-    is_marker, new_row_fault, row_kind_of,
+    DeckFaultKind, Section, bound_value, has_more, is_free, is_marker, new_row_fault, row_kind_of,
 };
 use name_table::Name;
 use problem_definitions::{BoundKind, MAX_COLUMNS};

@@ -5,7 +5,7 @@ ghost use Rattle.problem_definitions.specs.Groups.{in_group, in_set, in_all, wit
 ghost use Rattle.problem_definitions.specs.Names.{same, number_in};
 ghost use Rattle.problem_definitions.specs.Problem.{has_group, has_entry, group_names};
 ghost use Rattle.deck_definitions.specs.DataCards.{entries_of};
-ghost use Rattle.deck_parts.specs.Fields_shown.{shown};
+ghost use Rattle.deck_cards.specs.Shown.{shown};
 ghost use Rattle.revise_definitions.specs.Edits.{without_row, delete_items};
 ghost use Rattle.revise_parts.specs.Changes.{entries_changed};
 
@@ -13,7 +13,8 @@ use crate::changes::EntryChange;
 use crate::entries::{append_all, change_entries, entries_without, finds_entry};
 use crate::parts::EntryGroup;
 use crate::rows::number_at;
-use deck_parts::{CardStop, DataCard, is_blank};
+use deck_cards::{DataCard, is_blank};
+use deck_parts::CardStop;
 use name_table::Name;
 use std::alloc::Global;
 

@@ -7,17 +7,15 @@ ghost use Rattle.problem_definitions.specs.Groups.{items_of};
 ghost use Rattle.deck_definitions.specs.declared.Section.TheVariants.{Columns};
 ghost use Rattle.deck_definitions.specs.DataCards.{pairs_of};
 ghost use Rattle.deck_definitions.specs.Tests.{value_fault, pair_row_fault, pairs_fault};
-ghost use Rattle.deck_parts.specs.Fields_shown.{shown, pair_shown};
+ghost use Rattle.deck_cards.specs.Shown.{shown, pair_shown};
 ghost use Rattle.revise_definitions.specs.Tests.{puts_fault};
 ghost use Rattle.revise_parts.specs.Summary.{put_test, pair_test};
 
 use crate::groups::{finds_item, item_count};
 use crate::parts::{EntryGroup, NamedProblem};
 use crate::rows::{finds_free_row, finds_row};
-use deck_parts::{
-    DataCard, DeckFaultKind, PairText, Section, first_pair, is_blank, is_columns, is_ranges,
-    number_in, second_pair,
-};
+use deck_cards::{DataCard, PairText, first_pair, is_blank, is_columns, is_ranges, second_pair};
+use deck_parts::{DeckFaultKind, Section, number_in};
 use name_table::Name;
 use problem_definitions::MAX_ENTRIES;
 

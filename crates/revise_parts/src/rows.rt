@@ -4,11 +4,12 @@ ghost use Rattle.problem_definitions.specs.Names.{same, number_in};
 ghost use Rattle.problem_definitions.specs.Kinds.{is_free_kind};
 ghost use Rattle.problem_definitions.specs.Problem.{has_row, has_free_row};
 ghost use Rattle.deck_definitions.specs.DataCards.{row_of};
-ghost use Rattle.deck_parts.specs.Fields_shown.{shown};
+ghost use Rattle.deck_cards.specs.Shown.{shown};
 ghost use Rattle.revise_definitions.specs.Edits.{retyped, modify_row};
 
 use crate::parts::NamedRow;
-use deck_parts::{CardStop, DataCard, is_free, row_kind};
+use deck_cards::{DataCard, row_kind};
+use deck_parts::{CardStop, is_free};
 use name_table::Name;
 use std::alloc::Global;
 

@@ -4,14 +4,15 @@ ghost use Rattle.std.specs.List.{list_any};
 ghost use Rattle.problem_definitions.specs.Groups.{in_group, in_set, in_all, without_group, filled, items_of};
 ghost use Rattle.problem_definitions.specs.Names.{same};
 ghost use Rattle.problem_definitions.specs.Problem.{has_group, has_bound};
-ghost use Rattle.deck_parts.specs.Fields_shown.{shown};
+ghost use Rattle.deck_cards.specs.Shown.{shown};
 ghost use Rattle.revise_definitions.specs.Edits.{without_column, delete_items};
 ghost use Rattle.revise_parts.specs.Changes.{bounds_changed};
 
 use crate::bounds::{bounds_without, change_bounds, finds_bound};
 use crate::changes::BoundChange;
 use crate::parts::BoundGroup;
-use deck_parts::{CardStop, DataCard, is_blank};
+use deck_cards::{DataCard, is_blank};
+use deck_parts::CardStop;
 use name_table::Name;
 use std::alloc::Global;
 

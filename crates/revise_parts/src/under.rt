@@ -4,10 +4,11 @@ ghost use Rattle.card_definitions.specs.Words.{is_empty};
 ghost use Rattle.std.specs.List.{IsDistinct};
 ghost use Rattle.indexmap.specs.IndexSet.{insert_key};
 ghost use Rattle.problem_definitions.specs.Names.{same};
-ghost use Rattle.deck_parts.specs.Fields_shown.{shown};
+ghost use Rattle.deck_cards.specs.Shown.{shown};
 ghost use Rattle.revise_parts.specs.Summary.{goes_on_from, place_at};
 
-use deck_parts::{CardStop, DataCard, is_blank};
+use deck_cards::{DataCard, is_blank};
+use deck_parts::CardStop;
 use indexmap::IndexSet;
 use name_table::Name;
 use revise_definitions::Action;

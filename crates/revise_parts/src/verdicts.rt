@@ -1,7 +1,7 @@
 // The fault of a data card under an action of its section.
 ghost use Rattle.std.specs.Prelude.{◌≡◌};
 ghost use Rattle.deck_definitions.specs.declared.Section.TheVariants.{Rows, Columns, Rhs, Ranges, Bounds};
-ghost use Rattle.deck_parts.specs.Fields_shown.{shown};
+ghost use Rattle.deck_cards.specs.Shown.{shown};
 ghost use Rattle.revise_parts.specs.Summary.{edit_test};
 
 use crate::faults::{
@@ -11,7 +11,8 @@ use crate::faults::{
 };
 use crate::parts::NamedProblem;
 use crate::under::UnderAction;
-use deck_parts::{DataCard, DeckFaultKind, Section};
+use deck_cards::DataCard;
+use deck_parts::{DeckFaultKind, Section};
 use revise_definitions::Action;
 
 // The fault of a card of ROWS.

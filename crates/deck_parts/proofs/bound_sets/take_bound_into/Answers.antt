@@ -5,7 +5,7 @@ use Rattle.problem_definitions.specs.Names.{same}
 use Rattle.deck_definitions.specs.DataCards.{bound_of}
 use Rattle.deck_parts.specs.Told.{Tells}
 use Rattle.deck_parts.specs.Shown.{group_at, bound_rest_fault}
-use Rattle.deck_parts.specs.Fields_shown.{shown}
+use Rattle.deck_cards.specs.Shown.{shown}
 use Rattle.deck_parts.proofs.Grouped.{items_found, put_in_set}
 use Rattle.deck_parts.proofs.bound_sets.take_bound_into.Goals as goal
 

@@ -2,7 +2,7 @@ use Rattle.std.proofs.Common.{map, insert, ap, ◌∙◌, unwrap_or}
 use Rattle.std.specs.Option.{option_map}
 use Rattle.std.proofs.lemmas.Result.{on_ok_weaker}
 use Rattle.deck_definitions.specs.DataCards.{row_of}
-use Rattle.deck_parts.specs.Fields_shown.{shown}
+use Rattle.deck_cards.specs.Shown.{shown}
 use Rattle.revise_parts.specs.Summary.{place_among}
 use Rattle.revise_parts.proofs.edits.insert_row_of.Goals as goal
 

@@ -1,7 +1,7 @@
 -- The groups before the present one are changed, the others are as they were.
 use Rattle.std.proofs.Common.{◌≡◌, ◌++◌, take, drop}
 use Rattle.problem_definitions.specs.Groups.{in_group}
-use Rattle.deck_parts.specs.Fields_shown.{shown}
+use Rattle.deck_cards.specs.Shown.{shown}
 use Rattle.revise_parts.specs.Changes.{entries_changed}
 use Rattle.revise_parts.proofs.groups.change_group.Given as goal
 

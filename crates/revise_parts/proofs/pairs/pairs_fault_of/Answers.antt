@@ -1,7 +1,7 @@
 use Rattle.std.proofs.Common.{[], ◌∷◌, ap, sym, ◌∙◌}
 use Rattle.problem_definitions.specs.Groups.{items_of}
 use Rattle.deck_definitions.specs.DataCards.{pairs_of}
-use Rattle.deck_parts.specs.Fields_shown.{shown, pair_shown}
+use Rattle.deck_cards.specs.Shown.{shown, pair_shown}
 use Rattle.revise_parts.proofs.TwoPairs.{pairs_found_one, pairs_found_two}
 use Rattle.revise_parts.proofs.pairs.pairs_fault_of.Goals as goal
 

@@ -2,7 +2,7 @@ use Rattle.std.proofs.Common.{[], ◌∷◌, length, ap, sym, ◌∙◌}
 use Rattle.std.specs.List.{sum_by}
 use Rattle.problem_definitions.specs.Groups.{items_of}
 use Rattle.deck_definitions.specs.DataCards.{pairs_of}
-use Rattle.deck_parts.specs.Fields_shown.{shown, pair_shown}
+use Rattle.deck_cards.specs.Shown.{shown, pair_shown}
 use Rattle.revise_parts.proofs.TwoPairs.{puts_found_one, puts_found_two}
 use Rattle.revise_parts.proofs.pairs.puts_fault_of.Goals as goal
 

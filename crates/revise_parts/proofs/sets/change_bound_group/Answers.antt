@@ -1,5 +1,5 @@
 use Rattle.std.proofs.Common.{sym, ◌∙◌}
-use Rattle.deck_parts.specs.Fields_shown.{shown}
+use Rattle.deck_cards.specs.Shown.{shown}
 use Rattle.revise_parts.specs.Changes.{bounds_changed}
 use Rattle.revise_parts.proofs.InPlace.{changed_step, kept_step}
 use Rattle.revise_parts.proofs.sets.change_bound_group.Goals as goal

@@ -1,7 +1,7 @@
 -- The sets before the present one are changed, the others are as they were.
 use Rattle.std.proofs.Common.{◌≡◌, ◌++◌, take, drop}
 use Rattle.problem_definitions.specs.Groups.{in_group}
-use Rattle.deck_parts.specs.Fields_shown.{shown}
+use Rattle.deck_cards.specs.Shown.{shown}
 use Rattle.revise_parts.specs.Changes.{bounds_changed}
 use Rattle.revise_parts.proofs.sets.change_bound_group.Given as goal
 

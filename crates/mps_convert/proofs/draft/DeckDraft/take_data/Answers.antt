@@ -3,7 +3,7 @@ use Rattle.deck_definitions.specs.DataCards.{FixedFields}
 use Rattle.deck_definitions.specs.Conversion.{data_card_fault}
 use Rattle.deck_parts.specs.Told.{Tells}
 use Rattle.mps_convert.specs.Draft_shown.{problem_shown}
-use Rattle.deck_parts.specs.Fields_shown.{shown}
+use Rattle.deck_cards.specs.Shown.{shown}
 use Rattle.mps_convert.proofs.DataTaken.{fault_in_section}
 use Rattle.mps_convert.proofs.draft.DeckDraft.take_data.Goals as goal
 

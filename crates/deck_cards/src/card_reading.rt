@@ -5,7 +5,7 @@ ghost use Rattle.card_reader.specs.Card.{card_bytes};
 ghost use Rattle.problem_definitions.specs.Valid.{IsName};
 ghost use Rattle.deck_definitions.specs.Conversion.{form_fault};
 ghost use Rattle.deck_definitions.specs.DataCards.{pairs_of};
-ghost use Rattle.deck_parts.specs.Fields_shown.{shown, pair_shown};
+ghost use Rattle.deck_cards.specs.Shown.{shown, pair_shown};
 
 use crate::data_card::{DataCard, PairText};
 use crate::words::is_blank;

@@ -1,5 +1,5 @@
-use Rattle.deck_parts.proofs.CardNames.{name1_named, name2_named, name3_named, value1_short, value2_short}
-use Rattle.deck_parts.proofs.card_reading.read_data_card.Goals as goal
+use Rattle.deck_cards.proofs.CardNames.{name1_named, name2_named, name3_named, value1_short, value2_short}
+use Rattle.deck_cards.proofs.card_reading.read_data_card.Goals as goal
 
 pub name_in-requires : goal.name_in-requires
 name_in-requires c = name1_named c.in-Some.f c.args.card.bytes.now c.in-Some.ensures.some.1 c.args.card.printable

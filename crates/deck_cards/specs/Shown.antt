@@ -1,8 +1,8 @@
 -- What a data card that was read shows.
 use Rattle.card_definitions.specs.Fields.{Reading}
 use Rattle.deck_definitions.specs.DataCards.{Pair}
-use Rattle.deck_parts.specs.declared.data_card.DataCard.{DataCard}
-use Rattle.deck_parts.specs.declared.data_card.PairText.{PairText}
+use Rattle.deck_cards.specs.declared.data_card.DataCard.{DataCard}
+use Rattle.deck_cards.specs.declared.data_card.PairText.{PairText}
 
 abbrev pub shown : DataCard → Reading
 shown card = record {
