@@ -15,7 +15,7 @@ use Rattle.selection_definitions.specs.Selection.{matrix_of}
 use Rattle.question_definitions.specs.Answers.{Basis}
 use Rattle.basis_values.specs.Calls.{HasRates, LieIn}
 use Rattle.bounded_primal.specs.Calls.{WaypointsFollow}
-use Rattle.report_text.specs.declared.sheet.Sheet.{Sheet}
+use Rattle.listing_tables.specs.declared.sheet.Sheet.{Sheet}
 use Rattle.report_text.specs.Verdicts.{verdict_shown, check_shown}
 use Rattle.present_answers.specs.declared.path.PathReport.{PathReport}
 use Rattle.present_answers.specs.Reports.{sheet_shown, IsReached}

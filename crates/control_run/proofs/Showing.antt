@@ -11,7 +11,7 @@ use Rattle.evidence_definitions.specs.Statements.{Solution as SolutionStatement}
 use Rattle.problem_definitions.specs.Problem.{Problem}
 use Rattle.problem_file.specs.Filed.{Filed, filed_under}
 use Rattle.basis_values.specs.Calls.{LieIn}
-use Rattle.report_text.specs.Lines.{solution_lines}
+use Rattle.listing_tables.specs.Lines.{solution_lines}
 use Rattle.listing_definitions.specs.Text.{report_text}
 use Rattle.control_definitions.specs.Program.{SetupOptions, Solution as SolutionVerb}
 use Rattle.selection_definitions.specs.Selection.{matrix_of, selected}
@@ -23,7 +23,7 @@ use Rattle.question_definitions.specs.Answers.{Basis, Sheet, OfSolution}
 use Rattle.control_definitions.specs.Cells.{Cells}
 use Rattle.answer_definitions.specs.Sections.{IsShown}
 use Rattle.answer_definitions.specs.Evidence.{IsEvidence}
-use Rattle.report_text.specs.declared.sheet.Sheet.{Sheet as OwnSheet}
+use Rattle.listing_tables.specs.declared.sheet.Sheet.{Sheet as OwnSheet}
 use Rattle.present_answers.specs.Answers.{sheet_shown}
 use Rattle.present_answers.specs.Stops.{SolutionRefused}
 use Rattle.run_definitions.specs.State.{Present, State, choice_of, present_basis, path_of}

@@ -25,7 +25,7 @@ use Rattle.listing_definitions.specs.Ending as endings
 use Rattle.question_definitions.specs.Answers.{Basis, Sheet, PathLimit}
 use Rattle.answer_definitions.specs.Verdicts.{verdict_of, IsSolved}
 use Rattle.answer_definitions.specs.Evidence.{OverflowsOnPath}
-use Rattle.report_text.specs.declared.sheet.Sheet.{Sheet as OwnSheet}
+use Rattle.listing_tables.specs.declared.sheet.Sheet.{Sheet as OwnSheet}
 use Rattle.present_answers.specs.Reports.{sheet_shown, OverflowsThere, PassesLimit}
 use Rattle.run_definitions.specs.State.{choice_of}
 use Rattle.run_definitions.specs.Moves.{Gain, Nothing, Prints}

@@ -20,8 +20,8 @@ use Rattle.question_definitions.specs.Answers.{Basis, Changing, Row, Set}
 use Rattle.answer_definitions.specs.Lines as defined
 use Rattle.answer_definitions.specs.Sweeps as defined_runs
 use Rattle.answer_definitions.specs.Sweeps.{shifts_of, family_of, sheet_at, interval_of}
-use Rattle.report_text.specs.declared.sheet.Sheet.{Sheet as OwnSheet}
-use Rattle.report_text.specs.Lines as printed
+use Rattle.listing_tables.specs.declared.sheet.Sheet.{Sheet as OwnSheet}
+use Rattle.listing_tables.specs.Lines as printed
 use Rattle.report_text.specs.Parametric.{interval_shown, end_shown, chain_shown}
 use Rattle.run_calls.specs.Calls.{part_of, end_of}
 use Rattle.run_definitions.specs.Verbs.{last_value}

@@ -30,7 +30,7 @@ use Rattle.listing_definitions.specs.Ending as endings
 use Rattle.question_definitions.specs.Answers.{Basis, sweeper, changing_name, Sweep, OfSweep}
 use Rattle.answer_definitions.specs.Sweeps.{shifts_of, sheet_at, interval_of, end_of}
 use Rattle.answer_definitions.specs.Evidence.{OverflowsAt}
-use Rattle.report_text.specs.declared.sheet.Sheet.{Sheet as OwnSheet}
+use Rattle.listing_tables.specs.declared.sheet.Sheet.{Sheet as OwnSheet}
 use Rattle.report_text.specs.Parametric.{chain_shown}
 use Rattle.report_text.specs.Verdicts.{verdict_shown, check_shown}
 use Rattle.run_calls.specs.Calls as calls

@@ -30,7 +30,7 @@ use Rattle.bounded_primal.specs.declared.moves.PrimalStop.{PrimalStop}
 use Rattle.question_definitions.specs.Answers.{Basis, Sheet, Changing, changing_name, sweeper, Sweep, OfSweep, SweepEnd, Opening, Chained, SweepLimit}
 use Rattle.answer_definitions.specs.Sweeps.{row_of, shifts_of, IsSwept}
 use Rattle.answer_definitions.specs.Evidence.{OverflowsAt}
-use Rattle.report_text.specs.declared.sheet.Sheet.{Sheet as OwnSheet}
+use Rattle.listing_tables.specs.declared.sheet.Sheet.{Sheet as OwnSheet}
 use Rattle.present_runs.specs.Objective as objective
 use Rattle.present_runs.specs.Reports.{RunOverflowsThere, LimitOverflows, SweepStops}
 use Rattle.present_runs.specs.RightHandSide as right_hand_side

@@ -5,8 +5,8 @@ ghost use Rattle.problem_file.specs.Filed.{filed_under};
 ghost use Rattle.lp_definitions.specs.Basis.{Basics, basics_of, IsOptimalBasis};
 ghost use Rattle.lp_definitions.specs.Waypoints.{KeepsWaypoints};
 ghost use Rattle.control_definitions.specs.Program as program;
-ghost use Rattle.report_text.specs.Lines.{range_lines};
-ghost use Rattle.report_text.specs.Sheets.{IsSheet};
+ghost use Rattle.listing_tables.specs.Lines.{range_lines};
+ghost use Rattle.listing_tables.specs.Sheets.{IsSheet};
 ghost use Rattle.basis_values.specs.Calls.{HasRates};
 ghost use Rattle.answer_definitions.specs.Sections.{IsRanged};
 ghost use Rattle.present_answers.specs.Answers.{sheet_shown, AreRanged};
@@ -21,10 +21,11 @@ use crate::machine::{Machine, Setup};
 use crate::selecting::Refusal;
 use job_devices::Sink;
 use listing_definitions::{Mark, VerbFault};
+use listing_tables::Sheet;
 use lp_model::{Basis, Engine, Rates, Stop};
 use present_answers::{Ranged, ranges_of};
 use problem_file::ProblemFile;
-use report_text::{Report, Sheet, text_of};
+use report_text::{Report, text_of};
 use std::alloc::Global;
 
 // Prints the intervals of a basis.

@@ -10,7 +10,7 @@ use Rattle.evidence_definitions.specs.Statements.{Primal}
 use Rattle.evidence_definitions.specs.Evidence.{EvidenceHolds}
 use Rattle.question_definitions.specs.Answers.{Basis}
 use Rattle.answer_definitions.specs.Evidence.{last_basis}
-use Rattle.report_text.specs.declared.sheet.Sheet.{Sheet}
+use Rattle.listing_tables.specs.declared.sheet.Sheet.{Sheet}
 use Rattle.basis_values.specs.Calls.{job_of}
 use Rattle.bounded_primal.specs.Calls.{PathGoesOn, StopsOnPath}
 use Rattle.bounded_primal.specs.Stops.{PrimalStops}

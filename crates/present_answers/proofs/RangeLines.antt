@@ -10,8 +10,8 @@ use Rattle.lp_model.specs.declared.reports.RangeReport.{RangeReport}
 use Rattle.postoptimal_definitions.specs.Ranges.{Interval, IsRangeReport}
 use Rattle.problem_definitions.specs.Problem.{Problem}
 use Rattle.listing_definitions.specs.Report.{Value, Code, Number, Dash, limit_value}
-use Rattle.report_text.specs.Lines as printed
-use Rattle.report_text.specs.Intervals.{interval_at, low_value, high_value, ends_at}
+use Rattle.listing_tables.specs.Lines as printed
+use Rattle.listing_tables.specs.Intervals.{interval_at, low_value, high_value, ends_at}
 use Rattle.question_definitions.specs.Answers.{Sheet}
 use Rattle.answer_definitions.specs.Sections.{IsRanged, placed, ends_of, cost_and_ends, range_lines}
 use Rattle.ranging.specs.Lists.{interval_of, report_of}

@@ -11,7 +11,7 @@ use Rattle.path_laws.proofs.Numbered.{map_same}
 use Rattle.problem_definitions.specs.Problem.{Problem}
 use Rattle.listing_definitions.specs.Report.{Value, Code, Number, limit_value}
 use Rattle.listing_definitions.specs.declared.At.TheVariants.{Equal, Lower, Upper, Free}
-use Rattle.report_text.specs.Lines as printed
+use Rattle.listing_tables.specs.Lines as printed
 use Rattle.answer_definitions.specs.Lines as asked
 use Rattle.question_definitions.specs.Answers.{Sheet}
 use Rattle.answer_definitions.specs.Sections.{IsShown, solution_row, solution_column, solution_lines}

@@ -5,7 +5,7 @@
 use Rattle.std.specs.Prelude.{◌≡◌, length}
 use Rattle.lp_definitions.specs.LinearProgram.{LinearProgram, size}
 use Rattle.question_definitions.specs.Answers as answers
-use Rattle.report_text.specs.declared.sheet.Sheet.{Sheet}
+use Rattle.listing_tables.specs.declared.sheet.Sheet.{Sheet}
 use Rattle.present_answers.specs.declared.solution.Shown.{Shown}
 use Rattle.present_answers.specs.declared.ranges.Ranged.{Ranged}
 

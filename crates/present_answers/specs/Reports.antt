@@ -19,7 +19,7 @@ use Rattle.question_definitions.specs.Answers as answers
 use Rattle.question_definitions.specs.Answers.{Basis}
 use Rattle.answer_definitions.specs.Verdicts.{ReachesVerdict}
 use Rattle.answer_definitions.specs.Evidence.{OverflowsOnPath}
-use Rattle.report_text.specs.declared.sheet.Sheet.{Sheet}
+use Rattle.listing_tables.specs.declared.sheet.Sheet.{Sheet}
 use Rattle.report_text.specs.Verdicts.{verdict_shown, check_shown}
 use Rattle.basis_values.specs.Calls.{LieIn}
 use Rattle.bounded_primal.specs.Calls.{PathGoesOn}

@@ -5,15 +5,15 @@ ghost use Rattle.basis_values.specs.Calls.{HasRates};
 ghost use Rattle.bounded_primal.specs.Calls.{CallEnds, WaypointsFollow};
 ghost use Rattle.bounded_primal.specs.Outcomes.{IsTrueOutcome};
 ghost use Rattle.bounded_primal.specs.Stops.{PrimalStops};
-ghost use Rattle.report_text.specs.Sheets.{IsSheet};
+ghost use Rattle.listing_tables.specs.Sheets.{IsSheet};
 ghost use Rattle.report_text.specs.Verdicts.{IsOutcome};
 ghost use Rattle.present_answers.specs.Reports.{most_steps, IsReached, PathStops};
 
 use crate::check::{check_of, refused_of};
 use bounded_primal::{PrimalStop, primal, primal_free};
 use frac128::Refused;
+use listing_tables::Sheet;
 use lp_model::{Basis, Lp, Outcome, Rates};
-use report_text::Sheet;
 use std::alloc::Global;
 
 /// Where a path has ended, and the first operation that the check of its outcome was refused, if one was.

@@ -5,14 +5,14 @@ ghost use Rattle.lp_definitions.specs.Waypoints.{KeepsWaypoints};
 ghost use Rattle.lp_model.specs.RatesCalls.{IfOverflow};
 ghost use Rattle.basis_values.specs.Calls.{HasRates};
 ghost use Rattle.answer_definitions.specs.Sections.{IsRanged};
-ghost use Rattle.report_text.specs.Lines.{range_lines};
+ghost use Rattle.listing_tables.specs.Lines.{range_lines};
 ghost use Rattle.present_answers.specs.Answers.{sheet_shown, AreRanged};
 ghost use Rattle.present_answers.specs.Stops.{RangesRefused};
 
 use crate::solution::point_shown;
+use listing_tables::Sheet;
 use lp_model::{Basis, Point, RangeReport, Rates, Stop};
 use ranging::range;
-use report_text::Sheet;
 use std::alloc::Global;
 
 /// What RANGE shows of a basis: each variable's value, and the intervals in which the basis stays optimal.

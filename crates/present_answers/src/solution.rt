@@ -6,15 +6,15 @@ ghost use Rattle.lp_definitions.specs.Waypoints.{KeepsWaypoints};
 ghost use Rattle.lp_model.specs.RatesCalls.{IfOverflow};
 ghost use Rattle.basis_values.specs.Calls.{HasRates, PointRefused};
 ghost use Rattle.answer_definitions.specs.Sections.{IsShown};
-ghost use Rattle.report_text.specs.Lines.{solution_lines};
+ghost use Rattle.listing_tables.specs.Lines.{solution_lines};
 ghost use Rattle.present_answers.specs.Answers.{sheet_shown, AreShown};
 ghost use Rattle.present_answers.specs.Stops.{SolutionRefused};
 
 use crate::slack::slacks;
 use bounded_primal::{point_of, prices_of};
 use frac128::Frac;
+use listing_tables::Sheet;
 use lp_model::{Basis, Lp, NoMemory, Point, Prices, Rates, Stop};
-use report_text::Sheet;
 use std::alloc::Global;
 
 /// What SOLUTION shows of a basis: each variable's value and price, and the slack of each row.

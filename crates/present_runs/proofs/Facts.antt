@@ -27,7 +27,7 @@ use Rattle.question_definitions.specs.Answers.{Basis, Changing, Row, Set, Sweep}
 use Rattle.answer_definitions.specs.Verdicts.{found, verdict_of, check_of, IsVerdict}
 use Rattle.answer_definitions.specs.Sweeps.{row_of, shifts_of, family_of, IsFace, sheet_at}
 use Rattle.answer_definitions.specs.Evidence.{last_basis, sweep_statement, at_basis, of_limit}
-use Rattle.report_text.specs.declared.sheet.Sheet.{Sheet}
+use Rattle.listing_tables.specs.declared.sheet.Sheet.{Sheet}
 use Rattle.report_text.specs.Verdicts.{verdict_shown, check_shown}
 use Rattle.bounded_primal.specs.Calls.{outcome_of}
 use Rattle.bounded_primal.specs.declared.moves.PrimalStop.{PrimalStop}

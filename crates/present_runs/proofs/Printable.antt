@@ -24,9 +24,9 @@ use Rattle.postoptimal_definitions.specs.ObjectiveRun.{objective_family, change_
 use Rattle.postoptimal_definitions.specs.RhsRun.{rhs_family, leaves_below, leaving, face_exchange, face_at, rhs_face, IsRhsFace}
 use Rattle.problem_definitions.proofs.Each.{each-all}
 use Rattle.bounded_primal.specs.Outcomes.{IsTrueOutcome}
-use Rattle.report_text.specs.declared.sheet.Sheet.{Sheet}
-use Rattle.report_text.specs.Sheets.{IsSheet}
-use Rattle.report_text.specs.Tables.{IsPart}
+use Rattle.listing_tables.specs.declared.sheet.Sheet.{Sheet}
+use Rattle.listing_tables.specs.Sheets.{IsSheet}
+use Rattle.listing_tables.specs.Tables.{IsPart}
 use Rattle.report_text.specs.Parametric.{AreEndLists}
 use Rattle.report_text.specs.Verdicts.{IsOutcome}
 use Rattle.run_calls.specs.Calls.{part_of, end_of, RunEnds}

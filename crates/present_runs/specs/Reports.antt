@@ -24,7 +24,7 @@ use Rattle.question_definitions.specs.Answers.{Basis, Sweep, OfSweep, SweepEnd, 
 use Rattle.answer_definitions.specs.Verdicts.{found}
 use Rattle.answer_definitions.specs.Sweeps.{family_of, IsFace, sheet_at, interval_of, end_of, IsSwept}
 use Rattle.answer_definitions.specs.Evidence.{OverflowsAt}
-use Rattle.report_text.specs.declared.sheet.Sheet.{Sheet}
+use Rattle.listing_tables.specs.declared.sheet.Sheet.{Sheet}
 use Rattle.report_text.specs.Parametric.{IsParametric}
 use Rattle.report_text.specs.Verdicts.{IsOutcome, verdict_shown, check_shown}
 use Rattle.run_calls.specs.Calls.{StandsThere}

@@ -8,7 +8,7 @@ use Rattle.problem_definitions.specs.Names.{Name}
 use Rattle.bounded_primal.specs.declared.moves.PrimalStop.{PrimalStop}
 use Rattle.question_definitions.specs.Answers.{Basis, Set, Sweep}
 use Rattle.answer_definitions.specs.Sweeps.{shifts_of}
-use Rattle.report_text.specs.declared.sheet.Sheet.{Sheet}
+use Rattle.listing_tables.specs.declared.sheet.Sheet.{Sheet}
 use Rattle.para_rhs.specs.declared.parts.ParaRhs.{ParaRhs}
 use Rattle.present_runs.specs.declared.report.RunReport.{RunReport}
 use Rattle.present_runs.specs.Reports.{IsAnswered, RunOverflowsThere, LimitOverflows, SweepStops}

@@ -4,7 +4,7 @@ ghost use Rattle.std.specs.Prelude.{◌≡◌, None, IfOk, IfErr};
 ghost use Rattle.exact_values.specs.Rational.{◌≤ℚ◌};
 ghost use Rattle.lp_definitions.specs.LinearProgram.{IsRow, HasNoLimits};
 ghost use Rattle.basis_values.specs.Calls.{HasRates};
-ghost use Rattle.report_text.specs.Sheets.{IsSheet};
+ghost use Rattle.listing_tables.specs.Sheets.{IsSheet};
 ghost use Rattle.para_objective.specs.Faces.{family};
 ghost use Rattle.para_objective.specs.Runs.{ObjectiveFollows, IsTrueObjective};
 ghost use Rattle.present_runs.specs.Reports.{IsOpening, IsOpeningChecked, IsPrintable};
@@ -13,10 +13,10 @@ ghost use Rattle.present_runs.specs.Objective.{IsObjectiveAnswered, ObjectiveRun
 use crate::report::RunReport;
 use bounded_primal::PrimalStop;
 use frac128::Refused;
+use listing_tables::Sheet;
 use lp_model::{Basis, Change, Lp, NoMemory, ParaReport, Rates};
 use para_objective::{ParaObj, para_obj};
 use present_answers::refusal_of;
-use report_text::Sheet;
 use std::alloc::Global;
 
 /// The first operation that the check of the opening path is refused, if it isn't optimal and one is. The check is made in the linear

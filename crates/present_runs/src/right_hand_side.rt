@@ -6,7 +6,7 @@ ghost use Rattle.lp_model.specs.RatesCalls.{IfOverflow};
 ghost use Rattle.evidence_definitions.specs.Statements.{Pararhs};
 ghost use Rattle.evidence_definitions.specs.Evidence.{ShiftHolds};
 ghost use Rattle.basis_values.specs.Calls.{HasRates};
-ghost use Rattle.report_text.specs.Sheets.{IsSheet};
+ghost use Rattle.listing_tables.specs.Sheets.{IsSheet};
 ghost use Rattle.para_rhs.specs.Faces.{family};
 ghost use Rattle.para_rhs.specs.Runs.{RhsFollows, IsTrueRhs};
 ghost use Rattle.present_runs.specs.Reports.{IsOpening, IsOpeningChecked, IsPrintable};
@@ -15,10 +15,10 @@ ghost use Rattle.present_runs.specs.RightHandSide.{IsRhsAnswered, RhsRunStops};
 use crate::report::RunReport;
 use bounded_primal::PrimalStop;
 use frac128::Refused;
+use listing_tables::Sheet;
 use lp_model::{Basis, Lp, ParaReport, Rates, Stop};
 use para_rhs::{ParaRhs, para_rhs, program_at};
 use present_answers::refusal_of;
-use report_text::Sheet;
 use std::alloc::Global;
 
 /// The linear program at the first value.

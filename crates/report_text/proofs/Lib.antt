@@ -1,7 +1,5 @@
 pub mod Faults
 pub mod Overflows
-pub mod Tables
-pub mod Values
 pub mod Verdicts
 pub mod Solutions
 pub mod RangeParts

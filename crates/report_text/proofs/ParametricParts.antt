@@ -13,10 +13,10 @@ use Rattle.listing_definitions.specs.Numbers.{digits, rational_text}
 use Rattle.listing_definitions.specs.declared.Solver.{Solver}
 use Rattle.listing_definitions.specs.Report.{Line, Interval, UnboundedPast, InfeasiblePast, Chain}
 use Rattle.listing_definitions.specs.Text.{solver_text, line_text, table_text, interval_text, chain_end_text, chain_text}
-use Rattle.report_text.specs.declared.sheet.Sheet.{Sheet}
-use Rattle.report_text.specs.declared.table.Table.TheVariants.{Parts}
-use Rattle.report_text.specs.Lines.{line_of, part_values}
-use Rattle.report_text.specs.Tables.{line_shown}
+use Rattle.listing_tables.specs.declared.sheet.Sheet.{Sheet}
+use Rattle.listing_tables.specs.declared.table.Table.TheVariants.{Parts}
+use Rattle.listing_tables.specs.Lines.{line_of, part_values}
+use Rattle.listing_tables.specs.Tables.{line_shown}
 use Rattle.report_text.specs.Parametric.{interval_shown}
 
 pub chain_parts : (by : Solver) (chain : Chain) → concat (solver_text by ∷ codes " FROM " ∷ rational_text chain.from ∷ codes " CHANGE " ∷ chain.change ∷ codes "\n" ∷ []) ++ (flat_map interval_text (enumerate_from 1 chain.intervals) ++ chain_end_text by chain.end) ≡ chain_text by chain

@@ -5,12 +5,12 @@ use Rattle.std.proofs.lemmas.List.{append-nil}
 use Rattle.lp_definitions.specs.LinearProgram.{size, numbers_from}
 use Rattle.listing_definitions.specs.Report.{Value, RangeLines}
 use Rattle.listing_definitions.specs.Text.{ranges_text, line_text, table_text}
-use Rattle.report_text.specs.declared.sheet.Sheet.{Sheet}
-use Rattle.report_text.specs.declared.table.Ranging.{Ranging}
-use Rattle.report_text.specs.declared.table.Table.TheVariants.{LimitRows, LimitColumns, BetweenRows, BetweenColumns}
-use Rattle.report_text.specs.Lines.{line_of, lines_of, stands_at_limit, stands_between, limit_row_values, limit_column_values, between_row_values, between_column_values}
-use Rattle.report_text.specs.Sheets.{IsSheet}
-use Rattle.report_text.specs.Tables.{HasLine, IsRanging, line_shown, ranged_line}
+use Rattle.listing_tables.specs.declared.sheet.Sheet.{Sheet}
+use Rattle.listing_tables.specs.declared.table.Ranging.{Ranging}
+use Rattle.listing_tables.specs.declared.table.Table.TheVariants.{LimitRows, LimitColumns, BetweenRows, BetweenColumns}
+use Rattle.listing_tables.specs.Lines.{line_of, lines_of, stands_at_limit, stands_between, limit_row_values, limit_column_values, between_row_values, between_column_values}
+use Rattle.listing_tables.specs.Sheets.{IsSheet}
+use Rattle.listing_tables.specs.Tables.{HasLine, IsRanging, line_shown, ranged_line}
 use Rattle.report_text.specs.Ranges.{ranges_shown, limit_rows_heading, limit_columns_heading, between_rows_heading, between_columns_heading}
 
 pub range_parts : (lines : RangeLines) → codes "RANGE\n" ++ ((limit_rows_heading ++ table_text lines.rows_at_limit) ++ ((limit_columns_heading ++ table_text lines.columns_at_limit) ++ ((between_rows_heading ++ table_text lines.rows_between) ++ (between_columns_heading ++ table_text lines.columns_between)))) ≡ ranges_text lines

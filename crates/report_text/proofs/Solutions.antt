@@ -7,12 +7,12 @@ use Rattle.lp_definitions.specs.LinearProgram.{size, numbers_from}
 use Rattle.listing_definitions.specs.declared.Mark.{Mark}
 use Rattle.listing_definitions.specs.Report.{SolutionLines}
 use Rattle.listing_definitions.specs.Text.{mark_text, solution_text, line_text, table_text}
-use Rattle.report_text.specs.declared.sheet.Sheet.{Sheet}
-use Rattle.report_text.specs.declared.table.Standing.{Standing}
-use Rattle.report_text.specs.declared.table.Table.TheVariants.{Rows, Columns}
-use Rattle.report_text.specs.Lines.{line_of, row_values, column_values}
-use Rattle.report_text.specs.Sheets.{IsSheet}
-use Rattle.report_text.specs.Tables.{HasLine, IsStanding, line_shown}
+use Rattle.listing_tables.specs.declared.sheet.Sheet.{Sheet}
+use Rattle.listing_tables.specs.declared.table.Standing.{Standing}
+use Rattle.listing_tables.specs.declared.table.Table.TheVariants.{Rows, Columns}
+use Rattle.listing_tables.specs.Lines.{line_of, row_values, column_values}
+use Rattle.listing_tables.specs.Sheets.{IsSheet}
+use Rattle.listing_tables.specs.Tables.{HasLine, IsStanding, line_shown}
 use Rattle.report_text.specs.Solutions.{lines_shown, rows_heading, columns_heading}
 
 pub solution_parts : (mark : Mark) (lines : SolutionLines) → concat (codes "SOLUTION " ∷ mark_text mark ∷ codes "\n" ∷ []) ++ ((rows_heading ++ table_text lines.rows) ++ (columns_heading ++ table_text lines.columns)) ≡ solution_text mark lines

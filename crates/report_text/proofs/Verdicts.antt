@@ -11,11 +11,11 @@ use Rattle.listing_definitions.specs.Numbers.{digits, rational_text}
 use Rattle.listing_definitions.specs.declared.Solver.{Solver}
 use Rattle.listing_definitions.specs.Report.{Verdict, CrossedAt, Check}
 use Rattle.listing_definitions.specs.Text.{solver_text, check_text, verdict_head, verdict_lines, verdict_text, line_text, table_text}
-use Rattle.report_text.specs.declared.sheet.Sheet.{Sheet}
-use Rattle.report_text.specs.declared.table.Table.TheVariants.{Multipliers, Pairs}
-use Rattle.report_text.specs.Lines.{line_of, multiplier_values, pair_values, ray_lines, pair_lines}
-use Rattle.report_text.specs.Tables.{line_shown}
-use Rattle.report_text.proofs.Tables.{lines_filtered}
+use Rattle.listing_tables.specs.declared.sheet.Sheet.{Sheet}
+use Rattle.listing_tables.specs.declared.table.Table.TheVariants.{Multipliers, Pairs}
+use Rattle.listing_tables.specs.Lines.{line_of, multiplier_values, pair_values, ray_lines, pair_lines}
+use Rattle.listing_tables.specs.Tables.{line_shown}
+use Rattle.listing_tables.proofs.Tables.{lines_filtered}
 
 -- equal objectives are written alike
 pub same_objective : (by : Solver) (found : List ℕ) (steps : ℕ) (x y : ℚ) → x ≡ y → concat (solver_text by ∷ codes " " ∷ concat (found ∷ digits steps ∷ codes " OBJECTIVE " ∷ rational_text x ∷ []) ∷ []) ≡ concat (solver_text by ∷ codes " " ∷ concat (found ∷ digits steps ∷ codes " OBJECTIVE " ∷ rational_text y ∷ []) ∷ [])

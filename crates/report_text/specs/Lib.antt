@@ -1,10 +1,5 @@
-pub mod Intervals
-pub mod Lines
 pub mod Parametric
 pub mod Ranges
-pub mod Sheets
 pub mod Shown
 pub mod Solutions
-pub mod Tables
-pub mod Values
 pub mod Verdicts

@@ -13,10 +13,10 @@ use Rattle.lp_model.specs.declared.reports.ParaEnd.TheVariants.{AtMax, Unbounded
 use Rattle.lp_model.specs.declared.reports.ParaRun.{ParaRun}
 use Rattle.problem_definitions.specs.Names.{Name}
 use Rattle.listing_definitions.specs.Report.{Interval, ChainEnd, EndsAt, UnboundedPast, InfeasiblePast, Chain}
-use Rattle.report_text.specs.declared.sheet.Sheet.{Sheet}
-use Rattle.report_text.specs.Sheets.{IsSheet}
-use Rattle.report_text.specs.Tables.{IsPart}
-use Rattle.report_text.specs.Lines.{lines_of, part_values, pair_lines, ray_lines}
+use Rattle.listing_tables.specs.declared.sheet.Sheet.{Sheet}
+use Rattle.listing_tables.specs.Sheets.{IsSheet}
+use Rattle.listing_tables.specs.Tables.{IsPart}
+use Rattle.listing_tables.specs.Lines.{lines_of, part_values, pair_lines, ray_lines}
 use Rattle.report_text.specs.Verdicts.{IsFull}
 
 -- the lists of an end have a place for each variable

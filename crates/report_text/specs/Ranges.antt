@@ -1,11 +1,11 @@
 -- What the borrowed data of RANGE prints.
 use Rattle.std.specs.Prelude.{ℕ, List, codes}
 use Rattle.listing_definitions.specs.Report.{RangeLines}
-use Rattle.report_text.specs.declared.sheet.Sheet.{Sheet}
-use Rattle.report_text.specs.declared.table.Ranging.{Ranging}
-use Rattle.report_text.specs.Lines.{range_lines}
-use Rattle.report_text.specs.Sheets.{IsSheet}
-use Rattle.report_text.specs.Tables.{IsRanging}
+use Rattle.listing_tables.specs.declared.sheet.Sheet.{Sheet}
+use Rattle.listing_tables.specs.declared.table.Ranging.{Ranging}
+use Rattle.listing_tables.specs.Lines.{range_lines}
+use Rattle.listing_tables.specs.Sheets.{IsSheet}
+use Rattle.listing_tables.specs.Tables.{IsRanging}
 
 pub record AreRanges (sheet : Sheet) (ranging : Ranging) : Type 0 where
   pub is_sheet : IsSheet sheet

@@ -15,7 +15,7 @@ use Rattle.listing_definitions.specs.Report as reports
 use Rattle.listing_definitions.specs.Ending as endings
 use Rattle.listing_definitions.specs.Text.{report_text}
 use Rattle.listing_definitions.specs.Listing.{status_letter, basic_letter, ending_text}
-use Rattle.report_text.specs.Lines.{solution_lines, range_lines}
+use Rattle.listing_tables.specs.Lines.{solution_lines, range_lines}
 use Rattle.report_text.specs.Parametric.{IsParametric, chain_shown}
 use Rattle.report_text.specs.Ranges.{AreRanges}
 use Rattle.report_text.specs.Solutions.{IsSolution}

@@ -1,11 +1,11 @@
 -- What the borrowed data of SOLUTION prints.
 use Rattle.std.specs.Prelude.{ℕ, List, codes}
 use Rattle.listing_definitions.specs.Report.{SolutionLines}
-use Rattle.report_text.specs.declared.sheet.Sheet.{Sheet}
-use Rattle.report_text.specs.declared.table.Standing.{Standing}
-use Rattle.report_text.specs.Lines.{solution_lines}
-use Rattle.report_text.specs.Sheets.{IsSheet}
-use Rattle.report_text.specs.Tables.{IsStanding}
+use Rattle.listing_tables.specs.declared.sheet.Sheet.{Sheet}
+use Rattle.listing_tables.specs.declared.table.Standing.{Standing}
+use Rattle.listing_tables.specs.Lines.{solution_lines}
+use Rattle.listing_tables.specs.Sheets.{IsSheet}
+use Rattle.listing_tables.specs.Tables.{IsStanding}
 
 pub record IsSolution (sheet : Sheet) (standing : Standing) : Type 0 where
   pub is_sheet : IsSheet sheet

@@ -6,9 +6,9 @@ use Rattle.lp_definitions.specs.LinearProgram.{size, value_at}
 use Rattle.lp_model.specs.declared.reports.Outcome.{Outcome}
 use Rattle.lp_model.specs.declared.reports.Outcome.TheVariants.{Optimal, Crossed, Infeasible, Unbounded}
 use Rattle.listing_definitions.specs.Report.{Verdict, OptimalAt, CrossedAt, InfeasibleBy, UnboundedBy, Check, Checked, Unchecked}
-use Rattle.report_text.specs.declared.sheet.Sheet.{Sheet}
-use Rattle.report_text.specs.Sheets.{IsSheet}
-use Rattle.report_text.specs.Lines.{ray_lines, pair_lines}
+use Rattle.listing_tables.specs.declared.sheet.Sheet.{Sheet}
+use Rattle.listing_tables.specs.Sheets.{IsSheet}
+use Rattle.listing_tables.specs.Lines.{ray_lines, pair_lines}
 
 -- a value for each variable of the sheet's program
 abbrev pub IsFull : Sheet → List ℚ → Type 0

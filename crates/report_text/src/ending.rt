@@ -8,11 +8,11 @@ ghost use Rattle.listing_definitions.specs.Listing.{ending_text, fault_text, lab
 ghost use Rattle.report_text.specs.Shown.{IsEnding, IsVerbFault, IsCardFault, verb_fault, card_fault, ending_shown};
 
 use crate::overflow::put_overflow;
-use crate::pieces::decimal;
 use crate::report::Ending;
 use arrayvec::ArrayString;
 use itoa::Buffer;
 use job_devices::{Sink, WriteStop, put_all, put_each};
+use listing_tables::decimal;
 
 // The code of a run that ends by itself.
 fn put_code<P: Sink>(print: &mut P, code: u8) -> Result<(), WriteStop>

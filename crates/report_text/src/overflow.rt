@@ -7,9 +7,9 @@ ghost use Rattle.listing_definitions.specs.Listing.{status_letter, basic_letter,
 ghost use Rattle.listing_definitions.specs.Text.{refused_text};
 ghost use Rattle.report_text.specs.Shown.{place_shown, place_text, evidence_tail, letters_of, letter_line};
 
-use crate::pieces::{decimal, fraction, operation};
 use itoa::Buffer;
 use job_devices::{Sink, WriteStop, put_all, put_each};
+use listing_tables::{decimal, fraction, operation};
 use lp_definitions::{Evidence, Status};
 use lp_model::Basis;
 

@@ -5,19 +5,17 @@ ghost use Rattle.job_devices.specs.Text.{Writes};
 ghost use Rattle.listing_definitions.specs.Numbers.{digits, rational_text};
 ghost use Rattle.listing_definitions.specs.Report as reports;
 ghost use Rattle.listing_definitions.specs.Text.{solver_text, table_text, interval_text, chain_end_text, report_text};
-ghost use Rattle.report_text.specs.Lines.{pair_lines, ray_lines};
-ghost use Rattle.report_text.specs.Sheets.{IsSheet};
-ghost use Rattle.report_text.specs.Tables.{IsPart};
+ghost use Rattle.listing_tables.specs.Lines.{pair_lines, ray_lines};
+ghost use Rattle.listing_tables.specs.Sheets.{IsSheet};
+ghost use Rattle.listing_tables.specs.Tables.{IsPart};
 ghost use Rattle.report_text.specs.Verdicts.{IsFull};
 ghost use Rattle.report_text.specs.Parametric.{IsRunEnd, IsParametric, interval_shown, end_shown, chain_shown};
 
-use crate::pieces::{fraction, solver_word};
-use crate::sheet::Sheet;
-use crate::table::{Table, put_table};
 use frac128::Frac;
 use itoa::Buffer;
 use job_devices::{Sink, WriteStop, put_each};
 use listing_definitions::Solver;
+use listing_tables::{Sheet, Table, fraction, put_table, solver_word};
 use lp_model::{ParaEnd, ParaPart, ParaRun};
 use name_table::Name;
 

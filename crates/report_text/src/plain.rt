@@ -4,9 +4,9 @@ ghost use Rattle.job_devices.specs.Text.{Writes};
 ghost use Rattle.listing_definitions.specs.Report as reports;
 ghost use Rattle.listing_definitions.specs.Text.{filed_text, report_text};
 
-use crate::pieces::{NAME_PLACES, blanks, decimal, sense_word};
 use itoa::Buffer;
 use job_devices::{Sink, WriteStop, put_each};
+use listing_tables::{NAME_PLACES, blanks, decimal, sense_word};
 use lp_definitions::Sense;
 use name_table::Name;
 

@@ -7,9 +7,8 @@ ghost use Rattle.listing_definitions.specs.Report as reports;
 ghost use Rattle.listing_definitions.specs.Text.{table_text, report_text};
 ghost use Rattle.report_text.specs.Ranges.{AreRanges, ranges_shown, limit_rows_heading, limit_columns_heading, between_rows_heading, between_columns_heading};
 
-use crate::sheet::{Sheet, row_count};
-use crate::table::{Ranging, Table, put_table};
 use job_devices::{Sink, WriteStop, put_all};
+use listing_tables::{Ranging, Sheet, Table, put_table, row_count};
 
 // The section of the nonbasic rows.
 fn put_limit_rows<P: Sink>(

@@ -7,10 +7,9 @@ ghost use Rattle.listing_definitions.specs.Report as reports;
 ghost use Rattle.listing_definitions.specs.Text.{mark_text, table_text, report_text};
 ghost use Rattle.report_text.specs.Solutions.{IsSolution, lines_shown, rows_heading, columns_heading};
 
-use crate::sheet::{Sheet, row_count};
-use crate::table::{Standing, Table, put_table};
 use job_devices::{Sink, WriteStop, put_all, put_each};
 use listing_definitions::Mark;
+use listing_tables::{Sheet, Standing, Table, put_table, row_count};
 
 // The word of a mark.
 fn mark_word(mark: Mark) -> &'static [u8]

@@ -7,13 +7,13 @@ ghost use Rattle.listing_definitions.specs.Report as reports;
 ghost use Rattle.listing_definitions.specs.Text.{solver_text, check_text, refused_text, verdict_head, verdict_lines, table_text, report_text};
 ghost use Rattle.report_text.specs.Verdicts.{IsOutcome, verdict_shown, check_shown};
 
-use crate::pieces::{decimal, fraction, operation, solver_word};
-use crate::sheet::{Sheet, objective_of};
-use crate::table::{Table, put_table};
 use frac128::{Frac, Refused};
 use itoa::Buffer;
 use job_devices::{Sink, WriteStop, put_all, put_each};
 use listing_definitions::Solver;
+use listing_tables::{
+    Sheet, Table, decimal, fraction, objective_of, operation, put_table, solver_word,
+};
 use lp_model::Outcome;
 
 // What was found, and a number.

@@ -1,7 +1,7 @@
 use Rattle.std.proofs.lemmas.Result.{err_from_is_err_and}
 use Rattle.job_devices.proofs.TextLemmas.{writes_then, writes_more, writes_same}
 use Rattle.listing_definitions.specs.Text.{table_text}
-use Rattle.report_text.specs.Lines.{pair_lines}
+use Rattle.listing_tables.specs.Lines.{pair_lines}
 use Rattle.report_text.proofs.Verdicts.{pair_table}
 use Rattle.report_text.proofs.ParametricParts.{unbounded_parts}
 use Rattle.report_text.proofs.parametric.put_unbounded_past.Goals as goal

@@ -1,7 +1,7 @@
 use Rattle.std.proofs.Common.{◌∙◌, ap}
 use Rattle.job_devices.proofs.TextLemmas.{writes_same}
 use Rattle.listing_definitions.specs.Text.{table_text}
-use Rattle.report_text.specs.Lines.{ray_lines, pair_lines}
+use Rattle.listing_tables.specs.Lines.{ray_lines, pair_lines}
 use Rattle.report_text.proofs.Verdicts.{ray_table, pair_table}
 use Rattle.report_text.proofs.verdict.put_verdict_lines.Goals as goal
 

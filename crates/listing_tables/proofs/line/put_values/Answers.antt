@@ -1,8 +1,8 @@
 use Rattle.std.proofs.Common.{ap}
 use Rattle.std.proofs.lemmas.Result.{err_from_is_err_and}
 use Rattle.job_devices.proofs.TextLemmas.{writes_item, writes_same}
-use Rattle.report_text.specs.Values.{value_behind_blank}
-use Rattle.report_text.proofs.line.put_values.Goals as goal
+use Rattle.listing_tables.specs.Values.{value_behind_blank}
+use Rattle.listing_tables.proofs.line.put_values.Goals as goal
 
 pub returns-in_err-put_value : goal.returns-in_err-put_value
 returns-in_err-put_value g c =

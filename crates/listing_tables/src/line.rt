@@ -4,7 +4,7 @@ ghost use Rattle.std.specs.List.{concat, flat_map};
 ghost use Rattle.job_devices.specs.Text.{Writes};
 ghost use Rattle.listing_definitions.specs.Report.{limit_value};
 ghost use Rattle.listing_definitions.specs.Text.{at_text, number5, name8, value_text, line_text};
-ghost use Rattle.report_text.specs.Values.{value_shown, value_behind_blank};
+ghost use Rattle.listing_tables.specs.Values.{value_shown, value_behind_blank};
 
 use crate::pieces::{NAME_PLACES, NUMBER_PLACES, blanks, decimal, fraction};
 use frac128::Frac;

@@ -1,6 +1,6 @@
 -- A sheet: a problem, which has the names, and the linear program that is selected from it.
 use Rattle.std.specs.Prelude.{◌≡◌, length}
-use Rattle.report_text.specs.declared.sheet.Sheet.{Sheet}
+use Rattle.listing_tables.specs.declared.sheet.Sheet.{Sheet}
 
 -- each row and each column has a name
 pub record IsSheet (sheet : Sheet) : Type 0 where

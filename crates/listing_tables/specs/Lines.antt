@@ -18,7 +18,7 @@ use Rattle.listing_definitions.specs.declared.At.TheVariants.{Basic, Outside, Eq
 use Rattle.listing_definitions.specs.Report.{Value, Code, Number, limit_value, Line, SolutionLines, RangeLines}
 use Rattle.lp_model.specs.declared.reports.ParaPart.{ParaPart}
 use Rattle.lp_model.specs.declared.reports.RangeReport.{RangeReport}
-use Rattle.report_text.specs.Intervals.{ends_at}
+use Rattle.listing_tables.specs.Intervals.{ends_at}
 
 -- the variables are the rows, and then the columns
 abbrev pub name_of : Problem ℕ → ℕ → Name

@@ -4,8 +4,8 @@ ghost use Rattle.lp_definitions.specs.LinearProgram.{IsVariable, IsColumn, size,
 ghost use Rattle.lp_definitions.specs.Basis.{is_basic, status_of};
 ghost use Rattle.path_definitions.specs.Moves.{is_fixed, is_below, is_above, is_outside};
 ghost use Rattle.exact_values.specs.Tests.{lt_ℚ};
-ghost use Rattle.report_text.specs.Lines.{name_of, at_by, at_of, stands_between};
-ghost use Rattle.report_text.specs.Sheets.{IsSheet};
+ghost use Rattle.listing_tables.specs.Lines.{name_of, at_by, at_of, stands_between};
+ghost use Rattle.listing_tables.specs.Sheets.{IsSheet};
 
 use frac128::Frac;
 use listing_definitions::At;

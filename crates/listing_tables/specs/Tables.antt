@@ -8,13 +8,13 @@ use Rattle.lp_definitions.specs.LinearProgram.{IsVariable, size, value_at}
 use Rattle.lp_model.specs.declared.reports.ParaPart.{ParaPart}
 use Rattle.listing_definitions.specs.Report.{Value}
 use Rattle.listing_definitions.specs.Text.{line_text}
-use Rattle.report_text.specs.declared.sheet.Sheet.{Sheet}
-use Rattle.report_text.specs.declared.table.Standing.{Standing}
-use Rattle.report_text.specs.declared.table.Ranging.{Ranging}
-use Rattle.report_text.specs.declared.table.Table.{Table}
-use Rattle.report_text.specs.declared.table.Table.TheVariants.{Multipliers, Pairs, Rows, Columns, LimitRows, LimitColumns, BetweenRows, BetweenColumns, Parts}
-use Rattle.report_text.specs.Sheets.{IsSheet}
-use Rattle.report_text.specs.Lines.{line_of, multiplier_values, pair_values, row_values, column_values, stands_at_limit, stands_between, limit_row_values, limit_column_values, between_row_values, between_column_values, part_values}
+use Rattle.listing_tables.specs.declared.sheet.Sheet.{Sheet}
+use Rattle.listing_tables.specs.declared.table.Standing.{Standing}
+use Rattle.listing_tables.specs.declared.table.Ranging.{Ranging}
+use Rattle.listing_tables.specs.declared.table.Table.{Table}
+use Rattle.listing_tables.specs.declared.table.Table.TheVariants.{Multipliers, Pairs, Rows, Columns, LimitRows, LimitColumns, BetweenRows, BetweenColumns, Parts}
+use Rattle.listing_tables.specs.Sheets.{IsSheet}
+use Rattle.listing_tables.specs.Lines.{line_of, multiplier_values, pair_values, row_values, column_values, stands_at_limit, stands_between, limit_row_values, limit_column_values, between_row_values, between_column_values, part_values}
 
 -- a basis of the sheet's program with its lists; no row is added to the objective
 pub record IsStanding (sheet : Sheet) (standing : Standing) : Type 0 where

@@ -1,7 +1,7 @@
 // The intervals of a report of ranges, as values of table lines.
 ghost use Rattle.std.specs.Prelude.{◌≡◌};
-ghost use Rattle.report_text.specs.Values.{value_shown};
-ghost use Rattle.report_text.specs.Intervals.{interval_at, low_value, high_value};
+ghost use Rattle.listing_tables.specs.Values.{value_shown};
+ghost use Rattle.listing_tables.specs.Intervals.{interval_at, low_value, high_value};
 
 use crate::line::Value;
 use lp_model::{Interval, Intervals};

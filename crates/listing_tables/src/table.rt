@@ -3,7 +3,7 @@ ghost use Rattle.std.specs.Prelude.{◌≡◌, ◌<◌, ◌≤◌, ◌+◌, ◌-
 ghost use Rattle.std.specs.List.{flat_map};
 ghost use Rattle.job_devices.specs.Text.{Writes};
 ghost use Rattle.lp_definitions.specs.LinearProgram.{numbers_from};
-ghost use Rattle.report_text.specs.Tables.{HasLine, line_shown};
+ghost use Rattle.listing_tables.specs.Tables.{HasLine, line_shown};
 
 use crate::intervals::{high_end, interval_of, low_end};
 use crate::line::{Value, put_line};

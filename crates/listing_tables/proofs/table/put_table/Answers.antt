@@ -3,9 +3,9 @@ use Rattle.std.specs.List.{flat_map}
 use Rattle.std.proofs.lemmas.Result.{err_from_is_err_and}
 use Rattle.job_devices.proofs.TextLemmas.{writes_then, writes_more, writes_same}
 use Rattle.lp_definitions.specs.LinearProgram.{numbers_from}
-use Rattle.report_text.specs.Tables.{line_shown}
-use Rattle.report_text.proofs.Tables.{line_next, lines_around}
-use Rattle.report_text.proofs.table.put_table.Goals as goal
+use Rattle.listing_tables.specs.Tables.{line_shown}
+use Rattle.listing_tables.proofs.Tables.{line_next, lines_around}
+use Rattle.listing_tables.proofs.table.put_table.Goals as goal
 
 pub returns-in_err-put_table_line : goal.returns-in_err-put_table_line
 returns-in_err-put_table_line g c =

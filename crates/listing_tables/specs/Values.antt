@@ -2,8 +2,8 @@
 use Rattle.std.specs.Prelude.{ℕ, List, ◌++◌, codes}
 use Rattle.listing_definitions.specs.Report as reports
 use Rattle.listing_definitions.specs.Text.{value_text}
-use Rattle.report_text.specs.declared.line.Value.{Value}
-use Rattle.report_text.specs.declared.line.Value.TheVariants.{Code, Number, Absent, Dash}
+use Rattle.listing_tables.specs.declared.line.Value.{Value}
+use Rattle.listing_tables.specs.declared.line.Value.TheVariants.{Code, Number, Absent, Dash}
 
 abbrev pub value_shown : Value → reports.Value
 value_shown (Code at) = reports.Code at

@@ -2,9 +2,9 @@ use Rattle.std.proofs.Common.{◌++◌, codes}
 use Rattle.std.specs.List.{flat_map}
 use Rattle.std.proofs.lemmas.Result.{err_from_is_err_and}
 use Rattle.job_devices.proofs.TextLemmas.{writes_then, writes_more, writes_same}
-use Rattle.report_text.specs.Values.{value_behind_blank}
-use Rattle.report_text.proofs.Values.{line_parts}
-use Rattle.report_text.proofs.line.put_line.Goals as goal
+use Rattle.listing_tables.specs.Values.{value_behind_blank}
+use Rattle.listing_tables.proofs.Values.{line_parts}
+use Rattle.listing_tables.proofs.line.put_line.Goals as goal
 
 pub returns-in_err-put_line_head : goal.returns-in_err-put_line_head
 returns-in_err-put_line_head g c =

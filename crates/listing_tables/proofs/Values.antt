@@ -5,8 +5,8 @@ use Rattle.std.proofs.lemmas.List.Folds.{flat_map-map}
 use Rattle.problem_definitions.specs.Names.{Name}
 use Rattle.listing_definitions.specs.Report as reports
 use Rattle.listing_definitions.specs.Text.{number5, name8, value_text, line_text}
-use Rattle.report_text.specs.declared.line.Value.{Value}
-use Rattle.report_text.specs.Values.{value_shown, value_behind_blank}
+use Rattle.listing_tables.specs.declared.line.Value.{Value}
+use Rattle.listing_tables.specs.Values.{value_shown, value_behind_blank}
 
 pub line_parts : (number : ℕ) (name : Name) (values : List Value) → concat (number5 number ∷ codes " " ∷ name8 name ∷ []) ++ (flat_map value_behind_blank values ++ codes "\n") ≡ line_text (record { number = number; name = name; values = map value_shown values })
 line_parts number name values =

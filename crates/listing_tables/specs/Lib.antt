@@ -1,0 +1,5 @@
+pub mod Intervals
+pub mod Lines
+pub mod Sheets
+pub mod Tables
+pub mod Values
