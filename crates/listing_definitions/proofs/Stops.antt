@@ -7,7 +7,7 @@ use Rattle.frac128.specs.declared.Op.TheVariants.{Sub, Mul, Div}
 use Rattle.lp_definitions.specs.declared.Status.TheVariants.{Bs, Ll, Ul, Fr}
 use Rattle.card_definitions.specs.declared.CardFault.TheVariants.{TooLong, NotPrintable, CardTooLong}
 use Rattle.listing_definitions.specs.Numbers.{digits}
-use Rattle.listing_definitions.specs.declared.VerbFault.TheVariants.{DeckNotFound, NoBoundSet}
+use Rattle.listing_definitions.specs.declared.VerbFault.TheVariants.{DeckNotFound, WrongPrices}
 use Rattle.listing_definitions.specs.Ending.{Ending, Ended, WordsRefused, ControlStop, VerbStop, DeckStop, CardStop, LimitStop, StatementLimit, OverflowStop, ReadFault, PrintFault, PunchFault, Memory, status_of}
 use Rattle.listing_definitions.specs.Listing.{ending_text}
 
@@ -16,7 +16,7 @@ stops : List Ending
 stops =
     Ended 0 ∷ Ended 1 ∷ Ended 2 ∷ WordsRefused ∷
     ControlStop (record { number = 11; card = 5002 }) ∷
-    VerbStop (record { fault = DeckNotFound; card = 3 }) ∷ VerbStop (record { fault = NoBoundSet; card = 3 }) ∷
+    VerbStop (record { fault = DeckNotFound; card = 3 }) ∷ VerbStop (record { fault = WrongPrices; card = 3 }) ∷
     DeckStop (record { fault = 24; card = 19; number = None; column = None }) ∷
     DeckStop (record { fault = 8; card = 12; number = Some 4; column = None }) ∷
     DeckStop (record { fault = 8; card = 12; number = Some 2; column = Some 28 }) ∷
@@ -24,7 +24,7 @@ stops =
     LimitStop (record { limit = 2; card = 5 }) ∷ StatementLimit ∷ ReadFault ∷ PrintFault ∷ PunchFault ∷ Memory ∷ []
 
 stop_texts : flat_map ending_text stops
-    ≡ codes "END 0\nEND 1\nEND 2\nSTOP 4 WORDS\nSTOP 8 CONTROL FAULT 11 CARD 5002\nSTOP 10 VERB FAULT 1 CARD 3\nSTOP 10 VERB FAULT 14 CARD 3\nSTOP 12 DECK FAULT 24 CARD 19\nSTOP 12 DECK FAULT 8 CARD 12 NUMBER 4\nSTOP 12 DECK FAULT 8 CARD 12 NUMBER 2 COLUMN 28\nSTOP 13 CARD FAULT 2\nSTOP 13 CARD FAULT 3 CARD 3\nSTOP 13 CARD FAULT 4 CARD 3\nSTOP 16 ITERATION LIMIT 2 CARD 5\nSTOP 17 STATEMENT LIMIT\nSTOP 24 READ FAULT\nSTOP 26 PUNCH FAULT\nSTOP 28 MEMORY\n"
+    ≡ codes "END 0\nEND 1\nEND 2\nSTOP 4 WORDS\nSTOP 8 CONTROL FAULT 11 CARD 5002\nSTOP 10 VERB FAULT 1 CARD 3\nSTOP 10 VERB FAULT 16 CARD 3\nSTOP 12 DECK FAULT 24 CARD 19\nSTOP 12 DECK FAULT 8 CARD 12 NUMBER 4\nSTOP 12 DECK FAULT 8 CARD 12 NUMBER 2 COLUMN 28\nSTOP 13 CARD FAULT 2\nSTOP 13 CARD FAULT 3 CARD 3\nSTOP 13 CARD FAULT 4 CARD 3\nSTOP 16 ITERATION LIMIT 2 CARD 5\nSTOP 17 STATEMENT LIMIT\nSTOP 24 READ FAULT\nSTOP 26 PUNCH FAULT\nSTOP 28 MEMORY\n"
 unfolding stops digits
 stop_texts = refl
 

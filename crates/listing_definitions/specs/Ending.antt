@@ -5,7 +5,7 @@ use Rattle.lp_definitions.specs.declared.Status.{Status}
 use Rattle.card_definitions.specs.declared.CardFault.{CardFault}
 use Rattle.control_definitions.specs.declared.ControlFault.{ControlFault}
 use Rattle.listing_definitions.specs.declared.VerbFault.{VerbFault}
-use Rattle.listing_definitions.specs.declared.VerbFault.TheVariants.{DeckNotFound, NoProblem, NoSetup, NotSolved, NotOptimal, NoChangeRow, NoChangeSet, NoParmax, ParmaxBelow, NoObjective, ObjectiveNotFree, NoRhsSet, NoRangeSet, NoBoundSet}
+use Rattle.listing_definitions.specs.declared.VerbFault.TheVariants.{DeckNotFound, NoProblem, NoSetup, NotSolved, NotOptimal, NoChangeRow, NoChangeSet, NoParmax, ParmaxBelow, NoObjective, ObjectiveNotFree, NoRhsSet, NoRangeSet, NoBoundSet, Singular, WrongPrices}
 
 -- a statement that was refused, by its card
 pub record StatementFault : Type 0 where
@@ -65,6 +65,8 @@ verb_fault_number ObjectiveNotFree = 11
 verb_fault_number NoRhsSet = 12
 verb_fault_number NoRangeSet = 13
 verb_fault_number NoBoundSet = 14
+verb_fault_number Singular = 15
+verb_fault_number WrongPrices = 16
 
 -- the status of a run that ends so
 abbrev pub status_of : Ending → ℕ

@@ -82,4 +82,10 @@ pub enum VerbFault {
     /// The setup names no bound set of the problem.
     #[error("there is no such bound set")]
     NoBoundSet,
+    /// The basis that a deck gives is singular.
+    #[error("the basis is singular")]
+    Singular,
+    /// The prices of the present basis aren't those of an optimal basis.
+    #[error("the prices aren't those of an optimal basis")]
+    WrongPrices,
 }

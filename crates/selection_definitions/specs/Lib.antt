@@ -1,4 +1,7 @@
 pub mod Choice
 pub mod Limits
+pub mod Combinations
 pub mod Selection
 pub mod RangeSums
+pub mod CombinationSums
+pub mod Refusals

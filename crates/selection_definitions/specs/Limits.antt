@@ -1,6 +1,6 @@
 -- The limits that a row has by its type, its right-hand side and its range, and those that a column has by its bounds.
 use Rattle.std.specs.Prelude.{ℕ, List, Option, Some, None, if◌then◌else◌, option_map, filter, fold, find, nat_eq}
-use Rattle.exact_values.specs.Rational.{ℚ, zero_ℚ, neg_ℚ}
+use Rattle.exact_values.specs.Rational.{ℚ, zero_ℚ}
 use Rattle.exact_values.specs.Tests.{lt_ℚ, magnitude}
 use Rattle.frac128.specs.declared.Op.{Op}
 use Rattle.frac128.specs.declared.Op.TheVariants.{Add, Sub}

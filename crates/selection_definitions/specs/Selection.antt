@@ -5,17 +5,22 @@ use Rattle.exact_values.specs.Rational.{ℚ, zero_ℚ}
 use Rattle.lp_definitions.specs.declared.Entry.{Entry as Coefficient}
 use Rattle.lp_definitions.specs.LinearProgram.{Matrix, LinearProgram}
 use Rattle.card_definitions.specs.Words.{unless}
-use Rattle.problem_definitions.specs.Problem.{Entry, Group, Problem}
+use Rattle.problem_definitions.specs.Problem.{Row, Entry, Group, Problem}
 use Rattle.selection_definitions.specs.declared.SelectionFault.{SelectionFault}
 use Rattle.selection_definitions.specs.Choice.{Choice, objective_of, rhs_items, set_items, selection_fault}
 use Rattle.selection_definitions.specs.Limits.{Limits, value_on, row_limits, column_limits}
+use Rattle.selection_definitions.specs.Combinations.{on_combinations}
 
--- the numbers of a column, each with its row
-abbrev pub coefficients : Group (Entry ℕ) → List Coefficient
-coefficients column = map (λ entry. record { row = entry.row; value = entry.value.value }) column.items
+-- the numbers that a deck gives for a column, each with its row
+abbrev pub entered : List (Entry ℕ) → List Coefficient
+entered entries = map (λ entry. record { row = entry.row; value = entry.value.value }) entries
+
+-- the numbers of a column: those that the deck gives, in the deck's order, and then those on the combinations, by row number
+abbrev pub coefficients : List (Row ℕ) → Group (Entry ℕ) → List Coefficient
+coefficients rows column = entered column.items ++ on_combinations rows column.items
 
 abbrev pub matrix_of : Problem ℕ → Matrix
-matrix_of problem = record { rows = length problem.rows; cols = length problem.columns; columns = map coefficients problem.columns }
+matrix_of problem = record { rows = length problem.rows; cols = length problem.columns; columns = map (coefficients problem.rows) problem.columns }
 
 module _ (problem : Problem ℕ) (choice : Choice) where
   -- a row without an item in the right-hand side set has 0
