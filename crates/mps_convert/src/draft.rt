@@ -13,10 +13,10 @@ ghost use Rattle.deck_cards.specs.Shown.{shown};
 
 use crate::reading::Draft;
 use card_reader::Card;
-use deck_cards::{DataCard, first_word, read_data_card, section_named};
+use deck_cards::{DataCard, first_word, is_blank as is_empty_text, read_data_card, section_named};
 use deck_parts::{
-    BoundSets, CardStop, DeckFaultKind, Groups, Rows, Section, is_blank as is_empty_text,
-    order_fault, take_bound_card, take_column_card, take_row_card, take_set_card,
+    BoundSets, CardStop, DeckFaultKind, Groups, Rows, Section, order_fault, take_bound_card,
+    take_column_card, take_row_card, take_set_card,
 };
 use name_table::Name;
 use problem_file::{NoMemory, Problem};
