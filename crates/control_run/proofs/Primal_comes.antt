@@ -17,7 +17,7 @@ use Rattle.question_definitions.specs.Answers.{Basis, Sheet, OfPath, PathEnd, Re
 use Rattle.answer_definitions.specs.Verdicts.{IsSolved}
 use Rattle.answer_definitions.specs.Evidence.{OverflowsOnPath}
 use Rattle.run_definitions.specs.State.{Present, present_basis, path_of, State, choice_of, gone_through}
-use Rattle.run_definitions.specs.Moves.{Gain, punched_by, Outcome, stops, Move, MayStop, Asks, Gives, or_fault, InSelection, InAnswer, RangeOverflows}
+use Rattle.run_definitions.specs.Moves.{Gain, punched_by, Outcome, stops, Move, MayStop, Asks, Gives, or_fault, InSelection, InAnswer, SelectionOverflows}
 use Rattle.run_definitions.specs.Verbs.{mark_of, or_selection_fault, after_path, verb_move}
 use Rattle.control_run.specs.declared.act.Act.{Act}
 use Rattle.control_run.specs.declared.act.Halt.{Halt}
@@ -26,7 +26,7 @@ use Rattle.control_run.specs.declared.finding.Finding.TheVariants.{Ended}
 use Rattle.control_run.specs.Machines.{Machine}
 use Rattle.control_run.specs.Kept.{Setup}
 use Rattle.control_run.specs.declared.selecting.Refusal.TheVariants.{Fault}
-use Rattle.control_run.specs.Choosing.{HasSelectionFault, HasRangeOverflow, refused_act}
+use Rattle.control_run.specs.Choosing.{HasSelectionFault, HasSelectionOverflow, refused_act}
 use Rattle.control_run.specs.Ends.{end_shown, place_shown}
 use Rattle.answer_definitions.specs.Real.{linear_programming}
 use Rattle.control_run.specs.Standing.{AreDemands, IsReady, ShowsSetup, Stands}
@@ -113,11 +113,11 @@ module _ (card : ℕ) (cards : List (List ℕ)) (old : Machine) (setup new : Set
       (gives_unselected card (selected problem (choice_of state.cells setup.options)) (path_move card state present) h.why fault
       (ap (λ (c : Cells). selected problem (choice_of c setup.options)) s.cells ∙ h.is_refused) h.is_fault)
 
-  range_gives : (e : Evidence) → HasRangeOverflow problem (choice_of old.cells setup.options) e →
+  selection_gives : (e : Evidence) → HasSelectionOverflow problem (choice_of old.cells setup.options) e →
       Gives linear_programming card (verb_move Primal card state) (stops (endings.OverflowStop (record { evidence = e; place = None; card = card })))
-  range_gives e h =
+  selection_gives e h =
       selected_gives h.lp h.is_selected (stops (endings.OverflowStop (record { evidence = e; place = None; card = card })))
-      (inr (e, None, (subst (λ (c : Cells). RangeOverflows problem (choice_of c setup.options) e None) (sym s.cells) (h.is_refusal, refl)), refl))
+      (inr (e, None, (subst (λ (c : Cells). SelectionOverflows problem (choice_of c setup.options) e None) (sym s.cells) (h.is_refusal, refl)), refl))
 
   overflow_gives : (lp : LinearProgram) → selected problem (choice_of old.cells setup.options) ≡ Ok lp → (e : Evidence) (place : Option endings.Place) →
       PathOverflows (record { problem = problem; lp = lp }) setup.basis new.basis old.cells.xiterlim setup.engine.waypoints new.engine.waypoints e place →
@@ -152,7 +152,7 @@ module _ (card : ℕ) (cards : List (List ℕ)) (old : Machine) (setup new : Set
   pub found_comes : (gain : Gain) (finding : Finding) → Finds problem old.cells setup new gain finding →
       Comes linear_programming Primal card cards position executed state (after (mark_left finding)) gain (act_of old.cells card finding)
   found_comes _ _ (unselected {fault = fault} h) = fault_gives fault h
-  found_comes _ _ (too_large {e = e} h) = range_gives e h
+  found_comes _ _ (too_large {e = e} h) = selection_gives e h
   found_comes _ _ (solved {lp = lp} ok same_name same_options (reached {bases = bases} {verdict = verdict} {check = check} r)) =
       verdict_comes card cards (after (Some (mark_of verdict))) position executed (verb_move Primal card state) (Solved ByPrimal verdict check) (record state { setup = Some (gone_through bases present); mark = Some (mark_of verdict) })
       (after_stands lp ok same_name same_options bases verdict check r (mark_of verdict)) old.cells demands s.cells (mark_of verdict) (path_gives lp ok (Reached bases verdict check) r.reaches)

@@ -30,7 +30,7 @@ use Rattle.control_run.specs.Machines.{Opened}
 use Rattle.answer_definitions.specs.Real.{linear_programming}
 use Rattle.control_run.specs.Standing.{Stands, named, filed}
 use Rattle.control_run.specs.Statements.{Executes}
-use Rattle.control_run.specs.Choosing.{refused_act, HasSelectionFault, HasRangeOverflow, IsUnselected, IsOpened, IsSetupFault, no_problem, not_selected, IsNotOpened}
+use Rattle.control_run.specs.Choosing.{refused_act, HasSelectionFault, HasSelectionOverflow, IsUnselected, IsOpened, IsSetupFault, no_problem, not_selected, IsNotOpened}
 use Rattle.control_run.proofs.Selected.{same_matrix}
 use Rattle.control_run.proofs.Giving.{problem_shown, gives_fault, gives_found, gives_selected, gives_unselected, quietly, loudly, cut_off}
 
@@ -73,7 +73,7 @@ module _ (card : ℕ) (options : SetupOptions) (state : State) where
       gives_found card verb_fault.NoProblem (problem_of state.cells.xpbname state.file) go_found problem (stops (VerbStop (record { fault = fault; card = card }))) e
       (gives_unselected card (selected problem (choice_of state.cells options)) (go_selected problem) h.why fault h.is_refused h.is_fault)
 
-  gives_overflow : (problem : Problem ℕ) (evidence : Evidence) → problem_of state.cells.xpbname state.file ≡ Some problem → HasRangeOverflow problem (choice_of state.cells options) evidence →
+  gives_overflow : (problem : Problem ℕ) (evidence : Evidence) → problem_of state.cells.xpbname state.file ≡ Some problem → HasSelectionOverflow problem (choice_of state.cells options) evidence →
       Gives linear_programming card (verb_move (SetupVerb options) card state) (stops (OverflowStop (record { evidence = evidence; place = None; card = card })))
   unfolding linear_programming verb_move
   gives_overflow problem evidence e h =
@@ -104,7 +104,7 @@ module _ (card : ℕ) {P : Type 0} (written : P → Option (List ℕ)) (faults r
   overflow_by e (no_problem is none) {state = state} s = cc
   overflow_by e (not_selected problem some h) {state = state} s =
       gives_overflow card options state problem e (problem_shown s (λ (c : Cells). c.xpbname) (Some problem) some)
-      (subst (λ (c : Cells). HasRangeOverflow problem (choice_of c options) e) (sym s.cells) h)
+      (subst (λ (c : Cells). HasSelectionOverflow problem (choice_of c options) e) (sym s.cells) h)
 
   pub setup_refused : (print : P) (refusal : Refusal) → IsNotOpened machine.cells machine.file options refusal →
       Executes linear_programming (SetupVerb options) card written faults refusals print print cards machine machine (refused_act card refusal)

@@ -17,7 +17,7 @@ use Rattle.answer_definitions.specs.Real.{linear_programming}
 use Rattle.answer_definitions.specs.Sweeps.{IsSwept}
 use Rattle.answer_definitions.specs.Evidence.{OverflowsAt}
 use Rattle.run_definitions.specs.State.{Present, State, choice_of, gone_through}
-use Rattle.run_definitions.specs.Moves.{Gain, punched_by, Outcome, stops, Move, MayStop, Gives, or_fault, InSelection, RangeOverflows}
+use Rattle.run_definitions.specs.Moves.{Gain, punched_by, Outcome, stops, Move, MayStop, Gives, or_fault, InSelection, SelectionOverflows}
 use Rattle.run_definitions.specs.Verbs.{mark_of, last_value, not_less, or_selection_fault, asks, after_sweep, verb_move}
 use Rattle.control_run.specs.declared.act.Act.{Act}
 use Rattle.control_run.specs.declared.act.Halt.{Halt}
@@ -27,7 +27,7 @@ use Rattle.control_run.specs.Kept.{Setup}
 use Rattle.control_run.specs.declared.selecting.Refusal.TheVariants.{Fault}
 use Rattle.control_run.specs.declared.sweep.SweepVerb.{SweepVerb}
 use Rattle.control_run.specs.declared.sweep.SweepVerb.TheVariants.{Paraobj, Pararhs}
-use Rattle.control_run.specs.Choosing.{HasSelectionFault, HasRangeOverflow, refused_act}
+use Rattle.control_run.specs.Choosing.{HasSelectionFault, HasSelectionOverflow, refused_act}
 use Rattle.control_run.specs.Ends.{place_shown}
 use Rattle.control_run.specs.Standing.{AreDemands, IsReady, ShowsSetup, Stands}
 use Rattle.control_run.specs.Statements.{Comes, Executes}
@@ -139,11 +139,11 @@ module _ (verb : SweepVerb) (card : ℕ) (cards : List (List ℕ)) (old : Machin
       (gives_unselected card (selected problem (choice_of state.cells setup.options)) (sweep_move verb card state present) h.why fault
       (ap (λ (c : Cells). selected problem (choice_of c setup.options)) s.cells ∙ h.is_refused) h.is_fault)
 
-  range_gives : (e : Evidence) → HasRangeOverflow problem (choice_of old.cells setup.options) e →
+  selection_gives : (e : Evidence) → HasSelectionOverflow problem (choice_of old.cells setup.options) e →
       Gives linear_programming card (verb_move (verb_of verb) card state) (stops (endings.OverflowStop (record { evidence = e; place = None; card = card })))
-  range_gives e h =
+  selection_gives e h =
       selected_gives h.lp h.is_selected (stops (endings.OverflowStop (record { evidence = e; place = None; card = card })))
-      (inr (e, None, (subst (λ (c : Cells). RangeOverflows problem (choice_of c setup.options) e None) (sym s.cells) (h.is_refusal, refl)), refl))
+      (inr (e, None, (subst (λ (c : Cells). SelectionOverflows problem (choice_of c setup.options) e None) (sym s.cells) (h.is_refusal, refl)), refl))
 
   not_asked_gives : (lp : LinearProgram) → selected problem (choice_of old.cells setup.options) ≡ Ok lp → (fault : VerbFault) → IsAskFault verb problem old.cells fault →
       Gives linear_programming card (verb_move (verb_of verb) card state) (faulted verb card state present fault)
@@ -196,7 +196,7 @@ module _ (verb : SweepVerb) (card : ℕ) (cards : List (List ℕ)) (old : Machin
   pub found_comes : (gain : Gain) (finding : Finding) → Sweeps problem old.cells verb setup new gain finding →
       Comes linear_programming (verb_of verb) card cards position executed state (after (cells_left finding old.cells)) gain (act_of (cells_left finding old.cells) card finding)
   found_comes _ _ (unselected {fault = fault} h) = fault_gives fault h
-  found_comes _ _ (too_large {e = e} h) = range_gives e h
+  found_comes _ _ (too_large {e = e} h) = selection_gives e h
   found_comes _ _ (not_asked {lp = lp} {fault = fault} ok h) = not_asked_gives lp ok fault h
   found_comes _ _ (swept {lp = lp} {sweep = sweep} ok a same_name same_options (opened {bases = bases} {verdict = verdict} {check = check} r)) =
       verdict_comes card cards (after old.cells) position executed (verb_move (verb_of verb) card state) (Solved (sweeper sweep.changing) verdict check) (record state { setup = Some (gone_through bases present); mark = None })

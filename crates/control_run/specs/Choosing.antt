@@ -11,7 +11,7 @@ use Rattle.basis_values.specs.Calls.{HasRates, LieIn}
 use Rattle.control_definitions.specs.Program.{SetupOptions}
 use Rattle.selection_definitions.specs.declared.SelectionFault.{SelectionFault}
 use Rattle.selection_definitions.specs.Choice.{Choice}
-use Rattle.selection_definitions.specs.RangeSums.{IsRangeRefusal}
+use Rattle.selection_definitions.specs.Refusals.{IsSelectionRefusal}
 use Rattle.selection_definitions.specs.Selection.{selected}
 use Rattle.lp_setup.specs.declared.stop.SelectStop.{SelectStop}
 use Rattle.lp_setup.specs.declared.stop.SelectStop.TheVariants as stops
@@ -55,16 +55,16 @@ pub record HasSelectionFault (problem : Problem ℕ) (choice : Choice) (fault : 
   pub is_refused : selected problem choice ≡ Err why
   pub is_fault : selection_verb_fault why ≡ fault
 
--- there is no fault, and a range sum of the selection is refused, as the evidence shows
-pub record HasRangeOverflow (problem : Problem ℕ) (choice : Choice) (e : Evidence) : Type 0 where
+-- there is no fault, and an operation of the selection is refused, as the evidence shows
+pub record HasSelectionOverflow (problem : Problem ℕ) (choice : Choice) (e : Evidence) : Type 0 where
   pub lp : LinearProgram
   pub is_selected : selected problem choice ≡ Ok lp
-  pub is_refusal : IsRangeRefusal problem choice e
+  pub is_refusal : IsSelectionRefusal problem choice e
 
 -- want of memory may come at any time
 abbrev pub IsUnselected : Problem ℕ → Choice → Refusal → Type 0
 IsUnselected problem choice (Fault fault) = HasSelectionFault problem choice fault
-IsUnselected problem choice (Overflow e) = HasRangeOverflow problem choice e
+IsUnselected problem choice (Overflow e) = HasSelectionOverflow problem choice e
 IsUnselected problem choice NoMemory = Unit {0}
 
 -- ---- SETUP

@@ -49,7 +49,7 @@ use Rattle.control_run.specs.Kept.{Setup}
 use Rattle.control_run.specs.declared.selecting.Refusal.{Refusal}
 use Rattle.control_run.specs.declared.selecting.Refusal.TheVariants.{Fault, NoMemory}
 use Rattle.control_run.specs.declared.selecting.Refusal.TheVariants as refusals
-use Rattle.control_run.specs.Choosing.{HasSelectionFault, HasRangeOverflow}
+use Rattle.control_run.specs.Choosing.{HasSelectionFault, HasSelectionOverflow}
 use Rattle.control_run.specs.Ends.{place_shown}
 use Rattle.control_run.specs.Statements.{gain_text}
 
@@ -94,7 +94,7 @@ pub data Finds (problem : Problem ℕ) (cells : Cells) (setup new : Setup) : Gai
   unselected : {fault : VerbFault} →
       HasSelectionFault problem (choice_of cells setup.options) fault →
       Finds problem cells setup new Nothing (Refused fault)
-  too_large : {e : Evidence} → HasRangeOverflow problem (choice_of cells setup.options) e →
+  too_large : {e : Evidence} → HasSelectionOverflow problem (choice_of cells setup.options) e →
       Finds problem cells setup new Nothing (Overflow e None)
   solved : {lp : LinearProgram} {gain : Gain} {finding : Finding} →
       selected problem (choice_of cells setup.options) ≡ Ok lp →

@@ -49,7 +49,7 @@ use Rattle.control_run.specs.declared.sweep.SweepVerb.{SweepVerb}
 use Rattle.control_run.specs.declared.sweep.SweepVerb.TheVariants.{Paraobj, Pararhs}
 use Rattle.control_run.specs.declared.sweep.Sweep.{Sweep as OwnSweep}
 use Rattle.control_run.specs.declared.sweep.Sweep.TheVariants as own
-use Rattle.control_run.specs.Choosing.{HasSelectionFault, HasRangeOverflow}
+use Rattle.control_run.specs.Choosing.{HasSelectionFault, HasSelectionOverflow}
 use Rattle.control_run.specs.Ends.{place_shown}
 use Rattle.control_run.specs.Findings.{IsOverflowAt}
 
@@ -181,7 +181,7 @@ pub data Sweeps (problem : Problem ℕ) (cells : Cells) (verb : SweepVerb) (setu
   unselected : {fault : VerbFault} →
       HasSelectionFault problem (choice_of cells setup.options) fault →
       Sweeps problem cells verb setup new Nothing (Refused fault)
-  too_large : {e : Evidence} → HasRangeOverflow problem (choice_of cells setup.options) e →
+  too_large : {e : Evidence} → HasSelectionOverflow problem (choice_of cells setup.options) e →
       Sweeps problem cells verb setup new Nothing (Overflow e None)
   not_asked : {lp : LinearProgram} {fault : VerbFault} →
       selected problem (choice_of cells setup.options) ≡ Ok lp →

@@ -34,7 +34,7 @@ pub enum End {
     },
     /// The run has made as many statements as it may.
     Statements,
-    /// An operation is refused in the statement of this card. A range sum has no place.
+    /// An operation is refused in the statement of this card. One of a selection has no place.
     Overflow {
         evidence: Evidence,
         place: Option<Place>,

@@ -22,7 +22,7 @@ use std::alloc::Global;
 pub enum Finding {
     /// The statement is refused.
     Refused(VerbFault),
-    /// An operation is refused. A range sum has no place.
+    /// An operation is refused. One of a selection has no place.
     Overflow {
         evidence: Evidence,
         place: Option<Place>,

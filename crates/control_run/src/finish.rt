@@ -40,6 +40,8 @@ fn verb_fault_number(fault: VerbFault) -> u8
         VerbFault::NoRhsSet => 12,
         VerbFault::NoRangeSet => 13,
         VerbFault::NoBoundSet => 14,
+        VerbFault::Singular => 15,
+        VerbFault::WrongPrices => 16,
     }
 }
 

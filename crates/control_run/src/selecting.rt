@@ -20,7 +20,7 @@ use std::alloc::Global;
 pub enum Refusal {
     /// It is refused.
     Fault(VerbFault),
-    /// A range sum is refused.
+    /// An operation of the selection is refused.
     Overflow(Evidence),
     /// There is no memory.
     NoMemory,

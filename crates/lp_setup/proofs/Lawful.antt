@@ -19,9 +19,11 @@ use Rattle.problem_definitions.specs.Valid.{IsNumberOf, AreEntries, IsProblem}
 use Rattle.problem_definitions.proofs.Names.{same_eq}
 use Rattle.problem_definitions.proofs.Groups.{map-map}
 use Rattle.problem_definitions.proofs.Each.{each-change, each-all, each-mapped}
+use Rattle.problem_definitions.proofs.PlainRows.{ArePlain}
 use Rattle.selection_definitions.specs.Choice.{Choice, row_number, objective_of, rhs_items, set_items, is_not_free, selection_fault}
 use Rattle.selection_definitions.specs.Limits.{Limits, no_limits, value_on, row_limits, column_limits}
-use Rattle.selection_definitions.specs.Selection.{coefficients, matrix_of, program_of_choice}
+use Rattle.selection_definitions.specs.Selection.{entered, coefficients, matrix_of, program_of_choice}
+use Rattle.selection_definitions.proofs.PlainRows.{plain_columns}
 use Rattle.lp_setup.specs.Parts.{side_on, limits_with, program_with}
 use Rattle.lp_setup.proofs.Faults.{objective-passes}
 use Rattle.lp_setup.proofs.Sets.{all-each}
@@ -117,28 +119,34 @@ module _ (problem : Problem ℕ) (is : IsProblem problem) where
   IsOnRow : Coefficient → Type 0
   IsOnRow e = IsRow (matrix_of problem) e.row
 
-  on_rows : (column : Group (Entry ℕ)) → AreEntries (length problem.rows) column.items → All IsOnRow (coefficients column)
+  on_rows : (column : Group (Entry ℕ)) → AreEntries (length problem.rows) column.items → All IsOnRow (entered column.items)
   unfolding coefficient IsOnRow
   on_rows column are =
-      each-all IsOnRow (coefficients column) (each-mapped IsOnRow coefficient column.items
+      each-all IsOnRow (entered column.items) (each-mapped IsOnRow coefficient column.items
       (each-change (λ (entry : Entry ℕ). IsNumberOf (length problem.rows) entry.row) (λ (entry : Entry ℕ). IsOnRow (coefficient entry)) (λ entry number. (omega (arith, number.positive), number.at_most)) column.items
       (all-each (λ (entry : Entry ℕ). IsNumberOf (length problem.rows) entry.row) column.items are.on_rows)))
 
-  distinct_rows : (column : Group (Entry ℕ)) → AreEntries (length problem.rows) column.items → IsDistinct nat_eq (map (λ (e : Coefficient). e.row) (coefficients column))
+  distinct_rows : (column : Group (Entry ℕ)) → AreEntries (length problem.rows) column.items → IsDistinct nat_eq (map (λ (e : Coefficient). e.row) (entered column.items))
   unfolding coefficient
   distinct_rows column are = subst (IsDistinct nat_eq) (sym (map-map (λ (e : Coefficient). e.row) coefficient column.items)) are.distinct
 
-  -- what holds of the entries of each column, of the numbers of each column
-  each_column : (P : List Coefficient → Type 0) → ((column : Group (Entry ℕ)) → AreEntries (length problem.rows) column.items → P (coefficients column)) → All P (map coefficients problem.columns)
+  pub plain : ArePlain problem.rows
+  plain = all-each (λ (row : Row ℕ). is_none row.parts ≡ true) problem.rows is.plain_rows
+
+  abbrev given : Group (Entry ℕ) → List Coefficient
+  given column = entered column.items
+
+  -- what holds of the entries of each column, of the numbers of each column, since all rows are plain
+  each_column : (P : List Coefficient → Type 0) → ((column : Group (Entry ℕ)) → AreEntries (length problem.rows) column.items → P (given column)) → All P (map (coefficients problem.rows) problem.columns)
   each_column P holds =
-      each-all P (map coefficients problem.columns) (each-mapped P coefficients problem.columns
-      (each-change (λ (column : Group (Entry ℕ)). AreEntries (length problem.rows) column.items) (λ column. P (coefficients column)) holds problem.columns
-      (all-each (λ (column : Group (Entry ℕ)). AreEntries (length problem.rows) column.items) problem.columns is.entries)))
+      subst (All P) (sym (plain_columns problem.rows problem.columns plain)) (each-all P (map given problem.columns) (each-mapped P given problem.columns
+      (each-change (λ (column : Group (Entry ℕ)). AreEntries (length problem.rows) column.items) (λ column. P (given column)) holds problem.columns
+      (all-each (λ (column : Group (Entry ℕ)). AreEntries (length problem.rows) column.items) problem.columns is.entries))))
 
   pub lawful_matrix : IsMatrix (matrix_of problem)
   unfolding IsOnRow
   lawful_matrix = record {
-    columns_counted = length-map problem.columns coefficients;
+    columns_counted = length-map problem.columns (coefficients problem.rows);
     on_rows = each_column (All IsOnRow) on_rows;
     distinct = each_column (λ c. IsDistinct nat_eq (map (λ (e : Coefficient). e.row) c)) distinct_rows;
     small = omega (arith, is.few_rows, is.few_columns);

@@ -11,10 +11,12 @@ use Rattle.lp_definitions.specs.declared.Sense.{Sense}
 use Rattle.lp_definitions.specs.LinearProgram.{LinearProgram}
 use Rattle.card_definitions.specs.Words.{unless}
 use Rattle.problem_definitions.specs.Problem.{Row, Entry, Bound, Group, Problem}
+use Rattle.problem_definitions.proofs.PlainRows.{ArePlain}
 use Rattle.selection_definitions.specs.Choice.{Choice, objective_of, rhs_items, set_items, selection_fault}
 use Rattle.selection_definitions.specs.Limits.{Limits, value_on, row_limits, column_limits}
 use Rattle.selection_definitions.specs.RangeSums.{IsRangeRefusal}
-use Rattle.selection_definitions.specs.Selection.{coefficients, program_of_choice, selected}
+use Rattle.selection_definitions.specs.Selection.{entered, coefficients, program_of_choice, selected}
+use Rattle.selection_definitions.proofs.PlainRows.{plain_columns}
 use Rattle.lp_setup.specs.Parts.{by_number, side_on, limits_of_rows, limits_with, program_with, IsRowRefusal}
 use Rattle.lp_setup.proofs.Lists.{map-enumerate, limits-numbered, at-by_number}
 
@@ -33,14 +35,15 @@ module _ (problem : Problem ℕ) (objective : ℕ) (rhs ranges : List (Entry ℕ
   abbrev pub made : ℕ → ℕ → List (List Coefficient) → List (Option ℚ) → List (Option ℚ) → List ℚ → LinearProgram
   made rows cols columns lower upper sides = record { matrix = record { rows = rows; cols = cols; columns = columns }; lower = lower; upper = upper; rhs = sides; objective = objective; change = None; sense = sense }
 
-  -- it is the program of the problem, where the lists are made of what is read of it
+  -- it is the program of the problem, where the lists are made of what is read of it and all rows are plain
   pub program_made : (read_rows : List (Row ℕ)) (read_columns : List (Group (Entry ℕ))) (rows cols : ℕ) (columns : List (List Coefficient)) (limits : List Limits) (lower upper : List (Option ℚ)) (sides read_sides : List ℚ)
-      → read_rows ≡ problem.rows → read_columns ≡ problem.columns → rows ≡ length problem.rows → cols ≡ length problem.columns → columns ≡ map coefficients read_columns
+      → ArePlain problem.rows → read_rows ≡ problem.rows → read_columns ≡ problem.columns → rows ≡ length problem.rows → cols ≡ length problem.columns → columns ≡ map (λ (column : Group (Entry ℕ)). entered column.items) read_columns
       → limits ≡ limits_of_rows problem.rows read_sides (by_number (value_on ranges) (length problem.rows)) ++ by_number (column_limits bounds) (length problem.columns) → read_sides ≡ sides
       → lower ≡ map (λ (pair : Limits). pair.lower) limits → upper ≡ map (λ (pair : Limits). pair.upper) limits → sides ≡ by_number (side_on rhs) (length read_rows)
       → made rows cols columns lower upper sides ≡ program_with problem objective rhs ranges bounds sense
-  program_made read_rows read_columns rows cols columns limits lower upper sides read_sides read_is read_columns_is is_rows is_cols columns_read limits_read sides_read is_lower is_upper sides_so_far =
-      let is_columns : columns ≡ map coefficients problem.columns = columns_read ∙ ap (map coefficients) read_columns_is in
+  program_made read_rows read_columns rows cols columns limits lower upper sides read_sides plain read_is read_columns_is is_rows is_cols columns_read limits_read sides_read is_lower is_upper sides_so_far =
+      let is_columns : columns ≡ map (coefficients problem.rows) problem.columns =
+      columns_read ∙ ap (map (λ (column : Group (Entry ℕ)). entered column.items)) read_columns_is ∙ sym (plain_columns problem.rows problem.columns plain) in
       let is_sides : sides ≡ by_number (side_on rhs) (length problem.rows) = sides_so_far ∙ ap (λ (rs : List (Row ℕ)). by_number (side_on rhs) (length rs)) read_is in
       let is_limits : limits ≡ limits_of_rows problem.rows sides (by_number (value_on ranges) (length problem.rows)) ++ by_number (column_limits bounds) (length problem.columns) =
       limits_read ∙ ap (λ xs. limits_of_rows problem.rows xs (by_number (value_on ranges) (length problem.rows)) ++ by_number (column_limits bounds) (length problem.columns)) sides_read in

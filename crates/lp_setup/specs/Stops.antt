@@ -1,12 +1,12 @@
 -- What a stop of a selection tells.
 --     fault_of stop                            the fault of the choice, if that is what it tells of
---     IsOverflowOf problem choice stop         its evidence, if it has some, is that of a range sum
+--     IsOverflowOf problem choice stop         its evidence, if it has some, is that of an operation of the selection
 use Rattle.std.specs.Prelude.{ℕ, Option, Some, None}
 use Rattle.problem_definitions.specs.Problem.{Problem}
 use Rattle.selection_definitions.specs.declared.SelectionFault.{SelectionFault}
 use Rattle.selection_definitions.specs.declared.SelectionFault.TheVariants as fault
 use Rattle.selection_definitions.specs.Choice.{Choice}
-use Rattle.selection_definitions.specs.RangeSums.{IsRangeRefusal}
+use Rattle.selection_definitions.specs.Refusals.{IsSelectionRefusal}
 use Rattle.lp_setup.specs.declared.stop.SelectStop.{SelectStop}
 use Rattle.lp_setup.specs.declared.stop.SelectStop.TheVariants.{NoObjective, ObjectiveNotFree, NoRhsSet, NoRangeSet, NoBoundSet, Overflow, NoMemory}
 
@@ -20,7 +20,7 @@ fault_of NoBoundSet = Some fault.NoBoundSet
 fault_of (Overflow e) = None
 fault_of NoMemory = None
 
--- a range sum is all that overflows
+-- an operation of the selection is all that overflows
 abbrev pub IsOverflowOf : Problem ℕ → Choice → SelectStop → Type 0
-IsOverflowOf problem choice (Overflow e) = IsRangeRefusal problem choice e
+IsOverflowOf problem choice (Overflow e) = IsSelectionRefusal problem choice e
 IsOverflowOf problem choice _ = Unit {0}

@@ -5,7 +5,7 @@ ghost use Rattle.lp_definitions.specs.RatesEvidence.{Names};
 ghost use Rattle.lp_model.specs.Columns.{entries_of};
 ghost use Rattle.problem_definitions.specs.Valid.{AreEntries, AreBounds};
 ghost use Rattle.selection_definitions.specs.Limits.{value_on, column_limits};
-ghost use Rattle.selection_definitions.specs.Selection.{coefficients as coefficients_of};
+ghost use Rattle.selection_definitions.specs.Selection.{entered};
 ghost use Rattle.selection_definitions.specs.RangeSums.{range_formula};
 ghost use Rattle.lp_setup.specs.Parts.{by_number, side_on, limits_of_rows, IsRowOverflow};
 
@@ -155,9 +155,9 @@ pub fn limits_by_column(
     Ok(limits)
 }
 
-/// The numbers of a column.
+/// The numbers that the deck gives for a column. Since all rows are plain, it has no others.
 fn coefficients(alloc: Global, column: &ColumnDecl) -> Result<Vec<Entry>, NoMemory>
-    ensures { IfOk result (λ entries. entries.items ≡ coefficients_of column.now) }
+    ensures { IfOk result (λ entries. entries.items ≡ entered column.now.items) }
 {
     Ok(
         column
@@ -173,7 +173,8 @@ fn coefficients(alloc: Global, column: &ColumnDecl) -> Result<Vec<Entry>, NoMemo
 
 /// The numbers of each column.
 pub fn matrix_columns(alloc: Global, columns: &[ColumnDecl]) -> Result<Vec<Vec<Entry>>, NoMemory>
-    ensures { IfOk result (λ matrix. entries_of matrix.items ≡ map coefficients_of columns.now) }
+    ensures { IfOk result (λ matrix. entries_of matrix.items ≡ map
+        (λ column. entered column.items) columns.now) }
 {
     let mut matrix = Vec::new(alloc);
     for column in columns {

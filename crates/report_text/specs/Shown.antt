@@ -10,7 +10,7 @@ use Rattle.card_definitions.specs.declared.CardFault.{CardFault}
 use Rattle.card_definitions.specs.declared.CardFault.TheVariants as card_faults
 use Rattle.listing_definitions.specs.Numbers.{digits, rational_text}
 use Rattle.listing_definitions.specs.declared.VerbFault.{VerbFault}
-use Rattle.listing_definitions.specs.declared.VerbFault.TheVariants.{DeckNotFound, NoProblem, NoSetup, NotSolved, NotOptimal, NoChangeRow, NoChangeSet, NoParmax, ParmaxBelow, NoObjective, ObjectiveNotFree, NoRhsSet, NoRangeSet, NoBoundSet}
+use Rattle.listing_definitions.specs.declared.VerbFault.TheVariants.{DeckNotFound, NoProblem, NoSetup, NotSolved, NotOptimal, NoChangeRow, NoChangeSet, NoParmax, ParmaxBelow, NoObjective, ObjectiveNotFree, NoRhsSet, NoRangeSet, NoBoundSet, Singular, WrongPrices}
 use Rattle.listing_definitions.specs.Report as reports
 use Rattle.listing_definitions.specs.Ending as endings
 use Rattle.listing_definitions.specs.Text.{report_text}
@@ -29,14 +29,14 @@ use Rattle.report_text.specs.declared.report.Ending.TheVariants.{Code, Words, Co
 
 -- the verb faults, in the order of their numbers from 1
 abbrev pub verb_faults : List VerbFault
-verb_faults = DeckNotFound ∷ NoProblem ∷ NoSetup ∷ NotSolved ∷ NotOptimal ∷ NoChangeRow ∷ NoChangeSet ∷ NoParmax ∷ ParmaxBelow ∷ NoObjective ∷ ObjectiveNotFree ∷ NoRhsSet ∷ NoRangeSet ∷ NoBoundSet ∷ []
+verb_faults = DeckNotFound ∷ NoProblem ∷ NoSetup ∷ NotSolved ∷ NotOptimal ∷ NoChangeRow ∷ NoChangeSet ∷ NoParmax ∷ ParmaxBelow ∷ NoObjective ∷ ObjectiveNotFree ∷ NoRhsSet ∷ NoRangeSet ∷ NoBoundSet ∷ Singular ∷ WrongPrices ∷ []
 
 -- the verb fault of a number
 abbrev pub verb_fault : ℕ → VerbFault
 verb_fault number = slice_index_or verb_faults (number - 1) DeckNotFound
 
 abbrev pub IsVerbFault : ℕ → Type 0
-IsVerbFault number = (1 ≤ number) × (number ≤ 14)
+IsVerbFault number = (1 ≤ number) × (number ≤ 16)
 
 -- fault 2 has no card; of the two that have one, 3 is a card that is too long
 abbrev pub card_fault : ℕ → Option ℕ → CardFault

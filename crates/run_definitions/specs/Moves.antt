@@ -8,7 +8,7 @@ use Rattle.std.specs.Prelude.{◌≡◌, ◌⊎◌, ◌+◌, ℕ, List, [], ◌�
 use Rattle.lp_definitions.specs.declared.Evidence.{Evidence}
 use Rattle.problem_definitions.specs.Problem.{Problem}
 use Rattle.selection_definitions.specs.Choice.{Choice}
-use Rattle.selection_definitions.specs.RangeSums.{IsRangeRefusal}
+use Rattle.selection_definitions.specs.Refusals.{IsSelectionRefusal}
 use Rattle.question_definitions.specs.Answers.{Basis, Sheet, Question, Answer}
 use Rattle.question_definitions.specs.Solving.{Solving, IsRight}
 use Rattle.listing_definitions.specs.declared.VerbFault.{VerbFault}
@@ -61,13 +61,13 @@ pub data Move : Type 0 where
   MayStop : Refusals → Move → Move
   Asks : (question : Question) → Sheet → Basis → (Answer question → Outcome) → Move
 
--- a range sum of the selection that doesn't fit; it is made before there is a basis
-abbrev pub RangeOverflows : Problem ℕ → Choice → Evidence → Option Place → Type 0
-RangeOverflows problem choice evidence place = IsRangeRefusal problem choice evidence × (place ≡ None)
+-- an operation of the selection that is refused; it is made before there is a basis
+abbrev pub SelectionOverflows : Problem ℕ → Choice → Evidence → Option Place → Type 0
+SelectionOverflows problem choice evidence place = IsSelectionRefusal problem choice evidence × (place ≡ None)
 
 -- the evidence that shows a refusal
 abbrev pub Shows : Solving → Refusals → Evidence → Option Place → Type 0
-Shows S (InSelection problem choice) = RangeOverflows problem choice
+Shows S (InSelection problem choice) = SelectionOverflows problem choice
 Shows S (InAnswer question sheet bases) = S.Overflows question sheet bases
 
 abbrev pub StopsBy : ℕ → (Evidence → Option Place → Type 0) → Outcome → Type 0

@@ -131,7 +131,7 @@ abbrev pub or_selection_fault : ℕ → Result LinearProgram SelectionFault → 
 or_selection_fault card (Err fault) go = Does (stops (VerbStop (record { fault = selection_verb_fault fault; card = card })))
 or_selection_fault card (Ok lp) go = go lp
 
--- a selection: its faults come first, and then a range sum may not fit
+-- a selection: its faults come first, and then one of its operations may be refused
 abbrev pub selects : ℕ → Problem ℕ → Choice → (LinearProgram → Move) → Move
 selects card problem choice go = or_selection_fault card (selected problem choice) (λ lp. MayStop (InSelection problem choice) (go lp))
 

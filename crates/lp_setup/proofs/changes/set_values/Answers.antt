@@ -1,5 +1,5 @@
-use Rattle.std.proofs.Common.{refl, ap, sym, subst, ◌∙◌, length}
-use Rattle.lp_setup.proofs.ValuesInSets.{set_entries, values_there, no_values}
+use Rattle.std.proofs.Common.{refl, ap, ◌∙◌, length}
+use Rattle.lp_setup.proofs.ValuesInSets.{set_entries, values_there}
 use Rattle.lp_setup.proofs.changes.set_values.Goals as goal
 
 pub right_hand_sides-requires : goal.right_hand_sides-requires

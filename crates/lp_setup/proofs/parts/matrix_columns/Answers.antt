@@ -1,4 +1,4 @@
-use Rattle.std.proofs.Common.{rules, ◌≡◌, ◌<◌, ◌++◌, ◌∷◌, [], List, Some, map, length, ap, sym, ◌∙◌}
+use Rattle.std.proofs.Common.{rules, ◌≡◌, ℕ, ◌<◌, ◌++◌, ◌∷◌, [], List, Some, map, length, ap, sym, ◌∙◌}
 use Rattle.std.specs.Prelude.{Vec}
 use Rattle.std.specs.declared.alloc.Global.{Global}
 use Rattle.std.specs.List.{slice_get}
@@ -7,12 +7,14 @@ use Rattle.std.proofs.lemmas.List.{map_push}
 use Rattle.std.proofs.lemmas.Option.{slice_get-map}
 use Rattle.lp_definitions.specs.declared.Entry.{Entry}
 use Rattle.lp_model.specs.Columns.{entries_of}
-use Rattle.selection_definitions.specs.Selection.{coefficients}
+use Rattle.problem_definitions.specs.Problem.{Entry as Item, Group}
+use Rattle.selection_definitions.specs.Selection.{entered}
 use Rattle.lp_setup.proofs.Lists.{grown, standing}
 use Rattle.lp_setup.proofs.parts.matrix_columns.Goals as goal
 
 pub loop-column-preserved : goal.loop-column-preserved
 loop-column-preserved c =
+    let coefficients : Group (Item ℕ) → List Entry = λ column. entered column.items in
     let entries : Vec Entry Global → List Entry = λ v. v.items in
     let made : Vec Entry Global = c.in_ok-coefficients.field-0 in
     let pushed : c.push.new.self.items ≡ c.loop-column.matrix.items ++ (made ∷ []) = search rules in

@@ -4,6 +4,7 @@ use Rattle.selection_definitions.specs.Limits.{Limits}
 use Rattle.lp_model.specs.Columns.{entries_of}
 use Rattle.lp_setup.specs.Parts.{side_on}
 use Rattle.lp_setup.proofs.Lists.{length-by_number}
+use Rattle.lp_setup.proofs.Lawful.{plain}
 use Rattle.lp_setup.proofs.Program.{program_made}
 use Rattle.lp_setup.proofs.selection.program.Goals as goal
 
@@ -17,7 +18,7 @@ invariant_of-result c =
     let high = c.in_ok-upper.ensures ∙ ap (map (λ (pair : Limits). pair.upper)) c.deref-3.ensures.value in
     subst IsLinearProgram
     (sym (program_made c.args.problem.now c.args.objective c.args.rhs.now c.args.ranges.now c.args.bounds.now c.args.sense c.rows.result.now c.columns.result.now c.row_count.result c.column_count.result
-    (entries_of c.in_ok-columns.columns.items) c.in_ok-limits.limits.items c.in_ok-lower.lower.items c.in_ok-upper.upper.items c.in_ok-sides.sides.items c.deref.result.now c.rows.ensures.rows c.columns.ensures.columns
+    (entries_of c.in_ok-columns.columns.items) c.in_ok-limits.limits.items c.in_ok-lower.lower.items c.in_ok-upper.upper.items c.in_ok-sides.sides.items c.deref.result.now (plain c.args.problem.now c.rows.ensures.is_problem) c.rows.ensures.rows c.columns.ensures.columns
     c.row_count.ensures.count c.column_count.ensures.count c.in_ok-columns.ensures c.in_ok-limits.ensures.limits c.deref.ensures.value low high c.in_ok-sides.ensures)) c.requires.lawful
 
 pub returns-clause-program : goal.returns-clause-program
@@ -25,5 +26,5 @@ returns-clause-program c =
     let low = c.in_ok-lower.ensures ∙ ap (map (λ (pair : Limits). pair.lower)) c.deref-2.ensures.value in
     let high = c.in_ok-upper.ensures ∙ ap (map (λ (pair : Limits). pair.upper)) c.deref-3.ensures.value in
     program_made c.args.problem.now c.args.objective c.args.rhs.now c.args.ranges.now c.args.bounds.now c.args.sense c.rows.result.now c.columns.result.now c.row_count.result c.column_count.result
-    (entries_of c.in_ok-columns.columns.items) c.in_ok-limits.limits.items c.in_ok-lower.lower.items c.in_ok-upper.upper.items c.in_ok-sides.sides.items c.deref.result.now c.rows.ensures.rows c.columns.ensures.columns
+    (entries_of c.in_ok-columns.columns.items) c.in_ok-limits.limits.items c.in_ok-lower.lower.items c.in_ok-upper.upper.items c.in_ok-sides.sides.items c.deref.result.now (plain c.args.problem.now c.rows.ensures.is_problem) c.rows.ensures.rows c.columns.ensures.columns
     c.row_count.ensures.count c.column_count.ensures.count c.in_ok-columns.ensures c.in_ok-limits.ensures.limits c.deref.ensures.value low high c.in_ok-sides.ensures

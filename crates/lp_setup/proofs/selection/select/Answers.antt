@@ -1,5 +1,5 @@
 -- Each stop tells of the first fault, and without a fault the program is the one that the choice selects.
-use Rattle.std.proofs.Common.{length, Some, None, true, false, ap, sym, ◌∙◌, subst}
+use Rattle.std.proofs.Common.{length, inl, Some, None, true, false, ap, sym, ◌∙◌, subst}
 use Rattle.problem_definitions.specs.Valid.{AreEntries, AreBounds}
 use Rattle.control_definitions.specs.Program.{SetupOptions}
 use Rattle.selection_definitions.specs.Choice.{Choice}
@@ -121,7 +121,7 @@ returns-in-Err-Overflow-clause-overflow c =
     let range = ap (λ (options : SetupOptions). options.range) c.options.view_is ∙ ap (λ (chosen : Choice). chosen.options.range) c.choice.view_is in
     let is_rhs = rhs_found c.args.problem.now.rhs c.rhs.result.now c.args.choice.now.rhs c.choice.inside.rhs c.rhs.ensures.rhs rhs c.in-Some-rhs_items.rhs.now c.in-Some-rhs_items.ensures.found.1 in
     let is_ranges = items_found c.args.problem.now.ranges c.ranges-2.result.now c.args.choice.now.options.range c.options.inside.range c.ranges-2.ensures.ranges range c.in-Some-range_items.ranges.now c.in-Some-range_items.ensures.found.1 in
-    refusal_of_row c.args.problem.now c.args.choice.now c.in-Some-rhs_items.rhs.now c.in-Some-range_items.ranges.now is_rhs is_ranges c.in-Err-Overflow.evidence (rw c.in-Err-Overflow.field-0-is at c.in-Err-Overflow.ensures.overflow)
+    inl (refusal_of_row c.args.problem.now c.args.choice.now c.in-Some-rhs_items.rhs.now c.in-Some-range_items.ranges.now is_rhs is_ranges c.in-Err-Overflow.evidence (rw c.in-Err-Overflow.field-0-is at c.in-Err-Overflow.ensures.overflow))
 
 pub returns-in-Err-NoMemory-clause-fault : goal.returns-in-Err-NoMemory-clause-fault
 returns-in-Err-NoMemory-clause-fault c =
