@@ -1,4 +1,5 @@
 // The machine over more than one engine: the listing and the status of a job do not depend on what keeps the rates.
+use crate::no_memory::Starved;
 use crate::rows::{PLANS, RANGES, Row};
 use crate::sweeps::PARAMETRIC;
 use card_reader::read_job;
@@ -55,5 +56,19 @@ fn the_product_form_runs_jobs(rt: HostRuntime) -> Result<(), Fail> {
     assert_eq!(rt; first_untold::<ProductForm>(rt.alloc(), &PLANS)?, None);
     assert_eq!(rt; first_untold::<ProductForm>(rt.alloc(), &RANGES)?, None);
     assert_eq!(rt; first_untold::<ProductForm>(rt.alloc(), &PARAMETRIC)?, None);
+    Ok(())
+}
+
+// An engine whose calls all want memory ends the run where the path asks for the first of them, with all printed that came before.
+#[test]
+fn an_engine_without_memory_ends_the_run(rt: HostRuntime) -> Result<(), Fail> {
+    let run = run_of::<Starved>(
+        rt.alloc(),
+        b"         PROGRAM\n         CONVERT\n         SETUP\n         PRIMAL\n         EXIT\n         PEND\nNAME          ONE\nROWS\n N  COST\n G  LOW\nCOLUMNS\n    X         COST      1\n    X         LOW       1\nRHS\n    B         LOW       1\nENDATA\n",
+    )?;
+    assert_eq!(rt; run.status, Status::Memory);
+    let listing: &[u8] =
+        b"CONVERT ONE      ROWS 2 COLUMNS 1 ENTRIES 2\nSETUP   ONE      MIN\nSTOP 28 MEMORY\n";
+    assert!(rt; run.print.bytes() == listing);
     Ok(())
 }

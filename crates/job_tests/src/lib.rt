@@ -8,6 +8,8 @@ mod engines;
 #[cfg(test)]
 mod jobs;
 #[cfg(test)]
+mod no_memory;
+#[cfg(test)]
 mod rows;
 #[cfg(test)]
 mod runs;
