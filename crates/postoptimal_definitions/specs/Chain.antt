@@ -123,14 +123,10 @@ pub data Place : Type 0 where
   InOpening : List Status → Place
   AtBreak : ℚ → List Status → Place
 
--- the break at which a run stands, if it is at one; the value there, or else the first value; and the basis
+-- the break at which a run stands, if it is at one, and the basis
 abbrev pub break_of : Place → Option ℚ
 break_of (InOpening now) = None
 break_of (AtBreak theta now) = Some theta
-
-abbrev pub value_of : ℚ → Place → ℚ
-value_of from (InOpening now) = from
-value_of from (AtBreak theta now) = theta
 
 abbrev pub basis_of : Place → List Status
 basis_of (InOpening now) = now
