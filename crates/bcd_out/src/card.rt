@@ -29,7 +29,7 @@ pub struct DataCard<'a> {
     pub value: &'a [u8],
 }
 
-// Writes a piece in the columns behind those that are filled.
+// Writes a piece in the columns after those that are filled.
 fn fill(columns: &mut Columns, piece: &[u8])
     requires { array_vec_len columns.old + length piece.now ≤ 36 }
     ensures items { columns.new.items ≡ columns.old.items ++ piece.now }

@@ -95,7 +95,7 @@ at h waiting is_trailing = record { held = h; waiting = waiting; position = 1; i
 abbrev option_with : List Text → Option (Text × List Text)
 option_with values = Some (codes "make", values)
 
--- ---- a word behind the mark
+-- ---- a word after the mark
 
 abbrev stray : Kinds
 stray = kind.UnknownArgument ∷ []
@@ -298,7 +298,7 @@ ends_failing w expected is none = refused (λ e. cc) none
 as_none : (w : Walk) (words : List Text) {expected : Option Request} → expected ≡ None → Reads w words None → Reads w words expected
 as_none w words none reads = subst (λ o. Reads w words o) (sym none) reads
 
--- behind the mark there is no further word
+-- after the mark there is no further word
 behind_mark : (h : Held) (waiting : Waiting) (expected : List Text → Option Request) → Reads (at h waiting true) [] (expected []) → ((word : Text) (rest : List Text) → expected (word ∷ rest) ≡ None) →
     (rest : List Text) → Reads (at h waiting true) rest (expected rest)
 behind_mark h waiting expected alone none [] = alone

@@ -45,7 +45,7 @@ fn stop_of(error: &Error) -> WordsStop
 /// What these words ask for, which are those after the program's name.
 ///
 /// Without words the job is read; with `--make N` or `--make=N` the job of size N is made, where N is a whole number from 1
-/// to 60 in decimal digits without a sign or a leading zero. The word `--` may stand behind either. All else is refused.
+/// to 60 in decimal digits without a sign or a leading zero. The word `--` may stand after either. All else is refused.
 pub fn request_of(alloc: Global, words: &[String]) -> Result<Request, WordsStop>
     ensures accepted { IfOk result (λ request. asked (map string_bytes words.now) ≡ Some request) }
     ensures size { IfOk result HasSize }

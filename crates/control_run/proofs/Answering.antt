@@ -39,7 +39,7 @@ module _ (S : Solving) (program : Program) (cards : List (List ℕ)) {P U : Type
       IsRunAnswer S program cards (Rose (faults old) (faults new)) (Rose (refusals old) (refusals new)) (Rose (punch_faults punch_old) (punch_faults punch_new)) (Rose (punch_refusals punch_old) (punch_refusals punch_new))
       (code_of status) (written old) (written new) (punch_written punch_old) (punch_written punch_new)
 
-  -- the end is printed behind the reports
+  -- the end is printed after the reports
   finished : {old now later : P} {punch_old punch_now : U} {ending : Ending} {status : Status} → RunsTo S program cards written faults refusals old now punch_written punch_faults punch_refusals punch_old punch_now ending →
       Finishes written faults refusals now later ending status → IsAnswerNow old later punch_old punch_now status
   finished r (printed e w) = whole r.can_end e (writes_then r.prints w).bytes r.gains

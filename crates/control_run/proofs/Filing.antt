@@ -88,7 +88,7 @@ module _ (card : ℕ) (cards : List (List ℕ)) (machine : Machine) (wanted : Op
   takes_problem deck rest problem taken ok =
       gives_found card DeckNotFound (deck_taken state.cells.xdata state.decks) _ (deck, rest) _ (deck_shown ∙ taken) (gives_problem card (gives deck) _ problem _ ok refl)
 
--- the decks behind a card are those from the next card on
+-- the decks after a card are those from the next card on
 pub filed_behind : (verb : DeckVerb) (card : ℕ) (cards : List (List ℕ)) (machine : Machine) (problem : Problem ℕ) (last from_card : ℕ) → last ≤ length cards → from_card ≡ last + 1 →
     ((position executed : ℕ) (state : State) → Stands cards machine position executed state →
     Gives linear_programming card (verb_move (verb_of verb) card state) (next (Prints (report_of verb (size_of problem))) (with_problem problem (decks_of (drop last (numbered_cards cards))) state))) →

@@ -33,7 +33,7 @@ use Rattle.control_run.specs.Standing.{Stands}
 use Rattle.control_run.specs.Statements.{gain_text, gain_of}
 use Rattle.control_run.specs.Punching.{gain_cards}
 
--- the decks of the cards behind a program
+-- the decks of the cards after a program
 abbrev pub decks_behind : Program → List (List ℕ) → List (List Card)
 decks_behind program cards = decks_of (drop (program.decks_from - 1) (numbered_cards cards))
 

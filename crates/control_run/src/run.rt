@@ -28,7 +28,7 @@ type RunEngine = ProductForm;
 /// A run executes at most so many statements.
 const MAX_EXECUTED: u32 = 100_000;
 
-// The number of the first card behind the program; where the job has none, it is one more than that of its last card.
+// The number of the first card after the program; where the job has none, it is one more than that of its last card.
 fn first_behind(program: &Program, cards: &Cards) -> u32
     ensures first { 1 ≤ result }
     ensures last { result ≤ length cards.now + 1 }

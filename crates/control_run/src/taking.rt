@@ -71,7 +71,7 @@ fn filed_report(verb: DeckVerb, problem: &Problem) -> Report<'static>
     }
 }
 
-/// The number of the next card behind the one with this number.
+/// The number of the next card after the one with this number.
 pub fn next_card(cards: &Cards, last: u32) -> u32
     requires { last ≤ length cards.now }
     ensures { result ≡ last + 1 }

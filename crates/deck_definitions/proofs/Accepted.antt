@@ -81,7 +81,7 @@ module _ (seen : Problem Name) (section : Section) where
         few = test_fails (is_section Columns section && nat_le MAX_ENTRIES count) TooManyEntries t.1.1.1.0;
       }
 
-  -- what the tests of a pair and those of the pairs behind it say
+  -- what the tests of a pair and those of the pairs after it say
   record PairsPass (taken : List (Entry Name)) (count : ℕ) (pair : Pair) (pairs : List Pair) : Type 0 where
     first : PairPasses taken count pair
     others : pairs_fault seen section (taken ++ entry_of pair ∷ []) (count + 1) pairs ≡ None

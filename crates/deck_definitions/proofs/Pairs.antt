@@ -12,7 +12,7 @@ use Rattle.deck_definitions.specs.DataCards.{Pair, entry_of}
 use Rattle.deck_definitions.specs.Tests.{pair_fault, pairs_fault}
 
 module _ (seen : Problem Name) (section : Section) (taken : List (Entry Name)) (count : ℕ) where
-  -- the test of a pair behind others
+  -- the test of a pair after others
   abbrev behind : List Pair → Pair → Option DeckFaultKind
   behind before pair = pair_fault seen section (taken ++ map entry_of before) (count + length before) pair
 

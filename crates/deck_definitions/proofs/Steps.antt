@@ -25,7 +25,7 @@ last_or-push o [] None = refl
 last_or-push o [] (Some x) = refl
 last_or-push o (x ∷ xs) p = last_or-push (Some x) xs p
 
--- the section behind one more card is the one that it begins, or else the one before
+-- the section after one more card is the one that it begins, or else the one before
 pub section_after-push : (cards : List Card) (card : Card) → section_after (cards ++ card ∷ []) ≡ option_or (section_begun card.bytes) (section_after cards)
 section_after-push cards card =
     ap (last_or None) (filter_map-append (λ c. section_begun c.bytes) cards (card ∷ []) ∙ ap (λ list. filter_map (λ c. section_begun c.bytes) cards ++ list) (cons_option-nil (section_begun card.bytes)))
@@ -97,7 +97,7 @@ unfolding described
 described-section name cards card e =
     rw (given-section Rows row_of cards card e, given-section Columns entry_group cards card e, given-section Rhs entry_group cards card e, given-section Ranges entry_group cards card e, given-section Bounds bound_group cards card e) refl
 
--- the first faulty card of two parts is that of the first, or else that of the second behind it
+-- the first faulty card of two parts is that of the first, or else that of the second after it
 pub first_faulty-append : (test : List Card → List ℕ → Option DeckFaultKind) (before cards after : List Card)
     → first_faulty test before (cards ++ after) ≡ option_or (first_faulty test before cards) (first_faulty test (before ++ cards) after)
 first_faulty-append test before cards after = first_fault_behind (λ before card. option_map (λ kind. record { card = card.number; kind = kind }) (test before card.bytes)) before cards after

@@ -23,7 +23,7 @@ length-padded width text short =
 trimmed-padded : (width : ℕ) (text : List ℕ) → without_trailing is_blank text ≡ text → without_trailing is_blank (padded width text) ≡ text
 trimmed-padded width text trimmed = without_trailing-append is_blank text (replicate (width - length text) 32) (blanks (width - length text)) ∙ trimmed
 
--- a part behind so many elements, of so many
+-- a part after so many elements, of so many
 middle : (pre mid post : List ℕ) (k n : ℕ) → length pre ≡ k → length mid ≡ n → take n (drop k (pre ++ (mid ++ post))) ≡ mid
 middle pre mid post k n before long =
     subst (λ m. take m (drop k (pre ++ (mid ++ post))) ≡ mid) long

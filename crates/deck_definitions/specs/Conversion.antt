@@ -57,12 +57,12 @@ card_fault before card =
     if is_section_card card then section_card_fault may_follow (section_after before) card
     else data_card_fault (described [] before) (style_of before) (section_after before) card
 
--- the first fault that a test finds in a list of cards, behind the cards before it
+-- the first fault that a test finds in a list of cards, after the cards before it
 abbrev pub first_faulty : (List Card → List ℕ → Option DeckFaultKind) → List Card → List Card → Option DeckFault
 first_faulty test before cards =
     first_fault (each_behind (λ before card. option_map (λ kind. record { card = card.number; kind = kind }) (test before card.bytes)) before cards)
 
--- The fault of a deck, by a test of a card behind others: that of the first faulty card, or else that ENDATA is
+-- The fault of a deck, by a test of a card after others: that of the first faulty card, or else that ENDATA is
 -- missing, on the deck's last card. Skipped cards are left out.
 abbrev pub fault_by : (List Card → List ℕ → Option DeckFaultKind) → List Card → Option DeckFault
 fault_by test deck = first_fault (

@@ -27,19 +27,19 @@ style_of cards = FixedFields
 abbrev pub form_on : Style → Section → Bool → List ℕ → Form
 form_on FixedFields section deletes card = Fixed
 
--- the form of a data card behind others of a data deck
+-- the form of a data card after others of a data deck
 abbrev pub form_of : List Card → List ℕ → Form
 form_of before card = form_on (style_of before) (unwrap_or (section_after before) Header) false card
 
--- what is read of a data card behind others of its deck
+-- what is read of a data card after others of its deck
 abbrev pub read_behind : List Card → Card → Reading
 read_behind before card = reading_of (form_of before card.bytes) card.bytes
 
--- whether a card, behind others, is a data card of this section
+-- whether a card, after others, is a data card of this section
 abbrev pub is_data_card_of : Section → List Card → Card → Bool
 is_data_card_of section before card = not (is_section_card card.bytes) && is_section_after section before
 
--- what a card, behind others, gives as a data card of this section
+-- what a card, after others, gives as a data card of this section
 abbrev pub given_by : {X : Type 0} → Section → (Reading → Option X) → List Card → Card → Option X
 given_by section give before card = if is_data_card_of section before card then give (read_behind before card) else None
 

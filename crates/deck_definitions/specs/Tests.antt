@@ -72,7 +72,7 @@ pair_fault seen section taken count pair = first_fault (
     value_fault pair.column pair.value ∷
     (is_section Columns section && nat_le MAX_ENTRIES count ⟹ TooManyEntries) ∷ [])
 
--- the tests of a card's pairs, each behind those before it
+-- the tests of a card's pairs, each after those before it
 abbrev pub pairs_fault : Problem Name → Section → List (Entry Name) → ℕ → List Pair → Option DeckFaultKind
 pairs_fault seen section taken count pairs =
     first_fault (each_behind (λ before pair. pair_fault seen section (taken ++ map entry_of before) (count + length before) pair) [] pairs)

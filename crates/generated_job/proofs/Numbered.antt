@@ -35,7 +35,7 @@ appends_some f i a b c p q =
     let whole = Appends-then a b c (card_text (flat_map f (up_to i))) (card_text (f (suc i))) p (subst (λ k. Appends b c (card_text (f k))) (add-one i) q) in
     subst (λ k. Appends a c (card_text (flat_map f (up_to k)))) (sym (add-one i)) (subst (Appends a c) (sym (some_more f i)) whole)
 
--- ---- one text behind the other
+-- ---- one text after the other
 
 pub ends : {T E : Type 0} (a b c : Option (List ℕ)) (r : Result T E) (x y whole : List ℕ) → Appends a b x → OnOk r (Appends b c y) → x ++ y ≡ whole → OnOk r (Appends a c whole)
 ends a b c (Ok done) x y whole p q e = subst (Appends a c) e (Appends-then a b c x y p q)

@@ -27,11 +27,11 @@ Appends-nothing None b p = tt
 Appends-nothing (Some xs) None p = absurd p
 Appends-nothing (Some xs) (Some ys) p = p ∙ sym (append-nil xs)
 
--- a front of a text that was appended, where nothing came behind it
+-- a front of a text that was appended, where nothing came after it
 pub front_kept : (a b c : Option (List ℕ)) (n : ℕ) (text : List ℕ) → Appends a b (take n text) → Keeps b c → AppendsFront a c text
 front_kept a b c n text p q = (take n text, (drop n text, take-append-drop n text), Appends-keeps a b c (take n text) p q)
 
--- a front of a text is one of that text with more behind it
+-- a front of a text is one of that text with more after it
 pub AppendsFront-more : (a b : Option (List ℕ)) (x y : List ℕ) → AppendsFront a b x → AppendsFront a b (x ++ y)
 AppendsFront-more a b x y p = (p.0, (p.1.0 ++ y, sym (append_assoc p.0 p.1.0 y) ∙ ap (λ w. w ++ y) p.1.1), p.2)
 
@@ -63,7 +63,7 @@ writes_then {written = written} {faults = faults} {refusals = refusals} {a = a} 
   };
 }
 
--- a stop in a text is one in that text with more behind it
+-- a stop in a text is one in that text with more after it
 pub writes_more : {P T : Type 0} {written : P → Option (List ℕ)} {faults refusals : P → ℕ} {a b : P} {stop : WriteStop} {x : List ℕ} (y : List ℕ) → Writes {T = T} written faults refusals a b (Err stop) x → Writes {T = T} written faults refusals a b (Err stop) (x ++ y)
 writes_more {written = written} {a = a} {b = b} {x = x} y p = record {
   bytes = AppendsFront-more (written a) (written b) x y p.bytes;
@@ -85,7 +85,7 @@ writes_nothing written faults refusals a done = record {
     nothing None = tt
     nothing (Some xs) = sym (append-nil xs)
 
--- the texts of the items before one, its text, and the texts of those behind it
+-- the texts of the items before one, its text, and the texts of those after it
 pub flat_map_around : {X : Type 0} (f : X → List ℕ) (xs : List X) (i : ℕ) (d : X) → i < length xs → (flat_map f (take i xs) ++ f (get_or xs i d)) ++ flat_map f (drop (suc i) xs) ≡ flat_map f xs
 flat_map_around f xs i d inside =
     append_assoc (flat_map f (take i xs)) (f (get_or xs i d)) (flat_map f (drop (suc i) xs))
@@ -94,6 +94,6 @@ flat_map_around f xs i d inside =
     ∙ sym (flat_map-append f (take i xs) (drop i xs))
     ∙ ap (flat_map f) (take-append-drop i xs)
 
--- a stop in the text of one item, behind the texts of those before it
+-- a stop in the text of one item, after the texts of those before it
 pub writes_item : {P T U X : Type 0} {written : P → Option (List ℕ)} {faults refusals : P → ℕ} {a b c : P} {stop : WriteStop} {done : U} (f : X → List ℕ) (xs : List X) (i : ℕ) (d : X) → i < length xs → Writes written faults refusals a b (Ok done) (flat_map f (take i xs)) → Writes {T = T} written faults refusals b c (Err stop) (f (get_or xs i d)) → Writes {T = T} written faults refusals a c (Err stop) (flat_map f xs)
 writes_item f xs i d inside so_far stopped = writes_same (flat_map_around f xs i d inside) (writes_more (flat_map f (drop (suc i) xs)) (writes_then so_far stopped))

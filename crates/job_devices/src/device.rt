@@ -53,7 +53,7 @@ pub trait Source {
         ensures cause { HasReadCause (faults self.old) (faults self.new) result };
 }
 
-/// Takes bytes, each behind those that came before, and counts its faults.
+/// Takes bytes, each after those that came before, and counts its faults.
 pub trait Sink {
     /// The bytes written so far, where the sink tells them.
     ghost written: { Self → Option (List ℕ) };
@@ -87,7 +87,7 @@ pub fn put_all<P: Sink>(sink: &mut P, piece: &[u8]) -> Result<(), WriteStop>
     Ok(())
 }
 
-/// Writes some pieces, one behind the other. At a stop a front of all of them is written.
+/// Writes some pieces, one after the other. At a stop a front of all of them is written.
 pub fn put_each<P: Sink>(sink: &mut P, pieces: &[&[u8]]) -> Result<(), WriteStop>
     ensures { Writes P.written P.faults P.refusals sink.old sink.new result
         (text_of_pieces pieces.now) }

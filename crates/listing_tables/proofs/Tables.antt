@@ -1,4 +1,4 @@
--- Texts of numbered lines, one behind the other.
+-- Texts of numbered lines, one after the other.
 use Rattle.std.proofs.Common.{◌≡◌, ◌<◌, ◌≤◌, ◌-◌, ◌+◌, ℕ, zero, suc, Bool, true, false, not, List, [], ◌∷◌, ◌++◌, map, filter, if◌then◌else◌, refl, sym, ◌∙◌, ap, append_assoc, arith}
 use Rattle.std.specs.List.{flat_map}
 use Rattle.std.proofs.lemmas.List.{append-nil}
@@ -19,7 +19,7 @@ module _ (text : ℕ → List ℕ) where
       ∙ sym (append_assoc (text first) done (flat_map text (numbers_from (suc first + n) m)))
       ∙ ap (λ f. (text first ++ done) ++ flat_map text (numbers_from f m)) start
 
-  -- the lines behind the first ones, and the next
+  -- the lines after the first ones, and the next
   pub line_next : (first k : ℕ) → first ≤ k → flat_map text (numbers_from (first + 1) (k - first)) ++ text (k + 1) ≡ flat_map text (numbers_from (first + 1) (k + 1 - first))
   line_next first k h =
       let at : first + 1 + (k - first) ≡ k + 1 = omega arith in
@@ -30,7 +30,7 @@ module _ (text : ℕ → List ℕ) where
       ∙ sym (lines_split (first + 1) (k - first) 1)
       ∙ ap (λ n. flat_map text (numbers_from (first + 1) n)) count
 
-  -- the lines before one, that line, and those behind it
+  -- the lines before one, that line, and those after it
   pub lines_around : (first k last : ℕ) → first ≤ k → k < last → (flat_map text (numbers_from (first + 1) (k - first)) ++ text (k + 1)) ++ flat_map text (numbers_from (k + 2) (last - (k + 1))) ≡ flat_map text (numbers_from (first + 1) (last - first))
   lines_around first k last h inside =
       let at : first + 1 + (k + 1 - first) ≡ k + 2 = omega arith in

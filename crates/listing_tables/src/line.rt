@@ -51,7 +51,7 @@ fn at_word(at: At) -> &'static [u8]
     }
 }
 
-// A value behind a blank.
+// A value after a blank.
 fn put_value<P: Sink>(print: &mut P, value: Value) -> Result<(), WriteStop>
     ensures { Writes P.written P.faults P.refusals print.old print.new result
         (value_behind_blank value) }
@@ -67,7 +67,7 @@ fn put_value<P: Sink>(print: &mut P, value: Value) -> Result<(), WriteStop>
     }
 }
 
-// Each value behind a blank.
+// Each value after a blank.
 fn put_values<P: Sink>(print: &mut P, values: &[Value]) -> Result<(), WriteStop>
     ensures { Writes P.written P.faults P.refusals print.old print.new result
         (flat_map value_behind_blank values.now) }

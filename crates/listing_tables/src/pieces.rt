@@ -43,7 +43,7 @@ fn written(value: Frac) -> FractionText
     text
 }
 
-/// The numerator, and behind a slash the denominator where it isn't 1.
+/// The numerator, and after a slash the denominator where it isn't 1.
 #[tactic(auto, using(listing_definitions::proofs::Decimals::fraction_is_rational))]
 pub fn fraction(value: Frac) -> FractionText
     ensures { result.bytes ≡ rational_text value }

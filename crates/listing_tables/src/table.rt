@@ -299,7 +299,7 @@ fn put_table_line<P: Sink>(
     }
 }
 
-/// Writes the lines of the variables behind the first ones, up to the last of these.
+/// Writes the lines of the variables after the first ones, up to the last of these.
 pub fn put_table<P: Sink>(
     print: &mut P,
     sheet: Sheet<'_>,

@@ -21,7 +21,7 @@ use Rattle.listing_tables.proofs.Tables.{lines_filtered}
 pub same_objective : (by : Solver) (found : List ℕ) (steps : ℕ) (x y : ℚ) → x ≡ y → concat (solver_text by ∷ codes " " ∷ concat (found ∷ digits steps ∷ codes " OBJECTIVE " ∷ rational_text x ∷ []) ∷ []) ≡ concat (solver_text by ∷ codes " " ∷ concat (found ∷ digits steps ∷ codes " OBJECTIVE " ∷ rational_text y ∷ []) ∷ [])
 same_objective by found steps x y e = ap (λ v. concat (solver_text by ∷ codes " " ∷ concat (found ∷ digits steps ∷ codes " OBJECTIVE " ∷ rational_text v ∷ []) ∷ [])) e
 
--- nothing stands behind the number of a crossed variable
+-- nothing stands after the number of a crossed variable
 pub crossed_head : (by : Solver) (number : ℕ) → concat (solver_text by ∷ codes " " ∷ concat (codes "INFEASIBLE STEPS 0 CROSSED " ∷ digits number ∷ [] ∷ []) ∷ []) ≡ concat (solver_text by ∷ codes " " ∷ verdict_head (CrossedAt number) ∷ [])
 crossed_head by number = ap (λ w. concat (solver_text by ∷ codes " " ∷ (codes "INFEASIBLE STEPS 0 CROSSED " ++ w) ∷ [])) (append-nil (digits number))
 

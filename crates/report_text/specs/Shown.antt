@@ -84,7 +84,7 @@ evidence_tail e =
 abbrev pub letters_of : {X : Type 0} → (X → ℕ) → X → List ℕ
 letters_of letter x = letter x ∷ []
 
--- a line of letters, behind its word
+-- a line of letters, after its word
 abbrev pub letter_line : {X : Type 0} → List ℕ → (X → ℕ) → List X → List ℕ
 letter_line word letter items = concat (word ∷ flat_map (letters_of letter) items ∷ codes "\n" ∷ [])
 

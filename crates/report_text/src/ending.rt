@@ -79,7 +79,7 @@ fn put_card_fault<P: Sink>(print: &mut P, fault: u8, card: Option<u32>) -> Resul
 // A word of at most 8 letters, and a number of at most 3 digits.
 type Label = ArrayString<11>;
 
-// A number behind its word, where there is one.
+// A number after its word, where there is one.
 #[tactic(auto, using(listing_definitions::proofs::Decimals::decimal_is_digits))]
 fn label(word: &str, number: Option<u8>) -> Label
     requires { length word.now ≤ 8 }

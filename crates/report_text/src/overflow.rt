@@ -121,7 +121,7 @@ fn put_letters<T: Lettered, P: Sink>(print: &mut P, items: &[T]) -> Result<(), W
     Ok(())
 }
 
-// A line of letters, behind its word.
+// A line of letters, after its word.
 fn put_letter_line<T: Lettered, P: Sink>(
     print: &mut P,
     word: &'static [u8],

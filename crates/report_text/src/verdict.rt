@@ -107,7 +107,7 @@ fn put_check<P: Sink>(print: &mut P, refused: Option<Refused>) -> Result<(), Wri
     }
 }
 
-// A refused operation with its operands, behind a word.
+// A refused operation with its operands, after a word.
 fn put_refused<P: Sink>(
     print: &mut P,
     word: &'static [u8],

@@ -120,7 +120,7 @@ module _ (old : Problem Name) (cards : List Card) where
   inner-same (Some Bounds) card = ap (cond (is_action_card FixedFields card) (action_fault (revised old cards) Bounds (action_on FixedFields card) (anchor_on FixedFields card))) (data-same Bounds (Some Bounds) (action_after cards) card)
   inner-same (Some Endata) card = ap (cond (is_action_card FixedFields card) (action_fault (revised old cards) Endata (action_on FixedFields card) (anchor_on FixedFields card))) (data-same Endata (Some Endata) (action_after cards) card)
 
--- the fault of a card behind others is that at the state behind them
+-- the fault of a card after others is that at the state after them
 pub fault-state : (old : Problem Name) (cards : List Card) (card : List ℕ) → revise_card_fault old cards card ≡ fault_at (state_of old cards) card
 unfolding revise_card_fault
 fault-state old cards card = ap (cond (is_section_card card) (section_card_fault may_come_after (section_after cards) card)) (inner-same old cards (section_after cards) card)

@@ -74,7 +74,7 @@ gives old deck name own shown problem fine ended is own_is problem_is =
     whole old deck name fine ended
     ∙ ap (λ (p : Problem ℕ). Ok p) (ap (λ n. numbered (record (revised (by_names old) (live deck)) { name = n })) (sym own_is) ∙ ap (λ (p : Problem Name). numbered (record p { name = own })) (sym is) ∙ sym problem_is)
 
--- behind no card
+-- after no card
 pub nothing_read : (old : Problem Name) (state : State) (problem : Problem Name) → problem ≡ old → state ≡ record { section = None; action = None; under = under_of [] []; problem = problem } → state ≡ state_of old []
 unfolding revised
 nothing_read old state problem is e = e ∙ ap (λ p. record { section = None; action = None; under = under_of [] []; problem = p }) is

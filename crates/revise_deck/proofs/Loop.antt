@@ -22,7 +22,7 @@ use Rattle.revise_deck.specs.State.{State, state_of, state_with, state_after, fa
 pub live-append : (xs ys : List Card) → live (xs ++ ys) ≡ live xs ++ live ys
 live-append xs ys = filter-append (λ card. not (is_skipped card.bytes)) xs ys
 
--- the first fault of one card behind others
+-- the first fault of one card after others
 alone : (old : Problem Name) (before : List Card) (card : Card) → first_faulty (revise_card_fault old) before (card ∷ []) ≡ option_map (λ kind. record { card = card.number; kind = kind }) (fault_at (state_of old before) card.bytes)
 alone old before card = by (revise_card_fault old before card.bytes) ∙ ap (option_map (λ kind. record { card = card.number; kind = kind })) (fault-state old before card.bytes)
   where
@@ -57,7 +57,7 @@ state_more old cards card state is fine =
     by true h = ap (state_of old) (sym (append-nil (live cards)))
     by false h = sym (state-step old (live cards) card h)
 
--- the fault of a card behind a part without a fault is that of the whole
+-- the fault of a card after a part without a fault is that of the whole
 pub stops_whole : (old : Problem Name) (cards : List Card) (card : Card) (more whole : List Card) (state : State) (stop : DeckStop) → whole ≡ cards ++ card ∷ more
     → state ≡ state_of old (live cards) → first_faulty (revise_card_fault old) [] (live cards) ≡ None → StopsAt card.number (live_fault state card.bytes) stop → Stops old (live whole) stop
 stops_whole old cards card more whole state NoMemory split is none holds = tt

@@ -1,4 +1,4 @@
--- What a reader of a REVISE deck knows behind the cards so far, what one more card does to it, and how reading stops.
+-- What a reader of a REVISE deck knows after the cards so far, what one more card does to it, and how reading stops.
 use Rattle.std.specs.Prelude.{◌≡◌, ℕ, List, [], ◌∷◌, Option, Some, None, if◌then◌else◌, option_map}
 use Rattle.std.specs.Option.{option_or}
 use Rattle.card_definitions.specs.Words.{first_fault}
@@ -28,7 +28,7 @@ pub record State : Type 0 where
   pub under : Under
   pub problem : Problem Name
 
--- behind these cards
+-- after these cards
 abbrev pub state_of : Problem Name → List Card → State
 state_of old cards = record { section = section_after cards; action = action_after cards; under = under_of (anchor_after cards) (under_after cards); problem = revised old cards }
 

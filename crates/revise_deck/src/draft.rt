@@ -43,7 +43,7 @@ impl ReviseDraft {
     ghost use Rattle.revise_deck.specs.State.{data_fault, standing_fault, inner_fault, inner_with, problem_with};
     ghost use Rattle.revise_deck.specs.Draft_shown.{state_shown};
 
-    /// A draft behind no card, of this problem.
+    /// A draft after no card, of this problem.
     pub fn new(alloc: Global, problem: NamedProblem) -> ReviseDraft
         ensures { state_shown result ≡ record {
           section = None;

@@ -78,7 +78,7 @@ fn order_fault(before: Section, section: Section) -> Option<DeckFaultKind>
     }
 }
 
-// The section that a section card begins behind another.
+// The section that a section card begins after another.
 pub fn next_section(before: Option<Section>, card: &[u8]) -> Result<Section, CardStop>
     ensures section { IfOk result (λ section. named section_words (section_word card.now) ≡
         Some section) }

@@ -28,7 +28,7 @@ put_entries-length [] entries = omega arith
 put_entries-length (entry ∷ new) entries = omega (arith, put_entry-length entries entry, put_entries-length new (put_entry entries entry))
 
 module _ (seen : Problem Name) (section : Section) where
-  -- the test of a pair behind others
+  -- the test of a pair after others
   abbrev behind : List (Entry Name) → ℕ → List Pair → Pair → Option DeckFaultKind
   behind items count before pair = put_fault seen section (put_entries (map entry_of before) items) (count + (length (put_entries (map entry_of before) items) - length items)) pair
 

@@ -44,7 +44,7 @@ module _ {X : Type 0} (p : X → Bool) (xs : List X) (x : X) where
       by true = last_or-push None (filter p xs) (Some x)
       by false = ap (last_or None) (append-nil (filter p xs))
 
--- The action card that holds behind one more card is that card, where it is an action card, and none behind a section card.
+-- The action card that holds after one more card is that card, where it is an action card, and none after a section card.
 pub action_card_after-push : (cards : List Card) (card : Card)
     → action_card_after (cards ++ card ∷ []) ≡ cond (is_section_card card.bytes) None (cond (is_action_card (style_of cards) card.bytes) (Some card) (action_card_after cards))
 action_card_after-push cards card =
@@ -57,7 +57,7 @@ action_card_after-push cards card =
     by false true o e = rw e refl
     by false false o e = refl
 
--- The cards under an action begin anew behind a section card or an action card.
+-- The cards under an action begin anew after a section card or an action card.
 pub under_after-push : (cards : List Card) (card : Card)
     → under_after (cards ++ card ∷ []) ≡ cond (is_heading (style_of cards) card.bytes) [] (under_after cards ++ reading_of (edit_form_of cards card.bytes) card.bytes ∷ [])
 under_after-push cards card = ap (map (λ c. reading_of (edit_form_of cards c.bytes) c.bytes)) (after_last-push (λ c. is_heading (style_of cards) c.bytes) cards card) ∙ by (is_heading (style_of cards) card.bytes)

@@ -29,17 +29,17 @@ action_on FixedFields card = named action_words (before_first is_blank (drop 1 c
 abbrev pub anchor_on : Style → List ℕ → Name
 anchor_on FixedFields card = columns 15 22 card
 
--- a section card or an action card, behind which data cards stand
+-- a section card or an action card, after which data cards stand
 abbrev pub is_heading : Style → List ℕ → Bool
 is_heading style card = is_section_card card || is_action_card style card
 
--- The action card that holds behind these cards is the last section card or action card, if that is an action card.
+-- The action card that holds after these cards is the last section card or action card, if that is an action card.
 abbrev pub action_card_after : List Card → Option Card
 action_card_after cards =
     option_and_then (λ card. if is_section_card card.bytes then None else Some card)
     (last_or None (filter (λ card. is_heading (style_of cards) card.bytes) cards))
 
--- the action that holds behind these cards, and the name on its card
+-- the action that holds after these cards, and the name on its card
 abbrev pub action_after : List Card → Option Action
 action_after cards = option_and_then (λ card. action_on (style_of cards) card.bytes) (action_card_after cards)
 
@@ -51,12 +51,12 @@ abbrev pub deletes : Action → Bool
 deletes Delete = true
 deletes _ = false
 
--- the form of a data card behind others of a REVISE deck
+-- the form of a data card after others of a REVISE deck
 abbrev pub edit_form_of : List Card → List ℕ → Form
 edit_form_of before card =
     form_on (style_of before) (unwrap_or (section_after before) Header) (unwrap_or (option_map deletes (action_after before)) false) card
 
--- the data cards behind the last section card or action card, which have one section and one action
+-- the data cards after the last section card or action card, which have one section and one action
 abbrev pub under_after : List Card → List Reading
 under_after cards = map (λ card. reading_of (edit_form_of cards card.bytes) card.bytes) (after_last (λ card. is_heading (style_of cards) card.bytes) cards)
 
@@ -69,7 +69,7 @@ pub record Edit : Type 0 where
   pub under : List Reading
   pub card : Reading
 
--- the edit that a card, behind others, stands for, if it is a data card under an action of a section
+-- the edit that a card, after others, stands for, if it is a data card under an action of a section
 abbrev pub edit_of : List Card → Card → Option Edit
 edit_of before card = if is_heading (style_of before) card.bytes then None else by (section_after before) (action_after before)
   where

@@ -77,7 +77,7 @@ put_fault seen section present count pair = first_fault (
     value_fault pair.column pair.value ∷
     (is_section Columns section && not (has_entry present pair.row) && nat_le MAX_ENTRIES count ⟹ TooManyEntries) ∷ [])
 
--- the tests of a card's pairs, each behind those before it, of which only an added entry counts
+-- the tests of a card's pairs, each after those before it, of which only an added entry counts
 abbrev pub puts_fault : Problem Name → Section → List (Entry Name) → ℕ → List Pair → Option DeckFaultKind
 puts_fault seen section items count pairs = first_fault (each_behind (λ before pair.
     let present = put_entries (map entry_of before) items in

@@ -124,7 +124,7 @@ pub fn place_for(
     }
 }
 
-// The place before the anchor of this number, or behind those that stand at the front already.
+// The place before the anchor of this number, or after those that stand at the front already.
 fn place_before(anchor: &Name, there: usize, number: usize) -> usize
     ensures { result ≡ (if is_empty anchor.now then there else number - 1) }
 {

@@ -62,7 +62,7 @@ module _ {X : Type 0} (P : X → Type 0) where
       by true rest = ((each.0, tt), rest)
       by false rest = put_first x (parts_ended_by p xs) each.0 rest
 
-  -- of each part, the elements behind those at its front that pass
+  -- of each part, the elements after those at its front that pass
   trimmed : (p : X → Bool) (parts : List (List X)) → AllByRecursion (AllByRecursion P) parts → AllByRecursion (AllByRecursion P) (map (without_leading p) parts)
   trimmed p [] each = tt
   trimmed p (part ∷ parts) each = (dropped (prefix_len p part) part each.0, trimmed p parts each.1)

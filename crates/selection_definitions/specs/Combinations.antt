@@ -27,13 +27,13 @@ abbrev pub sum_if_any : List Product → Option ℚ
 sum_if_any [] = None
 sum_if_any (product ∷ products) = Some (sum_of zero_ℚ (product ∷ products))
 
--- What a column has on the row behind those before: on a plain row the value of its entry there, and on a combination the sum of
+-- What a column has on the row after those before: on a plain row the value of its entry there, and on a combination the sum of
 -- its parts. Since a combination is a row too, a part may stand on one.
 abbrev pub row_value : List (Entry ℕ) → List (Option ℚ) → Option (List (Entry ℕ)) → Option ℚ
 row_value entries before None = value_on entries (length before + 1)
 row_value entries before (Some parts) = sum_if_any (part_products parts before)
 
--- what a column of these entries has on each of the rows, one row behind the other
+-- what a column of these entries has on each of the rows, one row after the other
 abbrev pub column_values : List (Row ℕ) → List (Entry ℕ) → List (Option ℚ)
 column_values rows entries = fold (λ before row. before ++ row_value entries before row.parts ∷ []) [] rows
 

@@ -1,4 +1,4 @@
--- Cards that are accepted behind others, and what they make of the problem described.
+-- Cards that are accepted after others, and what they make of the problem described.
 use Rattle.std.proofs.Common.{◌≡◌, ℕ, ◌+◌, Bool, true, false, cond, not, List, [], ◌∷◌, ◌++◌, Option, Some, None, length, refl, ap, ap₂, sym, ◌∙◌, subst, arith}
 use Rattle.std.specs.Option.{option_or, option_map}
 use Rattle.std.proofs.lemmas.List.{append_assoc, append-nil}
@@ -18,12 +18,12 @@ use Rattle.deck_definitions.specs.Conversion.{section_card_fault, form_fault, se
 use Rattle.deck_definitions.proofs.Steps.{section_after-push, with_card, described-data, described-section, first_faulty-append}
 use Rattle.written_laws.proofs.Cards.{IsWritten}
 
--- where a reader stands behind some cards: the section that goes on, and the problem described
+-- where a reader stands after some cards: the section that goes on, and the problem described
 pub record Stands (before : List Card) (place : Option Section) (problem : Problem Name) : Type 0 where
   pub place_is : section_after before ≡ place
   pub seen_is : described [] before ≡ problem
 
--- cards behind others: none is skipped, none has a fault, and where the reader stands then
+-- cards after others: none is skipped, none has a fault, and where the reader stands then
 pub record AreTaken (before cards : List Card) (place : Option Section) (problem : Problem Name) : Type 0 where
   pub alive : live cards ≡ cards
   pub fine : first_faulty card_fault before cards ≡ None

@@ -38,7 +38,7 @@ blank_front (suc k) (x ∷ kept) more h = blank_front k kept more h
 blank_trimmed : (k : ℕ) (xs : List ℕ) → IsBlankAt k xs → IsBlankAt k (without_trailing is_blank xs)
 blank_trimmed k xs h = blank_front k (without_trailing is_blank xs) (trailing_split is_blank xs).0 (subst (IsBlankAt k) (trailing_split is_blank xs).2 h)
 
--- a column behind a part of so many columns
+-- a column after a part of so many columns
 over : (n k : ℕ) (part rest : List ℕ) → length part ≡ n → IsBlankAt k rest → IsBlankAt (n + k) (part ++ rest)
 over n k part rest long h = subst (λ m. IsBlankAt (m + k) (part ++ rest)) long (behind part)
   where
@@ -57,7 +57,7 @@ module _ (K A B v : List ℕ) (lK : length K ≡ 2) (lA : length A ≡ 8) (lB : 
   abbrev line : List ℕ
   line = 32 ∷ (K ++ 32 ∷ (A ++ 32 ∷ 32 ∷ (B ++ 32 ∷ 32 ∷ v)))
 
-  -- a column behind each of the fields
+  -- a column after each of the fields
   behind_kind : (k : ℕ) → IsBlankAt k (32 ∷ (A ++ 32 ∷ 32 ∷ (B ++ 32 ∷ 32 ∷ v))) → IsBlankAt (suc (2 + k)) line
   behind_kind k h = over 2 k K (32 ∷ (A ++ 32 ∷ 32 ∷ (B ++ 32 ∷ 32 ∷ v))) lK h
 

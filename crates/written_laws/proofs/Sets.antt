@@ -13,7 +13,7 @@ use Rattle.written_laws.proofs.Accepts.{Accepts, accepts-none, accepts-then}
 use Rattle.written_laws.proofs.Facts.{apart-before, absent-before}
 
 module _ {X : Type 0} where
-  -- some groups, and behind them the items taken so far of one more, which is there once it has an item
+  -- some groups, and after them the items taken so far of one more, which is there once it has an item
   abbrev pub groups_at : List (Group X) → Name → List X → List (Group X)
   groups_at done name [] = done
   groups_at done name (item ∷ items) = done ++ record { name = name; items = item ∷ items } ∷ []
@@ -58,7 +58,7 @@ module _ {X : Type 0} where
       ∙ absent-before (group_names done) group.name (apart-before same (group_names done) group.name (group_names after) (subst (IsDistinct same) (map-append (λ (g : Group X). g.name) done (group ∷ after)) distinct))
 
   module _ (place : Section) (put : List (Group X) → Problem Name) (card : Name → X → List ℕ) (whole : List (Group X)) where
-    -- each card of the groups adds its item, behind the cards before it
+    -- each card of the groups adds its item, after the cards before it
     abbrev pub EachAdds : Type 0
     EachAdds = (done : List (Group X)) (group : Group X) (after : List (Group X)) → done ++ group ∷ after ≡ whole → (taken : List X) (item : X) (items : List X) → taken ++ item ∷ items ≡ group.items
         → Accepts (Some place) (put (groups_at done group.name taken)) (card group.name item ∷ []) (Some place) (put (in_set group.name (λ items. items ++ item ∷ []) (groups_at done group.name taken)))

@@ -44,7 +44,7 @@ kept x xs h = without_trailing-cons is_blank x xs ∙ by (is_empty (without_trai
 abbrev pub name_card : Name → List ℕ
 name_card name = without_trailing is_blank (codes "NAME          " ++ name)
 
--- the card's word, and behind it nothing or a blank
+-- the card's word, and after it nothing or a blank
 abbrev pub name_word : Bool → List ℕ → List ℕ
 name_word nothing more = 78 ∷ 65 ∷ 77 ∷ 69 ∷ cond (nothing && true) [] (32 ∷ more)
 
@@ -87,7 +87,7 @@ optional : {X : Type 0} (from : Option Section) (section : Section) (word : List
 optional from section word cards put [] opens body = accepts-none from (put [])
 optional from section word cards put (set ∷ sets) opens body = accepts-then (word ∷ []) (flat_map cards (set ∷ sets)) opens body
 
--- the section behind the columns, the right-hand sides, the ranges and the bounds, where some may be left out
+-- the section after the columns, the right-hand sides, the ranges and the bounds, where some may be left out
 abbrev behind_rhs : Bool → Option Section
 behind_rhs b = cond b (Some Columns) (Some Rhs)
 

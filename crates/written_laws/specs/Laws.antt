@@ -22,7 +22,7 @@ ConvertsBack =
 abbrev pub ReadsBack : Type 0
 ReadsBack = (problem : Problem ℕ) → IsProblem problem → cards_of (card_text (written (by_names problem))) ≡ written (by_names problem)
 
--- Those cards, as the cards of a job behind its program, are one deck, and it has the problem's name: also where a
+-- Those cards, as the cards of a job after its program, are one deck, and it has the problem's name: also where a
 -- column has no entry.
 abbrev pub IsOneDeck : Type 0
 IsOneDeck =
