@@ -2,6 +2,7 @@ pub mod Covered
 pub mod Existence
 pub mod Lengths
 pub mod Nearest
+pub mod Places
 pub mod PointSums
 pub mod PriceLaws
 pub mod RatesStops
