@@ -1,5 +1,6 @@
 pub mod Covered
 pub mod Existence
+pub mod Kept
 pub mod Lengths
 pub mod Nearest
 pub mod Places
