@@ -1,4 +1,4 @@
--- Laws that the calls share: what is read of a slice, rates that stay those of a basis, and waypoints that stay.
+-- Laws that the calls share: what is read of a slice, and waypoints that stay.
 use Rattle.std.proofs.Common.{◌≡◌, ◌∙◌, ◌-◌, ◌<◌, ◌++◌, ℕ, List, length, take, get_or, inl, sym, ap}
 use Rattle.std.proofs.Math.Seq.{take-append_seam}
 use Rattle.std.proofs.lemmas.List.{get_or_default}
@@ -19,14 +19,6 @@ take_whole xs ys n is = ap (λ m. take m (xs ++ ys)) is ∙ take-append_seam xs 
 
 pub less_nothing : (x y : ℚ) → y ≡ zero_ℚ → x ≡ x -ℚ y
 less_nothing x y e = sym (ap (λ u. x -ℚ u) e ∙ sub-zero x)
-
-pub has_same : (p : LinearProgram) (s : List Status) (a c : Matrix) (b d : Basics) → HasRates a b p s → c ≡ a → d ≡ b → HasRates c d p s
-has_same p s a c b d has first second = record {
-  is_basis = has.is_basis;
-  nonsingular = has.nonsingular;
-  same_matrix = first ∙ has.same_matrix;
-  same_basics = second ∙ has.same_basics;
-}
 
 -- what makes no call keeps the waypoints
 pub keeps_same : (a : Matrix) (b : Basics) (ways : List Basics) → KeepsWaypoints a b ways b ways

@@ -1,6 +1,5 @@
 use Rattle.std.proofs.Common.{◌≡◌, length}
 use Rattle.lp_definitions.specs.LinearProgram.{value_at}
-use Rattle.lp_definitions.specs.Basis.{basics_of}
 use Rattle.basis_values.specs.Calls.{KeepsRates}
 use Rattle.ranging.specs.Tables.{AllMet, AllFound}
 use Rattle.ranging.proofs.pass.pass.Given as goal

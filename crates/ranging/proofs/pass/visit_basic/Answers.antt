@@ -1,8 +1,6 @@
 use Rattle.std.proofs.Common.{◌≡◌, ◌+◌, ◌-◌, rules, arith, sym, ◌∙◌, subst, set, None}
 use Rattle.lp_definitions.specs.LinearProgram.{value_at, lower_of, upper_of}
-use Rattle.lp_definitions.specs.Basis.{basics_of}
 use Rattle.lp_laws.proofs.Values.{clash}
-use Rattle.basis_values.proofs.Covered.{keeps_same}
 use Rattle.ranging.specs.Tables.{AllFound, AreEndsOfRow}
 use Rattle.ranging.proofs.AtBasis.{met_skipped, met_free, found_skipped, found_more, nonbasic_by_test}
 use Rattle.basis_values.proofs.Kept.{kept_same}

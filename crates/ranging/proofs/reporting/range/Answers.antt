@@ -1,9 +1,7 @@
 use Rattle.std.proofs.Common.{◌≡◌, Err, rules, arith, sym, ◌∙◌, subst, drop, length}
 use Rattle.lp_definitions.specs.LinearProgram.{value_at}
-use Rattle.lp_definitions.specs.Basis.{basics_of, ArePricesOf}
-use Rattle.lp_laws.proofs.WaypointLaws.{keeps_then}
+use Rattle.lp_definitions.specs.Basis.{ArePricesOf}
 use Rattle.lp_model.proofs.Stops.{IfOverflow-map}
-use Rattle.basis_values.proofs.Covered.{keeps_same}
 use Rattle.ranging.proofs.Complete.{range_answers}
 use Rattle.ranging.proofs.Results.{take_all, IfErr-map}
 use Rattle.ranging.proofs.Shown.{range_by_point, range_refused_later}

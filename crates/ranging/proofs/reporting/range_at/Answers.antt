@@ -1,8 +1,6 @@
 use Rattle.std.proofs.Common.{◌≡◌, ◌-◌, rules, arith, sym, ap, ◌∙◌, subst, drop, length, replicate}
 use Rattle.std.proofs.lemmas.List.{get_or-replicate}
 use Rattle.lp_definitions.specs.LinearProgram.{value_at, size}
-use Rattle.lp_definitions.specs.Basis.{basics_of}
-use Rattle.basis_values.proofs.Covered.{keeps_same}
 use Rattle.ranging.specs.LimitEnds.{no_ends, ends_at}
 use Rattle.ranging.specs.Tables.{AllMet, AllFound}
 use Rattle.ranging.proofs.Results.{take_all}
