@@ -1,6 +1,6 @@
 -- The program whose limits are the shifts, and its basis's point.
 use Rattle.std.proofs.Common.{◌≡◌, ℕ, ◌-◌, List, length, get_or, refl, sym, ap, subst, subst₂, ◌∙◌, arith, false}
-use Rattle.std.specs.Prelude.{Option, Some, None, IsSome, option_map}
+use Rattle.std.specs.Prelude.{Option, Some, None, option_map}
 use Rattle.std.proofs.lemmas.List.{length-map}
 use Rattle.exact_values.specs.Rational.{ℚ, zero_ℚ}
 use Rattle.lp_definitions.specs.LinearProgram.{Matrix, LinearProgram, Vector, size, IsRow, IsVariable, IsLinearProgram, HasNoLimits, ChangeIsFree, lower_of, upper_of}

@@ -1,5 +1,5 @@
 use Rattle.std.proofs.Common.{sym, subst}
-use Rattle.lp_definitions.specs.Basis.{basics_of, IsPointOf}
+use Rattle.lp_definitions.specs.Basis.{IsPointOf}
 use Rattle.lp_definitions.specs.LinearProgram.{LinearProgram, value_at}
 use Rattle.lp_definitions.specs.declared.Evidence.{Evidence}
 use Rattle.basis_values.specs.Calls.{HasRates, PointRefused}
@@ -42,5 +42,5 @@ returns-in-Ok-clause-rates g c = kept_slope c.args.lp.now c.args.shift.now c.in_
 pub returns-in-Err-Overflow-clause-rates : goal.returns-in-Err-Overflow-clause-rates
 returns-in-Err-Overflow-clause-rates g c = kept_slope c.args.lp.now c.args.shift.now c.in_ok-moving.moving c.in_ok-moving.ensures.program c.requires.rates c.point_of.ensures.rates
 
-pub returns-in-Err-NoMemory-clause-rates : goal.returns-in-Err-NoMemory-clause-rates
-returns-in-Err-NoMemory-clause-rates g c = kept_slope c.args.lp.now c.args.shift.now c.in_ok-moving.moving c.in_ok-moving.ensures.program c.requires.rates c.point_of.ensures.rates
+pub returns-clause-rates : goal.returns-clause-rates
+returns-clause-rates g c = kept_slope c.args.lp.now c.args.shift.now c.in_ok-moving.moving c.in_ok-moving.ensures.program c.requires.rates c.point_of.ensures.rates

@@ -1,9 +1,8 @@
 use Rattle.std.proofs.lemmas.Result.{err_from_is_err_and}
 use Rattle.lp_definitions.specs.Basis.{basics_of}
-use Rattle.lp_laws.proofs.WaypointLaws.{keeps_then}
-use Rattle.present_answers.proofs.Calls.{keeps_same}
 use Rattle.present_answers.proofs.RangeStops.{point_stops, report_stops}
 use Rattle.present_answers.proofs.RangeLines.{ranged}
+use Rattle.basis_values.proofs.Covered.{keeps_same}
 use Rattle.basis_values.proofs.Kept.{kept_then}
 use Rattle.present_answers.proofs.ranges.ranges_of.Goals as goal
 

@@ -1,5 +1,3 @@
-use Rattle.lp_definitions.specs.Basis.{basics_of}
-use Rattle.present_answers.proofs.Calls.{keeps_same}
 use Rattle.basis_values.proofs.Kept.{kept_same}
 use Rattle.present_answers.proofs.solution.point_shown.Goals as goal
 

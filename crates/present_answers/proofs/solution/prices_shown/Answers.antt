@@ -1,6 +1,5 @@
 use Rattle.std.proofs.Common.{drop, length, arith}
-use Rattle.lp_definitions.specs.Basis.{basics_of}
-use Rattle.present_answers.proofs.Calls.{keeps_same, take_whole}
+use Rattle.present_answers.proofs.Calls.{take_whole}
 use Rattle.basis_values.proofs.Kept.{kept_same}
 use Rattle.present_answers.proofs.solution.prices_shown.Goals as goal
 

@@ -1,10 +1,9 @@
 use Rattle.std.proofs.lemmas.Result.{err_from_is_err_and}
 use Rattle.lp_definitions.specs.LinearProgram.{value_at}
 use Rattle.lp_definitions.specs.Basis.{basics_of}
-use Rattle.lp_laws.proofs.WaypointLaws.{keeps_then}
-use Rattle.present_answers.proofs.Calls.{keeps_same}
 use Rattle.present_answers.proofs.Refused.{point_stops, slack_stops}
 use Rattle.present_answers.proofs.SolutionLines.{shown}
+use Rattle.basis_values.proofs.Covered.{keeps_same}
 use Rattle.basis_values.proofs.Kept.{kept_then}
 use Rattle.present_answers.proofs.solution.solution_of.Goals as goal
 
