@@ -1,7 +1,9 @@
 pub mod Covered
 pub mod Existence
+pub mod Kept
 pub mod Lengths
 pub mod Nearest
+pub mod Places
 pub mod PointSums
 pub mod PriceLaws
 pub mod RatesStops

@@ -13,7 +13,7 @@ use Rattle.lp_laws.proofs.Values.{clash}
 use Rattle.basis_values.specs.Reach.{reach_of, sooner, IsFirst, IsNearest}
 use Rattle.basis_values.specs.declared.reach.Reach.{Reach}
 
-le_false : (x y : ℚ) → y <ℚ x → le_ℚ x y ≡ false
+pub le_false : (x y : ℚ) → y <ℚ x → le_ℚ x y ≡ false
 le_false x y h = ap not (lt_from y x h)
 
 false_lt : (x y : ℚ) → le_ℚ x y ≡ false → y <ℚ x
@@ -24,7 +24,7 @@ false_lt x y e = by_test (lt_ℚ y x) refl
     by_test false is = absurd (clash (ap not (sym is) ∙ e))
 
 -- a fact of each number up to n, and of the next
-up_to : (P : ℕ → Type 0) (n : ℕ) → ((k : ℕ) → 1 ≤ k → k ≤ n → P k) → P (suc n) → (k : ℕ) → 1 ≤ k → k ≤ suc n → P k
+pub up_to : (P : ℕ → Type 0) (n : ℕ) → ((k : ℕ) → 1 ≤ k → k ≤ n → P k) → P (suc n) → (k : ℕ) → 1 ≤ k → k ≤ suc n → P k
 up_to P n before here k low high = at (eqb_tells k (suc n))
   where
     at : (((eqb k (suc n) ≡ true) × (k ≡ suc n)) ⊎ ((eqb k (suc n) ≡ false) × (k ≢ suc n))) → P k

@@ -1,5 +1,6 @@
 -- What the calls at a basis ask and give.
 --     HasRates a b p s             the rates have the basics of the basis, for the matrix of the program
+--     KeepsRates a b p s before after      the rates are still those of the basis after a call there
 --     LieIn a ways bases           every waypoint lies in one of the bases
 --     job_of p change              the statement that a call on a program counts as
 --     StopsAt                      the evidence of a call that stays at one basis
@@ -7,7 +8,7 @@
 use Rattle.std.specs.Prelude.{◌≡◌, ℕ, ◌≤◌, Bool, ◌||◌, List, [], ◌∷◌, map, length, All, Option, Some, None, Contains, IsTrue, nat_eq}
 use Rattle.lp_definitions.specs.LinearProgram.{Matrix, LinearProgram}
 use Rattle.lp_definitions.specs.Basis.{Basics, basics_of, IsBasis, IsNonsingular}
-use Rattle.lp_definitions.specs.Waypoints.{IsWithinOne, waypoint}
+use Rattle.lp_definitions.specs.Waypoints.{IsWithinOne, KeepsWaypoints, waypoint}
 use Rattle.lp_definitions.specs.declared.Evidence.{Evidence}
 use Rattle.lp_definitions.specs.declared.Status.{Status}
 use Rattle.lp_definitions.specs.declared.Change.{Change}
@@ -20,6 +21,10 @@ pub record HasRates (a : Matrix) (b : Basics) (p : LinearProgram) (s : List Stat
   pub nonsingular : IsNonsingular p.matrix (basics_of s)
   pub same_matrix : a ≡ p.matrix
   pub same_basics : b ≡ basics_of s
+
+-- the rates still have the basics of the basis, and each of their waypoints was there before or lies in the basis
+abbrev pub KeepsRates : Matrix → Basics → LinearProgram → List Status → List Basics → List Basics → Type 0
+KeepsRates a b p s before after = HasRates a b p s × KeepsWaypoints p.matrix (basics_of s) before (basics_of s) after
 
 abbrev pub LieIn : Matrix → List Basics → List (List Status) → Type 0
 LieIn a ways bases = All (λ w. IsWithinOne a w (map basics_of bases)) ways

@@ -1,6 +1,8 @@
 -- The search for what stops a motion, variable by variable.
 --     sooner nearest room k        k, if it reaches a limit before what is nearest so far
 --     IsNearest f n nearest        what reaches a limit first of the variables up to n, where f has the lengths
+--     Yields f r k                 r reaches a limit no later than k, and sooner where k has the smaller number
+--     Reaches f n r                r is one of the variables up to n, and reaches a limit after its length
 --     RoomRefused                  the distance of k to the limit ahead is refused, or that over the rate of k
 use Rattle.std.specs.Prelude.{◌≡◌, ◌≢◌, ℕ, ◌≤◌, ◌<◌, Bool, true, false, Option, Some, None, option_map, if◌then◌else◌}
 use Rattle.exact_values.specs.Rational.{ℚ, zero_ℚ, one_ℚ, ◌-ℚ◌}
@@ -23,6 +25,12 @@ reach_of k l = record { p = k; length = l }
 
 abbrev pub sooner : Option Reach → Option ℚ → ℕ → Option Reach
 sooner nearest room k = if is_no_later (length_of nearest) room then nearest else option_map (reach_of k) room
+
+abbrev pub Yields : (ℕ → Option ℚ) → Reach → ℕ → Type 0
+Yields f r k = (is_no_later (Some r.length) (f k) ≡ true) × (k < r.p → is_no_later (f k) (Some r.length) ≡ false)
+
+abbrev pub Reaches : (ℕ → Option ℚ) → ℕ → Reach → Type 0
+Reaches f n r = (1 ≤ r.p) × (r.p ≤ n) × (f r.p ≡ Some r.length)
 
 -- r reaches a limit, none up to n does so sooner, and each before it later
 pub record IsFirst (f : ℕ → Option ℚ) (n : ℕ) (r : Reach) : Type 0 where

@@ -4,9 +4,8 @@ ghost use Rattle.std.specs.Prelude.{◌≡◌, ◌≤◌, ◌<◌, ◌+◌, ◌-
 ghost use Rattle.exact_values.specs.Rational.{◌+ℚ◌, ◌*ℚ◌};
 ghost use Rattle.lp_definitions.specs.LinearProgram.{size, value_at, IsVariable, IsLinearProgram};
 ghost use Rattle.lp_definitions.specs.Basis.{basics_of, is_in, IsBasis, IsPointOf};
-ghost use Rattle.lp_definitions.specs.Waypoints.{KeepsWaypoints};
 ghost use Rattle.lp_laws.specs.Points.{standing};
-ghost use Rattle.basis_values.specs.Calls.{HasRates};
+ghost use Rattle.basis_values.specs.Calls.{HasRates, KeepsRates};
 ghost use Rattle.basis_values.specs.Stops.{PointOverflow};
 ghost use Rattle.basis_values.specs.Points.{TermRefused, ColumnTermRefused, IsSoFar, AreAdded, nonbasics_to, term_of};
 
@@ -183,10 +182,8 @@ fn add_direction<R: Rates>(
         (j - 1) (value_at point.old) }
     ensures so_far { OnOk result (IsSoFar lp.now.matrix (basics_of basis.now)
         (standing lp.now basis.now) j (value_at point.new)) }
-    ensures matrix { R.matrix rates.new ≡ R.matrix rates.old }
-    ensures basics { R.basics rates.new ≡ R.basics rates.old }
-    ensures waypoints { KeepsWaypoints lp.now.matrix (basics_of basis.now) (R.waypoints rates.old)
-        (basics_of basis.now) (R.waypoints rates.new) }
+    ensures rates { KeepsRates (R.matrix rates.new) (R.basics rates.new) lp.now basis.now
+        (R.waypoints rates.old) (R.waypoints rates.new) }
     ensures overflow { PointOverflow result lp.now basis.now (R.waypoints rates.old)
         (R.waypoints rates.new) }
 {
@@ -219,10 +216,8 @@ fn add_directions<R: Rates>(
     requires begins { (k : ℕ) → IsVariable lp.now.matrix k → value_at point.old k ≡ standing lp.now
         basis.now k }
     ensures point { OnOk result (IsPointOf lp.now basis.now (value_at point.new)) }
-    ensures matrix { R.matrix rates.new ≡ R.matrix rates.old }
-    ensures basics { R.basics rates.new ≡ R.basics rates.old }
-    ensures waypoints { KeepsWaypoints lp.now.matrix (basics_of basis.now) (R.waypoints rates.old)
-        (basics_of basis.now) (R.waypoints rates.new) }
+    ensures rates { KeepsRates (R.matrix rates.new) (R.basics rates.new) lp.now basis.now
+        (R.waypoints rates.old) (R.waypoints rates.new) }
     ensures overflow { PointOverflow result lp.now basis.now (R.waypoints rates.old)
         (R.waypoints rates.new) }
 {
@@ -246,10 +241,8 @@ pub fn point_of<R: Rates>(
     requires places { length out.old ≡ size lp.now.matrix }
     ensures point { OnOk result (IsPointOf lp.now basis.now (value_at out.new)) }
     ensures unchanged { OnErr result (out.new ≡ out.old) }
-    ensures matrix { R.matrix rates.new ≡ R.matrix rates.old }
-    ensures basics { R.basics rates.new ≡ R.basics rates.old }
-    ensures waypoints { KeepsWaypoints lp.now.matrix (basics_of basis.now) (R.waypoints rates.old)
-        (basics_of basis.now) (R.waypoints rates.new) }
+    ensures rates { KeepsRates (R.matrix rates.new) (R.basics rates.new) lp.now basis.now
+        (R.waypoints rates.old) (R.waypoints rates.new) }
     ensures overflow { PointOverflow result lp.now basis.now (R.waypoints rates.old)
         (R.waypoints rates.new) }
 {

@@ -4,9 +4,8 @@ ghost use Rattle.std.specs.Prelude.{◌≡◌, ◌≢◌, ◌<◌, ◌^◌, Some
 ghost use Rattle.exact_values.specs.Rational.{zero_ℚ, ◌+ℚ◌, ◌*ℚ◌};
 ghost use Rattle.lp_definitions.specs.LinearProgram.{size, value_at, IsLinearProgram};
 ghost use Rattle.lp_definitions.specs.Basis.{basics_of, ArePricesOf};
-ghost use Rattle.lp_definitions.specs.Waypoints.{KeepsWaypoints};
 ghost use Rattle.lp_model.specs.RatesCalls.{IsRowOf};
-ghost use Rattle.basis_values.specs.Calls.{HasRates};
+ghost use Rattle.basis_values.specs.Calls.{HasRates, KeepsRates};
 ghost use Rattle.basis_values.specs.Stops.{PointOverflow};
 ghost use Rattle.basis_values.specs.Prices.{ChangedRefused, SomeChangedRefused, AreChanged, price_formula};
 
@@ -90,10 +89,8 @@ fn add_change_row<R: Rates>(
     requires objective { IsRowOf lp.now.matrix (basics_of basis.now) lp.now.objective
         (value_at prices.old) }
     ensures prices { OnOk result (ArePricesOf lp.now basis.now (value_at prices.new)) }
-    ensures matrix { R.matrix rates.new ≡ R.matrix rates.old }
-    ensures basics { R.basics rates.new ≡ R.basics rates.old }
-    ensures waypoints { KeepsWaypoints lp.now.matrix (basics_of basis.now) (R.waypoints rates.old)
-        (basics_of basis.now) (R.waypoints rates.new) }
+    ensures rates { KeepsRates (R.matrix rates.new) (R.basics rates.new) lp.now basis.now
+        (R.waypoints rates.old) (R.waypoints rates.new) }
     ensures overflow { PointOverflow result lp.now basis.now (R.waypoints rates.old)
         (R.waypoints rates.new) }
 {
@@ -120,10 +117,8 @@ pub fn fill_prices<R: Rates>(
     requires change { length change.old ≡ size lp.now.matrix }
     requires places { length prices.old ≡ size lp.now.matrix }
     ensures prices { OnOk result (ArePricesOf lp.now basis.now (value_at prices.new)) }
-    ensures matrix { R.matrix rates.new ≡ R.matrix rates.old }
-    ensures basics { R.basics rates.new ≡ R.basics rates.old }
-    ensures waypoints { KeepsWaypoints lp.now.matrix (basics_of basis.now) (R.waypoints rates.old)
-        (basics_of basis.now) (R.waypoints rates.new) }
+    ensures rates { KeepsRates (R.matrix rates.new) (R.basics rates.new) lp.now basis.now
+        (R.waypoints rates.old) (R.waypoints rates.new) }
     ensures overflow { PointOverflow result lp.now basis.now (R.waypoints rates.old)
         (R.waypoints rates.new) }
 {
@@ -147,10 +142,8 @@ pub fn prices_of<R: Rates>(
     requires places { length out.old ≡ size lp.now.matrix }
     ensures prices { OnOk result (ArePricesOf lp.now basis.now (value_at out.new)) }
     ensures unchanged { OnErr result (out.new ≡ out.old) }
-    ensures matrix { R.matrix rates.new ≡ R.matrix rates.old }
-    ensures basics { R.basics rates.new ≡ R.basics rates.old }
-    ensures waypoints { KeepsWaypoints lp.now.matrix (basics_of basis.now) (R.waypoints rates.old)
-        (basics_of basis.now) (R.waypoints rates.new) }
+    ensures rates { KeepsRates (R.matrix rates.new) (R.basics rates.new) lp.now basis.now
+        (R.waypoints rates.old) (R.waypoints rates.new) }
     ensures overflow { PointOverflow result lp.now basis.now (R.waypoints rates.old)
         (R.waypoints rates.new) }
 {

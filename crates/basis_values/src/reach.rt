@@ -1,13 +1,13 @@
 //! How long a motion lasts until a variable reaches a limit.
 
-ghost use Rattle.std.specs.Prelude.{◌≡◌, length, IfOk, IfErr};
+ghost use Rattle.std.specs.Prelude.{◌≡◌, length, IfOk, IfErr, IsTrue};
 ghost use Rattle.lp_definitions.specs.LinearProgram.{size, value_at, IsVariable};
 ghost use Rattle.path_definitions.specs.Moves.{room};
 ghost use Rattle.basis_values.specs.Motions.{motion};
-ghost use Rattle.basis_values.specs.Reach.{RoomRefused, IsAhead, sooner, reach_formula};
+ghost use Rattle.basis_values.specs.Reach.{RoomRefused, IsAhead, Yields, sooner, reach_formula};
 
 use crate::choices::{counted, is_less};
-use crate::formula::Formula;
+use crate::formula::{Formula, plus_product};
 use frac128::Frac;
 use lp_model::{Evidence, Lp};
 
@@ -107,5 +107,30 @@ pub fn nearer(nearest: Option<Reach>, length: Option<Frac>, k: u32) -> Option<Re
                 Some(nearest)
             }
         }
+    }
+}
+
+/// Whether `k` tells by its place after the length of `first` that it reaches no limit sooner than that, and none as soon where it has
+/// the smaller number. No length of its own is needed, which may not be had.
+pub fn yields(lp: &Lp, point: &[Frac], direction: &[Frac], up: bool, first: &Reach, k: u32) -> bool
+    requires variable { IsVariable lp.now.matrix k }
+    requires point_places { length point.now ≡ size lp.now.matrix }
+    requires direction_places { length direction.now ≡ size lp.now.matrix }
+    ensures { IsTrue result → Yields (room lp.now (value_at point.now)
+        (motion (value_at direction.now) up)) first.now k }
+{
+    let speed = counted(direction[k as usize - 1], up);
+    let Some(ahead) = limit_before(lp, speed, k) else {
+        return true;
+    };
+    let Some(place) = plus_product(point[k as usize - 1], first.length, speed) else {
+        return false;
+    };
+    let rises = is_less(Frac::whole(0), speed);
+    let (place, limit) = (counted(place, rises), counted(ahead.limit, rises));
+    if k < first.p {
+        is_less(place, limit)
+    } else {
+        !is_less(limit, place)
     }
 }

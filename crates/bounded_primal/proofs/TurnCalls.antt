@@ -25,14 +25,6 @@ use Rattle.bounded_primal.specs.declared.turns.Turn.TheVariants.{Ends, Moves}
 use Rattle.bounded_primal.proofs.TurnEvidence.{of_point, of_return, of_stopper}
 use Rattle.bounded_primal.proofs.TurnChoices.{return_enters, return_move, returner_basic, returner_nonbasic, return_pivot, better_enters, run_some}
 
-pub has_same : (p : LinearProgram) (s : List Status) (a c : Matrix) (b d : Basics) → HasRates a b p s → c ≡ a → d ≡ b → HasRates c d p s
-has_same p s a c b d has first second = record {
-  is_basis = has.is_basis;
-  nonsingular = has.nonsingular;
-  same_matrix = first ∙ has.same_matrix;
-  same_basics = second ∙ has.same_basics;
-}
-
 -- a move of the path is a step
 pub step_of : (p : LinearProgram) (s : List Status) (m : Move) → PathMoves p s m → (next : List Status) × IsStep p s next
 step_of p s m h = (after s m, record { tableau = h.0; is_tableau = h.1; move = m; turns = h.2; is_next = refl })

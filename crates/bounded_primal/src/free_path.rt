@@ -3,11 +3,10 @@
 ghost use Rattle.std.specs.Prelude.{◌≡◌, ◌≢◌, ◌<◌, List, length, IfOk, IfErr};
 ghost use Rattle.lp_definitions.specs.LinearProgram.{size, value_at, IsLinearProgram};
 ghost use Rattle.lp_definitions.specs.Basis.{basics_of, IsPointOf};
-ghost use Rattle.lp_definitions.specs.Waypoints.{KeepsWaypoints};
 ghost use Rattle.lp_definitions.specs.declared.Status.{Status};
 ghost use Rattle.path_definitions.specs.Path.{Ending};
 ghost use Rattle.termination_laws.specs.Laws.{lists_of};
-ghost use Rattle.basis_values.specs.Calls.{HasRates};
+ghost use Rattle.basis_values.specs.Calls.{HasRates, KeepsRates};
 ghost use Rattle.bounded_primal.specs.Calls.{CallEnds, WaypointsFollow};
 ghost use Rattle.bounded_primal.specs.Complete.{EndsFreely, IsFreeEndOrMemory};
 ghost use Rattle.bounded_primal.specs.Outcomes.{IsTrueOutcome};
@@ -61,9 +60,8 @@ fn free_turn<R: Rates>(
     ensures turn { FreeTurnFound result lp.now basis.now steps (value_at point.now)
         (value_at direction.new)
         (R.waypoints rates.old) (R.waypoints rates.new) }
-    ensures rates { HasRates (R.matrix rates.new) (R.basics rates.new) lp.now basis.now }
-    ensures waypoints { KeepsWaypoints lp.now.matrix (basics_of basis.now) (R.waypoints rates.old)
-        (basics_of basis.now) (R.waypoints rates.new) }
+    ensures rates { KeepsRates (R.matrix rates.new) (R.basics rates.new) lp.now basis.now
+        (R.waypoints rates.old) (R.waypoints rates.new) }
 {
     match next_turn(
         alloc, lp, basis, rates, point, row, direction, broken, steps, 1,

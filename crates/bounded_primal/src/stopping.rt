@@ -1,6 +1,6 @@
 //! What stops a move.
 
-ghost use Rattle.std.specs.Prelude.{◌≡◌, ◌↔◌, Some, length, IfOk, IfErr, IsTrue};
+ghost use Rattle.std.specs.Prelude.{◌≡◌, ◌↔◌, Some, length, IfSome, IfOk, IfErr, IsTrue};
 ghost use Rattle.exact_values.specs.Rational.{zero_ℚ};
 ghost use Rattle.lp_definitions.specs.LinearProgram.{size, value_at, IsVariable};
 ghost use Rattle.lp_definitions.specs.Solutions.{IsFeasible};
@@ -8,10 +8,10 @@ ghost use Rattle.lp_definitions.specs.Basis.{basics_of, IsBasis, IsNonbasic, IsN
 ghost use Rattle.path_definitions.specs.Moves.{room, signed, reached};
 ghost use Rattle.basis_values.specs.Motions.{may_move, motion};
 ghost use Rattle.bounded_primal.specs.Moves.{stopper_of, StopperRefused};
-ghost use Rattle.basis_values.specs.Reach.{length_of, IsNearest, SomeRoomRefused};
+ghost use Rattle.basis_values.specs.Reach.{length_of, IsFirst, IsNearest, Reaches, SomeRoomRefused};
 
 use crate::moves::Stopper;
-use basis_values::reach::{Reach, length_to, nearer};
+use basis_values::reach::{Reach, length_to, nearer, yields};
 use basis_values::{counted, is_less};
 use frac128::Frac;
 use lp_model::{Basis, Evidence, Lp, Status};
@@ -26,9 +26,9 @@ fn is_at_once(nearest: &Option<Reach>) -> bool
     }
 }
 
-/// What reaches a limit first where `q` moves up or down from the feasible point. The search ends where a limit is reached at once,
-/// since none is reached sooner.
-fn nearest(
+/// What reaches a limit first where `q` moves up or down from the feasible point, by all lengths. The search ends where a limit is
+/// reached at once, since none is reached sooner.
+fn nearest_by_lengths(
     lp: &Lp,
     point: &[Frac],
     direction: &[Frac],
@@ -52,6 +52,81 @@ fn nearest(
         }
     }
     Ok(nearest)
+}
+
+/// The nearest of the variables whose lengths can be had.
+fn nearest_had(lp: &Lp, point: &[Frac], direction: &[Frac], q: u32, up: bool) -> Option<Reach>
+    requires point_places { length point.now ≡ size lp.now.matrix }
+    requires direction_places { length direction.now ≡ size lp.now.matrix }
+    ensures { IfSome result (Reaches (room lp.now (value_at point.now)
+        (motion (value_at direction.now) up)) (size lp.now.matrix)) }
+{
+    let mut nearest: Option<Reach> = None;
+    for k in 0..lp.number_of_variables() {
+        let Ok(length) = length_to(lp, point, direction, up, q, k + 1) else {
+            continue;
+        };
+        nearest = nearer(nearest, length, k + 1);
+    }
+    nearest
+}
+
+/// Whether each variable tells by its place that `first` reaches a limit first.
+fn is_first(lp: &Lp, point: &[Frac], direction: &[Frac], up: bool, first: &Reach) -> bool
+    requires point_places { length point.now ≡ size lp.now.matrix }
+    requires direction_places { length direction.now ≡ size lp.now.matrix }
+    requires reaches { Reaches (room lp.now (value_at point.now)
+        (motion (value_at direction.now) up)) (size lp.now.matrix) first.now }
+    ensures { IsTrue result → IsFirst (room lp.now (value_at point.now)
+        (motion (value_at direction.now) up)) (size lp.now.matrix) first.now }
+{
+    for k in 0..lp.number_of_variables() {
+        if !yields(lp, point, direction, up, first, k + 1) {
+            return false;
+        }
+    }
+    true
+}
+
+/// What reaches a limit first, where its length and the places of all variables after it can be had.
+fn first_by_places(lp: &Lp, point: &[Frac], direction: &[Frac], q: u32, up: bool) -> Option<Reach>
+    requires point_places { length point.now ≡ size lp.now.matrix }
+    requires direction_places { length direction.now ≡ size lp.now.matrix }
+    ensures { IfSome result (IsFirst (room lp.now (value_at point.now)
+        (motion (value_at direction.now) up)) (size lp.now.matrix)) }
+{
+    let first = nearest_had(lp, point, direction, q, up)?;
+    if is_first(lp, point, direction, up, &first) {
+        Some(first)
+    } else {
+        None
+    }
+}
+
+/// What reaches a limit first where `q` moves up or down from the feasible point: by all lengths, and where one of them can't be had,
+/// by the places of the variables after the least of the others.
+fn nearest(
+    lp: &Lp,
+    point: &[Frac],
+    direction: &[Frac],
+    q: u32,
+    up: bool,
+) -> Result<Option<Reach>, Evidence>
+    requires point_places { length point.now ≡ size lp.now.matrix }
+    requires direction_places { length direction.now ≡ size lp.now.matrix }
+    requires feasible { IsFeasible lp.now (value_at point.now) }
+    ensures nearest { IfOk result (IsNearest (room lp.now (value_at point.now)
+        (motion (value_at direction.now) up)) (size lp.now.matrix)) }
+    ensures refused { IfErr result (SomeRoomRefused lp.now (value_at point.now)
+        (value_at direction.now) up q) }
+{
+    match nearest_by_lengths(lp, point, direction, q, up) {
+        Ok(nearest) => Ok(nearest),
+        Err(evidence) => match first_by_places(lp, point, direction, q, up) {
+            Some(first) => Ok(Some(first)),
+            None => Err(evidence),
+        },
+    }
 }
 
 /// The limit that a variable of this speed reaches, as a status.

@@ -5,11 +5,10 @@ ghost use Rattle.exact_values.specs.Rational.{ℚ, zero_ℚ};
 ghost use Rattle.lp_definitions.specs.LinearProgram.{size, value_at, for_min, IsVariable, IsLinearProgram};
 ghost use Rattle.lp_definitions.specs.Solutions.{IsFeasible};
 ghost use Rattle.lp_definitions.specs.Basis.{basics_of, IsBasic, IsNonbasic, IsDirectionOf, IsPointOf};
-ghost use Rattle.lp_definitions.specs.Waypoints.{KeepsWaypoints};
 ghost use Rattle.lp_model.specs.RatesCalls.{IsRowOf, IfOverflow};
 ghost use Rattle.path_definitions.specs.Moves.{signed, entering};
 ghost use Rattle.evidence_definitions.specs.Formulas.{limit_numbered, number_of_limit};
-ghost use Rattle.basis_values.specs.Calls.{HasRates, PointRefused};
+ghost use Rattle.basis_values.specs.Calls.{HasRates, KeepsRates, PointRefused};
 ghost use Rattle.basis_values.specs.Motions.{may_move, motion};
 ghost use Rattle.bounded_primal.specs.Moves.{return_by, stopper_of as stopper_by};
 ghost use Rattle.bounded_primal.specs.Turns.{IsUncrossed, least_outside, ray_from, mover_by, Betters, IsEndless, ReturnStops, RunStops, TurnFound};
@@ -123,9 +122,8 @@ fn returner<R: Rates>(
     ensures row { OnOk result (IsRowOf lp.now.matrix (basics_of basis.now) r (value_at row.new)) }
     ensures found { IfOk result (λ found. found ≡ entering lp.now basis.now
         (motion (value_at row.new) (not below))) }
-    ensures rates { HasRates (R.matrix rates.new) (R.basics rates.new) lp.now basis.now }
-    ensures waypoints { KeepsWaypoints lp.now.matrix (basics_of basis.now) (R.waypoints rates.old)
-        (basics_of basis.now) (R.waypoints rates.new) }
+    ensures rates { KeepsRates (R.matrix rates.new) (R.basics rates.new) lp.now basis.now
+        (R.waypoints rates.old) (R.waypoints rates.new) }
     ensures overflow { IfErr result (λ stop. IfOverflow stop
         (PointRefused lp.now (R.waypoints rates.old) basis.now (R.waypoints rates.new))) }
 {
@@ -156,9 +154,8 @@ pub fn return_of<R: Rates>(
         (value_at direction.new)) }
     ensures stopper { IfOk result (λ by. by ≡ return_by lp.now (value_at point.now)
         (value_at direction.new) p to) }
-    ensures rates { HasRates (R.matrix rates.new) (R.basics rates.new) lp.now basis.now }
-    ensures waypoints { KeepsWaypoints lp.now.matrix (basics_of basis.now) (R.waypoints rates.old)
-        (basics_of basis.now) (R.waypoints rates.new) }
+    ensures rates { KeepsRates (R.matrix rates.new) (R.basics rates.new) lp.now basis.now
+        (R.waypoints rates.old) (R.waypoints rates.new) }
     ensures overflow { IfErr result
         (λ stop. IfOverflow stop (ReturnStops lp.now basis.now (value_at point.now) q p to
         (R.waypoints rates.old) (R.waypoints rates.new))) }
@@ -191,9 +188,8 @@ fn stopper_of<R: Rates>(
         (value_at direction.new)) }
     ensures stopper { IfOk result (λ found. found ≡ stopper_by lp.now (value_at point.now)
         (value_at direction.new) up) }
-    ensures rates { HasRates (R.matrix rates.new) (R.basics rates.new) lp.now basis.now }
-    ensures waypoints { KeepsWaypoints lp.now.matrix (basics_of basis.now) (R.waypoints rates.old)
-        (basics_of basis.now) (R.waypoints rates.new) }
+    ensures rates { KeepsRates (R.matrix rates.new) (R.basics rates.new) lp.now basis.now
+        (R.waypoints rates.old) (R.waypoints rates.new) }
     ensures overflow { IfErr result
         (λ stop. IfOverflow stop (RunStops lp.now basis.now (value_at point.now) q up
         (R.waypoints rates.old) (R.waypoints rates.new))) }
@@ -254,9 +250,8 @@ fn first_phase<R: Rates>(
     requires outside { least_outside lp.now basis.now (value_at point.now) ≡ Some r }
     ensures turn { TurnFound result lp.now basis.now steps left (value_at point.now)
         (value_at direction.new) (R.waypoints rates.old) (R.waypoints rates.new) }
-    ensures rates { HasRates (R.matrix rates.new) (R.basics rates.new) lp.now basis.now }
-    ensures waypoints { KeepsWaypoints lp.now.matrix (basics_of basis.now) (R.waypoints rates.old)
-        (basics_of basis.now) (R.waypoints rates.new) }
+    ensures rates { KeepsRates (R.matrix rates.new) (R.basics rates.new) lp.now basis.now
+        (R.waypoints rates.old) (R.waypoints rates.new) }
 {
     let below = lies_below(lp, point, r);
     let Some(q) = returner(lp, basis, rates, row, r, below)? else {
@@ -334,9 +329,8 @@ fn run<R: Rates>(
     requires moves { Betters lp.now basis.now moved }
     ensures turn { TurnFound result lp.now basis.now steps left (value_at point.now)
         (value_at direction.new) (R.waypoints rates.old) (R.waypoints rates.new) }
-    ensures rates { HasRates (R.matrix rates.new) (R.basics rates.new) lp.now basis.now }
-    ensures waypoints { KeepsWaypoints lp.now.matrix (basics_of basis.now) (R.waypoints rates.old)
-        (basics_of basis.now) (R.waypoints rates.new) }
+    ensures rates { KeepsRates (R.matrix rates.new) (R.basics rates.new) lp.now basis.now
+        (R.waypoints rates.old) (R.waypoints rates.new) }
 {
     match stopper_of(lp, basis, rates, point, direction, moved.q, moved.up)? {
         None => Ok(Turn::Ends(endless(alloc, lp, point, direction, moved.up, steps)?)),
@@ -373,9 +367,8 @@ fn second_phase<R: Rates>(
     requires inside { least_outside lp.now basis.now (value_at point.now) ≡ None }
     ensures turn { TurnFound result lp.now basis.now steps left (value_at point.now)
         (value_at direction.new) (R.waypoints rates.old) (R.waypoints rates.new) }
-    ensures rates { HasRates (R.matrix rates.new) (R.basics rates.new) lp.now basis.now }
-    ensures waypoints { KeepsWaypoints lp.now.matrix (basics_of basis.now) (R.waypoints rates.old)
-        (basics_of basis.now) (R.waypoints rates.new) }
+    ensures rates { KeepsRates (R.matrix rates.new) (R.basics rates.new) lp.now basis.now
+        (R.waypoints rates.old) (R.waypoints rates.new) }
 {
     fill_prices(lp, basis, rates, direction, row)?;
     match bettering(lp, basis, row) {
@@ -409,9 +402,8 @@ pub fn next_turn<R: Rates>(
     requires broken { broken ≡ least_outside lp.now basis.now (value_at point.now) }
     ensures turn { TurnFound result lp.now basis.now steps left (value_at point.now)
         (value_at direction.new) (R.waypoints rates.old) (R.waypoints rates.new) }
-    ensures rates { HasRates (R.matrix rates.new) (R.basics rates.new) lp.now basis.now }
-    ensures waypoints { KeepsWaypoints lp.now.matrix (basics_of basis.now) (R.waypoints rates.old)
-        (basics_of basis.now) (R.waypoints rates.new) }
+    ensures rates { KeepsRates (R.matrix rates.new) (R.basics rates.new) lp.now basis.now
+        (R.waypoints rates.old) (R.waypoints rates.new) }
 {
     match broken {
         Some(r) => first_phase(

@@ -7,7 +7,7 @@ ghost use Rattle.lp_definitions.specs.Waypoints.{KeepsWaypoints};
 ghost use Rattle.control_definitions.specs.Program as program;
 ghost use Rattle.listing_tables.specs.Lines.{solution_lines};
 ghost use Rattle.listing_tables.specs.Sheets.{IsSheet};
-ghost use Rattle.basis_values.specs.Calls.{HasRates};
+ghost use Rattle.basis_values.specs.Calls.{HasRates, KeepsRates};
 ghost use Rattle.answer_definitions.specs.Sections.{IsShown};
 ghost use Rattle.present_answers.specs.Answers.{sheet_shown, AreShown};
 ghost use Rattle.answer_definitions.specs.Real.{linear_programming};
@@ -73,10 +73,8 @@ fn show_basis<P: Sink, R: Rates>(
     ensures tells { Tells (LinesFound (sheet_shown sheet.entry) basis.now
         (R.waypoints rates.old) mark)
         P.written P.faults P.refusals print.old print.new result }
-    ensures rates { HasRates (R.matrix rates.new) (R.basics rates.new)
-        sheet.entry.lp.now basis.now }
-    ensures waypoints { KeepsWaypoints sheet.entry.lp.now.matrix (basics_of basis.now)
-        (R.waypoints rates.old) (basics_of basis.now) (R.waypoints rates.new) }
+    ensures rates { KeepsRates (R.matrix rates.new) (R.basics rates.new) sheet.entry.lp.now basis.now
+        (R.waypoints rates.old) (R.waypoints rates.new) }
 {
     match solution_of(alloc, sheet, basis, rates) {
         Ok(shown) => print_lines(sheet, basis, mark, &shown, print),

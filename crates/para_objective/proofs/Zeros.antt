@@ -1,7 +1,7 @@
 -- The values at which combined rates are 0, and how far conditions on them hold.
-use Rattle.std.proofs.Common.{◌≡◌, ◌≢◌, ℕ, ◌+◌, List, arith, cond, pos, refl, sym, subst, subst₂, ◌⊎◌, inl, inr, Bool, true, false}
+use Rattle.std.proofs.Common.{◌≡◌, ◌≢◌, ℕ, ◌+◌, List, arith, cond, pos, refl, sym, ap, ◌∙◌, subst, subst₂, ◌⊎◌, inl, inr, Bool, true, false}
 use Rattle.std.specs.Prelude.{◌↔◌, IfSome, not, ◌&&◌, ◌||◌}
-use Rattle.exact_values.specs.Rational.{ℚ, zero_ℚ, one_ℚ, neg_ℚ, ◌+ℚ◌, ◌*ℚ◌, ◌/ℚ◌, ◌≤ℚ◌, ◌<ℚ◌}
+use Rattle.exact_values.specs.Rational.{ℚ, zero_ℚ, one_ℚ, neg_ℚ, ◌+ℚ◌, ◌-ℚ◌, ◌*ℚ◌, ◌/ℚ◌, ◌≤ℚ◌, ◌<ℚ◌}
 use Rattle.exact_values.specs.Tests.{lt_ℚ}
 use Rattle.exact_values.proofs.Inverse.{div-mul_cancel}
 use Rattle.exact_values.proofs.Order.{le_by_one, lt_by_one, le_of_lt, le_trans, le_refl, lt_from_le}
@@ -18,7 +18,7 @@ use Rattle.lp_laws.proofs.Values.{clash}
 use Rattle.path_definitions.specs.Moves.{may_rise, may_fall}
 use Rattle.ranging.specs.RowEnds.{sides_of, RatesStayTo}
 use Rattle.ranging.proofs.RateBounds.{for_min_zero, up_to_next}
-use Rattle.para_objective.specs.Reach.{zero_at, meets, IsLeast, IsWithRate, IsReachOf}
+use Rattle.para_objective.specs.Reach.{zero_at, meets, IsLeast, IsWithRate, IsReachOf, IsReachAbove}
 
 pub at_zero : (price rate : ℚ) → rate ≢ zero_ℚ → price +ℚ zero_at price rate *ℚ rate ≡ zero_ℚ
 at_zero price rate apart =
@@ -134,6 +134,17 @@ meets_zero best price rate product apart is h = at (lt_ℚ rate zero_ℚ) refl h
         let rises : zero_ℚ <ℚ rate = lt_from_le (le_from_lt_fails rate zero_ℚ e) (λ z. apart (sym z)) in
         (rate_rises price rate (zero_at price rate) zero (test_from_lt zero_ℚ rate rises) best).0 (below (le_from_lt_fails (neg_ℚ price) product (fails (lt_ℚ (neg_ℚ price) product) k)))
 
+-- the combined rate itself tells it
+pub meets_combined : (best price rate combined : ℚ) → rate ≢ zero_ℚ → combined ≡ price +ℚ best *ℚ rate → meets combined zero_ℚ rate ≡ true → best ≤ℚ zero_at price rate
+meets_combined best price rate combined apart is h =
+    meets_zero best price rate (best *ℚ rate) apart refl (at (lt_ℚ rate zero_ℚ) h)
+  where
+    at : (test : Bool) → cond test (not (lt_ℚ combined (neg_ℚ zero_ℚ))) (not (lt_ℚ (neg_ℚ zero_ℚ) combined)) ≡ true → cond test (not (lt_ℚ (best *ℚ rate) (neg_ℚ price))) (not (lt_ℚ (neg_ℚ price) (best *ℚ rate))) ≡ true
+    at true k = ap not (lt_fails_from_le (best *ℚ rate) (neg_ℚ price) (le_by_one (le_from_lt_fails combined (neg_ℚ zero_ℚ) (fails (lt_ℚ combined (neg_ℚ zero_ℚ)) k))
+        (by_ring3 price rate best (λ a r x. x ⊗ r ≐ opposite a ⊕ (a ⊕ x ⊗ r ⊖ opposite (number (pos 0)))) refl ∙ ap (λ u. neg_ℚ price +ℚ (u -ℚ neg_ℚ zero_ℚ)) (sym is))))
+    at false k = ap not (lt_fails_from_le (neg_ℚ price) (best *ℚ rate) (le_by_one (le_from_lt_fails (neg_ℚ zero_ℚ) combined (fails (lt_ℚ (neg_ℚ zero_ℚ) combined) k))
+        (by_ring3 price rate best (λ a r x. opposite a ≐ x ⊗ r ⊕ (opposite (number (pos 0)) ⊖ (a ⊕ x ⊗ r))) refl ∙ ap (λ u. best *ℚ rate +ℚ (neg_ℚ zero_ℚ -ℚ u)) (sym is))))
+
 -- ---- the lesser of two values
 
 pub other_less : (best other : ℚ) → lt_ℚ other best ≡ true → IsLeast best other other
@@ -175,24 +186,47 @@ module _ (p : LinearProgram) (s : List Status) (prices change : Vector) (max : �
   pub no_reach : IsReachOf p s prices change 0 max max
   no_reach from all x forward = (λ le. (le, λ k low high. absurd (omega (arith, low, high))), λ both. both.0)
 
-  pub next_reach : (n : ℕ) (best now price rate : ℚ) → prices (n + 1) ≡ price → change (n + 1) ≡ rate → IsReachOf p s prices change n max best → IsWithRate p s price rate (n + 1) best now
-      → IsReachOf p s prices change (n + 1) max now
-  next_reach n best now price rate price_is rate_is before with from all x forward = (to, back)
-    where
-      own : (y : ℚ) → SidesHold (sides_of p s price rate (n + 1)) y ↔ SidesHold (sides_of p s (prices (n + 1)) (change (n + 1)) (n + 1)) y
-      own y = subst₂ (λ a b. SidesHold (sides_of p s price rate (n + 1)) y ↔ SidesHold (sides_of p s a b (n + 1)) y) (sym price_is) (sym rate_is) (λ h. h, λ h. h)
+  first : (n : ℕ) (y : ℚ) → RatesStayTo p s prices change (n + 1) y → RatesStayTo p s prices change n y
+  first n y h k low high = h k low (omega (arith, high))
 
-      first : (y : ℚ) → RatesStayTo p s prices change (n + 1) y → RatesStayTo p s prices change n y
-      first y h k low high = h k low (omega (arith, high))
+  module _ (n : ℕ) (best now price rate : ℚ) (price_is : prices (n + 1) ≡ price) (rate_is : change (n + 1) ≡ rate) (with : IsWithRate p s price rate (n + 1) best now) where
+    own : (y : ℚ) → SidesHold (sides_of p s price rate (n + 1)) y ↔ SidesHold (sides_of p s (prices (n + 1)) (change (n + 1)) (n + 1)) y
+    own y = subst₂ (λ a b. SidesHold (sides_of p s price rate (n + 1)) y ↔ SidesHold (sides_of p s a b (n + 1)) y) (sym price_is) (sym rate_is) (λ h. h, λ h. h)
 
-      last : (y : ℚ) → RatesStayTo p s prices change (n + 1) y → SidesHold (sides_of p s price rate (n + 1)) y
-      last y h = (own y).1 (h (n + 1) (omega arith) (omega arith))
+    last : (y : ℚ) → RatesStayTo p s prices change (n + 1) y → SidesHold (sides_of p s price rate (n + 1)) y
+    last y h = (own y).1 (h (n + 1) (omega arith) (omega arith))
 
-      to : x ≤ℚ now → (x ≤ℚ max) × RatesStayTo p s prices change (n + 1) x
-      to le =
-          let two = (with from (last from all) x forward).0 le in
-          let one = (before from (first from all) x forward).0 two.0 in
-          (one.0, up_to_next (λ k. SidesHold (sides_of p s (prices k) (change k) k) x) n one.1 ((own x).0 two.1))
+    pub next_reach : IsReachOf p s prices change n max best → IsReachOf p s prices change (n + 1) max now
+    next_reach before from all x forward = (to, back)
+      where
+        to : x ≤ℚ now → (x ≤ℚ max) × RatesStayTo p s prices change (n + 1) x
+        to le =
+            let two = (with from (last from all) x forward).0 le in
+            let one = (before from (first n from all) x forward).0 two.0 in
+            (one.0, up_to_next (λ k. SidesHold (sides_of p s (prices k) (change k) k) x) n one.1 ((own x).0 two.1))
 
-      back : (x ≤ℚ max) × RatesStayTo p s prices change (n + 1) x → x ≤ℚ now
-      back h = (with from (last from all) x forward).1 ((before from (first from all) x forward).1 (h.0, first x h.1), last x h.1)
+        back : (x ≤ℚ max) × RatesStayTo p s prices change (n + 1) x → x ≤ℚ now
+        back h = (with from (last from all) x forward).1 ((before from (first n from all) x forward).1 (h.0, first n x h.1), last x h.1)
+
+    pub next_above : IsReachAbove p s prices change n max best → IsReachAbove p s prices change (n + 1) max now
+    next_above before from all x forward = (
+      λ le. (before from (first n from all) x forward).0 ((with from (last from all) x forward).0 le).0,
+      λ h. (with from (last from all) x forward).1 ((before from (first n from all) x forward).1 (h.0, first n x h.1), last x h.1),
+    )
+
+  -- a search that leaves out some ends
+  pub none_above : IsReachAbove p s prices change 0 max max
+  none_above from all x forward = (λ le. le, λ h. h.0)
+
+  pub skipped_above : (n : ℕ) (best : ℚ) → IsReachAbove p s prices change n max best → IsReachAbove p s prices change (n + 1) max best
+  skipped_above n best before from all x forward = (
+    (before from (first n from all) x forward).0,
+    λ h. (before from (first n from all) x forward).1 (h.0, first n x h.1),
+  )
+
+  -- the reach from there is that from max
+  pub reach_within : (n : ℕ) (best to : ℚ) → IsReachAbove p s prices change n max best → IsReachOf p s prices change n best to → IsReachOf p s prices change n max to
+  reach_within n best to above reach from all x forward = (
+    λ le. let both = (reach from all x forward).0 le in ((above from all x forward).0 both.0, both.1),
+    λ h. (reach from all x forward).1 ((above from all x forward).1 h, h.1),
+  )

@@ -4,6 +4,7 @@
 --     IsLeast best other now       now is the lesser of the two
 --     IsWithRate                   one variable: from a theta at which its conditions hold, they hold up to now, as far as best
 --     IsReachOf                    the same for the first n variables
+--     IsReachAbove                 no more than max, and no less than the reach: some of the first n variables may not count
 --     IsReachFromAny               the greatest value up to which the basis stays optimal, from any at which it is
 --     RateRefused                  the price of a variable over its rate in the change row is refused
 --     EndRefused p h s e           the same at the basis s, as the evidence of a run that changes row h
@@ -42,6 +43,11 @@ abbrev pub IsReachOf : LinearProgram → List Status → Vector → Vector → �
 IsReachOf p s prices change n max to =
     (from : ℚ) → RatesStayTo p s prices change n from → (x : ℚ) → from ≤ℚ x →
     (x ≤ℚ to) ↔ ((x ≤ℚ max) × RatesStayTo p s prices change n x)
+
+abbrev pub IsReachAbove : LinearProgram → List Status → Vector → Vector → ℕ → ℚ → ℚ → Type 0
+IsReachAbove p s prices change n max best =
+    (from : ℚ) → RatesStayTo p s prices change n from → (x : ℚ) → from ≤ℚ x →
+    ((x ≤ℚ best) → (x ≤ℚ max)) × ((x ≤ℚ max) × RatesStayTo p s prices change n x → x ≤ℚ best)
 
 -- from any value up to max at which the basis is optimal, it stays so up to this one, and no further
 abbrev pub IsReachFromAny : LinearProgram → ℕ → List Status → ℚ → ℚ → Type 0

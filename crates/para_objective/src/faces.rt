@@ -4,9 +4,8 @@ ghost use Rattle.std.specs.Prelude.{◌≡◌, ◌≤◌, ℕ, None, length, OnO
 ghost use Rattle.lp_definitions.specs.LinearProgram.{size, value_at, IsRow, IsVariable, HasNoLimits, IsLinearProgram};
 ghost use Rattle.lp_definitions.specs.Solutions.{IsFeasible};
 ghost use Rattle.lp_definitions.specs.Basis.{basics_of, ArePricesOf, IsNonbasic, IsDirectionOf, IsOptimalBasis, IsPointOf};
-ghost use Rattle.lp_definitions.specs.Waypoints.{KeepsWaypoints};
 ghost use Rattle.lp_model.specs.RatesCalls.{IsRowOf, IfOverflow};
-ghost use Rattle.basis_values.specs.Calls.{HasRates};
+ghost use Rattle.basis_values.specs.Calls.{HasRates, KeepsRates};
 ghost use Rattle.basis_values.specs.Motions.{may_move, motion};
 ghost use Rattle.bounded_primal.specs.Moves.{stopper_of as stopper_by};
 ghost use Rattle.bounded_primal.specs.Turns.{RunStops};
@@ -90,9 +89,8 @@ fn stopper_of<R: Rates>(
         (IsDirectionOf lp.now.matrix (basics_of basis.now) q (value_at direction.new)) }
     ensures stopper { IfOk result (λ found.
         found ≡ stopper_by lp.now (value_at point.now) (value_at direction.new) up) }
-    ensures rates { HasRates (R.matrix rates.new) (R.basics rates.new) lp.now basis.now }
-    ensures waypoints { KeepsWaypoints lp.now.matrix (basics_of basis.now) (R.waypoints rates.old)
-        (basics_of basis.now) (R.waypoints rates.new) }
+    ensures rates { KeepsRates (R.matrix rates.new) (R.basics rates.new) lp.now basis.now
+        (R.waypoints rates.old) (R.waypoints rates.new) }
     ensures overflow { IfErr result (λ stop. IfOverflow stop
         (RunStops lp.now basis.now (value_at point.now) q up
         (R.waypoints rates.old) (R.waypoints rates.new))) }
@@ -158,9 +156,8 @@ pub fn face_turn<R: Rates>(
     ensures turn { FaceFound lp.now run.now result theta basis.now steps
         (value_at point.now) (value_at direction.new)
         (R.waypoints rates.old) (R.waypoints rates.new) }
-    ensures rates { HasRates (R.matrix rates.new) (R.basics rates.new) lp.now basis.now }
-    ensures waypoints { KeepsWaypoints lp.now.matrix (basics_of basis.now) (R.waypoints rates.old)
-        (basics_of basis.now) (R.waypoints rates.new) }
+    ensures rates { KeepsRates (R.matrix rates.new) (R.basics rates.new) lp.now basis.now
+        (R.waypoints rates.old) (R.waypoints rates.new) }
 {
     let Some(q) = face_mover(lp, basis, prices, change, run.row, theta) else {
         return Ok(Turn::Done);

@@ -10,9 +10,10 @@ ghost use Rattle.lp_definitions.specs.RatesEvidence.{Names};
 ghost use Rattle.lp_model.specs.RatesCalls.{IsRowOf};
 ghost use Rattle.path_laws.specs.Laws.{IsNonsingularBasis};
 ghost use Rattle.ranging.specs.Refusals.{IsRefusal};
-ghost use Rattle.para_objective.specs.Reach.{zero_at, meets, IsLeast, IsWithRate, IsReachOf, IsReachFromAny, RateRefused, EndRefused};
+ghost use Rattle.para_objective.specs.Reach.{zero_at, meets, IsLeast, IsWithRate, IsReachOf, IsReachAbove, IsReachFromAny, RateRefused, EndRefused};
 
 use crate::choices::{may_lower, worth};
+use basis_values::plus_product;
 use frac128::{Frac, Refused};
 use lp_model::{Basis, Evidence, Lp};
 
@@ -26,14 +27,18 @@ fn meets(product: Frac, price: Frac, rate: Frac) -> bool
     !price.neg().is_less(product)
 }
 
-/// Whether the product of `best` and the rate can be made, and the combined rate hasn't passed 0 there.
+/// Whether the combined rate hasn't passed 0 at `best`, where the product of `best` and the rate tells it, or else the combined rate
+/// itself.
 fn stands_before(best: Frac, price: Frac, rate: Frac) -> bool
     requires { rate ≢ zero_ℚ }
     ensures { IsTrue result → best ≤ℚ zero_at price rate }
 {
     match best.mul(rate) {
         Ok(product) => meets(product, price, rate),
-        Err(_refused) => false,
+        Err(_refused) => match plus_product(price, best, rate) {
+            Some(combined) => meets(combined, Frac::whole(0), rate),
+            None => false,
+        },
     }
 }
 
@@ -110,8 +115,8 @@ fn with_rate(
     }
 }
 
-/// The least of `max` and the ends that the variables make.
-fn reach_by(
+/// The least of `max` and the ends that the variables make, by the plain search.
+fn reach_from(
     lp: &Lp,
     basis: &Basis,
     prices: &[Frac],
@@ -133,6 +138,52 @@ fn reach_by(
         best = with_rate(lp, basis, best, price, rate, k + 1)?;
     }
     Ok(best)
+}
+
+/// The least of `max` and those ends that can be had in a search that leaves out the others.
+fn least_had(lp: &Lp, basis: &Basis, prices: &[Frac], change: &[Frac], max: Frac) -> Frac
+    requires counted { length basis.now ≡ size lp.now.matrix }
+    requires prices { length prices.now ≡ size lp.now.matrix }
+    requires places { length change.now ≡ size lp.now.matrix }
+    ensures { IsReachAbove lp.now basis.now (value_at prices.now)
+        (value_at change.now) (size lp.now.matrix) max result }
+{
+    let mut best = max;
+    for k in 0..lp.number_of_variables() {
+        let price = prices[k as usize];
+        let rate = change[k as usize];
+        let Ok(now) = with_rate(lp, basis, best, price, rate, k + 1) else {
+            continue;
+        };
+        best = now;
+    }
+    best
+}
+
+/// The least of `max` and the ends that the variables make. Where one of them can't be had, the search begins again from the least of
+/// the others, which may tell that it isn't needed.
+fn reach_by(
+    lp: &Lp,
+    basis: &Basis,
+    prices: &[Frac],
+    change: &[Frac],
+    max: Frac,
+) -> Result<Frac, Evidence>
+    requires counted { length basis.now ≡ size lp.now.matrix }
+    requires prices { length prices.now ≡ size lp.now.matrix }
+    requires places { length change.now ≡ size lp.now.matrix }
+    ensures reach { IfOk result (IsReachOf lp.now basis.now
+        (value_at prices.now) (value_at change.now) (size lp.now.matrix) max) }
+    ensures refused { IfErr result
+        (RateRefused (value_at prices.now) (value_at change.now) (size lp.now.matrix)) }
+{
+    match reach_from(lp, basis, prices, change, max) {
+        Ok(to) => Ok(to),
+        Err(_evidence) => {
+            let best = least_had(lp, basis, prices, change, max);
+            reach_from(lp, basis, prices, change, best)
+        }
+    }
 }
 
 /// The greatest theta up to `max` to which the basis stays optimal, from any theta at which it is, while theta times the row `row` is

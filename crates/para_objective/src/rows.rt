@@ -3,9 +3,8 @@
 ghost use Rattle.std.specs.Prelude.{◌≡◌, None, length, OnOk};
 ghost use Rattle.lp_definitions.specs.LinearProgram.{size, value_at, IsRow, HasNoLimits, IsLinearProgram};
 ghost use Rattle.lp_definitions.specs.Basis.{basics_of, ArePricesOf, IsBasic, IsNonbasic, IsDirectionOf};
-ghost use Rattle.lp_definitions.specs.Waypoints.{KeepsWaypoints};
 ghost use Rattle.lp_model.specs.RatesCalls.{IsRowOf};
-ghost use Rattle.basis_values.specs.Calls.{HasRates};
+ghost use Rattle.basis_values.specs.Calls.{HasRates, KeepsRates};
 ghost use Rattle.basis_values.specs.Stops.{PointOverflow};
 
 use frac128::Frac;
@@ -23,9 +22,8 @@ fn read_row<R: Rates>(
     requires basic { IsBasic lp.now.matrix (basics_of basis.now) i }
     requires places { length out.old ≡ size lp.now.matrix }
     ensures row { OnOk result (IsRowOf lp.now.matrix (basics_of basis.now) i (value_at out.new)) }
-    ensures rates { HasRates (R.matrix rates.new) (R.basics rates.new) lp.now basis.now }
-    ensures waypoints { KeepsWaypoints lp.now.matrix (basics_of basis.now) (R.waypoints rates.old)
-        (basics_of basis.now) (R.waypoints rates.new) }
+    ensures rates { KeepsRates (R.matrix rates.new) (R.basics rates.new) lp.now basis.now
+        (R.waypoints rates.old) (R.waypoints rates.new) }
     ensures overflow { PointOverflow result lp.now basis.now
         (R.waypoints rates.old) (R.waypoints rates.new) }
 {
@@ -45,9 +43,8 @@ pub fn read_column<R: Rates>(
     requires places { length out.old ≡ size lp.now.matrix }
     ensures direction { OnOk result
         (IsDirectionOf lp.now.matrix (basics_of basis.now) j (value_at out.new)) }
-    ensures rates { HasRates (R.matrix rates.new) (R.basics rates.new) lp.now basis.now }
-    ensures waypoints { KeepsWaypoints lp.now.matrix (basics_of basis.now) (R.waypoints rates.old)
-        (basics_of basis.now) (R.waypoints rates.new) }
+    ensures rates { KeepsRates (R.matrix rates.new) (R.basics rates.new) lp.now basis.now
+        (R.waypoints rates.old) (R.waypoints rates.new) }
     ensures overflow { PointOverflow result lp.now basis.now
         (R.waypoints rates.old) (R.waypoints rates.new) }
 {
@@ -73,9 +70,8 @@ pub fn fill_rows<R: Rates>(
     ensures prices { OnOk result (ArePricesOf lp.now basis.now (value_at prices.new)) }
     ensures change { OnOk result
         (IsRowOf lp.now.matrix (basics_of basis.now) row (value_at change.new)) }
-    ensures rates { HasRates (R.matrix rates.new) (R.basics rates.new) lp.now basis.now }
-    ensures waypoints { KeepsWaypoints lp.now.matrix (basics_of basis.now) (R.waypoints rates.old)
-        (basics_of basis.now) (R.waypoints rates.new) }
+    ensures rates { KeepsRates (R.matrix rates.new) (R.basics rates.new) lp.now basis.now
+        (R.waypoints rates.old) (R.waypoints rates.new) }
     ensures overflow { PointOverflow result lp.now basis.now
         (R.waypoints rates.old) (R.waypoints rates.new) }
 {

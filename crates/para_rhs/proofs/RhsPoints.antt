@@ -1,5 +1,5 @@
 -- Where the basis is optimal, by its point at 0 and its slope, and how far that reaches.
-use Rattle.std.proofs.Common.{◌≡◌, ℕ, List, ◌⊎◌, inl, inr, true, false}
+use Rattle.std.proofs.Common.{List, ◌⊎◌, inl, inr, true, false}
 use Rattle.std.specs.Prelude.{◌↔◌, Option, Some, None, IsSome, unwrap_or, option_map}
 use Rattle.exact_values.specs.Rational.{ℚ, ◌≤ℚ◌, ◌<ℚ◌}
 use Rattle.exact_values.proofs.Order.{le_refl, le_trans, le_of_lt, lt_or_le}

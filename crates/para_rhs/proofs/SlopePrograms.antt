@@ -1,15 +1,16 @@
 -- The program whose limits are the shifts, and its basis's point.
-use Rattle.std.proofs.Common.{◌≡◌, ℕ, ◌-◌, List, length, get_or, refl, sym, ap, subst₂, ◌∙◌, arith, false}
-use Rattle.std.specs.Prelude.{Option, Some, None, IsSome, option_map}
+use Rattle.std.proofs.Common.{◌≡◌, ℕ, ◌-◌, List, length, get_or, refl, sym, ap, subst, subst₂, ◌∙◌, arith, false}
+use Rattle.std.specs.Prelude.{Option, Some, None, option_map}
 use Rattle.std.proofs.lemmas.List.{length-map}
 use Rattle.exact_values.specs.Rational.{ℚ, zero_ℚ}
-use Rattle.lp_definitions.specs.LinearProgram.{LinearProgram, Vector, size, IsRow, IsVariable, IsLinearProgram, HasNoLimits, ChangeIsFree, lower_of, upper_of}
-use Rattle.lp_definitions.specs.Basis.{is_basic, status_of, IsAllowed, StandsAt, IsBasis, IsPointOf}
+use Rattle.lp_definitions.specs.LinearProgram.{Matrix, LinearProgram, Vector, size, IsRow, IsVariable, IsLinearProgram, HasNoLimits, ChangeIsFree, lower_of, upper_of}
+use Rattle.lp_definitions.specs.Basis.{Basics, is_basic, status_of, IsAllowed, StandsAt, IsBasis, IsPointOf}
 use Rattle.lp_definitions.specs.declared.Change.{Change}
 use Rattle.lp_definitions.specs.declared.Status.{Status}
 use Rattle.lp_definitions.specs.declared.Status.TheVariants.{Bs, Ll, Ul, Fr}
 use Rattle.lp_laws.proofs.Opening.{length-numbers_from}
 use Rattle.lp_laws.proofs.Statuses.{status_of_nonbasic}
+use Rattle.basis_values.specs.Calls.{HasRates, KeepsRates}
 use Rattle.path_laws.specs.Laws.{IsNonsingularBasis}
 use Rattle.path_laws.proofs.Numbered.{get_or-listed}
 use Rattle.postoptimal_definitions.specs.RhsRun.{shift_of, IsSlope}
@@ -89,3 +90,9 @@ module _ (p : LinearProgram) (shift : List ℚ) where
         placed = λ k out. by_status k (status_of s k) (status_of_nonbasic p s at.is_basis k out) (free_unshifted p shift s k at out.0)
             (subst₂ (λ (low high : Option ℚ). StandsAt (status_of s k) low high (v k)) (lower_is k out.0) (upper_is k out.0) (point.placed k out.0));
       }
+
+-- what a call keeps at the program of the shifts, it keeps at the program
+pub kept_slope : (p : LinearProgram) (shift : List ℚ) (q : LinearProgram) → q ≡ slope_program p shift → {a c : Matrix} {b d : Basics} {s : List Status} {before after : List Basics} → HasRates a b p s → KeepsRates c d q s before after → KeepsRates c d p s before after
+kept_slope p shift q is {a} {c} {b} {d} {s} {before} {after} has kept =
+    let there : KeepsRates c d (slope_program p shift) s before after = subst (λ (q : LinearProgram). KeepsRates c d q s before after) is kept in
+    (record { is_basis = has.is_basis; nonsingular = has.nonsingular; same_matrix = there.0.same_matrix; same_basics = there.0.same_basics }, there.1)

@@ -3,10 +3,9 @@
 ghost use Rattle.std.specs.Prelude.{◌≡◌, ◌≤◌, ℕ, None, Some, not, length, OnOk, IfOk, IfErr};
 ghost use Rattle.lp_definitions.specs.LinearProgram.{size, value_at, IsLinearProgram};
 ghost use Rattle.lp_definitions.specs.Basis.{basics_of, ArePricesOf, IsBasic, IsOptimalBasis, IsPointOf};
-ghost use Rattle.lp_definitions.specs.Waypoints.{KeepsWaypoints};
 ghost use Rattle.lp_model.specs.RatesCalls.{IsRowOf, IfOverflow};
 ghost use Rattle.postoptimal_definitions.specs.RhsRun.{IsSlope};
-ghost use Rattle.basis_values.specs.Calls.{HasRates};
+ghost use Rattle.basis_values.specs.Calls.{HasRates, KeepsRates};
 ghost use Rattle.basis_values.specs.Stops.{PointOverflow};
 ghost use Rattle.bounded_primal.specs.Turns.{ray_from};
 ghost use Rattle.para_rhs.specs.Faces.{family, IsStuckPast, FaceFound, FacesFound, FacesFollow};
@@ -47,9 +46,8 @@ fn read_row<R: Rates>(
     requires basic { IsBasic lp.now.matrix (basics_of basis.now) i }
     requires places { length out.old ≡ size lp.now.matrix }
     ensures row { OnOk result (IsRowOf lp.now.matrix (basics_of basis.now) i (value_at out.new)) }
-    ensures rates { HasRates (R.matrix rates.new) (R.basics rates.new) lp.now basis.now }
-    ensures waypoints { KeepsWaypoints lp.now.matrix (basics_of basis.now) (R.waypoints rates.old)
-        (basics_of basis.now) (R.waypoints rates.new) }
+    ensures rates { KeepsRates (R.matrix rates.new) (R.basics rates.new) lp.now basis.now
+        (R.waypoints rates.old) (R.waypoints rates.new) }
     ensures overflow { PointOverflow result lp.now basis.now
         (R.waypoints rates.old) (R.waypoints rates.new) }
 {
@@ -74,9 +72,8 @@ pub fn fill_motion<R: Rates>(
     requires price_places { length prices.old ≡ size lp.now.matrix }
     ensures slope { OnOk result (IsSlope lp.now basis.now shift.now (value_at slope.new)) }
     ensures prices { OnOk result (ArePricesOf lp.now basis.now (value_at prices.new)) }
-    ensures rates { HasRates (R.matrix rates.new) (R.basics rates.new) lp.now basis.now }
-    ensures waypoints { KeepsWaypoints lp.now.matrix (basics_of basis.now) (R.waypoints rates.old)
-        (basics_of basis.now) (R.waypoints rates.new) }
+    ensures rates { KeepsRates (R.matrix rates.new) (R.basics rates.new) lp.now basis.now
+        (R.waypoints rates.old) (R.waypoints rates.new) }
     ensures overflow { IfErr result (λ stop. IfOverflow stop
         (RunRefused lp.now shift.now basis.now (R.waypoints rates.old) (R.waypoints rates.new))) }
 {
@@ -133,9 +130,8 @@ pub fn face_turn<R: Rates>(
     ensures turn { FaceFound lp.now run.now result theta basis.now steps
         (value_at value.now) (value_at direction.new) (R.waypoints rates.old)
         (R.waypoints rates.new) }
-    ensures rates { HasRates (R.matrix rates.new) (R.basics rates.new) lp.now basis.now }
-    ensures waypoints { KeepsWaypoints lp.now.matrix (basics_of basis.now) (R.waypoints rates.old)
-        (basics_of basis.now) (R.waypoints rates.new) }
+    ensures rates { KeepsRates (R.matrix rates.new) (R.basics rates.new) lp.now basis.now
+        (R.waypoints rates.old) (R.waypoints rates.new) }
 {
     let found = match face_leaver(lp, basis, value, slope, &run.shift, theta) {
         Ok(found) => found,

@@ -1,15 +1,10 @@
--- Laws that the calls share: what is read of a slice, rates that stay those of a basis, and waypoints that stay.
-use Rattle.std.proofs.Common.{◌≡◌, ◌∙◌, ◌-◌, ◌<◌, ◌++◌, ℕ, List, length, take, get_or, inl, sym, ap}
+-- Laws that the calls share: what is read of a slice.
+use Rattle.std.proofs.Common.{◌≡◌, ◌∙◌, ◌-◌, ◌<◌, ◌++◌, ℕ, List, length, take, get_or, sym, ap}
 use Rattle.std.proofs.Math.Seq.{take-append_seam}
 use Rattle.std.proofs.lemmas.List.{get_or_default}
-use Rattle.std.proofs.lemmas.List.Elements.{Contains-get_or}
 use Rattle.exact_values.specs.Rational.{ℚ, zero_ℚ, ◌-ℚ◌}
-use Rattle.lp_definitions.specs.LinearProgram.{Matrix, LinearProgram, value_at}
-use Rattle.lp_definitions.specs.Basis.{Basics}
-use Rattle.lp_definitions.specs.Waypoints.{KeepsWaypoints}
-use Rattle.lp_definitions.specs.declared.Status.{Status}
+use Rattle.lp_definitions.specs.LinearProgram.{value_at}
 use Rattle.lp_laws.proofs.Values.{sub-zero}
-use Rattle.basis_values.specs.Calls.{HasRates}
 
 pub value_read : (xs : List ℚ) (k : ℕ) (x : ℚ) → k - 1 < length xs → x ≡ get_or xs (k - 1) x → x ≡ value_at xs k
 value_read xs k x below is = is ∙ get_or_default xs (k - 1) x zero_ℚ below
@@ -19,15 +14,3 @@ take_whole xs ys n is = ap (λ m. take m (xs ++ ys)) is ∙ take-append_seam xs 
 
 pub less_nothing : (x y : ℚ) → y ≡ zero_ℚ → x ≡ x -ℚ y
 less_nothing x y e = sym (ap (λ u. x -ℚ u) e ∙ sub-zero x)
-
-pub has_same : (p : LinearProgram) (s : List Status) (a c : Matrix) (b d : Basics) → HasRates a b p s → c ≡ a → d ≡ b → HasRates c d p s
-has_same p s a c b d has first second = record {
-  is_basis = has.is_basis;
-  nonsingular = has.nonsingular;
-  same_matrix = first ∙ has.same_matrix;
-  same_basics = second ∙ has.same_basics;
-}
-
--- what makes no call keeps the waypoints
-pub keeps_same : (a : Matrix) (b : Basics) (ways : List Basics) → KeepsWaypoints a b ways b ways
-keeps_same a b ways = record { each = λ k d below. inl (Contains-get_or ways k d below) }

@@ -1,9 +1,8 @@
 // What RANGE shows of an optimal basis: its point, and the intervals in which it stays optimal.
 ghost use Rattle.std.specs.Prelude.{◌≡◌, None, IfOk, IfErr};
 ghost use Rattle.lp_definitions.specs.Basis.{basics_of, IsOptimalBasis};
-ghost use Rattle.lp_definitions.specs.Waypoints.{KeepsWaypoints};
 ghost use Rattle.lp_model.specs.RatesCalls.{IfOverflow};
-ghost use Rattle.basis_values.specs.Calls.{HasRates};
+ghost use Rattle.basis_values.specs.Calls.{HasRates, KeepsRates};
 ghost use Rattle.answer_definitions.specs.Sections.{IsRanged};
 ghost use Rattle.listing_tables.specs.Lines.{range_lines};
 ghost use Rattle.present_answers.specs.Answers.{sheet_shown, AreRanged};
@@ -38,10 +37,8 @@ pub fn ranges_of<R: Rates>(
         sheet.entry.problem.now)) }
     ensures overflow { IfErr result (λ stop. IfOverflow stop (RangesRefused sheet.entry.lp.now
         (R.waypoints rates.old) basis.now (R.waypoints rates.new))) }
-    ensures rates { HasRates (R.matrix rates.new) (R.basics rates.new)
-        sheet.entry.lp.now basis.now }
-    ensures waypoints { KeepsWaypoints sheet.entry.lp.now.matrix (basics_of basis.now)
-        (R.waypoints rates.old) (basics_of basis.now) (R.waypoints rates.new) }
+    ensures rates { KeepsRates (R.matrix rates.new) (R.basics rates.new) sheet.entry.lp.now basis.now
+        (R.waypoints rates.old) (R.waypoints rates.new) }
 {
     let lp = sheet.lp;
     let point = point_shown(alloc, lp, basis, rates)?;

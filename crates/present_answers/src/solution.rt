@@ -2,9 +2,8 @@
 ghost use Rattle.std.specs.Prelude.{◌≡◌, None, length, IfOk, IfErr};
 ghost use Rattle.lp_definitions.specs.LinearProgram.{size, value_at};
 ghost use Rattle.lp_definitions.specs.Basis.{basics_of, IsPointOf, ArePricesOf};
-ghost use Rattle.lp_definitions.specs.Waypoints.{KeepsWaypoints};
 ghost use Rattle.lp_model.specs.RatesCalls.{IfOverflow};
-ghost use Rattle.basis_values.specs.Calls.{HasRates, PointRefused};
+ghost use Rattle.basis_values.specs.Calls.{HasRates, KeepsRates, PointRefused};
 ghost use Rattle.answer_definitions.specs.Sections.{IsShown};
 ghost use Rattle.listing_tables.specs.Lines.{solution_lines};
 ghost use Rattle.present_answers.specs.Answers.{sheet_shown, AreShown};
@@ -35,9 +34,8 @@ pub fn point_shown<R: Rates>(
     requires rates { HasRates (R.matrix rates.old) (R.basics rates.old) lp.now basis.now }
     ensures places { IfOk result (λ point. length point ≡ size lp.now.matrix) }
     ensures point { IfOk result (λ point. IsPointOf lp.now basis.now (value_at point)) }
-    ensures rates { HasRates (R.matrix rates.new) (R.basics rates.new) lp.now basis.now }
-    ensures waypoints { KeepsWaypoints lp.now.matrix (basics_of basis.now) (R.waypoints rates.old)
-        (basics_of basis.now) (R.waypoints rates.new) }
+    ensures rates { KeepsRates (R.matrix rates.new) (R.basics rates.new) lp.now basis.now
+        (R.waypoints rates.old) (R.waypoints rates.new) }
     ensures overflow { IfErr result (λ stop. IfOverflow stop
         (PointRefused lp.now (R.waypoints rates.old) basis.now (R.waypoints rates.new))) }
 {
@@ -57,9 +55,8 @@ fn prices_shown<R: Rates>(
     requires rates { HasRates (R.matrix rates.old) (R.basics rates.old) lp.now basis.now }
     ensures places { IfOk result (λ prices. length prices ≡ size lp.now.matrix) }
     ensures prices { IfOk result (λ prices. ArePricesOf lp.now basis.now (value_at prices)) }
-    ensures rates { HasRates (R.matrix rates.new) (R.basics rates.new) lp.now basis.now }
-    ensures waypoints { KeepsWaypoints lp.now.matrix (basics_of basis.now) (R.waypoints rates.old)
-        (basics_of basis.now) (R.waypoints rates.new) }
+    ensures rates { KeepsRates (R.matrix rates.new) (R.basics rates.new) lp.now basis.now
+        (R.waypoints rates.old) (R.waypoints rates.new) }
     ensures overflow { IfErr result (λ stop. IfOverflow stop
         (PointRefused lp.now (R.waypoints rates.old) basis.now (R.waypoints rates.new))) }
 {
@@ -85,10 +82,8 @@ pub fn solution_of<R: Rates>(
     ensures overflow { IfErr result (λ stop. IfOverflow stop
         (SolutionRefused sheet.entry.lp.now (R.waypoints rates.old) basis.now
         (R.waypoints rates.new))) }
-    ensures rates { HasRates (R.matrix rates.new) (R.basics rates.new)
-        sheet.entry.lp.now basis.now }
-    ensures waypoints { KeepsWaypoints sheet.entry.lp.now.matrix (basics_of basis.now)
-        (R.waypoints rates.old) (basics_of basis.now) (R.waypoints rates.new) }
+    ensures rates { KeepsRates (R.matrix rates.new) (R.basics rates.new) sheet.entry.lp.now basis.now
+        (R.waypoints rates.old) (R.waypoints rates.new) }
 {
     let lp = sheet.lp;
     let point = point_shown(alloc, lp, basis, rates)?;

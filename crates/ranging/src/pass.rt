@@ -3,8 +3,7 @@
 ghost use Rattle.std.specs.Prelude.{◌≡◌, ◌≢◌, ◌-◌, None, length, IfOk, IfErr, OnOk};
 ghost use Rattle.lp_definitions.specs.LinearProgram.{size, value_at, IsVariable, IsLinearProgram};
 ghost use Rattle.lp_definitions.specs.Basis.{basics_of, IsBasic, IsPointOf, ArePricesOf, IsOptimalBasis};
-ghost use Rattle.lp_definitions.specs.Waypoints.{KeepsWaypoints};
-ghost use Rattle.basis_values.specs.Calls.{HasRates};
+ghost use Rattle.basis_values.specs.Calls.{HasRates, KeepsRates};
 ghost use Rattle.basis_values.specs.Stops.{RangeOverflow};
 ghost use Rattle.ranging.specs.Tables.{AreEndsOfRow, AllMet, AllFound};
 
@@ -41,10 +40,8 @@ fn visit<R: Rates>(
     requires met { AllMet lp.now basis.now (value_at point.now) (i - 1) ends.old }
     ensures found { IfOk result (AreEndsOfRow lp.now basis.now i) }
     ensures met { OnOk result (AllMet lp.now basis.now (value_at point.now) i ends.new) }
-    ensures matrix { R.matrix rates.new ≡ R.matrix rates.old }
-    ensures basics { R.basics rates.new ≡ R.basics rates.old }
-    ensures waypoints { KeepsWaypoints lp.now.matrix (basics_of basis.now) (R.waypoints rates.old)
-        (basics_of basis.now) (R.waypoints rates.new) }
+    ensures rates { KeepsRates (R.matrix rates.new) (R.basics rates.new) lp.now basis.now
+        (R.waypoints rates.old) (R.waypoints rates.new) }
     ensures overflow { RangeOverflow result lp.now basis.now (R.waypoints rates.old)
         (R.waypoints rates.new) }
 {
@@ -86,10 +83,8 @@ fn visit_basic<R: Rates>(
     requires found { AllFound lp.now basis.now (i - 1) found.old }
     ensures met { OnOk result (AllMet lp.now basis.now (value_at point.now) i ends.new) }
     ensures found { OnOk result (AllFound lp.now basis.now i found.new) }
-    ensures matrix { R.matrix rates.new ≡ R.matrix rates.old }
-    ensures basics { R.basics rates.new ≡ R.basics rates.old }
-    ensures waypoints { KeepsWaypoints lp.now.matrix (basics_of basis.now) (R.waypoints rates.old)
-        (basics_of basis.now) (R.waypoints rates.new) }
+    ensures rates { KeepsRates (R.matrix rates.new) (R.basics rates.new) lp.now basis.now
+        (R.waypoints rates.old) (R.waypoints rates.new) }
     ensures overflow { RangeOverflow result lp.now basis.now (R.waypoints rates.old)
         (R.waypoints rates.new) }
 {
@@ -130,10 +125,8 @@ pub fn pass<R: Rates>(
     ensures met { OnOk result (AllMet lp.now basis.now (value_at point.now)
         (size lp.now.matrix) ends.new) }
     ensures found { OnOk result (AllFound lp.now basis.now (size lp.now.matrix) found.new) }
-    ensures matrix { R.matrix rates.new ≡ R.matrix rates.old }
-    ensures basics { R.basics rates.new ≡ R.basics rates.old }
-    ensures waypoints { KeepsWaypoints lp.now.matrix (basics_of basis.now) (R.waypoints rates.old)
-        (basics_of basis.now) (R.waypoints rates.new) }
+    ensures rates { KeepsRates (R.matrix rates.new) (R.basics rates.new) lp.now basis.now
+        (R.waypoints rates.old) (R.waypoints rates.new) }
     ensures overflow { RangeOverflow result lp.now basis.now (R.waypoints rates.old)
         (R.waypoints rates.new) }
 {

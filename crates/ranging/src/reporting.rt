@@ -3,9 +3,8 @@
 ghost use Rattle.std.specs.Prelude.{◌≡◌, None, length, IfOk, IfErr};
 ghost use Rattle.lp_definitions.specs.LinearProgram.{size, value_at, IsLinearProgram};
 ghost use Rattle.lp_definitions.specs.Basis.{basics_of, IsPointOf, ArePricesOf, IsOptimalBasis};
-ghost use Rattle.lp_definitions.specs.Waypoints.{KeepsWaypoints};
 ghost use Rattle.postoptimal_definitions.specs.Ranges.{IsRangeReport};
-ghost use Rattle.basis_values.specs.Calls.{HasRates};
+ghost use Rattle.basis_values.specs.Calls.{HasRates, KeepsRates};
 ghost use Rattle.basis_values.specs.Stops.{RangeOverflow};
 ghost use Rattle.lp_model.specs.RatesCalls.{IfOverflow};
 ghost use Rattle.ranging.specs.LimitEnds.{no_ends};
@@ -82,10 +81,8 @@ fn range_at<R: Rates>(
     requires point_places { length point.now ≡ size lp.now.matrix }
     requires price_places { length prices.now ≡ size lp.now.matrix }
     ensures report { IfOk result (λ report. IsRangeReport lp.now basis.now (report_of report)) }
-    ensures matrix { R.matrix rates.new ≡ R.matrix rates.old }
-    ensures basics { R.basics rates.new ≡ R.basics rates.old }
-    ensures waypoints { KeepsWaypoints lp.now.matrix (basics_of basis.now) (R.waypoints rates.old)
-        (basics_of basis.now) (R.waypoints rates.new) }
+    ensures rates { KeepsRates (R.matrix rates.new) (R.basics rates.new) lp.now basis.now
+        (R.waypoints rates.old) (R.waypoints rates.new) }
     ensures overflow { RangeOverflow result lp.now basis.now (R.waypoints rates.old)
         (R.waypoints rates.new) }
 {
@@ -114,9 +111,8 @@ pub fn range<R: Rates>(
     requires no_change { lp.now.change ≡ None }
     requires optimal { IsOptimalBasis lp.now basis.now }
     ensures report { IfOk result (λ report. IsRangeReport lp.now basis.now (report_of report)) }
-    ensures rates { HasRates (R.matrix rates.new) (R.basics rates.new) lp.now basis.now }
-    ensures waypoints { KeepsWaypoints lp.now.matrix (basics_of basis.now) (R.waypoints rates.old)
-        (basics_of basis.now) (R.waypoints rates.new) }
+    ensures rates { KeepsRates (R.matrix rates.new) (R.basics rates.new) lp.now basis.now
+        (R.waypoints rates.old) (R.waypoints rates.new) }
     ensures overflow { RangeOverflow result lp.now basis.now (R.waypoints rates.old)
         (R.waypoints rates.new) }
     ensures complete { HasNoEvidence lp.now basis.now (R.waypoints rates.old) →

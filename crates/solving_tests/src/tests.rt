@@ -568,6 +568,21 @@ fn the_length_of_a_step_overflows(rt: HostRuntime) -> Result<(), Fail> {
 }
 
 #[test]
+fn a_length_is_not_needed_where_something_else_stops(rt: HostRuntime) -> Result<(), Fail> {
+    let big = Frac::whole(999_999_999_000_000_000_000_000_000);
+    let small = Frac::new(1, 10_000_000_000_000_000_000);
+    let row = Limits {
+        low: None,
+        high: Some(big),
+    };
+    let lp = one_row(rt.alloc(), whole(-1), small, row, between(0, 1), Sense::Min)?;
+    let point = [whole(-1), small, whole(1)];
+    let prices = [0, 0, -1].map(whole);
+    assert!(rt; is_optimal(rt.alloc(), &lp, 1, &point, &prices)?);
+    Ok(())
+}
+
+#[test]
 fn a_step_overflows(rt: HostRuntime) -> Result<(), Fail> {
     let big = Frac::whole(999_999_999_000_000_000_000_000_000);
     let cost = Frac::whole(-99_999_999_000_000_000_000_000_000);

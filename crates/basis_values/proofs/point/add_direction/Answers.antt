@@ -4,19 +4,19 @@ use Rattle.lp_definitions.specs.Basis.{basics_of}
 use Rattle.basis_values.specs.Points.{AreAdded, ColumnTermRefused}
 use Rattle.basis_values.proofs.Skips.{value_read}
 use Rattle.basis_values.proofs.PointSums.{more_basic, more_zero, more_added, more_refused}
-use Rattle.basis_values.proofs.Covered.{keeps_same}
+use Rattle.basis_values.proofs.Kept.{kept_same, kept_by}
 use Rattle.basis_values.proofs.RatesStops.{column_refused}
 use Rattle.basis_values.proofs.point.add_direction.Goals as goal
 
-pub returns-then-stands_basic-clause-waypoints : goal.returns-then-stands_basic-clause-waypoints
-returns-then-stands_basic-clause-waypoints g c = keeps_same c.args.lp.now.matrix (basics_of c.args.basis.now) (g.R.Rates.waypoints c.args.rates.now)
+pub returns-then-stands_basic-clause-rates : goal.returns-then-stands_basic-clause-rates
+returns-then-stands_basic-clause-rates g c = kept_same (g.R.Rates.waypoints c.args.rates.now) c.requires.rates
 
 pub returns-then-stands_basic-clause-so_far : goal.returns-then-stands_basic-clause-so_far
 returns-then-stands_basic-clause-so_far g c =
     more_basic c.args.lp.now c.args.basis.now c.args.j c.requires.variable.0 (value_at c.args.point.now) c.requires.so_far (sym c.stands_basic.ensures ∙ c.if-stands_basic.true)
 
-pub returns-then-is_zero-clause-waypoints : goal.returns-then-is_zero-clause-waypoints
-returns-then-is_zero-clause-waypoints g c = keeps_same c.args.lp.now.matrix (basics_of c.args.basis.now) (g.R.Rates.waypoints c.args.rates.now)
+pub returns-then-is_zero-clause-rates : goal.returns-then-is_zero-clause-rates
+returns-then-is_zero-clause-rates g c = kept_same (g.R.Rates.waypoints c.args.rates.now) c.requires.rates
 
 pub returns-then-is_zero-clause-so_far : goal.returns-then-is_zero-clause-so_far
 returns-then-is_zero-clause-so_far g c =
@@ -48,3 +48,12 @@ returns-in-Err-clause-overflow g c =
     (value_read c.args.point.now c.args.j c.index-point-j.result (omega arith) c.index-point-j.is) c.requires.term
     (g.R.Rates.waypoints c.args.rates.now) (g.R.Rates.waypoints c.column.new.self)
     (subst (λ (n : ℕ). ColumnTermRefused (basics_of c.args.basis.now) (value_at c.column.new.out) c.index-point-j.result (value_at c.args.point.now) c.args.j c.args.term n c.in-Err.evidence) c.requires.rates.is_basis.counted c.in-Err.ensures.refused)
+
+pub returns-in_err-column-clause-rates : goal.returns-in_err-column-clause-rates
+returns-in_err-column-clause-rates g c = kept_by c.requires.rates c.column.ensures.same_matrix c.column.ensures.same_basics c.column.ensures.waypoints
+
+pub returns-in-Ok-clause-rates : goal.returns-in-Ok-clause-rates
+returns-in-Ok-clause-rates g c = kept_by c.requires.rates c.column.ensures.same_matrix c.column.ensures.same_basics c.column.ensures.waypoints
+
+pub returns-in-Err-clause-rates : goal.returns-in-Err-clause-rates
+returns-in-Err-clause-rates g c = kept_by c.requires.rates c.column.ensures.same_matrix c.column.ensures.same_basics c.column.ensures.waypoints

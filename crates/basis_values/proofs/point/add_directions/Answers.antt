@@ -1,42 +1,35 @@
-use Rattle.std.proofs.Common.{◌≡◌, ℕ, Err, refl, rules, ◌∙◌, subst, arith}
+use Rattle.std.proofs.Common.{◌≡◌, ℕ, Err, refl, rules, subst, arith}
 use Rattle.lp_definitions.specs.LinearProgram.{value_at, size}
 use Rattle.lp_definitions.specs.Basis.{basics_of}
 use Rattle.lp_laws.specs.Points.{standing}
-use Rattle.lp_laws.proofs.WaypointLaws.{keeps_then}
 use Rattle.lp_model.proofs.Stops.{IfOverflow-map}
 use Rattle.basis_values.specs.Points.{IsSoFar}
 use Rattle.basis_values.proofs.PointSums.{so_far-begins, so_far-ends}
-use Rattle.basis_values.proofs.Covered.{keeps_same, point_refused_later}
+use Rattle.basis_values.proofs.Covered.{point_refused_later}
+use Rattle.basis_values.proofs.Kept.{kept_same, kept_then}
 use Rattle.basis_values.proofs.point.add_directions.Goals as goal
 
 pub loop-k-init : goal.loop-k-init
 loop-k-init g c = record {
-  matrix = refl;
-  basics = refl;
-  waypoints = keeps_same c.args.lp.now.matrix (basics_of c.args.basis.now) (g.R.Rates.waypoints c.args.rates.now);
+  rates = kept_same (g.R.Rates.waypoints c.args.rates.now) c.requires.rates;
   counted = refl;
   few = omega arith;
   so_far = so_far-begins c.args.lp.now c.args.basis.now c.requires.rates.is_basis (value_at c.args.point.now) c.requires.begins;
 }
 
-pub returns-in_err-add_direction-clause-waypoints : goal.returns-in_err-add_direction-clause-waypoints
-returns-in_err-add_direction-clause-waypoints g c =
-    keeps_then c.args.lp.now.matrix (basics_of c.args.basis.now) (g.R.Rates.waypoints c.args.rates.now) (basics_of c.args.basis.now) (g.R.Rates.waypoints c.loop-k.rates) (g.R.Rates.waypoints c.add_direction.new.rates)
-    c.loop-k.invariant.waypoints c.add_direction.ensures.waypoints
+pub returns-in_err-add_direction-clause-rates : goal.returns-in_err-add_direction-clause-rates
+returns-in_err-add_direction-clause-rates g c = kept_then c.loop-k.invariant.rates c.add_direction.ensures.rates
 
 pub returns-in_err-add_direction-clause-overflow : goal.returns-in_err-add_direction-clause-overflow
 returns-in_err-add_direction-clause-overflow g c =
     let is_err : c.from_residual.result ≡ Err c.in_err-add_direction.field-0.0 = search rules in
     rw is_err (IfOverflow-map c.in_err-add_direction.field-0.0
-    (λ e h. point_refused_later c.args.lp.now (g.R.Rates.waypoints c.args.rates.now) (g.R.Rates.waypoints c.loop-k.rates) (g.R.Rates.waypoints c.add_direction.new.rates) c.args.basis.now e c.loop-k.invariant.waypoints h)
+    (λ e h. point_refused_later c.args.lp.now (g.R.Rates.waypoints c.args.rates.now) (g.R.Rates.waypoints c.loop-k.rates) (g.R.Rates.waypoints c.add_direction.new.rates) c.args.basis.now e c.loop-k.invariant.rates.1 h)
     c.in_err-add_direction.ensures.overflow)
 
 pub loop-k-preserved : goal.loop-k-preserved
 loop-k-preserved g c = record {
-  matrix = c.add_direction.ensures.matrix ∙ c.loop-k.invariant.matrix;
-  basics = c.add_direction.ensures.basics ∙ c.loop-k.invariant.basics;
-  waypoints = keeps_then c.args.lp.now.matrix (basics_of c.args.basis.now) (g.R.Rates.waypoints c.args.rates.now) (basics_of c.args.basis.now) (g.R.Rates.waypoints c.loop-k.rates) (g.R.Rates.waypoints c.add_direction.new.rates)
-      c.loop-k.invariant.waypoints c.add_direction.ensures.waypoints;
+  rates = kept_then c.loop-k.invariant.rates c.add_direction.ensures.rates;
   counted = c.counted_on-nonbasics.ensures.counted;
   few = c.counted_on-nonbasics.ensures.small;
   so_far = c.in_ok-add_direction.ensures.so_far;

@@ -1,16 +1,14 @@
 use Rattle.std.proofs.Common.{◌≡◌, ◌≤◌, length}
 use Rattle.lp_definitions.specs.LinearProgram.{value_at}
 use Rattle.lp_definitions.specs.Basis.{basics_of}
-use Rattle.lp_definitions.specs.Waypoints.{KeepsWaypoints}
+use Rattle.basis_values.specs.Calls.{KeepsRates}
 use Rattle.lp_laws.specs.Points.{standing}
 use Rattle.basis_values.specs.Points.{IsSoFar, nonbasics_to}
 use Rattle.basis_values.proofs.point.add_directions.Given as goal
 
 abbrev pub invariant-loop-k : goal.invariant-loop-k
 invariant-loop-k g l = record {
-  matrix : g.R.Rates.matrix l.rates ≡ g.R.Rates.matrix l.initial.rates;
-  basics : g.R.Rates.basics l.rates ≡ g.R.Rates.basics l.initial.rates;
-  waypoints : KeepsWaypoints l.lp.matrix (basics_of l.basis) (g.R.Rates.waypoints l.initial.rates) (basics_of l.basis) (g.R.Rates.waypoints l.rates);
+  rates : KeepsRates (g.R.Rates.matrix l.rates) (g.R.Rates.basics l.rates) l.lp l.basis (g.R.Rates.waypoints l.initial.rates) (g.R.Rates.waypoints l.rates);
   counted : l.nonbasics ≡ length (nonbasics_to (basics_of l.basis) l.k);
   few : l.nonbasics ≤ l.k;
   so_far : IsSoFar l.lp.matrix (basics_of l.basis) (standing l.lp l.basis) l.k (value_at l.point);

@@ -1,8 +1,7 @@
 use Rattle.std.proofs.Common.{◌≡◌, ℕ, Err, length, rules, subst, arith}
 use Rattle.lp_definitions.specs.LinearProgram.{value_at, size}
-use Rattle.lp_definitions.specs.Basis.{basics_of}
 use Rattle.basis_values.specs.Prices.{AreChanged, SomeChangedRefused}
-use Rattle.basis_values.proofs.Covered.{keeps_same}
+use Rattle.basis_values.proofs.Kept.{kept_same, kept_by}
 use Rattle.basis_values.proofs.RatesStops.{row_refused}
 use Rattle.basis_values.proofs.PriceLaws.{same_prices, changed_prices, change_stops, change_row_basic}
 use Rattle.basis_values.proofs.prices.add_change_row.Goals as goal
@@ -10,8 +9,8 @@ use Rattle.basis_values.proofs.prices.add_change_row.Goals as goal
 pub returns-then-is_zero-clause-prices : goal.returns-then-is_zero-clause-prices
 returns-then-is_zero-clause-prices g c = same_prices c.args.lp.now c.args.basis.now (value_at c.args.prices.now) c.args.added c.requires.added (c.is_zero.ensures.0 c.if-is_zero.true) c.requires.objective
 
-pub returns-then-is_zero-clause-waypoints : goal.returns-then-is_zero-clause-waypoints
-returns-then-is_zero-clause-waypoints g c = keeps_same c.args.lp.now.matrix (basics_of c.args.basis.now) (g.R.Rates.waypoints c.args.rates.now)
+pub returns-then-is_zero-clause-rates : goal.returns-then-is_zero-clause-rates
+returns-then-is_zero-clause-rates g c = kept_same (g.R.Rates.waypoints c.args.rates.now) c.requires.rates
 
 pub row-requires-clause-basic : goal.row-requires-clause-basic
 row-requires-clause-basic g c =
@@ -39,3 +38,12 @@ returns-in-Err-clause-overflow g c =
     (change_row_basic c.args.lp.now c.args.basis.now c.args.added c.requires.rates.is_basis c.requires.lawful c.requires.added) c.in-Err.evidence c.requires.added
     (g.R.Rates.waypoints c.args.rates.now) (g.R.Rates.waypoints c.row.new.self)
     (subst (λ (n : ℕ). SomeChangedRefused c.args.added.theta (value_at c.row.new.out) (value_at c.args.prices.now) n c.in-Err.evidence) places c.in-Err.ensures.refused)
+
+pub returns-in_err-row-clause-rates : goal.returns-in_err-row-clause-rates
+returns-in_err-row-clause-rates g c = kept_by c.requires.rates c.row.ensures.same_matrix c.row.ensures.same_basics c.row.ensures.waypoints
+
+pub returns-in-Ok-clause-rates : goal.returns-in-Ok-clause-rates
+returns-in-Ok-clause-rates g c = kept_by c.requires.rates c.row.ensures.same_matrix c.row.ensures.same_basics c.row.ensures.waypoints
+
+pub returns-in-Err-clause-rates : goal.returns-in-Err-clause-rates
+returns-in-Err-clause-rates g c = kept_by c.requires.rates c.row.ensures.same_matrix c.row.ensures.same_basics c.row.ensures.waypoints

@@ -2,7 +2,7 @@ use Rattle.std.proofs.Common.{◌≡◌, ℕ, Err, None, rules, subst}
 use Rattle.lp_definitions.specs.LinearProgram.{value_at}
 use Rattle.lp_definitions.specs.Basis.{basics_of}
 use Rattle.lp_model.specs.RatesCalls.{IsRowOf}
-use Rattle.lp_laws.proofs.WaypointLaws.{keeps_then}
+use Rattle.basis_values.proofs.Kept.{kept_by, kept_then}
 use Rattle.lp_model.proofs.Stops.{IfOverflow-map}
 use Rattle.basis_values.proofs.TermLaws.{IfErr-map}
 use Rattle.basis_values.proofs.Covered.{point_refused_later}
@@ -23,12 +23,14 @@ returns-in-None-clause-prices g c =
     plain_prices c.args.lp.now c.args.basis.now (value_at c.row.new.out) none
     (subst (λ (o : ℕ). IsRowOf c.args.lp.now.matrix (basics_of c.args.basis.now) o (value_at c.row.new.out)) same (rw (c.requires.rates.same_matrix, c.requires.rates.same_basics) at c.in_ok-row.ensures.rates))
 
-pub returns-in-Some-clause-waypoints : goal.returns-in-Some-clause-waypoints
-returns-in-Some-clause-waypoints g c =
-    keeps_then c.args.lp.now.matrix (basics_of c.args.basis.now) (g.R.Rates.waypoints c.args.rates.now) (basics_of c.args.basis.now) (g.R.Rates.waypoints c.row.new.self) (g.R.Rates.waypoints c.add_change_row.new.rates)
-    (keeps_at c.args.lp.now c.args.basis.now (g.R.Rates.matrix c.args.rates.now) (g.R.Rates.basics c.args.rates.now) (g.R.Rates.basics c.row.new.self) (g.R.Rates.waypoints c.args.rates.now) (g.R.Rates.waypoints c.row.new.self)
-    c.requires.rates c.row.ensures.same_basics c.row.ensures.waypoints)
-    c.add_change_row.ensures.waypoints
+pub returns-in_err-row-clause-rates : goal.returns-in_err-row-clause-rates
+returns-in_err-row-clause-rates g c = kept_by c.requires.rates c.row.ensures.same_matrix c.row.ensures.same_basics c.row.ensures.waypoints
+
+pub returns-in-None-clause-rates : goal.returns-in-None-clause-rates
+returns-in-None-clause-rates g c = kept_by c.requires.rates c.row.ensures.same_matrix c.row.ensures.same_basics c.row.ensures.waypoints
+
+pub returns-in-Some-clause-rates : goal.returns-in-Some-clause-rates
+returns-in-Some-clause-rates g c = kept_then (kept_by c.requires.rates c.row.ensures.same_matrix c.row.ensures.same_basics c.row.ensures.waypoints) c.add_change_row.ensures.rates
 
 pub returns-in-Some-clause-overflow : goal.returns-in-Some-clause-overflow
 returns-in-Some-clause-overflow g c =

@@ -1,14 +1,13 @@
 use Rattle.std.proofs.Common.{◌≡◌, ◌∙◌, drop, length, arith}
-use Rattle.lp_definitions.specs.Basis.{basics_of}
 use Rattle.basis_values.proofs.PriceLaws.{take_all}
-use Rattle.basis_values.proofs.Covered.{keeps_same}
+use Rattle.basis_values.proofs.Kept.{kept_same}
 use Rattle.basis_values.proofs.prices.prices_of.Goals as goal
 
-pub returns-in_err-change-clause-waypoints : goal.returns-in_err-change-clause-waypoints
-returns-in_err-change-clause-waypoints g c = keeps_same c.args.lp.now.matrix (basics_of c.args.basis.now) (g.R.Rates.waypoints c.args.rates.now)
+pub returns-in_err-change-clause-rates : goal.returns-in_err-change-clause-rates
+returns-in_err-change-clause-rates g c = kept_same (g.R.Rates.waypoints c.args.rates.now) c.requires.rates
 
-pub returns-in_err-prices-clause-waypoints : goal.returns-in_err-prices-clause-waypoints
-returns-in_err-prices-clause-waypoints g c = keeps_same c.args.lp.now.matrix (basics_of c.args.basis.now) (g.R.Rates.waypoints c.args.rates.now)
+pub returns-in_err-prices-clause-rates : goal.returns-in_err-prices-clause-rates
+returns-in_err-prices-clause-rates g c = kept_same (g.R.Rates.waypoints c.args.rates.now) c.requires.rates
 
 pub returns-clause-prices : goal.returns-clause-prices
 returns-clause-prices g c =

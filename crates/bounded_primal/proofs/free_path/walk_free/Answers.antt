@@ -19,21 +19,16 @@ returns-in_err-point_of-clause-stops g c =
 pub returns-in_err-point_of-clause-waypoints : goal.returns-in_err-point_of-clause-waypoints
 returns-in_err-point_of-clause-waypoints g c =
     follows c.args.lp.now c.args.basis.now (g.R.Rates.waypoints c.args.rates.now) c.args.basis.now (g.R.Rates.waypoints c.point_of.new.rates) 0
-    (begins_at c.args.lp.now c.args.basis.now (g.R.Rates.waypoints c.args.rates.now) (g.R.Rates.waypoints c.point_of.new.rates) c.in_err-point_of.ensures.waypoints)
+    (begins_at c.args.lp.now c.args.basis.now (g.R.Rates.waypoints c.args.rates.now) (g.R.Rates.waypoints c.point_of.new.rates) c.in_err-point_of.ensures.rates.1)
 
 pub loop-share-init : goal.loop-share-init
 loop-share-init g c = record {
   some = omega (arith, c.open-book.ensures.parts, c.requires.some, c.requires.parts);
   counted = rw c.open-book.ensures.total refl;
-  rates = record {
-    is_basis = c.requires.rates.is_basis;
-    nonsingular = c.requires.rates.nonsingular;
-    same_matrix = c.in_ok-point_of.ensures.matrix ∙ c.requires.rates.same_matrix;
-    same_basics = c.in_ok-point_of.ensures.basics ∙ c.requires.rates.same_basics;
-  };
+  rates = c.in_ok-point_of.ensures.rates.0;
   point = c.in_ok-point_of.ensures.point;
   broken = c.outside-broken.ensures;
-  reached = rw c.open-book.ensures.total (begins_at c.args.lp.now c.args.basis.now (g.R.Rates.waypoints c.args.rates.now) (g.R.Rates.waypoints c.point_of.new.rates) c.in_ok-point_of.ensures.waypoints);
+  reached = rw c.open-book.ensures.total (begins_at c.args.lp.now c.args.basis.now (g.R.Rates.waypoints c.args.rates.now) (g.R.Rates.waypoints c.point_of.new.rates) c.in_ok-point_of.ensures.rates.1);
 }
 
 pub returns-in_err-outcome-clause-stops : goal.returns-in_err-outcome-clause-stops
@@ -44,7 +39,7 @@ returns-in_err-outcome-clause-stops g c =
 pub returns-in_err-outcome-clause-waypoints : goal.returns-in_err-outcome-clause-waypoints
 returns-in_err-outcome-clause-waypoints g c =
     follows_later c.args.lp.now c.args.basis.now (g.R.Rates.waypoints c.args.rates.now) c.loop-share.basis (g.R.Rates.waypoints c.loop-share.rates) c.loop-share.book.total c.loop-share.invariant.reached
-    (g.R.Rates.waypoints c.free_turn.new.rates) c.in_err-outcome.ensures.waypoints
+    (g.R.Rates.waypoints c.free_turn.new.rates) c.in_err-outcome.ensures.rates.1
 
 pub returns-in-Ends-clause-ends : goal.returns-in-Ends-clause-ends
 returns-in-Ends-clause-ends g c =
@@ -55,7 +50,7 @@ returns-in-Ends-clause-ends g c =
 pub returns-in-Ends-clause-waypoints : goal.returns-in-Ends-clause-waypoints
 returns-in-Ends-clause-waypoints g c =
     follows_later c.args.lp.now c.args.basis.now (g.R.Rates.waypoints c.args.rates.now) c.loop-share.basis (g.R.Rates.waypoints c.loop-share.rates) c.loop-share.book.total c.loop-share.invariant.reached
-    (g.R.Rates.waypoints c.free_turn.new.rates) c.in_ok-outcome.ensures.waypoints
+    (g.R.Rates.waypoints c.free_turn.new.rates) c.in_ok-outcome.ensures.rates.1
 
 pub take_step-requires-clause-step : goal.take_step-requires-clause-step
 take_step-requires-clause-step g c =
@@ -67,14 +62,14 @@ returns-in_err-take_step-in-Moves-clause-stops g c =
     let p = err_from_is_err_and c.from_residual-in_err-take_step-in-Moves.result c.from_residual-in_err-take_step-in-Moves.ensures.1 in
     let moves = rw c.in-Moves.is at c.in_ok-outcome.ensures.turn in
     rw (p.1, p.2, c.in_err-take_step-in-Moves.ensures.unchanged) (free_stops c.args.lp.now c.requires.lawful (g.R.Rates.matrix c.args.rates.now) (g.R.Rates.basics c.args.rates.now) c.args.basis.now c.requires.rates (g.R.Rates.waypoints c.args.rates.now) c.loop-share.basis (g.R.Rates.waypoints c.loop-share.rates) c.loop-share.book.total c.loop-share.invariant.reached (g.R.Rates.waypoints c.take_step.new.rates) c.in_err-take_step-in-Moves.field-0.0
-    (step_stops c.args.lp.now c.loop-share.basis (value_at c.loop-share.point) (value_at c.free_turn.new.direction) c.in-Moves.q c.in-Moves.by 1 moves (g.R.Rates.waypoints c.loop-share.rates) (g.R.Rates.waypoints c.free_turn.new.rates) (g.R.Rates.waypoints c.take_step.new.rates) c.in_err-take_step-in-Moves.field-0.0 c.in_ok-outcome.ensures.waypoints c.in_err-take_step-in-Moves.ensures.overflow))
+    (step_stops c.args.lp.now c.loop-share.basis (value_at c.loop-share.point) (value_at c.free_turn.new.direction) c.in-Moves.q c.in-Moves.by 1 moves (g.R.Rates.waypoints c.loop-share.rates) (g.R.Rates.waypoints c.free_turn.new.rates) (g.R.Rates.waypoints c.take_step.new.rates) c.in_err-take_step-in-Moves.field-0.0 c.in_ok-outcome.ensures.rates.1 c.in_err-take_step-in-Moves.ensures.overflow))
 
 pub returns-in_err-take_step-in-Moves-clause-waypoints : goal.returns-in_err-take_step-in-Moves-clause-waypoints
 returns-in_err-take_step-in-Moves-clause-waypoints g c =
     rw c.in_err-take_step-in-Moves.ensures.unchanged (follows_later c.args.lp.now c.args.basis.now (g.R.Rates.waypoints c.args.rates.now) c.loop-share.basis (g.R.Rates.waypoints c.loop-share.rates) c.loop-share.book.total c.loop-share.invariant.reached
     (g.R.Rates.waypoints c.take_step.new.rates)
     (keeps_then c.args.lp.now.matrix (basics_of c.loop-share.basis) (g.R.Rates.waypoints c.loop-share.rates) (basics_of c.loop-share.basis) (g.R.Rates.waypoints c.free_turn.new.rates) (g.R.Rates.waypoints c.take_step.new.rates)
-    c.in_ok-outcome.ensures.waypoints (rw (c.in_err-take_step-in-Moves.ensures.unchanged) at c.in_err-take_step-in-Moves.ensures.waypoints)))
+    c.in_ok-outcome.ensures.rates.1 (rw (c.in_err-take_step-in-Moves.ensures.unchanged) at c.in_err-take_step-in-Moves.ensures.waypoints)))
 
 pub outside_after-broken-requires-clause-stays : goal.outside_after-broken-requires-clause-stays
 outside_after-broken-requires-clause-stays g c none =
@@ -86,7 +81,7 @@ pub loop-share-smaller : goal.loop-share-smaller
 loop-share-smaller g c =
     let moves = rw c.in-Moves.is at c.in_ok-outcome.ensures.turn in
     let few = reached_short c.args.lp.now c.requires.lawful (g.R.Rates.matrix c.args.rates.now) (g.R.Rates.basics c.args.rates.now) c.args.basis.now c.requires.rates (g.R.Rates.waypoints c.args.rates.now) c.take_step.new.basis (g.R.Rates.waypoints c.take_step.new.rates) (c.loop-share.book.total + 1)
-    (walk_more c.args.lp.now c.loop-share.basis (value_at c.loop-share.point) (value_at c.free_turn.new.direction) c.in-Moves.q c.in-Moves.by 1 moves c.args.basis.now (g.R.Rates.waypoints c.args.rates.now) (g.R.Rates.waypoints c.loop-share.rates) c.loop-share.book.total c.loop-share.invariant.reached c.take_step.new.basis (g.R.Rates.waypoints c.free_turn.new.rates) (g.R.Rates.waypoints c.take_step.new.rates) c.in_ok-take_step-in-Moves.ensures.basis c.in_ok-outcome.ensures.waypoints c.in_ok-take_step-in-Moves.ensures.waypoints) in
+    (walk_more c.args.lp.now c.loop-share.basis (value_at c.loop-share.point) (value_at c.free_turn.new.direction) c.in-Moves.q c.in-Moves.by 1 moves c.args.basis.now (g.R.Rates.waypoints c.args.rates.now) (g.R.Rates.waypoints c.loop-share.rates) c.loop-share.book.total c.loop-share.invariant.reached c.take_step.new.basis (g.R.Rates.waypoints c.free_turn.new.rates) (g.R.Rates.waypoints c.take_step.new.rates) c.in_ok-take_step-in-Moves.ensures.basis c.in_ok-outcome.ensures.rates.1 c.in_ok-take_step-in-Moves.ensures.waypoints) in
     one_less (lists_of c.args.lp.now) c.loop-share.book.total c.add.new.self.total c.add.ensures.total few
 
 pub loop-share-preserved : goal.loop-share-preserved
@@ -98,5 +93,5 @@ loop-share-preserved g c =
       rates = c.in_ok-take_step-in-Moves.ensures.rates;
       point = c.in_ok-take_step-in-Moves.ensures.point;
       broken = c.outside_after-broken.ensures;
-      reached = rw c.add.ensures.total (walk_more c.args.lp.now c.loop-share.basis (value_at c.loop-share.point) (value_at c.free_turn.new.direction) c.in-Moves.q c.in-Moves.by 1 moves c.args.basis.now (g.R.Rates.waypoints c.args.rates.now) (g.R.Rates.waypoints c.loop-share.rates) c.loop-share.book.total c.loop-share.invariant.reached c.take_step.new.basis (g.R.Rates.waypoints c.free_turn.new.rates) (g.R.Rates.waypoints c.take_step.new.rates) c.in_ok-take_step-in-Moves.ensures.basis c.in_ok-outcome.ensures.waypoints c.in_ok-take_step-in-Moves.ensures.waypoints);
+      reached = rw c.add.ensures.total (walk_more c.args.lp.now c.loop-share.basis (value_at c.loop-share.point) (value_at c.free_turn.new.direction) c.in-Moves.q c.in-Moves.by 1 moves c.args.basis.now (g.R.Rates.waypoints c.args.rates.now) (g.R.Rates.waypoints c.loop-share.rates) c.loop-share.book.total c.loop-share.invariant.reached c.take_step.new.basis (g.R.Rates.waypoints c.free_turn.new.rates) (g.R.Rates.waypoints c.take_step.new.rates) c.in_ok-take_step-in-Moves.ensures.basis c.in_ok-outcome.ensures.rates.1 c.in_ok-take_step-in-Moves.ensures.waypoints);
     }

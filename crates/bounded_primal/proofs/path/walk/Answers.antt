@@ -16,16 +16,11 @@ returns-in_err-point_of-clause-stops g c =
 
 pub loop-outcome-init : goal.loop-outcome-init
 loop-outcome-init g c = record {
-  rates = record {
-    is_basis = c.requires.rates.is_basis;
-    nonsingular = c.requires.rates.nonsingular;
-    same_matrix = c.in_ok-point_of.ensures.matrix ∙ c.requires.rates.same_matrix;
-    same_basics = c.in_ok-point_of.ensures.basics ∙ c.requires.rates.same_basics;
-  };
+  rates = c.in_ok-point_of.ensures.rates.0;
   point = c.in_ok-point_of.ensures.point;
   broken = c.outside-broken.ensures;
   within = omega arith;
-  reached = begins_at c.args.lp.now c.args.basis.now (g.R.Rates.waypoints c.args.rates.now) (g.R.Rates.waypoints c.point_of.new.rates) c.in_ok-point_of.ensures.waypoints;
+  reached = begins_at c.args.lp.now c.args.basis.now (g.R.Rates.waypoints c.args.rates.now) (g.R.Rates.waypoints c.point_of.new.rates) c.in_ok-point_of.ensures.rates.1;
 }
 
 pub returns-in_err-outcome-clause-stops : goal.returns-in_err-outcome-clause-stops
@@ -42,7 +37,7 @@ pub returns-in_err-take_step-in-Moves-clause-stops : goal.returns-in_err-take_st
 returns-in_err-take_step-in-Moves-clause-stops g c =
     let p = err_from_is_err_and c.from_residual-in_err-take_step-in-Moves.result c.from_residual-in_err-take_step-in-Moves.ensures.1 in
     let moves = rw c.in-Moves.is at c.in_ok-outcome.ensures.turn in
-    rw (p.1, p.2, c.in_err-take_step-in-Moves.ensures.unchanged) (walk_stops c.args.lp.now c.loop-outcome.basis (value_at c.loop-outcome.point) (value_at c.next_turn.new.direction) c.in-Moves.q c.in-Moves.by (c.args.limit - c.loop-outcome.steps) moves c.args.basis.now (g.R.Rates.waypoints c.args.rates.now) (g.R.Rates.waypoints c.loop-outcome.rates) c.loop-outcome.steps c.loop-outcome.invariant.reached (g.R.Rates.waypoints c.next_turn.new.rates) (g.R.Rates.waypoints c.take_step.new.rates) c.in_err-take_step-in-Moves.field-0.0 c.args.limit c.loop-outcome.invariant.within refl c.in_ok-outcome.ensures.waypoints c.in_err-take_step-in-Moves.ensures.overflow)
+    rw (p.1, p.2, c.in_err-take_step-in-Moves.ensures.unchanged) (walk_stops c.args.lp.now c.loop-outcome.basis (value_at c.loop-outcome.point) (value_at c.next_turn.new.direction) c.in-Moves.q c.in-Moves.by (c.args.limit - c.loop-outcome.steps) moves c.args.basis.now (g.R.Rates.waypoints c.args.rates.now) (g.R.Rates.waypoints c.loop-outcome.rates) c.loop-outcome.steps c.loop-outcome.invariant.reached (g.R.Rates.waypoints c.next_turn.new.rates) (g.R.Rates.waypoints c.take_step.new.rates) c.in_err-take_step-in-Moves.field-0.0 c.args.limit c.loop-outcome.invariant.within refl c.in_ok-outcome.ensures.rates.1 c.in_err-take_step-in-Moves.ensures.overflow)
 
 pub outside_after-broken-requires-clause-stays : goal.outside_after-broken-requires-clause-stays
 outside_after-broken-requires-clause-stays g c none =
@@ -58,30 +53,30 @@ loop-outcome-preserved g c =
       point = c.in_ok-take_step-in-Moves.ensures.point;
       broken = c.outside_after-broken.ensures;
       within = omega (arith, moves.was_left);
-      reached = walk_more c.args.lp.now c.loop-outcome.basis (value_at c.loop-outcome.point) (value_at c.next_turn.new.direction) c.in-Moves.q c.in-Moves.by (c.args.limit - c.loop-outcome.steps) moves c.args.basis.now (g.R.Rates.waypoints c.args.rates.now) (g.R.Rates.waypoints c.loop-outcome.rates) c.loop-outcome.steps c.loop-outcome.invariant.reached c.take_step.new.basis (g.R.Rates.waypoints c.next_turn.new.rates) (g.R.Rates.waypoints c.take_step.new.rates) c.in_ok-take_step-in-Moves.ensures.basis c.in_ok-outcome.ensures.waypoints c.in_ok-take_step-in-Moves.ensures.waypoints;
+      reached = walk_more c.args.lp.now c.loop-outcome.basis (value_at c.loop-outcome.point) (value_at c.next_turn.new.direction) c.in-Moves.q c.in-Moves.by (c.args.limit - c.loop-outcome.steps) moves c.args.basis.now (g.R.Rates.waypoints c.args.rates.now) (g.R.Rates.waypoints c.loop-outcome.rates) c.loop-outcome.steps c.loop-outcome.invariant.reached c.take_step.new.basis (g.R.Rates.waypoints c.next_turn.new.rates) (g.R.Rates.waypoints c.take_step.new.rates) c.in_ok-take_step-in-Moves.ensures.basis c.in_ok-outcome.ensures.rates.1 c.in_ok-take_step-in-Moves.ensures.waypoints;
     }
 
 pub returns-in_err-point_of-clause-waypoints : goal.returns-in_err-point_of-clause-waypoints
 returns-in_err-point_of-clause-waypoints g c =
     follows c.args.lp.now c.args.basis.now (g.R.Rates.waypoints c.args.rates.now) c.args.basis.now (g.R.Rates.waypoints c.point_of.new.rates) 0
-    (begins_at c.args.lp.now c.args.basis.now (g.R.Rates.waypoints c.args.rates.now) (g.R.Rates.waypoints c.point_of.new.rates) c.in_err-point_of.ensures.waypoints)
+    (begins_at c.args.lp.now c.args.basis.now (g.R.Rates.waypoints c.args.rates.now) (g.R.Rates.waypoints c.point_of.new.rates) c.in_err-point_of.ensures.rates.1)
 
 pub returns-in_err-outcome-clause-waypoints : goal.returns-in_err-outcome-clause-waypoints
 returns-in_err-outcome-clause-waypoints g c =
     follows_later c.args.lp.now c.args.basis.now (g.R.Rates.waypoints c.args.rates.now) c.loop-outcome.basis (g.R.Rates.waypoints c.loop-outcome.rates) c.loop-outcome.steps c.loop-outcome.invariant.reached
-    (g.R.Rates.waypoints c.next_turn.new.rates) c.in_err-outcome.ensures.waypoints
+    (g.R.Rates.waypoints c.next_turn.new.rates) c.in_err-outcome.ensures.rates.1
 
 pub returns-in-Ends-clause-waypoints : goal.returns-in-Ends-clause-waypoints
 returns-in-Ends-clause-waypoints g c =
     follows_later c.args.lp.now c.args.basis.now (g.R.Rates.waypoints c.args.rates.now) c.loop-outcome.basis (g.R.Rates.waypoints c.loop-outcome.rates) c.loop-outcome.steps c.loop-outcome.invariant.reached
-    (g.R.Rates.waypoints c.next_turn.new.rates) c.in_ok-outcome.ensures.waypoints
+    (g.R.Rates.waypoints c.next_turn.new.rates) c.in_ok-outcome.ensures.rates.1
 
 pub returns-in_err-take_step-in-Moves-clause-waypoints : goal.returns-in_err-take_step-in-Moves-clause-waypoints
 returns-in_err-take_step-in-Moves-clause-waypoints g c =
     rw c.in_err-take_step-in-Moves.ensures.unchanged (follows_later c.args.lp.now c.args.basis.now (g.R.Rates.waypoints c.args.rates.now) c.loop-outcome.basis (g.R.Rates.waypoints c.loop-outcome.rates) c.loop-outcome.steps c.loop-outcome.invariant.reached
     (g.R.Rates.waypoints c.take_step.new.rates)
     (keeps_then c.args.lp.now.matrix (basics_of c.loop-outcome.basis) (g.R.Rates.waypoints c.loop-outcome.rates) (basics_of c.loop-outcome.basis) (g.R.Rates.waypoints c.next_turn.new.rates) (g.R.Rates.waypoints c.take_step.new.rates)
-    c.in_ok-outcome.ensures.waypoints (rw (c.in_err-take_step-in-Moves.ensures.unchanged) at c.in_err-take_step-in-Moves.ensures.waypoints)))
+    c.in_ok-outcome.ensures.rates.1 (rw (c.in_err-take_step-in-Moves.ensures.unchanged) at c.in_err-take_step-in-Moves.ensures.waypoints)))
 
 pub returns-in-Ends-clause-ends : goal.returns-in-Ends-clause-ends
 returns-in-Ends-clause-ends g c =

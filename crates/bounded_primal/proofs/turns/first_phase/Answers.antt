@@ -1,8 +1,7 @@
 use Rattle.std.proofs.Common.{sym, ◌∙◌, arith}
 use Rattle.std.proofs.lemmas.Result.{err_from_is_err_and}
 use Rattle.lp_definitions.specs.LinearProgram.{value_at}
-use Rattle.lp_definitions.specs.Basis.{basics_of}
-use Rattle.lp_laws.proofs.WaypointLaws.{keeps_then}
+use Rattle.basis_values.proofs.Kept.{kept_then}
 use Rattle.bounded_primal.proofs.TurnCalls.{outside_basic}
 use Rattle.bounded_primal.proofs.TurnCases.{point_stops, first_ends, first_nonbasic, first_pivot, first_at_limit, first_limit, first_stops, first_moves}
 use Rattle.bounded_primal.proofs.turns.first_phase.Goals as goal
@@ -39,13 +38,13 @@ return_of-requires-clause-pivot g c = first_pivot c.args.lp.now c.args.basis.now
 pub returns-in_err-by-clause-turn : goal.returns-in_err-by-clause-turn
 returns-in_err-by-clause-turn g c =
     let p = err_from_is_err_and c.from_residual-in_err-by.result c.from_residual-in_err-by.ensures.1 in
-    rw (p.1, p.2) (first_stops c.args.lp.now c.args.basis.now (value_at c.args.point.now) (g.R.Rates.matrix c.args.rates.now) (g.R.Rates.basics c.args.rates.now) c.requires.rates c.requires.point c.requires.uncrossed c.args.r c.requires.outside (value_at c.returner.new.row) c.in_ok-q.ensures.row c.lies_below-below.result c.lies_below-below.ensures c.in-Some.q (sym c.in-Some.is ∙ c.in_ok-q.ensures.found) c.limit_broken.result c.limit_broken.ensures c.args.left (g.R.Rates.waypoints c.args.rates.now) (g.R.Rates.waypoints c.returner.new.rates) (g.R.Rates.waypoints c.return_of.new.rates) c.in_err-by.field-0.0 c.returner.ensures.waypoints c.in_err-by.ensures.overflow)
+    rw (p.1, p.2) (first_stops c.args.lp.now c.args.basis.now (value_at c.args.point.now) (g.R.Rates.matrix c.args.rates.now) (g.R.Rates.basics c.args.rates.now) c.requires.rates c.requires.point c.requires.uncrossed c.args.r c.requires.outside (value_at c.returner.new.row) c.in_ok-q.ensures.row c.lies_below-below.result c.lies_below-below.ensures c.in-Some.q (sym c.in-Some.is ∙ c.in_ok-q.ensures.found) c.limit_broken.result c.limit_broken.ensures c.args.left (g.R.Rates.waypoints c.args.rates.now) (g.R.Rates.waypoints c.returner.new.rates) (g.R.Rates.waypoints c.return_of.new.rates) c.in_err-by.field-0.0 c.returner.ensures.rates.1 c.in_err-by.ensures.overflow)
 
 pub returns-clause-turn : goal.returns-clause-turn
 returns-clause-turn g c = first_moves c.args.lp.now c.args.basis.now (value_at c.args.point.now) (g.R.Rates.matrix c.args.rates.now) (g.R.Rates.basics c.args.rates.now) c.requires.rates c.requires.point c.requires.uncrossed c.args.r c.requires.outside (value_at c.returner.new.row) c.in_ok-q.ensures.row c.lies_below-below.result c.lies_below-below.ensures c.in-Some.q (sym c.in-Some.is ∙ c.in_ok-q.ensures.found) c.limit_broken.result c.limit_broken.ensures (value_at c.return_of.new.direction) c.in_ok-by.ensures.direction c.in_ok-by.by c.in_ok-by.ensures.stopper c.args.left (omega (arith, c.if-left-eq0.false))
 
-pub returns-in_err-by-clause-waypoints : goal.returns-in_err-by-clause-waypoints
-returns-in_err-by-clause-waypoints g c = keeps_then c.args.lp.now.matrix (basics_of c.args.basis.now) (g.R.Rates.waypoints c.args.rates.now) (basics_of c.args.basis.now) (g.R.Rates.waypoints c.returner.new.rates) (g.R.Rates.waypoints c.return_of.new.rates) c.returner.ensures.waypoints c.return_of.ensures.waypoints
+pub returns-in_err-by-clause-rates : goal.returns-in_err-by-clause-rates
+returns-in_err-by-clause-rates g c = kept_then c.returner.ensures.rates c.return_of.ensures.rates
 
-pub returns-clause-waypoints : goal.returns-clause-waypoints
-returns-clause-waypoints g c = keeps_then c.args.lp.now.matrix (basics_of c.args.basis.now) (g.R.Rates.waypoints c.args.rates.now) (basics_of c.args.basis.now) (g.R.Rates.waypoints c.returner.new.rates) (g.R.Rates.waypoints c.return_of.new.rates) c.returner.ensures.waypoints c.return_of.ensures.waypoints
+pub returns-clause-rates : goal.returns-clause-rates
+returns-clause-rates g c = kept_then c.returner.ensures.rates c.return_of.ensures.rates

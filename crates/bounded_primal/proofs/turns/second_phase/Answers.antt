@@ -1,9 +1,8 @@
 use Rattle.std.proofs.Common.{refl, sym, ◌∙◌, arith}
 use Rattle.std.proofs.lemmas.Result.{err_from_is_err_and}
 use Rattle.lp_definitions.specs.LinearProgram.{value_at}
-use Rattle.lp_definitions.specs.Basis.{basics_of}
-use Rattle.lp_laws.proofs.WaypointLaws.{keeps_then}
-use Rattle.bounded_primal.proofs.TurnCalls.{has_same, found_later}
+use Rattle.basis_values.proofs.Kept.{kept_then}
+use Rattle.bounded_primal.proofs.TurnCalls.{found_later}
 use Rattle.bounded_primal.proofs.TurnCases.{point_stops, second_ends}
 use Rattle.bounded_primal.proofs.turns.second_phase.Goals as goal
 
@@ -12,20 +11,14 @@ returns-in_err-fill_prices-clause-turn g c =
     let p = err_from_is_err_and c.from_residual.result c.from_residual.ensures.1 in
     rw (p.1, p.2) (point_stops c.args.lp.now c.args.basis.now c.args.left (g.R.Rates.waypoints c.args.rates.now) (g.R.Rates.waypoints c.fill_prices.new.rates) c.in_err-fill_prices.field-0.0 c.in_err-fill_prices.ensures.overflow)
 
-pub returns-in_err-fill_prices-clause-rates : goal.returns-in_err-fill_prices-clause-rates
-returns-in_err-fill_prices-clause-rates g c = has_same c.args.lp.now c.args.basis.now (g.R.Rates.matrix c.args.rates.now) (g.R.Rates.matrix c.fill_prices.new.rates) (g.R.Rates.basics c.args.rates.now) (g.R.Rates.basics c.fill_prices.new.rates) c.requires.rates c.fill_prices.ensures.matrix c.fill_prices.ensures.basics
-
 pub returns-in_ok-best-in-None-clause-turn : goal.returns-in_ok-best-in-None-clause-turn
 returns-in_ok-best-in-None-clause-turn g c = second_ends c.args.lp.now c.args.basis.now (value_at c.args.point.now) (g.R.Rates.matrix c.args.rates.now) (g.R.Rates.basics c.args.rates.now) c.requires.rates c.requires.point c.requires.uncrossed c.requires.inside (value_at c.fill_prices.new.prices) c.in_ok-fill_prices.ensures.prices c.args.point.now c.fill_prices.new.prices c.args.steps (sym c.in-None.is ∙ c.bettering.ensures) c.requires.point_places (λ k is. refl) (omega arith) (λ k is. refl) c.in_ok-best-in-None.field-0 c.in_ok-best-in-None.ensures
-
-pub run-requires-clause-rates : goal.run-requires-clause-rates
-run-requires-clause-rates g c = has_same c.args.lp.now c.args.basis.now (g.R.Rates.matrix c.args.rates.now) (g.R.Rates.matrix c.fill_prices.new.rates) (g.R.Rates.basics c.args.rates.now) (g.R.Rates.basics c.fill_prices.new.rates) c.requires.rates c.fill_prices.ensures.matrix c.fill_prices.ensures.basics
 
 pub run-requires-clause-moves : goal.run-requires-clause-moves
 run-requires-clause-moves g c = record { price = (value_at c.fill_prices.new.prices); prices = c.in_ok-fill_prices.ensures.prices; chosen = sym c.in-Some.is ∙ c.bettering.ensures }
 
 pub returns-in-Some-clause-turn : goal.returns-in-Some-clause-turn
-returns-in-Some-clause-turn g c = found_later c.args.lp.now c.args.basis.now (g.R.Rates.waypoints c.args.rates.now) (g.R.Rates.waypoints c.fill_prices.new.rates) (g.R.Rates.waypoints c.run.new.rates) c.fill_prices.ensures.waypoints c.run.result c.args.steps c.args.left (value_at c.args.point.now) (value_at c.run.new.direction) c.run.ensures.turn
+returns-in-Some-clause-turn g c = found_later c.args.lp.now c.args.basis.now (g.R.Rates.waypoints c.args.rates.now) (g.R.Rates.waypoints c.fill_prices.new.rates) (g.R.Rates.waypoints c.run.new.rates) c.fill_prices.ensures.rates.1 c.run.result c.args.steps c.args.left (value_at c.args.point.now) (value_at c.run.new.direction) c.run.ensures.turn
 
-pub returns-in-Some-clause-waypoints : goal.returns-in-Some-clause-waypoints
-returns-in-Some-clause-waypoints g c = keeps_then c.args.lp.now.matrix (basics_of c.args.basis.now) (g.R.Rates.waypoints c.args.rates.now) (basics_of c.args.basis.now) (g.R.Rates.waypoints c.fill_prices.new.rates) (g.R.Rates.waypoints c.run.new.rates) c.fill_prices.ensures.waypoints c.run.ensures.waypoints
+pub returns-in-Some-clause-rates : goal.returns-in-Some-clause-rates
+returns-in-Some-clause-rates g c = kept_then c.fill_prices.ensures.rates c.run.ensures.rates

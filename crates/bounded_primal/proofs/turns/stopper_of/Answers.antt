@@ -3,6 +3,7 @@ use Rattle.lp_definitions.specs.LinearProgram.{value_at}
 use Rattle.lp_model.proofs.Stops.{IfOverflow-map}
 use Rattle.bounded_primal.specs.Turns.{by_direction, by_stopper}
 use Rattle.basis_values.proofs.RatesStops.{column_refused}
+use Rattle.basis_values.proofs.Kept.{kept_by}
 use Rattle.bounded_primal.proofs.turns.stopper_of.Goals as goal
 
 pub returns-in_err-column-clause-overflow : goal.returns-in_err-column-clause-overflow
@@ -15,3 +16,12 @@ returns-in_err-column-clause-overflow g c =
 pub returns-in-Err-clause-overflow : goal.returns-in-Err-clause-overflow
 returns-in-Err-clause-overflow g c =
     by_stopper (value_at c.column.new.out) (rw (c.requires.rates.same_matrix, c.requires.rates.same_basics) at c.in_ok-column.ensures.direction) c.in-Err.ensures.refused
+
+pub returns-in_err-column-clause-rates : goal.returns-in_err-column-clause-rates
+returns-in_err-column-clause-rates g c = kept_by c.requires.rates c.column.ensures.same_matrix c.column.ensures.same_basics c.column.ensures.waypoints
+
+pub returns-in-Ok-clause-rates : goal.returns-in-Ok-clause-rates
+returns-in-Ok-clause-rates g c = kept_by c.requires.rates c.column.ensures.same_matrix c.column.ensures.same_basics c.column.ensures.waypoints
+
+pub returns-in-Err-clause-rates : goal.returns-in-Err-clause-rates
+returns-in-Err-clause-rates g c = kept_by c.requires.rates c.column.ensures.same_matrix c.column.ensures.same_basics c.column.ensures.waypoints

@@ -2,20 +2,19 @@ use Rattle.std.proofs.Common.{◌-◌, refl, sym, subst, ◌∙◌, arith}
 use Rattle.std.specs.Prelude.{IsTrue}
 use Rattle.std.proofs.lemmas.Result.{err_from_is_err_and}
 use Rattle.lp_definitions.specs.LinearProgram.{value_at}
-use Rattle.lp_definitions.specs.Basis.{basics_of}
 use Rattle.path_definitions.specs.Path.{after}
 use Rattle.basis_values.specs.Motions.{may_move}
 use Rattle.bounded_primal.specs.Moves.{move_by}
-use Rattle.basis_values.proofs.Covered.{keeps_same}
 use Rattle.para_objective.proofs.FaceFacts.{face_done, feasible, nonbasic, may, face_ends, face_moves, face_keeps, face_pivot, face_by_stopper, face_enters}
 use Rattle.para_objective.proofs.FaceWalk.{turn_stops}
+use Rattle.basis_values.proofs.Kept.{kept_same}
 use Rattle.para_objective.proofs.faces.face_turn.Goals as goal
 
 pub returns-in_default-clause-turn : goal.returns-in_default-clause-turn
 returns-in_default-clause-turn g c = face_done c.args.lp.now c.args.run.now.row c.requires.lawful c.requires.row c.requires.free c.args.theta c.args.basis.now (record { is_basis = c.requires.rates.is_basis; nonsingular = c.requires.rates.nonsingular }) (value_at c.args.point.now) c.requires.point c.requires.optimal (value_at c.args.change.now) c.requires.change c.in_default.ensures
 
-pub returns-in_default-clause-waypoints : goal.returns-in_default-clause-waypoints
-returns-in_default-clause-waypoints g c = keeps_same c.args.lp.now.matrix (basics_of c.args.basis.now) (g.R.Rates.waypoints c.args.rates.now)
+pub returns-in_default-clause-rates : goal.returns-in_default-clause-rates
+returns-in_default-clause-rates g c = kept_same (g.R.Rates.waypoints c.args.rates.now) c.requires.rates
 
 pub rises-up-requires-clause-variable : goal.rises-up-requires-clause-variable
 rises-up-requires-clause-variable g c = (nonbasic c.args.lp.now c.args.run.now.row c.requires.lawful c.requires.row c.requires.free c.args.theta c.args.basis.now (record { is_basis = c.requires.rates.is_basis; nonsingular = c.requires.rates.nonsingular }) (value_at c.args.point.now) c.requires.point c.requires.optimal (value_at c.args.change.now) c.requires.change c.in-Some.q c.in-Some.ensures).0

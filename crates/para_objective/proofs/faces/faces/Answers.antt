@@ -15,7 +15,7 @@ returns-in_err-face_turn-clause-found g c =
 
 pub returns-in_err-face_turn-clause-waypoints : goal.returns-in_err-face_turn-clause-waypoints
 returns-in_err-face_turn-clause-waypoints g c =
-    any_follows c.args.lp.now c.args.run.now c.args.theta c.args.basis.now c.args.begun (g.R.Rates.waypoints c.args.rates.now) c.turns.basis (g.R.Rates.waypoints c.face_turn.new.rates) c.turns.steps (any_later c.args.lp.now c.args.run.now c.args.theta c.args.basis.now c.args.begun (g.R.Rates.waypoints c.args.rates.now) c.turns.basis (g.R.Rates.waypoints c.turns.rates) c.turns.steps c.turns.invariant.any (g.R.Rates.waypoints c.face_turn.new.rates) c.in_err-face_turn.ensures.waypoints) c.turns.invariant.reach.within
+    any_follows c.args.lp.now c.args.run.now c.args.theta c.args.basis.now c.args.begun (g.R.Rates.waypoints c.args.rates.now) c.turns.basis (g.R.Rates.waypoints c.face_turn.new.rates) c.turns.steps (any_later c.args.lp.now c.args.run.now c.args.theta c.args.basis.now c.args.begun (g.R.Rates.waypoints c.args.rates.now) c.turns.basis (g.R.Rates.waypoints c.turns.rates) c.turns.steps c.turns.invariant.any (g.R.Rates.waypoints c.face_turn.new.rates) c.in_err-face_turn.ensures.rates.1) c.turns.invariant.reach.within
 
 pub returns-in-Done-clause-found : goal.returns-in-Done-clause-found
 returns-in-Done-clause-found g c =
@@ -27,11 +27,11 @@ returns-in-Done-clause-found g c =
       point = c.turns.invariant.point;
       prices = c.turns.invariant.prices;
       change = c.turns.invariant.change;
-      any = any_later c.args.lp.now c.args.run.now c.args.theta c.args.basis.now c.args.begun (g.R.Rates.waypoints c.args.rates.now) c.turns.basis (g.R.Rates.waypoints c.turns.rates) c.turns.steps c.turns.invariant.any (g.R.Rates.waypoints c.face_turn.new.rates) c.in_ok-face_turn.ensures.waypoints;
+      any = any_later c.args.lp.now c.args.run.now c.args.theta c.args.basis.now c.args.begun (g.R.Rates.waypoints c.args.rates.now) c.turns.basis (g.R.Rates.waypoints c.turns.rates) c.turns.steps c.turns.invariant.any (g.R.Rates.waypoints c.face_turn.new.rates) c.in_ok-face_turn.ensures.rates.1;
     }
 
 pub returns-in-Done-clause-waypoints : goal.returns-in-Done-clause-waypoints
-returns-in-Done-clause-waypoints g c = any_follows c.args.lp.now c.args.run.now c.args.theta c.args.basis.now c.args.begun (g.R.Rates.waypoints c.args.rates.now) c.turns.basis (g.R.Rates.waypoints c.face_turn.new.rates) c.turns.steps (any_later c.args.lp.now c.args.run.now c.args.theta c.args.basis.now c.args.begun (g.R.Rates.waypoints c.args.rates.now) c.turns.basis (g.R.Rates.waypoints c.turns.rates) c.turns.steps c.turns.invariant.any (g.R.Rates.waypoints c.face_turn.new.rates) c.in_ok-face_turn.ensures.waypoints) c.turns.invariant.reach.within
+returns-in-Done-clause-waypoints g c = any_follows c.args.lp.now c.args.run.now c.args.theta c.args.basis.now c.args.begun (g.R.Rates.waypoints c.args.rates.now) c.turns.basis (g.R.Rates.waypoints c.face_turn.new.rates) c.turns.steps (any_later c.args.lp.now c.args.run.now c.args.theta c.args.basis.now c.args.begun (g.R.Rates.waypoints c.args.rates.now) c.turns.basis (g.R.Rates.waypoints c.turns.rates) c.turns.steps c.turns.invariant.any (g.R.Rates.waypoints c.face_turn.new.rates) c.in_ok-face_turn.ensures.rates.1) c.turns.invariant.reach.within
 
 pub returns-in-Ends-clause-found : goal.returns-in-Ends-clause-found
 returns-in-Ends-clause-found g c =
@@ -40,11 +40,11 @@ returns-in-Ends-clause-found g c =
       steps = c.turns.steps;
       reach = c.turns.invariant.reach;
       ends = ends;
-      any = any_later c.args.lp.now c.args.run.now c.args.theta c.args.basis.now c.args.begun (g.R.Rates.waypoints c.args.rates.now) c.turns.basis (g.R.Rates.waypoints c.turns.rates) c.turns.steps c.turns.invariant.any (g.R.Rates.waypoints c.face_turn.new.rates) c.in_ok-face_turn.ensures.waypoints;
+      any = any_later c.args.lp.now c.args.run.now c.args.theta c.args.basis.now c.args.begun (g.R.Rates.waypoints c.args.rates.now) c.turns.basis (g.R.Rates.waypoints c.turns.rates) c.turns.steps c.turns.invariant.any (g.R.Rates.waypoints c.face_turn.new.rates) c.in_ok-face_turn.ensures.rates.1;
     }
 
 pub returns-in-Ends-clause-waypoints : goal.returns-in-Ends-clause-waypoints
-returns-in-Ends-clause-waypoints g c = any_follows c.args.lp.now c.args.run.now c.args.theta c.args.basis.now c.args.begun (g.R.Rates.waypoints c.args.rates.now) c.turns.basis (g.R.Rates.waypoints c.face_turn.new.rates) c.turns.steps (any_later c.args.lp.now c.args.run.now c.args.theta c.args.basis.now c.args.begun (g.R.Rates.waypoints c.args.rates.now) c.turns.basis (g.R.Rates.waypoints c.turns.rates) c.turns.steps c.turns.invariant.any (g.R.Rates.waypoints c.face_turn.new.rates) c.in_ok-face_turn.ensures.waypoints) c.turns.invariant.reach.within
+returns-in-Ends-clause-waypoints g c = any_follows c.args.lp.now c.args.run.now c.args.theta c.args.basis.now c.args.begun (g.R.Rates.waypoints c.args.rates.now) c.turns.basis (g.R.Rates.waypoints c.face_turn.new.rates) c.turns.steps (any_later c.args.lp.now c.args.run.now c.args.theta c.args.basis.now c.args.begun (g.R.Rates.waypoints c.args.rates.now) c.turns.basis (g.R.Rates.waypoints c.turns.rates) c.turns.steps c.turns.invariant.any (g.R.Rates.waypoints c.face_turn.new.rates) c.in_ok-face_turn.ensures.rates.1) c.turns.invariant.reach.within
 
 pub take_step-requires-clause-step : goal.take_step-requires-clause-step
 take_step-requires-clause-step g c =
@@ -56,24 +56,24 @@ returns-in_err-take_step-in-Moves-clause-found g c =
     let p = err_from_is_err_and c.from_residual-in_err-take_step-in-Moves.result c.from_residual-in_err-take_step-in-Moves.ensures.1 in
     let moves = rw c.in-Moves.is at c.in_ok-face_turn.ensures.turn in
     rw (p.1, p.2, c.in_err-take_step-in-Moves.ensures.unchanged)
-    (any_stops c.args.lp.now c.args.run.now c.args.theta c.args.basis.now c.args.begun (g.R.Rates.waypoints c.args.rates.now) c.turns.basis (g.R.Rates.waypoints c.face_turn.new.rates) c.turns.steps (any_later c.args.lp.now c.args.run.now c.args.theta c.args.basis.now c.args.begun (g.R.Rates.waypoints c.args.rates.now) c.turns.basis (g.R.Rates.waypoints c.turns.rates) c.turns.steps c.turns.invariant.any (g.R.Rates.waypoints c.face_turn.new.rates) c.in_ok-face_turn.ensures.waypoints) (g.R.Rates.waypoints c.take_step.new.rates) _ c.turns.invariant.reach.within (step_stops c.args.lp.now c.args.run.now c.requires.no_change c.args.theta c.turns.basis c.turns.steps (g.R.Rates.waypoints c.face_turn.new.rates) (g.R.Rates.waypoints c.take_step.new.rates) (value_at c.turns.point) (value_at c.face_turn.new.direction) c.in-Moves.q c.in-Moves.by moves c.in_err-take_step-in-Moves.field-0.0 c.in_err-take_step-in-Moves.ensures.overflow))
+    (any_stops c.args.lp.now c.args.run.now c.args.theta c.args.basis.now c.args.begun (g.R.Rates.waypoints c.args.rates.now) c.turns.basis (g.R.Rates.waypoints c.face_turn.new.rates) c.turns.steps (any_later c.args.lp.now c.args.run.now c.args.theta c.args.basis.now c.args.begun (g.R.Rates.waypoints c.args.rates.now) c.turns.basis (g.R.Rates.waypoints c.turns.rates) c.turns.steps c.turns.invariant.any (g.R.Rates.waypoints c.face_turn.new.rates) c.in_ok-face_turn.ensures.rates.1) (g.R.Rates.waypoints c.take_step.new.rates) _ c.turns.invariant.reach.within (step_stops c.args.lp.now c.args.run.now c.requires.no_change c.args.theta c.turns.basis c.turns.steps (g.R.Rates.waypoints c.face_turn.new.rates) (g.R.Rates.waypoints c.take_step.new.rates) (value_at c.turns.point) (value_at c.face_turn.new.direction) c.in-Moves.q c.in-Moves.by moves c.in_err-take_step-in-Moves.field-0.0 c.in_err-take_step-in-Moves.ensures.overflow))
 
 pub returns-in_err-take_step-in-Moves-clause-waypoints : goal.returns-in_err-take_step-in-Moves-clause-waypoints
 returns-in_err-take_step-in-Moves-clause-waypoints g c =
     rw c.in_err-take_step-in-Moves.ensures.unchanged
-    (any_follows c.args.lp.now c.args.run.now c.args.theta c.args.basis.now c.args.begun (g.R.Rates.waypoints c.args.rates.now) c.turns.basis (g.R.Rates.waypoints c.take_step.new.rates) c.turns.steps (any_later c.args.lp.now c.args.run.now c.args.theta c.args.basis.now c.args.begun (g.R.Rates.waypoints c.args.rates.now) c.turns.basis (g.R.Rates.waypoints c.face_turn.new.rates) c.turns.steps (any_later c.args.lp.now c.args.run.now c.args.theta c.args.basis.now c.args.begun (g.R.Rates.waypoints c.args.rates.now) c.turns.basis (g.R.Rates.waypoints c.turns.rates) c.turns.steps c.turns.invariant.any (g.R.Rates.waypoints c.face_turn.new.rates) c.in_ok-face_turn.ensures.waypoints) (g.R.Rates.waypoints c.take_step.new.rates) (rw c.in_err-take_step-in-Moves.ensures.unchanged at c.in_err-take_step-in-Moves.ensures.waypoints)) c.turns.invariant.reach.within)
+    (any_follows c.args.lp.now c.args.run.now c.args.theta c.args.basis.now c.args.begun (g.R.Rates.waypoints c.args.rates.now) c.turns.basis (g.R.Rates.waypoints c.take_step.new.rates) c.turns.steps (any_later c.args.lp.now c.args.run.now c.args.theta c.args.basis.now c.args.begun (g.R.Rates.waypoints c.args.rates.now) c.turns.basis (g.R.Rates.waypoints c.face_turn.new.rates) c.turns.steps (any_later c.args.lp.now c.args.run.now c.args.theta c.args.basis.now c.args.begun (g.R.Rates.waypoints c.args.rates.now) c.turns.basis (g.R.Rates.waypoints c.turns.rates) c.turns.steps c.turns.invariant.any (g.R.Rates.waypoints c.face_turn.new.rates) c.in_ok-face_turn.ensures.rates.1) (g.R.Rates.waypoints c.take_step.new.rates) (rw c.in_err-take_step-in-Moves.ensures.unchanged at c.in_err-take_step-in-Moves.ensures.waypoints)) c.turns.invariant.reach.within)
 
 pub turns-preserved : goal.turns-preserved
 turns-preserved g c =
     let moves = rw c.in-Moves.is at c.in_ok-face_turn.ensures.turn in
     record {
-      rates = c.in_ok-fill_rows.ensures.rates;
+      rates = c.in_ok-fill_rows.ensures.rates.0;
       point = c.in_ok-take_step-in-Moves.ensures.point;
       prices = c.in_ok-fill_rows.ensures.prices;
       change = c.in_ok-fill_rows.ensures.change;
       optimal = subst (IsOptimalBasis (family c.args.lp.now c.args.run.now c.args.theta)) (sym c.in_ok-take_step-in-Moves.ensures.basis) moves.keeps;
       reach = faces_more c.args.lp.now c.args.run.now c.args.theta c.args.basis.now c.args.begun c.turns.basis c.take_step.new.basis c.turns.steps (move_by c.in-Moves.q c.in-Moves.by) c.turns.invariant.reach moves.moves moves.was_left c.in_ok-take_step-in-Moves.ensures.basis;
-      any = any_later c.args.lp.now c.args.run.now c.args.theta c.args.basis.now c.args.begun (g.R.Rates.waypoints c.args.rates.now) c.take_step.new.basis (g.R.Rates.waypoints c.take_step.new.rates) (c.turns.steps + 1) (any_more c.args.lp.now c.args.run.now c.args.theta c.args.basis.now c.args.begun (g.R.Rates.waypoints c.args.rates.now) c.turns.basis (g.R.Rates.waypoints c.face_turn.new.rates) c.turns.steps (any_later c.args.lp.now c.args.run.now c.args.theta c.args.basis.now c.args.begun (g.R.Rates.waypoints c.args.rates.now) c.turns.basis (g.R.Rates.waypoints c.turns.rates) c.turns.steps c.turns.invariant.any (g.R.Rates.waypoints c.face_turn.new.rates) c.in_ok-face_turn.ensures.waypoints) c.take_step.new.basis (g.R.Rates.waypoints c.face_turn.new.rates) (g.R.Rates.waypoints c.take_step.new.rates) (move_by c.in-Moves.q c.in-Moves.by) moves.moves c.in_ok-take_step-in-Moves.ensures.basis (keeps_same c.args.lp.now.matrix (basics_of c.turns.basis) (g.R.Rates.waypoints c.face_turn.new.rates)) c.in_ok-take_step-in-Moves.ensures.waypoints) (g.R.Rates.waypoints c.fill_rows.new.rates) c.in_ok-fill_rows.ensures.waypoints;
+      any = any_later c.args.lp.now c.args.run.now c.args.theta c.args.basis.now c.args.begun (g.R.Rates.waypoints c.args.rates.now) c.take_step.new.basis (g.R.Rates.waypoints c.take_step.new.rates) (c.turns.steps + 1) (any_more c.args.lp.now c.args.run.now c.args.theta c.args.basis.now c.args.begun (g.R.Rates.waypoints c.args.rates.now) c.turns.basis (g.R.Rates.waypoints c.face_turn.new.rates) c.turns.steps (any_later c.args.lp.now c.args.run.now c.args.theta c.args.basis.now c.args.begun (g.R.Rates.waypoints c.args.rates.now) c.turns.basis (g.R.Rates.waypoints c.turns.rates) c.turns.steps c.turns.invariant.any (g.R.Rates.waypoints c.face_turn.new.rates) c.in_ok-face_turn.ensures.rates.1) c.take_step.new.basis (g.R.Rates.waypoints c.face_turn.new.rates) (g.R.Rates.waypoints c.take_step.new.rates) (move_by c.in-Moves.q c.in-Moves.by) moves.moves c.in_ok-take_step-in-Moves.ensures.basis (keeps_same c.args.lp.now.matrix (basics_of c.turns.basis) (g.R.Rates.waypoints c.face_turn.new.rates)) c.in_ok-take_step-in-Moves.ensures.waypoints) (g.R.Rates.waypoints c.fill_rows.new.rates) c.in_ok-fill_rows.ensures.rates.1;
     }
 
 pub returns-in_err-fill_rows-clause-found : goal.returns-in_err-fill_rows-clause-found
@@ -82,11 +82,11 @@ returns-in_err-fill_rows-clause-found g c =
     let moves = rw c.in-Moves.is at c.in_ok-face_turn.ensures.turn in
     let left = moves.was_left in
     rw (p.1, p.2)
-    (any_stops c.args.lp.now c.args.run.now c.args.theta c.args.basis.now c.args.begun (g.R.Rates.waypoints c.args.rates.now) c.take_step.new.basis (g.R.Rates.waypoints c.take_step.new.rates) (c.turns.steps + 1) (any_more c.args.lp.now c.args.run.now c.args.theta c.args.basis.now c.args.begun (g.R.Rates.waypoints c.args.rates.now) c.turns.basis (g.R.Rates.waypoints c.face_turn.new.rates) c.turns.steps (any_later c.args.lp.now c.args.run.now c.args.theta c.args.basis.now c.args.begun (g.R.Rates.waypoints c.args.rates.now) c.turns.basis (g.R.Rates.waypoints c.turns.rates) c.turns.steps c.turns.invariant.any (g.R.Rates.waypoints c.face_turn.new.rates) c.in_ok-face_turn.ensures.waypoints) c.take_step.new.basis (g.R.Rates.waypoints c.face_turn.new.rates) (g.R.Rates.waypoints c.take_step.new.rates) (move_by c.in-Moves.q c.in-Moves.by) moves.moves c.in_ok-take_step-in-Moves.ensures.basis (keeps_same c.args.lp.now.matrix (basics_of c.turns.basis) (g.R.Rates.waypoints c.face_turn.new.rates)) c.in_ok-take_step-in-Moves.ensures.waypoints) (g.R.Rates.waypoints c.fill_rows.new.rates) _ (omega (arith, left))
+    (any_stops c.args.lp.now c.args.run.now c.args.theta c.args.basis.now c.args.begun (g.R.Rates.waypoints c.args.rates.now) c.take_step.new.basis (g.R.Rates.waypoints c.take_step.new.rates) (c.turns.steps + 1) (any_more c.args.lp.now c.args.run.now c.args.theta c.args.basis.now c.args.begun (g.R.Rates.waypoints c.args.rates.now) c.turns.basis (g.R.Rates.waypoints c.face_turn.new.rates) c.turns.steps (any_later c.args.lp.now c.args.run.now c.args.theta c.args.basis.now c.args.begun (g.R.Rates.waypoints c.args.rates.now) c.turns.basis (g.R.Rates.waypoints c.turns.rates) c.turns.steps c.turns.invariant.any (g.R.Rates.waypoints c.face_turn.new.rates) c.in_ok-face_turn.ensures.rates.1) c.take_step.new.basis (g.R.Rates.waypoints c.face_turn.new.rates) (g.R.Rates.waypoints c.take_step.new.rates) (move_by c.in-Moves.q c.in-Moves.by) moves.moves c.in_ok-take_step-in-Moves.ensures.basis (keeps_same c.args.lp.now.matrix (basics_of c.turns.basis) (g.R.Rates.waypoints c.face_turn.new.rates)) c.in_ok-take_step-in-Moves.ensures.waypoints) (g.R.Rates.waypoints c.fill_rows.new.rates) _ (omega (arith, left))
     (rows_stop c.args.lp.now c.args.run.now c.requires.no_change c.args.theta c.take_step.new.basis (c.args.run.now.limit - (c.turns.steps + 1)) (g.R.Rates.waypoints c.take_step.new.rates) (g.R.Rates.waypoints c.fill_rows.new.rates) c.in_err-fill_rows.field-0.0 c.in_err-fill_rows.ensures.overflow))
 
 pub returns-in_err-fill_rows-clause-waypoints : goal.returns-in_err-fill_rows-clause-waypoints
 returns-in_err-fill_rows-clause-waypoints g c =
     let moves = rw c.in-Moves.is at c.in_ok-face_turn.ensures.turn in
     let left = moves.was_left in
-    any_follows c.args.lp.now c.args.run.now c.args.theta c.args.basis.now c.args.begun (g.R.Rates.waypoints c.args.rates.now) c.take_step.new.basis (g.R.Rates.waypoints c.fill_rows.new.rates) (c.turns.steps + 1) (any_later c.args.lp.now c.args.run.now c.args.theta c.args.basis.now c.args.begun (g.R.Rates.waypoints c.args.rates.now) c.take_step.new.basis (g.R.Rates.waypoints c.take_step.new.rates) (c.turns.steps + 1) (any_more c.args.lp.now c.args.run.now c.args.theta c.args.basis.now c.args.begun (g.R.Rates.waypoints c.args.rates.now) c.turns.basis (g.R.Rates.waypoints c.face_turn.new.rates) c.turns.steps (any_later c.args.lp.now c.args.run.now c.args.theta c.args.basis.now c.args.begun (g.R.Rates.waypoints c.args.rates.now) c.turns.basis (g.R.Rates.waypoints c.turns.rates) c.turns.steps c.turns.invariant.any (g.R.Rates.waypoints c.face_turn.new.rates) c.in_ok-face_turn.ensures.waypoints) c.take_step.new.basis (g.R.Rates.waypoints c.face_turn.new.rates) (g.R.Rates.waypoints c.take_step.new.rates) (move_by c.in-Moves.q c.in-Moves.by) moves.moves c.in_ok-take_step-in-Moves.ensures.basis (keeps_same c.args.lp.now.matrix (basics_of c.turns.basis) (g.R.Rates.waypoints c.face_turn.new.rates)) c.in_ok-take_step-in-Moves.ensures.waypoints) (g.R.Rates.waypoints c.fill_rows.new.rates) c.in_err-fill_rows.ensures.waypoints) (omega (arith, left))
+    any_follows c.args.lp.now c.args.run.now c.args.theta c.args.basis.now c.args.begun (g.R.Rates.waypoints c.args.rates.now) c.take_step.new.basis (g.R.Rates.waypoints c.fill_rows.new.rates) (c.turns.steps + 1) (any_later c.args.lp.now c.args.run.now c.args.theta c.args.basis.now c.args.begun (g.R.Rates.waypoints c.args.rates.now) c.take_step.new.basis (g.R.Rates.waypoints c.take_step.new.rates) (c.turns.steps + 1) (any_more c.args.lp.now c.args.run.now c.args.theta c.args.basis.now c.args.begun (g.R.Rates.waypoints c.args.rates.now) c.turns.basis (g.R.Rates.waypoints c.face_turn.new.rates) c.turns.steps (any_later c.args.lp.now c.args.run.now c.args.theta c.args.basis.now c.args.begun (g.R.Rates.waypoints c.args.rates.now) c.turns.basis (g.R.Rates.waypoints c.turns.rates) c.turns.steps c.turns.invariant.any (g.R.Rates.waypoints c.face_turn.new.rates) c.in_ok-face_turn.ensures.rates.1) c.take_step.new.basis (g.R.Rates.waypoints c.face_turn.new.rates) (g.R.Rates.waypoints c.take_step.new.rates) (move_by c.in-Moves.q c.in-Moves.by) moves.moves c.in_ok-take_step-in-Moves.ensures.basis (keeps_same c.args.lp.now.matrix (basics_of c.turns.basis) (g.R.Rates.waypoints c.face_turn.new.rates)) c.in_ok-take_step-in-Moves.ensures.waypoints) (g.R.Rates.waypoints c.fill_rows.new.rates) c.in_err-fill_rows.ensures.rates.1) (omega (arith, left))

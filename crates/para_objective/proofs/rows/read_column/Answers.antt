@@ -1,20 +1,13 @@
 use Rattle.basis_values.proofs.TermLaws.{IfErr-map}
-use Rattle.bounded_primal.proofs.TurnCalls.{has_same}
-use Rattle.basis_values.proofs.RatesStops.{column_refused, keeps_at}
+use Rattle.basis_values.proofs.RatesStops.{column_refused}
+use Rattle.basis_values.proofs.Kept.{kept_by}
 use Rattle.para_objective.proofs.rows.read_column.Goals as goal
 
 pub column-requires-clause-nonbasic : goal.column-requires-clause-nonbasic
 column-requires-clause-nonbasic g c = rw (c.requires.rates.same_matrix, c.requires.rates.same_basics) c.requires.nonbasic
 
 pub returns-clause-rates : goal.returns-clause-rates
-returns-clause-rates g c =
-    has_same c.args.lp.now c.args.basis.now (g.R.Rates.matrix c.args.rates.now) (g.R.Rates.matrix c.column.new.self) (g.R.Rates.basics c.args.rates.now) (g.R.Rates.basics c.column.new.self)
-    c.requires.rates c.column.ensures.same_matrix c.column.ensures.same_basics
-
-pub returns-clause-waypoints : goal.returns-clause-waypoints
-returns-clause-waypoints g c =
-    keeps_at c.args.lp.now c.args.basis.now (g.R.Rates.matrix c.args.rates.now) (g.R.Rates.basics c.args.rates.now) (g.R.Rates.basics c.column.new.self) (g.R.Rates.waypoints c.args.rates.now) (g.R.Rates.waypoints c.column.new.self)
-    c.requires.rates c.column.ensures.same_basics c.column.ensures.waypoints
+returns-clause-rates g c = kept_by c.requires.rates c.column.ensures.same_matrix c.column.ensures.same_basics c.column.ensures.waypoints
 
 pub returns-clause-overflow : goal.returns-clause-overflow
 returns-clause-overflow g c =

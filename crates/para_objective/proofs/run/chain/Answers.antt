@@ -15,11 +15,11 @@ returns-in_err-fill_rows-clause-stops g c =
 
 pub returns-in_err-fill_rows-clause-waypoints : goal.returns-in_err-fill_rows-clause-waypoints
 returns-in_err-fill_rows-clause-waypoints g c =
-    follows_any c.args.lp.now c.args.run.now c.args.basis.now c.args.begun (g.R.Rates.waypoints c.args.rates.now) c.args.run.now.from c.args.basis.now (g.R.Rates.waypoints c.fill_rows.new.rates) c.args.begun (opens_first_any c.args.lp.now c.args.run.now c.args.basis.now c.args.begun (g.R.Rates.waypoints c.args.rates.now) (g.R.Rates.waypoints c.fill_rows.new.rates) c.in_err-fill_rows.ensures.waypoints) c.requires.within
+    follows_any c.args.lp.now c.args.run.now c.args.basis.now c.args.begun (g.R.Rates.waypoints c.args.rates.now) c.args.run.now.from c.args.basis.now (g.R.Rates.waypoints c.fill_rows.new.rates) c.args.begun (opens_first_any c.args.lp.now c.args.run.now c.args.basis.now c.args.begun (g.R.Rates.waypoints c.args.rates.now) (g.R.Rates.waypoints c.fill_rows.new.rates) c.in_err-fill_rows.ensures.rates.1) c.requires.within
 
 pub parts-init : goal.parts-init
 parts-init g c = record {
-  rates = c.in_ok-fill_rows.ensures.rates;
+  rates = c.in_ok-fill_rows.ensures.rates.0;
   point = c.requires.point;
   prices = c.in_ok-fill_rows.ensures.prices;
   change = c.in_ok-fill_rows.ensures.change;
@@ -27,7 +27,7 @@ parts-init g c = record {
   forward = c.requires.forward;
   within = c.requires.within;
   begins = subst (λ xs. Begins c.args.lp.now c.args.run.now c.args.basis.now c.args.begun (map part_of xs) c.args.run.now.from c.args.basis.now c.args.begun) (sym c.new-parts.ensures.items) (parts_begin c.args.lp.now c.args.run.now c.args.basis.now c.args.begun);
-  any = opens_first_any c.args.lp.now c.args.run.now c.args.basis.now c.args.begun (g.R.Rates.waypoints c.args.rates.now) (g.R.Rates.waypoints c.fill_rows.new.rates) c.in_ok-fill_rows.ensures.waypoints;
+  any = opens_first_any c.args.lp.now c.args.run.now c.args.basis.now c.args.begun (g.R.Rates.waypoints c.args.rates.now) (g.R.Rates.waypoints c.fill_rows.new.rates) c.in_ok-fill_rows.ensures.rates.1;
 }
 
 pub returns-in_err-interval-clause-stops : goal.returns-in_err-interval-clause-stops

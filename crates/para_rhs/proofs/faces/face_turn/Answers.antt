@@ -3,11 +3,10 @@ use Rattle.std.specs.Prelude.{Option, Some, IsSome, not, if◌then◌else◌}
 use Rattle.std.proofs.lemmas.Result.{err_from_is_err_and}
 use Rattle.exact_values.specs.Rational.{ℚ, zero_ℚ}
 use Rattle.evidence_definitions.specs.Formulas.{limit_numbered, number_of_limit}
-use Rattle.lp_definitions.specs.Basis.{basics_of, IsOptimalBasis}
+use Rattle.lp_definitions.specs.Basis.{IsOptimalBasis}
 use Rattle.lp_definitions.specs.LinearProgram.{value_at}
 use Rattle.lp_definitions.specs.declared.Status.{Status}
 use Rattle.lp_definitions.specs.declared.Status.TheVariants.{Ll, Ul}
-use Rattle.lp_laws.proofs.WaypointLaws.{keeps_then}
 use Rattle.lp_model.specs.declared.reports.ParaEnd.{ParaEnd}
 use Rattle.path_definitions.specs.Path.{after}
 use Rattle.postoptimal_definitions.specs.Chain.{FaceEnds, FaceMoves}
@@ -16,7 +15,6 @@ use Rattle.run_calls.specs.Calls.{end_of}
 use Rattle.bounded_primal.specs.Moves.{IsStepBy, move_by, return_by}
 use Rattle.bounded_primal.specs.Turns.{ray_from}
 use Rattle.bounded_primal.specs.declared.moves.Stopper.{Stopper}
-use Rattle.basis_values.proofs.Covered.{keeps_same}
 use Rattle.para_rhs.specs.Breaks.{IsFaceLeaver}
 use Rattle.para_rhs.specs.Cheapest.{cheapest_by, SomeRatioRefused}
 use Rattle.para_rhs.specs.Faces.{IsStuckPast}
@@ -25,6 +23,7 @@ use Rattle.para_rhs.specs.Refusals.{RunRefused}
 use Rattle.para_rhs.specs.declared.breaks.Leaver.{Leaver}
 use Rattle.para_rhs.proofs.FaceEvidence.{of_ratio, point_stops, return_stops}
 use Rattle.para_rhs.proofs.FaceFacts.{face_done, basic, face_ends, face_moves, face_enters, face_pivot, face_limit, face_step, face_keeps}
+use Rattle.basis_values.proofs.Kept.{kept_same, kept_then}
 use Rattle.para_rhs.proofs.faces.face_turn.Goals as goal
 
 pub returns-in-Err-clause-turn : goal.returns-in-Err-clause-turn
@@ -33,14 +32,14 @@ returns-in-Err-clause-turn g c =
     = subst (λ (sh : List ℚ). RunRefused c.args.lp.now sh c.args.basis.now (g.R.Rates.waypoints c.args.rates.now) (g.R.Rates.waypoints c.args.rates.now) c.in-Err.evidence) c.deref.ensures.value (c.in-Err.ensures.overflow (g.R.Rates.waypoints c.args.rates.now) (g.R.Rates.waypoints c.args.rates.now)) in
     refused c.args.run.now.from (Some c.args.theta) (c.args.run.now.limit - c.args.steps)
 
-pub returns-in-Err-clause-waypoints : goal.returns-in-Err-clause-waypoints
-returns-in-Err-clause-waypoints g c = keeps_same c.args.lp.now.matrix (basics_of c.args.basis.now) (g.R.Rates.waypoints c.args.rates.now)
+pub returns-in-Err-clause-rates : goal.returns-in-Err-clause-rates
+returns-in-Err-clause-rates g c = kept_same (g.R.Rates.waypoints c.args.rates.now) c.requires.rates
 
 pub returns-in_default-clause-turn : goal.returns-in_default-clause-turn
 returns-in_default-clause-turn g c = face_done c.args.lp.now c.args.run.now.shift.items c.requires.lawful c.requires.no_change c.args.theta c.args.basis.now (record { is_basis = c.requires.rates.is_basis; nonsingular = c.requires.rates.nonsingular }) (value_at c.args.value.now) (value_at c.args.slope.now) c.requires.point c.requires.slope (subst (λ (o : Option Leaver). IsFaceLeaver c.args.lp.now c.args.run.now.shift.items c.args.theta c.args.basis.now o) c.in_default.is (subst (λ (sh : List ℚ). IsFaceLeaver c.args.lp.now sh c.args.theta c.args.basis.now c.in-Ok.found) c.deref.ensures.value c.in-Ok.ensures.leaver))
 
-pub returns-in_default-clause-waypoints : goal.returns-in_default-clause-waypoints
-returns-in_default-clause-waypoints g c = keeps_same c.args.lp.now.matrix (basics_of c.args.basis.now) (g.R.Rates.waypoints c.args.rates.now)
+pub returns-in_default-clause-rates : goal.returns-in_default-clause-rates
+returns-in_default-clause-rates g c = kept_same (g.R.Rates.waypoints c.args.rates.now) c.requires.rates
 
 pub read_row-requires-clause-basic : goal.read_row-requires-clause-basic
 read_row-requires-clause-basic g c = basic c.args.lp.now c.args.run.now.shift.items c.requires.lawful c.requires.no_change c.args.theta c.args.basis.now (record { is_basis = c.requires.rates.is_basis; nonsingular = c.requires.rates.nonsingular }) (value_at c.args.value.now) (value_at c.args.slope.now) c.requires.point c.requires.slope c.in-Some.leaver (subst (λ (o : Option Leaver). IsFaceLeaver c.args.lp.now c.args.run.now.shift.items c.args.theta c.args.basis.now o) c.in-Some.is (subst (λ (sh : List ℚ). IsFaceLeaver c.args.lp.now sh c.args.theta c.args.basis.now c.in-Ok.found) c.deref.ensures.value c.in-Ok.ensures.leaver))
@@ -91,12 +90,12 @@ returns-in_err-by-clause-turn g c =
     let p = err_from_is_err_and c.from_residual-in_err-by.result c.from_residual-in_err-by.ensures.1 in
     rw (p.1, p.2)
     (return_stops c.args.lp.now c.args.run.now.shift.items c.requires.lawful c.requires.no_change c.args.theta c.args.basis.now c.args.run.now.from (c.args.run.now.limit - c.args.steps) (g.R.Rates.waypoints c.args.rates.now) (g.R.Rates.waypoints c.return_of.new.rates) (record { is_basis = c.requires.rates.is_basis; nonsingular = c.requires.rates.nonsingular }) (value_at c.args.value.now) (value_at c.args.slope.now) c.requires.point c.requires.slope
-    (g.R.Rates.waypoints c.read_row.new.rates) c.in_ok-read_row.ensures.waypoints c.in-Some-chosen.q c.in-Some.leaver.r c.limit_broken.result (basic c.args.lp.now c.args.run.now.shift.items c.requires.lawful c.requires.no_change c.args.theta c.args.basis.now (record { is_basis = c.requires.rates.is_basis; nonsingular = c.requires.rates.nonsingular }) (value_at c.args.value.now) (value_at c.args.slope.now) c.requires.point c.requires.slope c.in-Some.leaver (subst (λ (o : Option Leaver). IsFaceLeaver c.args.lp.now c.args.run.now.shift.items c.args.theta c.args.basis.now o) c.in-Some.is (subst (λ (sh : List ℚ). IsFaceLeaver c.args.lp.now sh c.args.theta c.args.basis.now c.in-Ok.found) c.deref.ensures.value c.in-Ok.ensures.leaver))) (face_enters c.args.lp.now c.args.run.now.shift.items c.requires.lawful c.requires.no_change c.args.theta c.args.basis.now (record { is_basis = c.requires.rates.is_basis; nonsingular = c.requires.rates.nonsingular }) (value_at c.args.value.now) (value_at c.args.slope.now) c.requires.point c.requires.slope c.in-Some.leaver (subst (λ (o : Option Leaver). IsFaceLeaver c.args.lp.now c.args.run.now.shift.items c.args.theta c.args.basis.now o) c.in-Some.is (subst (λ (sh : List ℚ). IsFaceLeaver c.args.lp.now sh c.args.theta c.args.basis.now c.in-Ok.found) c.deref.ensures.value c.in-Ok.ensures.leaver)) (value_at c.args.prices.now) (value_at c.read_row.new.out) c.requires.prices c.in_ok-read_row.ensures.row c.in-Some-chosen.q (sym (subst (λ (b : Bool). c.in-Ok-cheapest.chosen ≡ cheapest_by c.args.lp.now c.args.basis.now (value_at c.args.prices.now) (value_at c.read_row.new.out) b) c.is_lower-below.ensures c.in-Ok-cheapest.ensures.cheapest) ∙ c.in-Some-chosen.is) c.requires.optimal)
+    (g.R.Rates.waypoints c.read_row.new.rates) c.in_ok-read_row.ensures.rates.1 c.in-Some-chosen.q c.in-Some.leaver.r c.limit_broken.result (basic c.args.lp.now c.args.run.now.shift.items c.requires.lawful c.requires.no_change c.args.theta c.args.basis.now (record { is_basis = c.requires.rates.is_basis; nonsingular = c.requires.rates.nonsingular }) (value_at c.args.value.now) (value_at c.args.slope.now) c.requires.point c.requires.slope c.in-Some.leaver (subst (λ (o : Option Leaver). IsFaceLeaver c.args.lp.now c.args.run.now.shift.items c.args.theta c.args.basis.now o) c.in-Some.is (subst (λ (sh : List ℚ). IsFaceLeaver c.args.lp.now sh c.args.theta c.args.basis.now c.in-Ok.found) c.deref.ensures.value c.in-Ok.ensures.leaver))) (face_enters c.args.lp.now c.args.run.now.shift.items c.requires.lawful c.requires.no_change c.args.theta c.args.basis.now (record { is_basis = c.requires.rates.is_basis; nonsingular = c.requires.rates.nonsingular }) (value_at c.args.value.now) (value_at c.args.slope.now) c.requires.point c.requires.slope c.in-Some.leaver (subst (λ (o : Option Leaver). IsFaceLeaver c.args.lp.now c.args.run.now.shift.items c.args.theta c.args.basis.now o) c.in-Some.is (subst (λ (sh : List ℚ). IsFaceLeaver c.args.lp.now sh c.args.theta c.args.basis.now c.in-Ok.found) c.deref.ensures.value c.in-Ok.ensures.leaver)) (value_at c.args.prices.now) (value_at c.read_row.new.out) c.requires.prices c.in_ok-read_row.ensures.row c.in-Some-chosen.q (sym (subst (λ (b : Bool). c.in-Ok-cheapest.chosen ≡ cheapest_by c.args.lp.now c.args.basis.now (value_at c.args.prices.now) (value_at c.read_row.new.out) b) c.is_lower-below.ensures c.in-Ok-cheapest.ensures.cheapest) ∙ c.in-Some-chosen.is) c.requires.optimal)
     (subst (λ (to : Status). IsRhsFace c.args.lp.now c.args.run.now.shift.items c.args.theta c.args.basis.now (FaceMoves (record { enters = c.in-Some-chosen.q; leaves = c.in-Some.leaver.r; to = to }))) (sym (c.limit_broken.ensures ∙ ap (λ (b : Bool). if b then Ll else Ul) c.is_lower-below.ensures)) (face_moves c.args.lp.now c.args.run.now.shift.items c.requires.lawful c.requires.no_change c.args.theta c.args.basis.now (record { is_basis = c.requires.rates.is_basis; nonsingular = c.requires.rates.nonsingular }) (value_at c.args.value.now) (value_at c.args.slope.now) c.requires.point c.requires.slope c.in-Some.leaver (subst (λ (o : Option Leaver). IsFaceLeaver c.args.lp.now c.args.run.now.shift.items c.args.theta c.args.basis.now o) c.in-Some.is (subst (λ (sh : List ℚ). IsFaceLeaver c.args.lp.now sh c.args.theta c.args.basis.now c.in-Ok.found) c.deref.ensures.value c.in-Ok.ensures.leaver)) (value_at c.args.prices.now) (value_at c.read_row.new.out) c.requires.prices c.in_ok-read_row.ensures.row c.in-Some-chosen.q (sym (subst (λ (b : Bool). c.in-Ok-cheapest.chosen ≡ cheapest_by c.args.lp.now c.args.basis.now (value_at c.args.prices.now) (value_at c.read_row.new.out) b) c.is_lower-below.ensures c.in-Ok-cheapest.ensures.cheapest) ∙ c.in-Some-chosen.is)))
     (face_pivot c.args.lp.now c.args.run.now.shift.items c.requires.lawful c.requires.no_change c.args.theta c.args.basis.now (record { is_basis = c.requires.rates.is_basis; nonsingular = c.requires.rates.nonsingular }) (value_at c.args.value.now) (value_at c.args.slope.now) c.requires.point c.requires.slope c.in-Some.leaver (subst (λ (o : Option Leaver). IsFaceLeaver c.args.lp.now c.args.run.now.shift.items c.args.theta c.args.basis.now o) c.in-Some.is (subst (λ (sh : List ℚ). IsFaceLeaver c.args.lp.now sh c.args.theta c.args.basis.now c.in-Ok.found) c.deref.ensures.value c.in-Ok.ensures.leaver)) (value_at c.args.prices.now) (value_at c.read_row.new.out) c.requires.prices c.in_ok-read_row.ensures.row c.in-Some-chosen.q (sym (subst (λ (b : Bool). c.in-Ok-cheapest.chosen ≡ cheapest_by c.args.lp.now c.args.basis.now (value_at c.args.prices.now) (value_at c.read_row.new.out) b) c.is_lower-below.ensures c.in-Ok-cheapest.ensures.cheapest) ∙ c.in-Some-chosen.is) c.requires.optimal) c.in_err-by.field-0.0 c.in_err-by.ensures.overflow)
 
-pub returns-in_err-by-clause-waypoints : goal.returns-in_err-by-clause-waypoints
-returns-in_err-by-clause-waypoints g c = keeps_then c.args.lp.now.matrix (basics_of c.args.basis.now) (g.R.Rates.waypoints c.args.rates.now) (basics_of c.args.basis.now) (g.R.Rates.waypoints c.read_row.new.rates) (g.R.Rates.waypoints c.return_of.new.rates) c.in_ok-read_row.ensures.waypoints c.in_err-by.ensures.waypoints
+pub returns-in_err-by-clause-rates : goal.returns-in_err-by-clause-rates
+returns-in_err-by-clause-rates g c = kept_then c.in_ok-read_row.ensures.rates c.in_err-by.ensures.rates
 
 pub returns-clause-turn : goal.returns-clause-turn
 returns-clause-turn g c =
@@ -113,5 +112,5 @@ returns-clause-turn g c =
       was_left = left;
     }
 
-pub returns-clause-waypoints : goal.returns-clause-waypoints
-returns-clause-waypoints g c = keeps_then c.args.lp.now.matrix (basics_of c.args.basis.now) (g.R.Rates.waypoints c.args.rates.now) (basics_of c.args.basis.now) (g.R.Rates.waypoints c.read_row.new.rates) (g.R.Rates.waypoints c.return_of.new.rates) c.in_ok-read_row.ensures.waypoints c.in_ok-by.ensures.waypoints
+pub returns-clause-rates : goal.returns-clause-rates
+returns-clause-rates g c = kept_then c.in_ok-read_row.ensures.rates c.in_ok-by.ensures.rates

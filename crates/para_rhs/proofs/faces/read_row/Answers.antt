@@ -1,20 +1,13 @@
 use Rattle.basis_values.proofs.TermLaws.{IfErr-map}
-use Rattle.bounded_primal.proofs.TurnCalls.{has_same}
-use Rattle.basis_values.proofs.RatesStops.{row_refused, keeps_at}
+use Rattle.basis_values.proofs.RatesStops.{row_refused}
+use Rattle.basis_values.proofs.Kept.{kept_by}
 use Rattle.para_rhs.proofs.faces.read_row.Goals as goal
 
 pub row-requires-clause-basic : goal.row-requires-clause-basic
 row-requires-clause-basic g c = rw (c.requires.rates.same_matrix, c.requires.rates.same_basics) c.requires.basic
 
 pub returns-clause-rates : goal.returns-clause-rates
-returns-clause-rates g c =
-    has_same c.args.lp.now c.args.basis.now (g.R.Rates.matrix c.args.rates.now) (g.R.Rates.matrix c.row.new.self) (g.R.Rates.basics c.args.rates.now) (g.R.Rates.basics c.row.new.self)
-    c.requires.rates c.row.ensures.same_matrix c.row.ensures.same_basics
-
-pub returns-clause-waypoints : goal.returns-clause-waypoints
-returns-clause-waypoints g c =
-    keeps_at c.args.lp.now c.args.basis.now (g.R.Rates.matrix c.args.rates.now) (g.R.Rates.basics c.args.rates.now) (g.R.Rates.basics c.row.new.self) (g.R.Rates.waypoints c.args.rates.now) (g.R.Rates.waypoints c.row.new.self)
-    c.requires.rates c.row.ensures.same_basics c.row.ensures.waypoints
+returns-clause-rates g c = kept_by c.requires.rates c.row.ensures.same_matrix c.row.ensures.same_basics c.row.ensures.waypoints
 
 pub returns-clause-overflow : goal.returns-clause-overflow
 returns-clause-overflow g c =

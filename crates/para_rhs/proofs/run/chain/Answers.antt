@@ -21,22 +21,22 @@ returns-in_err-fill_value-clause-stops g c =
 
 pub returns-in_err-fill_value-clause-waypoints : goal.returns-in_err-fill_value-clause-waypoints
 returns-in_err-fill_value-clause-waypoints g c =
-    follows_any c.args.lp.now c.args.run.now c.args.basis.now c.args.begun (g.R.Rates.waypoints c.args.rates.now) c.args.run.now.from c.args.basis.now (g.R.Rates.waypoints c.fill_value.new.rates) c.args.begun (opens_first_any c.args.lp.now c.args.run.now c.args.basis.now c.args.begun (g.R.Rates.waypoints c.args.rates.now) (g.R.Rates.waypoints c.fill_value.new.rates) c.in_err-fill_value.ensures.waypoints) c.requires.within
+    follows_any c.args.lp.now c.args.run.now c.args.basis.now c.args.begun (g.R.Rates.waypoints c.args.rates.now) c.args.run.now.from c.args.basis.now (g.R.Rates.waypoints c.fill_value.new.rates) c.args.begun (opens_first_any c.args.lp.now c.args.run.now c.args.basis.now c.args.begun (g.R.Rates.waypoints c.args.rates.now) (g.R.Rates.waypoints c.fill_value.new.rates) c.in_err-fill_value.ensures.rates.1) c.requires.within
 
 pub returns-in_err-fill_motion-clause-stops : goal.returns-in_err-fill_motion-clause-stops
 returns-in_err-fill_motion-clause-stops g c =
     let p = err_from_is_err_and c.from_residual-in_err-fill_motion.result c.from_residual-in_err-fill_motion.ensures.1 in
-    rw (p.1, p.2) (later_stops c.args.lp.now c.args.run.now c.args.basis.now c.args.begun (g.R.Rates.waypoints c.args.rates.now) (g.R.Rates.waypoints c.fill_value.new.rates) (g.R.Rates.waypoints c.fill_motion.new.rates) c.in_ok-fill_value.ensures.waypoints _ c.requires.within
+    rw (p.1, p.2) (later_stops c.args.lp.now c.args.run.now c.args.basis.now c.args.begun (g.R.Rates.waypoints c.args.rates.now) (g.R.Rates.waypoints c.fill_value.new.rates) (g.R.Rates.waypoints c.fill_motion.new.rates) c.in_ok-fill_value.ensures.rates.1 _ c.requires.within
     (motion_stops_interval c.args.lp.now c.args.run.now c.args.basis.now (c.args.run.now.limit - c.args.begun) (g.R.Rates.waypoints c.fill_value.new.rates) (g.R.Rates.waypoints c.fill_motion.new.rates) c.in_err-fill_motion.field-0.0
     (subst (λ (sh : List ℚ). IfOverflow c.in_err-fill_motion.field-0.0 (RunRefused c.args.lp.now sh c.args.basis.now (g.R.Rates.waypoints c.fill_value.new.rates) (g.R.Rates.waypoints c.fill_motion.new.rates))) c.deref.ensures.value c.in_err-fill_motion.ensures.overflow)))
 
 pub returns-in_err-fill_motion-clause-waypoints : goal.returns-in_err-fill_motion-clause-waypoints
 returns-in_err-fill_motion-clause-waypoints g c =
-    follows_any c.args.lp.now c.args.run.now c.args.basis.now c.args.begun (g.R.Rates.waypoints c.args.rates.now) c.args.run.now.from c.args.basis.now (g.R.Rates.waypoints c.fill_motion.new.rates) c.args.begun (opens_second_any c.args.lp.now c.args.run.now c.args.basis.now c.args.begun (g.R.Rates.waypoints c.args.rates.now) (g.R.Rates.waypoints c.fill_value.new.rates) (g.R.Rates.waypoints c.fill_motion.new.rates) c.in_ok-fill_value.ensures.waypoints c.in_err-fill_motion.ensures.waypoints) c.requires.within
+    follows_any c.args.lp.now c.args.run.now c.args.basis.now c.args.begun (g.R.Rates.waypoints c.args.rates.now) c.args.run.now.from c.args.basis.now (g.R.Rates.waypoints c.fill_motion.new.rates) c.args.begun (opens_second_any c.args.lp.now c.args.run.now c.args.basis.now c.args.begun (g.R.Rates.waypoints c.args.rates.now) (g.R.Rates.waypoints c.fill_value.new.rates) (g.R.Rates.waypoints c.fill_motion.new.rates) c.in_ok-fill_value.ensures.rates.1 c.in_err-fill_motion.ensures.rates.1) c.requires.within
 
 pub parts-init : goal.parts-init
 parts-init g c = record {
-  rates = c.in_ok-fill_motion.ensures.rates;
+  rates = c.in_ok-fill_motion.ensures.rates.0;
   point = c.in_ok-fill_value.ensures.point;
   slope = subst (λ (sh : List ℚ). IsSlope c.args.lp.now c.args.basis.now sh (value_at c.fill_motion.new.slope)) c.deref.ensures.value c.in_ok-fill_motion.ensures.slope;
   prices = c.in_ok-fill_motion.ensures.prices;
@@ -44,7 +44,7 @@ parts-init g c = record {
   forward = c.requires.forward;
   within = c.requires.within;
   begins = subst (λ xs. Begins c.args.lp.now c.args.run.now c.args.basis.now c.args.begun (map part_of xs) c.args.run.now.from c.args.basis.now c.args.begun) (sym c.new-parts.ensures.items) (parts_begin c.args.lp.now c.args.run.now c.args.basis.now c.args.begun);
-  any = opens_second_any c.args.lp.now c.args.run.now c.args.basis.now c.args.begun (g.R.Rates.waypoints c.args.rates.now) (g.R.Rates.waypoints c.fill_value.new.rates) (g.R.Rates.waypoints c.fill_motion.new.rates) c.in_ok-fill_value.ensures.waypoints c.in_ok-fill_motion.ensures.waypoints;
+  any = opens_second_any c.args.lp.now c.args.run.now c.args.basis.now c.args.begun (g.R.Rates.waypoints c.args.rates.now) (g.R.Rates.waypoints c.fill_value.new.rates) (g.R.Rates.waypoints c.fill_motion.new.rates) c.in_ok-fill_value.ensures.rates.1 c.in_ok-fill_motion.ensures.rates.1;
 }
 
 pub returns-in_err-interval-clause-stops : goal.returns-in_err-interval-clause-stops

@@ -1,16 +1,16 @@
 use Rattle.std.proofs.Common.{sym, subst}
-use Rattle.lp_definitions.specs.Basis.{basics_of, IsPointOf}
+use Rattle.lp_definitions.specs.Basis.{IsPointOf}
 use Rattle.lp_definitions.specs.LinearProgram.{LinearProgram, value_at}
 use Rattle.lp_definitions.specs.declared.Evidence.{Evidence}
 use Rattle.basis_values.specs.Calls.{HasRates, PointRefused}
-use Rattle.basis_values.proofs.Covered.{keeps_same}
+use Rattle.basis_values.proofs.Kept.{kept_same}
 use Rattle.para_rhs.specs.Refusals.{RunRefused}
-use Rattle.para_rhs.proofs.SlopePrograms.{to_slope, is_slope}
+use Rattle.para_rhs.proofs.SlopePrograms.{to_slope, is_slope, kept_slope}
 use Rattle.para_rhs.proofs.SlopeStops.{slope_refused}
 use Rattle.para_rhs.proofs.slopes.slope_of.Goals as goal
 
-pub returns-in_err-moving-clause-waypoints : goal.returns-in_err-moving-clause-waypoints
-returns-in_err-moving-clause-waypoints g c = keeps_same c.args.lp.now.matrix (basics_of c.args.basis.now) (g.R.Rates.waypoints c.args.rates.now)
+pub returns-in_err-moving-clause-rates : goal.returns-in_err-moving-clause-rates
+returns-in_err-moving-clause-rates g c = kept_same (g.R.Rates.waypoints c.args.rates.now) c.requires.rates
 
 pub point_of-requires-clause-rates : goal.point_of-requires-clause-rates
 point_of-requires-clause-rates g c =
@@ -35,3 +35,12 @@ returns-in-Err-Overflow-clause-overflow g c =
     (slope_refused c.args.lp.now c.args.shift.now c.slope_program.ensures.lawful c.args.basis.now (record { is_basis = c.requires.rates.is_basis; nonsingular = c.requires.rates.nonsingular })
     c.in-Err-Overflow.evidence c.requires.no_change (g.R.Rates.waypoints c.args.rates.now) (g.R.Rates.waypoints c.point_of.new.rates)
     (subst (λ (q : LinearProgram). PointRefused q (g.R.Rates.waypoints c.args.rates.now) c.args.basis.now (g.R.Rates.waypoints c.point_of.new.rates) c.in-Err-Overflow.evidence) c.in_ok-moving.ensures.program refused))
+
+pub returns-in-Ok-clause-rates : goal.returns-in-Ok-clause-rates
+returns-in-Ok-clause-rates g c = kept_slope c.args.lp.now c.args.shift.now c.in_ok-moving.moving c.in_ok-moving.ensures.program c.requires.rates c.point_of.ensures.rates
+
+pub returns-in-Err-Overflow-clause-rates : goal.returns-in-Err-Overflow-clause-rates
+returns-in-Err-Overflow-clause-rates g c = kept_slope c.args.lp.now c.args.shift.now c.in_ok-moving.moving c.in_ok-moving.ensures.program c.requires.rates c.point_of.ensures.rates
+
+pub returns-clause-rates : goal.returns-clause-rates
+returns-clause-rates g c = kept_slope c.args.lp.now c.args.shift.now c.in_ok-moving.moving c.in_ok-moving.ensures.program c.requires.rates c.point_of.ensures.rates

@@ -1,10 +1,10 @@
 use Rattle.std.proofs.Common.{drop, length, arith}
-use Rattle.lp_definitions.specs.Basis.{basics_of}
-use Rattle.present_answers.proofs.Calls.{keeps_same, take_whole}
+use Rattle.present_answers.proofs.Calls.{take_whole}
+use Rattle.basis_values.proofs.Kept.{kept_same}
 use Rattle.present_answers.proofs.solution.prices_shown.Goals as goal
 
-pub returns-in_err-values-clause-waypoints : goal.returns-in_err-values-clause-waypoints
-returns-in_err-values-clause-waypoints g c = keeps_same c.args.lp.now.matrix (basics_of c.args.basis.now) (g.R.Rates.waypoints c.args.rates.now)
+pub returns-in_err-values-clause-rates : goal.returns-in_err-values-clause-rates
+returns-in_err-values-clause-rates g c = kept_same (g.R.Rates.waypoints c.args.rates.now) c.requires.rates
 
 pub returns-clause-prices : goal.returns-clause-prices
 returns-clause-prices g c =

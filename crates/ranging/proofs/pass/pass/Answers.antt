@@ -1,19 +1,15 @@
-use Rattle.std.proofs.Common.{◌≡◌, ◌+◌, ◌-◌, ℕ, Err, refl, rules, arith, ◌∙◌, subst}
+use Rattle.std.proofs.Common.{◌≡◌, ◌+◌, ◌-◌, ℕ, Err, refl, rules, arith, subst}
 use Rattle.lp_definitions.specs.LinearProgram.{value_at, size}
-use Rattle.lp_definitions.specs.Basis.{basics_of}
-use Rattle.lp_laws.proofs.WaypointLaws.{keeps_then}
 use Rattle.lp_model.proofs.Stops.{IfOverflow-map}
-use Rattle.basis_values.proofs.Covered.{keeps_same}
 use Rattle.ranging.specs.Tables.{AllMet, AllFound}
 use Rattle.ranging.proofs.AtBasis.{found_none}
 use Rattle.ranging.proofs.Shown.{range_refused_later}
+use Rattle.basis_values.proofs.Kept.{kept_same, kept_then}
 use Rattle.ranging.proofs.pass.pass.Goals as goal
 
 pub loop-k-init : goal.loop-k-init
 loop-k-init g c = record {
-  matrix = refl;
-  basics = refl;
-  waypoints = keeps_same c.args.lp.now.matrix (basics_of c.args.basis.now) (g.R.Rates.waypoints c.args.rates.now);
+  rates = kept_same (g.R.Rates.waypoints c.args.rates.now) c.requires.rates;
   row_places = refl;
   found_places = refl;
   end_places = refl;
@@ -26,24 +22,19 @@ visit_basic-requires-clause-met g c =
     let same : c.loop-k.k ≡ c.loop-k.k + 1 - 1 = omega arith in
     subst (λ (n : ℕ). AllMet c.args.lp.now c.args.basis.now (value_at c.args.point.now) n c.loop-k.ends) same c.loop-k.invariant.met
 
-pub returns-in_err-visit_basic-clause-waypoints : goal.returns-in_err-visit_basic-clause-waypoints
-returns-in_err-visit_basic-clause-waypoints g c =
-    keeps_then c.args.lp.now.matrix (basics_of c.args.basis.now) (g.R.Rates.waypoints c.args.rates.now) (basics_of c.args.basis.now) (g.R.Rates.waypoints c.loop-k.rates) (g.R.Rates.waypoints c.visit_basic.new.rates)
-    c.loop-k.invariant.waypoints c.visit_basic.ensures.waypoints
+pub returns-in_err-visit_basic-clause-rates : goal.returns-in_err-visit_basic-clause-rates
+returns-in_err-visit_basic-clause-rates g c = kept_then c.loop-k.invariant.rates c.visit_basic.ensures.rates
 
 pub returns-in_err-visit_basic-clause-overflow : goal.returns-in_err-visit_basic-clause-overflow
 returns-in_err-visit_basic-clause-overflow g c =
     let is_err : c.from_residual.result ≡ Err c.in_err-visit_basic.field-0.0 = search rules in
     rw is_err (IfOverflow-map c.in_err-visit_basic.field-0.0
-    (λ e h. range_refused_later c.args.lp.now (g.R.Rates.waypoints c.args.rates.now) (g.R.Rates.waypoints c.loop-k.rates) (g.R.Rates.waypoints c.visit_basic.new.rates) c.args.basis.now e c.loop-k.invariant.waypoints h)
+    (λ e h. range_refused_later c.args.lp.now (g.R.Rates.waypoints c.args.rates.now) (g.R.Rates.waypoints c.loop-k.rates) (g.R.Rates.waypoints c.visit_basic.new.rates) c.args.basis.now e c.loop-k.invariant.rates.1 h)
     c.in_err-visit_basic.ensures.overflow)
 
 pub loop-k-preserved : goal.loop-k-preserved
 loop-k-preserved g c = record {
-  matrix = c.visit_basic.ensures.matrix ∙ c.loop-k.invariant.matrix;
-  basics = c.visit_basic.ensures.basics ∙ c.loop-k.invariant.basics;
-  waypoints = keeps_then c.args.lp.now.matrix (basics_of c.args.basis.now) (g.R.Rates.waypoints c.args.rates.now) (basics_of c.args.basis.now) (g.R.Rates.waypoints c.loop-k.rates) (g.R.Rates.waypoints c.visit_basic.new.rates)
-      c.loop-k.invariant.waypoints c.visit_basic.ensures.waypoints;
+  rates = kept_then c.loop-k.invariant.rates c.visit_basic.ensures.rates;
   row_places = omega arith;
   found_places = omega arith;
   end_places = omega arith;

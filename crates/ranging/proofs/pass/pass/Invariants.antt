@@ -1,15 +1,12 @@
 use Rattle.std.proofs.Common.{◌≡◌, length}
 use Rattle.lp_definitions.specs.LinearProgram.{value_at}
-use Rattle.lp_definitions.specs.Basis.{basics_of}
-use Rattle.lp_definitions.specs.Waypoints.{KeepsWaypoints}
+use Rattle.basis_values.specs.Calls.{KeepsRates}
 use Rattle.ranging.specs.Tables.{AllMet, AllFound}
 use Rattle.ranging.proofs.pass.pass.Given as goal
 
 abbrev pub invariant-loop-k : goal.invariant-loop-k
 invariant-loop-k g l = record {
-  matrix : g.R.Rates.matrix l.rates ≡ g.R.Rates.matrix l.initial.rates;
-  basics : g.R.Rates.basics l.rates ≡ g.R.Rates.basics l.initial.rates;
-  waypoints : KeepsWaypoints l.lp.matrix (basics_of l.basis) (g.R.Rates.waypoints l.initial.rates) (basics_of l.basis) (g.R.Rates.waypoints l.rates);
+  rates : KeepsRates (g.R.Rates.matrix l.rates) (g.R.Rates.basics l.rates) l.lp l.basis (g.R.Rates.waypoints l.initial.rates) (g.R.Rates.waypoints l.rates);
   row_places : length l.row ≡ length l.initial.row;
   found_places : length l.found ≡ length l.initial.found;
   end_places : length l.ends ≡ length l.initial.ends;

@@ -4,6 +4,7 @@ use Rattle.lp_definitions.specs.Basis.{basics_of}
 use Rattle.lp_model.specs.RatesCalls.{IsRowOf}
 use Rattle.lp_model.proofs.Stops.{IfOverflow-map}
 use Rattle.basis_values.proofs.RatesStops.{row_refused}
+use Rattle.basis_values.proofs.Kept.{kept_by}
 use Rattle.ranging.proofs.Shown.{range_by_point}
 use Rattle.ranging.proofs.AtBasis.{within, holds_now, ends_of_row, met_more}
 use Rattle.ranging.proofs.Refused.{limits_refused, ratio_refused}
@@ -55,3 +56,15 @@ returns-in-Err-clause-overflow g c =
     let row : IsRowOf c.args.lp.now.matrix (basics_of c.args.basis.now) c.args.i (value_at c.row.new.out) = rw (c.requires.rates.same_matrix, c.requires.rates.same_basics) at c.in_ok-row.ensures.rates in
     limits_refused c.args.lp.now c.args.basis.now c.requires.lawful c.requires.no_change c.requires.optimal (value_at c.args.point.now) c.requires.point (value_at c.args.prices.now) c.requires.prices c.args.i c.requires.basic (value_at c.row.new.out) row
     (g.R.Rates.waypoints c.args.rates.now) (g.R.Rates.waypoints c.row.new.self) c.in-Err.evidence c.in-Err.ensures.refused
+
+pub returns-in_err-row-clause-rates : goal.returns-in_err-row-clause-rates
+returns-in_err-row-clause-rates g c = kept_by c.requires.rates c.row.ensures.same_matrix c.row.ensures.same_basics c.row.ensures.waypoints
+
+pub returns-in-Ok-row_ends-clause-rates : goal.returns-in-Ok-row_ends-clause-rates
+returns-in-Ok-row_ends-clause-rates g c = kept_by c.requires.rates c.row.ensures.same_matrix c.row.ensures.same_basics c.row.ensures.waypoints
+
+pub returns-in-Err-row_ends-clause-rates : goal.returns-in-Err-row_ends-clause-rates
+returns-in-Err-row_ends-clause-rates g c = kept_by c.requires.rates c.row.ensures.same_matrix c.row.ensures.same_basics c.row.ensures.waypoints
+
+pub returns-in-Err-clause-rates : goal.returns-in-Err-clause-rates
+returns-in-Err-clause-rates g c = kept_by c.requires.rates c.row.ensures.same_matrix c.row.ensures.same_basics c.row.ensures.waypoints

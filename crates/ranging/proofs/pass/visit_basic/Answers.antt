@@ -1,10 +1,9 @@
 use Rattle.std.proofs.Common.{◌≡◌, ◌+◌, ◌-◌, rules, arith, sym, ◌∙◌, subst, set, None}
 use Rattle.lp_definitions.specs.LinearProgram.{value_at, lower_of, upper_of}
-use Rattle.lp_definitions.specs.Basis.{basics_of}
 use Rattle.lp_laws.proofs.Values.{clash}
-use Rattle.basis_values.proofs.Covered.{keeps_same}
 use Rattle.ranging.specs.Tables.{AllFound, AreEndsOfRow}
 use Rattle.ranging.proofs.AtBasis.{met_skipped, met_free, found_skipped, found_more, nonbasic_by_test}
+use Rattle.basis_values.proofs.Kept.{kept_same}
 use Rattle.ranging.proofs.pass.visit_basic.Goals as goal
 
 pub returns-then-not-stands_basic-clause-met : goal.returns-then-not-stands_basic-clause-met
@@ -19,8 +18,8 @@ returns-then-not-stands_basic-clause-found g c =
     found_skipped c.args.lp.now c.args.basis.now (c.args.i - 1) c.args.i (omega arith)
     (λ basic other. clash (sym basic ∙ nonbasic_by_test c.args.lp.now c.args.basis.now c.args.i c.stands_basic.result c.requires.rates.is_basis.counted c.requires.variable c.stands_basic.ensures c.if-not-stands_basic.true)) c.args.found.now c.requires.found
 
-pub returns-then-not-stands_basic-clause-waypoints : goal.returns-then-not-stands_basic-clause-waypoints
-returns-then-not-stands_basic-clause-waypoints g c = keeps_same c.args.lp.now.matrix (basics_of c.args.basis.now) (g.R.Rates.waypoints c.args.rates.now)
+pub returns-then-not-stands_basic-clause-rates : goal.returns-then-not-stands_basic-clause-rates
+returns-then-not-stands_basic-clause-rates g c = kept_same (g.R.Rates.waypoints c.args.rates.now) c.requires.rates
 
 pub returns-then-i-lp-clause-met : goal.returns-then-i-lp-clause-met
 returns-then-i-lp-clause-met g c =
@@ -29,8 +28,8 @@ returns-then-i-lp-clause-met g c =
     met_free c.args.lp.now c.args.basis.now c.requires.lawful c.requires.no_change c.requires.optimal (value_at c.args.point.now) c.requires.point (c.args.i - 1) c.args.i (omega arith)
     (subst (λ i. lower_of c.args.lp.now i ≡ None) (sym same) c.requires.lawful.objective_free.0) (subst (λ i. upper_of c.args.lp.now i ≡ None) (sym same) c.requires.lawful.objective_free.1) c.args.ends.now c.requires.met
 
-pub returns-then-i-lp-clause-waypoints : goal.returns-then-i-lp-clause-waypoints
-returns-then-i-lp-clause-waypoints g c = keeps_same c.args.lp.now.matrix (basics_of c.args.basis.now) (g.R.Rates.waypoints c.args.rates.now)
+pub returns-then-i-lp-clause-rates : goal.returns-then-i-lp-clause-rates
+returns-then-i-lp-clause-rates g c = kept_same (g.R.Rates.waypoints c.args.rates.now) c.requires.rates
 
 pub returns-clause-found : goal.returns-clause-found
 returns-clause-found g c =

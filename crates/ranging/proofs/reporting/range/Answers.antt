@@ -1,19 +1,18 @@
 use Rattle.std.proofs.Common.{◌≡◌, Err, rules, arith, sym, ◌∙◌, subst, drop, length}
 use Rattle.lp_definitions.specs.LinearProgram.{value_at}
-use Rattle.lp_definitions.specs.Basis.{basics_of, ArePricesOf}
-use Rattle.lp_laws.proofs.WaypointLaws.{keeps_then}
+use Rattle.lp_definitions.specs.Basis.{ArePricesOf}
 use Rattle.lp_model.proofs.Stops.{IfOverflow-map}
-use Rattle.basis_values.proofs.Covered.{keeps_same}
 use Rattle.ranging.proofs.Complete.{range_answers}
 use Rattle.ranging.proofs.Results.{take_all, IfErr-map}
 use Rattle.ranging.proofs.Shown.{range_by_point, range_refused_later}
+use Rattle.basis_values.proofs.Kept.{kept_same, kept_then}
 use Rattle.ranging.proofs.reporting.range.Goals as goal
 
-pub returns-in_err-point-clause-waypoints : goal.returns-in_err-point-clause-waypoints
-returns-in_err-point-clause-waypoints g c = keeps_same c.args.lp.now.matrix (basics_of c.args.basis.now) (g.R.Rates.waypoints c.args.rates.now)
+pub returns-in_err-point-clause-rates : goal.returns-in_err-point-clause-rates
+returns-in_err-point-clause-rates g c = kept_same (g.R.Rates.waypoints c.args.rates.now) c.requires.rates
 
-pub returns-in_err-prices-clause-waypoints : goal.returns-in_err-prices-clause-waypoints
-returns-in_err-prices-clause-waypoints g c = keeps_same c.args.lp.now.matrix (basics_of c.args.basis.now) (g.R.Rates.waypoints c.args.rates.now)
+pub returns-in_err-prices-clause-rates : goal.returns-in_err-prices-clause-rates
+returns-in_err-prices-clause-rates g c = kept_same (g.R.Rates.waypoints c.args.rates.now) c.requires.rates
 
 pub returns-in_err-point_of-clause-overflow : goal.returns-in_err-point_of-clause-overflow
 returns-in_err-point_of-clause-overflow g c =
@@ -22,16 +21,14 @@ returns-in_err-point_of-clause-overflow g c =
     (λ e h. range_by_point c.args.lp.now (g.R.Rates.waypoints c.args.rates.now) (g.R.Rates.waypoints c.point_of.new.rates) c.args.basis.now e c.requires.no_change h)
     c.in_err-point_of.ensures.overflow)
 
-pub returns-in_err-prices_of-clause-waypoints : goal.returns-in_err-prices_of-clause-waypoints
-returns-in_err-prices_of-clause-waypoints g c =
-    keeps_then c.args.lp.now.matrix (basics_of c.args.basis.now) (g.R.Rates.waypoints c.args.rates.now) (basics_of c.args.basis.now) (g.R.Rates.waypoints c.point_of.new.rates) (g.R.Rates.waypoints c.prices_of.new.rates)
-    c.point_of.ensures.waypoints c.prices_of.ensures.waypoints
+pub returns-in_err-prices_of-clause-rates : goal.returns-in_err-prices_of-clause-rates
+returns-in_err-prices_of-clause-rates g c = kept_then c.point_of.ensures.rates c.prices_of.ensures.rates
 
 pub returns-in_err-prices_of-clause-overflow : goal.returns-in_err-prices_of-clause-overflow
 returns-in_err-prices_of-clause-overflow g c =
     let is_err : c.from_residual-in_err-prices_of.result ≡ Err c.in_err-prices_of.field-0.0 = search rules in
     rw is_err (IfOverflow-map c.in_err-prices_of.field-0.0
-    (λ e h. range_refused_later c.args.lp.now (g.R.Rates.waypoints c.args.rates.now) (g.R.Rates.waypoints c.point_of.new.rates) (g.R.Rates.waypoints c.prices_of.new.rates) c.args.basis.now e c.point_of.ensures.waypoints
+    (λ e h. range_refused_later c.args.lp.now (g.R.Rates.waypoints c.args.rates.now) (g.R.Rates.waypoints c.point_of.new.rates) (g.R.Rates.waypoints c.prices_of.new.rates) c.args.basis.now e c.point_of.ensures.rates.1
     (range_by_point c.args.lp.now (g.R.Rates.waypoints c.point_of.new.rates) (g.R.Rates.waypoints c.prices_of.new.rates) c.args.basis.now e c.requires.no_change h))
     c.in_err-prices_of.ensures.overflow)
 
@@ -40,19 +37,14 @@ range_at-requires-clause-prices g c =
     let same : c.deref-2.result.now ≡ c.prices_of.new.out = c.deref-2.ensures.value ∙ take_all c.prices_of.new.out (drop (length c.prices_of.new.out) c.in_ok-prices.prices.items) c.in_ok-prices.prices.len (omega arith) in
     subst (λ xs. ArePricesOf c.args.lp.now c.args.basis.now (value_at xs)) (sym same) c.in_ok-prices_of.ensures.prices
 
-pub returns-clause-waypoints : goal.returns-clause-waypoints
-returns-clause-waypoints g c =
-    keeps_then c.args.lp.now.matrix (basics_of c.args.basis.now) (g.R.Rates.waypoints c.args.rates.now) (basics_of c.args.basis.now) (g.R.Rates.waypoints c.prices_of.new.rates) (g.R.Rates.waypoints c.range_at.new.rates)
-    (keeps_then c.args.lp.now.matrix (basics_of c.args.basis.now) (g.R.Rates.waypoints c.args.rates.now) (basics_of c.args.basis.now) (g.R.Rates.waypoints c.point_of.new.rates) (g.R.Rates.waypoints c.prices_of.new.rates)
-    c.point_of.ensures.waypoints c.prices_of.ensures.waypoints)
-    c.range_at.ensures.waypoints
+pub returns-clause-rates : goal.returns-clause-rates
+returns-clause-rates g c = kept_then (kept_then c.point_of.ensures.rates c.prices_of.ensures.rates) c.range_at.ensures.rates
 
 pub returns-clause-overflow : goal.returns-clause-overflow
 returns-clause-overflow g c =
     IfErr-map c.range_at.result
     (λ stop h. IfOverflow-map stop (λ e x. range_refused_later c.args.lp.now (g.R.Rates.waypoints c.args.rates.now) (g.R.Rates.waypoints c.prices_of.new.rates) (g.R.Rates.waypoints c.range_at.new.rates) c.args.basis.now e
-    (keeps_then c.args.lp.now.matrix (basics_of c.args.basis.now) (g.R.Rates.waypoints c.args.rates.now) (basics_of c.args.basis.now) (g.R.Rates.waypoints c.point_of.new.rates) (g.R.Rates.waypoints c.prices_of.new.rates)
-    c.point_of.ensures.waypoints c.prices_of.ensures.waypoints) x) h)
+    (kept_then c.point_of.ensures.rates c.prices_of.ensures.rates).1 x) h)
     c.range_at.ensures.overflow
 
 pub returns-in_err-point_of-clause-complete : goal.returns-in_err-point_of-clause-complete

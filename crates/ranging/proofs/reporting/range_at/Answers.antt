@@ -1,22 +1,21 @@
 use Rattle.std.proofs.Common.{◌≡◌, ◌-◌, rules, arith, sym, ap, ◌∙◌, subst, drop, length, replicate}
 use Rattle.std.proofs.lemmas.List.{get_or-replicate}
 use Rattle.lp_definitions.specs.LinearProgram.{value_at, size}
-use Rattle.lp_definitions.specs.Basis.{basics_of}
-use Rattle.basis_values.proofs.Covered.{keeps_same}
 use Rattle.ranging.specs.LimitEnds.{no_ends, ends_at}
 use Rattle.ranging.specs.Tables.{AllMet, AllFound}
 use Rattle.ranging.proofs.Results.{take_all}
 use Rattle.ranging.proofs.AtBasis.{met_begins}
+use Rattle.basis_values.proofs.Kept.{kept_same}
 use Rattle.ranging.proofs.reporting.range_at.Goals as goal
 
-pub returns-in_err-row-clause-waypoints : goal.returns-in_err-row-clause-waypoints
-returns-in_err-row-clause-waypoints g c = keeps_same c.args.lp.now.matrix (basics_of c.args.basis.now) (g.R.Rates.waypoints c.args.rates.now)
+pub returns-in_err-row-clause-rates : goal.returns-in_err-row-clause-rates
+returns-in_err-row-clause-rates g c = kept_same (g.R.Rates.waypoints c.args.rates.now) c.requires.rates
 
-pub returns-in_err-found-clause-waypoints : goal.returns-in_err-found-clause-waypoints
-returns-in_err-found-clause-waypoints g c = keeps_same c.args.lp.now.matrix (basics_of c.args.basis.now) (g.R.Rates.waypoints c.args.rates.now)
+pub returns-in_err-found-clause-rates : goal.returns-in_err-found-clause-rates
+returns-in_err-found-clause-rates g c = kept_same (g.R.Rates.waypoints c.args.rates.now) c.requires.rates
 
-pub returns-in_err-ends-clause-waypoints : goal.returns-in_err-ends-clause-waypoints
-returns-in_err-ends-clause-waypoints g c = keeps_same c.args.lp.now.matrix (basics_of c.args.basis.now) (g.R.Rates.waypoints c.args.rates.now)
+pub returns-in_err-ends-clause-rates : goal.returns-in_err-ends-clause-rates
+returns-in_err-ends-clause-rates g c = kept_same (g.R.Rates.waypoints c.args.rates.now) c.requires.rates
 
 pub pass-requires-clause-begins : goal.pass-requires-clause-begins
 pass-requires-clause-begins g c =

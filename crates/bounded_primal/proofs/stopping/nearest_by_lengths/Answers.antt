@@ -4,7 +4,7 @@ use Rattle.path_definitions.specs.Moves.{room}
 use Rattle.basis_values.specs.Motions.{motion}
 use Rattle.basis_values.proofs.Lengths.{nearest_more}
 use Rattle.bounded_primal.proofs.AtOnce.{nearest_at_once}
-use Rattle.bounded_primal.proofs.stopping.nearest.Goals as goal
+use Rattle.bounded_primal.proofs.stopping.nearest_by_lengths.Goals as goal
 
 pub returns-in_err-length-clause-refused : goal.returns-in_err-length-clause-refused
 returns-in_err-length-clause-refused c =

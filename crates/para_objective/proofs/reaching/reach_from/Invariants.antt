@@ -1,6 +1,6 @@
 use Rattle.lp_definitions.specs.LinearProgram.{value_at}
 use Rattle.para_objective.specs.Reach.{IsReachOf}
-use Rattle.para_objective.proofs.reaching.reach_by.Given as goal
+use Rattle.para_objective.proofs.reaching.reach_from.Given as goal
 
 abbrev pub invariant-loop-k : goal.invariant-loop-k
 invariant-loop-k l = IsReachOf l.lp l.basis (value_at l.prices) (value_at l.change) l.k l.fn.max l.best

@@ -1,0 +1,13 @@
+use Rattle.std.proofs.Common.{arith}
+use Rattle.lp_definitions.specs.LinearProgram.{value_at}
+use Rattle.ranging.proofs.RateBounds.{value_next}
+use Rattle.para_objective.proofs.Zeros.{next_reach}
+use Rattle.para_objective.proofs.reaching.reach_from.Goals as goal
+
+pub loop-k-preserved : goal.loop-k-preserved
+loop-k-preserved c =
+    next_reach c.args.lp.now c.args.basis.now (value_at c.args.prices.now) (value_at c.args.change.now) c.args.max c.loop-k.k c.loop-k.best c.in_ok-best.best
+    c.index-prices-k.result c.index-change-k.result
+    (value_next c.args.prices.now c.loop-k.k c.index-prices-k.result (omega arith) c.index-prices-k.is)
+    (value_next c.args.change.now c.loop-k.k c.index-change-k.result (omega arith) c.index-change-k.is)
+    c.in_ok-best.ensures.nearer c.loop-k.invariant
