@@ -1,8 +1,8 @@
-mod Keyed
+pub mod Keyed
 mod CardNames
 mod NumbersTold
 mod Second
-mod Grouped
-mod Fronts
+pub mod Grouped
+pub mod Fronts
 mod FirstPlaces
-mod Touched
+pub mod Touched

@@ -9,7 +9,8 @@ use crate::sections::{
 use card_reader::Card;
 use deck_parts::{CardStop, DataCard, DeckFaultKind, Section, name_in, read_data_card};
 use revise_definitions::Action;
-use revise_parts::{NamedProblem, UnderAction, edit, edit_fault_of};
+use revise_lists::NamedProblem;
+use revise_parts::{UnderAction, edit, edit_fault_of};
 use std::alloc::Global;
 
 /// A problem under revision: the section and the action that go on, what is known of the data cards under the action, and the
