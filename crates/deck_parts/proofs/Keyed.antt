@@ -15,7 +15,7 @@ use Rattle.deck_parts.specs.Shown.{row_at, decl_at, entry_at}
 
 module _ {V X : Type 0} (f : Name × V → X) (name_of : X → Name) (own : (e : Name × V) → name_of (f e) ≡ e.0) where
   -- a name is looked up where something of this name is there
-  there : (name : Name) (es : List (Name × V)) → is_some (lookup (same name) es) ≡ list_any (λ x. same name (name_of x)) (map f es)
+  pub there : (name : Name) (es : List (Name × V)) → is_some (lookup (same name) es) ≡ list_any (λ x. same name (name_of x)) (map f es)
   there name [] = refl
   there name (e ∷ es) = by (same name e.0) (there name es) ∙ ap (λ n. same name n || list_any (λ x. same name (name_of x)) (map f es)) (sym (own e))
     where

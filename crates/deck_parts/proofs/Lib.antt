@@ -1,7 +1,7 @@
-mod Keyed
+pub mod Keyed
 mod NumbersTold
 mod Second
-mod Grouped
-mod Fronts
+pub mod Grouped
+pub mod Fronts
 mod FirstPlaces
-mod Touched
+pub mod Touched

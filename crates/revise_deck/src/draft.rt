@@ -10,7 +10,8 @@ use card_reader::Card;
 use deck_cards::{DataCard, name_in, read_data_card};
 use deck_parts::{CardStop, DeckFaultKind, Section};
 use revise_definitions::Action;
-use revise_parts::{NamedProblem, UnderAction, edit, edit_fault_of};
+use revise_lists::NamedProblem;
+use revise_parts::{UnderAction, edit, edit_fault_of};
 use std::alloc::Global;
 
 /// A problem under revision: the section and the action that go on, what is known of the data cards under the action, and the

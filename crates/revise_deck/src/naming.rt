@@ -5,10 +5,12 @@ ghost use Rattle.problem_definitions.specs.Numbering.{entry_by, row_by, bound_by
 ghost use Rattle.problem_definitions.specs.Problem.{group_names};
 
 use deck_cards::name_in;
-use deck_fields::DeckStop;
+use deck_parts::CardStop;
 use name_table::Name;
 use problem_file::{BoundItem, BoundSet, ColumnDecl, DeckEntry, Problem, RowDecl, ValueSet};
-use revise_parts::{BoundGroup, EntryGroup, NamedBound, NamedEntry, NamedProblem, NamedRow};
+use revise_lists::{
+    BoundSets, Bounds, Entries, Groups, NamedBound, NamedEntry, NamedProblem, Rows,
+};
 use std::alloc::Global;
 
 // The name of the row of this number, from 1, or the empty name.
@@ -55,14 +57,14 @@ fn named_entries(
     alloc: Global,
     rows: &[RowDecl],
     entries: &[DeckEntry],
-) -> Result<Vec<NamedEntry>, DeckStop>
-    ensures { IfOk result (λ list. list.items ≡ map (entry_by
-        (name_at (map (λ row. row.name) rows.now))) entries.now) }
+) -> Result<Entries, CardStop>
+    ensures { IfOk result (λ list. list ≡ map (entry_by (name_at (map (λ row. row.name) rows.now)))
+        entries.now) }
 {
-    let list = entries
-        .iter()
-        .map(|entry| named_entry(rows, *entry))
-        .collect(alloc)?;
+    let mut list = Entries::new(alloc);
+    for entry in entries {
+        list.add(named_entry(rows, *entry))?;
+    }
     Ok(list)
 }
 
@@ -71,14 +73,14 @@ fn named_bounds(
     alloc: Global,
     columns: &[ColumnDecl],
     bounds: &[BoundItem],
-) -> Result<Vec<NamedBound>, DeckStop>
-    ensures { IfOk result (λ list. list.items ≡ map (bound_by (name_at (group_names columns.now)))
+) -> Result<Bounds, CardStop>
+    ensures { IfOk result (λ list. list ≡ map (bound_by (name_at (group_names columns.now)))
         bounds.now) }
 {
-    let list = bounds
-        .iter()
-        .map(|bound| named_bound(columns, *bound))
-        .collect(alloc)?;
+    let mut list = Bounds::new(alloc);
+    for bound in bounds {
+        list.add(named_bound(columns, *bound))?;
+    }
     Ok(list)
 }
 
@@ -87,35 +89,25 @@ fn named_columns(
     alloc: Global,
     rows: &[RowDecl],
     columns: &[ColumnDecl],
-) -> Result<Vec<EntryGroup>, DeckStop>
-    ensures { IfOk result (λ list. list.items ≡ map (group_by
+) -> Result<Groups, CardStop>
+    ensures { IfOk result (λ list. list ≡ map (group_by
         (entry_by (name_at (map (λ row. row.name) rows.now)))) columns.now) }
 {
-    let mut list = Vec::new(alloc);
+    let mut list = Groups::new(alloc);
     for column in columns {
-        list.push(EntryGroup {
-            name: column.name,
-            items: named_entries(alloc, rows, &column.entries)?,
-        })?;
+        list.add(column.name, named_entries(alloc, rows, &column.entries)?)?;
     }
     Ok(list)
 }
 
 // Sets with the names of their rows.
-fn named_sets(
-    alloc: Global,
-    rows: &[RowDecl],
-    sets: &[ValueSet],
-) -> Result<Vec<EntryGroup>, DeckStop>
-    ensures { IfOk result (λ list. list.items ≡ map (group_by
+fn named_sets(alloc: Global, rows: &[RowDecl], sets: &[ValueSet]) -> Result<Groups, CardStop>
+    ensures { IfOk result (λ list. list ≡ map (group_by
         (entry_by (name_at (map (λ row. row.name) rows.now)))) sets.now) }
 {
-    let mut list = Vec::new(alloc);
+    let mut list = Groups::new(alloc);
     for set in sets {
-        list.push(EntryGroup {
-            name: set.name,
-            items: named_entries(alloc, rows, &set.items)?,
-        })?;
+        list.add(set.name, named_entries(alloc, rows, &set.items)?)?;
     }
     Ok(list)
 }
@@ -125,38 +117,31 @@ fn named_bound_sets(
     alloc: Global,
     columns: &[ColumnDecl],
     sets: &[BoundSet],
-) -> Result<Vec<BoundGroup>, DeckStop>
-    ensures { IfOk result (λ list. list.items ≡ map (group_by
+) -> Result<BoundSets, CardStop>
+    ensures { IfOk result (λ list. list ≡ map (group_by
         (bound_by (name_at (group_names columns.now)))) sets.now) }
 {
-    let mut list = Vec::new(alloc);
+    let mut list = BoundSets::new(alloc);
     for set in sets {
-        list.push(BoundGroup {
-            name: set.name,
-            items: named_bounds(alloc, columns, &set.items)?,
-        })?;
+        list.add(set.name, named_bounds(alloc, columns, &set.items)?)?;
     }
     Ok(list)
 }
 
 // Rows with names for the rows that they refer to.
-fn named_rows(alloc: Global, rows: &[RowDecl]) -> Result<Vec<NamedRow>, DeckStop>
-    ensures { IfOk result (λ list. list.items ≡ map (row_by
-        (name_at (map (λ row. row.name) rows.now))) rows.now) }
+fn named_rows(alloc: Global, rows: &[RowDecl]) -> Result<Rows, CardStop>
+    ensures { IfOk result (λ list. list ≡ map (row_by (name_at (map (λ row. row.name) rows.now)))
+        rows.now) }
 {
-    let mut list = Vec::new(alloc);
+    let mut list = Rows::new(alloc);
     for row in rows {
-        list.push(NamedRow {
-            kind: row.kind,
-            name: row.name,
-        })?;
+        list.add(row.kind, row.name)?;
     }
     Ok(list)
 }
 
-/// The problem with names in place of numbers.
-#[tactic(auto, unfolding(problem_definitions::specs::Numbering::by_names))]
-pub fn named(alloc: Global, problem: &Problem) -> Result<NamedProblem, DeckStop>
+/// The problem with names in place of numbers. A name that stands twice where names differ is refused; no lawful problem has one.
+pub fn named(alloc: Global, problem: &Problem) -> Result<NamedProblem, CardStop>
     ensures { IfOk result (λ named. named ≡ by_names problem.now) }
 {
     let rows = problem.rows();

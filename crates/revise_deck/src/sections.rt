@@ -19,7 +19,7 @@ use deck_cards::{first_word, is_blank, is_word, name_in, section_named};
 use deck_parts::{CardStop, DeckFaultKind, Section};
 use name_table::Name;
 use revise_definitions::Action;
-use revise_parts::{NamedProblem, finds_group, finds_row};
+use revise_lists::NamedProblem;
 
 // Whether a card is a section card.
 pub fn begins_section(card: &[u8]) -> bool
@@ -198,13 +198,13 @@ fn finds_anchor(seen: &NamedProblem, section: Section, anchor: &Name) -> bool
     ensures { result ≡ has_anchor seen.now section anchor.now }
 {
     match section {
-        Section::Rows => finds_row(&seen.rows, anchor),
-        Section::Header => finds_group(&seen.columns, anchor),
-        Section::Columns => finds_group(&seen.columns, anchor),
-        Section::Rhs => finds_group(&seen.columns, anchor),
-        Section::Ranges => finds_group(&seen.columns, anchor),
-        Section::Bounds => finds_group(&seen.columns, anchor),
-        Section::Endata => finds_group(&seen.columns, anchor),
+        Section::Rows => seen.rows.has(anchor),
+        Section::Header => seen.columns.has(anchor),
+        Section::Columns => seen.columns.has(anchor),
+        Section::Rhs => seen.columns.has(anchor),
+        Section::Ranges => seen.columns.has(anchor),
+        Section::Bounds => seen.columns.has(anchor),
+        Section::Endata => seen.columns.has(anchor),
     }
 }
 

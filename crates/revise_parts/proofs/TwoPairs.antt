@@ -1,20 +1,16 @@
 -- The tests of one or two pairs, of which the second sees what the first has done.
-use Rattle.std.proofs.Common.{◌≡◌, ℕ, ◌+◌, ◌-◌, Bool, true, false, cond, ◌||◌, ◌&&◌, nat_le, List, [], ◌∷◌, ◌++◌, Option, Some, None, length, map, refl, ap, ap₂, sym, ◌∙◌, subst, arith}
+use Rattle.std.proofs.Common.{◌≡◌, ℕ, ◌+◌, ◌-◌, Bool, true, false, cond, ◌||◌, List, [], ◌∷◌, ◌++◌, Option, Some, None, length, map, refl, ap, ap₂, sym, ◌∙◌, subst, arith}
 use Rattle.std.specs.Option.{option_or}
 use Rattle.std.proofs.lemmas.List.{length-append, length-map}
 use Rattle.std.proofs.lemmas.List.Folds.{list_any-append}
-use Rattle.card_definitions.specs.Words.{first_fault, ◌⟹◌}
-use Rattle.problem_definitions.specs.declared.TheConstants.{MAX_ENTRIES}
 use Rattle.problem_definitions.specs.Names.{Name, same}
 use Rattle.problem_definitions.specs.Problem.{Problem, Entry, has_entry}
 use Rattle.problem_definitions.proofs.Names.{same_eq}
 use Rattle.deck_definitions.specs.declared.DeckFaultKind.{DeckFaultKind}
-use Rattle.deck_definitions.specs.declared.DeckFaultKind.TheVariants.{TooManyEntries}
 use Rattle.deck_definitions.specs.declared.Section.{Section}
 use Rattle.deck_definitions.specs.declared.Section.TheVariants.{Columns}
 use Rattle.deck_definitions.specs.DataCards.{Pair, entry_of}
-use Rattle.deck_definitions.specs.Sections.{is_section}
-use Rattle.deck_definitions.specs.Tests.{pairs_fault, pair_row_fault, value_fault}
+use Rattle.deck_definitions.specs.Tests.{pairs_fault}
 use Rattle.deck_definitions.proofs.Pairs.{pairs_fault-cons}
 use Rattle.revise_definitions.specs.Edits.{put_entry}
 use Rattle.revise_definitions.specs.Tests.{puts_fault}
@@ -58,16 +54,6 @@ put-more items entry = by (has_entry items entry.row)
     by true = omega (arith, length-map items (λ other. cond (same entry.row other.row) entry other))
     by false = omega (arith, length-append items (entry ∷ []))
 
--- a pair that replaces an item isn't counted
-uncounted : (seen : Problem Name) (section : Section) (there : Bool) (count : ℕ) (pair : Pair) → put_test seen section there (cond there 0 count) pair ≡ put_test seen section there count pair
-uncounted seen section false count pair = refl
-uncounted seen section true count pair =
-    ap (λ full. first_fault (pair_row_fault seen section pair.row ∷ value_fault pair.column pair.value ∷ (full ⟹ TooManyEntries) ∷ [])) (never (is_section Columns section) (nat_le MAX_ENTRIES 0) ∙ sym (never (is_section Columns section) (nat_le MAX_ENTRIES count)))
-  where
-    never : (a b : Bool) → (a && false && b) ≡ false
-    never true b = refl
-    never false b = refl
-
 module _ (seen : Problem Name) (section : Section) (items : List (Entry Name)) (count : ℕ) where
   pub puts_one : (pair : Pair) → puts_fault seen section items count (pair ∷ []) ≡ put_test seen section (has_entry items pair.row) count pair
   puts_one pair = puts_fault-cons seen section items count pair [] ∙ or_none (put_test seen section (has_entry items pair.row) count pair)
@@ -82,18 +68,17 @@ module _ (seen : Problem Name) (section : Section) (items : List (Entry Name)) (
       ∙ ap₂ (λ there more. put_test seen section there (count + more) other) (put-there items (entry_of pair) other.row) (put-more items (entry_of pair)))
 
   -- the fault that was found of two pairs, or of one
-  pub puts_found_two : (whole fault more_fault : Option DeckFaultKind) (there second : Bool) (before more : ℕ) (pair other : Pair) (pairs : List Pair) → whole ≡ option_or fault more_fault
-      → fault ≡ put_test seen section there before pair → there ≡ has_entry items pair.row → more_fault ≡ put_test seen section second more other
-      → second ≡ (same other.row pair.row || has_entry items other.row) → before ≡ cond there 0 count → more ≡ cond second 0 (count + cond there 0 1) → pairs ≡ pair ∷ other ∷ [] → whole ≡ puts_fault seen section items count pairs
-  puts_found_two whole fault more_fault there second before more pair other pairs w f t o s n m p =
-      w ∙ ap₂ option_or (f ∙ ap (λ n. put_test seen section there n pair) n ∙ uncounted seen section there count pair ∙ ap (λ b. put_test seen section b count pair) t)
-      (o ∙ ap (λ n. put_test seen section second n other) m ∙ uncounted seen section second (count + cond there 0 1) other ∙ ap₂ (λ a b. put_test seen section a (count + cond b 0 1) other) s t)
+  pub puts_found_two : (whole fault more_fault : Option DeckFaultKind) (there second : Bool) (more : ℕ) (pair other : Pair) (pairs : List Pair) → whole ≡ option_or fault more_fault
+      → fault ≡ put_test seen section there count pair → there ≡ has_entry items pair.row → more_fault ≡ put_test seen section second more other
+      → second ≡ (same other.row pair.row || has_entry items other.row) → more ≡ count + cond there 0 1 → pairs ≡ pair ∷ other ∷ [] → whole ≡ puts_fault seen section items count pairs
+  puts_found_two whole fault more_fault there second more pair other pairs w f t o s m p =
+      w ∙ ap₂ option_or (f ∙ ap (λ b. put_test seen section b count pair) t)
+      (o ∙ ap (λ n. put_test seen section second n other) m ∙ ap₂ (λ a b. put_test seen section a (count + cond b 0 1) other) s t)
       ∙ sym (ap (puts_fault seen section items count) p ∙ puts_two pair other)
 
-  pub puts_found_one : (fault : Option DeckFaultKind) (there : Bool) (before : ℕ) (pair : Pair) (pairs : List Pair) → fault ≡ put_test seen section there before pair → there ≡ has_entry items pair.row → before ≡ cond there 0 count → pairs ≡ pair ∷ []
+  pub puts_found_one : (fault : Option DeckFaultKind) (there : Bool) (pair : Pair) (pairs : List Pair) → fault ≡ put_test seen section there count pair → there ≡ has_entry items pair.row → pairs ≡ pair ∷ []
       → fault ≡ puts_fault seen section items count pairs
-  puts_found_one fault there before pair pairs f t n p =
-      f ∙ ap (λ n. put_test seen section there n pair) n ∙ uncounted seen section there count pair ∙ ap (λ b. put_test seen section b count pair) t ∙ sym (ap (puts_fault seen section items count) p ∙ puts_one pair)
+  puts_found_one fault there pair pairs f t p = f ∙ ap (λ b. put_test seen section b count pair) t ∙ sym (ap (puts_fault seen section items count) p ∙ puts_one pair)
 
 module _ (seen : Problem Name) (taken : List (Entry Name)) (count : ℕ) where
   pub pairs_one : (pair : Pair) → pairs_fault seen Columns taken count (pair ∷ []) ≡ pair_test seen (has_entry taken pair.row) count pair

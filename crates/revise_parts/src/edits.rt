@@ -1,83 +1,75 @@
 // The edits of data cards under actions.
-ghost use Rattle.std.specs.Prelude.{◌≡◌, ◌+◌, ◌++◌, ◌∷◌, [], OnOk, IfOk, IfErr, insert, length, None, map};
+ghost use Rattle.std.specs.Prelude.{◌≡◌, ◌+◌, ◌++◌, ◌∷◌, [], OnOk, IfOk, IfErr, insert, length, None, map, unwrap_or, option_map};
 ghost use Rattle.problem_definitions.specs.Groups.{in_all, filled};
 ghost use Rattle.problem_definitions.specs.Problem.{group_names};
-ghost use Rattle.deck_definitions.specs.DataCards.{entries_of};
+ghost use Rattle.deck_definitions.specs.DataCards.{entries_of, row_of};
 ghost use Rattle.deck_cards.specs.Shown.{shown};
 ghost use Rattle.revise_definitions.specs.Edits.{without_row, without_column, delete_row, delete_column, edit_sets, edit_bounds};
 ghost use Rattle.revise_parts.specs.Summary.{place_among, row_inserted, column_inserted, rows_edited, columns_edited, edited_by};
 
-use crate::changes::{BoundChange, EntryChange};
-use crate::entries::append_all;
-use crate::groups::{
-    change_group, change_set, delete_set_items, group_number, remove_empty, remove_group,
-    without_row_in_all,
-};
-use crate::parts::{BoundGroup, EntryGroup, NamedProblem, NamedRow};
-use crate::rows::{insert_at, insert_row_at, row_number, rows_modified, rows_without};
-use crate::sets::{change_bound_set, delete_set_bounds, remove_empty_sets, without_column_in_all};
 use crate::under::{UnderAction, place_for};
-use deck_cards::{DataCard, bound_kind, is_blank};
+use deck_cards::{DataCard, bound_kind, is_blank, row_kind};
 use deck_parts::{CardStop, Section};
 use name_table::Name;
 use revise_definitions::Action;
+use revise_lists::{BoundChange, BoundSets, Entries, EntryChange, Groups, NamedProblem, Rows};
 use std::alloc::Global;
 
-// The sets without the items on a row, and without those that have none left.
-fn sets_without_row(
-    alloc: Global,
-    row: &Name,
-    sets: &[EntryGroup],
-) -> Result<Vec<EntryGroup>, CardStop>
-    ensures { IfOk result (λ left. left.items ≡ filled (in_all (without_row row.now) sets.now)) }
+// Takes the items on a row out of all sets, and the sets that have none left.
+fn remove_row_from_sets(row: &Name, sets: &mut Groups) -> Result<(), CardStop>
+    ensures { OnOk result (sets.new ≡ filled (in_all (without_row row.now) sets.old)) }
 {
-    let mut left = without_row_in_all(alloc, row, sets)?;
-    remove_empty(&mut left);
-    Ok(left)
+    sets.remove_row(row)?;
+    sets.remove_empty();
+    Ok(())
 }
 
-// The sets without the bounds on a column, and without those that have none left.
-fn sets_without_column(
-    alloc: Global,
-    column: &Name,
-    sets: &[BoundGroup],
-) -> Result<Vec<BoundGroup>, CardStop>
-    ensures { IfOk result (λ left. left.items ≡ filled (in_all
-        (without_column column.now) sets.now)) }
+// Takes the bounds on a column out of all sets, and the sets that have none left.
+fn remove_column_from_sets(column: &Name, sets: &mut BoundSets)
+    ensures { sets.new ≡ filled (in_all (without_column column.now) sets.old) }
 {
-    let mut left = without_column_in_all(alloc, column, sets)?;
-    remove_empty_sets(&mut left);
-    Ok(left)
+    sets.remove_column(column);
+    sets.remove_empty();
 }
 
 // Takes out a row, with its entries and its items.
-fn remove_row(alloc: Global, name: Name, problem: &mut NamedProblem) -> Result<(), CardStop>
+fn remove_row(name: Name, problem: &mut NamedProblem) -> Result<(), CardStop>
     ensures { OnOk result (problem.new ≡ delete_row name problem.old) }
 {
-    problem.rows = rows_without(alloc, &name, &problem.rows)?;
-    problem.columns = without_row_in_all(alloc, &name, &problem.columns)?;
-    problem.rhs = sets_without_row(alloc, &name, &problem.rhs)?;
-    problem.ranges = sets_without_row(alloc, &name, &problem.ranges)?;
+    problem.rows.remove(&name);
+    problem.columns.remove_row(&name)?;
+    remove_row_from_sets(&name, &mut problem.rhs)?;
+    remove_row_from_sets(&name, &mut problem.ranges)?;
     Ok(())
 }
 
 // Takes out a column, with its bounds.
-fn remove_column(alloc: Global, name: Name, problem: &mut NamedProblem) -> Result<(), CardStop>
-    ensures { OnOk result (problem.new ≡ delete_column name problem.old) }
+fn remove_column(name: Name, problem: &mut NamedProblem)
+    ensures { problem.new ≡ delete_column name problem.old }
 {
-    remove_group(&mut problem.columns, &name);
-    problem.bounds = sets_without_column(alloc, &name, &problem.bounds)?;
-    Ok(())
+    problem.columns.remove(&name);
+    remove_column_from_sets(&name, &mut problem.bounds);
 }
 
 // Where the next new row goes.
-fn next_row_place(action: Action, under: &UnderAction, rows: &[NamedRow]) -> Result<usize, CardStop>
+fn next_row_place(action: Action, under: &UnderAction, rows: &Rows) -> Result<usize, CardStop>
     ensures { IfOk result (λ place. place ≡ place_among action under.now.anchor under.now.there
         (map (λ row. row.name) rows.now)) }
 {
     let anchor = under.anchor();
-    let number = row_number(rows, &anchor);
+    let number = rows.number_of(&anchor);
     place_for(action, &anchor, under.there(), rows.len(), number)
+}
+
+// Puts the row of a card at this place, if the card has a type.
+fn insert_row_at(rows: &mut Rows, place: usize, card: &DataCard<'_>) -> Result<(), CardStop>
+    ensures { OnOk result (rows.new ≡ unwrap_or (option_map (insert rows.old place)
+        (row_of (shown card.now))) rows.old) }
+{
+    match row_kind(card.kind) {
+        Some(kind) => rows.insert(place, kind, card.name1),
+        None => Ok(()),
+    }
 }
 
 // Puts the row of a card next to the anchor.
@@ -85,10 +77,9 @@ fn insert_row_of(
     action: Action,
     under: &UnderAction,
     card: &DataCard<'_>,
-    rows: &mut Vec<NamedRow>,
+    rows: &mut Rows,
 ) -> Result<(), CardStop>
-    ensures { OnOk result (rows.new.items ≡ row_inserted action under.now (shown card.now)
-        rows.old.items) }
+    ensures { OnOk result (rows.new ≡ row_inserted action under.now (shown card.now) rows.old) }
 {
     let place = next_row_place(action, under, rows)?;
     insert_row_at(rows, place, card)
@@ -98,13 +89,13 @@ fn insert_row_of(
 fn next_column_place(
     action: Action,
     under: &UnderAction,
-    columns: &[EntryGroup],
+    columns: &Groups,
 ) -> Result<usize, CardStop>
     ensures { IfOk result (λ place. place ≡ place_among action under.now.anchor
         (length under.now.names) (group_names columns.now)) }
 {
     let anchor = under.anchor();
-    let number = group_number(columns, &anchor);
+    let number = columns.number_of(&anchor);
     place_for(action, &anchor, under.name_count(), columns.len(), number)
 }
 
@@ -113,21 +104,14 @@ fn insert_new_column(
     alloc: Global,
     place: usize,
     card: &DataCard<'_>,
-    columns: &mut Vec<EntryGroup>,
+    columns: &mut Groups,
 ) -> Result<(), CardStop>
-    ensures { OnOk result (columns.new.items ≡ insert columns.old.items place
+    ensures { OnOk result (columns.new ≡ insert columns.old place
         (record { name = card.now.name1; items = entries_of (shown card.now) })) }
 {
-    let mut items = Vec::new(alloc);
-    append_all(&mut items, card)?;
-    insert_at(
-        columns,
-        place,
-        EntryGroup {
-            name: card.name1,
-            items,
-        },
-    )
+    let mut items = Entries::new(alloc);
+    items.append_all(card)?;
+    columns.insert(place, card.name1, items)
 }
 
 // Puts the column of a card next to the anchor, or goes on with that of the card before.
@@ -136,13 +120,13 @@ fn insert_column_of(
     action: Action,
     under: &UnderAction,
     card: &DataCard<'_>,
-    columns: &mut Vec<EntryGroup>,
+    columns: &mut Groups,
 ) -> Result<(), CardStop>
-    ensures { OnOk result (columns.new.items ≡ column_inserted action under.now (shown card.now)
-        columns.old.items) }
+    ensures { OnOk result (columns.new ≡ column_inserted action under.now (shown card.now)
+        columns.old) }
 {
     if under.goes_on(card) {
-        return change_group(alloc, EntryChange::Append, card, columns);
+        return columns.change(alloc, EntryChange::Append, card);
     }
     let place = next_column_place(action, under, columns)?;
     insert_new_column(alloc, place, card, columns)
@@ -150,7 +134,6 @@ fn insert_column_of(
 
 // The edit of a card of ROWS.
 fn edit_rows_of(
-    alloc: Global,
     action: Action,
     under: &UnderAction,
     card: &DataCard<'_>,
@@ -160,11 +143,8 @@ fn edit_rows_of(
         problem.old) }
 {
     match action {
-        Action::Modify => {
-            problem.rows = rows_modified(alloc, card, &problem.rows)?;
-            Ok(())
-        }
-        Action::Delete => remove_row(alloc, card.name1, problem),
+        Action::Modify => problem.rows.modify(card),
+        Action::Delete => remove_row(card.name1, problem),
         Action::Before => insert_row_of(Action::Before, under, card, &mut problem.rows),
         Action::After => insert_row_of(Action::After, under, card, &mut problem.rows),
     }
@@ -180,9 +160,10 @@ fn delete_column_of(
         (record { anchor = []; there = 0; names = []; last = None }) (shown card.now) problem.old) }
 {
     if is_blank(card.name2.bytes()) {
-        return remove_column(alloc, card.name1, problem);
+        remove_column(card.name1, problem);
+        return Ok(());
     }
-    change_group(alloc, EntryChange::Without, card, &mut problem.columns)
+    problem.columns.change(alloc, EntryChange::Without, card)
 }
 
 // The edit of a card of COLUMNS.
@@ -197,7 +178,7 @@ fn edit_columns_of(
         problem.old) }
 {
     match action {
-        Action::Modify => change_group(alloc, EntryChange::Put, card, &mut problem.columns),
+        Action::Modify => problem.columns.change(alloc, EntryChange::Put, card),
         Action::Delete => delete_column_of(alloc, card, problem),
         Action::Before => {
             insert_column_of(alloc, Action::Before, under, card, &mut problem.columns)
@@ -211,29 +192,24 @@ fn edit_sets_of(
     alloc: Global,
     action: Action,
     card: &DataCard<'_>,
-    sets: &mut Vec<EntryGroup>,
+    sets: &mut Groups,
 ) -> Result<(), CardStop>
-    ensures { OnOk result (sets.new.items ≡ edit_sets action (shown card.now) sets.old.items) }
+    ensures { OnOk result (sets.new ≡ edit_sets action (shown card.now) sets.old) }
 {
     match action {
-        Action::Modify => change_set(alloc, EntryChange::Put, card, sets),
-        Action::Delete => delete_set_items(alloc, card, sets),
-        Action::Before => change_set(alloc, EntryChange::Put, card, sets),
-        Action::After => change_set(alloc, EntryChange::Put, card, sets),
+        Action::Modify => sets.change_or_add(alloc, EntryChange::Put, card),
+        Action::Delete => sets.delete(alloc, card),
+        Action::Before => sets.change_or_add(alloc, EntryChange::Put, card),
+        Action::After => sets.change_or_add(alloc, EntryChange::Put, card),
     }
 }
 
 // Puts the bound of a card into its set, if its type is known.
-fn put_bound_of(
-    alloc: Global,
-    card: &DataCard<'_>,
-    sets: &mut Vec<BoundGroup>,
-) -> Result<(), CardStop>
-    ensures { OnOk result (sets.new.items ≡ edit_bounds Action.Modify (shown card.now)
-        sets.old.items) }
+fn put_bound_of(alloc: Global, card: &DataCard<'_>, sets: &mut BoundSets) -> Result<(), CardStop>
+    ensures { OnOk result (sets.new ≡ edit_bounds Action.Modify (shown card.now) sets.old) }
 {
     match bound_kind(card.kind) {
-        Some(kind) => change_bound_set(alloc, BoundChange::Put(kind), card, sets),
+        Some(kind) => sets.change_or_add(alloc, BoundChange::Put(kind), card),
         None => Ok(()),
     }
 }
@@ -243,13 +219,13 @@ fn edit_bounds_of(
     alloc: Global,
     action: Action,
     card: &DataCard<'_>,
-    sets: &mut Vec<BoundGroup>,
+    sets: &mut BoundSets,
 ) -> Result<(), CardStop>
-    ensures { OnOk result (sets.new.items ≡ edit_bounds action (shown card.now) sets.old.items) }
+    ensures { OnOk result (sets.new ≡ edit_bounds action (shown card.now) sets.old) }
 {
     match action {
         Action::Modify => put_bound_of(alloc, card, sets),
-        Action::Delete => delete_set_bounds(alloc, card, sets),
+        Action::Delete => sets.delete(alloc, card),
         Action::Before => put_bound_of(alloc, card, sets),
         Action::After => put_bound_of(alloc, card, sets),
     }
@@ -268,7 +244,7 @@ fn edit_section(
         problem.old) }
 {
     match section {
-        Section::Rows => edit_rows_of(alloc, action, under, card, problem),
+        Section::Rows => edit_rows_of(action, under, card, problem),
         Section::Columns => edit_columns_of(alloc, action, under, card, problem),
         Section::Rhs => edit_sets_of(alloc, action, card, &mut problem.rhs),
         Section::Ranges => edit_sets_of(alloc, action, card, &mut problem.ranges),

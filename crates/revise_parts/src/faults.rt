@@ -10,24 +10,20 @@ ghost use Rattle.deck_cards.specs.Shown.{shown};
 ghost use Rattle.revise_definitions.specs.Tests.{has_range, puts_fault, modify_rows_fault, delete_rows_fault, modify_columns_fault, modify_sets_fault, delete_entry_fault, delete_columns_fault, delete_sets_fault, modify_bound_fault, delete_bounds_fault};
 ghost use Rattle.revise_parts.specs.Summary.{insert_columns_test};
 
-use crate::entries::finds_entry;
-use crate::groups::{finds_group, finds_item, item_count};
 use crate::pairs::{first_of, pairs_fault_of, puts_fault_of};
-use crate::parts::{EntryGroup, NamedProblem};
-use crate::rows::finds_row;
-use crate::sets::{finds_set, finds_set_bound};
 use deck_cards::{DataCard, bound_kind, is_blank};
 use deck_parts::{
     DeckFaultKind, Section, bound_value, has_more, is_free, is_marker, new_row_fault, row_kind_of,
 };
 use name_table::Name;
 use problem_definitions::{BoundKind, MAX_COLUMNS};
+use revise_lists::{Groups, NamedProblem};
 
 // Whether a range set has an item on this row.
 fn has_range_on(seen: &NamedProblem, row: &Name) -> bool
     ensures { result ≡ has_range seen.now row.now }
 {
-    seen.ranges.iter().any(|set| finds_entry(&set.items, row))
+    seen.ranges.any_on(row)
 }
 
 // The fault of a card on which the fields from field 4 on are to be blank.
@@ -48,7 +44,7 @@ pub fn modified_row_fault(seen: &NamedProblem, card: &DataCard<'_>) -> Option<De
         Ok(kind) => kind,
         Err(fault) => return Some(fault),
     };
-    if !finds_row(&seen.rows, &card.name1) {
+    if !seen.rows.has(&card.name1) {
         return Some(DeckFaultKind::ModifyMissing);
     }
     if is_free(kind) && has_range_on(seen, &card.name1) {
@@ -67,7 +63,7 @@ pub fn deleted_row_fault(seen: &NamedProblem, card: &DataCard<'_>) -> Option<Dec
     if is_blank(card.name1.bytes()) {
         return Some(DeckFaultKind::EmptyName);
     }
-    if !finds_row(&seen.rows, &card.name1) {
+    if !seen.rows.has(&card.name1) {
         return Some(DeckFaultKind::DeleteMissing);
     }
     if has_more(card) {
@@ -83,7 +79,7 @@ pub fn inserted_row_fault(seen: &NamedProblem, card: &DataCard<'_>) -> Option<De
     if let Err(fault) = row_kind_of(card) {
         return Some(fault);
     }
-    if finds_row(&seen.rows, &card.name1) {
+    if seen.rows.has(&card.name1) {
         return Some(DeckFaultKind::DuplicateRow);
     }
     new_row_fault(seen.rows.len(), card)
@@ -109,19 +105,26 @@ fn column_head_fault(card: &DataCard<'_>) -> Option<DeckFaultKind>
 // The fault of the pairs of a card that are put into one of these columns.
 fn put_pairs_fault(
     seen: &NamedProblem,
-    columns: &[EntryGroup],
+    columns: &Groups,
     card: &DataCard<'_>,
 ) -> Option<DeckFaultKind>
     ensures { result ≡ puts_fault seen.now Columns (items_of card.now.name1 columns.now)
         (sum_by (λ column. length column.items) columns.now) (pairs_of (shown card.now)) }
 {
-    puts_fault_of(seen, Section::Columns, columns, columns, card)
+    let count = columns.item_count() as u128;
+    puts_fault_of(
+        seen,
+        Section::Columns,
+        columns.items(&card.name1),
+        count,
+        card,
+    )
 }
 
 // The fault of a card's column that is to be modified, and then of its pairs.
 fn put_column_fault(
     seen: &NamedProblem,
-    columns: &[EntryGroup],
+    columns: &Groups,
     card: &DataCard<'_>,
 ) -> Option<DeckFaultKind>
     ensures { result ≡ first_fault
@@ -129,7 +132,7 @@ fn put_column_fault(
         seen.now Columns (items_of card.now.name1 columns.now)
         (sum_by (λ column. length column.items) columns.now) (pairs_of (shown card.now)) ∷ []) }
 {
-    if !finds_group(columns, &card.name1) {
+    if !columns.has(&card.name1) {
         return Some(DeckFaultKind::ModifyMissing);
     }
     put_pairs_fault(seen, columns, card)
@@ -155,27 +158,27 @@ pub fn modified_set_fault(
     if !is_blank(card.kind) {
         return Some(DeckFaultKind::ExtraField);
     }
-    puts_fault_of(seen, section, &[], &[], card)
+    puts_fault_of(seen, section, None, 0, card)
 }
 
 // The fault of what a card deletes of these columns or sets.
 fn deleted_entry_fault(
     seen: &NamedProblem,
-    groups: &[EntryGroup],
+    groups: &Groups,
     card: &DataCard<'_>,
 ) -> Option<DeckFaultKind>
     ensures { result ≡ delete_entry_fault seen.now groups.now (shown card.now) }
 {
-    if !finds_group(groups, &card.name1) {
+    if !groups.has(&card.name1) {
         return Some(DeckFaultKind::DeleteMissing);
     }
     if is_blank(card.name2.bytes()) {
         return rest_fault(card);
     }
-    if !finds_row(&seen.rows, &card.name2) {
+    if !seen.rows.has(&card.name2) {
         return Some(DeckFaultKind::UnknownRow);
     }
-    if !finds_item(groups, &card.name1, &card.name2) {
+    if !groups.has_item(&card.name1, &card.name2) {
         return Some(DeckFaultKind::DeleteMissing);
     }
     rest_fault(card)
@@ -197,7 +200,7 @@ pub fn deleted_column_fault(seen: &NamedProblem, card: &DataCard<'_>) -> Option<
 /// The fault of a card of RHS or RANGES, with these sets, under DELETE.
 pub fn deleted_set_fault(
     seen: &NamedProblem,
-    sets: &[EntryGroup],
+    sets: &Groups,
     card: &DataCard<'_>,
 ) -> Option<DeckFaultKind>
     ensures { result ≡ delete_sets_fault seen.now sets.now (shown card.now) }
@@ -209,13 +212,13 @@ pub fn deleted_set_fault(
 }
 
 // The fault of a new column, or of one that goes on with that of the card before.
-fn new_column_fault(columns: &[EntryGroup], goes_on: bool, name: &Name) -> Option<DeckFaultKind>
+fn new_column_fault(columns: &Groups, goes_on: bool, name: &Name) -> Option<DeckFaultKind>
     ensures { result ≡ first_fault
         ((has_group columns.now name.now && not goes_on ⟹ DeckFaultKind.ColumnSplit) ∷
         (not (has_group columns.now name.now) && nat_le MAX_COLUMNS (length columns.now) ⟹
         DeckFaultKind.TooManyColumns) ∷ []) }
 {
-    let is_there = finds_group(columns, name);
+    let is_there = columns.has(name);
     if is_there && !goes_on {
         return Some(DeckFaultKind::ColumnSplit);
     }
@@ -228,20 +231,20 @@ fn new_column_fault(columns: &[EntryGroup], goes_on: bool, name: &Name) -> Optio
 // The fault of the pairs of a card that are added to one of these columns.
 fn added_pairs_fault(
     seen: &NamedProblem,
-    columns: &[EntryGroup],
+    columns: &Groups,
     card: &DataCard<'_>,
 ) -> Option<DeckFaultKind>
     ensures { result ≡ pairs_fault seen.now Columns (items_of card.now.name1 columns.now)
         (sum_by (λ column. length column.items) columns.now) (pairs_of (shown card.now)) }
 {
-    let count = item_count(columns);
-    pairs_fault_of(seen, columns, count, card)
+    let count = columns.item_count() as u128;
+    pairs_fault_of(seen, columns.items(&card.name1), count, card)
 }
 
 // The fault of a card's column that is inserted or goes on, and then of its pairs.
 fn insert_column_fault(
     seen: &NamedProblem,
-    columns: &[EntryGroup],
+    columns: &Groups,
     goes_on: bool,
     card: &DataCard<'_>,
 ) -> Option<DeckFaultKind>
@@ -282,7 +285,7 @@ fn modified_bound_fault(
     if is_blank(card.name2.bytes()) {
         return Some(DeckFaultKind::EmptyName);
     }
-    if !finds_group(&seen.columns, &card.name2) {
+    if !seen.columns.has(&card.name2) {
         return Some(DeckFaultKind::UnknownColumn);
     }
     match bound_value(kind, card) {
@@ -306,16 +309,16 @@ pub fn modified_bounds_fault(seen: &NamedProblem, card: &DataCard<'_>) -> Option
 pub fn deleted_bounds_fault(seen: &NamedProblem, card: &DataCard<'_>) -> Option<DeckFaultKind>
     ensures { result ≡ delete_bounds_fault seen.now (shown card.now) }
 {
-    if !finds_set(&seen.bounds, &card.name1) {
+    if !seen.bounds.has(&card.name1) {
         return Some(DeckFaultKind::DeleteMissing);
     }
     if is_blank(card.name2.bytes()) {
         return rest_fault(card);
     }
-    if !finds_group(&seen.columns, &card.name2) {
+    if !seen.columns.has(&card.name2) {
         return Some(DeckFaultKind::UnknownColumn);
     }
-    if !finds_set_bound(&seen.bounds, &card.name1, &card.name2) {
+    if !seen.bounds.has_bound(&card.name1, &card.name2) {
         return Some(DeckFaultKind::DeleteMissing);
     }
     rest_fault(card)

@@ -1,9 +1,8 @@
 // The tests of the pairs of a card.
-ghost use Rattle.std.specs.Prelude.{◌≡◌, ◌≤◌, ◌+◌, ◌^◌, ◌||◌, [], None, Some, if◌then◌else◌, length, sum_by};
-ghost use Rattle.std.specs.Option.{option_or};
+ghost use Rattle.std.specs.Prelude.{◌≡◌, ◌≤◌, ◌+◌, ◌^◌, ◌||◌, [], None, Some, if◌then◌else◌, unwrap_or};
+ghost use Rattle.std.specs.Option.{option_or, option_copied};
 ghost use Rattle.problem_definitions.specs.Names.{same};
 ghost use Rattle.problem_definitions.specs.Problem.{has_entry};
-ghost use Rattle.problem_definitions.specs.Groups.{items_of};
 ghost use Rattle.deck_definitions.specs.declared.Section.TheVariants.{Columns};
 ghost use Rattle.deck_definitions.specs.DataCards.{pairs_of};
 ghost use Rattle.deck_definitions.specs.Tests.{value_fault, pair_row_fault, pairs_fault};
@@ -11,13 +10,11 @@ ghost use Rattle.deck_cards.specs.Shown.{shown, pair_shown};
 ghost use Rattle.revise_definitions.specs.Tests.{puts_fault};
 ghost use Rattle.revise_parts.specs.Summary.{put_test, pair_test};
 
-use crate::groups::{finds_item, item_count};
-use crate::parts::{EntryGroup, NamedProblem};
-use crate::rows::{finds_free_row, finds_row};
 use deck_cards::{DataCard, PairText, first_pair, is_blank, is_columns, is_ranges, second_pair};
 use deck_parts::{DeckFaultKind, Section, number_in};
 use name_table::Name;
 use problem_definitions::MAX_ENTRIES;
+use revise_lists::{Entries, NamedProblem};
 
 // The fault of the row in a pair.
 fn row_fault(seen: &NamedProblem, section: Section, row: &Name) -> Option<DeckFaultKind>
@@ -26,10 +23,10 @@ fn row_fault(seen: &NamedProblem, section: Section, row: &Name) -> Option<DeckFa
     if is_blank(row.bytes()) {
         return Some(DeckFaultKind::EmptyName);
     }
-    if !finds_row(&seen.rows, row) {
+    if !seen.rows.has(row) {
         return Some(DeckFaultKind::UnknownRow);
     }
-    if is_ranges(section) && finds_free_row(&seen.rows, row) {
+    if is_ranges(section) && seen.rows.has_free(row) {
         return Some(DeckFaultKind::RangeOnFree);
     }
     None
@@ -102,34 +99,22 @@ fn count_with(count: u128, is_there: bool) -> u128
     count + 1
 }
 
-// The number of entries that an added one is counted with: none is counted where it only replaces one.
-fn count_before(counted: &[EntryGroup], is_there: bool) -> u128
-    ensures { result ≡ (if is_there then 0 else sum_by (λ group. length group.items)
-        counted.now) }
+// Whether one of these items stands on a row, if there are any.
+fn stands_on(items: Option<&Entries>, row: &Name) -> bool
+    ensures { result ≡ has_entry (unwrap_or (option_copied items.entry) []) row.now }
 {
-    if is_there {
-        return 0;
+    match items {
+        Some(items) => items.has(row),
+        None => false,
     }
-    item_count(counted)
-}
-
-// The same for a second pair, where the first replaces an entry or adds one.
-fn count_between(counted: &[EntryGroup], is_first: bool, is_second: bool) -> u128
-    ensures { result ≡ (if is_second then 0 else sum_by (λ group. length group.items) counted.now +
-        (if is_first then 0 else 1)) }
-{
-    if is_second {
-        return 0;
-    }
-    count_with(item_count(counted), is_first)
 }
 
 // Whether a row is that of the pair before, or has an item.
-fn is_second_there(groups: &[EntryGroup], name: &Name, first: &Name, row: &Name) -> bool
-    ensures { result ≡ (same row.now first.now || has_entry (items_of name.now
-        groups.now) row.now) }
+fn is_second_there(items: Option<&Entries>, first: &Name, row: &Name) -> bool
+    ensures { result ≡ (same row.now first.now || has_entry
+        (unwrap_or (option_copied items.entry) []) row.now) }
 {
-    *row == *first || finds_item(groups, name, row)
+    *row == *first || stands_on(items, row)
 }
 
 /// The first of two faults.
@@ -145,25 +130,25 @@ pub fn first_of(
     }
 }
 
-/// The fault of a card's pairs that replace items of the group in field 2 or add some, where these groups are counted.
+/// The fault of a card's pairs that replace some of these items or add some, where so many entries are there.
 pub fn puts_fault_of(
     seen: &NamedProblem,
     section: Section,
-    groups: &[EntryGroup],
-    counted: &[EntryGroup],
+    items: Option<&Entries>,
+    count: u128,
     card: &DataCard<'_>,
 ) -> Option<DeckFaultKind>
-    ensures { result ≡ puts_fault seen.now section (items_of card.now.name1 groups.now)
-        (sum_by (λ group. length group.items) counted.now) (pairs_of (shown card.now)) }
+    requires { count ≤ 2 ^ 127 }
+    ensures { result ≡ puts_fault seen.now section (unwrap_or (option_copied items.entry) []) count
+        (pairs_of (shown card.now)) }
 {
     let first = first_pair(card);
-    let is_first = finds_item(groups, &card.name1, &first.row);
-    let before = count_before(counted, is_first);
-    let fault = put_fault_at(seen, section, is_first, before, &first);
+    let is_first = stands_on(items, &first.row);
+    let fault = put_fault_at(seen, section, is_first, count, &first);
     match second_pair(card) {
         Some(second) => {
-            let is_second = is_second_there(groups, &card.name1, &first.row, &second.row);
-            let more = count_between(counted, is_first, is_second);
+            let is_second = is_second_there(items, &first.row, &second.row);
+            let more = count_with(count, is_first);
             let other = put_fault_at(seen, section, is_second, more, &second);
             first_of(fault, other)
         }
@@ -171,23 +156,23 @@ pub fn puts_fault_of(
     }
 }
 
-/// The fault of a card's pairs that add entries to the column in field 2, where so many entries are there.
+/// The fault of a card's pairs that add entries to those of a column, where so many entries are there.
 pub fn pairs_fault_of(
     seen: &NamedProblem,
-    columns: &[EntryGroup],
+    items: Option<&Entries>,
     count: u128,
     card: &DataCard<'_>,
 ) -> Option<DeckFaultKind>
     requires { count ≤ 2 ^ 127 }
-    ensures { result ≡ pairs_fault seen.now Columns (items_of card.now.name1 columns.now) count
+    ensures { result ≡ pairs_fault seen.now Columns (unwrap_or (option_copied items.entry) []) count
         (pairs_of (shown card.now)) }
 {
     let first = first_pair(card);
-    let is_first = finds_item(columns, &card.name1, &first.row);
+    let is_first = stands_on(items, &first.row);
     let fault = pair_fault_at(seen, is_first, count, &first);
     match second_pair(card) {
         Some(second) => {
-            let is_second = is_second_there(columns, &card.name1, &first.row, &second.row);
+            let is_second = is_second_there(items, &first.row, &second.row);
             let other = pair_fault_at(seen, is_second, count + 1, &second);
             first_of(fault, other)
         }

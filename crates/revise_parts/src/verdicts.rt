@@ -9,11 +9,11 @@ use crate::faults::{
     inserted_column_fault, inserted_row_fault, modified_bounds_fault, modified_column_fault,
     modified_row_fault, modified_set_fault,
 };
-use crate::parts::NamedProblem;
 use crate::under::UnderAction;
 use deck_cards::DataCard;
 use deck_parts::{DeckFaultKind, Section};
 use revise_definitions::Action;
+use revise_lists::NamedProblem;
 
 // The fault of a card of ROWS.
 fn rows_fault_of(

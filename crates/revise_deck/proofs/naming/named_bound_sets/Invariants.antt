@@ -6,4 +6,4 @@ use Rattle.problem_definitions.specs.Problem.{group_names}
 use Rattle.revise_deck.proofs.naming.named_bound_sets.Given as goal
 
 abbrev pub invariant-loop-set : goal.invariant-loop-set
-invariant-loop-set l = l.list.items ≡ map (group_by (bound_by (name_at (group_names l.columns)))) (take l.set-index l.sets)
+invariant-loop-set l = l.list ≡ map (group_by (bound_by (name_at (group_names l.columns)))) (take l.set-index l.sets)

@@ -5,4 +5,4 @@ use Rattle.problem_definitions.specs.Numbering.{entry_by, group_by}
 use Rattle.revise_deck.proofs.naming.named_columns.Given as goal
 
 abbrev pub invariant-loop-column : goal.invariant-loop-column
-invariant-loop-column l = l.list.items ≡ map (group_by (entry_by (name_at (map (λ row. row.name) l.rows)))) (take l.column-index l.columns)
+invariant-loop-column l = l.list ≡ map (group_by (entry_by (name_at (map (λ row. row.name) l.rows)))) (take l.column-index l.columns)

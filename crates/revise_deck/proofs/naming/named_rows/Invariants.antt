@@ -5,4 +5,4 @@ use Rattle.problem_definitions.specs.Numbering.{row_by}
 use Rattle.revise_deck.proofs.naming.named_rows.Given as goal
 
 abbrev pub invariant-loop-row : goal.invariant-loop-row
-invariant-loop-row l = l.list.items ≡ map (row_by (name_at (map (λ row. row.name) l.rows))) (take l.row-index l.rows)
+invariant-loop-row l = l.list ≡ map (row_by (name_at (map (λ row. row.name) l.rows))) (take l.row-index l.rows)

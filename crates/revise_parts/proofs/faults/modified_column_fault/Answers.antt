@@ -1,4 +1,4 @@
-use Rattle.std.proofs.Common.{ap, ◌∙◌}
+use Rattle.std.proofs.Common.{ap}
 use Rattle.problem_definitions.specs.Names.{Name}
 use Rattle.problem_definitions.specs.Problem.{Problem}
 use Rattle.deck_cards.specs.Shown.{shown}
@@ -7,5 +7,5 @@ use Rattle.revise_parts.proofs.faults.modified_column_fault.Goals as goal
 
 pub returns : goal.returns
 returns c =
-    modified_parts c.args.seen.now (shown c.args.card.now) c.first_of.result c.column_head_fault-head.result c.put_column_fault-rest.result c.deref.result.now
-    c.first_of.ensures c.column_head_fault-head.ensures c.put_column_fault-rest.ensures (c.deref.ensures.value ∙ ap (λ (p : Problem Name). p.columns) c.seen.view_is)
+    modified_parts c.args.seen.now (shown c.args.card.now) c.first_of.result c.column_head_fault-head.result c.put_column_fault-rest.result c.seen.inside.columns
+    c.first_of.ensures c.column_head_fault-head.ensures c.put_column_fault-rest.ensures (ap (λ (p : Problem Name). p.columns) c.seen.view_is)

@@ -1,9 +1,0 @@
--- The list so far is that of the elements before the present one.
-use Rattle.std.proofs.Common.{◌≡◌, map, take}
-use Rattle.problem_definitions.specs.Names.{number_in}
-use Rattle.problem_definitions.specs.Numbering.{bound_by, group_by}
-use Rattle.problem_definitions.specs.Problem.{group_names}
-use Rattle.revise_deck.proofs.numbering.numbered_bound_sets.Given as goal
-
-abbrev pub invariant-loop-set : goal.invariant-loop-set
-invariant-loop-set l = l.list.items ≡ map (group_by (bound_by (number_in (group_names l.columns)))) (take l.set-index l.sets)

@@ -1,8 +1,0 @@
--- The list so far is that of the elements before the present one.
-use Rattle.std.proofs.Common.{◌≡◌, map, take}
-use Rattle.problem_definitions.specs.Names.{number_in}
-use Rattle.problem_definitions.specs.Numbering.{row_by}
-use Rattle.revise_deck.proofs.numbering.numbered_rows.Given as goal
-
-abbrev pub invariant-loop-row : goal.invariant-loop-row
-invariant-loop-row l = l.list.items ≡ map (row_by (number_in (map (λ row. row.name) l.rows))) (take l.row-index l.rows)

@@ -1,8 +1,0 @@
--- The list so far is that of the elements before the present one.
-use Rattle.std.proofs.Common.{◌≡◌, map, take}
-use Rattle.problem_definitions.specs.Names.{number_in}
-use Rattle.problem_definitions.specs.Numbering.{entry_by, group_by}
-use Rattle.revise_deck.proofs.numbering.numbered_sets.Given as goal
-
-abbrev pub invariant-loop-set : goal.invariant-loop-set
-invariant-loop-set l = l.list.items ≡ map (group_by (entry_by (number_in (map (λ row. row.name) l.rows)))) (take l.set-index l.sets)

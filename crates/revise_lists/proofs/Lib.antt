@@ -1,0 +1,4 @@
+pub mod NamedValues
+pub mod Counted
+pub mod Retained
+pub mod Slots

@@ -1,0 +1,10 @@
+-- The sets so far, and those of the names that are left, are all.
+use Rattle.std.proofs.Common.{◌≡◌, ◌++◌, map}
+use Rattle.problem_definitions.specs.Names.{number_in}
+use Rattle.problem_definitions.specs.Numbering.{bound_by, group_by}
+use Rattle.problem_definitions.specs.Problem.{group_names}
+use Rattle.deck_parts.specs.Shown.{group_at}
+use Rattle.revise_lists.proofs.bound_sets.numbered_sets.Given as goal
+
+abbrev pub invariant-loop-name : goal.invariant-loop-name
+invariant-loop-name l = l.list.items ++ map (group_by (bound_by (number_in (group_names l.columns)))) (map group_at l.name-iterator) ≡ map (group_by (bound_by (number_in (group_names l.columns)))) (map group_at l.sets.entries)

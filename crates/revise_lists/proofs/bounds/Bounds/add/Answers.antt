@@ -1,0 +1,18 @@
+use Rattle.std.proofs.Common.{Some, [], ◌∷◌, ap, sym, ◌∙◌}
+use Rattle.problem_definitions.specs.Names.{Name}
+use Rattle.problem_definitions.specs.Problem.{Bound}
+use Rattle.deck_definitions.specs.Tests.{is_bound_already}
+use Rattle.revise_lists.specs.declared.ends.End.TheVariants.{Upper, Lower}
+use Rattle.revise_lists.specs.Shown.{held}
+use Rattle.revise_lists.proofs.Slots.{added, free_ends, held-append}
+use Rattle.revise_lists.proofs.bounds.Bounds.add.Goals as goal
+
+pub invariant_of-self : goal.invariant_of-self
+invariant_of-self c =
+    let free = free_ends c.args.bound.column c.args.bound.kind (held c.self.inside.slots.items) (ap (λ bounds. is_bound_already bounds c.args.bound.column c.args.bound.kind) c.self.view_is ∙ ap (λ (b : Bound Name). is_bound_already c.args.self.now b.column b.kind) (sym c.bound.view_is) ∙ sym c.has_met.ensures ∙ c.if-has_met.false) in (
+      added Upper c.self.inside.uppers.entries c.self.inside.slots.items c.args.bound c.self.invariant.0 free.0 c.add_slot.new.slots.items c.add_slot.new.uppers.entries c.in-Ok.ensures.slots c.in-Ok.ensures.uppers,
+      added Lower c.self.inside.lowers.entries c.self.inside.slots.items c.args.bound c.self.invariant.1 free.1 c.add_slot.new.slots.items c.add_slot.new.lowers.entries c.in-Ok.ensures.slots c.in-Ok.ensures.lowers,
+    )
+
+pub returns-in-Ok : goal.returns-in-Ok
+returns-in-Ok c = rw (← c.self.view_is) (ap held c.in-Ok.ensures.slots ∙ held-append c.self.inside.slots.items (Some c.args.bound ∷ []))

@@ -1,0 +1,10 @@
+use Rattle.std.proofs.Common.{[], ◌∷◌, ◌++◌, ap, sym, ◌∙◌}
+use Rattle.revise_lists.proofs.Slots.{held_some, held_gap}
+use Rattle.revise_lists.proofs.bounds.Bounds.closed_up.Goals as goal
+use Rattle.revise_lists.proofs.bounds.Bounds.closed_up.Goals.{in-Some+in_ok-add-in-Some, in-None}
+
+pub loop-slot-preserved : goal.loop-slot-preserved
+loop-slot-preserved c = elim c.match-slot.branch [
+  | in-Some+in_ok-add-in-Some w ↦ w.bounds-is ∙ w.in_ok-add-in-Some.ensures ∙ ap (λ b. b ++ w.in-Some.bound ∷ []) c.loop-slot.invariant ∙ sym (held_some c.deref-slot-items.result.now c.loop-slot.slot-index _ c.slot-item.result w.in-Some.bound c.loop-slot-test.true c.slot-item.is w.in-Some.is)
+  | in-None w ↦ w.bounds-is ∙ c.loop-slot.invariant ∙ sym (held_gap c.deref-slot-items.result.now c.loop-slot.slot-index _ c.slot-item.result c.loop-slot-test.true c.slot-item.is w.in-None.is)
+]

@@ -1,0 +1,15 @@
+use Rattle.std.proofs.Common.{map, refl, ap, ◌∙◌}
+use Rattle.deck_parts.specs.Shown.{group_at}
+use Rattle.revise_lists.proofs.NamedValues.{removed}
+use Rattle.revise_lists.proofs.Counted.{count_removed}
+use Rattle.revise_lists.proofs.groups.Groups.remove.Goals as goal
+
+pub invariant_of-self : goal.invariant_of-self
+invariant_of-self c = (
+  c.shift_remove.ensures.unique,
+  count_removed c.args.name.now c.self.inside.groups.entries c.shift_remove.new.self.entries c.self.inside.count c.count_under-before.result _ c.self.invariant.1 c.shift_remove.ensures.entries c.count_under-before.ensures.count
+      c.saturating_sub-self-inside.ensures,
+)
+
+pub returns : goal.returns
+returns c = rw (← c.self.view_is) (ap (map group_at) c.shift_remove.ensures.entries ∙ removed group_at (λ group. group.name) (λ e. refl) c.args.name.now c.self.inside.groups.entries c.self.invariant.0)

@@ -1,0 +1,192 @@
+// The entries of a column, or the items of a set, under revision.
+ghost use Rattle.std.specs.Prelude.{◌≡◌, ◌++◌, ◌∷◌, [], IfOk, OnOk, map, length};
+ghost use Rattle.card_definitions.specs.Words.{is_empty as is_none_left};
+ghost use Rattle.problem_definitions.specs.Names.{number_in};
+ghost use Rattle.problem_definitions.specs.Numbering.{entry_by};
+ghost use Rattle.problem_definitions.specs.Problem.{has_entry};
+ghost use Rattle.deck_definitions.specs.DataCards.{entry_of, entries_of};
+ghost use Rattle.deck_cards.specs.Shown.{shown, pair_shown};
+ghost use Rattle.revise_definitions.specs.Edits.{put_entry, put_entries, without_row};
+ghost use Rattle.revise_lists.specs.Changes.{entries_changed};
+ghost use Rattle.revise_lists.specs.Shown.{entry_on};
+
+use crate::changes::EntryChange;
+use crate::named::insert_new;
+use crate::parts::NamedEntry;
+use crate::rows::Rows;
+use deck_cards::{DataCard, PairText, first_pair, second_pair};
+use deck_fields::Decimal;
+use deck_parts::{CardStop, DeckFaultKind, number_in};
+use indexmap::IndexMap;
+use name_table::Name;
+use problem_file::{DeckEntry, NoMemory};
+use std::alloc::Global;
+use std::marker::Model;
+
+/// Numbers on rows, in order.
+#[derive(Drop)]
+pub struct Entries {
+    values: IndexMap<Name, Decimal>,
+}
+
+impl Model for Entries {
+    ghost use Rattle.std.specs.Prelude.{List, map};
+    ghost use Rattle.std.specs.List.{IsDistinct};
+    ghost use Rattle.std.specs.Map.{keys_of};
+    ghost use Rattle.problem_definitions.specs.Names.{Name as Text, same};
+    ghost use Rattle.problem_definitions.specs.Problem.{Entry};
+    ghost use Rattle.revise_lists.specs.Shown.{entry_on};
+
+    ghost Value = { List (Entry Text) };
+
+    ghost view = { λ entries. map entry_on entries.values.entries };
+
+    ghost invariant = { λ entries. IsDistinct same (keys_of entries.values.entries) };
+}
+
+// The entry of a pair, in whose number no fault was found.
+fn entry_from(pair: &PairText<'_>) -> Result<NamedEntry, CardStop>
+    ensures { IfOk result (λ entry. entry ≡ entry_of (pair_shown pair.now)) }
+{
+    match number_in(pair.column, pair.value) {
+        Ok(value) => Ok(NamedEntry {
+            row: pair.row,
+            value,
+        }),
+        Err(kind) => Err(CardStop::Refused(kind)),
+    }
+}
+
+// A number of at most 32 bits.
+pub fn in_32_bits(number: usize) -> Result<u32, NoMemory>
+    ensures { IfOk result (λ n. n ≡ number) }
+{
+    match u32::try_from(number) {
+        Ok(number) => Ok(number),
+        Err(_) => Err(NoMemory),
+    }
+}
+
+impl Entries {
+    pub fn new(alloc: Global) -> Entries
+        ensures { result ≡ [] }
+    {
+        Entries {
+            values: IndexMap::new(alloc),
+        }
+    }
+
+    /// How many entries there are.
+    pub fn len(&self) -> usize
+        ensures { result ≡ length self.now }
+    {
+        self.values.len()
+    }
+
+    /// Whether there is none.
+    pub fn is_empty(&self) -> bool
+        ensures { result ≡ is_none_left self.now }
+    {
+        self.values.is_empty()
+    }
+
+    /// Whether an entry stands on this row.
+    pub fn has(&self, row: &Name) -> bool
+        ensures { result ≡ has_entry self.now row.now }
+    {
+        self.values.contains_key(row)
+    }
+
+    /// Puts an entry in the place of the one on its row, or at the end where there is none.
+    pub fn put(&mut self, entry: NamedEntry) -> Result<(), CardStop>
+        ensures { OnOk result (self.new ≡ put_entry self.old entry) }
+    {
+        self.values.insert(entry.row, entry.value)?;
+        Ok(())
+    }
+
+    /// Adds an entry at the end, or refuses a row that has one.
+    pub fn add(&mut self, entry: NamedEntry) -> Result<(), CardStop>
+        ensures { OnOk result (self.new ≡ self.old ++ entry ∷ []) }
+    {
+        let last = self.values.len();
+        insert_new(
+            &mut self.values,
+            last,
+            entry.row,
+            entry.value,
+            DeckFaultKind::DuplicateEntry,
+        )
+    }
+
+    /// Takes out the entry on this row.
+    pub fn remove(&mut self, row: &Name)
+        ensures { self.new ≡ without_row row.now self.old }
+    {
+        self.values.shift_remove(row);
+    }
+
+    /// The entries on the numbers of their rows.
+    pub fn numbered(&self, alloc: Global, rows: &Rows) -> Result<Vec<DeckEntry>, NoMemory>
+        ensures { IfOk result (λ list. list.items ≡ map (entry_by
+            (number_in (map (λ row. row.name) rows.now))) self.now) }
+    {
+        numbered_entries(alloc, rows, &self.values)
+    }
+
+    // Puts the entries of a card in, one after another.
+    fn put_all(&mut self, card: &DataCard<'_>) -> Result<(), CardStop>
+        ensures { OnOk result (self.new ≡ put_entries (entries_of (shown card.now)) self.old) }
+    {
+        self.put(entry_from(&first_pair(card))?)?;
+        match second_pair(card) {
+            Some(second) => self.put(entry_from(&second)?),
+            None => Ok(()),
+        }
+    }
+
+    /// Adds the entries of a card at the end.
+    pub fn append_all(&mut self, card: &DataCard<'_>) -> Result<(), CardStop>
+        ensures { OnOk result (self.new ≡ self.old ++ entries_of (shown card.now)) }
+    {
+        self.add(entry_from(&first_pair(card))?)?;
+        match second_pair(card) {
+            Some(second) => self.add(entry_from(&second)?),
+            None => Ok(()),
+        }
+    }
+
+    /// Changes the entries as a card says.
+    pub fn change(&mut self, change: EntryChange, card: &DataCard<'_>) -> Result<(), CardStop>
+        ensures { OnOk result (self.new ≡ entries_changed change (shown card.now) self.old) }
+    {
+        match change {
+            EntryChange::Put => self.put_all(card),
+            EntryChange::Append => self.append_all(card),
+            EntryChange::Without => {
+                self.remove(&card.name2);
+                Ok(())
+            }
+        }
+    }
+}
+
+// Entries on the numbers of their rows.
+fn numbered_entries(
+    alloc: Global,
+    rows: &Rows,
+    values: &IndexMap<Name, Decimal>,
+) -> Result<Vec<DeckEntry>, NoMemory>
+    ensures { IfOk result (λ list. list.items ≡ map (entry_by
+        (number_in (map (λ row. row.name) rows.now))) (map entry_on values.now.entries)) }
+{
+    let mut list = Vec::new(alloc);
+    for (row, value) in values {
+        let entry = DeckEntry {
+            row: in_32_bits(rows.number_of(row))?,
+            value: *value,
+        };
+        list.push(entry).map_err(|_| NoMemory)?;
+    }
+    Ok(list)
+}
