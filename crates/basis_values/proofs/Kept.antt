@@ -22,7 +22,7 @@ kept_by {a} {c} {b} {d} {p} {s} {before} {after} has same_matrix same_basics kee
     same_matrix = same_matrix ∙ has.same_matrix;
     same_basics = same_basics ∙ has.same_basics;
   },
-  keeps_at p s a b d before after has same_basics keeps
+  keeps_at p s a b d before after has same_basics keeps,
 )
 
 -- a call after others
