@@ -2,7 +2,7 @@
 
 ghost use Rattle.std.specs.Prelude.{◌≡◌, ◌≢◌, ◌<◌, List, length, IfOk, IfErr};
 ghost use Rattle.lp_definitions.specs.LinearProgram.{size, value_at, IsLinearProgram};
-ghost use Rattle.lp_definitions.specs.Basis.{basics_of, IsPointOf};
+ghost use Rattle.lp_definitions.specs.Basis.{IsPointOf};
 ghost use Rattle.lp_definitions.specs.declared.Status.{Status};
 ghost use Rattle.path_definitions.specs.Path.{Ending};
 ghost use Rattle.termination_laws.specs.Laws.{lists_of};

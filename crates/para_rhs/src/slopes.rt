@@ -2,7 +2,6 @@
 
 ghost use Rattle.std.specs.Prelude.{◌≡◌, None, length, option_map, OnOk, IfOk, IfErr};
 ghost use Rattle.lp_definitions.specs.LinearProgram.{size, value_at, IsVariable, IsLinearProgram};
-ghost use Rattle.lp_definitions.specs.Basis.{basics_of};
 ghost use Rattle.lp_model.specs.RatesCalls.{IfOverflow};
 ghost use Rattle.basis_values.specs.Calls.{HasRates, KeepsRates};
 ghost use Rattle.postoptimal_definitions.specs.RhsRun.{shift_of, IsSlope};

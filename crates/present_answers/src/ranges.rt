@@ -1,6 +1,6 @@
 // What RANGE shows of an optimal basis: its point, and the intervals in which it stays optimal.
 ghost use Rattle.std.specs.Prelude.{◌≡◌, None, IfOk, IfErr};
-ghost use Rattle.lp_definitions.specs.Basis.{basics_of, IsOptimalBasis};
+ghost use Rattle.lp_definitions.specs.Basis.{IsOptimalBasis};
 ghost use Rattle.lp_model.specs.RatesCalls.{IfOverflow};
 ghost use Rattle.basis_values.specs.Calls.{HasRates, KeepsRates};
 ghost use Rattle.answer_definitions.specs.Sections.{IsRanged};

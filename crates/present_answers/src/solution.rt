@@ -1,7 +1,7 @@
 // What SOLUTION shows of any present basis: its point, its prices, and the slack of each row.
 ghost use Rattle.std.specs.Prelude.{◌≡◌, None, length, IfOk, IfErr};
 ghost use Rattle.lp_definitions.specs.LinearProgram.{size, value_at};
-ghost use Rattle.lp_definitions.specs.Basis.{basics_of, IsPointOf, ArePricesOf};
+ghost use Rattle.lp_definitions.specs.Basis.{IsPointOf, ArePricesOf};
 ghost use Rattle.lp_model.specs.RatesCalls.{IfOverflow};
 ghost use Rattle.basis_values.specs.Calls.{HasRates, KeepsRates, PointRefused};
 ghost use Rattle.answer_definitions.specs.Sections.{IsShown};

@@ -2,7 +2,7 @@
 
 ghost use Rattle.std.specs.Prelude.{◌≡◌, None, length, IfOk, IfErr};
 ghost use Rattle.lp_definitions.specs.LinearProgram.{size, value_at, IsLinearProgram};
-ghost use Rattle.lp_definitions.specs.Basis.{basics_of, IsPointOf, ArePricesOf, IsOptimalBasis};
+ghost use Rattle.lp_definitions.specs.Basis.{IsPointOf, ArePricesOf, IsOptimalBasis};
 ghost use Rattle.postoptimal_definitions.specs.Ranges.{IsRangeReport};
 ghost use Rattle.basis_values.specs.Calls.{HasRates, KeepsRates};
 ghost use Rattle.basis_values.specs.Stops.{RangeOverflow};
