@@ -1,5 +1,5 @@
 // Sets of bounds under revision.
-ghost use Rattle.std.specs.Prelude.{◌≡◌, ◌++◌, ◌∷◌, [], IfOk, OnOk, true, map, length, insert, unwrap_or, not};
+ghost use Rattle.std.specs.Prelude.{◌≡◌, ◌++◌, ◌∷◌, [], IfOk, OnOk, true, map, not};
 ghost use Rattle.card_definitions.specs.Words.{is_empty as is_none_left};
 ghost use Rattle.problem_definitions.specs.Groups.{in_group, in_set, in_all, without_group, filled, items_of};
 ghost use Rattle.problem_definitions.specs.Names.{same, number_in};

@@ -1,5 +1,5 @@
 // Lists of things with different names, in which a name is looked up by its hash.
-ghost use Rattle.std.specs.Prelude.{◌≡◌, ◌<◌, ◌^◌, insert, OnOk, OnErr};
+ghost use Rattle.std.specs.Prelude.{◌≡◌, insert, OnOk, OnErr};
 ghost use Rattle.std.specs.List.{IsDistinct};
 ghost use Rattle.std.specs.Map.{keys_of};
 ghost use Rattle.problem_definitions.specs.Names.{same, number_in};

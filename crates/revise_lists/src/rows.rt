@@ -1,5 +1,5 @@
 // The rows of a problem under revision.
-ghost use Rattle.std.specs.Prelude.{◌≡◌, ◌++◌, ◌∷◌, [], map, filter, not, insert, length, IfOk, OnOk, if◌then◌else◌};
+ghost use Rattle.std.specs.Prelude.{◌≡◌, ◌++◌, ◌∷◌, [], map, filter, not, insert, length, IfOk, OnOk};
 ghost use Rattle.problem_definitions.specs.Names.{same, number_in};
 ghost use Rattle.problem_definitions.specs.Problem.{plain_row, has_row, has_free_row};
 ghost use Rattle.problem_definitions.specs.Numbering.{row_by};

@@ -1,5 +1,5 @@
 // The edits of data cards under actions.
-ghost use Rattle.std.specs.Prelude.{◌≡◌, ◌+◌, ◌++◌, ◌∷◌, [], OnOk, IfOk, IfErr, insert, length, None, map, unwrap_or, option_map};
+ghost use Rattle.std.specs.Prelude.{◌≡◌, [], OnOk, IfOk, IfErr, insert, length, None, map, unwrap_or, option_map};
 ghost use Rattle.problem_definitions.specs.Groups.{in_all, filled};
 ghost use Rattle.problem_definitions.specs.Problem.{group_names};
 ghost use Rattle.deck_definitions.specs.DataCards.{entries_of, row_of};
