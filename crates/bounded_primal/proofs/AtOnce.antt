@@ -1,4 +1,4 @@
--- From a feasible point no limit lies behind, so nothing is reached sooner than what is reached at once.
+-- From within all limits none lies behind, so nothing is reached sooner than what is reached at once.
 use Rattle.std.proofs.Common.{◌≡◌, ℕ, ◌≤◌, Bool, true, false, refl, sym, ◌∙◌, subst, pos, arith}
 use Rattle.std.specs.Prelude.{Option, Some, None, IfSome, option_map, if◌then◌else◌}
 use Rattle.exact_values.specs.Rational.{ℚ, zero_ℚ, neg_ℚ, ◌-ℚ◌, ◌/ℚ◌, ◌≤ℚ◌, ◌<ℚ◌}
@@ -7,7 +7,7 @@ use Rattle.exact_values.proofs.Ring.{by_ring1, by_ring2, ◌⊖◌, ◌⊗◌, �
 use Rattle.exact_values.proofs.Inverse.{same_quotients}
 use Rattle.exact_values.proofs.Order.{le_by_one, le-div, apart_from_above, apart_from_below}
 use Rattle.lp_definitions.specs.LinearProgram.{LinearProgram, Vector, size, lower_of, upper_of}
-use Rattle.lp_definitions.specs.Solutions.{IsFeasible}
+use Rattle.lp_definitions.specs.Solutions.{IsWithinLimits}
 use Rattle.path_definitions.specs.Moves.{is_no_later, room}
 use Rattle.path_laws.proofs.Tests.{lt_true, le_from, neg_above}
 use Rattle.basis_values.specs.Reach.{length_of, IsNearest}
@@ -45,7 +45,7 @@ forward low high z v x within e = by_tests (lt_ℚ zero_ℚ v) refl (lt_ℚ v ze
     by_tests false up false down_is e = cc
 
 -- what is reached at once among the first n is nearest of all
-module _ (p : LinearProgram) (z v : Vector) (feasible : IsFeasible p z) (n : ℕ) (within : n ≤ size p.matrix) where
+module _ (p : LinearProgram) (z v : Vector) (all_within : IsWithinLimits p z) (n : ℕ) (within : n ≤ size p.matrix) where
   pub nearest_at_once : (nearest : Option Reach) → length_of nearest ≡ Some zero_ℚ → IsNearest (room p z v) n nearest → IsNearest (room p z v) (size p.matrix) nearest
   nearest_at_once None now h = cc
   nearest_at_once (Some r) now h = record {
@@ -59,5 +59,5 @@ module _ (p : LinearProgram) (z v : Vector) (feasible : IsFeasible p z) (n : ℕ
       no_sooner : (i : ℕ) → 1 ≤ i → i ≤ size p.matrix → (o : Option ℚ) → room p z v i ≡ o → is_no_later (room p z v r.p) (room p z v i) ≡ true
       no_sooner i low high None is = rw (h.reaches, is) refl
       no_sooner i low high (Some l) is =
-          let ahead : zero_ℚ ≤ℚ l = forward (lower_of p i) (upper_of p i) (z i) (v i) l (feasible.within i (low, high)) is in
+          let ahead : zero_ℚ ≤ℚ l = forward (lower_of p i) (upper_of p i) (z i) (v i) l (all_within i (low, high)) is in
           rw (h.reaches, is) (le_from r.length l (subst (λ x. x ≤ℚ l) (sym (some_value now)) ahead))

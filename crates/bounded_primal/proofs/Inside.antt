@@ -1,5 +1,5 @@
 -- Once no basic is outside its limits none ever is: the point is feasible, and a step leaves it so.
-use Rattle.std.proofs.Common.{◌≡◌, ℕ, false, List, refl, ap₂}
+use Rattle.std.proofs.Common.{◌≡◌, ℕ, false, List, refl, sym, ◌∙◌, ap₂}
 use Rattle.std.specs.Prelude.{Option, Some, None, IfSome, ◌&&◌, ◌||◌, Bool, true}
 use Rattle.exact_values.specs.Rational.{ℚ, ◌≤ℚ◌}
 use Rattle.exact_values.specs.Tests.{lt_ℚ}
@@ -8,11 +8,10 @@ use Rattle.lp_definitions.specs.LinearProgram.{LinearProgram, Matrix, Vector, Is
 use Rattle.lp_definitions.specs.Basis.{Basics, basics_of, is_in, IsPointOf, Tableau, IsTableau}
 use Rattle.lp_definitions.specs.Solutions.{IsFeasible}
 use Rattle.lp_definitions.specs.declared.Status.{Status}
-use Rattle.lp_laws.proofs.Uniqueness.{one_point}
 use Rattle.path_definitions.specs.Moves.{on_limit, is_outside, is_below, is_above}
 use Rattle.path_definitions.specs.Path.{IsStep, after}
 use Rattle.path_laws.specs.Laws.{IsNonsingularBasis}
-use Rattle.path_laws.proofs.Ends.{feasible, IsFeasible-same}
+use Rattle.path_laws.proofs.Ends.{feasible}
 use Rattle.path_laws.proofs.Turns.{IsSecondPhase}
 use Rattle.path_laws.proofs.Second.{feasible_step}
 use Rattle.path_laws.proofs.Searches.{least_none}
@@ -20,9 +19,11 @@ use Rattle.path_laws.proofs.Steps.{step_leads}
 use Rattle.path_laws.proofs.Tests.{lt_true}
 use Rattle.basis_values.proofs.Existence.{rates_exist}
 use Rattle.basis_values.specs.Calls.{HasRates}
+use Rattle.bounded_primal.specs.KeptPoints.{AgreesWithPoint}
 use Rattle.bounded_primal.specs.Moves.{move_by}
 use Rattle.bounded_primal.specs.Turns.{IsUncrossed, least_outside, MovesOn}
 use Rattle.bounded_primal.specs.declared.moves.Stopper.{Stopper}
+use Rattle.bounded_primal.proofs.Agreement.{basis_point, outside_same}
 
 -- what isn't less is not found less
 not_less : (x y : ℚ) → y ≤ℚ x → lt_ℚ x y ≡ false
@@ -50,7 +51,13 @@ feasible_has_none p s z h =
     least_none p (λ k. is_in (basics_of s) k && is_outside p z k)
     (λ k is. let within = h.within k is in neither (is_in (basics_of s) k) (is_below p z k) (is_above p z k) (not_below (lower_of p k) (z k) within.0) (not_above (upper_of p k) (z k) within.1))
 
-module _ (p : LinearProgram) (a : Matrix) (b : Basics) (s : List Status) (has : HasRates a b p s) (z : Vector) (point : IsPointOf p s z) (uncrossed : IsUncrossed p) (inside : least_outside p s z ≡ None) where
+module _ (p : LinearProgram) (a : Matrix) (b : Basics) (s : List Status) (has : HasRates a b p s) (v : Vector) (agrees : AgreesWithPoint p s v) (uncrossed : IsUncrossed p) (inside : least_outside p s v ≡ None) where
+  abbrev z : Vector
+  z = (basis_point p s has.is_basis has.nonsingular).0
+
+  point : IsPointOf p s z
+  point = (basis_point p s has.is_basis has.nonsingular).1
+
   abbrev tableau : Tableau
   tableau = record { point = z; rate = (rates_exist p.matrix (basics_of s) has.nonsingular).0 }
 
@@ -58,7 +65,7 @@ module _ (p : LinearProgram) (a : Matrix) (b : Basics) (s : List Status) (has : 
   is_tableau = record { is_point = point; are_rates = (rates_exist p.matrix (basics_of s) has.nonsingular).1 }
 
   second : IsSecondPhase p s tableau
-  second = record { uncrossed = uncrossed; unbroken = inside }
+  second = record { uncrossed = uncrossed; unbroken = sym (outside_same p v z (agrees z point) s) ∙ inside }
 
   feasible_inside : IsFeasible p z
   feasible_inside = feasible p s tableau has.is_basis is_tableau second
@@ -66,9 +73,9 @@ module _ (p : LinearProgram) (a : Matrix) (b : Basics) (s : List Status) (has : 
   at : IsNonsingularBasis p s
   at = record { is_basis = has.is_basis; nonsingular = has.nonsingular }
 
-  pub stays_inside : IsLinearProgram p → (d : Vector) (q : ℕ) (by : Stopper) (left : ℕ) → MovesOn p s z d q by left → (next : List Status) → next ≡ after s (move_by q by) → (w : Vector) → IsPointOf p next w → least_outside p next w ≡ None
-  stays_inside lawful d q by left moves next is w point_w =
+  pub stays_inside : IsLinearProgram p → (d : Vector) (q : ℕ) (by : Stopper) (left : ℕ) → MovesOn p s d q by left → (next : List Status) → next ≡ after s (move_by q by) → (x : Vector) → AgreesWithPoint p next x → least_outside p next x ≡ None
+  stays_inside lawful d q by left moves next is x follows =
       let step : IsStep p s next = record { tableau = moves.moves.0; is_tableau = moves.moves.1; move = move_by q by; turns = moves.moves.2; is_next = is } in
       let led = step_leads p s next at step in
       let found = feasible_step p s next z lawful at step point feasible_inside in
-      feasible_has_none p next w (IsFeasible-same p found.0 w (one_point p next found.0 w led.is_basis.counted led.nonsingular found.1.point point_w) found.1.feasible)
+      outside_same p x found.0 (follows found.0 found.1.point) next ∙ feasible_has_none p next found.0 found.1.feasible

@@ -1,4 +1,5 @@
 pub mod Returns
+pub mod Agreement
 pub mod StepFacts
 pub mod StepRefusals
 pub mod TurnEvidence

@@ -7,7 +7,7 @@ use Rattle.exact_values.specs.Tests.{lt_ℚ}
 use Rattle.exact_values.proofs.Inverse.{mul-inverse}
 use Rattle.exact_values.proofs.Ring.{by_ring1, by_ring3, by_ring4, ◌⊕◌, ◌⊖◌, ◌⊗◌, ◌≐◌, opposite}
 use Rattle.exact_values.proofs.Ring_laws.{mul-one}
-use Rattle.lp_definitions.specs.LinearProgram.{Matrix, LinearProgram, Vector, IsVariable, lower_of, upper_of}
+use Rattle.lp_definitions.specs.LinearProgram.{Matrix, LinearProgram, Vector, size, IsVariable, lower_of, upper_of}
 use Rattle.lp_definitions.specs.Basis.{Basics, basics_of, is_in, is_basic, status_of, with_status, exchanged, IsBasis, IsBasic, IsNonbasic, IsNonsingular, IsDirectionOf, IsPointOf, IsAllowed, StandsAt}
 use Rattle.lp_definitions.specs.declared.Status.{Status}
 use Rattle.lp_definitions.specs.declared.Status.TheVariants.{Bs, Ll, Ul, Fr}
@@ -16,15 +16,19 @@ use Rattle.lp_laws.proofs.Values.{clash}
 use Rattle.lp_laws.proofs.Equations.{KeepsEquations-same}
 use Rattle.lp_laws.proofs.Exchange.{IsNonsingular-exchanged}
 use Rattle.lp_laws.proofs.Statuses.{basics_of-replaced, basics_of-flipped, status_of_basic, status_of_nonbasic, IsBasis-replaced, IsBasis-flipped}
+use Rattle.lp_laws.proofs.Uniqueness.{one_point}
 use Rattle.lp_laws.proofs.Points.{IsPointOf-replaced, IsPointOf-flipped}
 use Rattle.path_definitions.specs.Moves.{signed, limit_ahead, room, stopper}
 use Rattle.path_laws.proofs.Stoppers.{stopper_some, reaches_limit}
 use Rattle.evidence_definitions.specs.Formulas.{limit_numbered, number_of_limit}
 use Rattle.basis_values.specs.Calls.{HasRates}
 use Rattle.basis_values.specs.Motions.{motion}
+use Rattle.bounded_primal.specs.KeptPoints.{AgreesWithPoint}
+use Rattle.bounded_primal.specs.Steps.{IsMoved, IsMovedAtLimits}
 use Rattle.bounded_primal.specs.Moves.{stop_at, IsStepBy, is_stopper, brings}
 use Rattle.bounded_primal.specs.declared.moves.Stopper.{Stopper}
 use Rattle.basis_values.proofs.Lengths.{signed_over}
+use Rattle.bounded_primal.proofs.Agreement.{agrees_moved}
 
 -- the stopper goes to a limit that it has, and the step brings it there
 pub record ReachesLimit (p : LinearProgram) (z d : Vector) (by : Stopper) : Type 0 where
@@ -88,6 +92,13 @@ limit_stands p k Bs l e = tt
 limit_stands p k Ll l e = e
 limit_stands p k Ul l e = e
 limit_stands p k Fr l e = cc
+
+-- a vector with the point's values at the variables is the point
+pub point_same : (p : LinearProgram) (s : List Status) (z w : Vector) → ((k : ℕ) → IsVariable p.matrix k → w k ≡ z k) → IsPointOf p s z → IsPointOf p s w
+point_same p s z w same point = record {
+  keeps = KeepsEquations-same p.matrix z w (λ k is. sym (same k is)) point.keeps;
+  placed = λ k is. subst (StandsAt (status_of s k) (lower_of p k) (upper_of p k)) (sym (same k is)) (point.placed k is);
+}
 
 -- a length over a rate, times the rate
 pub comes_to : (z l d : ℚ) → d ≢ zero_ℚ → z +ℚ ((l -ℚ z) /ℚ d) *ℚ d ≡ l
@@ -162,9 +173,28 @@ module _ (p : LinearProgram) (s : List Status) (z d : Vector) (q : ℕ) (by : St
   pub point_flipped : by.p ≡ q → IsPointOf p s z → IsPointOf p (with_status s q by.to) (along z by.step d)
   point_flipped same point = IsPointOf-flipped p s basis z point q out.0 d direction by.step by.to (subst (λ k. StandsAt by.to (lower_of p k) (upper_of p k) (along z by.step d k)) same stands)
 
--- a vector with the point's values at the variables is the point
-pub point_same : (p : LinearProgram) (s : List Status) (z w : Vector) → ((k : ℕ) → IsVariable p.matrix k → w k ≡ z k) → IsPointOf p s z → IsPointOf p s w
-point_same p s z w same point = record {
-  keeps = KeepsEquations-same p.matrix z w (λ k is. sym (same k is)) point.keeps;
-  placed = λ k is. subst (StandsAt (status_of s k) (lower_of p k) (upper_of p k)) (sym (same k is)) (point.placed k is);
-}
+  -- ---- the values of a vector x, which are those of y after the step
+
+  module _ (point : IsPointOf p s z) (x y : Vector) where
+    comes : IsPointOf p s x → IsMoved by.step d x (size p.matrix) y → (k : ℕ) → IsVariable p.matrix k → y k ≡ along z by.step d k
+    comes exact moved k is = moved k is.0 is.1 ∙ ap (λ v. v +ℚ by.step *ℚ d k) (one_point p s x z basis.counted nonsingular exact point k is)
+
+    module _ (other : by.p ≢ q) where
+      replaced : HasRates p.matrix (exchanged (basics_of s) by.p q) p (with_status (with_status s q Bs) by.p by.to)
+      replaced = has_replaced p.matrix (exchanged (basics_of s) by.p q) other refl refl
+
+      pub replaced_agrees : AgreesWithPoint p s x → IsMovedAtLimits p by.step d x (size p.matrix) y → AgreesWithPoint p (with_status (with_status s q Bs) by.p by.to) y
+      replaced_agrees agrees = agrees_moved p (with_status (with_status s q Bs) by.p by.to) replaced.is_basis replaced.nonsingular z d by.step (point_replaced point) x y (agrees z point)
+
+      pub replaced_exact : IsPointOf p s x → IsMoved by.step d x (size p.matrix) y → IsPointOf p (with_status (with_status s q Bs) by.p by.to) y
+      replaced_exact exact moved = point_same p (with_status (with_status s q Bs) by.p by.to) (along z by.step d) y (comes exact moved) (point_replaced point)
+
+    module _ (own : by.p ≡ q) where
+      flipped : HasRates p.matrix (basics_of s) p (with_status s q by.to)
+      flipped = has_flipped p.matrix (basics_of s) own refl refl
+
+      pub flipped_agrees : AgreesWithPoint p s x → IsMovedAtLimits p by.step d x (size p.matrix) y → AgreesWithPoint p (with_status s q by.to) y
+      flipped_agrees agrees = agrees_moved p (with_status s q by.to) flipped.is_basis flipped.nonsingular z d by.step (point_flipped own point) x y (agrees z point)
+
+      pub flipped_exact : IsPointOf p s x → IsMoved by.step d x (size p.matrix) y → IsPointOf p (with_status s q by.to) y
+      flipped_exact exact moved = point_same p (with_status s q by.to) (along z by.step d) y (comes exact moved) (point_flipped own point)

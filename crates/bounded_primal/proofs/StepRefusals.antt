@@ -1,8 +1,8 @@
 -- From a refused operation of a step to evidence of the call.
 use Rattle.std.proofs.Common.{◌≡◌, ◌≢◌, ℕ, inl, List, ◌∷◌, true, false, refl, sym, ◌∙◌, ap, subst, arith}
-use Rattle.std.specs.Prelude.{Option, Some, None}
+use Rattle.std.specs.Prelude.{Option, Some, None, Bool, IsTrue, ◌||◌}
 use Rattle.exact_values.specs.Rational.{ℚ, zero_ℚ, ◌-ℚ◌, ◌*ℚ◌, ◌/ℚ◌}
-use Rattle.lp_definitions.specs.LinearProgram.{Matrix, LinearProgram, Vector, size, IsVariable, with_change}
+use Rattle.lp_definitions.specs.LinearProgram.{Matrix, LinearProgram, Vector, IsVariable, with_change}
 use Rattle.lp_definitions.specs.Basis.{Basics, basics_of, exchanged, IsBasis, IsNonbasic, IsNonsingular, IsDirectionOf, IsPointOf, Tableau, IsTableau}
 use Rattle.lp_definitions.specs.Waypoints.{KeepsWaypoints, waypoint}
 use Rattle.lp_definitions.specs.RatesEvidence.{Refuses, ExchangeRefused, ExchangeFormula, f1, f2, f3, f4, f5}
@@ -20,6 +20,7 @@ use Rattle.evidence_definitions.specs.Formulas.{MoveFormula, f8, f9, IsStepTo}
 use Rattle.evidence_definitions.specs.Statements.{Primal, belongs, is_between}
 use Rattle.evidence_definitions.specs.Evidence.{ShowsRefusal, by_move, names_waypoint}
 use Rattle.basis_values.specs.Calls.{HasRates, StopsAt, job_of}
+use Rattle.bounded_primal.specs.KeptPoints.{has_limit}
 use Rattle.bounded_primal.specs.Moves.{IsStepBy, StepRefused}
 use Rattle.bounded_primal.specs.Steps.{MovedRefused, of_product, of_sum, SomeMovedRefused}
 use Rattle.bounded_primal.specs.declared.moves.Stopper.{Stopper}
@@ -129,10 +130,11 @@ module _ (p : LinearProgram) (s : List Status) (z d : Vector) (q : ℕ) (by : St
     is_q = h.names.is_q;
   }
 
-  pub move_refused : (before after : List Basics) → SomeMovedRefused by d z q (size p.matrix) e → StepRefused p before s q by after e
+  -- for a vector v that has the point's values where they are needed
+  pub move_refused : (v : Vector) (exact : Bool) → ((k : ℕ) → IsVariable p.matrix k → IsTrue (exact || has_limit p k) → v k ≡ z k) → (before after : List Basics) → SomeMovedRefused p exact by d v q e → StepRefused p before s q by after e
   unfolding tableau
-  move_refused before after some =
-      let h = of_step some.i (some.low, some.high) some.refused in
+  move_refused v exact same before after some =
+      let h = of_step some.i some.is (subst (λ (x : ℚ). MovedRefused by.step (d some.i) x by.p q some.i e) (same some.i some.is some.needed) some.refused) in
       record {
         of_call = h.belongs_to;
         enters = λ _. h.is_q;

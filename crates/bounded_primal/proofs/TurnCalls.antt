@@ -49,10 +49,10 @@ module _ (p : LinearProgram) (s : List Status) (before mid now : List Basics) (k
   stops_later left NoMemory h = h
   stops_later left (Overflow e) h = record { is_way = h.is_way; shows = λ earlier lie. h.shows earlier (lie_later earlier lie) }
 
-  pub found_later : (result : Result Turn PrimalStop) (steps left : ℕ) (z d : Vector) → TurnFound result p s steps left z d mid now → TurnFound result p s steps left z d before now
-  found_later (Ok (Ends outcome)) steps left z d h = h
-  found_later (Ok (Moves q by)) steps left z d h = h
-  found_later (Err stop) steps left z d h = stops_later left stop h
+  pub found_later : (result : Result Turn PrimalStop) (steps left : ℕ) (d : Vector) → TurnFound result p s steps left d mid now → TurnFound result p s steps left d before now
+  found_later (Ok (Ends outcome)) steps left d h = h
+  found_later (Ok (Moves q by)) steps left d h = h
+  found_later (Err stop) steps left d h = stops_later left stop h
 
 -- ---- evidence of a phase
 

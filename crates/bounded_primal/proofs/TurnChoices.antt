@@ -132,14 +132,14 @@ module _ (p : LinearProgram) (s : List Status) (z : Vector) (basis : IsBasis p s
             rate_apart p s (excess_rate row.rate r below) q entered
             (ap (signed (not below)) (one_direction p.matrix (basics_of s) q (λ i. row.rate i q) d nonsingular (row.are_rates q entered.nonbasic) direction r returner_basic.0 ∙ vanishes) ∙ signed_zero (not below))
 
-        pub return_on : (left : ℕ) → 1 ≤ left → MovesOn p s z d q (return_by p z d r to_limit) left
+        pub return_on : (left : ℕ) → 1 ≤ left → MovesOn p s d q (return_by p z d r to_limit) left
         return_on left was_left = record {
           enters = return_enters;
           moves = return_move;
           nonbasic = returner_nonbasic;
           direction = direction;
           pivot = return_pivot;
-          step = brings limit_there.0 returner_basic limit_there.1 (ap (λ o. (unwrap_or o zero_ℚ -ℚ z r) /ℚ d r) limit_there.1);
+          step = record { point = z; is_point = point; is_step = brings limit_there.0 returner_basic limit_there.1 (ap (λ o. (unwrap_or o zero_ℚ -ℚ z r) /ℚ d r) limit_there.1) };
           was_left = was_left;
         }
 
@@ -284,14 +284,14 @@ module _ (p : LinearProgram) (s : List Status) (z : Vector) (basis : IsBasis p s
             moves_ahead (lower_of p at.0) (upper_of p at.0) (motion d m.up at.0) there.0 (lt_ℚ zero_ℚ (motion d m.up at.0)) (lt_ℚ (motion d m.up at.0) zero_ℚ) refl refl there.1
             (ap (signed m.up) same ∙ signed_zero m.up)
 
-        pub run_on : (by : Stopper) (left : ℕ) → Some by ≡ stopper_of p z d m.up → 1 ≤ left → MovesOn p s z d m.q by left
+        pub run_on : (by : Stopper) (left : ℕ) → Some by ≡ stopper_of p z d m.up → 1 ≤ left → MovesOn p s d m.q by left
         run_on by left stops was_left = record {
           enters = better_enters;
           moves = run_move by stops;
           nonbasic = better_nonbasic;
           direction = direction;
           pivot = run_pivot by stops;
-          step = run_step by stops;
+          step = record { point = z; is_point = point; is_step = run_step by stops };
           was_left = was_left;
         }
 

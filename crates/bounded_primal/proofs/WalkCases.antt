@@ -22,9 +22,9 @@ use Rattle.bounded_primal.proofs.PathWalk.{HasReached, begins, goes_over, stops_
 pub stops_at_once : (p : LinearProgram) (s : List Status) (limit : ℕ) (before now : List Basics) (why : Stop) → IfOverflow why (PointRefused p before s now) → PrimalStops p s s limit before now (primal_stop_of why)
 stops_at_once p s limit before now why h = stops_there p s before s before 0 (begins p s before) limit now (primal_stop_of why) (omega arith) (point_stops p s (limit - 0) before now why h)
 
-module _ (p : LinearProgram) (now : List Status) (z d : Vector) (q : ℕ) (by : Stopper) (left : ℕ) (h : MovesOn p now z d q by left) where
-  reach : ReachesLimit p z d by
-  reach = step_reaches p now z d q by h.step h.pivot
+module _ (p : LinearProgram) (now : List Status) (d : Vector) (q : ℕ) (by : Stopper) (left : ℕ) (h : MovesOn p now d q by left) where
+  reach : ReachesLimit p h.step.point d by
+  reach = step_reaches p now h.step.point d q by h.step.is_step h.pivot
 
   pub step_stops : (ways mid more : List Basics) (why : Stop) → KeepsWaypoints p.matrix (basics_of now) ways (basics_of now) mid → IfOverflow why (StepRefused p mid now q by more) → TurnStops p now left ways more (primal_stop_of why)
   step_stops ways mid more why keeps refused =

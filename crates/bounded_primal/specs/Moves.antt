@@ -2,13 +2,14 @@
 --     stopper_of p z d up          what stops that motion
 --     return_by p z d k to         what brings k to the limit of the status to
 --     IsStepBy p s z d q by        by is what stops the motion, or it brings a basic to a limit
+--     StepsFromPoint p s d q by    by is that at the point of the basis
 --     move_by q by                 the move of the basis
 --     StopperRefused, StepRefused  evidence of a refused call
 use Rattle.std.specs.Prelude.{◌≡◌, ℕ, Bool, ◌&&◌, ◌||◌, not, List, [], ◌∷◌, Option, Some, IsSome, option_map, unwrap_or, IsTrue, nat_eq, Result, IfErr}
 use Rattle.exact_values.specs.Rational.{ℚ, zero_ℚ, ◌-ℚ◌, ◌/ℚ◌}
 use Rattle.lp_definitions.specs.LinearProgram.{LinearProgram, Vector}
 use Rattle.lp_definitions.specs.Solutions.{IsFeasible}
-use Rattle.lp_definitions.specs.Basis.{Basics, basics_of, exchanged, IsBasic}
+use Rattle.lp_definitions.specs.Basis.{Basics, basics_of, exchanged, IsBasic, IsPointOf}
 use Rattle.lp_definitions.specs.declared.Evidence.{Evidence}
 use Rattle.lp_definitions.specs.declared.Status.{Status}
 use Rattle.lp_model.specs.declared.Stop.{Stop}
@@ -38,6 +39,12 @@ pub data IsStepBy (p : LinearProgram) (s : List Status) (z d : Vector) (q : ℕ)
   is_stopper : (up : Bool) → IsFeasible p z → IsTrue (may_move p s up q) → stopper_of p z d up ≡ Some by → IsStepBy p s z d q by
   brings : (l : ℚ) → IsBasic p.matrix (basics_of s) by.p → limit_numbered p by.p (number_of_limit by.to) ≡ Some l →
       by.step ≡ (l -ℚ z by.p) /ℚ d by.p → IsStepBy p s z d q by
+
+-- by is that at the point of s
+pub record StepsFromPoint (p : LinearProgram) (s : List Status) (d : Vector) (q : ℕ) (by : Stopper) : Type 0 where
+  pub point : Vector
+  pub is_point : IsPointOf p s point
+  pub is_step : IsStepBy p s point d q by
 
 abbrev pub move_by : ℕ → Stopper → Move
 move_by q by = record { enters = q; leaves = by.p; to = by.to }

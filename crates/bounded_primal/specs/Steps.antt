@@ -1,18 +1,20 @@
 -- A step, variable by variable.
 --     step_formula f p q i         formula 8 or 9 of the variable i, where q moves until p stops it
 --     IsMoved t d z n w            the first n variables of w are those of z, each with t times its rate
+--     IsMovedAtLimits p t d z n w  the same of those that have a limit
 --     MovedRefused                 the product at i is refused, or the sum with it
 --     ReturnRefused                the distance of k to the limit of the status to is refused, or that over the rate of k
-use Rattle.std.specs.Prelude.{◌≡◌, ◌≢◌, ℕ, ◌≤◌, Some}
+use Rattle.std.specs.Prelude.{◌≡◌, ◌≢◌, ℕ, Bool, ◌≤◌, ◌||◌, Some, IsTrue}
 use Rattle.exact_values.specs.Rational.{ℚ, zero_ℚ, one_ℚ, ◌+ℚ◌, ◌-ℚ◌, ◌*ℚ◌}
 use Rattle.frac128.specs.declared.Op.TheVariants.{Add, Sub, Mul, Div}
-use Rattle.lp_definitions.specs.LinearProgram.{LinearProgram, Vector}
+use Rattle.lp_definitions.specs.LinearProgram.{LinearProgram, Vector, IsVariable}
 use Rattle.lp_definitions.specs.declared.Evidence.{Evidence}
 use Rattle.lp_definitions.specs.declared.Status.{Status}
 use Rattle.evidence_definitions.specs.Formulas.{limit_numbered, number_of_limit}
 use Rattle.basis_values.specs.Formulas.{IsRefusal}
 use Rattle.basis_values.specs.Reach.{reach_formula}
 use Rattle.basis_values.specs.declared.formula.Formula.{Formula}
+use Rattle.bounded_primal.specs.KeptPoints.{has_limit}
 use Rattle.bounded_primal.specs.declared.moves.Stopper.{Stopper}
 
 abbrev pub step_formula : ℕ → ℕ → ℕ → ℕ → Formula
@@ -21,15 +23,18 @@ step_formula number p q i = record { number = number; p = p; q = q; i = i; j = 0
 abbrev pub IsMoved : ℚ → Vector → Vector → ℕ → Vector → Type 0
 IsMoved t d z n w = (k : ℕ) → 1 ≤ k → k ≤ n → w k ≡ z k +ℚ t *ℚ d k
 
+abbrev pub IsMovedAtLimits : LinearProgram → ℚ → Vector → Vector → ℕ → Vector → Type 0
+IsMovedAtLimits p t d z n w = (k : ℕ) → 1 ≤ k → k ≤ n → IsTrue (has_limit p k) → w k ≡ z k +ℚ t *ℚ d k
+
 pub data MovedRefused (t rate value : ℚ) (p q i : ℕ) (e : Evidence) : Type 0 where
   of_product : IsRefusal (step_formula 8 p q i) Mul t rate e → MovedRefused t rate value p q i e
   of_sum : IsRefusal (step_formula 9 p q i) Add value (t *ℚ rate) e → MovedRefused t rate value p q i e
 
--- that of some variable, whose rate is not 0
-pub record SomeMovedRefused (by : Stopper) (d z : Vector) (q n : ℕ) (e : Evidence) : Type 0 where
+-- that of some variable, whose rate is not 0 and whose value is needed: each, where all are to be exact, and else those with a limit
+pub record SomeMovedRefused (p : LinearProgram) (exact : Bool) (by : Stopper) (d z : Vector) (q : ℕ) (e : Evidence) : Type 0 where
   pub i : ℕ
-  pub low : 1 ≤ i
-  pub high : i ≤ n
+  pub is : IsVariable p.matrix i
+  pub needed : IsTrue (exact || has_limit p i)
   pub moves : d i ≢ zero_ℚ
   pub refused : MovedRefused by.step (d i) (z i) by.p q i e
 

@@ -9,7 +9,7 @@
 use Rattle.std.specs.Prelude.{◌≡◌, ◌≢◌, ℕ, Bool, ◌≤◌, ◌&&◌, List, [], ◌∷◌, ◌++◌, length, Option, Some, None, option_map, Result, Ok, Err, nat_eq, if◌then◌else◌}
 use Rattle.exact_values.specs.Rational.{ℚ, zero_ℚ, one_ℚ, neg_ℚ}
 use Rattle.lp_definitions.specs.LinearProgram.{LinearProgram, Vector, size, value_at, IsVariable, for_min}
-use Rattle.lp_definitions.specs.Basis.{Basics, basics_of, is_in, IsNonbasic, IsDirectionOf, ArePricesOf}
+use Rattle.lp_definitions.specs.Basis.{Basics, basics_of, is_in, IsNonbasic, IsDirectionOf, IsPointOf, ArePricesOf}
 use Rattle.lp_definitions.specs.Waypoints.{waypoint}
 use Rattle.lp_definitions.specs.declared.Evidence.{Evidence}
 use Rattle.lp_definitions.specs.declared.Status.{Status}
@@ -24,7 +24,7 @@ use Rattle.bounded_primal.specs.Stops.{primal_stop_of}
 use Rattle.basis_values.specs.Calls.{LieIn, job_of, PointRefused}
 use Rattle.bounded_primal.specs.Calls.{outcome_of}
 use Rattle.basis_values.specs.Motions.{motion}
-use Rattle.bounded_primal.specs.Moves.{IsStepBy, move_by, StopperRefused}
+use Rattle.bounded_primal.specs.Moves.{StepsFromPoint, move_by, StopperRefused}
 use Rattle.bounded_primal.specs.Steps.{ReturnRefused}
 use Rattle.bounded_primal.specs.declared.moves.PrimalStop.{PrimalStop}
 use Rattle.bounded_primal.specs.declared.moves.PrimalStop.TheVariants.{Limit, Overflow, NoMemory}
@@ -75,6 +75,10 @@ pub data RunStops (p : LinearProgram) (s : List Status) (z : Vector) (q : ℕ) (
   by_direction : PointRefused p before s after e → RunStops p s z q up before after e
   by_stopper : (d : Vector) → IsDirectionOf p.matrix (basics_of s) q d → StopperRefused p s z d q up e → RunStops p s z q up before after e
 
+-- that holds at the point of s
+abbrev pub RunStopsAtPoint : LinearProgram → List Status → ℕ → Bool → List Basics → List Basics → Evidence → Type 0
+RunStopsAtPoint p s q up before after e = (z : Vector) → IsPointOf p s z → RunStops p s z q up before after e
+
 -- the path ends at s, after so many steps
 pub record EndsHere (p : LinearProgram) (s : List Status) (steps : ℕ) (outcome : Outcome) : Type 0 where
   pub ending : Ending
@@ -82,13 +86,13 @@ pub record EndsHere (p : LinearProgram) (s : List Status) (steps : ℕ) (outcome
   pub is_outcome : outcome ≡ outcome_of steps ending
 
 -- it moves q by what stops it, and a step is left
-pub record MovesOn (p : LinearProgram) (s : List Status) (z d : Vector) (q : ℕ) (by : Stopper) (left : ℕ) : Type 0 where
+pub record MovesOn (p : LinearProgram) (s : List Status) (d : Vector) (q : ℕ) (by : Stopper) (left : ℕ) : Type 0 where
   pub enters : PathEnters p s q
   pub moves : PathMoves p s (move_by q by)
   pub nonbasic : IsNonbasic p.matrix (basics_of s) q
   pub direction : IsDirectionOf p.matrix (basics_of s) q d
   pub pivot : d by.p ≢ zero_ℚ
-  pub step : IsStepBy p s z d q by
+  pub step : StepsFromPoint p s d q by
   pub was_left : 1 ≤ left
 
 -- for every list of bases that ends with s, and in which the waypoints lay before the call, the evidence holds on that list
@@ -103,12 +107,12 @@ TurnStops p s left before after (Overflow e) = EvidenceAt p s left before after 
 TurnStops p s left before after NoMemory = Unit {0}
 
 -- after so many steps, where so many more are allowed
-abbrev pub TurnFound : Result Turn PrimalStop → LinearProgram → List Status → ℕ → ℕ → Vector → Vector → List Basics → List Basics → Type 0
-TurnFound (Ok (Ends outcome)) p s steps left z d before after = EndsHere p s steps outcome
-TurnFound (Ok (Moves q by)) p s steps left z d before after = MovesOn p s z d q by left
-TurnFound (Err stop) p s steps left z d before after = TurnStops p s left before after stop
+abbrev pub TurnFound : Result Turn PrimalStop → LinearProgram → List Status → ℕ → ℕ → Vector → List Basics → List Basics → Type 0
+TurnFound (Ok (Ends outcome)) p s steps left d before after = EndsHere p s steps outcome
+TurnFound (Ok (Moves q by)) p s steps left d before after = MovesOn p s d q by left
+TurnFound (Err stop) p s steps left d before after = TurnStops p s left before after stop
 
 -- the same where a step is always left
-abbrev pub FreeTurnFound : Result Turn Stop → LinearProgram → List Status → ℕ → Vector → Vector → List Basics → List Basics → Type 0
-FreeTurnFound (Ok turn) p s steps z d before after = TurnFound (Ok turn) p s steps 1 z d before after
-FreeTurnFound (Err stop) p s steps z d before after = TurnStops p s 1 before after (primal_stop_of stop)
+abbrev pub FreeTurnFound : Result Turn Stop → LinearProgram → List Status → ℕ → Vector → List Basics → List Basics → Type 0
+FreeTurnFound (Ok turn) p s steps d before after = TurnFound (Ok turn) p s steps 1 d before after
+FreeTurnFound (Err stop) p s steps d before after = TurnStops p s 1 before after (primal_stop_of stop)

@@ -1,6 +1,6 @@
 //! The path of the bounded simplex method without a limit of steps.
 
-ghost use Rattle.std.specs.Prelude.{◌≡◌, ◌≢◌, ◌<◌, List, length, IfOk, IfErr};
+ghost use Rattle.std.specs.Prelude.{◌≡◌, ◌≢◌, ◌<◌, List, length, IfOk, IfErr, IsTrue};
 ghost use Rattle.lp_definitions.specs.LinearProgram.{size, value_at, IsLinearProgram};
 ghost use Rattle.lp_definitions.specs.Basis.{IsPointOf};
 ghost use Rattle.lp_definitions.specs.declared.Status.{Status};
@@ -8,6 +8,7 @@ ghost use Rattle.path_definitions.specs.Path.{Ending};
 ghost use Rattle.termination_laws.specs.Laws.{lists_of};
 ghost use Rattle.basis_values.specs.Calls.{HasRates, KeepsRates};
 ghost use Rattle.bounded_primal.specs.Calls.{CallEnds, WaypointsFollow};
+ghost use Rattle.bounded_primal.specs.KeptPoints.{AgreesWithPoint};
 ghost use Rattle.bounded_primal.specs.Complete.{EndsFreely, IsFreeEndOrMemory};
 ghost use Rattle.bounded_primal.specs.Outcomes.{IsTrueOutcome};
 ghost use Rattle.bounded_primal.specs.Stops.{primal_stop_of, FreeStops};
@@ -15,7 +16,7 @@ ghost use Rattle.bounded_primal.specs.Turns.{IsUncrossed, least_outside, FreeTur
 
 use crate::moves::PrimalStop;
 use crate::path::{outside_after, room};
-use crate::step::take_step;
+use crate::step::step_over;
 use crate::turns::{Turn, next_turn};
 use basis_values::{crossed, outside, point_of};
 use frac128::Frac;
@@ -44,6 +45,7 @@ fn free_turn<R: Rates>(
     basis: &Basis,
     rates: &mut R,
     point: &[Frac],
+    whole: bool,
     row: &mut [Frac],
     direction: &mut [Frac],
     broken: Option<u32>,
@@ -54,17 +56,17 @@ fn free_turn<R: Rates>(
     requires point_places { length point.now ≡ size lp.now.matrix }
     requires row_places { length row.old ≡ size lp.now.matrix }
     requires direction_places { length direction.old ≡ size lp.now.matrix }
-    requires point { IsPointOf lp.now basis.now (value_at point.now) }
+    requires point { AgreesWithPoint lp.now basis.now (value_at point.now) }
+    requires whole { IsTrue whole → IsPointOf lp.now basis.now (value_at point.now) }
     requires uncrossed { IsUncrossed lp.now }
     requires broken { broken ≡ least_outside lp.now basis.now (value_at point.now) }
-    ensures turn { FreeTurnFound result lp.now basis.now steps (value_at point.now)
-        (value_at direction.new)
+    ensures turn { FreeTurnFound result lp.now basis.now steps (value_at direction.new)
         (R.waypoints rates.old) (R.waypoints rates.new) }
     ensures rates { KeepsRates (R.matrix rates.new) (R.basics rates.new) lp.now basis.now
         (R.waypoints rates.old) (R.waypoints rates.new) }
 {
     match next_turn(
-        alloc, lp, basis, rates, point, row, direction, broken, steps, 1,
+        alloc, lp, basis, rates, point, whole, row, direction, broken, steps, 1,
     ) {
         Ok(turn) => Ok(turn),
         Err(stop) => Err(unlimited(stop)),
@@ -102,13 +104,16 @@ fn walk_free<R: Rates, L: Ledger>(
     let (mut book, mut share) = blank.open::<L>();
     point_of(alloc, lp, basis, rates, point)?;
     let mut broken = outside(lp, basis, point);
+    let mut whole = true;
     let mut steps: u32 = 0;
     loop {
         match free_turn(
-            alloc, lp, basis, rates, point, row, direction, broken, steps,
+            alloc, lp, basis, rates, point, whole, row, direction, broken, steps,
         )? {
             Turn::Ends(outcome) => return Ok(outcome),
-            Turn::Moves { q, by } => take_step(lp, basis, rates, point, direction, q, &by)?,
+            Turn::Moves { q, by } => {
+                whole = step_over(lp, basis, rates, point, direction, q, &by, whole, false)?;
+            }
         }
         broken = outside_after(lp, basis, point, broken);
         book.add(&mut share, 1);

@@ -13,7 +13,7 @@ ghost use Rattle.bounded_primal.specs.Turns.{IsUncrossed, least_outside};
 ghost use Rattle.termination_laws.specs.Laws.{lists_of};
 
 use crate::moves::PrimalStop;
-use crate::step::take_step;
+use crate::step::step_over;
 use crate::turns::{Turn, next_turn};
 use basis_values::{crossed, outside, point_of};
 use frac128::Frac;
@@ -66,6 +66,7 @@ fn walk<R: Rates>(
 {
     point_of(alloc, lp, basis, rates, point)?;
     let mut broken = outside(lp, basis, point);
+    let mut whole = true;
     let mut steps = 0;
     loop {
         match next_turn(
@@ -74,6 +75,7 @@ fn walk<R: Rates>(
             basis,
             rates,
             point,
+            whole,
             row,
             direction,
             broken,
@@ -81,7 +83,9 @@ fn walk<R: Rates>(
             limit - steps,
         )? {
             Turn::Ends(outcome) => return Ok(outcome),
-            Turn::Moves { q, by } => take_step(lp, basis, rates, point, direction, q, &by)?,
+            Turn::Moves { q, by } => {
+                whole = step_over(lp, basis, rates, point, direction, q, &by, whole, false)?;
+            }
         }
         broken = outside_after(lp, basis, point, broken);
         steps += 1;

@@ -1,6 +1,6 @@
 //! One step: a basis goes over to the next one, and its point with it.
 
-ghost use Rattle.std.specs.Prelude.{◌≡◌, ◌≢◌, length, OnOk, OnErr, IfOk, IfErr, IsSome};
+ghost use Rattle.std.specs.Prelude.{◌≡◌, ◌≢◌, ◌||◌, length, OnOk, OnErr, IfOk, IfErr, IfSome, IsSome, IsTrue};
 ghost use Rattle.exact_values.specs.Rational.{zero_ℚ, ◌+ℚ◌, ◌*ℚ◌};
 ghost use Rattle.lp_definitions.specs.LinearProgram.{size, value_at, IsVariable};
 ghost use Rattle.lp_definitions.specs.Basis.{basics_of, IsNonbasic, IsPointOf, IsDirectionOf};
@@ -8,8 +8,10 @@ ghost use Rattle.lp_definitions.specs.Waypoints.{KeepsWaypoints};
 ghost use Rattle.path_definitions.specs.Path.{after};
 ghost use Rattle.evidence_definitions.specs.Formulas.{limit_numbered, number_of_limit};
 ghost use Rattle.basis_values.specs.Calls.{HasRates};
-ghost use Rattle.bounded_primal.specs.Moves.{IsStepBy, move_by, return_by, StepOverflow};
-ghost use Rattle.bounded_primal.specs.Steps.{IsMoved, MovedRefused, SomeMovedRefused, ReturnRefused, step_formula};
+ghost use Rattle.lp_model.specs.RatesCalls.{IfOverflow};
+ghost use Rattle.bounded_primal.specs.KeptPoints.{has_limit as is_limited, AgreesWithPoint};
+ghost use Rattle.bounded_primal.specs.Moves.{IsStepBy, StepsFromPoint, move_by, return_by, StepRefused, StepOverflow};
+ghost use Rattle.bounded_primal.specs.Steps.{IsMoved, IsMovedAtLimits, MovedRefused, SomeMovedRefused, ReturnRefused, step_formula};
 
 use crate::moves::Stopper;
 use basis_values::{Formula, plus_product, reach};
@@ -66,28 +68,82 @@ fn moved(value: Frac, step: Frac, rate: Frac, p: u32, q: u32, i: u32) -> Result<
     }
 }
 
-/// Moves the point by the step.
+/// Whether `k` has a limit.
+fn has_limit(lp: &Lp, k: u32) -> bool
+    requires { IsVariable lp.now.matrix k }
+    ensures { result ≡ is_limited lp.now k }
+{
+    lp.lower_limit(k).is_some() || lp.upper_limit(k).is_some()
+}
+
+/// Whether a step needs the value of `k`: that of each variable where all are to be exact, and else of those with a limit.
+fn is_needed(lp: &Lp, exact: bool, k: u32) -> bool
+    requires { IsVariable lp.now.matrix k }
+    ensures { result ≡ (exact || is_limited lp.now k) }
+{
+    exact || has_limit(lp, k)
+}
+
+/// The value of `i` after the step, and None where that is refused and it isn't `needed`.
+fn moved_if_possible(
+    value: Frac,
+    step: Frac,
+    rate: Frac,
+    p: u32,
+    q: u32,
+    i: u32,
+    needed: bool,
+) -> Result<Option<Frac>, Evidence>
+    ensures value { IfOk result (λ found. IfSome found (λ moved. moved ≡ value +ℚ step *ℚ rate)) }
+    ensures found { IfOk result (λ found. IsTrue needed → IsSome found) }
+    ensures refused { IfErr result (MovedRefused step rate value p q i) }
+    ensures moves { OnErr result (rate ≢ zero_ℚ) }
+    ensures needed { OnErr result (IsTrue needed) }
+{
+    match moved(value, step, rate, p, q, i) {
+        Ok(moved) => Ok(Some(moved)),
+        Err(evidence) => { if needed { Err(evidence) } else { Ok(None) } }
+    }
+}
+
+/// Moves the point by the step: all its values where they are `whole`, and else those of the variables with a limit. Answers
+/// whether all values have been moved. Unless they are to be `exact`, a refused value of a variable without limits stays.
 fn move_point(
     lp: &Lp,
     direction: &[Frac],
     q: u32,
     by: &Stopper,
     point: &mut [Frac],
-) -> Result<(), Evidence>
+    whole: bool,
+    exact: bool,
+) -> Result<bool, Evidence>
     requires direction_places { length direction.now ≡ size lp.now.matrix }
     requires point_places { length point.old ≡ size lp.now.matrix }
-    ensures moved { OnOk result (IsMoved by.now.step (value_at direction.now) (value_at point.old)
-        (size lp.now.matrix) (value_at point.new)) }
-    ensures refused { IfErr result (SomeMovedRefused by.now (value_at direction.now)
-        (value_at point.old) q (size lp.now.matrix)) }
+    requires exact { IsTrue exact → IsTrue whole }
+    ensures limited { OnOk result (IsMovedAtLimits lp.now by.now.step (value_at direction.now)
+        (value_at point.old) (size lp.now.matrix) (value_at point.new)) }
+    ensures moved { IfOk result (λ all. IsTrue all → IsMoved by.now.step (value_at direction.now)
+        (value_at point.old) (size lp.now.matrix) (value_at point.new)) }
+    ensures kept { IfOk result (λ all. IsTrue all → IsTrue whole) }
+    ensures exact { IfOk result (λ all. IsTrue exact → IsTrue all) }
+    ensures refused { IfErr result (SomeMovedRefused lp.now exact by.now (value_at direction.now)
+        (value_at point.old) q) }
 {
+    let mut all = whole;
     for k in 0..lp.number_of_variables() {
+        let needed = is_needed(lp, exact, k + 1);
+        if !all && !needed {
+            continue;
+        }
         let value = point[k as usize];
         let rate = direction[k as usize];
-        let next = moved(value, by.step, rate, by.p, q, k + 1)?;
+        let Some(next) = moved_if_possible(value, by.step, rate, by.p, q, k + 1, needed)? else {
+            all = false;
+            continue;
+        };
         point[k as usize] = next;
     }
-    Ok(())
+    Ok(all)
 }
 
 /// The limit of `k` that has this status.
@@ -141,6 +197,56 @@ pub fn returning(
     Ok(Stopper { p, step, to })
 }
 
+/// Makes the step `by` of `q` as `take_step` does, from the values of the variables that have a limit, and of all where they are
+/// `whole`. Answers whether all are had after it: unless they are to be `exact`, a refused value of a variable without limits stays
+/// as it was, since no step needs it.
+pub fn step_over<R: Rates>(
+    lp: &Lp,
+    basis: &mut Basis,
+    rates: &mut R,
+    point: &mut [Frac],
+    direction: &[Frac],
+    q: u32,
+    by: &Stopper,
+    whole: bool,
+    exact: bool,
+) -> Result<bool, Stop>
+    requires rates { HasRates (R.matrix rates.old) (R.basics rates.old) lp.now basis.old }
+    requires point_places { length point.old ≡ size lp.now.matrix }
+    requires direction_places { length direction.now ≡ size lp.now.matrix }
+    requires nonbasic { IsNonbasic lp.now.matrix (basics_of basis.old) q }
+    requires point { AgreesWithPoint lp.now basis.old (value_at point.old) }
+    requires whole { IsTrue whole → IsPointOf lp.now basis.old (value_at point.old) }
+    requires exact { IsTrue exact → IsTrue whole }
+    requires direction { IsDirectionOf lp.now.matrix (basics_of basis.old) q
+        (value_at direction.now) }
+    requires moves { value_at direction.now by.now.p ≢ zero_ℚ }
+    requires step { StepsFromPoint lp.now basis.old (value_at direction.now) q by.now }
+    ensures basis { OnOk result (basis.new ≡ after basis.old (move_by q by.now)) }
+    ensures point { OnOk result (AgreesWithPoint lp.now basis.new (value_at point.new)) }
+    ensures whole { IfOk result (λ all. IsTrue all →
+        IsPointOf lp.now basis.new (value_at point.new)) }
+    ensures exact { IfOk result (λ all. IsTrue exact → IsTrue all) }
+    ensures unchanged { OnErr result (basis.new ≡ basis.old) }
+    ensures rates { HasRates (R.matrix rates.new) (R.basics rates.new) lp.now basis.new }
+    ensures waypoints { KeepsWaypoints lp.now.matrix (basics_of basis.old) (R.waypoints rates.old)
+        (basics_of basis.new) (R.waypoints rates.new) }
+    ensures overflow { IfErr result (λ stop. IfOverflow stop (StepRefused lp.now
+        (R.waypoints rates.old) basis.old q by.now (R.waypoints rates.new))) }
+{
+    let all = match move_point(lp, direction, q, by, point, whole, exact) {
+        Ok(all) => all,
+        Err(evidence) => return Err(Stop::Overflow(evidence)),
+    };
+    if by.p == q {
+        basis.flip(q, by.to);
+        return Ok(all);
+    }
+    rates.exchange(by.p, q)?;
+    basis.replace(by.p, q, by.to);
+    Ok(all)
+}
+
 /// Makes the step `by` of `q`: the basis, the rates and the point go over to the next basis. Where `q` itself stops, it changes its
 /// limit, and no exchange is made. After a Stop the basis and the basics are as before, and of `point` nothing is promised.
 pub fn take_step<R: Rates>(
@@ -171,15 +277,8 @@ pub fn take_step<R: Rates>(
     ensures overflow { StepOverflow result lp.now basis.old q by.now (R.waypoints rates.old)
         (R.waypoints rates.new) }
 {
-    match move_point(lp, direction, q, by, point) {
-        Ok(()) => {}
-        Err(evidence) => return Err(Stop::Overflow(evidence)),
+    match step_over(lp, basis, rates, point, direction, q, by, true, true) {
+        Ok(_) => Ok(()),
+        Err(stop) => Err(stop),
     }
-    if by.p == q {
-        basis.flip(q, by.to);
-        return Ok(());
-    }
-    rates.exchange(by.p, q)?;
-    basis.replace(by.p, q, by.to);
-    Ok(())
 }

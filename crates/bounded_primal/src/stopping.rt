@@ -3,7 +3,7 @@
 ghost use Rattle.std.specs.Prelude.{◌≡◌, ◌↔◌, Some, length, IfSome, IfOk, IfErr, IsTrue};
 ghost use Rattle.exact_values.specs.Rational.{zero_ℚ};
 ghost use Rattle.lp_definitions.specs.LinearProgram.{size, value_at, IsVariable};
-ghost use Rattle.lp_definitions.specs.Solutions.{IsFeasible};
+ghost use Rattle.lp_definitions.specs.Solutions.{IsFeasible, IsWithinLimits};
 ghost use Rattle.lp_definitions.specs.Basis.{basics_of, IsBasis, IsNonbasic, IsNonsingular, IsPointOf, IsDirectionOf};
 ghost use Rattle.path_definitions.specs.Moves.{room, signed, reached};
 ghost use Rattle.basis_values.specs.Motions.{may_move, motion};
@@ -26,7 +26,7 @@ fn is_at_once(nearest: &Option<Reach>) -> bool
     }
 }
 
-/// What reaches a limit first where `q` moves up or down from the feasible point, by all lengths. The search ends where a limit is
+/// What reaches a limit first where `q` moves up or down from within all limits, by all lengths. The search ends where a limit is
 /// reached at once, since none is reached sooner.
 fn nearest_by_lengths(
     lp: &Lp,
@@ -37,7 +37,7 @@ fn nearest_by_lengths(
 ) -> Result<Option<Reach>, Evidence>
     requires point_places { length point.now ≡ size lp.now.matrix }
     requires direction_places { length direction.now ≡ size lp.now.matrix }
-    requires feasible { IsFeasible lp.now (value_at point.now) }
+    requires within { IsWithinLimits lp.now (value_at point.now) }
     ensures nearest { IfOk result (IsNearest (room lp.now (value_at point.now)
         (motion (value_at direction.now) up)) (size lp.now.matrix)) }
     ensures refused { IfErr result (SomeRoomRefused lp.now (value_at point.now)
@@ -103,7 +103,7 @@ fn first_by_places(lp: &Lp, point: &[Frac], direction: &[Frac], q: u32, up: bool
     }
 }
 
-/// What reaches a limit first where `q` moves up or down from the feasible point: by all lengths, and where one of them can't be had,
+/// What reaches a limit first where `q` moves up or down from within all limits: by all lengths, and where one of them can't be had,
 /// by the places of the variables after the least of the others.
 fn nearest(
     lp: &Lp,
@@ -114,7 +114,7 @@ fn nearest(
 ) -> Result<Option<Reach>, Evidence>
     requires point_places { length point.now ≡ size lp.now.matrix }
     requires direction_places { length direction.now ≡ size lp.now.matrix }
-    requires feasible { IsFeasible lp.now (value_at point.now) }
+    requires within { IsWithinLimits lp.now (value_at point.now) }
     ensures nearest { IfOk result (IsNearest (room lp.now (value_at point.now)
         (motion (value_at direction.now) up)) (size lp.now.matrix)) }
     ensures refused { IfErr result (SomeRoomRefused lp.now (value_at point.now)
@@ -137,6 +137,36 @@ fn limit_reached(speed: Frac) -> Status
         Status::Ul
     } else {
         Status::Ll
+    }
+}
+
+/// What `stopper` answers, from the values of the variables that have a limit.
+pub fn stopper_from(
+    lp: &Lp,
+    point: &[Frac],
+    direction: &[Frac],
+    q: u32,
+    up: bool,
+) -> Result<Option<Stopper>, Evidence>
+    requires point_places { length point.now ≡ size lp.now.matrix }
+    requires direction_places { length direction.now ≡ size lp.now.matrix }
+    requires within { IsWithinLimits lp.now (value_at point.now) }
+    ensures stopper { IfOk result (λ found. found ≡ stopper_of lp.now (value_at point.now)
+        (value_at direction.now) up) }
+    ensures refused { IfErr result (SomeRoomRefused lp.now (value_at point.now)
+        (value_at direction.now) up q) }
+{
+    let found = nearest(lp, point, direction, q, up)?;
+    match found {
+        None => Ok(None),
+        Some(nearest) => {
+            let speed = counted(direction[nearest.p as usize - 1], up);
+            Ok(Some(Stopper {
+                p: nearest.p,
+                step: counted(nearest.length, up),
+                to: limit_reached(speed),
+            }))
+        }
     }
 }
 
@@ -165,16 +195,5 @@ pub fn stopper(
     ensures refused { IfErr result (StopperRefused lp.now basis.now (value_at point.now)
         (value_at direction.now) q up) }
 {
-    let found = nearest(lp, point, direction, q, up)?;
-    match found {
-        None => Ok(None),
-        Some(nearest) => {
-            let speed = counted(direction[nearest.p as usize - 1], up);
-            Ok(Some(Stopper {
-                p: nearest.p,
-                step: counted(nearest.length, up),
-                to: limit_reached(speed),
-            }))
-        }
-    }
+    stopper_from(lp, point, direction, q, up)
 }

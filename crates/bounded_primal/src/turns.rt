@@ -3,20 +3,21 @@
 ghost use Rattle.std.specs.Prelude.{◌≡◌, ◌≢◌, ◌≤◌, ℕ, None, Some, not, if◌then◌else◌, length, OnOk, IfOk, IfErr, IsSome, IsTrue};
 ghost use Rattle.exact_values.specs.Rational.{ℚ, zero_ℚ};
 ghost use Rattle.lp_definitions.specs.LinearProgram.{size, value_at, for_min, IsVariable, IsLinearProgram};
-ghost use Rattle.lp_definitions.specs.Solutions.{IsFeasible};
+ghost use Rattle.lp_definitions.specs.Solutions.{IsWithinLimits};
 ghost use Rattle.lp_definitions.specs.Basis.{basics_of, IsBasic, IsNonbasic, IsDirectionOf, IsPointOf};
 ghost use Rattle.lp_model.specs.RatesCalls.{IsRowOf, IfOverflow};
 ghost use Rattle.path_definitions.specs.Moves.{signed, entering};
 ghost use Rattle.evidence_definitions.specs.Formulas.{limit_numbered, number_of_limit};
 ghost use Rattle.basis_values.specs.Calls.{HasRates, KeepsRates, PointRefused};
 ghost use Rattle.basis_values.specs.Motions.{may_move, motion};
+ghost use Rattle.bounded_primal.specs.KeptPoints.{AgreesWithPoint};
 ghost use Rattle.bounded_primal.specs.Moves.{return_by, stopper_of as stopper_by};
-ghost use Rattle.bounded_primal.specs.Turns.{IsUncrossed, least_outside, ray_from, mover_by, Betters, IsEndless, ReturnStops, RunStops, TurnFound};
+ghost use Rattle.bounded_primal.specs.Turns.{IsUncrossed, least_outside, ray_from, mover_by, Betters, IsEndless, ReturnStops, RunStopsAtPoint, TurnFound};
 
 use crate::moves::{PrimalStop, Stopper};
 use crate::step::returning;
-use crate::stopping::stopper;
-use basis_values::{counted, enterer, fill_prices, is_less, lies_below};
+use crate::stopping::stopper_from;
+use basis_values::{counted, enterer, fill_prices, is_less, lies_below, point_of};
 use frac128::Frac;
 use lp_model::{
     Basis, Direction, Lp, NoMemory, Outcome, Point, Prices, Rates, Ray, Sense, Status, Stop,
@@ -180,8 +181,8 @@ fn stopper_of<R: Rates>(
     requires rates { HasRates (R.matrix rates.old) (R.basics rates.old) lp.now basis.now }
     requires point_places { length point.now ≡ size lp.now.matrix }
     requires direction_places { length direction.old ≡ size lp.now.matrix }
-    requires point { IsPointOf lp.now basis.now (value_at point.now) }
-    requires feasible { IsFeasible lp.now (value_at point.now) }
+    requires point { AgreesWithPoint lp.now basis.now (value_at point.now) }
+    requires within { IsWithinLimits lp.now (value_at point.now) }
     requires nonbasic { IsNonbasic lp.now.matrix (basics_of basis.now) q }
     requires may { IsTrue (may_move lp.now basis.now up q) }
     ensures direction { OnOk result (IsDirectionOf lp.now.matrix (basics_of basis.now) q
@@ -191,11 +192,11 @@ fn stopper_of<R: Rates>(
     ensures rates { KeepsRates (R.matrix rates.new) (R.basics rates.new) lp.now basis.now
         (R.waypoints rates.old) (R.waypoints rates.new) }
     ensures overflow { IfErr result
-        (λ stop. IfOverflow stop (RunStops lp.now basis.now (value_at point.now) q up
+        (λ stop. IfOverflow stop (RunStopsAtPoint lp.now basis.now q up
         (R.waypoints rates.old) (R.waypoints rates.new))) }
 {
     rates.column(q, direction)?;
-    match stopper(lp, basis, point, direction, q, up) {
+    match stopper_from(lp, point, direction, q, up) {
         Ok(found) => Ok(found),
         Err(evidence) => Err(Stop::Overflow(evidence)),
     }
@@ -245,10 +246,10 @@ fn first_phase<R: Rates>(
     requires point_places { length point.now ≡ size lp.now.matrix }
     requires row_places { length row.old ≡ size lp.now.matrix }
     requires direction_places { length direction.old ≡ size lp.now.matrix }
-    requires point { IsPointOf lp.now basis.now (value_at point.now) }
+    requires point { AgreesWithPoint lp.now basis.now (value_at point.now) }
     requires uncrossed { IsUncrossed lp.now }
     requires outside { least_outside lp.now basis.now (value_at point.now) ≡ Some r }
-    ensures turn { TurnFound result lp.now basis.now steps left (value_at point.now)
+    ensures turn { TurnFound result lp.now basis.now steps left
         (value_at direction.new) (R.waypoints rates.old) (R.waypoints rates.new) }
     ensures rates { KeepsRates (R.matrix rates.new) (R.basics rates.new) lp.now basis.now
         (R.waypoints rates.old) (R.waypoints rates.new) }
@@ -274,11 +275,38 @@ fn first_phase<R: Rates>(
     Ok(Turn::Moves { q, by })
 }
 
-/// The optimal end.
-fn best(alloc: Global, point: &[Frac], prices: &[Frac], steps: u32) -> Result<Outcome, NoMemory>
-    ensures { IfOk result (λ outcome. outcome ≡ Outcome.Optimal steps point.now prices.now) }
+/// The point of the basis: a copy where `whole` says that all its values are kept, and else made anew.
+fn whole_point<R: Rates>(
+    alloc: Global,
+    lp: &Lp,
+    basis: &Basis,
+    rates: &mut R,
+    point: &[Frac],
+    whole: bool,
+) -> Result<Vec<Frac>, Stop>
+    requires rates { HasRates (R.matrix rates.old) (R.basics rates.old) lp.now basis.now }
+    requires places { length point.now ≡ size lp.now.matrix }
+    requires whole { IsTrue whole → IsPointOf lp.now basis.now (value_at point.now) }
+    ensures places { IfOk result (λ made. length made.items ≡ size lp.now.matrix) }
+    ensures point { IfOk result (λ made. IsPointOf lp.now basis.now (value_at made.items)) }
+    ensures rates { KeepsRates (R.matrix rates.new) (R.basics rates.new) lp.now basis.now
+        (R.waypoints rates.old) (R.waypoints rates.new) }
+    ensures overflow { IfErr result (λ stop. IfOverflow stop
+        (PointRefused lp.now (R.waypoints rates.old) basis.now (R.waypoints rates.new))) }
 {
-    let point = Point::new(copied(alloc, point)?);
+    let mut values = copied(alloc, point)?;
+    if whole {
+        return Ok(values);
+    }
+    point_of(alloc, lp, basis, rates, &mut values)?;
+    Ok(values)
+}
+
+/// The optimal end.
+fn best(alloc: Global, point: Vec<Frac>, prices: &[Frac], steps: u32) -> Result<Outcome, NoMemory>
+    ensures { IfOk result (λ outcome. outcome ≡ Outcome.Optimal steps point.items prices.now) }
+{
+    let point = Point::new(point);
     let prices = Prices::new(copied(alloc, prices)?);
     Ok(Outcome::Optimal {
         steps,
@@ -291,15 +319,15 @@ fn best(alloc: Global, point: &[Frac], prices: &[Frac], steps: u32) -> Result<Ou
 fn endless(
     alloc: Global,
     lp: &Lp,
-    point: &[Frac],
+    point: Vec<Frac>,
     direction: &[Frac],
     up: bool,
     steps: u32,
 ) -> Result<Outcome, NoMemory>
     requires { length direction.now ≡ size lp.now.matrix }
-    ensures { IfOk result (IsEndless lp.now point.now (value_at direction.now) up steps) }
+    ensures { IfOk result (IsEndless lp.now point.items (value_at direction.now) up steps) }
 {
-    let point = Point::new(copied(alloc, point)?);
+    let point = Point::new(point);
     let direction = signed_direction(alloc, lp, direction, up)?;
     Ok(Outcome::Unbounded {
         steps,
@@ -308,13 +336,15 @@ fn endless(
     })
 }
 
-/// Moves `q` up or down until something stops it, or answers that nothing does. `direction` is room.
+/// Moves `q` up or down until something stops it, or answers that nothing does. Of `point` the values of variables with limits are
+/// those of the basis, and all where it is `whole`. `direction` is room.
 fn run<R: Rates>(
     alloc: Global,
     lp: &Lp,
     basis: &Basis,
     rates: &mut R,
     point: &[Frac],
+    whole: bool,
     direction: &mut [Frac],
     moved: Mover,
     steps: u32,
@@ -323,17 +353,21 @@ fn run<R: Rates>(
     requires rates { HasRates (R.matrix rates.old) (R.basics rates.old) lp.now basis.now }
     requires point_places { length point.now ≡ size lp.now.matrix }
     requires direction_places { length direction.old ≡ size lp.now.matrix }
-    requires point { IsPointOf lp.now basis.now (value_at point.now) }
+    requires point { AgreesWithPoint lp.now basis.now (value_at point.now) }
+    requires whole { IsTrue whole → IsPointOf lp.now basis.now (value_at point.now) }
     requires uncrossed { IsUncrossed lp.now }
     requires inside { least_outside lp.now basis.now (value_at point.now) ≡ None }
     requires moves { Betters lp.now basis.now moved }
-    ensures turn { TurnFound result lp.now basis.now steps left (value_at point.now)
+    ensures turn { TurnFound result lp.now basis.now steps left
         (value_at direction.new) (R.waypoints rates.old) (R.waypoints rates.new) }
     ensures rates { KeepsRates (R.matrix rates.new) (R.basics rates.new) lp.now basis.now
         (R.waypoints rates.old) (R.waypoints rates.new) }
 {
     match stopper_of(lp, basis, rates, point, direction, moved.q, moved.up)? {
-        None => Ok(Turn::Ends(endless(alloc, lp, point, direction, moved.up, steps)?)),
+        None => {
+            let point = whole_point(alloc, lp, basis, rates, point, whole)?;
+            Ok(Turn::Ends(endless(alloc, lp, point, direction, moved.up, steps)?))
+        }
         Some(by) => {
             if left == 0 {
                 Err(PrimalStop::Limit)
@@ -352,6 +386,7 @@ fn second_phase<R: Rates>(
     basis: &Basis,
     rates: &mut R,
     point: &[Frac],
+    whole: bool,
     row: &mut [Frac],
     direction: &mut [Frac],
     steps: u32,
@@ -362,19 +397,23 @@ fn second_phase<R: Rates>(
     requires point_places { length point.now ≡ size lp.now.matrix }
     requires row_places { length row.old ≡ size lp.now.matrix }
     requires direction_places { length direction.old ≡ size lp.now.matrix }
-    requires point { IsPointOf lp.now basis.now (value_at point.now) }
+    requires point { AgreesWithPoint lp.now basis.now (value_at point.now) }
+    requires whole { IsTrue whole → IsPointOf lp.now basis.now (value_at point.now) }
     requires uncrossed { IsUncrossed lp.now }
     requires inside { least_outside lp.now basis.now (value_at point.now) ≡ None }
-    ensures turn { TurnFound result lp.now basis.now steps left (value_at point.now)
+    ensures turn { TurnFound result lp.now basis.now steps left
         (value_at direction.new) (R.waypoints rates.old) (R.waypoints rates.new) }
     ensures rates { KeepsRates (R.matrix rates.new) (R.basics rates.new) lp.now basis.now
         (R.waypoints rates.old) (R.waypoints rates.new) }
 {
     fill_prices(lp, basis, rates, direction, row)?;
     match bettering(lp, basis, row) {
-        None => Ok(Turn::Ends(best(alloc, point, row, steps)?)),
+        None => {
+            let point = whole_point(alloc, lp, basis, rates, point, whole)?;
+            Ok(Turn::Ends(best(alloc, point, row, steps)?))
+        }
         Some(moved) => run(
-            alloc, lp, basis, rates, point, direction, moved, steps, left,
+            alloc, lp, basis, rates, point, whole, direction, moved, steps, left,
         ),
     }
 }
@@ -386,6 +425,7 @@ pub fn next_turn<R: Rates>(
     basis: &Basis,
     rates: &mut R,
     point: &[Frac],
+    whole: bool,
     row: &mut [Frac],
     direction: &mut [Frac],
     broken: Option<u32>,
@@ -397,10 +437,11 @@ pub fn next_turn<R: Rates>(
     requires point_places { length point.now ≡ size lp.now.matrix }
     requires row_places { length row.old ≡ size lp.now.matrix }
     requires direction_places { length direction.old ≡ size lp.now.matrix }
-    requires point { IsPointOf lp.now basis.now (value_at point.now) }
+    requires point { AgreesWithPoint lp.now basis.now (value_at point.now) }
+    requires whole { IsTrue whole → IsPointOf lp.now basis.now (value_at point.now) }
     requires uncrossed { IsUncrossed lp.now }
     requires broken { broken ≡ least_outside lp.now basis.now (value_at point.now) }
-    ensures turn { TurnFound result lp.now basis.now steps left (value_at point.now)
+    ensures turn { TurnFound result lp.now basis.now steps left
         (value_at direction.new) (R.waypoints rates.old) (R.waypoints rates.new) }
     ensures rates { KeepsRates (R.matrix rates.new) (R.basics rates.new) lp.now basis.now
         (R.waypoints rates.old) (R.waypoints rates.new) }
@@ -409,6 +450,8 @@ pub fn next_turn<R: Rates>(
         Some(r) => first_phase(
             alloc, lp, basis, rates, point, row, direction, r, steps, left,
         ),
-        None => second_phase(alloc, lp, basis, rates, point, row, direction, steps, left),
+        None => second_phase(
+            alloc, lp, basis, rates, point, whole, row, direction, steps, left,
+        ),
     }
 }

@@ -12,9 +12,9 @@ returns-in_err-next-clause-refused c =
     let rate_is = sym (value_next c.args.direction.now c.loop-k.k c.index-direction-k.result (omega arith) c.index-direction-k.is) in
     rw is_err (record {
       i = c.loop-k.k + 1;
-      low = omega arith;
-      high = omega arith;
-      moves = λ e. c.in_err-next.ensures.needed (rate_is ∙ e);
+      is = (omega arith, omega arith);
+      needed = sym c.is_needed-needed.ensures ∙ c.in_err-next.ensures.needed;
+      moves = λ e. c.in_err-next.ensures.moves (rate_is ∙ e);
       refused = subst (λ (x : ℚ). MovedRefused c.args.by.now.step x (value_at c.args.point.now (c.loop-k.k + 1)) c.args.by.now.p c.args.q (c.loop-k.k + 1) c.in_err-next.field-0.0) rate_is
           (subst (λ (x : ℚ). MovedRefused c.args.by.now.step c.index-direction-k.result x c.args.by.now.p c.args.q (c.loop-k.k + 1) c.in_err-next.field-0.0) value_is c.in_err-next.ensures.refused);
     })

@@ -18,6 +18,6 @@ loop-k-preserved c =
 
 pub returns-then-is_at_once-clause-nearest : goal.returns-then-is_at_once-clause-nearest
 returns-then-is_at_once-clause-nearest c =
-    nearest_at_once c.args.lp.now (value_at c.args.point.now) (motion (value_at c.args.direction.now) c.args.up) c.requires.feasible (c.loop-k.k + 1) (omega arith) c.nearer-nearest.result (c.if-is_at_once.ensures.0 refl)
+    nearest_at_once c.args.lp.now (value_at c.args.point.now) (motion (value_at c.args.direction.now) c.args.up) c.requires.within (c.loop-k.k + 1) (omega arith) c.nearer-nearest.result (c.if-is_at_once.ensures.0 refl)
     (nearest_more (room c.args.lp.now (value_at c.args.point.now) (motion (value_at c.args.direction.now) c.args.up)) c.loop-k.k c.loop-k.nearest c.nearer-nearest.result c.in_ok-length.length
     c.loop-k.invariant c.in_ok-length.ensures.length c.nearer-nearest.ensures)

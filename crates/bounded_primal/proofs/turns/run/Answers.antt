@@ -1,11 +1,12 @@
-use Rattle.std.proofs.Common.{refl, sym, ◌∙◌, arith}
+use Rattle.std.proofs.Common.{sym, ◌∙◌, arith}
 use Rattle.std.proofs.lemmas.Result.{err_from_is_err_and}
 use Rattle.lp_definitions.specs.LinearProgram.{value_at}
-use Rattle.bounded_primal.proofs.TurnCases.{run_feasible, run_nonbasic, run_may, run_stops, run_ends, run_at_limit, run_moves}
+use Rattle.basis_values.proofs.Kept.{kept_then}
+use Rattle.bounded_primal.proofs.TurnCases.{point_stops_later, run_within, run_nonbasic, run_may, run_stops, run_ends, run_at_limit, run_moves}
 use Rattle.bounded_primal.proofs.turns.run.Goals as goal
 
-pub stopper_of-requires-clause-feasible : goal.stopper_of-requires-clause-feasible
-stopper_of-requires-clause-feasible g c = run_feasible c.args.lp.now c.args.basis.now (value_at c.args.point.now) (g.R.Rates.matrix c.args.rates.now) (g.R.Rates.basics c.args.rates.now) c.requires.rates c.requires.point c.requires.uncrossed c.requires.inside c.args.moved c.requires.moves
+pub stopper_of-requires-clause-within : goal.stopper_of-requires-clause-within
+stopper_of-requires-clause-within g c = run_within c.args.lp.now c.args.basis.now (value_at c.args.point.now) (g.R.Rates.matrix c.args.rates.now) (g.R.Rates.basics c.args.rates.now) c.requires.rates c.requires.point c.requires.uncrossed c.requires.inside c.args.moved c.requires.moves
 
 pub stopper_of-requires-clause-nonbasic : goal.stopper_of-requires-clause-nonbasic
 stopper_of-requires-clause-nonbasic g c = run_nonbasic c.args.lp.now c.args.basis.now (value_at c.args.point.now) (g.R.Rates.matrix c.args.rates.now) (g.R.Rates.basics c.args.rates.now) c.requires.rates c.requires.point c.requires.uncrossed c.requires.inside c.args.moved c.requires.moves
@@ -18,11 +19,25 @@ returns-in_err-stopper_of-clause-turn g c =
     let p = err_from_is_err_and c.from_residual.result c.from_residual.ensures.1 in
     rw (p.1, p.2) (run_stops c.args.lp.now c.args.basis.now (value_at c.args.point.now) (g.R.Rates.matrix c.args.rates.now) (g.R.Rates.basics c.args.rates.now) c.requires.rates c.requires.point c.requires.uncrossed c.requires.inside c.args.moved c.requires.moves c.args.left (g.R.Rates.waypoints c.args.rates.now) (g.R.Rates.waypoints c.stopper_of.new.rates) c.in_err-stopper_of.field-0.0 c.in_err-stopper_of.ensures.overflow)
 
-pub returns-in_ok-endless-in-None-clause-turn : goal.returns-in_ok-endless-in-None-clause-turn
-returns-in_ok-endless-in-None-clause-turn g c = run_ends c.args.lp.now c.args.basis.now (value_at c.args.point.now) (g.R.Rates.matrix c.args.rates.now) (g.R.Rates.basics c.args.rates.now) c.requires.rates c.requires.point c.requires.uncrossed c.requires.inside c.args.moved c.requires.moves (value_at c.stopper_of.new.direction) c.in_ok-stopper_of.ensures.direction c.args.point.now c.args.steps c.in_ok-endless-in-None.field-0 (sym c.in-None.is ∙ c.in_ok-stopper_of.ensures.stopper) c.requires.point_places (λ k is. refl) c.in_ok-endless-in-None.ensures
-
 pub returns-else-left-eq0-clause-turn : goal.returns-else-left-eq0-clause-turn
 returns-else-left-eq0-clause-turn g c = run_moves c.args.lp.now c.args.basis.now (value_at c.args.point.now) (g.R.Rates.matrix c.args.rates.now) (g.R.Rates.basics c.args.rates.now) c.requires.rates c.requires.point c.requires.uncrossed c.requires.inside c.args.moved c.requires.moves (value_at c.stopper_of.new.direction) c.in_ok-stopper_of.ensures.direction c.in-Some.by c.args.left (sym c.in-Some.is ∙ c.in_ok-stopper_of.ensures.stopper) (omega (arith, c.if-left-eq0.false))
 
 pub returns-then-left-eq0-clause-turn : goal.returns-then-left-eq0-clause-turn
 returns-then-left-eq0-clause-turn g c = run_at_limit c.args.lp.now c.args.basis.now (value_at c.args.point.now) (g.R.Rates.matrix c.args.rates.now) (g.R.Rates.basics c.args.rates.now) c.requires.rates c.requires.point c.requires.uncrossed c.requires.inside c.args.moved c.requires.moves (value_at c.stopper_of.new.direction) c.in_ok-stopper_of.ensures.direction c.args.left (g.R.Rates.waypoints c.args.rates.now) (g.R.Rates.waypoints c.stopper_of.new.rates) c.in-Some.by (sym c.in-Some.is ∙ c.in_ok-stopper_of.ensures.stopper) c.if-left-eq0.true
+
+pub returns-in_err-point-in-None-clause-turn : goal.returns-in_err-point-in-None-clause-turn
+returns-in_err-point-in-None-clause-turn g c =
+    let p = err_from_is_err_and c.from_residual-in_err-point-in-None.result c.from_residual-in_err-point-in-None.ensures.1 in
+    rw (p.1, p.2) (point_stops_later c.args.lp.now c.args.basis.now c.args.left (g.R.Rates.waypoints c.args.rates.now) (g.R.Rates.waypoints c.stopper_of.new.rates) (g.R.Rates.waypoints c.whole_point.new.rates) c.in_err-point-in-None.field-0.0 c.stopper_of.ensures.rates.1 c.in_err-point-in-None.ensures.overflow)
+
+pub returns-in_ok-endless-in-None-clause-turn : goal.returns-in_ok-endless-in-None-clause-turn
+returns-in_ok-endless-in-None-clause-turn g c = run_ends c.args.lp.now c.args.basis.now (value_at c.args.point.now) (g.R.Rates.matrix c.args.rates.now) (g.R.Rates.basics c.args.rates.now) c.requires.rates c.requires.point c.requires.uncrossed c.requires.inside c.args.moved c.requires.moves (value_at c.stopper_of.new.direction) c.in_ok-stopper_of.ensures.direction c.in_ok-point-in-None.point.items c.args.steps c.in_ok-endless-in-None.field-0 (sym c.in-None.is ∙ c.in_ok-stopper_of.ensures.stopper) c.in_ok-point-in-None.ensures.places c.in_ok-point-in-None.ensures.point c.in_ok-endless-in-None.ensures
+
+pub returns-in_err-point-in-None-clause-rates : goal.returns-in_err-point-in-None-clause-rates
+returns-in_err-point-in-None-clause-rates g c = kept_then c.stopper_of.ensures.rates c.whole_point.ensures.rates
+
+pub returns-in_err-endless-in-None-clause-rates : goal.returns-in_err-endless-in-None-clause-rates
+returns-in_err-endless-in-None-clause-rates g c = kept_then c.stopper_of.ensures.rates c.whole_point.ensures.rates
+
+pub returns-in_ok-endless-in-None-clause-rates : goal.returns-in_ok-endless-in-None-clause-rates
+returns-in_ok-endless-in-None-clause-rates g c = kept_then c.stopper_of.ensures.rates c.whole_point.ensures.rates

@@ -1,0 +1,9 @@
+use Rattle.lp_definitions.specs.Basis.{basics_of}
+use Rattle.basis_values.proofs.Covered.{keeps_same}
+use Rattle.bounded_primal.proofs.turns.whole_point.Goals as goal
+
+pub returns-in_err-values-clause-rates : goal.returns-in_err-values-clause-rates
+returns-in_err-values-clause-rates g c = (c.requires.rates, keeps_same c.args.lp.now.matrix (basics_of c.args.basis.now) (g.R.Rates.waypoints c.args.rates.now))
+
+pub returns-then-whole-clause-rates : goal.returns-then-whole-clause-rates
+returns-then-whole-clause-rates g c = (c.requires.rates, keeps_same c.args.lp.now.matrix (basics_of c.args.basis.now) (g.R.Rates.waypoints c.args.rates.now))
