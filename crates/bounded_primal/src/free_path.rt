@@ -37,8 +37,8 @@ fn unlimited(stop: PrimalStop) -> Stop
     }
 }
 
-/// What the path does at the basis, where `broken` is the least-numbered basic outside its limits, and a step is always left. `row`
-/// and `direction` are room.
+/// What the path does at the basis, where `broken` is the least-numbered basic outside its limits, and a step is always left. `point`
+/// and `whole` are those of `next_turn`; `row` and `direction` are room.
 fn free_turn<R: Rates>(
     alloc: Global,
     lp: &Lp,
@@ -73,7 +73,8 @@ fn free_turn<R: Rates>(
     }
 }
 
-/// Makes the basis's point, and goes from basis to basis with it until the path ends. `point`, `row` and `direction` are room.
+/// Makes the basis's point, and goes from basis to basis with it, or with the values that steps need, until the path ends. `point`,
+/// `row` and `direction` are room.
 /// The ledger of `blank` counts the steps for the proof that this comes to an end, since no basis comes twice; it takes no bytes.
 fn walk_free<R: Rates, L: Ledger>(
     alloc: Global,

@@ -40,7 +40,8 @@ pub fn outside_after(lp: &Lp, basis: &Basis, point: &[Frac], broken: Option<u32>
     outside(lp, basis, point)
 }
 
-/// Makes the basis's point, and goes from basis to basis with it. `point`, `row` and `direction` are room.
+/// Makes the basis's point, and goes from basis to basis with it, or with the values that steps need, where another is refused.
+/// `point`, `row` and `direction` are room.
 fn walk<R: Rates>(
     alloc: Global,
     lp: &Lp,

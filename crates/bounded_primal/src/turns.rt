@@ -336,8 +336,8 @@ fn endless(
     })
 }
 
-/// Moves `q` up or down until something stops it, or answers that nothing does. Of `point` the values of variables with limits are
-/// those of the basis, and all where it is `whole`. `direction` is room.
+/// Moves `q` up or down until something stops it, or answers that nothing does. `point` and `whole` are those of `next_turn`;
+/// `direction` is room.
 fn run<R: Rates>(
     alloc: Global,
     lp: &Lp,
@@ -379,7 +379,7 @@ fn run<R: Rates>(
 }
 
 /// The second phase: moves the least-numbered variable that betters the objective, or answers that none does or that nothing stops
-/// it. `row` and `direction` are room.
+/// it. `point` and `whole` are those of `next_turn`; `row` and `direction` are room.
 fn second_phase<R: Rates>(
     alloc: Global,
     lp: &Lp,
@@ -418,7 +418,8 @@ fn second_phase<R: Rates>(
     }
 }
 
-/// What the path does at the basis, where `broken` is the least-numbered basic outside its limits. `row` and `direction` are room.
+/// What the path does at the basis, where `broken` is the least-numbered basic outside its limits. Of `point` the values of variables
+/// with limits are those of the basis, and all where it is `whole`. `row` and `direction` are room.
 pub fn next_turn<R: Rates>(
     alloc: Global,
     lp: &Lp,
