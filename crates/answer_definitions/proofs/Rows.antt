@@ -9,7 +9,7 @@ use Rattle.frac128.specs.Operations.{refuses, shared_factor, raised_numerator, r
 use Rattle.lp_definitions.specs.declared.Sense.TheVariants.{Min, Max}
 use Rattle.lp_definitions.specs.Basis.{opening_statuses}
 use Rattle.check_definitions.specs.declared.Verdict.{Verdict as CheckVerdict}
-use Rattle.path_definitions.specs.Path.{Ending, EndsOptimal, EndsCrossed, EndsInfeasible, EndsUnbounded, turn}
+use Rattle.path_definitions.specs.Path.{PathEnding, EndsOptimal, EndsCrossed, EndsInfeasible, EndsUnbounded, turn}
 use Rattle.path_definitions.proofs.Solve.{solved, tableau_for, table_for}
 use Rattle.card_definitions.specs.Cards.{cards_of, numbered_cards}
 use Rattle.card_definitions.specs.Fields.{reading_of}
@@ -50,17 +50,17 @@ check_printed CheckVerdict.Checked = Some Checked
 check_printed (CheckVerdict.Unchecked refused) = Some (Unchecked refused)
 check_printed (CheckVerdict.Failed part number) = None
 
-abbrev mark_left : Ending → Mark
+abbrev mark_left : PathEnding → Mark
 mark_left (EndsOptimal point prices) = Optimal
 mark_left (EndsCrossed k) = Infeasible
 mark_left (EndsInfeasible ray) = Infeasible
 mark_left (EndsUnbounded point direction) = Unbounded
 
-abbrev solution_if : Bool → Sheet → Ending → Basis → List Report
+abbrev solution_if : Bool → Sheet → PathEnding → Basis → List Report
 solution_if false sheet ending s = []
 solution_if true sheet ending s = Solution (mark_left ending) (solution_lines sheet s (tableau_for sheet.lp s)) ∷ []
 
-abbrev printed_end : Bool → Sheet → Option (ℕ × Ending × Basis) → Option (List ℕ)
+abbrev printed_end : Bool → Sheet → Option (ℕ × PathEnding × Basis) → Option (List ℕ)
 printed_end with_solution sheet None = None
 printed_end with_solution sheet (Some found) =
     option_map (λ check. reports_text (Solved Primal (verdict_of sheet found.0 found.1) check ∷ solution_if with_solution sheet found.1 found.2)) (check_printed (check_of sheet.lp found.1))

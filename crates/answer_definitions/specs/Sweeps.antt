@@ -6,7 +6,7 @@ use Rattle.std.specs.List.{enumerate_from}
 use Rattle.exact_values.specs.Rational.{ℚ, zero_ℚ}
 use Rattle.lp_definitions.specs.declared.Status.{Status}
 use Rattle.lp_definitions.specs.LinearProgram.{LinearProgram, value_at, variables}
-use Rattle.path_definitions.specs.Path.{Ending}
+use Rattle.path_definitions.specs.Path.{PathEnding}
 use Rattle.postoptimal_definitions.specs.Chain.{Part, ChainEnd as PastBreak, AtMax, UnboundedPast as PastUnbounded, InfeasiblePast as PastInfeasible, FaceTurn, IsRun, IsFailedOpening, RunGoesOnFor}
 use Rattle.postoptimal_definitions.specs.ObjectiveRun.{objective_family, IsObjectiveFace}
 use Rattle.postoptimal_definitions.specs.RhsRun.{rhs_family, IsRhsFace}
@@ -57,7 +57,7 @@ end_of sheet max (PastInfeasible past ray) = InfeasiblePast past (ray_lines shee
 module _ (sheet : Sheet) (s : Basis) (sweep : Sweep) where
   -- the opening path runs in the linear program at the first value, and its verdict speaks of that one
   pub record FailsToOpen (bases : List Basis) (verdict : Verdict) (check : Check) : Type 0 where
-    pub ending : Ending
+    pub ending : PathEnding
     pub opens : IsFailedOpening (family_of sheet sweep.changing) (IsFace sheet sweep.changing) sweep.from s ending bases
     pub within_limit : length bases ≤ sweep.limit
     pub is_verdict : IsVerdict (sheet_at sheet sweep.changing sweep.from) (length bases) ending verdict check

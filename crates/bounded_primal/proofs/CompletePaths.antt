@@ -7,7 +7,7 @@ use Rattle.lp_definitions.specs.declared.Status.{Status}
 use Rattle.lp_model.specs.declared.Stop.{Stop}
 use Rattle.lp_model.specs.declared.Stop.TheVariants as stop
 use Rattle.lp_model.specs.declared.reports.Outcome.{Outcome}
-use Rattle.path_definitions.specs.Path.{Ending, PathEnds, last_of}
+use Rattle.path_definitions.specs.Path.{PathEnding, PathEnds, last_of}
 use Rattle.path_definitions.specs.Counts.{counted_steps}
 use Rattle.path_laws.specs.Laws.{IsNonsingularBasis}
 use Rattle.path_laws.proofs.OnePath.{one_path, not_both}
@@ -19,7 +19,7 @@ use Rattle.bounded_primal.specs.Complete.{EndsUnhindered, EndsFreely, IsEndOr, I
 use Rattle.bounded_primal.specs.declared.moves.PrimalStop.{PrimalStop}
 use Rattle.bounded_primal.specs.declared.moves.PrimalStop.TheVariants.{Limit, Overflow, NoMemory}
 
-module _ (p : LinearProgram) (lawful : IsLinearProgram p) (a : Matrix) (b : Basics) (s : List Status) (has : HasRates a b p s) (now : List Status) (bases : List (List Status)) (ending : Ending) where
+module _ (p : LinearProgram) (lawful : IsLinearProgram p) (a : Matrix) (b : Basics) (s : List Status) (has : HasRates a b p s) (now : List Status) (bases : List (List Status)) (ending : PathEnding) where
   begun : IsNonsingularBasis p s
   begun = record { is_basis = has.is_basis; nonsingular = has.nonsingular }
 

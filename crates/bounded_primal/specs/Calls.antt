@@ -10,13 +10,13 @@ use Rattle.lp_definitions.specs.declared.Evidence.{Evidence}
 use Rattle.lp_definitions.specs.declared.Status.{Status}
 use Rattle.lp_model.specs.declared.reports.Outcome.{Outcome}
 use Rattle.lp_model.specs.declared.reports.Outcome.TheVariants.{Optimal, Crossed, Infeasible, Unbounded}
-use Rattle.path_definitions.specs.Path.{Ending, EndsOptimal, EndsCrossed, EndsInfeasible, EndsUnbounded, IsPath, PathEnds, GoesOnFor, last_of}
+use Rattle.path_definitions.specs.Path.{PathEnding, EndsOptimal, EndsCrossed, EndsInfeasible, EndsUnbounded, IsPath, PathEnds, GoesOnFor, last_of}
 use Rattle.path_definitions.specs.Counts.{counted_steps}
 use Rattle.evidence_definitions.specs.Evidence.{EvidenceHolds}
 use Rattle.basis_values.specs.Calls.{LieIn, job_of}
 
 -- the outcome that a call gives for an ending after so many steps
-abbrev pub outcome_of : ℕ → Ending → Outcome
+abbrev pub outcome_of : ℕ → PathEnding → Outcome
 outcome_of steps (EndsOptimal z y) = Optimal steps z y
 outcome_of steps (EndsCrossed k) = Crossed k
 outcome_of steps (EndsInfeasible w) = Infeasible steps w
@@ -25,7 +25,7 @@ outcome_of steps (EndsUnbounded z d) = Unbounded steps z d
 -- the path from s to now has ended within the limit, and the outcome has the count of its steps
 pub record CallEnds (p : LinearProgram) (s now : List Status) (limit : ℕ) (outcome : Outcome) : Type 0 where
   pub bases : List (List Status)
-  pub ending : Ending
+  pub ending : PathEnding
   pub ends : PathEnds p s bases ending
   pub reaches : last_of s bases ≡ now
   pub within : length bases ≤ limit

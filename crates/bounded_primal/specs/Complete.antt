@@ -13,7 +13,7 @@ use Rattle.lp_definitions.specs.declared.Status.{Status}
 use Rattle.lp_model.specs.declared.Stop.{Stop}
 use Rattle.lp_model.specs.declared.Stop.TheVariants as stop
 use Rattle.lp_model.specs.declared.reports.Outcome.{Outcome}
-use Rattle.path_definitions.specs.Path.{Ending, PathEnds, last_of}
+use Rattle.path_definitions.specs.Path.{PathEnding, PathEnds, last_of}
 use Rattle.path_definitions.specs.Counts.{counted_steps}
 use Rattle.termination_laws.specs.Laws.{lists_of}
 use Rattle.bounded_primal.specs.Calls.{outcome_of, StopsOnPath}
@@ -26,27 +26,27 @@ HasNoEvidence p s limit before =
     (at : List Status) (ways : List Basics) (e : Evidence) → StopsOnPath p s at limit before ways e → ⊥
 
 pub record EndsUnhindered (p : LinearProgram) (s : List Status) (limit : ℕ) (before : List Basics)
-    (bases : List (List Status)) (ending : Ending) : Type 0 where
+    (bases : List (List Status)) (ending : PathEnding) : Type 0 where
   pub ends : PathEnds p s bases ending
   pub within : length bases ≤ limit
   pub no_evidence : HasNoEvidence p s limit before
 
 -- no path has as many steps as there are status lists, so that is no limit
 pub record EndsFreely (p : LinearProgram) (s : List Status) (before : List Basics)
-    (bases : List (List Status)) (ending : Ending) : Type 0 where
+    (bases : List (List Status)) (ending : PathEnding) : Type 0 where
   pub ends : PathEnds p s bases ending
   pub no_evidence : HasNoEvidence p s (lists_of p) before
 
-abbrev pub IsEndOr : {E : Type 0} → E → List Status → List (List Status) → Ending → List Status →
+abbrev pub IsEndOr : {E : Type 0} → E → List Status → List (List Status) → PathEnding → List Status →
     Result Outcome E → Type 0
 IsEndOr stop s bases ending now result =
     ((result ≡ Ok (outcome_of (counted_steps (length bases)) ending)) × (last_of s bases ≡ now)) ⊎
     (result ≡ Err stop)
 
-abbrev pub IsEndOrMemory : List Status → List (List Status) → Ending → List Status →
+abbrev pub IsEndOrMemory : List Status → List (List Status) → PathEnding → List Status →
     Result Outcome PrimalStop → Type 0
 IsEndOrMemory s bases ending now result = IsEndOr NoMemory s bases ending now result
 
-abbrev pub IsFreeEndOrMemory : List Status → List (List Status) → Ending → List Status →
+abbrev pub IsFreeEndOrMemory : List Status → List (List Status) → PathEnding → List Status →
     Result Outcome Stop → Type 0
 IsFreeEndOrMemory s bases ending now result = IsEndOr stop.NoMemory s bases ending now result

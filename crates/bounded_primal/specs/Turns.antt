@@ -16,7 +16,7 @@ use Rattle.lp_definitions.specs.declared.Status.{Status}
 use Rattle.lp_model.specs.declared.reports.Outcome.{Outcome}
 use Rattle.lp_model.specs.declared.reports.Outcome.TheVariants.{Unbounded}
 use Rattle.path_definitions.specs.Moves.{least, is_crossed, is_outside, signed, goes_up, entering}
-use Rattle.path_definitions.specs.Path.{Ending, IsStep, EndsAt}
+use Rattle.path_definitions.specs.Path.{PathEnding, IsStep, EndsAt}
 use Rattle.evidence_definitions.specs.Statements.{PathMoves, PathEnters}
 use Rattle.evidence_definitions.specs.Evidence.{EvidenceHolds}
 use Rattle.lp_model.specs.declared.Stop.{Stop}
@@ -81,7 +81,7 @@ RunStopsAtPoint p s q up before after e = (z : Vector) → IsPointOf p s z → R
 
 -- the path ends at s, after so many steps
 pub record EndsHere (p : LinearProgram) (s : List Status) (steps : ℕ) (outcome : Outcome) : Type 0 where
-  pub ending : Ending
+  pub ending : PathEnding
   pub ends : EndsAt p s ending
   pub is_outcome : outcome ≡ outcome_of steps ending
 

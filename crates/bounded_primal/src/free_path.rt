@@ -4,7 +4,7 @@ ghost use Rattle.std.specs.Prelude.{◌≡◌, ◌≢◌, ◌<◌, List, length,
 ghost use Rattle.lp_definitions.specs.LinearProgram.{size, value_at, IsLinearProgram};
 ghost use Rattle.lp_definitions.specs.Basis.{IsPointOf};
 ghost use Rattle.lp_definitions.specs.declared.Status.{Status};
-ghost use Rattle.path_definitions.specs.Path.{Ending};
+ghost use Rattle.path_definitions.specs.Path.{PathEnding};
 ghost use Rattle.termination_laws.specs.Laws.{lists_of};
 ghost use Rattle.basis_values.specs.Calls.{HasRates, KeepsRates};
 ghost use Rattle.bounded_primal.specs.Calls.{CallEnds, WaypointsFollow};
@@ -139,7 +139,7 @@ pub fn primal_free<R: Rates>(
     ensures waypoints { WaypointsFollow lp.now basis.old basis.new
         (R.waypoints rates.old) (R.waypoints rates.new) }
     ensures truth { IfOk result (IsTrueOutcome lp.now) }
-    ensures complete { (bases : List (List Status)) (ending : Ending) →
+    ensures complete { (bases : List (List Status)) (ending : PathEnding) →
         EndsFreely lp.now basis.old (R.waypoints rates.old) bases ending →
         IsFreeEndOrMemory basis.old bases ending basis.new result }
 {

@@ -3,7 +3,7 @@
 ghost use Rattle.std.specs.Prelude.{◌≡◌, ◌<◌, None, List, length, vec_len, IfOk, IfErr, IsErrOf};
 ghost use Rattle.lp_definitions.specs.LinearProgram.{size, value_at, IsLinearProgram};
 ghost use Rattle.lp_definitions.specs.declared.Status.{Status};
-ghost use Rattle.path_definitions.specs.Path.{Ending};
+ghost use Rattle.path_definitions.specs.Path.{PathEnding};
 ghost use Rattle.basis_values.specs.Calls.{HasRates};
 ghost use Rattle.bounded_primal.specs.Calls.{CallEnds, WaypointsFollow};
 ghost use Rattle.bounded_primal.specs.Complete.{EndsUnhindered, IsEndOrMemory};
@@ -114,7 +114,7 @@ pub fn primal<R: Rates>(
     ensures truth { IfOk result (IsTrueOutcome lp.now) }
     // No path has as many steps as there are status lists, three for each variable.
     ensures limited { IsErrOf result PrimalStop.Limit → limit < lists_of lp.now }
-    ensures complete { (bases : List (List Status)) (ending : Ending) →
+    ensures complete { (bases : List (List Status)) (ending : PathEnding) →
         EndsUnhindered lp.now basis.old limit (R.waypoints rates.old) bases ending →
         IsEndOrMemory basis.old bases ending basis.new result }
 {

@@ -51,14 +51,14 @@ Ends (Ok cards) new = IsAtEnd new
 Ends (Err stop) new = EndsAtStop stop new
 
 -- the stop tells the fault that was found; a fault of the source or want of memory may come in its place
-abbrev pub Tells : ReadStop → Option CardFault → Type 0
-Tells ReadFault found = Unit {0}
-Tells NoMemory found = Unit {0}
-Tells TooLong found = found ≡ Some fault.TooLong
-Tells (CardTooLong number) found = found ≡ Some (fault.CardTooLong number)
-Tells (NotPrintable number) found = found ≡ Some (fault.NotPrintable number)
+abbrev pub TellsCardFault : ReadStop → Option CardFault → Type 0
+TellsCardFault ReadFault found = Unit {0}
+TellsCardFault NoMemory found = Unit {0}
+TellsCardFault TooLong found = found ≡ Some fault.TooLong
+TellsCardFault (CardTooLong number) found = found ≡ Some (fault.CardTooLong number)
+TellsCardFault (NotPrintable number) found = found ≡ Some (fault.NotPrintable number)
 
 -- Where the job is known, `Ok` says that its cards have no fault, and else the stop tells the fault.
 abbrev pub Judges : {T : Type 0} → Result T ReadStop → Option (List ℕ) → Type 0
 Judges (Ok cards) known = IfSome known (λ job. job_fault job ≡ None)
-Judges (Err stop) known = IfSome known (λ job. Tells stop (job_fault job))
+Judges (Err stop) known = IfSome known (λ job. TellsCardFault stop (job_fault job))

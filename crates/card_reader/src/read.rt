@@ -3,7 +3,7 @@ ghost use Rattle.std.specs.Prelude.{◌≡◌, ◌≤◌, ◌<◌, Option, lengt
 ghost use Rattle.std.specs.Io.KnownBytes.{Consumes, IsAtEnd};
 ghost use Rattle.card_definitions.specs.Cards.{cards_of};
 ghost use Rattle.card_definitions.specs.declared.CardFault.{CardFault};
-ghost use Rattle.card_reader.specs.Reading.{HasCause, Judges, Reads, ReadsFront, Ends, EndsAtStop, Tells, read_limit};
+ghost use Rattle.card_reader.specs.Reading.{HasCause, Judges, Reads, ReadsFront, Ends, EndsAtStop, TellsCardFault, read_limit};
 
 use crate::ReadStop;
 use crate::cards::Cards;
@@ -24,7 +24,8 @@ fn read_bytes<S: Source>(alloc: Global, source: &mut S) -> Result<Vec<u8>, ReadS
     ensures end { IfOk result (λ bytes. length bytes.items ≤ MAX_JOB_BYTES → IsAtEnd
         (S.left source.new)) }
     ensures cause { HasCause (S.faults source.old) (S.faults source.new) result }
-    ensures no_card { IfErr result (λ stop. (found : Option CardFault) → Tells stop found) }
+    ensures no_card { IfErr result (λ stop. (found : Option CardFault) →
+        TellsCardFault stop found) }
     ensures no_end { IfErr result (λ stop. EndsAtStop stop (S.left source.new)) }
 {
     let mut bytes = Vec::new(alloc);

@@ -17,7 +17,7 @@ use Rattle.control_compiler.specs.declared.stop.CompileStop.{CompileStop}
 use Rattle.control_compiler.specs.declared.stop.CompileStop.TheVariants.{Fault, NoMemory}
 use Rattle.control_compiler.specs.Cards.{statement_said}
 use Rattle.control_compiler.specs.Jobs.{live_cards, first_missing}
-use Rattle.control_compiler.specs.Outcomes.{IsRead, Reads, EndsAt, Tells}
+use Rattle.control_compiler.specs.Outcomes.{IsRead, Reads, EndsAt, TellsControlFault}
 use Rattle.control_compiler.specs.Settled.{lacks_label, settled, settled_program}
 use Rattle.control_compiler.specs.Valid.{IsProgram}
 use Rattle.control_compiler.proofs.Named.{HoldsLaw, HoldsPosition, HoldsLimit, lacking, missing_told, statements_told, positions_within, limits_within}
@@ -58,7 +58,7 @@ pend_within None number last e le = cc e
 pend_within (Some other) number last e le = let same : other ≡ number = cc e in subst (λ (n : ℕ). n ≤ last) same le
 
 -- a job's fault, where it isn't read to PEND
-pub stopped : (job : List (List ℕ)) (stop : CompileStop) → Reads (Err stop) job → Tells (compiled job) stop
+pub stopped : (job : List (List ℕ)) (stop : CompileStop) → Reads (Err stop) job → TellsControlFault (compiled job) stop
 unfolding compiled
 stopped job (Fault fault) some = ap (λ (fault : Option ControlFault). unless fault (program_of (cards_to_pend (live_cards job)))) some
 stopped job NoMemory some = tt

@@ -33,6 +33,6 @@ EndsAt (Ok number) pend fault = (pend ≡ Some number) × (fault ≡ None)
 EndsAt (Err told) pend fault = fault ≡ Some told
 
 -- A fault is the one that the cards have, and memory may be wanted at any time.
-abbrev pub Tells : Result Program ControlFault → CompileStop → Type 0
-Tells outcome (Fault fault) = outcome ≡ Err fault
-Tells outcome NoMemory = Unit {0}
+abbrev pub TellsControlFault : Result Program ControlFault → CompileStop → Type 0
+TellsControlFault outcome (Fault fault) = outcome ≡ Err fault
+TellsControlFault outcome NoMemory = Unit {0}

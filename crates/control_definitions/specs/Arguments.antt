@@ -70,31 +70,31 @@ label_text argument = if_passes is_label argument
 -- ---- the options of SETUP
 
 -- one choice of SETUP: of a bound set, of a range set, or of the sense
-pub data Choice : Type 0 where
-  BoundSet RangeSet : List ℕ → Choice
-  Direction : Sense → Choice
+pub data SetupArgument : Type 0 where
+  BoundSet RangeSet : List ℕ → SetupArgument
+  Direction : Sense → SetupArgument
 
 -- the words that take the set's name after them, and those that stand alone
-abbrev pub set_words : List (List ℕ × (List ℕ → Choice))
+abbrev pub set_words : List (List ℕ × (List ℕ → SetupArgument))
 set_words = (codes "BOUND", BoundSet) ∷ (codes "RANGE", RangeSet) ∷ []
 
-abbrev pub sense_words : List (List ℕ × Choice)
+abbrev pub sense_words : List (List ℕ × SetupArgument)
 sense_words = (codes "MIN", Direction Min) ∷ (codes "MAX", Direction Max) ∷ []
 
 -- the choice that two arguments make, and the one that an argument alone makes
-abbrev pub set_choice : List ℕ → List ℕ → Option Choice
+abbrev pub set_choice : List ℕ → List ℕ → Option SetupArgument
 set_choice word name = option_and_then (λ choice. option_map choice (quoted_name name)) (option_and_then (named set_words) (quotation word))
 
-abbrev pub sense_choice : List ℕ → Option Choice
+abbrev pub sense_choice : List ℕ → Option SetupArgument
 sense_choice word = option_and_then (named sense_words) (quotation word)
 
 -- a choice and those after it
-abbrev pub led_by : Option Choice → Option (List Choice) → Option (List Choice)
+abbrev pub led_by : Option SetupArgument → Option (List SetupArgument) → Option (List SetupArgument)
 led_by (Some choice) (Some others) = Some (choice ∷ others)
 led_by _ _ = None
 
 -- The choices that the arguments make in order: each is a set's word with its name, or a sense alone.
-abbrev pub choices : List (List ℕ) → Option (List Choice)
+abbrev pub choices : List (List ℕ) → Option (List SetupArgument)
 choices [] = Some []
 choices (word ∷ []) = led_by (sense_choice word) (Some [])
 choices (word ∷ next ∷ arguments) = elim (sense_choice word) [
@@ -102,32 +102,32 @@ choices (word ∷ next ∷ arguments) = elim (sense_choice word) [
   | None ↦ led_by (set_choice word next) (choices arguments)
 ]
 
-abbrev pub bound_chosen : Choice → Option (List ℕ)
+abbrev pub bound_chosen : SetupArgument → Option (List ℕ)
 bound_chosen (BoundSet name) = Some name
 bound_chosen _ = None
 
-abbrev pub range_chosen : Choice → Option (List ℕ)
+abbrev pub range_chosen : SetupArgument → Option (List ℕ)
 range_chosen (RangeSet name) = Some name
 range_chosen _ = None
 
-abbrev pub sense_chosen : Choice → Option Sense
+abbrev pub sense_chosen : SetupArgument → Option Sense
 sense_chosen (Direction sense) = Some sense
 sense_chosen _ = None
 
 -- whether at most one choice is of this kind
-abbrev pub is_chosen_once : {X : Type 0} → (Choice → Option X) → List Choice → Bool
+abbrev pub is_chosen_once : {X : Type 0} → (SetupArgument → Option X) → List SetupArgument → Bool
 is_chosen_once kind list = nat_le (length (filter_map kind list)) 1
 
 -- what was chosen of this kind, if anything was
-abbrev pub chosen : {X : Type 0} → (Choice → Option X) → List Choice → Option X
+abbrev pub chosen : {X : Type 0} → (SetupArgument → Option X) → List SetupArgument → Option X
 chosen kind list = slice_get (filter_map kind list) 0
 
 -- each kind of choice stands at most once
-abbrev pub is_setup : List Choice → Bool
+abbrev pub is_setup : List SetupArgument → Bool
 is_setup list = is_chosen_once bound_chosen list && is_chosen_once range_chosen list && is_chosen_once sense_chosen list
 
 -- a set that isn't chosen doesn't apply, and MIN is the default
-abbrev pub options_of : List Choice → SetupOptions
+abbrev pub options_of : List SetupArgument → SetupOptions
 options_of list = record {
   bound = chosen bound_chosen list;
   range = chosen range_chosen list;

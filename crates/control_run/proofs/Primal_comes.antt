@@ -31,7 +31,7 @@ use Rattle.control_run.specs.Ends.{end_shown, place_shown}
 use Rattle.answer_definitions.specs.Real.{linear_programming}
 use Rattle.control_run.specs.Standing.{AreDemands, IsReady, ShowsSetup, Stands}
 use Rattle.control_run.specs.Statements.{Comes, Executes}
-use Rattle.control_run.specs.Findings.{PathReaches, PathOverflows, reached, at_limit, overflows, Finds, unselected, too_large, solved, Tells, act_of, mark_left}
+use Rattle.control_run.specs.Findings.{PathReaches, PathOverflows, reached, at_limit, overflows, Finds, unselected, too_large, solved, TellsFinding, act_of, mark_left}
 use Rattle.control_run.proofs.Selected.{same_matrix}
 use Rattle.control_run.proofs.Giving.{gives_fault, gives_found, gives_unselected, gives_selected, quietly}
 use Rattle.control_run.proofs.Telling.{told_executes, cut_executes}
@@ -163,7 +163,7 @@ module _ (card : ℕ) (cards : List (List ℕ)) (old : Machine) (setup new : Set
 module _ (card : ℕ) {P : Type 0} (written : P → Option (List ℕ)) (faults refusals : P → ℕ) (print_old print_new : P) (cards : List (List ℕ)) (old : Machine) (setup new : Setup) (is_setup : old.setup ≡ Some setup)
     (ready : IsReady old.file setup) (demands : AreDemands old.cells) where
   pub primal_found : (finding : Finding) (mark : Option Mark) (then : Act) → mark ≡ mark_left finding → then ≡ act_of old.cells card finding →
-      Tells (Finds ready.problem old.cells setup new) written faults refusals print_old print_new (Ok finding) →
+      TellsFinding (Finds ready.problem old.cells setup new) written faults refusals print_old print_new (Ok finding) →
       Executes linear_programming Primal card written faults refusals print_old print_new cards old (record old { setup = Some new; mark = mark }) (Ok then)
   primal_found finding mark then e f t =
       subst (λ (m : Option Mark). Executes linear_programming Primal card written faults refusals print_old print_new cards old (record old { setup = Some new; mark = m }) (Ok then)) (sym e)
@@ -172,7 +172,7 @@ module _ (card : ℕ) {P : Type 0} (written : P → Option (List ℕ)) (faults r
       (no_cards_by ready.problem old.cells setup new)
       (λ gain found h position executed state s. found_comes card cards old setup new is_setup ready.problem ready.on_file demands position executed state s gain found h) print_old print_new finding t))
 
-  pub primal_cut : (any : Machine) (h : Halt) → Tells (Finds ready.problem old.cells setup new) written faults refusals print_old print_new (Err h) →
+  pub primal_cut : (any : Machine) (h : Halt) → TellsFinding (Finds ready.problem old.cells setup new) written faults refusals print_old print_new (Err h) →
       Executes linear_programming Primal card written faults refusals print_old print_new cards old any (Err h)
   primal_cut any h t =
       cut_executes Primal card written faults refusals cards old (Finds ready.problem old.cells setup new) (λ found. record old { setup = Some new; mark = mark_left found }) (act_of old.cells card)

@@ -45,7 +45,7 @@ use Rattle.answer_definitions.specs.Real.{linear_programming}
 use Rattle.control_run.specs.Standing.{ShowsSetup, Stands}
 use Rattle.control_run.specs.Statements.{Comes, Executes}
 use Rattle.control_run.specs.Choosing.{refused_act}
-use Rattle.control_run.specs.Findings.{RangesFound, ranged, stopped, ShowsRanges, range_fault, Tells, act_of}
+use Rattle.control_run.specs.Findings.{RangesFound, ranged, stopped, ShowsRanges, range_fault, TellsFinding, act_of}
 use Rattle.control_run.proofs.Selected.{same_matrix}
 use Rattle.control_run.proofs.Giving.{gives_fault, gives_found, gives_selected, quietly}
 use Rattle.control_run.proofs.Telling.{told_executes, cut_executes}
@@ -58,7 +58,7 @@ use Rattle.control_run.proofs.Showing.{IsSameSetup, still_stands}
 module _ {P : Type 0} (written : P → Option (List ℕ)) (faults refusals : P → ℕ) {print_old print_new : P} (sheet : OwnSheet) (s : Basis) (before : List Basics) (point : List ℚ) (report : RangeReport)
     (is_ranged : IsRanged (sheet_shown sheet) s (range_lines sheet.lp.now s point report sheet.problem.now)) where
   pub ranges_told : Writes {T = Unit {0}} written faults refusals print_old print_new (Ok tt) (report_text (Ranges (range_lines sheet.lp.now s point report sheet.problem.now))) →
-      Tells (RangesFound (sheet_shown sheet) s before) written faults refusals print_old print_new (Ok Shown)
+      TellsFinding (RangesFound (sheet_shown sheet) s before) written faults refusals print_old print_new (Ok Shown)
   ranges_told writes = record {
     gain = Prints (Ranges (range_lines sheet.lp.now s point report sheet.problem.now));
     holds = ranged is_ranged;
@@ -66,7 +66,7 @@ module _ {P : Type 0} (written : P → Option (List ℕ)) (faults refusals : P �
   }
 
   pub ranges_cut : (stop : WriteStop) → Writes {T = Unit {0}} written faults refusals print_old print_new (Err stop) (report_text (Ranges (range_lines sheet.lp.now s point report sheet.problem.now))) →
-      Tells (RangesFound (sheet_shown sheet) s before) written faults refusals print_old print_new (Err (halt.Print stop))
+      TellsFinding (RangesFound (sheet_shown sheet) s before) written faults refusals print_old print_new (Err (halt.Print stop))
   ranges_cut stop writes = record {
     gain = Prints (Ranges (range_lines sheet.lp.now s point report sheet.problem.now));
     finding = Shown;
@@ -81,11 +81,11 @@ ranges_overflow sheet s before after e o place is =
 
 -- the setup that code has opened, which is the one that is spoken of
 module _ {P : Type 0} (written : P → Option (List ℕ)) (faults refusals : P → ℕ) (file : Filed) {setup old : Setup} (is_old : setup ≡ old) (there : Problem ℕ) (is_there : filed_under setup.name file ≡ Some there) where
-  pub ranges_at : (print_old print_new : P) (result : Result Finding Halt) → Tells (ShowsRanges there setup) written faults refusals print_old print_new result →
-      (problem : Problem ℕ) → filed_under old.name file ≡ Some problem → Tells (ShowsRanges problem old) written faults refusals print_old print_new result
+  pub ranges_at : (print_old print_new : P) (result : Result Finding Halt) → TellsFinding (ShowsRanges there setup) written faults refusals print_old print_new result →
+      (problem : Problem ℕ) → filed_under old.name file ≡ Some problem → TellsFinding (ShowsRanges problem old) written faults refusals print_old print_new result
   ranges_at print_old print_new result t problem on_file =
-      subst (λ (s : Setup). Tells (ShowsRanges problem s) written faults refusals print_old print_new result) is_old
-      (subst (λ (q : Problem ℕ). Tells (ShowsRanges q setup) written faults refusals print_old print_new result)
+      subst (λ (s : Setup). TellsFinding (ShowsRanges problem s) written faults refusals print_old print_new result) is_old
+      (subst (λ (q : Problem ℕ). TellsFinding (ShowsRanges q setup) written faults refusals print_old print_new result)
       (one_problem file setup there problem is_there (ap (λ (s : Setup). filed_under s.name file) is_old ∙ on_file)) t)
 
 same_some : {X : Type 0} (a b : X) → Some a ≡ Some b → a ≡ b
@@ -198,14 +198,14 @@ module _ (card : ℕ) (cards : List (List ℕ)) (old : Machine) (setup : Setup) 
         quietly linear_programming Ranging card written faults refusals cards old print {new = any} (λ position executed state s. not_optimal position executed state s fault is)
 
     module _ (print_old print_new : P) (new : Setup) (is_mark : old.mark ≡ Some Optimal) (ok : selected problem (choice_of old.cells setup.options) ≡ Ok setup.lp) (k : IsSameSetup setup new) where
-      pub ranges_found : (finding : Finding) (then : Act) → then ≡ act_of old.cells card finding → Tells (ShowsRanges problem setup) written faults refusals print_old print_new (Ok finding) →
+      pub ranges_found : (finding : Finding) (then : Act) → then ≡ act_of old.cells card finding → TellsFinding (ShowsRanges problem setup) written faults refusals print_old print_new (Ok finding) →
           Executes linear_programming Ranging card written faults refusals print_old print_new cards old (record old { setup = Some new }) (Ok then)
       ranges_found finding then e t =
           subst (λ (a : Act). Executes linear_programming Ranging card written faults refusals print_old print_new cards old (record old { setup = Some new }) (Ok a)) (sym e)
           (told_executes Ranging card written faults refusals cards old (ShowsRanges problem setup) (λ found. record old { setup = Some new }) (act_of old.cells card) (no_cards_by problem setup)
           (λ gain found h position executed state s. ranged_comes position executed state s new is_mark ok k gain found h) print_old print_new finding t)
 
-      pub ranges_broken : (any : Machine) (h : Halt) → Tells (ShowsRanges problem setup) written faults refusals print_old print_new (Err h) →
+      pub ranges_broken : (any : Machine) (h : Halt) → TellsFinding (ShowsRanges problem setup) written faults refusals print_old print_new (Err h) →
           Executes linear_programming Ranging card written faults refusals print_old print_new cards old any (Err h)
       ranges_broken any h t =
           cut_executes Ranging card written faults refusals cards old (ShowsRanges problem setup) (λ found. record old { setup = Some new }) (act_of old.cells card) (no_cards_by problem setup)

@@ -43,7 +43,7 @@ use Rattle.answer_definitions.specs.Real.{linear_programming}
 use Rattle.control_run.specs.Standing.{IsSelected, IsSolved, ShowsSetup, Stands}
 use Rattle.control_run.specs.Statements.{Comes, Executes}
 use Rattle.control_run.specs.Choosing.{refused_act}
-use Rattle.control_run.specs.Findings.{LinesFound, shown, overflows, Shows, Tells, act_of}
+use Rattle.control_run.specs.Findings.{LinesFound, shown, overflows, Shows, TellsFinding, act_of}
 use Rattle.control_run.proofs.Selected.{same_matrix}
 use Rattle.control_run.proofs.Giving.{gives_fault, gives_found, gives_selected, quietly}
 use Rattle.control_run.proofs.Telling.{told_executes, cut_executes}
@@ -55,7 +55,7 @@ use Rattle.control_run.proofs.Present.{present_with, IsPresentOf, present_at, on
 module _ {P : Type 0} (written : P → Option (List ℕ)) (faults refusals : P → ℕ) {print_old print_new : P} (sheet : OwnSheet) (s : Basis) (before : List Basics) (mark : Mark) (point prices slack list : List ℚ) (same : list ≡ slack)
     (is_shown : IsShown (sheet_shown sheet) s (solution_lines sheet.problem.now sheet.lp.now s point prices slack)) where
   pub lines_told : Writes {T = Unit {0}} written faults refusals print_old print_new (Ok tt) (report_text (Solution mark (solution_lines sheet.problem.now sheet.lp.now s point prices list))) →
-      Tells (LinesFound (sheet_shown sheet) s before mark) written faults refusals print_old print_new (Ok Shown)
+      TellsFinding (LinesFound (sheet_shown sheet) s before mark) written faults refusals print_old print_new (Ok Shown)
   lines_told writes = record {
     gain = Prints (Solution mark (solution_lines sheet.problem.now sheet.lp.now s point prices slack));
     holds = shown is_shown;
@@ -63,7 +63,7 @@ module _ {P : Type 0} (written : P → Option (List ℕ)) (faults refusals : P �
   }
 
   pub lines_cut : (stop : WriteStop) → Writes {T = Unit {0}} written faults refusals print_old print_new (Err stop) (report_text (Solution mark (solution_lines sheet.problem.now sheet.lp.now s point prices list))) →
-      Tells (LinesFound (sheet_shown sheet) s before mark) written faults refusals print_old print_new (Err (halt.Print stop))
+      TellsFinding (LinesFound (sheet_shown sheet) s before mark) written faults refusals print_old print_new (Err (halt.Print stop))
   lines_cut stop writes = record {
     gain = Prints (Solution mark (solution_lines sheet.problem.now sheet.lp.now s point prices slack));
     finding = Shown;
@@ -98,11 +98,11 @@ still_solved cells file setup new mark k h = record {
 
 -- the setup that code has opened, which is the one that is spoken of
 module _ {P : Type 0} (written : P → Option (List ℕ)) (faults refusals : P → ℕ) (file : Filed) {setup old : Setup} (is_old : setup ≡ old) (mark : Mark) (there : Problem ℕ) (is_there : filed_under setup.name file ≡ Some there) where
-  pub lines_at : (print_old print_new : P) (result : Result Finding Halt) → Tells (Shows there setup mark) written faults refusals print_old print_new result →
-      (problem : Problem ℕ) → filed_under old.name file ≡ Some problem → Tells (Shows problem old mark) written faults refusals print_old print_new result
+  pub lines_at : (print_old print_new : P) (result : Result Finding Halt) → TellsFinding (Shows there setup mark) written faults refusals print_old print_new result →
+      (problem : Problem ℕ) → filed_under old.name file ≡ Some problem → TellsFinding (Shows problem old mark) written faults refusals print_old print_new result
   lines_at print_old print_new result t problem on_file =
-      subst (λ (s : Setup). Tells (Shows problem s mark) written faults refusals print_old print_new result) is_old
-      (subst (λ (q : Problem ℕ). Tells (Shows q setup mark) written faults refusals print_old print_new result)
+      subst (λ (s : Setup). TellsFinding (Shows problem s mark) written faults refusals print_old print_new result) is_old
+      (subst (λ (q : Problem ℕ). TellsFinding (Shows q setup mark) written faults refusals print_old print_new result)
       (one_problem file setup there problem is_there (ap (λ (s : Setup). filed_under s.name file) is_old ∙ on_file)) t)
 
 -- ---- the statement
@@ -208,14 +208,14 @@ module _ (card : ℕ) (cards : List (List ℕ)) (old : Machine) (setup : Setup) 
         quietly linear_programming SolutionVerb card written faults refusals cards old print {new = any} (λ position executed state s. not_solved position executed state s none)
 
     module _ (print_old print_new : P) (new : Setup) (mark : Mark) (is_mark : old.mark ≡ Some mark) (ok : selected problem (choice_of old.cells setup.options) ≡ Ok setup.lp) (k : IsSameSetup setup new) where
-      pub solution_found : (finding : Finding) (then : Act) → then ≡ act_of old.cells card finding → Tells (Shows problem setup mark) written faults refusals print_old print_new (Ok finding) →
+      pub solution_found : (finding : Finding) (then : Act) → then ≡ act_of old.cells card finding → TellsFinding (Shows problem setup mark) written faults refusals print_old print_new (Ok finding) →
           Executes linear_programming SolutionVerb card written faults refusals print_old print_new cards old (record old { setup = Some new }) (Ok then)
       solution_found finding then e t =
           subst (λ (a : Act). Executes linear_programming SolutionVerb card written faults refusals print_old print_new cards old (record old { setup = Some new }) (Ok a)) (sym e)
           (told_executes SolutionVerb card written faults refusals cards old (Shows problem setup mark) (λ found. record old { setup = Some new }) (act_of old.cells card) (no_cards_by problem setup mark)
           (λ gain found h position executed state s. shown_comes position executed state s new mark is_mark ok k gain found h) print_old print_new finding t)
 
-      pub solution_cut : (any : Machine) (h : Halt) → Tells (Shows problem setup mark) written faults refusals print_old print_new (Err h) →
+      pub solution_cut : (any : Machine) (h : Halt) → TellsFinding (Shows problem setup mark) written faults refusals print_old print_new (Err h) →
           Executes linear_programming SolutionVerb card written faults refusals print_old print_new cards old any (Err h)
       solution_cut any h t =
           cut_executes SolutionVerb card written faults refusals cards old (Shows problem setup mark) (λ found. record old { setup = Some new }) (act_of old.cells card) (no_cards_by problem setup mark)

@@ -7,7 +7,7 @@ use Rattle.lp_definitions.specs.LinearProgram.{Matrix, LinearProgram, IsLinearPr
 use Rattle.lp_definitions.specs.Basis.{Basics, basics_of, IsOptimalBasis}
 use Rattle.lp_definitions.specs.Waypoints.{waypoint}
 use Rattle.lp_definitions.specs.declared.Evidence.{Evidence}
-use Rattle.path_definitions.specs.Path.{Ending, EndsOptimal, EndsCrossed, EndsInfeasible, EndsUnbounded, EndsAt}
+use Rattle.path_definitions.specs.Path.{PathEnding, EndsOptimal, EndsCrossed, EndsInfeasible, EndsUnbounded, EndsAt}
 use Rattle.path_laws.specs.Laws.{IsNonsingularBasis}
 use Rattle.path_laws.proofs.Ends.{optimal_end}
 use Rattle.basis_values.specs.Calls.{HasRates}
@@ -42,7 +42,7 @@ use Rattle.control_run.specs.declared.selecting.Refusal.TheVariants as refusals
 use Rattle.control_run.specs.Choosing.{IsUnselected}
 use Rattle.control_run.specs.Ends.{place_shown}
 use Rattle.control_run.specs.Standing.{IsReady, IsSelected}
-use Rattle.control_run.specs.Findings.{PathReaches, PathFinds, reached, at_limit, overflows, Finds, unselected, too_large, solved, Tells, refused_finding, IfEnded}
+use Rattle.control_run.specs.Findings.{PathReaches, PathFinds, reached, at_limit, overflows, Finds, unselected, too_large, solved, TellsFinding, refused_finding, IfEnded}
 use Rattle.control_run.proofs.Selected.{same_matrix, no_change, rates_carry}
 use Rattle.control_run.proofs.Telling.{tells_more, tells_quietly}
 use Rattle.control_run.proofs.Present.{one_problem}
@@ -53,7 +53,7 @@ module _ {P : Type 0} (written : P → Option (List ℕ)) (faults refusals : P �
     (r : PathReaches sheet s now limit before after bases verdict check) where
   -- its verdict is printed or broken off
   pub verdict_told : (mark : Mark) {print_old print_new : P} → mark ≡ mark_of verdict → Writes {T = Unit {0}} written faults refusals print_old print_new (Ok tt) (report_text (Solved ByPrimal verdict check)) →
-      Tells (PathFinds sheet s now limit before after) written faults refusals print_old print_new (Ok (Ended mark))
+      TellsFinding (PathFinds sheet s now limit before after) written faults refusals print_old print_new (Ok (Ended mark))
   verdict_told mark e writes = record {
     gain = Prints (Solved ByPrimal verdict check);
     holds = subst (λ (m : Mark). PathFinds sheet s now limit before after (Prints (Solved ByPrimal verdict check)) (Ended m)) (sym e) (reached r);
@@ -61,7 +61,7 @@ module _ {P : Type 0} (written : P → Option (List ℕ)) (faults refusals : P �
   }
 
   pub verdict_cut : (stop : WriteStop) {print_old print_new : P} → Writes {T = Unit {0}} written faults refusals print_old print_new (Err stop) (report_text (Solved ByPrimal verdict check)) →
-      Tells (PathFinds sheet s now limit before after) written faults refusals print_old print_new (Err (halt.Print stop))
+      TellsFinding (PathFinds sheet s now limit before after) written faults refusals print_old print_new (Err (halt.Print stop))
   verdict_cut stop writes = record { gain = Prints (Solved ByPrimal verdict check); finding = Ended (mark_of verdict); holds = reached r; writes = writes }
 
 -- only a limit is passed
@@ -144,7 +144,7 @@ refusal_ends (refusals.Overflow e) Fact = tt
 refusal_ends NoMemory Fact = tt
 
 -- what an optimal verdict says of the basis that the path has reached
-optimal_ending : (p : LinearProgram) (now : Basis) (sheet : Sheet) (steps : ℕ) (ending : Ending) → IsLinearProgram p → IsNonsingularBasis p now → EndsAt p now ending → mark_of (verdict_of sheet steps ending) ≡ Optimal → IsOptimalBasis p now
+optimal_ending : (p : LinearProgram) (now : Basis) (sheet : Sheet) (steps : ℕ) (ending : PathEnding) → IsLinearProgram p → IsNonsingularBasis p now → EndsAt p now ending → mark_of (verdict_of sheet steps ending) ≡ Optimal → IsOptimalBasis p now
 optimal_ending p now sheet steps (EndsOptimal z y) lawful at ends is = (optimal_end p now z y lawful at ends).optimal
 optimal_ending p now sheet steps (EndsCrossed k) lawful at ends is = absurd (cc is)
 optimal_ending p now sheet steps (EndsInfeasible w) lawful at ends is = absurd (cc is)
@@ -160,22 +160,22 @@ solved_ends sheet s now limit before after _ _ lawful at (overflows h) Fact give
 
 -- The setup that code has opened, which is the one that is spoken of, and what is left of it.
 module _ {P : Type 0} (written : P → Option (List ℕ)) (faults refusals : P → ℕ) (cells : Cells) (file : Filed) {setup old : Setup} (is_old : setup ≡ old) (new : Setup) (there : Problem ℕ) (is_there : filed_under setup.name file ≡ Some there) where
-  at_problem : (print_old print_new : P) (result : Result Finding Halt) → Tells (Finds there cells setup new) written faults refusals print_old print_new result →
-      (problem : Problem ℕ) → filed_under old.name file ≡ Some problem → Tells (Finds problem cells old new) written faults refusals print_old print_new result
+  at_problem : (print_old print_new : P) (result : Result Finding Halt) → TellsFinding (Finds there cells setup new) written faults refusals print_old print_new result →
+      (problem : Problem ℕ) → filed_under old.name file ≡ Some problem → TellsFinding (Finds problem cells old new) written faults refusals print_old print_new result
   at_problem print_old print_new result t problem on_file =
-      subst (λ (s : Setup). Tells (Finds problem cells s new) written faults refusals print_old print_new result) is_old
-      (subst (λ (q : Problem ℕ). Tells (Finds q cells setup new) written faults refusals print_old print_new result)
+      subst (λ (s : Setup). TellsFinding (Finds problem cells s new) written faults refusals print_old print_new result) is_old
+      (subst (λ (q : Problem ℕ). TellsFinding (Finds q cells setup new) written faults refusals print_old print_new result)
       (one_problem file setup there problem is_there (ap (λ (s : Setup). filed_under s.name file) is_old ∙ on_file)) t)
 
   pub refusal_told : (print : P) (refusal : Refusal) → IsUnselected there (choice_of cells setup.options) refusal →
-      (problem : Problem ℕ) → filed_under old.name file ≡ Some problem → Tells (Finds problem cells old new) written faults refusals print print (refused_finding refusal)
+      (problem : Problem ℕ) → filed_under old.name file ≡ Some problem → TellsFinding (Finds problem cells old new) written faults refusals print print (refused_finding refusal)
   refusal_told print refusal u =
       at_problem print print (refused_finding refusal) (tells_quietly written faults refusals (Finds there cells setup new) print (refused_finding refusal) (refusal_found there cells setup new refusal u))
 
   pub path_told : (lp : LinearProgram) (limit : Option ℕ) (print_old print_new : P) (result : Result Finding Halt) → limit ≡ cells.xiterlim → selected there (choice_of cells setup.options) ≡ Ok lp →
       new.name ≡ setup.name → new.options ≡ setup.options →
-      Tells (PathFinds (record { problem = there; lp = lp }) setup.basis new.basis limit setup.engine.waypoints new.engine.waypoints) written faults refusals print_old print_new result →
-      (problem : Problem ℕ) → filed_under old.name file ≡ Some problem → Tells (Finds problem cells old new) written faults refusals print_old print_new result
+      TellsFinding (PathFinds (record { problem = there; lp = lp }) setup.basis new.basis limit setup.engine.waypoints new.engine.waypoints) written faults refusals print_old print_new result →
+      (problem : Problem ℕ) → filed_under old.name file ≡ Some problem → TellsFinding (Finds problem cells old new) written faults refusals print_old print_new result
   path_told lp limit print_old print_new result within ok same_name same_options t =
       at_problem print_old print_new result
       (tells_more written faults refusals (PathFinds (record { problem = there; lp = lp }) setup.basis new.basis limit setup.engine.waypoints new.engine.waypoints) (Finds there cells setup new) print_old print_new

@@ -10,7 +10,7 @@ use Rattle.control_run.specs.declared.act.Act.{Act}
 use Rattle.control_run.specs.declared.act.Act.TheVariants as act
 use Rattle.control_run.specs.declared.act.Halt.{Halt}
 use Rattle.control_run.specs.declared.act.Halt.TheVariants as halt
-use Rattle.control_run.specs.declared.act.Turn.{Turn}
+use Rattle.control_run.specs.declared.act.AfterStatement.{AfterStatement}
 use Rattle.control_run.specs.Machines.{Machine}
 use Rattle.control_run.specs.Standing.{Stands}
 use Rattle.control_run.specs.Statements.{Comes}
@@ -60,14 +60,14 @@ module _ (S : Solving) (program : Program) (cards : List (List ℕ)) (position :
   leads_by old new s within gain (act.Ends end) c = step_of s within _ c
 
   module _ {P U : Type 0} (written : P → Option (List ℕ)) (faults refusals : P → ℕ) (punch_written : U → Option (List ℕ)) (punch_faults punch_refusals : U → ℕ) (old new : Machine) where
-    pub steps_to : {print_old print_new : P} {punch_old punch_new : U} (act : Act) (turn : Turn) → turn ≡ turn_of position act →
+    pub steps_to : {print_old print_new : P} {punch_old punch_new : U} (act : Act) (turn : AfterStatement) → turn ≡ turn_of position act →
         Performs S statement.verb statement.card written faults refusals print_old print_new punch_written punch_faults punch_refusals punch_old punch_new cards old new (Ok act) →
         Steps S program cards written faults refusals print_old print_new punch_written punch_faults punch_refusals punch_old punch_new position old new (Ok turn)
     steps_to act turn is performs = λ executed state within s.
         let a = performs position (executed + 1) (counted state) (counted_stands s) in
         record {
           gain = a.gain;
-          leads = subst (λ (t : Turn). Leads S program cards executed state new a.gain t) (sym is) (leads_by old new s within a.gain act a.comes);
+          leads = subst (λ (t : AfterStatement). Leads S program cards executed state new a.gain t) (sym is) (leads_by old new s within a.gain act a.comes);
           prints = a.prints;
           punches = a.punches;
         }

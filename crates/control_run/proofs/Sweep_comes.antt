@@ -31,7 +31,7 @@ use Rattle.control_run.specs.Choosing.{HasSelectionFault, HasSelectionOverflow, 
 use Rattle.control_run.specs.Ends.{place_shown}
 use Rattle.control_run.specs.Standing.{AreDemands, IsReady, ShowsSetup, Stands}
 use Rattle.control_run.specs.Statements.{Comes, Executes}
-use Rattle.control_run.specs.Findings.{Tells, act_of}
+use Rattle.control_run.specs.Findings.{TellsFinding, act_of}
 use Rattle.control_run.specs.Sweeping.{verb_of, name_moved, change_of, change_fault, IsAsked, no_last, below, IsAskFault, no_change, no_value, SweepReaches, SweepOverflows, opened, chained, at_limit, overflows, Sweeps, unselected, too_large, not_asked, swept, cells_left}
 use Rattle.control_run.proofs.Selected.{same_matrix}
 use Rattle.control_run.proofs.Giving.{gives_fault, gives_found, gives_unselected, gives_selected, quietly}
@@ -218,7 +218,7 @@ module _ (verb : SweepVerb) (card : ℕ) {P : Type 0} (written : P → Option (L
   left_by finding = record old { setup = Some new; mark = None; cells = cells_left finding old.cells }
 
   pub sweep_found : (finding : Finding) (cells : Cells) (then : Act) → cells ≡ cells_left finding old.cells → then ≡ act_of cells card finding →
-      Tells (Sweeps ready.problem old.cells verb setup new) written faults refusals print_old print_new (Ok finding) →
+      TellsFinding (Sweeps ready.problem old.cells verb setup new) written faults refusals print_old print_new (Ok finding) →
       Executes linear_programming (verb_of verb) card written faults refusals print_old print_new cards old (record old { setup = Some new; mark = None; cells = cells }) (Ok then)
   sweep_found finding cells then e f t =
       subst (λ (a : Act). Executes linear_programming (verb_of verb) card written faults refusals print_old print_new cards old (record old { setup = Some new; mark = None; cells = cells }) (Ok a)) (sym f)
@@ -227,7 +227,7 @@ module _ (verb : SweepVerb) (card : ℕ) {P : Type 0} (written : P → Option (L
       (no_cards_by ready.problem old.cells verb setup new)
       (λ gain found h position executed state s. found_comes verb card cards old setup new is_setup ready.problem ready.on_file demands position executed state s gain found h) print_old print_new finding t))
 
-  pub sweep_cut : (any : Machine) (h : Halt) → Tells (Sweeps ready.problem old.cells verb setup new) written faults refusals print_old print_new (Err h) →
+  pub sweep_cut : (any : Machine) (h : Halt) → TellsFinding (Sweeps ready.problem old.cells verb setup new) written faults refusals print_old print_new (Err h) →
       Executes linear_programming (verb_of verb) card written faults refusals print_old print_new cards old any (Err h)
   sweep_cut any h t =
       cut_executes (verb_of verb) card written faults refusals cards old (Sweeps ready.problem old.cells verb setup new) left_by (λ found. act_of (cells_left found old.cells) card found)

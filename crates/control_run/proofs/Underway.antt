@@ -17,8 +17,8 @@ use Rattle.run_definitions.specs.Moves.{Gain, printed_by, punched_by, Outcome, G
 use Rattle.run_definitions.specs.Run.{Step, Reaches, begun, stepped, is_over, is_ended, at_end, at_limit}
 use Rattle.control_run.specs.declared.act.Halt.{Halt}
 use Rattle.control_run.specs.declared.act.Halt.TheVariants as halt
-use Rattle.control_run.specs.declared.act.Turn.{Turn}
-use Rattle.control_run.specs.declared.act.Turn.TheVariants.{Goes, Ends}
+use Rattle.control_run.specs.declared.act.AfterStatement.{AfterStatement}
+use Rattle.control_run.specs.declared.act.AfterStatement.TheVariants.{Goes, Ends}
 use Rattle.control_run.specs.declared.end.End.{End}
 use Rattle.control_run.specs.Machines.{Machine}
 use Rattle.control_run.specs.Ends.{end_shown}
@@ -196,21 +196,21 @@ module _ (S : Solving) (program : Program) (cards : List (List ℕ)) {P U : Type
 
   -- ---- by what a statement's result is
 
-  pub underway_goes : {old now later : P} {punch_old punch_now punch_later : U} {machine new : Machine} {position executed to : ℕ} (turn : Turn) → turn ≡ Goes to →
+  pub underway_goes : {old now later : P} {punch_old punch_now punch_later : U} {machine new : Machine} {position executed to : ℕ} (turn : AfterStatement) → turn ≡ Goes to →
       (u : IsUnderway old now punch_old punch_now machine position executed) → executed < 100000 → IsSound cards new →
       Steps S program cards written faults refusals now later punch_written punch_faults punch_refusals punch_now punch_later position machine new (Ok turn) →
       IsUnderway old later punch_old punch_later new to (executed + 1)
   underway_goes {now = now} {later = later} {punch_now = punch_now} {punch_later = punch_later} {new = new} {executed = executed} turn is u within sound steps =
       underway_more later punch_later u within sound
-      (subst (λ (t : Turn). Turns S program cards written faults refusals now later punch_written punch_faults punch_refusals punch_now punch_later executed u.state new t) is (steps executed u.state within u.stands))
+      (subst (λ (t : AfterStatement). Turns S program cards written faults refusals now later punch_written punch_faults punch_refusals punch_now punch_later executed u.state new t) is (steps executed u.state within u.stands))
 
-  pub underway_ends : {old now later : P} {punch_old punch_now punch_later : U} {machine : Machine} (new : Machine) {position executed : ℕ} (turn : Turn) (end : End) → turn ≡ Ends end →
+  pub underway_ends : {old now later : P} {punch_old punch_now punch_later : U} {machine : Machine} (new : Machine) {position executed : ℕ} (turn : AfterStatement) (end : End) → turn ≡ Ends end →
       (u : IsUnderway old now punch_old punch_now machine position executed) → executed < 100000 →
       Steps S program cards written faults refusals now later punch_written punch_faults punch_refusals punch_now punch_later position machine new (Ok turn) →
       RunsTo S program cards written faults refusals old later punch_written punch_faults punch_refusals punch_old punch_later (end_shown end)
   underway_ends {now = now} {later = later} {punch_now = punch_now} {punch_later = punch_later} new {executed = executed} turn end is u within steps =
       underway_ended later punch_later u {new = new} end
-      (subst (λ (t : Turn). Turns S program cards written faults refusals now later punch_written punch_faults punch_refusals punch_now punch_later executed u.state new t) is (steps executed u.state within u.stands))
+      (subst (λ (t : AfterStatement). Turns S program cards written faults refusals now later punch_written punch_faults punch_refusals punch_now punch_later executed u.state new t) is (steps executed u.state within u.stands))
 
   -- a statement comes to nothing
   pub underway_halted : {old now : P} (later : P) {punch_old punch_now : U} (punch_later : U) {machine : Machine} (new : Machine) {position executed : ℕ} (h : Halt) →

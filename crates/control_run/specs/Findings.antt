@@ -7,7 +7,7 @@
 --     ShowsRanges gain finding     RANGE finds this with a setup, and has this to print
 --     range_fault mark             why RANGE is refused with this mark
 --     refused_finding refusal      what a refusal comes to
---     Tells result                 what is found is told, with its report printed; or it is cut off
+--     TellsFinding result                 what is found is told, with its report printed; or it is cut off
 --     act_of cells card finding    what follows
 use Rattle.std.specs.Prelude.{◌≡◌, ℕ, List, [], ◌∷◌, ◌++◌, Option, Some, None, Result, Ok, Err, option_map}
 use Rattle.job_devices.specs.declared.device.WriteStop.{WriteStop}
@@ -173,11 +173,11 @@ module _ (Holds : Gain → Finding → Type 0) {P : Type 0} (written : P → Opt
     pub writes : Writes {T = Unit {0}} written faults refusals print_old print_new (Err stop) (gain_text gain)
 
   -- where there is no memory, nothing is printed
-  abbrev pub Tells : Result Finding Halt → Type 0
-  Tells (Ok finding) = IsTold finding
-  Tells (Err (halt.Print stop)) = IsTellingCut stop
-  Tells (Err (halt.Punch stop)) = ⊥
-  Tells (Err halt.NoMemory) = print_new ≡ print_old
+  abbrev pub TellsFinding : Result Finding Halt → Type 0
+  TellsFinding (Ok finding) = IsTold finding
+  TellsFinding (Err (halt.Print stop)) = IsTellingCut stop
+  TellsFinding (Err (halt.Punch stop)) = ⊥
+  TellsFinding (Err halt.NoMemory) = print_new ≡ print_old
 
 -- ---- what follows
 

@@ -24,8 +24,8 @@ use Rattle.run_definitions.specs.Run.{max_executed, Step, Reaches, IsRun}
 use Rattle.run_definitions.specs.Answer.{Gains, IsPunching}
 use Rattle.control_run.specs.declared.act.Halt.{Halt}
 use Rattle.control_run.specs.declared.act.Halt.TheVariants as halt
-use Rattle.control_run.specs.declared.act.Turn.{Turn}
-use Rattle.control_run.specs.declared.act.Turn.TheVariants.{Goes, Ends}
+use Rattle.control_run.specs.declared.act.AfterStatement.{AfterStatement}
+use Rattle.control_run.specs.declared.act.AfterStatement.TheVariants.{Goes, Ends}
 use Rattle.control_run.specs.declared.end.End.{End}
 use Rattle.control_run.specs.Machines.{Machine}
 use Rattle.control_run.specs.Ends.{end_shown}
@@ -43,7 +43,7 @@ GainsBy ending old new text = (gained : List ℕ) × Appends old new gained × G
 
 module _ (S : Solving) (program : Program) (cards : List (List ℕ)) where
   -- the run goes on at a position, with a state that the machine shows; or it ends
-  abbrev pub Leads : ℕ → State → Machine → Gain → Turn → Type 0
+  abbrev pub Leads : ℕ → State → Machine → Gain → AfterStatement → Type 0
   Leads executed state new gain (Goes to) = (after : State) × Step S program state (GoesOn gain after) × Stands cards new to (executed + 1) after × (1 ≤ to)
   Leads executed state new gain (Ends end) = Step S program state (EndsRun gain (end_shown end))
 
@@ -76,7 +76,7 @@ module _ (S : Solving) (program : Program) (cards : List (List ℕ)) where
 
   module _ {P U : Type 0} (written : P → Option (List ℕ)) (faults refusals : P → ℕ) (print_old print_new : P) (punch_written : U → Option (List ℕ)) (punch_faults punch_refusals : U → ℕ) (punch_old punch_new : U) where
     -- with some gain, which is printed and punched, the statement leads there
-    pub record Turns (executed : ℕ) (state : State) (new : Machine) (turn : Turn) : Type 0 where
+    pub record Turns (executed : ℕ) (state : State) (new : Machine) (turn : AfterStatement) : Type 0 where
       pub gain : Gain
       pub leads : Leads executed state new gain turn
       pub prints : Writes {T = Unit {0}} written faults refusals print_old print_new (Ok tt) (gain_text gain)
@@ -98,7 +98,7 @@ module _ (S : Solving) (program : Program) (cards : List (List ℕ)) where
 
     -- What executing the statement at a position does from each state that the machine showed. Where there is no memory, nothing is
     -- printed and nothing is punched.
-    abbrev pub Steps : ℕ → Machine → Machine → Result Turn Halt → Type 0
+    abbrev pub Steps : ℕ → Machine → Machine → Result AfterStatement Halt → Type 0
     Steps position old new (Ok turn) = (executed : ℕ) (state : State) → executed < max_executed → Stands cards old position executed state → Turns executed state new turn
     Steps position old new (Err (halt.Print stop)) = (executed : ℕ) (state : State) → executed < max_executed → Stands cards old position executed state → IsStepCut state stop
     Steps position old new (Err (halt.Punch stop)) = (executed : ℕ) (state : State) → executed < max_executed → Stands cards old position executed state → IsDeckCut state stop

@@ -2,10 +2,10 @@
 use Rattle.std.specs.Prelude.{ℕ, ◌+◌}
 use Rattle.control_run.specs.declared.act.Act.{Act}
 use Rattle.control_run.specs.declared.act.Act.TheVariants as act
-use Rattle.control_run.specs.declared.act.Turn.{Turn}
-use Rattle.control_run.specs.declared.act.Turn.TheVariants as turn
+use Rattle.control_run.specs.declared.act.AfterStatement.{AfterStatement}
+use Rattle.control_run.specs.declared.act.AfterStatement.TheVariants as turn
 
-abbrev pub turn_of : ℕ → Act → Turn
+abbrev pub turn_of : ℕ → Act → AfterStatement
 turn_of position act.Next = turn.Goes (position + 1)
 turn_of position (act.Jump to) = turn.Goes to
 turn_of position (act.Ends end) = turn.Ends end

@@ -16,7 +16,7 @@ pub enum Act {
 
 /// Where a statement leads.
 #[derive(Drop)]
-pub enum Turn {
+pub enum AfterStatement {
     /// To the statement with this number, from 1, or to the program's end.
     Goes(u32),
     /// To the end of the run.
@@ -28,14 +28,14 @@ impl Act {
     ghost use Rattle.control_run.specs.Turning.{turn_of};
 
     /// Where it leads from the statement with this number.
-    pub fn turn(self, position: u32) -> Turn
+    pub fn turn(self, position: u32) -> AfterStatement
         requires { position < 4294967295 }
         ensures { result ≡ turn_of position self }
     {
         match self {
-            Act::Next => Turn::Goes(position + 1),
-            Act::Jump(to) => Turn::Goes(to),
-            Act::Ends(end) => Turn::Ends(end),
+            Act::Next => AfterStatement::Goes(position + 1),
+            Act::Jump(to) => AfterStatement::Goes(to),
+            Act::Ends(end) => AfterStatement::Ends(end),
         }
     }
 }

@@ -8,7 +8,7 @@ ghost use Rattle.control_run.specs.Statements.{IsSoundVerb};
 ghost use Rattle.control_run.specs.Punching.{Performs};
 ghost use Rattle.control_run.specs.Running.{Steps};
 
-use crate::act::{Act, Halt, Turn};
+use crate::act::{Act, AfterStatement, Halt};
 use crate::machine::{Machine, Setup};
 use crate::parametric::{sweep_objective, sweep_rhs};
 use crate::primal::solve;
@@ -70,7 +70,7 @@ pub fn step<E: Engine, P: Sink, U: Sink>(
     print: &mut P,
     punch: &mut U,
     position: u32,
-) -> Result<Turn, Halt>
+) -> Result<AfterStatement, Halt>
     requires valid { IsProgram program.now }
     requires first { 1 ≤ position }
     requires within { position ≤ length program.now.statements }

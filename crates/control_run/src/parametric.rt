@@ -16,7 +16,7 @@ ghost use Rattle.present_answers.specs.Reports.{sheet_shown};
 ghost use Rattle.present_runs.specs.Reports.{IsAnswered, IsPrintable};
 ghost use Rattle.control_run.specs.Standing.{AreDemands, IsReady, IsSound};
 ghost use Rattle.control_run.specs.Statements.{Executes};
-ghost use Rattle.control_run.specs.Findings.{Tells};
+ghost use Rattle.control_run.specs.Findings.{TellsFinding};
 ghost use Rattle.control_run.specs.Sweeping.{verb_of, sweep_shown, Serves, StopsSweep, SweepFinds, Sweeps, IsRunOverflow, value_left, cells_left};
 
 use crate::act::{Act, Halt};
@@ -79,7 +79,7 @@ fn print_opening<P: Sink>(
     ensures { (s reached : answers.Basis) (before after : List Basics) →
         IsAnswered sheet.entry (sweep_shown sweep.now) s reached before after
         (record { report = para_reports.Opening outcome.now; refused = refused }) →
-        Tells (SweepFinds (sheet_shown sheet.entry) s reached (sweep_shown sweep.now) before after)
+        TellsFinding (SweepFinds (sheet_shown sheet.entry) s reached (sweep_shown sweep.now) before after)
         P.written P.faults P.refusals print.old print.new result }
 {
     let verdict = Report::Solved {
@@ -114,7 +114,7 @@ fn print_chain<P: Sink>(
         (refused : Option RefusedOperation) →
         IsAnswered sheet.entry (sweep_shown sweep.now) s reached before after
         (record { report = para_reports.Run run.now; refused = refused }) →
-        Tells (SweepFinds (sheet_shown sheet.entry) s reached (sweep_shown sweep.now) before after)
+        TellsFinding (SweepFinds (sheet_shown sheet.entry) s reached (sweep_shown sweep.now) before after)
         P.written P.faults P.refusals print.old print.new result }
 {
     let to = sweep.to();
@@ -140,7 +140,7 @@ fn print_run<P: Sink>(
     requires { IsPrintable sheet answer.now.report }
     ensures { (s reached : answers.Basis) (before after : List Basics) →
         IsAnswered sheet.entry (sweep_shown sweep.now) s reached before after answer.now →
-        Tells (SweepFinds (sheet_shown sheet.entry) s reached (sweep_shown sweep.now) before after)
+        TellsFinding (SweepFinds (sheet_shown sheet.entry) s reached (sweep_shown sweep.now) before after)
         P.written P.faults P.refusals print.old print.new result }
 {
     match &answer.report {
@@ -185,7 +185,7 @@ fn follow<P: Sink, R: Rates>(
     requires no_change { sheet.lp.now.change ≡ None }
     requires rates { HasRates (R.matrix rates.old) (R.basics rates.old) sheet.lp.now basis.old }
     requires serves { Serves sheet.problem.now sheet.lp.now sweep.now }
-    ensures tells { Tells (SweepFinds (sheet_shown sheet.entry) basis.old basis.new
+    ensures tells { TellsFinding (SweepFinds (sheet_shown sheet.entry) basis.old basis.new
         (sweep_shown sweep.now) (R.waypoints rates.old) (R.waypoints rates.new))
         P.written P.faults P.refusals print.old print.new result }
     ensures rates { HasRates (R.matrix rates.new) (R.basics rates.new)
@@ -212,7 +212,7 @@ fn find<E: Engine, P: Sink>(
 ) -> Result<Finding, Halt>
     requires { IsReady file.now setup.old }
     ensures tells { (problem : Problem ℕ) → filed_under setup.old.name file.now ≡ Some problem →
-        Tells (Sweeps problem cells.now verb setup.old setup.new) P.written P.faults P.refusals
+        TellsFinding (Sweeps problem cells.now verb setup.old setup.new) P.written P.faults P.refusals
         print.old print.new result }
     ensures ready { IsReady file.now setup.new }
 {

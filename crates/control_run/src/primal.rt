@@ -15,7 +15,7 @@ ghost use Rattle.run_definitions.specs.Verbs.{mark_of};
 ghost use Rattle.answer_definitions.specs.Real.{linear_programming};
 ghost use Rattle.control_run.specs.Standing.{AreDemands, IsReady, IsSolved, IsSound};
 ghost use Rattle.control_run.specs.Statements.{Executes};
-ghost use Rattle.control_run.specs.Findings.{PathReaches, PathFinds, Finds, Tells, IfEnded};
+ghost use Rattle.control_run.specs.Findings.{PathReaches, PathFinds, Finds, TellsFinding, IfEnded};
 
 use crate::act::{Act, Halt};
 use crate::finding::{Finding, act_of, mark_left, overflow_at, refused};
@@ -54,7 +54,7 @@ fn print_verdict<P: Sink>(
         (bases : List answers.Basis) →
         PathReaches (sheet_shown sheet.entry) s reached limit before after bases
         (verdict_shown sheet.entry report.now.outcome) (check_shown report.now.refused) →
-        Tells (PathFinds (sheet_shown sheet.entry) s reached limit before after) P.written P.faults
+        TellsFinding (PathFinds (sheet_shown sheet.entry) s reached limit before after) P.written P.faults
         P.refusals print.old print.new result }
 {
     let verdict = Report::Solved {
@@ -80,7 +80,7 @@ fn follow<P: Sink, R: Rates>(
     requires lawful { IsLinearProgram sheet.lp.now }
     requires no_change { sheet.lp.now.change ≡ None }
     requires rates { HasRates (R.matrix rates.old) (R.basics rates.old) sheet.lp.now basis.old }
-    ensures tells { Tells (PathFinds (sheet_shown sheet.entry) basis.old basis.new limit
+    ensures tells { TellsFinding (PathFinds (sheet_shown sheet.entry) basis.old basis.new limit
         (R.waypoints rates.old) (R.waypoints rates.new))
         P.written P.faults P.refusals print.old print.new result }
     ensures rates { HasRates (R.matrix rates.new) (R.basics rates.new)
@@ -106,7 +106,7 @@ fn find<E: Engine, P: Sink>(
 ) -> Result<Finding, Halt>
     requires { IsReady file.now setup.old }
     ensures tells { (problem : Problem ℕ) → filed_under setup.old.name file.now ≡ Some problem →
-        Tells (Finds problem cells.now setup.old setup.new) P.written P.faults P.refusals print.old
+        TellsFinding (Finds problem cells.now setup.old setup.new) P.written P.faults P.refusals print.old
         print.new result }
     ensures ready { IsReady file.now setup.new }
     ensures solved { IfOk result

@@ -13,7 +13,7 @@ ghost use Rattle.present_answers.specs.Answers.{sheet_shown, AreRanged};
 ghost use Rattle.answer_definitions.specs.Real.{linear_programming};
 ghost use Rattle.control_run.specs.Standing.{IsReady, IsSolved, IsSound};
 ghost use Rattle.control_run.specs.Statements.{Executes};
-ghost use Rattle.control_run.specs.Findings.{Tells, RangesFound, ShowsRanges, range_fault};
+ghost use Rattle.control_run.specs.Findings.{TellsFinding, RangesFound, ShowsRanges, range_fault};
 
 use crate::act::{Act, Halt};
 use crate::finding::{Finding, act_of, overflow_at};
@@ -42,7 +42,7 @@ fn print_ranges<P: Sink>(
         (range_lines sheet.lp.now basis.now ranged.now.point ranged.now.report
         sheet.problem.now) }
     ensures { (before : List Basics) →
-        Tells (RangesFound (sheet_shown sheet.entry) basis.now before) P.written P.faults
+        TellsFinding (RangesFound (sheet_shown sheet.entry) basis.now before) P.written P.faults
         P.refusals print.old print.new result }
 {
     let report = Report::Ranges {
@@ -67,9 +67,11 @@ fn range_basis<P: Sink, R: Rates>(
     requires no_change { sheet.lp.now.change ≡ None }
     requires optimal { IsOptimalBasis sheet.lp.now basis.now }
     requires rates { HasRates (R.matrix rates.old) (R.basics rates.old) sheet.lp.now basis.now }
-    ensures tells { Tells (RangesFound (sheet_shown sheet.entry) basis.now (R.waypoints rates.old))
+    ensures tells { TellsFinding (RangesFound (sheet_shown sheet.entry)
+        basis.now (R.waypoints rates.old))
         P.written P.faults P.refusals print.old print.new result }
-    ensures rates { KeepsRates (R.matrix rates.new) (R.basics rates.new) sheet.entry.lp.now basis.now
+    ensures rates { KeepsRates (R.matrix rates.new) (R.basics rates.new)
+        sheet.entry.lp.now basis.now
         (R.waypoints rates.old) (R.waypoints rates.new) }
 {
     match ranges_of(alloc, sheet, basis, rates) {
@@ -89,7 +91,7 @@ fn range_setup<E: Engine, P: Sink>(
     requires ready { IsReady file.now setup.old }
     requires optimal { IsOptimalBasis setup.old.lp setup.old.basis }
     ensures tells { (problem : Problem ℕ) → filed_under setup.old.name file.now ≡ Some problem →
-        Tells (ShowsRanges problem setup.old) P.written P.faults P.refusals print.old print.new
+        TellsFinding (ShowsRanges problem setup.old) P.written P.faults P.refusals print.old print.new
         result }
     ensures ready { IsReady file.now setup.new }
     ensures name { setup.new.name ≡ setup.old.name }

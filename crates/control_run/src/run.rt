@@ -9,7 +9,7 @@ ghost use Rattle.control_run.specs.Ends.{code_of, IsStatusOfRun};
 ghost use Rattle.control_run.specs.Finishing.{failures_in_run};
 ghost use Rattle.control_run.specs.Running.{Runs, IsRunAnswer};
 
-use crate::act::{Halt, Turn};
+use crate::act::{AfterStatement, Halt};
 use crate::end::End;
 use crate::execute::step;
 use crate::finish::{finish, finish_halted};
@@ -60,8 +60,8 @@ fn run<E: Engine, P: Sink, U: Sink>(
         }
         executed += 1;
         match step(alloc, &mut machine, program, cards, print, punch, position) {
-            Ok(Turn::Goes(to)) => position = to,
-            Ok(Turn::Ends(end)) => return Ok(end),
+            Ok(AfterStatement::Goes(to)) => position = to,
+            Ok(AfterStatement::Ends(end)) => return Ok(end),
             Err(halt) => return Err(halt),
         }
     }

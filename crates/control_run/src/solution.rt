@@ -13,7 +13,7 @@ ghost use Rattle.present_answers.specs.Answers.{sheet_shown, AreShown};
 ghost use Rattle.answer_definitions.specs.Real.{linear_programming};
 ghost use Rattle.control_run.specs.Standing.{IsReady, IsSolved, IsSound};
 ghost use Rattle.control_run.specs.Statements.{Executes};
-ghost use Rattle.control_run.specs.Findings.{Tells, LinesFound, Shows};
+ghost use Rattle.control_run.specs.Findings.{TellsFinding, LinesFound, Shows};
 
 use crate::act::{Act, Halt};
 use crate::finding::{Finding, act_of, overflow_at};
@@ -43,7 +43,7 @@ fn print_lines<P: Sink>(
         (solution_lines sheet.problem.now sheet.lp.now basis.now shown.now.point shown.now.prices
         shown.now.slack.items) }
     ensures { (before : List Basics) →
-        Tells (LinesFound (sheet_shown sheet.entry) basis.now before mark) P.written P.faults
+        TellsFinding (LinesFound (sheet_shown sheet.entry) basis.now before mark) P.written P.faults
         P.refusals print.old print.new result }
 {
     let report = Report::Solution {
@@ -70,10 +70,11 @@ fn show_basis<P: Sink, R: Rates>(
     requires sheet { IsSheet sheet }
     requires no_change { sheet.lp.now.change ≡ None }
     requires rates { HasRates (R.matrix rates.old) (R.basics rates.old) sheet.lp.now basis.now }
-    ensures tells { Tells (LinesFound (sheet_shown sheet.entry) basis.now
+    ensures tells { TellsFinding (LinesFound (sheet_shown sheet.entry) basis.now
         (R.waypoints rates.old) mark)
         P.written P.faults P.refusals print.old print.new result }
-    ensures rates { KeepsRates (R.matrix rates.new) (R.basics rates.new) sheet.entry.lp.now basis.now
+    ensures rates { KeepsRates (R.matrix rates.new) (R.basics rates.new)
+        sheet.entry.lp.now basis.now
         (R.waypoints rates.old) (R.waypoints rates.new) }
 {
     match solution_of(alloc, sheet, basis, rates) {
@@ -93,7 +94,7 @@ fn show_setup<E: Engine, P: Sink>(
 ) -> Result<Finding, Halt>
     requires { IsReady file.now setup.old }
     ensures tells { (problem : Problem ℕ) → filed_under setup.old.name file.now ≡ Some problem →
-        Tells (Shows problem setup.old mark) P.written P.faults P.refusals print.old print.new
+        TellsFinding (Shows problem setup.old mark) P.written P.faults P.refusals print.old print.new
         result }
     ensures ready { IsReady file.now setup.new }
     ensures name { setup.new.name ≡ setup.old.name }

@@ -8,7 +8,7 @@ use Rattle.std.proofs.lemmas.List.Splits.{length-slice_split}
 use Rattle.std.proofs.lemmas.Bool.Decides.{nat_tests}
 use Rattle.lp_definitions.specs.declared.Sense.{Sense}
 use Rattle.control_definitions.specs.Statements.{split_outside, is_comma, marked, outside}
-use Rattle.control_definitions.specs.Arguments.{Choice, BoundSet, RangeSet, Direction, bound_chosen, range_chosen, sense_chosen, choices, led_by, sense_choice, set_choice, is_setup, options_of, setup_arguments}
+use Rattle.control_definitions.specs.Arguments.{SetupArgument, BoundSet, RangeSet, Direction, bound_chosen, range_chosen, sense_chosen, choices, led_by, sense_choice, set_choice, is_setup, options_of, setup_arguments}
 use Rattle.control_verbs.specs.declared.options.Chosen.{Chosen}
 use Rattle.control_verbs.specs.Chosen.{nothing_chosen, first_choice, behind_first, added, all_added, chosen_options}
 
@@ -51,7 +51,7 @@ as_it_is (Some b) None (Some s) = refl
 as_it_is (Some b) (Some r) None = refl
 as_it_is (Some b) (Some r) (Some s) = refl
 
-all_added_is : (list : List Choice) (so_far : Chosen) → all_added so_far list ≡ outcome (option_to_list so_far.bound ++ filter_map bound_chosen list) (option_to_list so_far.range ++ filter_map range_chosen list) (option_to_list so_far.sense ++ filter_map sense_chosen list)
+all_added_is : (list : List SetupArgument) (so_far : Chosen) → all_added so_far list ≡ outcome (option_to_list so_far.bound ++ filter_map bound_chosen list) (option_to_list so_far.range ++ filter_map range_chosen list) (option_to_list so_far.sense ++ filter_map sense_chosen list)
 all_added_is [] so_far = as_it_is so_far.bound so_far.range so_far.sense
 all_added_is (BoundSet name ∷ list) so_far = by so_far.bound (all_added_is list (record so_far { bound = Some name }))
   where
@@ -80,13 +80,13 @@ all_added_is (Direction sense ∷ list) so_far = by so_far.sense (all_added_is l
 
 -- ---- the options of SETUP
 
-of_choices : (list : List Choice) (t : Bool)
+of_choices : (list : List SetupArgument) (t : Bool)
     → option_map options_of (if t then Some list else None)
     ≡ option_map chosen_options (if t then Some (record { bound = slice_get (filter_map bound_chosen list) 0; range = slice_get (filter_map range_chosen list) 0; sense = slice_get (filter_map sense_chosen list) 0 }) else None)
 of_choices list true = refl
 of_choices list false = refl
 
-of_made : (made : Option (List Choice))
+of_made : (made : Option (List SetupArgument))
     → option_map options_of (option_and_then (λ list. if is_setup list then Some list else None) made) ≡ option_map chosen_options (option_and_then (all_added nothing_chosen) made)
 of_made None = refl
 of_made (Some list) = rw (all_added_is list nothing_chosen) (of_choices list (is_setup list))
@@ -107,13 +107,13 @@ setup_is text =
 choices_one_by_one : (word : List ℕ) (parts : List (List ℕ)) → choices (word ∷ parts) ≡ led_by (first_choice (word ∷ parts)) (choices (behind_first (word ∷ parts)))
 choices_one_by_one word [] = by (sense_choice word)
   where
-    by : (sense : Option Choice) → led_by sense (Some []) ≡ led_by sense (choices (if is_some sense then [] else []))
+    by : (sense : Option SetupArgument) → led_by sense (Some []) ≡ led_by sense (choices (if is_some sense then [] else []))
     by (Some choice) = refl
     by None = refl
 choices_one_by_one word (next ∷ parts) = by (sense_choice word)
   where
-    by : (sense : Option Choice)
-        → elim sense as (λ _. Option (List Choice)) [ Some choice ↦ led_by (Some choice) (choices (next ∷ parts)) | None ↦ led_by (set_choice word next) (choices parts) ]
+    by : (sense : Option SetupArgument)
+        → elim sense as (λ _. Option (List SetupArgument)) [ Some choice ↦ led_by (Some choice) (choices (next ∷ parts)) | None ↦ led_by (set_choice word next) (choices parts) ]
         ≡ led_by (option_or sense (set_choice word next)) (choices (if is_some sense then next ∷ parts else parts))
     by (Some choice) = refl
     by None = refl
@@ -131,19 +131,19 @@ one_by_one text =
 -- ---- one more choice
 
 module _ (so_far : Chosen) (text : List ℕ) where
-  pub one_more : (more : Chosen) (choice : Choice) → first_choice (split_outside is_comma text) ≡ Some choice → added so_far choice ≡ Some more
+  pub one_more : (more : Chosen) (choice : SetupArgument) → first_choice (split_outside is_comma text) ≡ Some choice → added so_far choice ≡ Some more
       → option_and_then (all_added so_far) (choices (split_outside is_comma text)) ≡ option_and_then (all_added more) (choices (behind_first (split_outside is_comma text)))
   one_more more choice first e = ap (option_and_then (all_added so_far)) (one_by_one text) ∙ rw first (by (choices (behind_first (split_outside is_comma text))))
     where
-      by : (others : Option (List Choice)) → option_and_then (all_added so_far) (led_by (Some choice) others) ≡ option_and_then (all_added more) others
+      by : (others : Option (List SetupArgument)) → option_and_then (all_added so_far) (led_by (Some choice) others) ≡ option_and_then (all_added more) others
       by None = refl
       by (Some list) = rw e refl
 
-  pub one_too_many : (choice : Choice) → first_choice (split_outside is_comma text) ≡ Some choice → added so_far choice ≡ None
+  pub one_too_many : (choice : SetupArgument) → first_choice (split_outside is_comma text) ≡ Some choice → added so_far choice ≡ None
       → option_and_then (all_added so_far) (choices (split_outside is_comma text)) ≡ None
   one_too_many choice first e = ap (option_and_then (all_added so_far)) (one_by_one text) ∙ rw first (by (choices (behind_first (split_outside is_comma text))))
     where
-      by : (others : Option (List Choice)) → option_and_then (all_added so_far) (led_by (Some choice) others) ≡ None
+      by : (others : Option (List SetupArgument)) → option_and_then (all_added so_far) (led_by (Some choice) others) ≡ None
       by None = refl
       by (Some list) = rw e refl
 

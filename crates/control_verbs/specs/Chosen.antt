@@ -6,8 +6,8 @@ use Rattle.control_definitions.specs.Program.{SetupOptions}
 use Rattle.control_definitions.specs.Arguments as arguments
 use Rattle.control_verbs.specs.declared.options.SetKind.{SetKind}
 use Rattle.control_verbs.specs.declared.options.SetKind.TheVariants.{Bound, Range}
-use Rattle.control_verbs.specs.declared.options.Choice.{Choice}
-use Rattle.control_verbs.specs.declared.options.Choice.TheVariants.{BoundSet, RangeSet, Direction}
+use Rattle.control_verbs.specs.declared.options.SetupArgument.{SetupArgument}
+use Rattle.control_verbs.specs.declared.options.SetupArgument.TheVariants.{BoundSet, RangeSet, Direction}
 use Rattle.control_verbs.specs.declared.options.Chosen.{Chosen}
 
 abbrev pub set_shown : SetKind → List ℕ → arguments.Choice

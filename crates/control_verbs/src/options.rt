@@ -23,7 +23,7 @@ enum SetKind {
 
 // One choice of SETUP: of a bound set, of a range set, or of the sense.
 #[derive(Clone, Copy)]
-enum Choice {
+enum SetupArgument {
     BoundSet(Name),
     RangeSet(Name),
     Direction(Sense),
@@ -60,22 +60,22 @@ fn set_of(word: &[u8]) -> Option<SetKind>
 }
 
 // The choice that a word makes with the argument after it.
-fn set_in(word: &[u8], argument: &[u8]) -> Option<Choice>
+fn set_in(word: &[u8], argument: &[u8]) -> Option<SetupArgument>
     ensures { option_map choice_shown result ≡ set_choice word.now argument.now }
 {
     match set_of(word)? {
-        SetKind::Bound => Some(Choice::BoundSet(name_in(argument)?)),
-        SetKind::Range => Some(Choice::RangeSet(name_in(argument)?)),
+        SetKind::Bound => Some(SetupArgument::BoundSet(name_in(argument)?)),
+        SetKind::Range => Some(SetupArgument::RangeSet(name_in(argument)?)),
     }
 }
 
 // The first choice of a text.
-fn choice_in(text: &[u8]) -> Option<Choice>
+fn choice_in(text: &[u8]) -> Option<SetupArgument>
     ensures { option_map choice_shown result ≡ first_choice (split_outside is_comma text.now) }
 {
     let (word, behind) = split_argument(text);
     if let Some(sense) = sense_of(word) {
-        return Some(Choice::Direction(sense));
+        return Some(SetupArgument::Direction(sense));
     }
     let (argument, _) = split_argument(behind?);
     set_in(word, argument)
@@ -96,19 +96,19 @@ fn behind_choice(text: &[u8]) -> Option<&[u8]>
 
 impl Chosen {
     // What is chosen with one more choice, unless that is made twice.
-    fn with(self, choice: Choice) -> Option<Chosen>
+    fn with(self, choice: SetupArgument) -> Option<Chosen>
         ensures { result ≡ added self (choice_shown choice) }
     {
         match choice {
-            Choice::BoundSet(name) if self.bound.is_none() => Some(Chosen {
+            SetupArgument::BoundSet(name) if self.bound.is_none() => Some(Chosen {
                 bound: Some(name),
                 ..self
             }),
-            Choice::RangeSet(name) if self.range.is_none() => Some(Chosen {
+            SetupArgument::RangeSet(name) if self.range.is_none() => Some(Chosen {
                 range: Some(name),
                 ..self
             }),
-            Choice::Direction(sense) if self.sense.is_none() => Some(Chosen {
+            SetupArgument::Direction(sense) if self.sense.is_none() => Some(Chosen {
                 sense: Some(sense),
                 ..self
             }),

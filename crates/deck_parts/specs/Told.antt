@@ -5,6 +5,6 @@ use Rattle.deck_parts.specs.declared.card_stop.CardStop.{CardStop}
 use Rattle.deck_parts.specs.declared.card_stop.CardStop.TheVariants.{Refused, NoMemory}
 
 -- a card that is refused has this fault, and memory may be wanted at any time
-abbrev pub Tells : Option DeckFaultKind → CardStop → Type 0
-Tells fault (Refused kind) = fault ≡ Some kind
-Tells fault NoMemory = Unit {0}
+abbrev pub TellsDeckFault : Option DeckFaultKind → CardStop → Type 0
+TellsDeckFault fault (Refused kind) = fault ≡ Some kind
+TellsDeckFault fault NoMemory = Unit {0}

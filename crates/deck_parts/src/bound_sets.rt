@@ -8,7 +8,7 @@ ghost use Rattle.problem_definitions.specs.Groups.{items_of, in_set};
 ghost use Rattle.deck_definitions.specs.DataCards.{bound_of, bound_group};
 ghost use Rattle.deck_definitions.specs.Tests.{bound_value_fault, bounds_fault};
 ghost use Rattle.deck_definitions.proofs.Steps.{with_group};
-ghost use Rattle.deck_parts.specs.Told.{Tells};
+ghost use Rattle.deck_parts.specs.Told.{TellsDeckFault};
 ghost use Rattle.deck_parts.specs.Shown.{group_at, bounds_alone, bound_end_fault, bound_rest_fault, column_number};
 ghost use Rattle.deck_cards.specs.Shown.{shown};
 
@@ -84,7 +84,8 @@ fn take_bound(
 ) -> Result<(), CardStop>
     ensures no_fault { OnOk result (bound_rest_fault items.old (shown card.now) kind ≡ None) }
     ensures step { OnOk result (items.new ≡ items.old ++ bound_of (shown card.now) kind ∷ []) }
-    ensures stop { IfErr result (Tells (bound_rest_fault items.old (shown card.now) kind)) }
+    ensures stop { IfErr result
+        (TellsDeckFault (bound_rest_fault items.old (shown card.now) kind)) }
 {
     let column = card.name2;
     match bound_value(kind, card) {
@@ -115,7 +116,7 @@ fn take_bound_into(
         kind ≡ None) }
     ensures step { OnOk result (map group_at sets.new.entries ≡ in_set card.now.name1
         (λ items. items ++ bound_of (shown card.now) kind ∷ []) (map group_at sets.old.entries)) }
-    ensures stop { IfErr result (Tells
+    ensures stop { IfErr result (TellsDeckFault
         (bound_rest_fault (items_of card.now.name1 (map group_at sets.old.entries))
         (shown card.now) kind)) }
 {
@@ -191,7 +192,8 @@ impl BoundSets {
             (shown card.now) kind ≡ None) }
         ensures step { OnOk result (self.new ≡ in_set card.now.name1
             (λ items. items ++ bound_of (shown card.now) kind ∷ []) self.old) }
-        ensures stop { IfErr result (Tells (bound_rest_fault (items_of card.now.name1 self.old)
+        ensures stop { IfErr result
+            (TellsDeckFault (bound_rest_fault (items_of card.now.name1 self.old)
             (shown card.now) kind)) }
     {
         take_bound_into(alloc, &mut self.sets, place, kind, card)
@@ -208,7 +210,7 @@ pub fn take_bound_card(
     ensures no_fault { OnOk result (bounds_fault (bounds_alone columns.now sets.old)
         (shown card.now) ≡ None) }
     ensures step { OnOk result (sets.new ≡ with_group (bound_group (shown card.now)) sets.old) }
-    ensures stop { IfErr result (Tells (bounds_fault (bounds_alone columns.now sets.old)
+    ensures stop { IfErr result (TellsDeckFault (bounds_fault (bounds_alone columns.now sets.old)
         (shown card.now))) }
 {
     let Some(kind) = bound_kind(card.kind) else {

@@ -6,7 +6,7 @@ ghost use Rattle.problem_definitions.specs.Names.{same};
 ghost use Rattle.problem_definitions.specs.Numbering.{bound_by};
 ghost use Rattle.problem_definitions.specs.Kinds.{touches_upper, touches_lower};
 ghost use Rattle.deck_definitions.specs.Tests.{is_bound_already};
-ghost use Rattle.deck_parts.specs.Told.{Tells};
+ghost use Rattle.deck_parts.specs.Told.{TellsDeckFault};
 ghost use Rattle.deck_parts.specs.Shown.{marked, column_number};
 
 use crate::card_stop::CardStop;
@@ -151,7 +151,7 @@ fn add_to(
         uppers.old.keys) }
     ensures lowers { OnOk result (lowers.new.keys ≡ marked (touches_lower bound.kind) bound.column
         lowers.old.keys) }
-    ensures stop { IfErr result (Tells
+    ensures stop { IfErr result (TellsDeckFault
         ((touches_upper bound.kind && list_any (same bound.column) uppers.old.keys || touches_lower
         bound.kind && list_any (same bound.column) lowers.old.keys) ⟹ DeckFaultKind.BoundTwice)) }
 {
@@ -218,7 +218,8 @@ impl Bounds {
     pub fn add(&mut self, bound: NamedBound) -> Result<(), CardStop>
         ensures is_new { OnOk result (is_bound_already self.old bound.column bound.kind ≡ false) }
         ensures added { OnOk result (self.new ≡ self.old ++ bound ∷ []) }
-        ensures stop { IfErr result (Tells (is_bound_already self.old bound.column bound.kind ⟹
+        ensures stop { IfErr result
+            (TellsDeckFault (is_bound_already self.old bound.column bound.kind ⟹
             DeckFaultKind.BoundTwice)) }
     {
         match add_to(&mut self.items, &mut self.uppers, &mut self.lowers, bound) {

@@ -3,7 +3,7 @@ ghost use Rattle.std.specs.Prelude.{◌≡◌, ◌≤◌, ◌++◌, ◌∷◌, [
 ghost use Rattle.card_definitions.specs.Words.{◌⟹◌};
 ghost use Rattle.problem_definitions.specs.Numbering.{entry_by};
 ghost use Rattle.problem_definitions.specs.Problem.{has_entry};
-ghost use Rattle.deck_parts.specs.Told.{Tells};
+ghost use Rattle.deck_parts.specs.Told.{TellsDeckFault};
 ghost use Rattle.deck_parts.specs.Shown.{entry_at, row_number};
 
 use crate::additions::add_new;
@@ -66,7 +66,7 @@ impl Entries {
         ensures is_new { OnOk result (has_entry self.old row ≡ false) }
         ensures added { OnOk result (self.new ≡ self.old ++ record
             { row = row; value = number.value } ∷ []) }
-        ensures stop { IfErr result (Tells (has_entry self.old row ⟹
+        ensures stop { IfErr result (TellsDeckFault (has_entry self.old row ⟹
             DeckFaultKind.DuplicateEntry)) }
     {
         let is_new = add_new(&mut self.values, row, number)?;

@@ -9,7 +9,7 @@ ghost use Rattle.problem_definitions.specs.Groups.{items_of, in_set};
 ghost use Rattle.deck_definitions.specs.DataCards.{entries_of, pairs_of};
 ghost use Rattle.deck_definitions.specs.declared.Section.TheVariants.{Columns};
 ghost use Rattle.deck_definitions.specs.Tests.{pairs_fault};
-ghost use Rattle.deck_parts.specs.Told.{Tells};
+ghost use Rattle.deck_parts.specs.Told.{TellsDeckFault};
 ghost use Rattle.deck_parts.specs.Shown.{rows_alone, group_at, column_fault, row_number, column_number};
 ghost use Rattle.deck_cards.specs.Shown.{shown};
 
@@ -58,7 +58,7 @@ fn take_into(
         (map group_at groups.old.entries)) count (pairs_of (shown card.now)) ≡ None) }
     ensures step { OnOk result (map group_at groups.new.entries ≡ in_set card.now.name1
         (λ items. items ++ entries_of (shown card.now)) (map group_at groups.old.entries)) }
-    ensures stop { IfErr result (Tells
+    ensures stop { IfErr result (TellsDeckFault
         (pairs_fault (rows_alone rows.now) section (items_of card.now.name1
         (map group_at groups.old.entries)) count (pairs_of (shown card.now)))) }
 {
@@ -81,7 +81,7 @@ fn take_column_into(
         (map group_at columns.old.entries)) count (pairs_of (shown card.now))) ≡ None) }
     ensures step { OnOk result (map group_at columns.new.entries ≡ in_set card.now.name1
         (λ items. items ++ entries_of (shown card.now)) (map group_at columns.old.entries)) }
-    ensures stop { IfErr result (Tells
+    ensures stop { IfErr result (TellsDeckFault
         (column_fault (map group_at columns.old.entries) card.now.name1
         (pairs_fault (rows_alone rows.now) Columns (items_of card.now.name1
         (map group_at columns.old.entries)) count (pairs_of (shown card.now))))) }
@@ -222,7 +222,7 @@ impl Groups {
             (pairs_of (shown card.now)) ≡ None) }
         ensures step { OnOk result (self.new ≡ in_set card.now.name1
             (λ items. items ++ entries_of (shown card.now)) self.old) }
-        ensures stop { IfErr result (Tells (pairs_fault (rows_alone rows.now) section
+        ensures stop { IfErr result (TellsDeckFault (pairs_fault (rows_alone rows.now) section
             (items_of card.now.name1 self.old) count (pairs_of (shown card.now)))) }
     {
         take_into(alloc, rows, section, &mut self.groups, count, card)
@@ -243,7 +243,7 @@ impl Groups {
             (pairs_of (shown card.now))) ≡ None) }
         ensures step { OnOk result (self.new ≡ in_set card.now.name1
             (λ items. items ++ entries_of (shown card.now)) self.old) }
-        ensures stop { IfErr result (Tells
+        ensures stop { IfErr result (TellsDeckFault
             (column_fault self.old card.now.name1
             (pairs_fault (rows_alone rows.now) Columns (items_of card.now.name1 self.old) count
             (pairs_of (shown card.now))))) }

@@ -4,7 +4,7 @@ ghost use Rattle.card_definitions.specs.Numbers.{decimal_of};
 ghost use Rattle.card_definitions.specs.declared.NumberFault.TheVariants.{BadCharacter};
 ghost use Rattle.deck_definitions.specs.DataCards.{entry_of, entries_of, pairs_of};
 ghost use Rattle.deck_definitions.specs.Tests.{number_fault_from, value_fault, pair_row_fault, pair_fault, pairs_fault};
-ghost use Rattle.deck_parts.specs.Told.{Tells};
+ghost use Rattle.deck_parts.specs.Told.{TellsDeckFault};
 ghost use Rattle.deck_parts.specs.Shown.{rows_alone, pair_value_fault};
 ghost use Rattle.deck_cards.specs.Shown.{shown, pair_shown};
 
@@ -70,7 +70,7 @@ pub fn number_in(column: u8, field: &[u8]) -> Result<Decimal, DeckFaultKind>
 }
 
 // The number of a pair, where there is room for one more, or the fault.
-fn value_of(section: Section, count: u32, pair: &PairText<'_>) -> Result<Decimal, DeckFaultKind>
+fn decimal_of(section: Section, count: u32, pair: &PairText<'_>) -> Result<Decimal, DeckFaultKind>
     ensures value { IfOk result (λ v. v ≡ decimal_of pair.now.value.now) }
     ensures no_fault { OnOk result (pair_value_fault section count (pair_shown pair.now) ≡ None) }
     ensures fault { IfErr result (λ kind. pair_value_fault section count (pair_shown pair.now)
@@ -94,11 +94,12 @@ pub fn take_pair(
     ensures no_fault { OnOk result (pair_fault (rows_alone rows.now) section items.old count
         (pair_shown pair.now) ≡ None) }
     ensures step { OnOk result (items.new ≡ items.old ++ entry_of (pair_shown pair.now) ∷ []) }
-    ensures stop { IfErr result (Tells (pair_fault (rows_alone rows.now) section items.old count
+    ensures stop { IfErr result
+        (TellsDeckFault (pair_fault (rows_alone rows.now) section items.old count
         (pair_shown pair.now))) }
 {
     let found = row_of(rows, section, &pair.row)?;
-    match value_of(section, count, pair) {
+    match decimal_of(section, count, pair) {
         Ok(value) => {
             let place = found.place;
             items.add(pair.row, OnRow { place, value })
@@ -123,7 +124,8 @@ pub fn take_pairs(
     ensures no_fault { OnOk result (pairs_fault (rows_alone rows.now) section items.old count
         (pairs_of (shown card.now)) ≡ None) }
     ensures step { OnOk result (items.new ≡ items.old ++ entries_of (shown card.now)) }
-    ensures stop { IfErr result (Tells (pairs_fault (rows_alone rows.now) section items.old count
+    ensures stop { IfErr result
+        (TellsDeckFault (pairs_fault (rows_alone rows.now) section items.old count
         (pairs_of (shown card.now)))) }
 {
     take_pair(rows, section, items, count, &first_pair(card))?;

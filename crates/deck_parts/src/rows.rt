@@ -4,7 +4,7 @@ ghost use Rattle.card_definitions.specs.Words.{◌⟹◌};
 ghost use Rattle.problem_definitions.specs.Kinds.{is_free_kind};
 ghost use Rattle.problem_definitions.specs.Problem.{plain_row, has_row, has_free_row};
 ghost use Rattle.problem_definitions.specs.Numbering.{row_by};
-ghost use Rattle.deck_parts.specs.Told.{Tells};
+ghost use Rattle.deck_parts.specs.Told.{TellsDeckFault};
 ghost use Rattle.deck_parts.specs.Shown.{row_at, decl_at, row_number};
 
 use crate::additions::add_new;
@@ -102,7 +102,8 @@ impl Rows {
     pub fn add(&mut self, kind: RowKind, name: Name) -> Result<(), CardStop>
         ensures is_new { OnOk result (has_row self.old name ≡ false) }
         ensures added { OnOk result (self.new ≡ self.old ++ plain_row kind name ∷ []) }
-        ensures stop { IfErr result (Tells (has_row self.old name ⟹ DeckFaultKind.DuplicateRow)) }
+        ensures stop { IfErr result
+            (TellsDeckFault (has_row self.old name ⟹ DeckFaultKind.DuplicateRow)) }
     {
         let is_new = add_new(&mut self.kinds, name, kind)?;
         if !is_new {

@@ -8,7 +8,7 @@ ghost use Rattle.problem_definitions.specs.Groups.{in_set};
 ghost use Rattle.deck_definitions.specs.DataCards.{entries_of, row_of, row_kinds};
 ghost use Rattle.deck_definitions.specs.Sections.{may_follow, rank, furthest_next};
 ghost use Rattle.deck_definitions.specs.Tests.{filled_from_3, rows_fault, columns_fault, set_fault};
-ghost use Rattle.deck_parts.specs.Told.{Tells};
+ghost use Rattle.deck_parts.specs.Told.{TellsDeckFault};
 ghost use Rattle.deck_parts.specs.Shown.{rows_alone, columns_alone, row_kind_fault};
 ghost use Rattle.deck_cards.specs.Shown.{shown};
 
@@ -67,7 +67,8 @@ pub fn has_more(card: &DataCard<'_>) -> bool
 pub fn take_row_card(rows: &mut Rows, card: &DataCard<'_>) -> Result<(), CardStop>
     ensures no_fault { OnOk result (rows_fault (rows_alone rows.old) (shown card.now) ≡ None) }
     ensures step { OnOk result (rows.new ≡ rows.old ++ option_to_list (row_of (shown card.now))) }
-    ensures stop { IfErr result (Tells (rows_fault (rows_alone rows.old) (shown card.now))) }
+    ensures stop { IfErr result
+        (TellsDeckFault (rows_fault (rows_alone rows.old) (shown card.now))) }
 {
     let kind = row_kind_of(card)?;
     match new_row_fault(rows.len(), card) {
@@ -101,7 +102,7 @@ pub fn take_column_card(
         (shown card.now) ≡ None) }
     ensures step { OnOk result (columns.new ≡ in_set card.now.name1
         (λ items. items ++ entries_of (shown card.now)) columns.old) }
-    ensures stop { IfErr result (Tells (columns_fault (columns_alone rows.now columns.old)
+    ensures stop { IfErr result (TellsDeckFault (columns_fault (columns_alone rows.now columns.old)
         (shown card.now))) }
 {
     if !is_blank(card.kind) {
@@ -128,7 +129,7 @@ pub fn take_set_card(
         (shown card.now) ≡ None) }
     ensures step { OnOk result (sets.new ≡ in_set card.now.name1
         (λ items. items ++ entries_of (shown card.now)) sets.old) }
-    ensures stop { IfErr result (Tells (set_fault (rows_alone rows.now) section sets.old
+    ensures stop { IfErr result (TellsDeckFault (set_fault (rows_alone rows.now) section sets.old
         (shown card.now))) }
 {
     if !is_blank(card.kind) {

@@ -14,14 +14,14 @@ use Rattle.run_definitions.specs.Answer.{Job, Failures, Gains, MayEnd, IsCutShor
 use Rattle.control_run.specs.declared.status.Status.{Status}
 use Rattle.control_run.specs.Ends.{code_of}
 use Rattle.control_run.specs.Finishing.{cut_status}
-use Rattle.mps_cli.specs.declared.stop.Stop.{Stop}
-use Rattle.mps_cli.specs.declared.stop.Stop.TheVariants.{Words, ReadFault, Card, Control, Memory}
+use Rattle.mps_cli.specs.declared.stop.EarlyStop.{EarlyStop}
+use Rattle.mps_cli.specs.declared.stop.EarlyStop.TheVariants.{Words, ReadFault, Card, Control, Memory}
 use Rattle.mps_cli.specs.Stops.{stop_shown, status_at}
 use Rattle.mps_cli.specs.Endings.{EndsWith, printed, cut_off}
 
 -- ---- the end is printed, or cut off
 
-module _ {P : Type 0} (written : P → Option (List ℕ)) (faults refusals : P → ℕ) {old new : P} (shown : Ending) (stop : Stop) (same : shown ≡ stop_shown stop) where
+module _ {P : Type 0} (written : P → Option (List ℕ)) (faults refusals : P → ℕ) {old new : P} (shown : Ending) (stop : EarlyStop) (same : shown ≡ stop_shown stop) where
   pub end_printed : (status : Status) → status ≡ status_at stop → Writes {T = Unit {0}} written faults refusals old new (Ok tt) (ending_text shown) →
       EndsWith written faults refusals old new stop status
   end_printed status is writes = printed is (subst (λ (e : Ending). Writes {T = Unit {0}} written faults refusals old new (Ok tt) (ending_text e)) same writes)
@@ -36,7 +36,7 @@ keeps : (known : Option (List ℕ)) → Appends known known []
 keeps None = tt
 keeps (Some xs) = Appends-nothing (Some xs) (Some xs) refl
 
-gains_nothing : (stop : Stop) → Gains (stop_shown stop) [] (card_text [])
+gains_nothing : (stop : EarlyStop) → Gains (stop_shown stop) [] (card_text [])
 gains_nothing Words = refl
 gains_nothing ReadFault = refl
 gains_nothing (Card fault) = refl
@@ -45,7 +45,7 @@ gains_nothing Memory = ([], refl)
 
 -- ---- the status of a stop is that of its end
 
-code_is : (stop : Stop) → code_of (status_at stop) ≡ status_of (stop_shown stop)
+code_is : (stop : EarlyStop) → code_of (status_at stop) ≡ status_of (stop_shown stop)
 code_is Words = refl
 code_is ReadFault = refl
 code_is (Card fault) = refl
@@ -54,7 +54,7 @@ code_is Memory = refl
 
 -- ---- the answer
 
-module _ (S : Solving) (job : Job) (failures : Failures) (stop : Stop) (may_end : MayEnd S job failures [] [] (stop_shown stop)) where
+module _ (S : Solving) (job : Job) (failures : Failures) (stop : EarlyStop) (may_end : MayEnd S job failures [] [] (stop_shown stop)) where
   cut : (status : ℕ) (front back : List ℕ) → front ++ back ≡ ending_text (stop_shown stop) → IsCutShort S job failures (record { status = status; printed = front; punched = [] })
   cut status front back e = record {
     text = listing [] (stop_shown stop);

@@ -5,23 +5,23 @@ use Rattle.listing_definitions.specs.Ending.{Ending}
 use Rattle.question_definitions.specs.Solving.{Solving}
 use Rattle.run_definitions.specs.Answer.{Job, Read, bytes_of, Failures, Answer, IsProgramOf, MayEnd, words_refused, read_fails, by_itself, memory_at_start, memory_in_run, memory_at_punch, punch_fails, IsCutShort, IsAnswer, IsAnswered, whole, print_fails, print_wants_memory, card_fault, control_fault}
 use Rattle.mps_cli.specs.declared.prepare.Prepared.{Prepared}
-use Rattle.mps_cli.specs.declared.stop.Stop.{Stop}
-use Rattle.mps_cli.specs.declared.stop.Stop.TheVariants.{Words, ReadFault, Card, Control, Memory}
-use Rattle.mps_cli.specs.Stops.{stop_shown, Tells, ArePrepared}
+use Rattle.mps_cli.specs.declared.stop.EarlyStop.{EarlyStop}
+use Rattle.mps_cli.specs.declared.stop.EarlyStop.TheVariants.{Words, ReadFault, Card, Control, Memory}
+use Rattle.mps_cli.specs.Stops.{stop_shown, TellsEarlyStop, ArePrepared}
 use Rattle.mps_cli.specs.Causes.{HasStopCause}
 
 -- ---- a job may end with what stops it
 
 module _ (S : Solving) (job : Job) (bytes : List ℕ) (failures : Failures) (is_read : Type 0) (has : bytes_of job ≡ Some bytes) (read : failures.read → job ≡ Read bytes) where
-  told : (stop : Stop) → Tells (Some bytes) stop → HasStopCause failures.read is_read stop → MayEnd S job failures [] [] (stop_shown stop)
+  told : (stop : EarlyStop) → TellsEarlyStop (Some bytes) stop → HasStopCause failures.read is_read stop → MayEnd S job failures [] [] (stop_shown stop)
   told Words tells cause = absurd tells
   told ReadFault tells cause = read_fails bytes (read cause) cause
   told (Card fault) tells cause = by_itself bytes has (card_fault fault tells)
   told (Control fault) tells cause = by_itself bytes has (control_fault fault tells.0 tells.1)
   told Memory tells cause = memory_at_start
 
-  pub may_stop : {known : Option (List ℕ)} (stop : Stop) → known ≡ Some bytes → Tells known stop → HasStopCause failures.read is_read stop → MayEnd S job failures [] [] (stop_shown stop)
-  may_stop stop is tells cause = told stop (subst (λ (k : Option (List ℕ)). Tells k stop) is tells) cause
+  pub may_stop : {known : Option (List ℕ)} (stop : EarlyStop) → known ≡ Some bytes → TellsEarlyStop known stop → HasStopCause failures.read is_read stop → MayEnd S job failures [] [] (stop_shown stop)
+  may_stop stop is tells cause = told stop (subst (λ (k : Option (List ℕ)). TellsEarlyStop k stop) is tells) cause
 
 pub prepared_of : (bytes : List ℕ) {known : Option (List ℕ)} (prepared : Prepared) → known ≡ Some bytes → ArePrepared known prepared → ArePrepared (Some bytes) prepared
 prepared_of bytes prepared is are = subst (λ (k : Option (List ℕ)). ArePrepared k prepared) is are

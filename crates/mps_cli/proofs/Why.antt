@@ -14,8 +14,8 @@ use Rattle.control_run.specs.Ends.{IsStatusOfRun}
 use Rattle.control_run.specs.Finishing.{cut_status}
 use Rattle.command_line.specs.declared.request.Request.{Request}
 use Rattle.command_line.specs.declared.request.Request.TheVariants as request
-use Rattle.mps_cli.specs.declared.stop.Stop.{Stop}
-use Rattle.mps_cli.specs.declared.stop.Stop.TheVariants.{Words, ReadFault, Card, Control, Memory}
+use Rattle.mps_cli.specs.declared.stop.EarlyStop.{EarlyStop}
+use Rattle.mps_cli.specs.declared.stop.EarlyStop.TheVariants.{Words, ReadFault, Card, Control, Memory}
 use Rattle.command_line.specs.declared.request.WordsStop.{WordsStop}
 use Rattle.command_line.specs.declared.request.WordsStop.TheVariants as words
 use Rattle.mps_cli.specs.Stops.{stop_shown, status_at, stop_of_words}
@@ -24,34 +24,34 @@ use Rattle.mps_cli.specs.Causes.{IsAtHand, IsPrintedAfter, at_hand, refused_word
 
 module _ (asked : Option Request) (read_failed is_read : Type 0) where
   -- why a job is stopped before its program runs
-  abbrev pub IsWhy : Stop → Type 0
+  abbrev pub IsWhy : EarlyStop → Type 0
   IsWhy Words = asked ≡ None
   IsWhy ReadFault = (asked ≡ Some request.Read) × read_failed
   IsWhy (Card fault) = IsAtHand asked is_read
   IsWhy (Control fault) = IsAtHand asked is_read
   IsWhy Memory = Unit {0}
 
-  printed_cause : (print_failed punch_failed : Type 0) (GainsFrontOf : List ℕ → Type 0) (stop : Stop) → IsWhy stop → HasCause asked read_failed is_read print_failed punch_failed GainsFrontOf (status_at stop)
+  printed_cause : (print_failed punch_failed : Type 0) (GainsFrontOf : List ℕ → Type 0) (stop : EarlyStop) → IsWhy stop → HasCause asked read_failed is_read print_failed punch_failed GainsFrontOf (status_at stop)
   printed_cause print_failed punch_failed GainsFrontOf Words is = is
   printed_cause print_failed punch_failed GainsFrontOf ReadFault is = is
   printed_cause print_failed punch_failed GainsFrontOf (Card fault) is = is
   printed_cause print_failed punch_failed GainsFrontOf (Control fault) is = is
   printed_cause print_failed punch_failed GainsFrontOf Memory is = tt
 
-  after : (GainsFrontOf : List ℕ → Type 0) (stop : Stop) → IsWhy stop → GainsFrontOf (ending_text (stop_shown stop)) → IsPrintedAfter asked read_failed is_read GainsFrontOf
+  after : (GainsFrontOf : List ℕ → Type 0) (stop : EarlyStop) → IsWhy stop → GainsFrontOf (ending_text (stop_shown stop)) → IsPrintedAfter asked read_failed is_read GainsFrontOf
   after GainsFrontOf Words is front = refused_words is front
   after GainsFrontOf ReadFault is front = a_read_fault is.0 is.1 front
   after GainsFrontOf (Card fault) is front = at_hand is
   after GainsFrontOf (Control fault) is front = at_hand is
   after GainsFrontOf Memory is front = no_memory front
 
-  cut_cause : (print_failed punch_failed : Type 0) (GainsFrontOf : List ℕ → Type 0) (stop : Stop) → IsWhy stop → (cause : WriteStop) → (cause ≡ Failed → print_failed) → GainsFrontOf (ending_text (stop_shown stop)) →
+  cut_cause : (print_failed punch_failed : Type 0) (GainsFrontOf : List ℕ → Type 0) (stop : EarlyStop) → IsWhy stop → (cause : WriteStop) → (cause ≡ Failed → print_failed) → GainsFrontOf (ending_text (stop_shown stop)) →
       HasCause asked read_failed is_read print_failed punch_failed GainsFrontOf (cut_status cause)
   cut_cause print_failed punch_failed GainsFrontOf stop is Failed failed front = (failed refl, after GainsFrontOf stop is front)
   cut_cause print_failed punch_failed GainsFrontOf stop is NoMemory failed front = tt
 
   -- of a job whose listing is the end of a stop alone
-  pub ending_cause : (punch_failed : Type 0) {P : Type 0} (written : P → Option (List ℕ)) (faults refusals : P → ℕ) {old new : P} (stop : Stop) (ended : Status) → IsWhy stop → EndsWith written faults refusals old new stop ended →
+  pub ending_cause : (punch_failed : Type 0) {P : Type 0} (written : P → Option (List ℕ)) (faults refusals : P → ℕ) {old new : P} (stop : EarlyStop) (ended : Status) → IsWhy stop → EndsWith written faults refusals old new stop ended →
       HasCause asked read_failed is_read (Rose (faults old) (faults new)) punch_failed (AppendsFront (written old) (written new)) ended
   ending_cause punch_failed written faults refusals {old} {new} stop ended is (printed same writes) =
       subst (HasCause asked read_failed is_read (Rose (faults old) (faults new)) punch_failed (AppendsFront (written old) (written new))) (sym same) (printed_cause _ _ _ stop is)
@@ -79,7 +79,7 @@ module _ (asked : Option Request) (read_failed is_read : Type 0) where
   run_cause print_failed punch_failed GainsFrontOf status.Memory is own failed stopped = tt
 
 -- of a job that is read
-pub why : (read_failed is_read : Type 0) (stop : Stop) → HasStopCause read_failed is_read stop → IsWhy (Some request.Read) read_failed is_read stop
+pub why : (read_failed is_read : Type 0) (stop : EarlyStop) → HasStopCause read_failed is_read stop → IsWhy (Some request.Read) read_failed is_read stop
 why read_failed is_read Words cause = absurd cause
 why read_failed is_read ReadFault cause = (refl, cause)
 why read_failed is_read (Card fault) cause = cause

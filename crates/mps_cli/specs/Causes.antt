@@ -14,8 +14,8 @@ use Rattle.control_run.specs.declared.status.Status.{Status}
 use Rattle.control_run.specs.declared.status.Status.TheVariants.{Words, ReadFault, PrintFault, PunchFault, Memory}
 use Rattle.command_line.specs.declared.request.Request.{Request}
 use Rattle.command_line.specs.declared.request.Request.TheVariants as request
-use Rattle.mps_cli.specs.declared.stop.Stop.{Stop}
-use Rattle.mps_cli.specs.declared.stop.Stop.TheVariants as stop
+use Rattle.mps_cli.specs.declared.stop.EarlyStop.{EarlyStop}
+use Rattle.mps_cli.specs.declared.stop.EarlyStop.TheVariants as stop
 
 -- the whole job is at hand: it is read, or made
 abbrev pub IsAtHand : Option Request → Type 0 → Type 0
@@ -55,7 +55,7 @@ pub data IsPunched (asked : Option Request) (told : Option (List ℕ)) (is_read 
       IsStatusOfRun status → IsPunched asked told is_read is_same status
 
 -- why the program of a job that is read isn't run
-abbrev pub HasStopCause : Type 0 → Type 0 → Stop → Type 0
+abbrev pub HasStopCause : Type 0 → Type 0 → EarlyStop → Type 0
 HasStopCause read_failed is_read stop.Words = ⊥
 HasStopCause read_failed is_read stop.ReadFault = read_failed
 HasStopCause read_failed is_read (stop.Card fault) = is_read

@@ -6,11 +6,11 @@ use Rattle.job_devices.specs.Text.{Writes}
 use Rattle.listing_definitions.specs.Listing.{ending_text}
 use Rattle.control_run.specs.declared.status.Status.{Status}
 use Rattle.control_run.specs.Finishing.{cut_status}
-use Rattle.mps_cli.specs.declared.stop.Stop.{Stop}
+use Rattle.mps_cli.specs.declared.stop.EarlyStop.{EarlyStop}
 use Rattle.mps_cli.specs.Stops.{stop_shown, status_at}
 
 -- The line of the stop is printed, and the status is its own; or the print stops in it.
-pub data EndsWith {P : Type 0} (written : P → Option (List ℕ)) (faults refusals : P → ℕ) (old new : P) (stop : Stop) (status : Status) : Type 0 where
+pub data EndsWith {P : Type 0} (written : P → Option (List ℕ)) (faults refusals : P → ℕ) (old new : P) (stop : EarlyStop) (status : Status) : Type 0 where
   printed : status ≡ status_at stop → Writes {T = Unit {0}} written faults refusals old new (Ok tt) (ending_text (stop_shown stop)) →
       EndsWith written faults refusals old new stop status
   cut_off : (cause : WriteStop) → status ≡ cut_status cause →

@@ -1,6 +1,6 @@
 -- Why the program of a job isn't run.
 --     stop_shown, status_at stop     the end of the listing, and the status
---     Tells known stop               what a stop says of a job
+--     TellsEarlyStop known stop               what a stop says of a job
 --     ArePrepared known prepared     the cards and the program are those of a job
 use Rattle.std.specs.Prelude.{◌≡◌, ℕ, List, Option, None, Some, Err, IfSome}
 use Rattle.card_definitions.specs.declared.CardFault.TheVariants as fault
@@ -18,18 +18,18 @@ use Rattle.listing_definitions.specs.Ending.{Ending}
 use Rattle.listing_definitions.specs.Ending as endings
 use Rattle.run_definitions.specs.Answer.{IsProgramOf}
 use Rattle.mps_cli.specs.declared.prepare.Prepared.{Prepared}
-use Rattle.mps_cli.specs.declared.stop.Stop.{Stop}
-use Rattle.mps_cli.specs.declared.stop.Stop.TheVariants.{Words, ReadFault, Card, Control, Memory}
+use Rattle.mps_cli.specs.declared.stop.EarlyStop.{EarlyStop}
+use Rattle.mps_cli.specs.declared.stop.EarlyStop.TheVariants.{Words, ReadFault, Card, Control, Memory}
 
 -- the end of the run in the words of the listing
-abbrev pub stop_shown : Stop → Ending
+abbrev pub stop_shown : EarlyStop → Ending
 stop_shown Words = endings.WordsRefused
 stop_shown ReadFault = endings.ReadFault
 stop_shown (Card fault) = endings.CardStop fault
 stop_shown (Control fault) = endings.ControlStop fault
 stop_shown Memory = endings.Memory
 
-abbrev pub status_at : Stop → Status
+abbrev pub status_at : EarlyStop → Status
 status_at Words = status.Words
 status_at ReadFault = status.ReadFault
 status_at (Card fault) = status.Card
@@ -37,12 +37,12 @@ status_at (Control fault) = status.Control
 status_at Memory = status.Memory
 
 -- where the words ask for nothing
-abbrev pub stop_of_words : WordsStop → Stop
+abbrev pub stop_of_words : WordsStop → EarlyStop
 stop_of_words words.Refused = Words
 stop_of_words words.NoMemory = Memory
 
 -- where the job isn't read
-abbrev pub stop_of_reading : ReadStop → Stop
+abbrev pub stop_of_reading : ReadStop → EarlyStop
 stop_of_reading reading.ReadFault = ReadFault
 stop_of_reading reading.TooLong = Card fault.TooLong
 stop_of_reading (reading.CardTooLong card) = Card (fault.CardTooLong card)
@@ -50,18 +50,18 @@ stop_of_reading (reading.NotPrintable card) = Card (fault.NotPrintable card)
 stop_of_reading reading.NoMemory = Memory
 
 -- where the program isn't compiled
-abbrev pub stop_of_compiling : CompileStop → Stop
+abbrev pub stop_of_compiling : CompileStop → EarlyStop
 stop_of_compiling (compiling.Fault fault) = Control fault
 stop_of_compiling compiling.NoMemory = Memory
 
 -- Where the job is known, the stop tells the fault of its cards, or else the fault of its program. A fault of the source or want of
 -- memory may come in its place. The words have nothing to do with the job.
-abbrev pub Tells : Option (List ℕ) → Stop → Type 0
-Tells known Words = ⊥
-Tells known ReadFault = Unit {0}
-Tells known (Card fault) = IfSome known (λ job. job_fault job ≡ Some fault)
-Tells known (Control fault) = IfSome known (λ job. (job_fault job ≡ None) × (compiled (cards_of job) ≡ Err fault))
-Tells known Memory = Unit {0}
+abbrev pub TellsEarlyStop : Option (List ℕ) → EarlyStop → Type 0
+TellsEarlyStop known Words = ⊥
+TellsEarlyStop known ReadFault = Unit {0}
+TellsEarlyStop known (Card fault) = IfSome known (λ job. job_fault job ≡ Some fault)
+TellsEarlyStop known (Control fault) = IfSome known (λ job. (job_fault job ≡ None) × (compiled (cards_of job) ≡ Err fault))
+TellsEarlyStop known Memory = Unit {0}
 
 -- where the job is known, these are its cards and its program
 abbrev pub ArePrepared : Option (List ℕ) → Prepared → Type 0

@@ -3,7 +3,7 @@ ghost use Rattle.std.specs.Prelude.{◌≡◌};
 ghost use Rattle.control_run.specs.Finishing.{cut_status};
 ghost use Rattle.mps_cli.specs.Endings.{EndsWith};
 
-use crate::stop::Stop;
+use crate::stop::EarlyStop;
 use control_run::Status;
 use job_devices::{Sink, WriteStop};
 use report_text::{Report, text_of};
@@ -19,7 +19,7 @@ fn status_of_cut(stop: WriteStop) -> Status
 }
 
 /// Prints a listing that has this end alone, and answers how the job ended. A stop of the print comes before it.
-pub fn end_job<P: Sink>(print: &mut P, stop: Stop) -> Status
+pub fn end_job<P: Sink>(print: &mut P, stop: EarlyStop) -> Status
     ensures { EndsWith P.written P.faults P.refusals print.old print.new stop result }
 {
     match text_of(&Report::End(stop.ending()), print) {

@@ -2,10 +2,10 @@
 ghost use Rattle.std.specs.Prelude.{◌≡◌, IfOk, IfErr, OnOk};
 ghost use Rattle.card_reader.specs.Reading.{ReadsFront, ReadsJob};
 ghost use Rattle.job_devices.specs.Causes.{Rose};
-ghost use Rattle.mps_cli.specs.Stops.{Tells, ArePrepared};
+ghost use Rattle.mps_cli.specs.Stops.{TellsEarlyStop, ArePrepared};
 ghost use Rattle.mps_cli.specs.Causes.{HasStopCause};
 
-use crate::stop::Stop;
+use crate::stop::EarlyStop;
 use card_reader::{Cards, read_job};
 use control_compiler::{Program, compile};
 use job_devices::Source;
@@ -19,10 +19,10 @@ pub struct Prepared {
 }
 
 /// Reads a job and compiles its program.
-pub fn prepare<S: Source>(alloc: Global, job: &mut S) -> Result<Prepared, Stop>
+pub fn prepare<S: Source>(alloc: Global, job: &mut S) -> Result<Prepared, EarlyStop>
     ensures prepared { IfOk result (ArePrepared (S.left job.old)) }
     ensures read { OnOk result (ReadsJob (S.left job.old) (S.left job.new)) }
-    ensures stop { IfErr result (Tells (S.left job.old)) }
+    ensures stop { IfErr result (TellsEarlyStop (S.left job.old)) }
     ensures cause { IfErr result (HasStopCause (Rose (S.faults job.old) (S.faults job.new))
         (ReadsJob (S.left job.old) (S.left job.new))) }
     ensures no_further { ReadsFront (S.left job.old) (S.left job.new) }

@@ -21,7 +21,7 @@ ghost use Rattle.mps_cli.specs.Causes.{HasCause, IsPunched};
 
 use crate::end::end_job;
 use crate::prepare::prepare;
-use crate::stop::Stop;
+use crate::stop::EarlyStop;
 use command_line::{Request, request_of};
 use control_run::{Status, run_program};
 use generated_job::make_job;
@@ -95,7 +95,7 @@ fn run_made<P: Sink, U: Sink>(alloc: Global, size: u32, print: &mut P, punch: &m
 {
     match made_source(alloc, size) {
         Ok(mut job) => run_source(alloc, &mut job, print, punch),
-        Err(NoMemory) => end_job(print, Stop::Memory),
+        Err(NoMemory) => end_job(print, EarlyStop::Memory),
     }
 }
 
@@ -229,6 +229,6 @@ pub fn run_job<S: Source, P: Sink, U: Sink>(
 {
     match request_of(alloc, words) {
         Ok(request) => run_request(alloc, request, job, print, punch),
-        Err(stop) => end_job(print, Stop::from(stop)),
+        Err(stop) => end_job(print, EarlyStop::from(stop)),
     }
 }

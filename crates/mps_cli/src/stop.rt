@@ -12,7 +12,7 @@ use report_text::Ending;
 
 /// Why the program of a job isn't run.
 #[derive(Clone, Copy, Debug)]
-pub enum Stop {
+pub enum EarlyStop {
     /// The words of the command line are refused.
     Words,
     /// A read of the job failed.
@@ -25,44 +25,44 @@ pub enum Stop {
     Memory,
 }
 
-impl From<WordsStop> for Stop {
+impl From<WordsStop> for EarlyStop {
     ghost use Rattle.mps_cli.specs.Stops.{stop_of_words};
 
     ghost from_gives = { λ stop given. given ≡ stop_of_words stop };
 
-    fn from(stop: WordsStop) -> Stop {
+    fn from(stop: WordsStop) -> EarlyStop {
         match stop {
-            WordsStop::Refused => Stop::Words,
-            WordsStop::NoMemory => Stop::Memory,
+            WordsStop::Refused => EarlyStop::Words,
+            WordsStop::NoMemory => EarlyStop::Memory,
         }
     }
 }
 
-impl From<ReadStop> for Stop {
+impl From<ReadStop> for EarlyStop {
     ghost use Rattle.mps_cli.specs.Stops.{stop_of_reading};
 
     ghost from_gives = { λ stop given. given ≡ stop_of_reading stop };
 
-    fn from(stop: ReadStop) -> Stop {
+    fn from(stop: ReadStop) -> EarlyStop {
         match stop {
-            ReadStop::ReadFault => Stop::ReadFault,
-            ReadStop::TooLong => Stop::Card(CardFault::TooLong),
-            ReadStop::CardTooLong(card) => Stop::Card(CardFault::CardTooLong(card)),
-            ReadStop::NotPrintable(card) => Stop::Card(CardFault::NotPrintable(card)),
-            ReadStop::NoMemory => Stop::Memory,
+            ReadStop::ReadFault => EarlyStop::ReadFault,
+            ReadStop::TooLong => EarlyStop::Card(CardFault::TooLong),
+            ReadStop::CardTooLong(card) => EarlyStop::Card(CardFault::CardTooLong(card)),
+            ReadStop::NotPrintable(card) => EarlyStop::Card(CardFault::NotPrintable(card)),
+            ReadStop::NoMemory => EarlyStop::Memory,
         }
     }
 }
 
-impl From<CompileStop> for Stop {
+impl From<CompileStop> for EarlyStop {
     ghost use Rattle.mps_cli.specs.Stops.{stop_of_compiling};
 
     ghost from_gives = { λ stop given. given ≡ stop_of_compiling stop };
 
-    fn from(stop: CompileStop) -> Stop {
+    fn from(stop: CompileStop) -> EarlyStop {
         match stop {
-            CompileStop::Fault(fault) => Stop::Control(fault),
-            CompileStop::NoMemory => Stop::Memory,
+            CompileStop::Fault(fault) => EarlyStop::Control(fault),
+            CompileStop::NoMemory => EarlyStop::Memory,
         }
     }
 }
@@ -88,7 +88,7 @@ fn card_ending(fault: CardFault) -> Ending<'static>
     }
 }
 
-impl Stop {
+impl EarlyStop {
     ghost use Rattle.mps_cli.specs.Stops.{stop_shown, status_at};
 
     /// What is printed of it.
@@ -97,14 +97,14 @@ impl Stop {
         ensures lawful { IsEnding result }
     {
         match self {
-            Stop::Words => Ending::Words,
-            Stop::ReadFault => Ending::ReadFault,
-            Stop::Card(fault) => card_ending(fault),
-            Stop::Control(fault) => Ending::Control {
+            EarlyStop::Words => Ending::Words,
+            EarlyStop::ReadFault => Ending::ReadFault,
+            EarlyStop::Card(fault) => card_ending(fault),
+            EarlyStop::Control(fault) => Ending::Control {
                 fault: fault.number,
                 card: fault.card,
             },
-            Stop::Memory => Ending::Memory,
+            EarlyStop::Memory => Ending::Memory,
         }
     }
 
@@ -113,11 +113,11 @@ impl Stop {
         ensures { result ≡ status_at self }
     {
         match self {
-            Stop::Words => Status::Words,
-            Stop::ReadFault => Status::ReadFault,
-            Stop::Card(_) => Status::Card,
-            Stop::Control(_) => Status::Control,
-            Stop::Memory => Status::Memory,
+            EarlyStop::Words => Status::Words,
+            EarlyStop::ReadFault => Status::ReadFault,
+            EarlyStop::Card(_) => Status::Card,
+            EarlyStop::Control(_) => Status::Control,
+            EarlyStop::Memory => Status::Memory,
         }
     }
 }

@@ -7,7 +7,7 @@ ghost use Rattle.deck_definitions.specs.Sections.{may_follow, is_section, is_sec
 ghost use Rattle.deck_definitions.specs.declared.Section.TheVariants.{Header, Endata};
 ghost use Rattle.deck_definitions.specs.Tests.{columns_fault};
 ghost use Rattle.deck_definitions.specs.Conversion.{section_card_fault};
-ghost use Rattle.deck_parts.specs.Told.{Tells};
+ghost use Rattle.deck_parts.specs.Told.{TellsDeckFault};
 ghost use Rattle.deck_parts.specs.Shown.{columns_alone};
 ghost use Rattle.deck_cards.specs.Shown.{shown};
 
@@ -51,7 +51,7 @@ fn next_section(before: Option<Section>, card: &[u8]) -> Result<Section, CardSto
     ensures section { IfOk result (λ section. named section_words (section_word card.now) ≡
         Some section) }
     ensures no_fault { OnOk result (section_card_fault may_follow before card.now ≡ None) }
-    ensures stop { IfErr result (Tells (section_card_fault may_follow before card.now)) }
+    ensures stop { IfErr result (TellsDeckFault (section_card_fault may_follow before card.now)) }
 {
     let next = section_named(first_word(card));
     let Some(before) = before else {
@@ -102,7 +102,7 @@ fn take_column(
         (shown card.now) ≡ None) }
     ensures step { OnOk result (columns.new ≡ in_set card.now.name1
         (λ items. items ++ entries_of (shown card.now)) columns.old) }
-    ensures stop { IfErr result (Tells (columns_fault (columns_alone rows.now columns.old)
+    ensures stop { IfErr result (TellsDeckFault (columns_fault (columns_alone rows.now columns.old)
         (shown card.now))) }
 {
     let _ = columns.len();
@@ -142,7 +142,7 @@ impl DeckDraft {
     ghost use Rattle.deck_definitions.specs.Conversion.{section_fault, data_card_fault};
     ghost use Rattle.deck_definitions.proofs.Steps.{with_card};
     ghost use Rattle.mps_convert.specs.State.{with_data, state_of};
-    ghost use Rattle.deck_parts.specs.Told.{Tells};
+    ghost use Rattle.deck_parts.specs.Told.{TellsDeckFault};
     ghost use Rattle.deck_cards.specs.Shown.{shown};
     ghost use Rattle.mps_convert.specs.Draft_shown.{problem_shown, problem_named};
     ghost use Rattle.problem_definitions.specs.Numbering.{numbered};
@@ -206,7 +206,7 @@ impl DeckDraft {
         ensures same_section { OnOk result (self.new.section ≡ self.old.section) }
         ensures step { OnOk result (problem_shown self.new ≡ with_card section (shown card.now)
             (problem_shown self.old)) }
-        ensures stop { IfErr result (Tells (section_fault (problem_shown self.old) section
+        ensures stop { IfErr result (TellsDeckFault (section_fault (problem_shown self.old) section
             (shown card.now))) }
     {
         match section {
@@ -245,7 +245,8 @@ impl DeckDraft {
         ensures same_section { OnOk result (self.new.section ≡ self.old.section) }
         ensures step { OnOk result (problem_shown self.new ≡ with_data self.old.section
             (reading_of Fixed (card_bytes card.entry)) (problem_shown self.old)) }
-        ensures stop { IfErr result (Tells (data_card_fault (problem_shown self.old) FixedFields
+        ensures stop { IfErr result
+            (TellsDeckFault (data_card_fault (problem_shown self.old) FixedFields
             self.old.section (card_bytes card.entry))) }
     {
         let Some(section) = self.section else {

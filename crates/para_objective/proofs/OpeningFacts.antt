@@ -13,7 +13,7 @@ use Rattle.lp_model.specs.declared.reports.Outcome.TheVariants.{Optimal, Crossed
 use Rattle.lp_model.specs.declared.reports.ParaReport.TheVariants.{Opening, Run}
 use Rattle.lp_model.specs.declared.reports.ParaRun.{ParaRun}
 use Rattle.path_definitions.specs.Counts.{last_count, counted_steps}
-use Rattle.path_definitions.specs.Path.{Ending, EndsOptimal, EndsCrossed, EndsInfeasible, EndsUnbounded, EndsAt, last_of}
+use Rattle.path_definitions.specs.Path.{PathEnding, EndsOptimal, EndsCrossed, EndsInfeasible, EndsUnbounded, EndsAt, last_of}
 use Rattle.path_laws.specs.Laws.{IsNonsingularBasis}
 use Rattle.path_laws.proofs.Ends.{optimal_end}
 use Rattle.path_laws.proofs.OnePath.{one_path, path_leads}
@@ -138,7 +138,7 @@ IsFailed (Crossed k) = Unit {0}
 IsFailed (Infeasible steps ray) = Unit {0}
 IsFailed (Unbounded steps point direction) = Unit {0}
 
-failure_by : (steps : ℕ) (ending : Ending) (outcome : Outcome) → outcome ≡ outcome_of steps ending → IsFailed outcome → IsFailure ending
+failure_by : (steps : ℕ) (ending : PathEnding) (outcome : Outcome) → outcome ≡ outcome_of steps ending → IsFailed outcome → IsFailure ending
 failure_by steps (EndsOptimal z y) outcome e failed = subst IsFailed e failed
 failure_by steps (EndsCrossed k) outcome e failed = tt
 failure_by steps (EndsInfeasible w) outcome e failed = tt
@@ -178,14 +178,14 @@ module _ (p : LinearProgram) (run : ParaObj) (lawful : IsLinearProgram p) (row :
 
   -- an optimal one is that of a basis that is optimal at the first value
   module _ (small : run.limit ≤ last_count) (steps : ℕ) (point prices : List ℚ) (is : outcome ≡ Optimal steps point prices) where
-    record IsOptimalEnd (ending : Ending) : Type 0 where
+    record IsOptimalEnd (ending : PathEnding) : Type 0 where
       z : List ℚ
       y : List ℚ
       is_ending : ending ≡ EndsOptimal z y
       is_told : counted_steps (length ends.bases) ≡ steps
       is_point : z ≡ point
 
-    optimal_by : (ending : Ending) → Optimal steps point prices ≡ outcome_of (counted_steps (length ends.bases)) ending → IsOptimalEnd ending
+    optimal_by : (ending : PathEnding) → Optimal steps point prices ≡ outcome_of (counted_steps (length ends.bases)) ending → IsOptimalEnd ending
     optimal_by (EndsOptimal z y) e = record { z = z; y = y; is_ending = refl; is_told = cc; is_point = cc }
     optimal_by (EndsCrossed k) e = cc
     optimal_by (EndsInfeasible w) e = cc

@@ -21,7 +21,7 @@ use lp_model::{Basis, Direction, Lp, NoMemory, ParaEnd, Rates, Stop};
 use std::alloc::Global;
 
 /// What is done at a basis: nothing is left, the run ends, or `q` moves by `by`, and its direction is at hand.
-pub enum Turn {
+pub enum FaceStep {
     Done,
     Ends(ParaEnd),
     Moves { q: u32, by: Stopper },
@@ -137,7 +137,7 @@ pub fn face_turn<R: Rates>(
     run: &ParaObj,
     theta: Frac,
     steps: u32,
-) -> Result<Turn, PrimalStop>
+) -> Result<FaceStep, PrimalStop>
     requires rates { HasRates (R.matrix rates.old) (R.basics rates.old) lp.now basis.now }
     requires lawful { IsLinearProgram lp.now }
     requires no_change { lp.now.change ≡ None }
@@ -160,14 +160,14 @@ pub fn face_turn<R: Rates>(
         (R.waypoints rates.old) (R.waypoints rates.new) }
 {
     let Some(q) = face_mover(lp, basis, prices, change, run.row, theta) else {
-        return Ok(Turn::Done);
+        return Ok(FaceStep::Done);
     };
     let up = rises(lp, change, q);
     match stopper_of(lp, basis, rates, point, direction, q, up)? {
-        None => Ok(Turn::Ends(endless(alloc, lp, point, direction, up, theta)?)),
+        None => Ok(FaceStep::Ends(endless(alloc, lp, point, direction, up, theta)?)),
         Some(by) => {
             if steps < run.limit {
-                Ok(Turn::Moves { q, by })
+                Ok(FaceStep::Moves { q, by })
             } else {
                 Err(PrimalStop::Limit)
             }
@@ -217,9 +217,9 @@ pub fn faces<R: Rates>(
         match face_turn(
             alloc, lp, basis, rates, point, prices, change, direction, run, theta, steps,
         )? {
-            Turn::Done => return Ok(AfterFaces::Done { steps }),
-            Turn::Ends(end) => return Ok(AfterFaces::Ends(end)),
-            Turn::Moves { q, by } => take_step(lp, basis, rates, point, direction, q, &by)?,
+            FaceStep::Done => return Ok(AfterFaces::Done { steps }),
+            FaceStep::Ends(end) => return Ok(AfterFaces::Ends(end)),
+            FaceStep::Moves { q, by } => take_step(lp, basis, rates, point, direction, q, &by)?,
         }
         steps += 1;
         fill_rows(lp, basis, rates, prices, change, run.row)?;

@@ -24,8 +24,8 @@ use Rattle.run_calls.specs.Calls.{end_of, WaypointsFollowRun, RunOverflows, RunS
 use Rattle.run_calls.specs.Walks.{HasRun, FaceStops}
 use Rattle.para_rhs.specs.declared.faces.AfterFaces.{AfterFaces}
 use Rattle.para_rhs.specs.declared.faces.AfterFaces.TheVariants as faces
-use Rattle.para_rhs.specs.declared.faces.Turn.{Turn}
-use Rattle.para_rhs.specs.declared.faces.Turn.TheVariants as turn
+use Rattle.para_rhs.specs.declared.faces.FaceStep.{FaceStep}
+use Rattle.para_rhs.specs.declared.faces.FaceStep.TheVariants as turn
 use Rattle.para_rhs.specs.declared.parts.ParaRhs.{ParaRhs}
 
 -- the end past theta has these multipliers
@@ -56,7 +56,7 @@ module _ (p : LinearProgram) (run : ParaRhs) where
     pub step : IsStepBy p s z d q by
     pub was_left : steps < run.limit
 
-  abbrev pub FaceFound : Result Turn PrimalStop → ℚ → List Status → ℕ → Vector → Vector → List Basics → List Basics → Type 0
+  abbrev pub FaceFound : Result FaceStep PrimalStop → ℚ → List Status → ℕ → Vector → Vector → List Basics → List Basics → Type 0
   FaceFound (Ok turn.Done) theta s steps z d ways now = Face theta s FaceDone
   FaceFound (Ok (turn.Ends end)) theta s steps z d ways now = Face theta s (FaceEnds (end_of end))
   FaceFound (Ok (turn.Moves q by)) theta s steps z d ways now = FaceMovesOn theta s z d q by steps

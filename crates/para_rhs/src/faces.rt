@@ -22,7 +22,7 @@ use lp_model::{Basis, Lp, NoMemory, ParaEnd, Rates, Stop};
 use std::alloc::Global;
 
 /// What is done at a basis: nothing is left, the run ends, or `q` moves by `by`, and its direction is at hand.
-pub enum Turn {
+pub enum FaceStep {
     Done,
     Ends(ParaEnd),
     Moves { q: u32, by: Stopper },
@@ -112,7 +112,7 @@ pub fn face_turn<R: Rates>(
     run: &ParaRhs,
     theta: Frac,
     steps: u32,
-) -> Result<Turn, PrimalStop>
+) -> Result<FaceStep, PrimalStop>
     requires rates { HasRates (R.matrix rates.old) (R.basics rates.old) lp.now basis.now }
     requires lawful { IsLinearProgram lp.now }
     requires no_change { lp.now.change ≡ None }
@@ -138,7 +138,7 @@ pub fn face_turn<R: Rates>(
         Err(evidence) => return Err(PrimalStop::Overflow(evidence)),
     };
     let Some(leaver) = found else {
-        return Ok(Turn::Done);
+        return Ok(FaceStep::Done);
     };
     let below = is_lower(leaver.side);
     read_row(lp, basis, rates, leaver.r, row)?;
@@ -147,7 +147,7 @@ pub fn face_turn<R: Rates>(
         Err(evidence) => return Err(PrimalStop::Overflow(evidence)),
     };
     let Some(q) = chosen else {
-        return Ok(Turn::Ends(stuck(alloc, lp, row, leaver.r, below, theta)?));
+        return Ok(FaceStep::Ends(stuck(alloc, lp, row, leaver.r, below, theta)?));
     };
     if run.limit <= steps {
         return Err(PrimalStop::Limit);
@@ -162,7 +162,7 @@ pub fn face_turn<R: Rates>(
         leaver.r,
         limit_broken(below),
     )?;
-    Ok(Turn::Moves { q, by })
+    Ok(FaceStep::Moves { q, by })
 }
 
 /// Makes the face steps at a break until none is left or the run ends. The basis, the rates, the point at 0, the slope and the prices
@@ -207,9 +207,9 @@ pub fn faces<R: Rates>(
         match face_turn(
             alloc, lp, basis, rates, value, slope, prices, row, direction, run, theta, steps,
         )? {
-            Turn::Done => return Ok(AfterFaces::Done { steps }),
-            Turn::Ends(end) => return Ok(AfterFaces::Ends(end)),
-            Turn::Moves { q, by } => take_step(lp, basis, rates, value, direction, q, &by)?,
+            FaceStep::Done => return Ok(AfterFaces::Done { steps }),
+            FaceStep::Ends(end) => return Ok(AfterFaces::Ends(end)),
+            FaceStep::Moves { q, by } => take_step(lp, basis, rates, value, direction, q, &by)?,
         }
         steps += 1;
         fill_motion(alloc, lp, basis, rates, slope, prices, &run.shift)?;

@@ -7,7 +7,7 @@ use Rattle.divisors.specs.Gcd.{gcd}
 use Rattle.lp_definitions.specs.Basis.{opening_statuses}
 use Rattle.lp_definitions.specs.declared.Status.{Status}
 use Rattle.lp_definitions.specs.declared.Status.TheVariants.{Bs, Ll, Ul, Fr}
-use Rattle.path_definitions.specs.Path.{Ending, EndsOptimal, EndsCrossed, EndsInfeasible, EndsUnbounded, turn}
+use Rattle.path_definitions.specs.Path.{PathEnding, EndsOptimal, EndsCrossed, EndsInfeasible, EndsUnbounded, turn}
 use Rattle.path_definitions.proofs.Programs.{testprob, beale, bare, crossing, torn, endless, band, two, two_with, one_with, greatest, transport, freed, sinking, capped}
 use Rattle.path_definitions.proofs.Solve.{solved, table_for, shown, parts, Optimal, Crossed, Infeasible, Unbounded}
 
@@ -87,11 +87,11 @@ unfolding solved table_for turn fraction whole ◌+ℚ◌ ◌*ℚ◌ neg_ℚ inv
 capped-path = refl
 
 -- two ways of four, in four steps
-abbrev objective_reached : Option (ℕ × Ending × List Status) → Option (ℕ × List (ℤ × ℕ))
+abbrev objective_reached : Option (ℕ × PathEnding × List Status) → Option (ℕ × List (ℤ × ℕ))
 objective_reached None = None
 objective_reached (Some found) = Some (found.0, point_of found.1)
   where
-    point_of : Ending → List (ℤ × ℕ)
+    point_of : PathEnding → List (ℤ × ℕ)
     point_of (EndsOptimal z y) = parts z
     point_of (EndsCrossed k) = []
     point_of (EndsInfeasible w) = []

@@ -14,7 +14,7 @@ use Rattle.lp_definitions.specs.Basis.{Basics, exchanged, is_in, status_of, is_b
 use Rattle.lp_definitions.specs.declared.Status.{Status}
 use Rattle.lp_definitions.specs.declared.Status.TheVariants.{Bs, Ll, Ul, Fr}
 use Rattle.path_definitions.specs.Moves.{is_outside, is_fixed}
-use Rattle.path_definitions.specs.Path.{Ending, EndsOptimal, EndsCrossed, EndsInfeasible, EndsUnbounded, Turn, Moves, Ends, turn, after}
+use Rattle.path_definitions.specs.Path.{PathEnding, EndsOptimal, EndsCrossed, EndsInfeasible, EndsUnbounded, Turn, Moves, Ends, turn, after}
 
 abbrev pub Table : Type 0
 Table = List (List ℚ)
@@ -90,7 +90,7 @@ table_after p t (Some r) (Some q) = tabulated (size p.matrix) (next_rate t r q)
 table_after p t _ None = t
 table_after p t None (Some q) = t
 
-abbrev pub ended_at : ℕ → ℕ → LinearProgram → List Status → Table → Turn → Option (ℕ × Ending × List Status)
+abbrev pub ended_at : ℕ → ℕ → LinearProgram → List Status → Table → Turn → Option (ℕ × PathEnding × List Status)
 ended_at turns steps p s t (Ends ending) = Some (steps, ending, s)
 ended_at zero steps p s t (Moves m) = None
 ended_at (suc turns) steps p s t (Moves m) =
@@ -98,7 +98,7 @@ ended_at (suc turns) steps p s t (Moves m) =
     let u = table_after p t (parted p s next) (joined p s next) in
     ended_at turns (suc steps) p next u (turn p next (tableau_of p next u))
 
-unfoldable pub solved : LinearProgram → List Status → Option (ℕ × Ending × List Status)
+unfoldable pub solved : LinearProgram → List Status → Option (ℕ × PathEnding × List Status)
 solved p s = let t = table_for p s in ended_at 20 0 p s t (turn p s (tableau_of p s t))
 
 abbrev is_right : Status → ℚ → Bool
@@ -126,12 +126,12 @@ pub data Shown : Type 0 where
   Infeasible : List (ℤ × ℕ) → Shown
   Unbounded : List (ℤ × ℕ) → List (ℤ × ℕ) → Shown
 
-abbrev pub ending_shown : Ending → Shown
+abbrev pub ending_shown : PathEnding → Shown
 ending_shown (EndsOptimal z y) = Optimal (parts z) (parts y)
 ending_shown (EndsCrossed k) = Crossed k
 ending_shown (EndsInfeasible w) = Infeasible (parts w)
 ending_shown (EndsUnbounded z d) = Unbounded (parts z) (parts d)
 
-abbrev pub shown : Option (ℕ × Ending × List Status) → Option (ℕ × Shown × List Status)
+abbrev pub shown : Option (ℕ × PathEnding × List Status) → Option (ℕ × Shown × List Status)
 shown None = None
 shown (Some found) = Some (found.0, ending_shown found.1, found.2)

@@ -1,6 +1,6 @@
 -- The path of the bounded simplex method with the least-index rule.
 --     Move, after s m              a variable goes in and one comes to a limit; the statuses after that
---     Ending, Turn                 how a path ends; what is done at a basis: a move, or an end
+--     PathEnding, Turn                 how a path ends; what is done at a basis: a move, or an end
 --     turn p s t                   what is done at the basis s with the point and the rates t
 --     IsStep p s next              the path goes from s to next
 --     EndsAt p s ending            the path ends at s
@@ -26,15 +26,15 @@ abbrev pub after : List Status → Move → List Status
 after s m = with_status (with_status s m.enters Bs) m.leaves m.to
 
 -- a point with its prices, a crossed variable, a ray, or a point with a direction
-pub data Ending : Type 0 where
-  EndsOptimal : List ℚ → List ℚ → Ending
-  EndsCrossed : ℕ → Ending
-  EndsInfeasible : List ℚ → Ending
-  EndsUnbounded : List ℚ → List ℚ → Ending
+pub data PathEnding : Type 0 where
+  EndsOptimal : List ℚ → List ℚ → PathEnding
+  EndsCrossed : ℕ → PathEnding
+  EndsInfeasible : List ℚ → PathEnding
+  EndsUnbounded : List ℚ → List ℚ → PathEnding
 
 pub data Turn : Type 0 where
   Moves : Move → Turn
-  Ends : Ending → Turn
+  Ends : PathEnding → Turn
 
 -- a vector as the list of its values
 abbrev pub listed : Matrix → Vector → List ℚ
@@ -109,7 +109,7 @@ pub record IsStep (p : LinearProgram) (s next : List Status) : Type 0 where
   pub turns : turn p s tableau ≡ Moves move
   pub is_next : next ≡ after s move
 
-pub record EndsAt (p : LinearProgram) (s : List Status) (ending : Ending) : Type 0 where
+pub record EndsAt (p : LinearProgram) (s : List Status) (ending : PathEnding) : Type 0 where
   pub tableau : Tableau
   pub is_tableau : IsTableau p s tableau
   pub turns : turn p s tableau ≡ Ends ending
@@ -122,7 +122,7 @@ abbrev pub last_of : List Status → List (List Status) → List Status
 last_of s [] = s
 last_of s (next ∷ bases) = last_of next bases
 
-pub record PathEnds (p : LinearProgram) (s : List Status) (bases : List (List Status)) (ending : Ending) : Type 0 where
+pub record PathEnds (p : LinearProgram) (s : List Status) (bases : List (List Status)) (ending : PathEnding) : Type 0 where
   pub is_path : IsPath p s bases
   pub ends : EndsAt p (last_of s bases) ending
 

@@ -9,7 +9,7 @@ use Rattle.lp_laws.specs.Points.{standing}
 use Rattle.lp_laws.proofs.Opening.{AreRates-opening}
 use Rattle.lp_laws.proofs.Points.{IsPointOf-combination}
 use Rattle.lp_laws.proofs.Statuses.{basics_of-opening}
-use Rattle.path_definitions.specs.Path.{Turn, Moves, Ends, Ending, turn, after, IsStep, EndsAt, GoesOnFor}
+use Rattle.path_definitions.specs.Path.{Turn, Moves, Ends, PathEnding, turn, after, IsStep, EndsAt, GoesOnFor}
 use Rattle.path_laws.specs.Laws.{IsNonsingularBasis, HasTableau, EndsWithin}
 use Rattle.path_laws.proofs.Steps.{step_leads_to, opening_is}
 
@@ -27,7 +27,7 @@ pub step_has : (p : LinearProgram) (s next : List Status) → IsNonsingularBasis
 step_has p s next at step = let led = step_leads_to p s next at step in tableau_from p next led.at led.rate led.are_rates
 
 -- a basis with a tableau has a step or an end
-goes : (p : LinearProgram) (s : List Status) (t : Tableau) → IsTableau p s t → (u : Turn) → turn p s t ≡ u → ((next : List Status) × IsStep p s next) ⊎ ((ending : Ending) × EndsAt p s ending)
+goes : (p : LinearProgram) (s : List Status) (t : Tableau) → IsTableau p s t → (u : Turn) → turn p s t ≡ u → ((next : List Status) × IsStep p s next) ⊎ ((ending : PathEnding) × EndsAt p s ending)
 goes p s t tab (Moves m) e = inl (after s m, record { tableau = t; is_tableau = tab; move = m; turns = e; is_next = refl })
 goes p s t tab (Ends ending) e = inr (ending, record { tableau = t; is_tableau = tab; turns = e })
 
@@ -35,7 +35,7 @@ goes p s t tab (Ends ending) e = inr (ending, record { tableau = t; is_tableau =
 pub ends_or_goes_on : (p : LinearProgram) (steps : ℕ) (s : List Status) → IsNonsingularBasis p s → HasTableau p s → EndsWithin p s steps ⊎ GoesOnFor p s steps
 ends_or_goes_on p zero s at has = by_turn (goes p s has.tableau has.is_tableau (turn p s has.tableau) refl)
   where
-    by_turn : (((next : List Status) × IsStep p s next) ⊎ ((ending : Ending) × EndsAt p s ending)) → EndsWithin p s 0 ⊎ GoesOnFor p s 0
+    by_turn : (((next : List Status) × IsStep p s next) ⊎ ((ending : PathEnding) × EndsAt p s ending)) → EndsWithin p s 0 ⊎ GoesOnFor p s 0
     by_turn (inl (next, step)) = inr (record { bases = []; is_path = tt; taken = refl; next = next; is_step = step })
     by_turn (inr (ending, ends)) = inl (record { bases = []; ending = ending; ends = record { is_path = tt; ends = ends }; within = omega arith })
 ends_or_goes_on p (suc steps) s at has = by_turn (goes p s has.tableau has.is_tableau (turn p s has.tableau) refl) (λ next step. ends_or_goes_on p steps next (step_leads_to p s next at step).at (step_has p s next at step))
@@ -44,6 +44,6 @@ ends_or_goes_on p (suc steps) s at has = by_turn (goes p s has.tableau has.is_ta
     after_step next step (inl done) = inl (record { bases = next ∷ done.bases; ending = done.ending; ends = record { is_path = (step, done.ends.is_path); ends = done.ends.ends }; within = omega (arith, done.within) })
     after_step next step (inr on) = inr (record { bases = next ∷ on.bases; is_path = (step, on.is_path); taken = ap suc on.taken; next = on.next; is_step = on.is_step })
 
-    by_turn : (((next : List Status) × IsStep p s next) ⊎ ((ending : Ending) × EndsAt p s ending)) → ((next : List Status) → IsStep p s next → EndsWithin p next steps ⊎ GoesOnFor p next steps) → EndsWithin p s (suc steps) ⊎ GoesOnFor p s (suc steps)
+    by_turn : (((next : List Status) × IsStep p s next) ⊎ ((ending : PathEnding) × EndsAt p s ending)) → ((next : List Status) → IsStep p s next → EndsWithin p next steps ⊎ GoesOnFor p next steps) → EndsWithin p s (suc steps) ⊎ GoesOnFor p s (suc steps)
     by_turn (inl (next, step)) rest = after_step next step (rest next step)
     by_turn (inr (ending, ends)) rest = inl (record { bases = []; ending = ending; ends = record { is_path = tt; ends = ends }; within = omega arith })

@@ -4,7 +4,7 @@ use Rattle.lp_definitions.specs.LinearProgram.{LinearProgram, IsLinearProgram}
 use Rattle.lp_definitions.specs.Basis.{basics_of, Tableau, IsTableau}
 use Rattle.lp_definitions.specs.declared.Status.{Status}
 use Rattle.lp_laws.proofs.Uniqueness.{one_point, one_table}
-use Rattle.path_definitions.specs.Path.{Ending, turn, after, IsStep, EndsAt, IsPath, last_of, PathEnds, GoesOnFor}
+use Rattle.path_definitions.specs.Path.{PathEnding, turn, after, IsStep, EndsAt, IsPath, last_of, PathEnds, GoesOnFor}
 use Rattle.path_laws.specs.Laws.{IsNonsingularBasis, SameEnds, EndsWithin}
 use Rattle.path_laws.proofs.OneTurn.{SameTableau, turn_same}
 use Rattle.path_laws.proofs.Steps.{step_leads}
@@ -31,16 +31,16 @@ module _ (p : LinearProgram) (lawful : IsLinearProgram p) where
       let moves : first.move ≡ second.move = cc in
       first.is_next ∙ ap (after s) moves ∙ sym second.is_next
 
-  pub one_end : (s : List Status) (ending other : Ending) → IsNonsingularBasis p s → EndsAt p s ending → EndsAt p s other → ending ≡ other
+  pub one_end : (s : List Status) (ending other : PathEnding) → IsNonsingularBasis p s → EndsAt p s ending → EndsAt p s other → ending ≡ other
   one_end s ending other at first second =
       let turns = sym first.turns ∙ one_turn s at first.tableau second.tableau first.is_tableau second.is_tableau ∙ second.turns in cc
 
-  pub step_or_end : (s next : List Status) (ending : Ending) → IsNonsingularBasis p s → IsStep p s next → EndsAt p s ending → ⊥
+  pub step_or_end : (s next : List Status) (ending : PathEnding) → IsNonsingularBasis p s → IsStep p s next → EndsAt p s ending → ⊥
   step_or_end s next ending at first second =
       let turns = sym first.turns ∙ one_turn s at first.tableau second.tableau first.is_tableau second.is_tableau ∙ second.turns in cc
 
   -- a path that has ended goes over the same bases as any other that has, and ends alike
-  pub one_path : (s : List Status) (bases others : List (List Status)) (ending other : Ending) → IsNonsingularBasis p s → PathEnds p s bases ending → PathEnds p s others other → SameEnds bases others ending other
+  pub one_path : (s : List Status) (bases others : List (List Status)) (ending other : PathEnding) → IsNonsingularBasis p s → PathEnds p s bases ending → PathEnds p s others other → SameEnds bases others ending other
   one_path s [] [] ending other at first second = record { same_bases = refl; same_ending = one_end s ending other at first.ends second.ends }
   one_path s [] (next ∷ others) ending other at first second = absurd (step_or_end s next ending at second.is_path.0 first.ends)
   one_path s (next ∷ bases) [] ending other at first second = absurd (step_or_end s next other at first.is_path.0 second.ends)
@@ -51,7 +51,7 @@ module _ (p : LinearProgram) (lawful : IsLinearProgram p) where
       record { same_bases = ap₂ (λ x xs. x ∷ xs) same rest.same_bases; same_ending = rest.same_ending }
 
   -- a path that has ended within so many steps doesn't go on after them
-  goes_on_from : (s : List Status) (bases further : List (List Status)) (ending : Ending) (next : List Status) → IsNonsingularBasis p s → PathEnds p s bases ending → length bases ≤ length further → IsPath p s further → IsStep p (last_of s further) next → ⊥
+  goes_on_from : (s : List Status) (bases further : List (List Status)) (ending : PathEnding) (next : List Status) → IsNonsingularBasis p s → PathEnds p s bases ending → length bases ≤ length further → IsPath p s further → IsStep p (last_of s further) next → ⊥
   goes_on_from s [] [] ending next at ended within path step = step_or_end s next ending at step ended.ends
   goes_on_from s [] (x ∷ further) ending next at ended within path step = step_or_end s x ending at path.0 ended.ends
   goes_on_from s (x ∷ bases) [] ending next at ended within path step = absurd (omega arith)

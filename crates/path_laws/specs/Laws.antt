@@ -11,7 +11,7 @@ use Rattle.lp_definitions.specs.Solutions.{IsFeasible, IsBest, AreProvingPrices,
 use Rattle.lp_definitions.specs.Basis.{basics_of, IsBasis, IsNonsingular, IsOptimalBasis, IsPointOf, ArePricesOf, Tableau, IsTableau, opening_statuses}
 use Rattle.lp_definitions.specs.declared.Status.{Status}
 use Rattle.path_definitions.specs.Moves.{least, is_no_later, room, stopper}
-use Rattle.path_definitions.specs.Path.{Ending, EndsOptimal, EndsCrossed, EndsInfeasible, EndsUnbounded, IsStep, EndsAt, IsPath, last_of, PathEnds, GoesOnFor}
+use Rattle.path_definitions.specs.Path.{PathEnding, EndsOptimal, EndsCrossed, EndsInfeasible, EndsUnbounded, IsStep, EndsAt, IsPath, last_of, PathEnds, GoesOnFor}
 
 pub record IsNonsingularBasis (p : LinearProgram) (s : List Status) : Type 0 where
   pub is_basis : IsBasis p s
@@ -39,12 +39,12 @@ pub record HasTableau (p : LinearProgram) (s : List Status) : Type 0 where
 -- the path from s ends after at most so many steps
 pub record EndsWithin (p : LinearProgram) (s : List Status) (steps : ℕ) : Type 0 where
   pub bases : List (List Status)
-  pub ending : Ending
+  pub ending : PathEnding
   pub ends : PathEnds p s bases ending
   pub within : length bases ≤ steps
 
 -- the two paths go over the same bases and end alike
-pub record SameEnds (bases others : List (List Status)) (ending other : Ending) : Type 0 where
+pub record SameEnds (bases others : List (List Status)) (ending other : PathEnding) : Type 0 where
   pub same_bases : bases ≡ others
   pub same_ending : ending ≡ other
 
@@ -53,9 +53,9 @@ pub record StepLaws : Type 0 where
   pub step : (p : LinearProgram) (s next : List Status) → IsNonsingularBasis p s → IsStep p s next → IsNonsingularBasis p next
   pub path : (p : LinearProgram) (s : List Status) (bases : List (List Status)) → IsNonsingularBasis p s → IsPath p s bases → IsNonsingularBasis p (last_of s bases)
   pub one_step : (p : LinearProgram) (s next other : List Status) → IsLinearProgram p → IsNonsingularBasis p s → IsStep p s next → IsStep p s other → next ≡ other
-  pub one_end : (p : LinearProgram) (s : List Status) (ending other : Ending) → IsLinearProgram p → IsNonsingularBasis p s → EndsAt p s ending → EndsAt p s other → ending ≡ other
-  pub step_or_end : (p : LinearProgram) (s next : List Status) (ending : Ending) → IsLinearProgram p → IsNonsingularBasis p s → IsStep p s next → EndsAt p s ending → ⊥
-  pub one_path : (p : LinearProgram) (s : List Status) (bases others : List (List Status)) (ending other : Ending) → IsLinearProgram p → IsNonsingularBasis p s →
+  pub one_end : (p : LinearProgram) (s : List Status) (ending other : PathEnding) → IsLinearProgram p → IsNonsingularBasis p s → EndsAt p s ending → EndsAt p s other → ending ≡ other
+  pub step_or_end : (p : LinearProgram) (s next : List Status) (ending : PathEnding) → IsLinearProgram p → IsNonsingularBasis p s → IsStep p s next → EndsAt p s ending → ⊥
+  pub one_path : (p : LinearProgram) (s : List Status) (bases others : List (List Status)) (ending other : PathEnding) → IsLinearProgram p → IsNonsingularBasis p s →
       PathEnds p s bases ending → PathEnds p s others other → SameEnds bases others ending other
   pub opening_has : (p : LinearProgram) → HasTableau p (opening_statuses p)
   pub step_has : (p : LinearProgram) (s next : List Status) → IsNonsingularBasis p s → IsStep p s next → HasTableau p next

@@ -13,7 +13,7 @@ use Rattle.exact_values.specs.Rational.{ℚ, ◌+ℚ◌, ◌*ℚ◌, ◌≤ℚ�
 use Rattle.lp_definitions.specs.LinearProgram.{LinearProgram, Vector, value_at, size}
 use Rattle.lp_definitions.specs.Basis.{IsOptimalBasis, IsPointOf, ArePricesOf}
 use Rattle.lp_definitions.specs.declared.Status.{Status}
-use Rattle.path_definitions.specs.Path.{Move, after, Ending, EndsOptimal, EndsCrossed, EndsInfeasible, EndsUnbounded, IsStep, EndsAt, PathEnds, last_of}
+use Rattle.path_definitions.specs.Path.{Move, after, PathEnding, EndsOptimal, EndsCrossed, EndsInfeasible, EndsUnbounded, IsStep, EndsAt, PathEnds, last_of}
 
 -- an interval with its basis: at a parameter theta of it a variable's activity is value + theta * value_rate, and its price is
 -- price + theta * price_rate
@@ -34,7 +34,7 @@ pub data ChainEnd : Type 0 where
 
 -- an opening path that does not end optimal, or the intervals with their end
 pub data RunReport : Type 0 where
-  FailedOpening : Ending → RunReport
+  FailedOpening : PathEnding → RunReport
   Chain : List Part → ChainEnd → RunReport
 
 pub data FaceTurn : Type 0 where
@@ -46,7 +46,7 @@ pub data FaceTurn : Type 0 where
 abbrev pub along : ℚ → List ℚ → List ℚ → Vector
 along theta value rate k = value_at value k +ℚ theta *ℚ value_at rate k
 
-abbrev pub IsFailure : Ending → Type 0
+abbrev pub IsFailure : PathEnding → Type 0
 IsFailure (EndsOptimal z y) = ⊥
 IsFailure (EndsCrossed k) = Unit {0}
 IsFailure (EndsInfeasible w) = Unit {0}
@@ -110,7 +110,7 @@ module _ (family : ℚ → LinearProgram) (Face : ℚ → List Status → FaceTu
     pub chain : IsChain max from (last_of s opening) parts end faces
     pub whole : path ≡ opening ++ faces
 
-  pub record IsFailedOpening (from : ℚ) (s : List Status) (ending : Ending) (path : List (List Status)) : Type 0 where
+  pub record IsFailedOpening (from : ℚ) (s : List Status) (ending : PathEnding) (path : List (List Status)) : Type 0 where
     pub opens : PathEnds (family from) s path ending
     pub is_failure : IsFailure ending
 

@@ -37,7 +37,8 @@ pub fn ranges_of<R: Rates>(
         sheet.entry.problem.now)) }
     ensures overflow { IfErr result (λ stop. IfOverflow stop (RangesRefused sheet.entry.lp.now
         (R.waypoints rates.old) basis.now (R.waypoints rates.new))) }
-    ensures rates { KeepsRates (R.matrix rates.new) (R.basics rates.new) sheet.entry.lp.now basis.now
+    ensures rates { KeepsRates (R.matrix rates.new) (R.basics rates.new)
+        sheet.entry.lp.now basis.now
         (R.waypoints rates.old) (R.waypoints rates.new) }
 {
     let lp = sheet.lp;

@@ -82,7 +82,8 @@ pub fn solution_of<R: Rates>(
     ensures overflow { IfErr result (λ stop. IfOverflow stop
         (SolutionRefused sheet.entry.lp.now (R.waypoints rates.old) basis.now
         (R.waypoints rates.new))) }
-    ensures rates { KeepsRates (R.matrix rates.new) (R.basics rates.new) sheet.entry.lp.now basis.now
+    ensures rates { KeepsRates (R.matrix rates.new) (R.basics rates.new)
+        sheet.entry.lp.now basis.now
         (R.waypoints rates.old) (R.waypoints rates.new) }
 {
     let lp = sheet.lp;

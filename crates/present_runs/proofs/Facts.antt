@@ -14,7 +14,7 @@ use Rattle.lp_model.specs.declared.Stop.TheVariants as call_stop
 use Rattle.lp_model.specs.declared.reports.Outcome.{Outcome}
 use Rattle.lp_model.specs.declared.reports.ParaReport.{ParaReport}
 use Rattle.lp_model.specs.declared.reports.ParaReport.TheVariants as reports
-use Rattle.path_definitions.specs.Path.{Ending, EndsOptimal, EndsCrossed, EndsInfeasible, EndsUnbounded, last_of}
+use Rattle.path_definitions.specs.Path.{PathEnding, EndsOptimal, EndsCrossed, EndsInfeasible, EndsUnbounded, last_of}
 use Rattle.path_definitions.specs.Counts.{counted_steps}
 use Rattle.postoptimal_definitions.specs.Chain.{FaceTurn, InOpening, Reaches, begins, break_of}
 use Rattle.postoptimal_definitions.specs.ObjectiveRun.{objective_family, IsObjectiveFace}
@@ -56,14 +56,14 @@ last_is [] s = refl
 last_is (first ∷ earlier) s = last_append first earlier (s ∷ [])
 
 -- the check of an outcome is that of its ending
-ending_checked : (p : LinearProgram) (steps : ℕ) (ending : Ending) (check : Check) → IsCheckedSo p (outcome_of steps ending) (found check) → check_of p ending ≡ found check
+ending_checked : (p : LinearProgram) (steps : ℕ) (ending : PathEnding) (check : Check) → IsCheckedSo p (outcome_of steps ending) (found check) → check_of p ending ≡ found check
 ending_checked p steps (EndsOptimal z y) check h = sym h
 ending_checked p steps (EndsCrossed k) check h = sym h
 ending_checked p steps (EndsInfeasible w) check h = sym h
 ending_checked p steps (EndsUnbounded z d) check h = sym h
 
 -- the verdict of an outcome is that of its ending, in the linear program at the first value
-verdict_is : (sheet : Sheet) (changing : Changing) (from : ℚ) (steps : ℕ) (ending : Ending) →
+verdict_is : (sheet : Sheet) (changing : Changing) (from : ℚ) (steps : ℕ) (ending : PathEnding) →
     verdict_shown sheet (outcome_of (counted_steps steps) ending) ≡ verdict_of (sheet_at (sheet_shown sheet) changing from) steps ending
 verdict_is sheet (Row name) from steps (EndsOptimal z y) = refl
 verdict_is sheet (Row name) from steps (EndsCrossed k) = refl
@@ -84,7 +84,7 @@ module _ (sheet : Sheet) (sweep : Sweep) (s now : Basis) (before after : List Ba
   abbrev statement : SolvingStatement
   statement = sweep_statement (sheet_shown sheet) sweep.changing sweep.from
 
-  is_verdict : (steps : ℕ) (ending : Ending) (outcome : Outcome) (check : Check) → outcome ≡ outcome_of (counted_steps steps) ending → IsCheckedSo (programs sweep.from) outcome (found check) →
+  is_verdict : (steps : ℕ) (ending : PathEnding) (outcome : Outcome) (check : Check) → outcome ≡ outcome_of (counted_steps steps) ending → IsCheckedSo (programs sweep.from) outcome (found check) →
       IsVerdict (sheet_at (sheet_shown sheet) sweep.changing sweep.from) steps ending (verdict_shown sheet outcome) check
   is_verdict steps ending outcome check e h = record {
     is_verdict = ap (verdict_shown sheet) e ∙ verdict_is sheet sweep.changing sweep.from steps ending;

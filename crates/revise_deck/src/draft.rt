@@ -36,7 +36,7 @@ impl ReviseDraft {
     ghost use Rattle.deck_definitions.specs.DataCards.{FixedFields};
     ghost use Rattle.deck_definitions.specs.Conversion.{form_fault, section_card_fault};
     ghost use Rattle.revise_definitions.specs.Revision.{may_come_after};
-    ghost use Rattle.deck_parts.specs.Told.{Tells};
+    ghost use Rattle.deck_parts.specs.Told.{TellsDeckFault};
     ghost use Rattle.deck_cards.specs.Shown.{shown};
     ghost use Rattle.revise_definitions.specs.Actions.{is_action_card, action_on, anchor_on};
     ghost use Rattle.revise_definitions.specs.Tests.{action_fault};
@@ -94,7 +94,8 @@ impl ReviseDraft {
           problem = edited_by section
               action self.old.under (shown card.now) self.old.problem;
         }) }
-        ensures stop { IfErr result (Tells (edit_test self.old.problem section action self.old.under
+        ensures stop { IfErr result
+            (TellsDeckFault (edit_test self.old.problem section action self.old.under
             (shown card.now))) }
     {
         if let Some(kind) = edit_fault_of(&self.problem, section, action, &self.under, card) {
@@ -121,7 +122,7 @@ impl ReviseDraft {
           problem = problem_with (state_shown self.old) (reading_of Fixed
               (card_bytes card.entry));
         }) }
-        ensures stop { IfErr result (Tells (data_fault (state_shown self.old) section
+        ensures stop { IfErr result (TellsDeckFault (data_fault (state_shown self.old) section
             (card_bytes card.entry))) }
     {
         let Some(action) = self.action else {
@@ -143,7 +144,7 @@ impl ReviseDraft {
           under = under_of
               (anchor_on FixedFields (card_bytes card.entry)) [];
         }) }
-        ensures stop { IfErr result (Tells
+        ensures stop { IfErr result (TellsDeckFault
             (action_fault self.old.problem section (action_on FixedFields (card_bytes card.entry))
             (anchor_on FixedFields (card_bytes card.entry)))) }
     {
@@ -164,7 +165,7 @@ impl ReviseDraft {
             (card_bytes card.entry) ≡ None) }
         ensures step { OnOk result (state_shown self.new ≡ inner_with (state_shown self.old)
             (card_bytes card.entry)) }
-        ensures stop { IfErr result (Tells (standing_fault (state_shown self.old) section
+        ensures stop { IfErr result (TellsDeckFault (standing_fault (state_shown self.old) section
             (card_bytes card.entry))) }
     {
         if is_action(card.bytes()) {
@@ -179,7 +180,7 @@ impl ReviseDraft {
             (card_bytes card.entry) ≡ None) }
         ensures step { OnOk result (state_shown self.new ≡ inner_with (state_shown self.old)
             (card_bytes card.entry)) }
-        ensures stop { IfErr result (Tells (inner_fault (state_shown self.old)
+        ensures stop { IfErr result (TellsDeckFault (inner_fault (state_shown self.old)
             (card_bytes card.entry))) }
     {
         let Some(section) = self.section else {
@@ -201,7 +202,8 @@ impl ReviseDraft {
           action = None;
           under = under_of [] [];
         }) }
-        ensures stop { IfErr result (Tells (section_card_fault may_come_after self.old.section
+        ensures stop { IfErr result
+            (TellsDeckFault (section_card_fault may_come_after self.old.section
             (card_bytes card.entry))) }
     {
         let section = next_section(self.section, card.bytes())?;

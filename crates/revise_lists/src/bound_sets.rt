@@ -150,7 +150,8 @@ impl BoundSets {
     {
         self.sets.retain(
             |_name: &Name, bounds: &mut Bounds| -> bool
-                ensures { (result ≡ true) × (bounds.new ≡ without_column column.entry.now bounds.old) }
+                ensures { (result ≡ true) ×
+                    (bounds.new ≡ without_column column.entry.now bounds.old) }
             {
                 bounds.remove(column);
                 true

@@ -21,7 +21,7 @@ use Rattle.lp_model.specs.declared.reports.ParaPart.{ParaPart}
 use Rattle.lp_model.specs.declared.reports.ParaReport.{ParaReport}
 use Rattle.lp_model.specs.declared.reports.ParaReport.TheVariants.{Opening, Run}
 use Rattle.path_definitions.specs.Counts.{counted_steps}
-use Rattle.path_definitions.specs.Path.{Ending, last_of}
+use Rattle.path_definitions.specs.Path.{PathEnding, last_of}
 use Rattle.postoptimal_definitions.specs.Chain.{Part, ChainEnd, AtMax, UnboundedPast, InfeasiblePast, FaceTurn, IsRun, IsFailedOpening, Place, break_of, basis_of, Reaches, RunGoesOnFor}
 use Rattle.evidence_definitions.specs.Statements.{SolvingStatement}
 use Rattle.evidence_definitions.specs.Evidence.{EvidenceHolds}
@@ -49,7 +49,7 @@ end_of (ends.Infeasible past ray) = InfeasiblePast past ray
 module _ (family : ℚ → LinearProgram) (Face : ℚ → List Status → FaceTurn → Type 0) (from max : ℚ) (s : List Status) where
   -- the opening path ends otherwise than optimal, and the outcome tells its end and the count of its steps
   pub record IsOpeningReported (outcome : Outcome) (bases : List (List Status)) : Type 0 where
-    pub ending : Ending
+    pub ending : PathEnding
     pub opens : IsFailedOpening family Face from s ending bases
     pub is_outcome : outcome ≡ outcome_of (counted_steps (length bases)) ending
 

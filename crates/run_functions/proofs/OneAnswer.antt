@@ -5,7 +5,7 @@ use Rattle.exact_values.specs.Rational.{ℚ, zero_ℚ, ◌-ℚ◌}
 use Rattle.lp_definitions.specs.LinearProgram.{IsVariable, IsLinearProgram, value_at, cost, lower_of, upper_of}
 use Rattle.lp_definitions.specs.Basis.{is_in, basics_of, Tableau, IsTableau, objective_rate, price_at}
 use Rattle.lp_laws.proofs.Uniqueness.{one_point, one_table}
-use Rattle.path_definitions.specs.Path.{Ending}
+use Rattle.path_definitions.specs.Path.{PathEnding}
 use Rattle.path_laws.specs.Laws.{IsNonsingularBasis}
 use Rattle.path_laws.proofs.Numbered.{map_same}
 use Rattle.path_laws.proofs.Endless.{objective_value-same}
@@ -27,7 +27,7 @@ check_same (Unchecked refused) (Unchecked other) e = cc
 
 module _ (sheet : Sheet) where
   -- the same end after the same bases has the same verdict and the same check
-  reached_same : (bases others : List Basis) (ending other : Ending) (v w : Verdict) (c d : Check) → bases ≡ others → ending ≡ other →
+  reached_same : (bases others : List Basis) (ending other : PathEnding) (v w : Verdict) (c d : Check) → bases ≡ others → ending ≡ other →
       IsVerdict sheet (length bases) ending v c → IsVerdict sheet (length others) other w d → Reached bases v c ≡ Reached others w d
   reached_same bases others ending other v w c d same alike first second =
       let verdicts : v ≡ w = first.is_verdict ∙ ap₂ (λ xs e. verdict_of sheet (length xs) e) same alike ∙ sym second.is_verdict in

@@ -7,7 +7,7 @@ use Rattle.lp_definitions.specs.Basis.{basics_of, Tableau, IsTableau, IsOptimalB
 use Rattle.lp_laws.proofs.Uniqueness.{one_point, one_table}
 use Rattle.lp_laws.proofs.Optimal.{prices_prove_optimal, best_by_basis}
 use Rattle.lp_laws.proofs.Duality.{infeasible_by_proof, unbounded_by_direction}
-use Rattle.path_definitions.specs.Path.{Ending, Ends, EndsOptimal, EndsCrossed, EndsInfeasible, EndsUnbounded, EndsAt, PathEnds, turn, last_of}
+use Rattle.path_definitions.specs.Path.{PathEnding, Ends, EndsOptimal, EndsCrossed, EndsInfeasible, EndsUnbounded, EndsAt, PathEnds, turn, last_of}
 use Rattle.path_laws.specs.Laws.{IsNonsingularBasis}
 use Rattle.path_laws.proofs.Turns.{IsOptimalTurn, rule_of, optimal_turn}
 use Rattle.path_laws.proofs.Ends.{feasible, rates_right, optimal_end}
@@ -61,7 +61,7 @@ HasNoChange p = (z : Vector) → z p.objective ≡ objective_value p z
 
 -- what the verdict of an end says is true
 module _ (sheet : Sheet) (s : Basis) (steps : ℕ) (lawful : IsLinearProgram sheet.lp) (plain : HasNoChange sheet.lp) (at : IsNonsingularBasis sheet.lp s) where
-  end_is_true : (ending : Ending) → EndsAt sheet.lp s ending → IsTrueOf sheet (verdict_of sheet steps ending)
+  end_is_true : (ending : PathEnding) → EndsAt sheet.lp s ending → IsTrueOf sheet (verdict_of sheet steps ending)
   end_is_true (EndsOptimal z y) ends = record { point = z; best = (optimal_end sheet.lp s z y lawful at ends).best; is_objective = plain (value_at z) }
   end_is_true (EndsCrossed k) ends = let crossed = crossed_end sheet.lp s k ends in (crossed, infeasible_by_proof sheet.lp (by_crossed k crossed))
   end_is_true (EndsInfeasible w) ends =
@@ -72,7 +72,7 @@ module _ (sheet : Sheet) (s : Basis) (steps : ℕ) (lawful : IsLinearProgram she
       (record { point = z; direction = d; proves = proves; is_objective = plain (value_at z); are_lines = refl }, unbounded_by_direction sheet.lp _ _ proves)
 
 -- and so is the verdict of a path
-pub path_is_true : (sheet : Sheet) (s : Basis) (bases : List Basis) (ending : Ending) (steps : ℕ) (verdict : Verdict) → IsLinearProgram sheet.lp → HasNoChange sheet.lp → IsNonsingularBasis sheet.lp s →
+pub path_is_true : (sheet : Sheet) (s : Basis) (bases : List Basis) (ending : PathEnding) (steps : ℕ) (verdict : Verdict) → IsLinearProgram sheet.lp → HasNoChange sheet.lp → IsNonsingularBasis sheet.lp s →
     PathEnds sheet.lp s bases ending → verdict ≡ verdict_of sheet steps ending → IsTrueOf sheet verdict
 path_is_true sheet s bases ending steps verdict lawful plain at path is =
     subst (IsTrueOf sheet) (sym is) (end_is_true sheet (last_of s bases) steps lawful plain (path_leads sheet.lp s bases at path.is_path) ending path.ends)

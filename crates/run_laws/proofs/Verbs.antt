@@ -17,7 +17,7 @@ use Rattle.control_definitions.specs.declared.NumberCell.TheVariants.{Xparam, Xp
 use Rattle.control_definitions.specs.declared.Demand.{Demand}
 use Rattle.control_definitions.specs.declared.Demand.TheVariants.{Xdonfs, Xdounb}
 use Rattle.control_definitions.specs.Program.{SetupOptions, Verb, Initialz, Title, MoveName, MoveNumber, MoveLimit, Mvadr, Goto, Convert, Setup, Primal, Revise, Ranging, Paraobj, Pararhs, Solution as SolutionVerb, Bcdout, Exit}
-use Rattle.path_definitions.specs.Path.{Ending, EndsOptimal, EndsCrossed, EndsInfeasible, EndsUnbounded, EndsAt, last_of}
+use Rattle.path_definitions.specs.Path.{PathEnding, EndsOptimal, EndsCrossed, EndsInfeasible, EndsUnbounded, EndsAt, last_of}
 use Rattle.selection_definitions.specs.Selection.{selected}
 use Rattle.listing_definitions.specs.declared.Mark.{Mark}
 use Rattle.listing_definitions.specs.declared.Mark.TheVariants.{Optimal, Infeasible, Unbounded}
@@ -54,7 +54,7 @@ last_of-append s [] second = refl
 last_of-append s (next ∷ first) second = last_of-append next first second
 
 -- a path that leaves the mark OPTIMAL has ended optimal at the basis that it reached
-marks : (present : Present) (lp : LinearProgram) (objective rhs : Option Name) (bases : List Basis) (verdict : Verdict) (steps : ℕ) (ending : Ending) →
+marks : (present : Present) (lp : LinearProgram) (objective rhs : Option Name) (bases : List Basis) (verdict : Verdict) (steps : ℕ) (ending : PathEnding) →
     selected present.problem (record { objective = objective; rhs = rhs; options = present.options }) ≡ Ok lp → EndsAt lp (last_of (present_basis present) bases) ending →
     verdict ≡ verdict_of (record { problem = present.problem; lp = lp }) steps ending → KnowsMark (Some (mark_of verdict)) (Some (gone_through bases present)) objective rhs
 marks present lp objective rhs bases verdict steps (EndsOptimal z y) is ends gives marked = record {

@@ -4,7 +4,7 @@ use Rattle.exact_values.specs.Rational.{ℚ, zero_ℚ}
 use Rattle.exact_values.specs.Tests.{lt_ℚ, magnitude}
 use Rattle.frac128.specs.declared.Op.{Op}
 use Rattle.frac128.specs.declared.Op.TheVariants.{Add, Sub}
-use Rattle.frac128.specs.Operations.{value_of}
+use Rattle.frac128.specs.Operations.{result_of}
 use Rattle.problem_definitions.specs.declared.RowKind.{RowKind}
 use Rattle.problem_definitions.specs.declared.RowKind.TheVariants.{N, G, L, E}
 use Rattle.problem_definitions.specs.declared.BoundKind.{BoundKind}
@@ -35,8 +35,8 @@ range_operation E range = Some (if lt_ℚ range zero_ℚ then Sub else Add)
 
 -- the second limit is the right-hand side with the range's magnitude added or subtracted
 abbrev pub with_range : Op → ℚ → ℚ → Limits
-with_range Add rhs size = record { lower = Some rhs; upper = Some (value_of Add rhs size) }
-with_range Sub rhs size = record { lower = Some (value_of Sub rhs size); upper = Some rhs }
+with_range Add rhs size = record { lower = Some rhs; upper = Some (result_of Add rhs size) }
+with_range Sub rhs size = record { lower = Some (result_of Sub rhs size); upper = Some rhs }
 with_range _ rhs size = no_limits
 
 -- an N row has no limits, a G row a lower one, an L row an upper one and an E row both

@@ -4,7 +4,7 @@ use Rattle.exact_values.specs.Rational.{ℚ, ◌<ℚ◌}
 use Rattle.exact_values.proofs.Order.{lt_irrefl}
 use Rattle.lp_definitions.specs.LinearProgram.{LinearProgram}
 use Rattle.lp_definitions.specs.declared.Status.{Status}
-use Rattle.path_definitions.specs.Path.{last_of, Ending, EndsOptimal, IsStep, EndsAt, PathEnds}
+use Rattle.path_definitions.specs.Path.{last_of, PathEnding, EndsOptimal, IsStep, EndsAt, PathEnds}
 use Rattle.path_laws.specs.Laws.{IsNonsingularBasis}
 use Rattle.path_laws.proofs.OnePath.{one_step, one_end, step_or_end}
 use Rattle.postoptimal_definitions.specs.Chain.{Part, ChainEnd, RunReport, FailedOpening, Chain, FaceTurn, FaceMoves, FaceDone, FaceEnds, IsFailure, ReachesTo, IsFaceStep, IsFacePath, IsChain, at_max, past_break, goes_on, IsReport, Place, InOpening, AtBreak, basis_of, Reaches, begins, path_step, first_break, face_step, next_break, GoesOn, RunGoesOnFor}
@@ -40,12 +40,12 @@ module _ (p : LinearProgram) (family : ℚ → LinearProgram) (Face : ℚ → Li
 
   -- ---- the opening path
 
-  record StepsOn (from : ℚ) (next : List Status) (opening : List (List Status)) (ending : Ending) : Type 0 where
+  record StepsOn (from : ℚ) (next : List Status) (opening : List (List Status)) (ending : PathEnding) : Type 0 where
     rest : List (List Status)
     is_next : opening ≡ next ∷ rest
     ends : PathEnds (family from) next rest ending
 
-  opening_steps : (from : ℚ) (now next : List Status) (opening : List (List Status)) (ending : Ending) → IsNonsingularBasis p now → PathEnds (family from) now opening ending →
+  opening_steps : (from : ℚ) (now next : List Status) (opening : List (List Status)) (ending : PathEnding) → IsNonsingularBasis p now → PathEnds (family from) now opening ending →
       IsStep (family from) now next → StepsOn from next opening ending
   opening_steps from now next [] ending at path step =
       absurd (step_or_end (family from) (one.lawful from) now next ending (one.keeps.to_family from now at) step path.ends)
@@ -53,11 +53,11 @@ module _ (p : LinearProgram) (family : ℚ → LinearProgram) (Face : ℚ → Li
       let same : x ≡ next = one_step (family from) (one.lawful from) now x next (one.keeps.to_family from now at) path.is_path.0 step in
       record { rest = opening; is_next = ap (λ s. s ∷ opening) same; ends = subst (λ s. PathEnds (family from) s opening ending) same (record { is_path = path.is_path.1; ends = path.ends }) }
 
-  record HasEnded (opening : List (List Status)) (ending other : Ending) : Type 0 where
+  record HasEnded (opening : List (List Status)) (ending other : PathEnding) : Type 0 where
     no_step : opening ≡ []
     same_ending : ending ≡ other
 
-  opening_ended : (from : ℚ) (now : List Status) (opening : List (List Status)) (ending other : Ending) → IsNonsingularBasis p now → PathEnds (family from) now opening ending →
+  opening_ended : (from : ℚ) (now : List Status) (opening : List (List Status)) (ending other : PathEnding) → IsNonsingularBasis p now → PathEnds (family from) now opening ending →
       EndsAt (family from) now other → HasEnded opening ending other
   opening_ended from now [] ending other at path ended =
       record { no_step = refl; same_ending = one_end (family from) (one.lawful from) now ending other (one.keeps.to_family from now at) path.ends ended }

@@ -9,7 +9,7 @@ use Rattle.lp_definitions.specs.LinearProgram.{LinearProgram, Vector, value_at, 
 use Rattle.lp_definitions.specs.Basis.{is_in, basics_of, ArePricesOf, objective_rate}
 use Rattle.lp_definitions.specs.declared.Status.{Status}
 use Rattle.lp_laws.proofs.Uniqueness.{one_point, one_table}
-use Rattle.path_definitions.specs.Path.{after, last_of, Ending, EndsOptimal, PathEnds}
+use Rattle.path_definitions.specs.Path.{after, last_of, PathEnding, EndsOptimal, PathEnds}
 use Rattle.path_laws.specs.Laws.{IsNonsingularBasis, SameEnds}
 use Rattle.path_laws.proofs.Endless.{objective_value-same}
 use Rattle.path_laws.proofs.OnePath.{one_path}
@@ -194,11 +194,11 @@ module _ (p : LinearProgram) (family : ℚ → LinearProgram) (Face : ℚ → Li
 
   -- ---- reports
 
-  one_opening : (from : ℚ) (s : List Status) (bases others : List (List Status)) (ending other : Ending) → IsNonsingularBasis p s →
+  one_opening : (from : ℚ) (s : List Status) (bases others : List (List Status)) (ending other : PathEnding) → IsNonsingularBasis p s →
       PathEnds (family from) s bases ending → PathEnds (family from) s others other → SameEnds bases others ending other
   one_opening from s bases others ending other at = one_path (family from) (one.lawful from) s bases others ending other (one.keeps.to_family from s at)
 
-  fails_or_runs : (from max : ℚ) (s : List Status) (ending : Ending) (parts : List Part) (end : ChainEnd) (path further : List (List Status)) → IsNonsingularBasis p s →
+  fails_or_runs : (from max : ℚ) (s : List Status) (ending : PathEnding) (parts : List Part) (end : ChainEnd) (path further : List (List Status)) → IsNonsingularBasis p s →
       IsFailedOpening family Face from s ending path → IsRun family Face from max s parts end further → ⊥
   fails_or_runs from max s ending parts end path further at failed run =
       subst IsFailure (one_opening from s path run.opening ending (EndsOptimal run.point run.prices) at failed.opens run.opens).same_ending failed.is_failure

@@ -3,7 +3,7 @@ use Rattle.std.proofs.Common.{◌≡◌, ℕ, List, [], ◌∷◌, ◌++◌, ref
 use Rattle.exact_values.specs.Rational.{ℚ}
 use Rattle.lp_definitions.specs.LinearProgram.{LinearProgram}
 use Rattle.lp_definitions.specs.declared.Status.{Status}
-use Rattle.path_definitions.specs.Path.{Move, after, last_of, Ending, EndsOptimal, PathEnds}
+use Rattle.path_definitions.specs.Path.{Move, after, last_of, PathEnding, EndsOptimal, PathEnds}
 use Rattle.path_laws.specs.Laws.{IsNonsingularBasis}
 use Rattle.path_laws.proofs.Steps.{step_leads}
 use Rattle.path_laws.proofs.OnePath.{path_leads}
@@ -52,7 +52,7 @@ module _ (p : LinearProgram) (family : ℚ → LinearProgram) (Face : ℚ → Li
       subst (IsNonsingularBasis p) (sym (last_of-append s bases later))
       (chain_leads max part.to (last_of s bases) parts end later (face_path_leads part.to s bases at faces.face_path) chain)
 
-  pub opening_leads : (from : ℚ) (s : List Status) (bases : List (List Status)) (ending : Ending) → IsNonsingularBasis p s → PathEnds (family from) s bases ending → IsNonsingularBasis p (last_of s bases)
+  pub opening_leads : (from : ℚ) (s : List Status) (bases : List (List Status)) (ending : PathEnding) → IsNonsingularBasis p s → PathEnds (family from) s bases ending → IsNonsingularBasis p (last_of s bases)
   opening_leads from s bases ending at ends = keeps.from_family from (last_of s bases) (path_leads (family from) s bases (keeps.to_family from s at) ends.is_path)
 
   run_leads : (from max : ℚ) (s : List Status) (parts : List Part) (end : ChainEnd) (path : List (List Status)) → IsNonsingularBasis p s →

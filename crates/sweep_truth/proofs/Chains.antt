@@ -8,7 +8,7 @@ use Rattle.lp_definitions.specs.LinearProgram.{LinearProgram, IsLinearProgram}
 use Rattle.lp_definitions.specs.Basis.{IsOptimalBasis}
 use Rattle.lp_definitions.specs.declared.Status.{Status}
 use Rattle.lp_laws.proofs.Duality.{infeasible_by_crossed, infeasible_by_ray, unbounded_by_direction}
-use Rattle.path_definitions.specs.Path.{Move, after, last_of, Ending, EndsOptimal, EndsCrossed, EndsInfeasible, EndsUnbounded, PathEnds}
+use Rattle.path_definitions.specs.Path.{Move, after, last_of, PathEnding, EndsOptimal, EndsCrossed, EndsInfeasible, EndsUnbounded, PathEnds}
 use Rattle.path_laws.specs.Laws.{IsNonsingularBasis}
 use Rattle.path_laws.proofs.Endless.{crossed_end, unbounded_end}
 use Rattle.path_laws.proofs.Rays.{infeasible_end}
@@ -37,7 +37,7 @@ covered_more from theta part parts begins after (inr past) rest =
     record { part = there.part; among = (suc there.among.0, omega (arith, there.among.1), there.among.2); after = there.after; before = there.before }
 
 -- a failed opening
-failure_true : (p : LinearProgram) (s : List Status) (ending : Ending) (path : List (List Status)) → IsLinearProgram p → IsNonsingularBasis p (last_of s path) →
+failure_true : (p : LinearProgram) (s : List Status) (ending : PathEnding) (path : List (List Status)) → IsLinearProgram p → IsNonsingularBasis p (last_of s path) →
     PathEnds p s path ending → IsFailure ending → IsTrueFailure p ending
 failure_true p s (EndsOptimal z y) path lawful at ends failure = failure
 failure_true p s (EndsCrossed k) path lawful at ends failure = let crossed = crossed_end p (last_of s path) k ends.ends in (crossed, infeasible_by_crossed p k crossed)

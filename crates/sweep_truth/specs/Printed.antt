@@ -3,7 +3,7 @@
 --     IsTrueChain                  the intervals and the end are those of a run that is true
 --     IsTrueSweep sheet sweep end  the one or the other; a run that has met its limit claims nothing
 use Rattle.std.specs.Prelude.{◌≡◌, List, map, length}
-use Rattle.path_definitions.specs.Path.{Ending}
+use Rattle.path_definitions.specs.Path.{PathEnding}
 use Rattle.postoptimal_definitions.specs.Chain.{Part, ChainEnd as PastBreak}
 use Rattle.listing_definitions.specs.Report.{Verdict, Check, Interval, ChainEnd}
 use Rattle.question_definitions.specs.Answers.{Basis, Sheet, Sweep, SweepEnd, Opening, Chained, SweepLimit}
@@ -16,7 +16,7 @@ module _ (sheet : Sheet) (sweep : Sweep) where
   first_sheet = sheet_at sheet sweep.changing sweep.from
 
   pub record IsTrueOpening (bases : List Basis) (verdict : Verdict) (check : Check) : Type 0 where
-    pub ending : Ending
+    pub ending : PathEnding
     pub is_true : IsTrueFailure (family_of sheet sweep.changing sweep.from) ending
     pub is_verdict : IsVerdict first_sheet (length bases) ending verdict check
 

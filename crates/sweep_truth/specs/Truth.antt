@@ -12,7 +12,7 @@ use Rattle.std.specs.Prelude.{◌≡◌, List, [], ◌∷◌, All, Contains}
 use Rattle.exact_values.specs.Rational.{ℚ, ◌≤ℚ◌, ◌<ℚ◌}
 use Rattle.lp_definitions.specs.LinearProgram.{LinearProgram, Vector, value_at}
 use Rattle.lp_definitions.specs.Solutions.{IsBest, AreProvingPrices, IsCrossed, IsRay, ProvesUnbounded, IsInfeasible, IsUnbounded}
-use Rattle.path_definitions.specs.Path.{Ending, EndsOptimal, EndsCrossed, EndsInfeasible, EndsUnbounded}
+use Rattle.path_definitions.specs.Path.{PathEnding, EndsOptimal, EndsCrossed, EndsInfeasible, EndsUnbounded}
 use Rattle.postoptimal_definitions.specs.Chain.{Part, ChainEnd, AtMax, UnboundedPast, InfeasiblePast, RunReport, FailedOpening, Chain, along}
 
 -- the point is feasible, no feasible point betters it, and the prices prove that
@@ -84,7 +84,7 @@ pub record IsTrueRun (family : ℚ → LinearProgram) (from max : ℚ) (parts : 
   pub closes : IsTrueEnd family max (last_end from parts) end
 
 -- a failed opening tells the verdict on the program of the first value
-abbrev pub IsTrueFailure : LinearProgram → Ending → Type 0
+abbrev pub IsTrueFailure : LinearProgram → PathEnding → Type 0
 IsTrueFailure p (EndsOptimal z y) = ⊥
 IsTrueFailure p (EndsCrossed k) = IsCrossed p k × IsInfeasible p
 IsTrueFailure p (EndsInfeasible w) = IsRefutedBy p (value_at w)

@@ -3,7 +3,7 @@ use Rattle.std.proofs.lemmas.Result.{on_ok_weaker}
 use Rattle.indexmap.specs.IndexMap.{insert_entry}
 use Rattle.problem_definitions.specs.Names.{same}
 use Rattle.deck_definitions.specs.DataCards.{bound_of}
-use Rattle.deck_parts.specs.Told.{Tells}
+use Rattle.deck_parts.specs.Told.{TellsDeckFault}
 use Rattle.deck_parts.specs.Shown.{group_at, bound_rest_fault}
 use Rattle.deck_cards.specs.Shown.{shown}
 use Rattle.deck_parts.proofs.Grouped.{items_found, put_in_set}
@@ -27,5 +27,5 @@ returns-clause-step c =
 pub returns-clause-stop : goal.returns-clause-stop
 returns-clause-stop c =
     let taken = c.or_insert-items.ensures.value ∙ ap₂ unwrap_or c.in_ok-sets.ensures.value c.new.ensures in
-    subst (λ items. IfErr c.take_bound.result (Tells (bound_rest_fault items (shown c.args.card.now) c.args.kind)))
+    subst (λ items. IfErr c.take_bound.result (TellsDeckFault (bound_rest_fault items (shown c.args.card.now) c.args.kind)))
     (taken ∙ items_found c.args.card.now.name1 c.args.sets.now.entries c.in_ok-sets.ensures.unique) c.take_bound.ensures.stop

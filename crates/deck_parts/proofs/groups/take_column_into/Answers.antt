@@ -8,7 +8,7 @@ use Rattle.deck_definitions.specs.declared.DeckFaultKind.TheVariants.{ColumnSpli
 use Rattle.deck_definitions.specs.declared.Section.TheVariants.{Columns}
 use Rattle.deck_definitions.specs.DataCards.{entries_of, pairs_of}
 use Rattle.deck_definitions.specs.Tests.{pairs_fault}
-use Rattle.deck_parts.specs.Told.{Tells}
+use Rattle.deck_parts.specs.Told.{TellsDeckFault}
 use Rattle.deck_parts.specs.Shown.{rows_alone, group_at, column_fault}
 use Rattle.deck_cards.specs.Shown.{shown}
 use Rattle.deck_parts.proofs.Fronts.{place_within, place_tells, column_fine, column_refused}
@@ -52,6 +52,6 @@ returns-clause-stop c =
     let told = ap₂ (λ p n. first_fault ((nat_lt (p + 1) n ⟹ ColumnSplit) ∷ (nat_eq p n && nat_le MAX_COLUMNS n ⟹ TooManyColumns) ∷ [])) place c.len-before.ensures.len in
     let fine : column_fault (map group_at c.args.columns.now.entries) c.args.card.now.name1 None ≡ None = sym (place_tells c.args.card.now.name1 c.args.columns.now.entries) ∙ sym told ∙ sym c.in_default.ensures in
     let taken = c.or_insert-items.ensures.value ∙ ap₂ unwrap_or c.in_ok-entry.ensures.value c.new.ensures in
-    subst (λ fault. IfErr c.take_pairs.result (Tells fault)) (sym (column_fine (map group_at c.args.columns.now.entries) c.args.card.now.name1 _ fine))
-    (subst (λ items. IfErr c.take_pairs.result (Tells (pairs_fault (rows_alone c.args.rows.now) Columns items c.args.count (pairs_of (shown c.args.card.now)))))
+    subst (λ fault. IfErr c.take_pairs.result (TellsDeckFault fault)) (sym (column_fine (map group_at c.args.columns.now.entries) c.args.card.now.name1 _ fine))
+    (subst (λ items. IfErr c.take_pairs.result (TellsDeckFault (pairs_fault (rows_alone c.args.rows.now) Columns items c.args.count (pairs_of (shown c.args.card.now)))))
     (taken ∙ items_found c.args.card.now.name1 c.args.columns.now.entries c.in_ok-entry.ensures.unique) c.take_pairs.ensures.stop)

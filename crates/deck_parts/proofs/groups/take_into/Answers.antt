@@ -4,7 +4,7 @@ use Rattle.indexmap.specs.IndexMap.{insert_entry}
 use Rattle.problem_definitions.specs.Names.{same}
 use Rattle.deck_definitions.specs.DataCards.{entries_of, pairs_of}
 use Rattle.deck_definitions.specs.Tests.{pairs_fault}
-use Rattle.deck_parts.specs.Told.{Tells}
+use Rattle.deck_parts.specs.Told.{TellsDeckFault}
 use Rattle.deck_parts.specs.Shown.{rows_alone, group_at}
 use Rattle.deck_cards.specs.Shown.{shown}
 use Rattle.deck_parts.proofs.Grouped.{items_found, put_in_set}
@@ -28,5 +28,5 @@ returns-clause-step c =
 pub returns-clause-stop : goal.returns-clause-stop
 returns-clause-stop c =
     let taken = c.or_insert-items.ensures.value ∙ ap₂ unwrap_or c.in_ok-groups.ensures.value c.new.ensures in
-    subst (λ items. IfErr c.take_pairs.result (Tells (pairs_fault (rows_alone c.args.rows.now) c.args.section items c.args.count (pairs_of (shown c.args.card.now)))))
+    subst (λ items. IfErr c.take_pairs.result (TellsDeckFault (pairs_fault (rows_alone c.args.rows.now) c.args.section items c.args.count (pairs_of (shown c.args.card.now)))))
     (taken ∙ items_found c.args.card.now.name1 c.args.groups.now.entries c.in_ok-groups.ensures.unique) c.take_pairs.ensures.stop

@@ -1,7 +1,7 @@
 use Rattle.std.proofs.Common.{map, string_bytes, refl, ap, subst, ◌∙◌, Some, Err}
 use Rattle.command_line.specs.Requests.{asked}
 use Rattle.command_line.specs.declared.request.Request.{Request}
-use Rattle.mps_cli.specs.declared.stop.Stop.{Stop}
+use Rattle.mps_cli.specs.declared.stop.EarlyStop.{EarlyStop}
 use Rattle.mps_cli.specs.Endings.{EndsWith}
 use Rattle.stop_laws.proofs.Standing.{stands_after}
 use Rattle.answer_definitions.specs.Real.{linear_programming}
@@ -37,7 +37,7 @@ pub returns-in-Err-clause-headline : goal.returns-in-Err-clause-headline
 returns-in-Err-clause-headline g c =
     stopped_headline (asked (map string_bytes c.args.words.now)) (g.S.Source.left c.args.job.now) c.end_job.result g.P.Sink.written g.P.Sink.faults g.P.Sink.refusals _ _ (g.U.Sink.written c.args.punch.now)
     c.in-Err.stop (λ e. c.in-Err.ensures.refused (ap (λ s. Err s) e))
-    (subst (λ (stop : Stop). EndsWith g.P.Sink.written g.P.Sink.faults g.P.Sink.refusals c.args.print.now c.end_job.new.print stop c.end_job.result) c.from.ensures c.end_job.ensures)
+    (subst (λ (stop : EarlyStop). EndsWith g.P.Sink.written g.P.Sink.faults g.P.Sink.refusals c.args.print.now c.end_job.new.print stop c.end_job.result) c.from.ensures c.end_job.ensures)
 
 pub returns-in-Err-clause-complete : goal.returns-in-Err-clause-complete
 returns-in-Err-clause-complete g c job is = complete_answer (returns-in-Err-clause-headline g c job is)
@@ -52,4 +52,4 @@ pub returns-in-Err-clause-cause : goal.returns-in-Err-clause-cause
 returns-in-Err-clause-cause g c =
     ending_cause (asked (map string_bytes c.args.words.now)) _ _ _ g.P.Sink.written g.P.Sink.faults g.P.Sink.refusals _ c.end_job.result
     (why_words (asked (map string_bytes c.args.words.now)) _ _ c.in-Err.stop (λ e. c.in-Err.ensures.refused (ap (λ s. Err s) e)))
-    (subst (λ (stop : Stop). EndsWith g.P.Sink.written g.P.Sink.faults g.P.Sink.refusals c.args.print.now c.end_job.new.print stop c.end_job.result) c.from.ensures c.end_job.ensures)
+    (subst (λ (stop : EarlyStop). EndsWith g.P.Sink.written g.P.Sink.faults g.P.Sink.refusals c.args.print.now c.end_job.new.print stop c.end_job.result) c.from.ensures c.end_job.ensures)

@@ -6,14 +6,14 @@ use Rattle.lp_definitions.specs.Basis.{IsOptimalBasis}
 use Rattle.lp_definitions.specs.declared.Status.{Status}
 use Rattle.lp_model.specs.declared.reports.Outcome.{Outcome}
 use Rattle.lp_model.specs.declared.reports.Outcome.TheVariants.{Optimal}
-use Rattle.path_definitions.specs.Path.{Ending, EndsOptimal, EndsCrossed, EndsInfeasible, EndsUnbounded, EndsAt}
+use Rattle.path_definitions.specs.Path.{PathEnding, EndsOptimal, EndsCrossed, EndsInfeasible, EndsUnbounded, EndsAt}
 use Rattle.path_laws.specs.Laws.{IsNonsingularBasis}
 use Rattle.path_laws.proofs.Ends.{optimal_end}
 use Rattle.path_definitions.specs.Counts.{counted_steps}
 use Rattle.bounded_primal.specs.Calls.{CallEnds, outcome_of}
 use Rattle.ranging_tests.proofs.tests.ranged.Goals as goal
 
-optimal_ending : (p : LinearProgram) (now : List Status) (ending : Ending) (steps n : ℕ) (z y : List ℚ) → IsLinearProgram p → IsNonsingularBasis p now → EndsAt p now ending →
+optimal_ending : (p : LinearProgram) (now : List Status) (ending : PathEnding) (steps n : ℕ) (z y : List ℚ) → IsLinearProgram p → IsNonsingularBasis p now → EndsAt p now ending →
     outcome_of steps ending ≡ Optimal n z y → IsOptimalBasis p now
 optimal_ending p now (EndsOptimal z y) steps _ _ _ lawful at ends is = (optimal_end p now z y lawful at ends).optimal
 optimal_ending p now (EndsCrossed k) steps _ _ _ lawful at ends is = absurd (cc is)

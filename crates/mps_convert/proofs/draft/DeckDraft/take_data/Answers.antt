@@ -1,7 +1,7 @@
 use Rattle.std.proofs.Common.{◌≡◌, None, OnOk, IfErr, sym, subst}
 use Rattle.deck_definitions.specs.DataCards.{FixedFields}
 use Rattle.deck_definitions.specs.Conversion.{data_card_fault}
-use Rattle.deck_parts.specs.Told.{Tells}
+use Rattle.deck_parts.specs.Told.{TellsDeckFault}
 use Rattle.mps_convert.specs.Draft_shown.{problem_shown}
 use Rattle.deck_cards.specs.Shown.{shown}
 use Rattle.mps_convert.proofs.DataTaken.{fault_in_section}
@@ -16,7 +16,7 @@ returns-in-Ok-clause-no_fault c =
 
 pub returns-in-Ok-clause-stop : goal.returns-in-Ok-clause-stop
 returns-in-Ok-clause-stop c =
-    subst (λ section. IfErr c.take_in.result (Tells (data_card_fault (problem_shown c.args.self.now) FixedFields section c.args.card.bytes.now))) (sym c.in-Some.is)
-    (subst (λ fault. IfErr c.take_in.result (Tells fault))
+    subst (λ section. IfErr c.take_in.result (TellsDeckFault (data_card_fault (problem_shown c.args.self.now) FixedFields section c.args.card.bytes.now))) (sym c.in-Some.is)
+    (subst (λ fault. IfErr c.take_in.result (TellsDeckFault fault))
     (fault_in_section (problem_shown c.args.self.now) c.in-Some.section c.args.card.bytes.now (shown c.in-Ok.data) (sym c.if-is_header.ensures) c.in-Ok.ensures.no_fault c.in-Ok.ensures.reading)
     c.take_in.ensures.stop)
