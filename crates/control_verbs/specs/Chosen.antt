@@ -10,17 +10,17 @@ use Rattle.control_verbs.specs.declared.options.SetupArgument.{SetupArgument}
 use Rattle.control_verbs.specs.declared.options.SetupArgument.TheVariants.{BoundSet, RangeSet, Direction}
 use Rattle.control_verbs.specs.declared.options.Chosen.{Chosen}
 
-abbrev pub set_shown : SetKind → List ℕ → arguments.Choice
+abbrev pub set_shown : SetKind → List ℕ → arguments.SetupArgument
 set_shown Bound = arguments.BoundSet
 set_shown Range = arguments.RangeSet
 
-abbrev pub choice_shown : Choice → arguments.Choice
+abbrev pub choice_shown : SetupArgument → arguments.SetupArgument
 choice_shown (BoundSet name) = arguments.BoundSet name
 choice_shown (RangeSet name) = arguments.RangeSet name
 choice_shown (Direction sense) = arguments.Direction sense
 
 -- the choice that a list of arguments begins with: of a sense, or of a set with its name
-abbrev pub first_choice : List (List ℕ) → Option arguments.Choice
+abbrev pub first_choice : List (List ℕ) → Option arguments.SetupArgument
 first_choice [] = None
 first_choice (word ∷ []) = arguments.sense_choice word
 first_choice (word ∷ next ∷ parts) = option_or (arguments.sense_choice word) (arguments.set_choice word next)
@@ -34,12 +34,12 @@ abbrev pub nothing_chosen : Chosen
 nothing_chosen = record { bound = None; range = None; sense = None }
 
 -- one more choice, of a kind that isn't chosen yet
-abbrev pub added : Chosen → arguments.Choice → Option Chosen
+abbrev pub added : Chosen → arguments.SetupArgument → Option Chosen
 added so_far (arguments.BoundSet name) = if is_none so_far.bound then Some (record so_far { bound = Some name }) else None
 added so_far (arguments.RangeSet name) = if is_none so_far.range then Some (record so_far { range = Some name }) else None
 added so_far (arguments.Direction sense) = if is_none so_far.sense then Some (record so_far { sense = Some sense }) else None
 
-abbrev pub all_added : Chosen → List arguments.Choice → Option Chosen
+abbrev pub all_added : Chosen → List arguments.SetupArgument → Option Chosen
 all_added so_far [] = Some so_far
 all_added so_far (choice ∷ choices) = option_and_then (λ more. all_added more choices) (added so_far choice)
 
