@@ -5,12 +5,13 @@
 # seconds, and the peak memory. Where the proved program is built it also times the job of 60 by 60 from its bytes to its verdict,
 # without and with RANGE. Then it prints how many of fifty problems of 15 rows and 30 columns, with numbers of two decimals, end
 # without an overflow by each engine.
-# Usage: scripts/bench_path.sh [PROGRAM], a program that takes the words `path table` and `path product`.
+# Usage: scripts/bench_path.sh [PROGRAM], a program that takes the words `path table` and `path product`; or
+# scripts/bench_path.sh --dense N, which prints the N-th of the fifty decks.
 set -eu
-case ${1:-} in -h | --help) sed -n '2,8s/^# //p' "$0"; exit 0 ;; esac
+case ${1:-} in -h | --help) sed -n '2,9s/^# //p' "$0"; exit 0 ;; esac
 here=$(cd "$(dirname "$0")" && pwd)
 program=${1:-$here/../crates/bench/out/bench}
-[ -x "$program" ] || (cd "$here/../crates/bench" && rt run <stdin >/dev/null)
+[ "${1:-}" = --dense ] || [ -x "$program" ] || (cd "$here/../crates/bench" && rt run <stdin >/dev/null)
 deck=$(mktemp)
 trap 'rm -f "$deck"' EXIT
 
@@ -89,6 +90,11 @@ dense() {
             print "ENDATA"
         }'
 }
+
+if [ "${1:-}" = --dense ]; then
+    dense "$2"
+    exit 0
+fi
 
 greatest() {
     awk 'BEGIN {

@@ -152,6 +152,14 @@ def try_measures(folder):
     printed = call(SCRIPTS / "bench_expected.py").stdout + 2 * call(SCRIPTS / "path_expected.py", "4").stdout
     check("bench_expected.py, path_expected.py", printed == (runner.TOP / "crates/bench/stdout").read_bytes())
     check("path_expected.py 2", call(SCRIPTS / "path_expected.py", "2").stdout == b"OPTIMAL STEPS 4 OBJECTIVE 180/1\n")
+    deck = folder / "deck"
+    deck.write_text("NAME          ONE\nROWS\n N  COST\n G  LOW\nCOLUMNS\n    X         COST      3              LOW       2\nRHS\n    B         LOW       8\nENDATA\n")
+    widths = call(SCRIPTS / "path_widths.py", "--all", deck).stdout
+    check(f"path_widths.py: {widths}", widths == b"1 of 1 paths have no rate or needed value of more than 127 bits\n")
+    # the rates become 1/2 and 3/2, LOW 8 and COST 12
+    with open(deck) as given:
+        widths = subprocess.run([SCRIPTS / "path_widths.py"], stdin=given, capture_output=True).stdout
+    check(f"path_widths.py: {widths}", widths == b"OPTIMAL STEPS 1: rates 2 bits, values of variables with limits 4, objective 4\n")
     job = folder / "job"
     job.write_text("a first line\nEND 0\n")
     timed = call(SCRIPTS / "timed.py", job, "cat").stdout.decode()
