@@ -585,25 +585,24 @@ fn a_length_is_not_needed_where_something_else_stops(rt: HostRuntime) -> Result<
 #[test]
 fn a_step_overflows(rt: HostRuntime) -> Result<(), Fail> {
     let big = Frac::whole(999_999_999_000_000_000_000_000_000);
-    let cost = Frac::whole(-99_999_999_000_000_000_000_000_000);
-    let row = Limits {
-        low: None,
+    let column = Limits {
+        low: Some(whole(0)),
         high: Some(big),
     };
-    let lp = one_row(rt.alloc(), cost, whole(1), row, at_least(0), Sense::Min)?;
+    let lp = one_row(rt.alloc(), whole(-1), big, at_least(0), column, Sense::Min)?;
     let evidence = Evidence {
         formula: 8,
         way: 0,
-        p: 2,
+        p: 3,
         q: 3,
-        i: 1,
+        i: 2,
         j: 0,
         term: 0,
         theta: whole(0),
         refused: Refused {
             op: Op::Mul,
             left: big,
-            right: cost,
+            right: big,
         },
     };
     assert!(rt; overflows(rt.alloc(), &lp, evidence)?);
