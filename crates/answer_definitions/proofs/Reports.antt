@@ -1,13 +1,13 @@
 -- Intervals and chains, from their values to what RANGE and the parametric verbs print of them.
 use Rattle.std.specs.Prelude.{◌≡◌, refl, ℕ, List, [], ◌∷◌, codes, Option, Some, None, map, pos, negsuc}
-use Rattle.divisors.specs.Gcd.{gcd}
+use Rattle.exact_values.specs.Gcd.{gcd}
 use Rattle.exact_values.specs.Rational.{ℚ, fraction, whole, ◌+ℚ◌, ◌*ℚ◌, neg_ℚ, inverse_ℚ, reciprocal, compare_ℚ}
 use Rattle.exact_values.specs.Sums.{sum_to}
 use Rattle.lp_definitions.specs.declared.Sense.TheVariants.{Min}
 use Rattle.lp_definitions.specs.declared.Status.TheVariants.{Bs, Ll, Ul}
-use Rattle.path_definitions.proofs.Solve.{tableau_for, table_for}
-use Rattle.postoptimal_definitions.specs.Ranges.{Interval as Ends, RangeReport}
-use Rattle.postoptimal_definitions.specs.Chain.{Part, ChainEnd, AtMax, UnboundedPast as PastUnbounded, InfeasiblePast as PastInfeasible}
+use Rattle.method_definitions.proofs.Solve.{tableau_for, table_for}
+use Rattle.method_definitions.specs.Ranges.{Interval as Ends, RangeReport}
+use Rattle.method_definitions.specs.Chain.{Part, ChainEnd, AtMax, UnboundedPast as PastUnbounded, InfeasiblePast as PastInfeasible}
 use Rattle.card_definitions.specs.Cards.{cards_of}
 use Rattle.card_definitions.specs.Fields.{reading_of}
 use Rattle.card_definitions.specs.Numbers.{number_of, number_fault, value_of}

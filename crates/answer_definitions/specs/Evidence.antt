@@ -4,10 +4,10 @@
 use Rattle.std.specs.Prelude.{◌≡◌, ℕ, ◌+◌, Bool, List, [], ◌∷◌, ◌++◌, length, Option, Some, None, IfSome}
 use Rattle.exact_values.specs.Rational.{ℚ}
 use Rattle.lp_definitions.specs.declared.Evidence.{Evidence}
-use Rattle.path_definitions.specs.Path.{IsPath, last_of}
-use Rattle.postoptimal_definitions.specs.Chain.{Place as Standing, break_of, Reaches}
-use Rattle.evidence_definitions.specs.Statements.{SolvingStatement, Primal, Solution, Range, Paraobj, Pararhs}
-use Rattle.evidence_definitions.specs.Evidence.{EvidenceHolds, ShiftHolds}
+use Rattle.method_definitions.specs.Path.{IsPath, last_of}
+use Rattle.method_definitions.specs.Chain.{Place as Standing, break_of, Reaches}
+use Rattle.method_definitions.specs.Statements.{SolvingStatement, Primal, Solution, Range, Paraobj, Pararhs}
+use Rattle.method_definitions.specs.Evidence.{EvidenceHolds, ShiftHolds}
 use Rattle.listing_definitions.specs.Ending.{Place}
 use Rattle.question_definitions.specs.Answers.{Basis, Sheet, Changing, Row, Set, Sweep, Question, OfPath, OfSolution, OfRanges, OfSweep}
 use Rattle.answer_definitions.specs.Sweeps.{row_of, shifts_of, family_of, IsFace}

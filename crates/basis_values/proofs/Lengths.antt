@@ -7,7 +7,7 @@ use Rattle.exact_values.proofs.Inverse.{inverse-neg}
 use Rattle.exact_values.proofs.Order.{lt_irrefl}
 use Rattle.exact_values.proofs.Ring.{by_ring1, by_ring2, number, ◌⊗◌, ◌≐◌, opposite}
 use Rattle.lp_definitions.specs.LinearProgram.{LinearProgram, Vector, lower_of, upper_of}
-use Rattle.path_definitions.specs.Moves.{limit_ahead, room, signed}
+use Rattle.method_definitions.specs.Moves.{limit_ahead, room, signed}
 use Rattle.path_laws.proofs.Tests.{lt_true}
 use Rattle.basis_values.specs.Motions.{motion}
 use Rattle.frac128.specs.declared.Op.TheVariants.{Sub, Div}

@@ -6,7 +6,7 @@ use Rattle.exact_values.specs.Rational.{ℚ, ◌≤ℚ◌, ◌<ℚ◌}
 use Rattle.exact_values.specs.Tests.{lt_ℚ, le_ℚ}
 use Rattle.exact_values.proofs.Order.{le_refl, le_of_lt, lt_of_lt_of_le}
 use Rattle.lp_definitions.specs.LinearProgram.{LinearProgram, Vector, size}
-use Rattle.path_definitions.specs.Moves.{is_no_later, room, stopper}
+use Rattle.method_definitions.specs.Moves.{is_no_later, room, stopper}
 use Rattle.path_laws.proofs.Tests.{le_true, le_from, lt_true, lt_from}
 use Rattle.path_laws.proofs.Searches.{stopper_is, stopper_nothing}
 use Rattle.lp_laws.proofs.Values.{clash}

@@ -8,7 +8,7 @@ use Rattle.exact_values.proofs.Order.{le_by_one, le_of_lt, lt_from_le, lt_of_not
 use Rattle.exact_values.proofs.Ring.{by_ring3, by_ring4, ◌⊖◌, ◌⊗◌, ◌⊕◌, ◌≐◌, opposite}
 use Rattle.exact_values.proofs.Ring_laws.{mul_comm}
 use Rattle.lp_definitions.specs.LinearProgram.{LinearProgram, Vector}
-use Rattle.path_definitions.specs.Moves.{room, signed, is_no_later}
+use Rattle.method_definitions.specs.Moves.{room, signed, is_no_later}
 use Rattle.path_laws.proofs.Tests.{lt_true, lt_false, le_from, neg_above}
 use Rattle.basis_values.specs.Motions.{motion}
 use Rattle.basis_values.specs.Reach.{IsAhead, IsFirst, Reaches, Yields, reach_of, sooner}

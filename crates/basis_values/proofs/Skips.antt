@@ -10,7 +10,7 @@ use Rattle.lp_laws.proofs.Values.{sub-zero}
 use Rattle.std.proofs.lemmas.List.{get_or_default}
 use Rattle.lp_definitions.specs.LinearProgram.{LinearProgram, size, value_at}
 use Rattle.lp_definitions.specs.declared.Status.{Status}
-use Rattle.path_definitions.specs.Moves.{least, lowers, signed}
+use Rattle.method_definitions.specs.Moves.{least, lowers, signed}
 use Rattle.path_laws.proofs.Searches.{least_is, least_none}
 use Rattle.basis_values.specs.Motions.{motion}
 

@@ -4,7 +4,7 @@ ghost use Rattle.std.specs.Prelude.{◌≡◌, ◌&&◌, ◌≤◌, length};
 ghost use Rattle.exact_values.specs.Tests.{lt_ℚ};
 ghost use Rattle.lp_definitions.specs.LinearProgram.{size, value_at, IsVariable};
 ghost use Rattle.lp_definitions.specs.Basis.{basics_of, is_in};
-ghost use Rattle.path_definitions.specs.Moves.{least, is_crossed, is_fixed, is_below, is_above, is_outside, lowers, entering, signed};
+ghost use Rattle.method_definitions.specs.Moves.{least, is_crossed, is_fixed, is_below, is_above, is_outside, lowers, entering, signed};
 ghost use Rattle.basis_values.specs.Motions.{motion};
 
 use frac128::Frac;

@@ -8,7 +8,7 @@ use Rattle.exact_values.proofs.Inverse.{same_quotients}
 use Rattle.exact_values.proofs.Order.{le_by_one, le-div, apart_from_above, apart_from_below}
 use Rattle.lp_definitions.specs.LinearProgram.{LinearProgram, Vector, size, lower_of, upper_of}
 use Rattle.lp_definitions.specs.Solutions.{IsWithinLimits}
-use Rattle.path_definitions.specs.Moves.{is_no_later, room}
+use Rattle.method_definitions.specs.Moves.{is_no_later, room}
 use Rattle.path_laws.proofs.Tests.{lt_true, le_from, neg_above}
 use Rattle.basis_values.specs.Reach.{length_of, IsNearest}
 use Rattle.basis_values.specs.declared.reach.Reach.{Reach}

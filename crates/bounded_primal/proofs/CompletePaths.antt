@@ -7,8 +7,8 @@ use Rattle.lp_definitions.specs.declared.Status.{Status}
 use Rattle.lp_model.specs.declared.Stop.{Stop}
 use Rattle.lp_model.specs.declared.Stop.TheVariants as stop
 use Rattle.lp_model.specs.declared.reports.Outcome.{Outcome}
-use Rattle.path_definitions.specs.Path.{PathEnding, PathEnds, last_of}
-use Rattle.path_definitions.specs.Counts.{counted_steps}
+use Rattle.method_definitions.specs.Path.{PathEnding, PathEnds, last_of}
+use Rattle.method_definitions.specs.Counts.{counted_steps}
 use Rattle.path_laws.specs.Laws.{IsNonsingularBasis}
 use Rattle.path_laws.proofs.OnePath.{one_path, not_both}
 use Rattle.termination_laws.specs.Laws.{lists_of}

@@ -11,9 +11,9 @@ use Rattle.termination_laws.specs.Laws.{lists_of}
 use Rattle.termination_laws.proofs.Ending.{short, limited}
 use Rattle.lp_definitions.specs.declared.Evidence.{Evidence}
 use Rattle.lp_model.specs.declared.reports.Outcome.{Outcome}
-use Rattle.path_definitions.specs.Counts.{counted_steps}
-use Rattle.evidence_definitions.specs.Statements.{SolvingStatement}
-use Rattle.evidence_definitions.specs.Evidence.{IsAhead}
+use Rattle.method_definitions.specs.Counts.{counted_steps}
+use Rattle.method_definitions.specs.Statements.{SolvingStatement}
+use Rattle.method_definitions.specs.Evidence.{IsAhead}
 use Rattle.basis_values.specs.Calls.{HasRates, job_of}
 use Rattle.bounded_primal.specs.Calls.{CallEnds}
 use Rattle.bounded_primal.specs.Stops.{primal_stop_of, PrimalStops, FreeStops}

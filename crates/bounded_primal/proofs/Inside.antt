@@ -8,8 +8,8 @@ use Rattle.lp_definitions.specs.LinearProgram.{LinearProgram, Matrix, Vector, Is
 use Rattle.lp_definitions.specs.Basis.{Basics, basics_of, is_in, IsPointOf, Tableau, IsTableau}
 use Rattle.lp_definitions.specs.Solutions.{IsFeasible}
 use Rattle.lp_definitions.specs.declared.Status.{Status}
-use Rattle.path_definitions.specs.Moves.{on_limit, is_outside, is_below, is_above}
-use Rattle.path_definitions.specs.Path.{IsStep, after}
+use Rattle.method_definitions.specs.Moves.{on_limit, is_outside, is_below, is_above}
+use Rattle.method_definitions.specs.Path.{IsStep, after}
 use Rattle.path_laws.specs.Laws.{IsNonsingularBasis}
 use Rattle.path_laws.proofs.Ends.{feasible}
 use Rattle.path_laws.proofs.Turns.{IsSecondPhase}

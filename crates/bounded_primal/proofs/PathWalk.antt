@@ -9,9 +9,9 @@ use Rattle.lp_definitions.specs.Waypoints.{IsWithinOne, IsKept, KeepsWaypoints, 
 use Rattle.lp_definitions.specs.declared.Status.{Status}
 use Rattle.lp_model.specs.declared.reports.Outcome.{Outcome}
 use Rattle.lp_laws.proofs.WaypointLaws.{within_itself, within_by}
-use Rattle.path_definitions.specs.Path.{IsStep, EndsAt, IsPath, last_of}
-use Rattle.path_definitions.specs.Counts.{counted_steps}
-use Rattle.evidence_definitions.specs.Evidence.{EvidenceHolds}
+use Rattle.method_definitions.specs.Path.{IsStep, EndsAt, IsPath, last_of}
+use Rattle.method_definitions.specs.Counts.{counted_steps}
+use Rattle.method_definitions.specs.Evidence.{EvidenceHolds}
 use Rattle.basis_values.specs.Calls.{LieIn, job_of}
 use Rattle.bounded_primal.specs.Calls.{CallEnds, WaypointsFollow, outcome_of}
 use Rattle.bounded_primal.specs.Stops.{PathFrom, PrimalStops}

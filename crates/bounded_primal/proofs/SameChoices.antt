@@ -8,8 +8,8 @@ use Rattle.lp_definitions.specs.Basis.{is_in, basics_of, status_of, is_basic, Is
 use Rattle.lp_definitions.specs.declared.Status.{Status}
 use Rattle.lp_definitions.specs.declared.Status.TheVariants.{Bs, Ll, Ul, Fr}
 use Rattle.lp_laws.proofs.Uniqueness.{is_in-basics_of}
-use Rattle.path_definitions.specs.Moves.{is_fixed, rises_from, falls_from, lowers, entering, room, is_no_later, reaches_first, stopper}
-use Rattle.path_definitions.specs.Path.{listed}
+use Rattle.method_definitions.specs.Moves.{is_fixed, rises_from, falls_from, lowers, entering, room, is_no_later, reaches_first, stopper}
+use Rattle.method_definitions.specs.Path.{listed}
 use Rattle.path_laws.proofs.Numbered.{find_same, list_all_same, get_or-listed}
 use Rattle.std.proofs.lemmas.List.{ext_get_or}
 

@@ -15,8 +15,8 @@ use Rattle.lp_model.specs.declared.reports.Outcome.{Outcome}
 use Rattle.lp_model.specs.declared.reports.Outcome.TheVariants.{Optimal, Crossed, Infeasible, Unbounded}
 use Rattle.lp_laws.proofs.Uniqueness.{one_direction}
 use Rattle.lp_laws.proofs.Values.{clash}
-use Rattle.path_definitions.specs.Moves.{least, is_crossed, is_below, signed, goes_up, lowers, may_rise, may_fall, entering, limit_ahead, room, stopper}
-use Rattle.path_definitions.specs.Path.{Move, Moves, EndsOptimal, EndsCrossed, EndsInfeasible, EndsUnbounded, listed, ray_of, excess_rate, outside, worth_rate, mover, bring_back, run_until, better, turn_for, turn}
+use Rattle.method_definitions.specs.Moves.{least, is_crossed, is_below, signed, goes_up, lowers, may_rise, may_fall, entering, limit_ahead, room, stopper}
+use Rattle.method_definitions.specs.Path.{Move, Moves, EndsOptimal, EndsCrossed, EndsInfeasible, EndsUnbounded, listed, ray_of, excess_rate, outside, worth_rate, mover, bring_back, run_until, better, turn_for, turn}
 use Rattle.path_laws.proofs.Tests.{lt_true}
 use Rattle.path_laws.proofs.Numbered.{find_some}
 use Rattle.path_laws.proofs.Stoppers.{stopper_some, reaches_limit}
@@ -25,8 +25,8 @@ use Rattle.path_laws.proofs.Ends.{feasible}
 use Rattle.path_laws.proofs.Endless.{IsEntering, enters}
 use Rattle.path_laws.proofs.Rays.{Breaks, breaks_lower, breaks_upper, broken_basic, broken_limit}
 use Rattle.path_laws.proofs.Steps.{rate_apart}
-use Rattle.evidence_definitions.specs.Formulas.{limit_numbered, number_of_limit}
-use Rattle.evidence_definitions.specs.Statements.{PathMoves, PathEnters}
+use Rattle.method_definitions.specs.Formulas.{limit_numbered, number_of_limit}
+use Rattle.method_definitions.specs.Statements.{PathMoves, PathEnters}
 use Rattle.basis_values.specs.Motions.{may_move, motion}
 use Rattle.bounded_primal.specs.Moves.{stop_at, stopper_of, return_by, IsStepBy, is_stopper, brings, move_by}
 use Rattle.bounded_primal.specs.Turns.{IsUncrossed, least_outside, ray_from, worth_by, moved_by, mover_by, IsEndless, EndsHere, MovesOn}

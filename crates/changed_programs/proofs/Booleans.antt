@@ -10,7 +10,7 @@ use Rattle.lp_definitions.specs.Basis.{IsRightAt}
 use Rattle.lp_definitions.specs.declared.Status.{Status}
 use Rattle.lp_definitions.specs.declared.Status.TheVariants.{Bs, Ll, Ul, Fr}
 use Rattle.lp_laws.proofs.Values.{clash}
-use Rattle.path_definitions.specs.Moves.{on_limits, rises_from, falls_from}
+use Rattle.method_definitions.specs.Moves.{on_limits, rises_from, falls_from}
 use Rattle.path_laws.proofs.Ends.{and_false}
 
 -- a variable with this rate betters the objective: it rises where the rate is negative, and falls where it is positive

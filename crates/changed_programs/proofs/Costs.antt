@@ -11,9 +11,9 @@ use Rattle.lp_definitions.specs.declared.Entry.{Entry}
 use Rattle.lp_definitions.specs.declared.Status.{Status}
 use Rattle.lp_definitions.specs.declared.Status.TheVariants.{Bs}
 use Rattle.lp_laws.proofs.Uniqueness.{is_in-basics_of}
-use Rattle.path_definitions.specs.Moves.{may_rise, may_fall, lowers}
-use Rattle.path_definitions.specs.Path.{worth_rate}
-use Rattle.postoptimal_definitions.specs.Ranges.{with_cost, with_entry}
+use Rattle.method_definitions.specs.Moves.{may_rise, may_fall, lowers}
+use Rattle.method_definitions.specs.Path.{worth_rate}
+use Rattle.method_definitions.specs.Ranges.{with_cost, with_entry}
 use Rattle.changed_programs.specs.Changes.{ChangeIsRow, HasRows, RatesStay, SidesHold, rate_sides, worths, slopes}
 use Rattle.changed_programs.specs.Laws.{IsPresent}
 use Rattle.changed_programs.proofs.Tableaus.{by_tableau}

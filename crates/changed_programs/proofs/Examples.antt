@@ -1,7 +1,7 @@
 -- Worked intervals: how far the conditions of a change hold, from the present value on, in problems whose intervals are known.
 use Rattle.std.proofs.Common.{◌≡◌, ℕ, List, [], ◌∷◌, ◌++◌, refl, pos, negsuc, filter}
 use Rattle.std.specs.Prelude.{Option, Some, None}
-use Rattle.divisors.specs.Gcd.{gcd}
+use Rattle.exact_values.specs.Gcd.{gcd}
 use Rattle.exact_values.specs.Rational.{ℚ, fraction, whole, ◌+ℚ◌, ◌*ℚ◌, neg_ℚ, inverse_ℚ, reciprocal, compare_ℚ}
 use Rattle.exact_values.specs.Sums.{sum_to}
 use Rattle.affine_conditions.specs.Conditions.{Condition, reach_of}
@@ -9,8 +9,8 @@ use Rattle.lp_definitions.specs.LinearProgram.{LinearProgram, variables, cost}
 use Rattle.lp_definitions.specs.Basis.{is_in, basics_of, Tableau}
 use Rattle.lp_definitions.specs.declared.Status.{Status}
 use Rattle.lp_definitions.specs.declared.Status.TheVariants.{Bs, Ll, Ul}
-use Rattle.path_definitions.proofs.Programs.{plus, testprob, two}
-use Rattle.path_definitions.proofs.Solve.{tableau_for, table_for, parts}
+use Rattle.method_definitions.proofs.Programs.{plus, testprob, two}
+use Rattle.method_definitions.proofs.Solve.{tableau_for, table_for, parts}
 use Rattle.changed_programs.specs.Changes.{Sides, rate_sides, limit_sides, own_sides, worths, slopes}
 
 abbrev listed : Option Condition → List Condition

@@ -17,10 +17,10 @@ use Rattle.lp_laws.specs.Vectors.{along}
 use Rattle.lp_laws.proofs.Values.{clash}
 use Rattle.lp_laws.proofs.Equations.{KeepsEquations-along}
 use Rattle.lp_laws.proofs.Uniqueness.{is_in-basics_of}
-use Rattle.path_definitions.specs.Moves.{is_fixed, on_limits, rises_from, falls_from, lowers}
-use Rattle.path_definitions.specs.Path.{worth_rate}
+use Rattle.method_definitions.specs.Moves.{is_fixed, on_limits, rises_from, falls_from, lowers}
+use Rattle.method_definitions.specs.Path.{worth_rate}
 use Rattle.exact_values.specs.Tests.{eq_ℚ}
-use Rattle.postoptimal_definitions.specs.Ranges.{with_limit, with_limit_at, with_lower, with_upper, stands_at_limit}
+use Rattle.method_definitions.specs.Ranges.{with_limit, with_limit_at, with_lower, with_upper, stands_at_limit}
 use Rattle.changed_programs.specs.Changes.{HasRows, IsRightTableau, SidesHold, value_sides, limit_sides, sides_at, own_sides, LimitStays}
 use Rattle.changed_programs.specs.Laws.{IsPresent}
 use Rattle.changed_programs.proofs.Booleans.{fewer_ways, fixed_is}

@@ -10,11 +10,11 @@ use Rattle.lp_definitions.specs.LinearProgram.{Matrix, LinearProgram, value_at, 
 use Rattle.lp_definitions.specs.Basis.{status_of, IsAllowed, IsBasis, IsFixed}
 use Rattle.lp_definitions.specs.declared.Status.{Status}
 use Rattle.lp_definitions.specs.declared.Status.TheVariants.{Bs, Ll, Ul, Fr}
-use Rattle.path_definitions.specs.Moves.{is_fixed, on_limits}
+use Rattle.method_definitions.specs.Moves.{is_fixed, on_limits}
 use Rattle.path_laws.specs.Laws.{IsNonsingularBasis}
 use Rattle.path_laws.proofs.Numbered.{get_or-listed}
 use Rattle.changed_programs.proofs.Tableaus.{row_variable}
-use Rattle.postoptimal_definitions.specs.RhsRun.{shift_of, shifted, rhs_family}
+use Rattle.method_definitions.specs.RhsRun.{shift_of, shifted, rhs_family}
 
 limit_is : (a : Matrix) (shift : List ℚ) (theta : ℚ) (limit : ℕ → Option ℚ) (k : ℕ) → IsVariable a k →
     get_or (shifted a shift theta limit) (k - 1) None ≡ option_map (λ l. l +ℚ theta *ℚ shift_of a shift k) (limit k)

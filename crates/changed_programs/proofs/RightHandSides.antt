@@ -11,10 +11,10 @@ use Rattle.lp_definitions.specs.declared.Status.TheVariants.{Bs, Ll, Ul, Fr}
 use Rattle.lp_laws.specs.Vectors.{along}
 use Rattle.lp_laws.proofs.Equations.{KeepsEquations-along}
 use Rattle.lp_laws.proofs.Statuses.{nonbasic_by_status}
-use Rattle.path_definitions.specs.Moves.{rises_from, falls_from, lowers}
-use Rattle.path_definitions.specs.Path.{worth_rate}
+use Rattle.method_definitions.specs.Moves.{rises_from, falls_from, lowers}
+use Rattle.method_definitions.specs.Path.{worth_rate}
 use Rattle.path_laws.specs.Laws.{IsNonsingularBasis}
-use Rattle.postoptimal_definitions.specs.RhsRun.{shift_of, rhs_family, IsSlope}
+use Rattle.method_definitions.specs.RhsRun.{shift_of, rhs_family, IsSlope}
 use Rattle.changed_programs.specs.Changes.{HasRows, IsRightTableau, SidesHold, shift_sides, ValuesStay}
 use Rattle.changed_programs.specs.Laws.{IsDualFeasibleBasis}
 use Rattle.changed_programs.proofs.Booleans.{betters}

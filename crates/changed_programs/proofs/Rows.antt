@@ -7,9 +7,9 @@ use Rattle.lp_definitions.specs.Solutions.{IsFeasible}
 use Rattle.lp_definitions.specs.Basis.{IsBasis, IsOptimalBasis, Tableau, IsTableau}
 use Rattle.lp_definitions.specs.declared.Change.{Change}
 use Rattle.lp_definitions.specs.declared.Status.{Status}
-use Rattle.path_definitions.specs.Moves.{may_rise, may_fall, lowers}
-use Rattle.path_definitions.specs.Path.{worth_rate}
-use Rattle.postoptimal_definitions.specs.Ranges.{with_row}
+use Rattle.method_definitions.specs.Moves.{may_rise, may_fall, lowers}
+use Rattle.method_definitions.specs.Path.{worth_rate}
+use Rattle.method_definitions.specs.Ranges.{with_row}
 use Rattle.changed_programs.specs.Changes.{HasRows, ChangeIsRow, RatesStay, SidesHold, rate_sides, worths, slopes}
 use Rattle.changed_programs.specs.Laws.{IsPresent, IsFeasibleBasis}
 use Rattle.changed_programs.proofs.Tableaus.{by_tableau}

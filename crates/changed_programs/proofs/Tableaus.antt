@@ -8,8 +8,8 @@ use Rattle.lp_definitions.specs.declared.Change.{Change}
 use Rattle.lp_definitions.specs.declared.Status.{Status}
 use Rattle.lp_definitions.specs.declared.Status.TheVariants.{Bs, Ll, Ul, Fr}
 use Rattle.lp_laws.proofs.Uniqueness.{is_in-basics_of, one_table, one_point}
-use Rattle.path_definitions.specs.Moves.{is_fixed}
-use Rattle.path_definitions.specs.Path.{worth_rate}
+use Rattle.method_definitions.specs.Moves.{is_fixed}
+use Rattle.method_definitions.specs.Path.{worth_rate}
 use Rattle.path_laws.proofs.Ends.{right, IsFeasible-same}
 use Rattle.changed_programs.specs.Changes.{ChangeIsRow, HasRows, IsRightTableau}
 use Rattle.changed_programs.proofs.Booleans.{right_betters_not}

@@ -18,9 +18,9 @@ use Rattle.lp_definitions.specs.Basis.{basics_of, status_of, IsBasic, Tableau}
 use Rattle.lp_definitions.specs.declared.Change.{Change}
 use Rattle.lp_definitions.specs.declared.Status.{Status}
 use Rattle.lp_definitions.specs.declared.Status.TheVariants.{Bs, Ll, Ul, Fr}
-use Rattle.path_definitions.specs.Moves.{is_fixed, may_rise, may_fall, lowers}
-use Rattle.path_definitions.specs.Path.{worth_rate}
-use Rattle.postoptimal_definitions.specs.RhsRun.{shift_of}
+use Rattle.method_definitions.specs.Moves.{is_fixed, may_rise, may_fall, lowers}
+use Rattle.method_definitions.specs.Path.{worth_rate}
+use Rattle.method_definitions.specs.RhsRun.{shift_of}
 
 abbrev pub ChangeIsRow : Matrix → Option Change → Type 0
 ChangeIsRow a None = Unit {0}

@@ -5,11 +5,11 @@ use Rattle.lp_definitions.specs.LinearProgram.{LinearProgram, Vector, IsRow, IsC
 use Rattle.lp_definitions.specs.Solutions.{IsFeasible}
 use Rattle.lp_definitions.specs.Basis.{basics_of, status_of, IsBasis, IsNonsingular, IsOptimalBasis, Tableau, IsTableau}
 use Rattle.lp_definitions.specs.declared.Status.{Status}
-use Rattle.path_definitions.specs.Moves.{lowers}
-use Rattle.path_definitions.specs.Path.{worth_rate}
-use Rattle.postoptimal_definitions.specs.Ranges.{with_limit, with_cost, with_row, stands_at_limit}
-use Rattle.postoptimal_definitions.specs.ObjectiveRun.{objective_family}
-use Rattle.postoptimal_definitions.specs.RhsRun.{rhs_family, IsSlope}
+use Rattle.method_definitions.specs.Moves.{lowers}
+use Rattle.method_definitions.specs.Path.{worth_rate}
+use Rattle.method_definitions.specs.Ranges.{with_limit, with_cost, with_row, stands_at_limit}
+use Rattle.method_definitions.specs.ObjectiveRun.{objective_family}
+use Rattle.method_definitions.specs.RhsRun.{rhs_family, IsSlope}
 use Rattle.changed_programs.specs.Changes.{HasRows, IsRightTableau, RatesStay, LimitStays, ValuesStay, worths, slopes}
 
 -- a basis is optimal where one tableau of it says so, and then each does

@@ -6,7 +6,7 @@ use Rattle.lp_definitions.specs.LinearProgram.{Matrix, LinearProgram, IsLinearPr
 use Rattle.lp_definitions.specs.Basis.{Basics, basics_of}
 use Rattle.lp_definitions.specs.Waypoints.{IsWithinOne, IsKept, KeepsWaypoints}
 use Rattle.lp_laws.proofs.WaypointLaws.{within_itself, within_by}
-use Rattle.path_definitions.specs.Path.{EndsAt, last_of}
+use Rattle.method_definitions.specs.Path.{EndsAt, last_of}
 use Rattle.path_laws.proofs.OnePath.{one_path}
 use Rattle.problem_definitions.specs.Problem.{Problem}
 use Rattle.problem_file.specs.Filed.{Filed, filed_under}

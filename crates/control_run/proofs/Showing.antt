@@ -7,7 +7,7 @@ use Rattle.lp_definitions.specs.LinearProgram.{Matrix, LinearProgram}
 use Rattle.lp_definitions.specs.Basis.{Basics, basics_of, IsOptimalBasis}
 use Rattle.lp_definitions.specs.Waypoints.{waypoint, KeepsWaypoints}
 use Rattle.lp_definitions.specs.declared.Evidence.{Evidence}
-use Rattle.evidence_definitions.specs.Statements.{Solution as SolutionStatement}
+use Rattle.method_definitions.specs.Statements.{Solution as SolutionStatement}
 use Rattle.problem_definitions.specs.Problem.{Problem}
 use Rattle.problem_file.specs.Filed.{Filed, filed_under}
 use Rattle.basis_values.specs.Calls.{LieIn}

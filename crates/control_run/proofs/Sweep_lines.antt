@@ -9,7 +9,7 @@ use Rattle.lp_model.specs.declared.reports.ParaEnd.{ParaEnd}
 use Rattle.lp_model.specs.declared.reports.ParaEnd.TheVariants as ends
 use Rattle.lp_model.specs.declared.reports.ParaPart.{ParaPart}
 use Rattle.lp_model.specs.declared.reports.ParaRun.{ParaRun}
-use Rattle.path_definitions.specs.Moves.{is_fixed}
+use Rattle.method_definitions.specs.Moves.{is_fixed}
 use Rattle.path_laws.proofs.Numbered.{map_same}
 use Rattle.changed_programs.proofs.MovedLimits.{fixed_same}
 use Rattle.problem_definitions.specs.Names.{Name}

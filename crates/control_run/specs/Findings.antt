@@ -16,8 +16,8 @@ use Rattle.lp_definitions.specs.LinearProgram.{LinearProgram}
 use Rattle.lp_definitions.specs.Basis.{Basics, basics_of}
 use Rattle.lp_definitions.specs.Waypoints.{waypoint}
 use Rattle.lp_definitions.specs.declared.Evidence.{Evidence}
-use Rattle.path_definitions.specs.Path.{last_of}
-use Rattle.evidence_definitions.specs.Statements.{Solution as SolutionStatement, Range as RangeStatement}
+use Rattle.method_definitions.specs.Path.{last_of}
+use Rattle.method_definitions.specs.Statements.{Solution as SolutionStatement, Range as RangeStatement}
 use Rattle.problem_definitions.specs.Problem.{Problem}
 use Rattle.selection_definitions.specs.Selection.{selected}
 use Rattle.listing_definitions.specs.declared.Mark.{Mark}

@@ -12,7 +12,7 @@ use Rattle.deck_definitions.specs.Decks.{decks_of}
 use Rattle.problem_definitions.specs.Names.{Name}
 use Rattle.problem_definitions.specs.Problem.{Problem}
 use Rattle.problem_file.specs.Filed.{Filed, filed_under}
-use Rattle.path_definitions.specs.Path.{last_of}
+use Rattle.method_definitions.specs.Path.{last_of}
 use Rattle.basis_values.specs.Calls.{HasRates, LieIn}
 use Rattle.listing_definitions.specs.declared.Mark.{Mark}
 use Rattle.listing_definitions.specs.declared.Mark.TheVariants.{Optimal}

@@ -14,7 +14,7 @@ use Rattle.lp_definitions.specs.Basis.{Basics}
 use Rattle.lp_definitions.specs.declared.Evidence.{Evidence}
 use Rattle.lp_model.specs.declared.reports.ParaEnd.{ParaEnd}
 use Rattle.lp_model.specs.declared.reports.ParaEnd.TheVariants.{AtMax, Unbounded, Infeasible}
-use Rattle.path_definitions.specs.Path.{last_of}
+use Rattle.method_definitions.specs.Path.{last_of}
 use Rattle.problem_definitions.specs.Names.{Name}
 use Rattle.problem_definitions.specs.Problem.{Problem}
 use Rattle.lp_setup.specs.Changes.{IsFreeIn}
@@ -31,9 +31,9 @@ use Rattle.question_definitions.specs.Answers.{Basis, Sheet, Changing, changing_
 use Rattle.answer_definitions.specs.Sweeps.{row_of, shifts_of, IsSwept}
 use Rattle.answer_definitions.specs.Evidence.{OverflowsAt}
 use Rattle.listing_tables.specs.declared.sheet.Sheet.{Sheet as OwnSheet}
-use Rattle.present_runs.specs.Objective as objective
-use Rattle.present_runs.specs.Reports.{RunOverflowsThere, LimitOverflows, SweepStops}
-use Rattle.present_runs.specs.RightHandSide as right_hand_side
+use Rattle.present_answers.specs.Objective as objective
+use Rattle.present_answers.specs.RunReports.{RunOverflowsThere, LimitOverflows, SweepStops}
+use Rattle.present_answers.specs.RightHandSide as right_hand_side
 use Rattle.run_definitions.specs.State.{choice_of}
 use Rattle.run_definitions.specs.Moves.{Gain, Nothing, Prints}
 use Rattle.run_definitions.specs.Verbs.{change_row, change_set, not_less, mark_of, last_value}

@@ -2,3 +2,4 @@ pub mod Rational
 pub mod Sums
 pub mod Laws
 pub mod Tests
+pub mod Gcd

@@ -11,9 +11,9 @@ use Rattle.lp_laws.proofs.WaypointLaws.{keeps_then}
 use Rattle.lp_model.specs.RatesCalls.{IfOverflow}
 use Rattle.lp_model.specs.declared.Stop.{Stop}
 use Rattle.lp_model.specs.declared.Stop.TheVariants as stop
-use Rattle.path_definitions.specs.Path.{Move, after}
-use Rattle.postoptimal_definitions.specs.Chain.{FaceMoves, IsFaceStep, AtBreak}
-use Rattle.evidence_definitions.specs.Statements.{EntersAt}
+use Rattle.method_definitions.specs.Path.{Move, after}
+use Rattle.method_definitions.specs.Chain.{FaceMoves, IsFaceStep, AtBreak}
+use Rattle.method_definitions.specs.Statements.{EntersAt}
 use Rattle.basis_values.specs.Calls.{PointRefused}
 use Rattle.bounded_primal.specs.Moves.{StepRefused}
 use Rattle.bounded_primal.specs.Stops.{primal_stop_of}

@@ -9,8 +9,8 @@ use Rattle.lp_definitions.specs.Basis.{basics_of, is_in, ArePricesOf, IsPointOf,
 use Rattle.lp_definitions.specs.declared.Status.{Status}
 use Rattle.lp_model.specs.RatesCalls.{IsRowOf}
 use Rattle.path_laws.specs.Laws.{IsNonsingularBasis}
-use Rattle.postoptimal_definitions.specs.Chain.{along, ReachesTo, IsPart}
-use Rattle.postoptimal_definitions.specs.ObjectiveRun.{objective_family}
+use Rattle.method_definitions.specs.Chain.{along, ReachesTo, IsPart}
+use Rattle.method_definitions.specs.ObjectiveRun.{objective_family}
 use Rattle.bounded_primal.proofs.StepFacts.{point_same}
 use Rattle.para_objective.proofs.Reaches.{price_is, rate_is}
 

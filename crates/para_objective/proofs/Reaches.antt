@@ -14,10 +14,10 @@ use Rattle.lp_definitions.specs.declared.Status.TheVariants.{Bs}
 use Rattle.lp_laws.proofs.Statuses.{status_of_basic}
 use Rattle.lp_laws.proofs.Uniqueness.{one_table}
 use Rattle.lp_model.specs.RatesCalls.{IsRowOf}
-use Rattle.path_definitions.specs.Moves.{is_fixed, may_rise, may_fall, rises_from, falls_from}
+use Rattle.method_definitions.specs.Moves.{is_fixed, may_rise, may_fall, rises_from, falls_from}
 use Rattle.path_laws.specs.Laws.{IsNonsingularBasis}
-use Rattle.postoptimal_definitions.specs.Chain.{ReachesTo}
-use Rattle.postoptimal_definitions.specs.ObjectiveRun.{objective_family}
+use Rattle.method_definitions.specs.Chain.{ReachesTo}
+use Rattle.method_definitions.specs.ObjectiveRun.{objective_family}
 use Rattle.ranging.specs.RowEnds.{sides_of, RatesStayTo}
 use Rattle.ranging.proofs.AtBasis.{no_sides}
 use Rattle.para_objective.specs.Reach.{IsReachOf}

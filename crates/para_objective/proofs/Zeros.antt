@@ -15,7 +15,7 @@ use Rattle.lp_definitions.specs.declared.Sense.{Sense}
 use Rattle.lp_definitions.specs.declared.Sense.TheVariants.{Min, Max}
 use Rattle.lp_definitions.specs.declared.Status.{Status}
 use Rattle.lp_laws.proofs.Values.{clash}
-use Rattle.path_definitions.specs.Moves.{may_rise, may_fall}
+use Rattle.method_definitions.specs.Moves.{may_rise, may_fall}
 use Rattle.ranging.specs.RowEnds.{sides_of, RatesStayTo}
 use Rattle.ranging.proofs.RateBounds.{for_min_zero, up_to_next}
 use Rattle.para_objective.specs.Reach.{zero_at, meets, IsLeast, IsWithRate, IsReachOf, IsReachAbove}

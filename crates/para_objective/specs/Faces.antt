@@ -15,11 +15,11 @@ use Rattle.lp_definitions.specs.declared.Status.{Status}
 use Rattle.lp_model.specs.RatesCalls.{IsRowOf}
 use Rattle.lp_model.specs.declared.reports.ParaEnd.{ParaEnd}
 use Rattle.lp_model.specs.declared.reports.ParaEnd.TheVariants.{Unbounded}
-use Rattle.path_definitions.specs.Moves.{goes_up}
-use Rattle.path_definitions.specs.Path.{after, last_of}
-use Rattle.postoptimal_definitions.specs.Chain.{FaceTurn, FaceMoves, FaceDone, FaceEnds, IsFacePath, AtBreak}
-use Rattle.postoptimal_definitions.specs.ObjectiveRun.{objective_family, IsObjectiveFace}
-use Rattle.evidence_definitions.specs.Statements.{SolvingStatement, Paraobj, EntersAt}
+use Rattle.method_definitions.specs.Moves.{goes_up}
+use Rattle.method_definitions.specs.Path.{after, last_of}
+use Rattle.method_definitions.specs.Chain.{FaceTurn, FaceMoves, FaceDone, FaceEnds, IsFacePath, AtBreak}
+use Rattle.method_definitions.specs.ObjectiveRun.{objective_family, IsObjectiveFace}
+use Rattle.method_definitions.specs.Statements.{SolvingStatement, Paraobj, EntersAt}
 use Rattle.basis_values.specs.Motions.{motion}
 use Rattle.bounded_primal.specs.Moves.{IsStepBy, move_by}
 use Rattle.bounded_primal.specs.declared.moves.PrimalStop.{PrimalStop}

@@ -5,8 +5,8 @@ use Rattle.exact_values.specs.Rational.{ℚ}
 use Rattle.lp_definitions.specs.LinearProgram.{LinearProgram}
 use Rattle.lp_definitions.specs.declared.Status.{Status}
 use Rattle.lp_model.specs.declared.reports.ParaPart.{ParaPart}
-use Rattle.postoptimal_definitions.specs.Chain.{IsPart}
-use Rattle.postoptimal_definitions.specs.ObjectiveRun.{objective_family}
+use Rattle.method_definitions.specs.Chain.{IsPart}
+use Rattle.method_definitions.specs.ObjectiveRun.{objective_family}
 use Rattle.run_calls.specs.Calls.{part_of}
 use Rattle.para_objective.specs.declared.parts.ParaObj.{ParaObj}
 

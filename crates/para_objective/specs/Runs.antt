@@ -12,8 +12,8 @@ use Rattle.lp_definitions.specs.Basis.{Basics}
 use Rattle.lp_definitions.specs.declared.Status.{Status}
 use Rattle.lp_model.specs.declared.reports.ParaReport.{ParaReport}
 use Rattle.lp_model.specs.declared.reports.ParaRun.{ParaRun}
-use Rattle.path_definitions.specs.Path.{last_of}
-use Rattle.postoptimal_definitions.specs.Chain.{RunReport, IsChain, Place, basis_of}
+use Rattle.method_definitions.specs.Path.{last_of}
+use Rattle.method_definitions.specs.Chain.{RunReport, IsChain, Place, basis_of}
 use Rattle.bounded_primal.specs.declared.moves.PrimalStop.{PrimalStop}
 use Rattle.run_calls.specs.Calls.{part_of, end_of, RunEnds, WaypointsFollowRun, RunOverflows, RunStops}
 use Rattle.run_calls.specs.Complete.{RunEndsUnhindered}

@@ -6,7 +6,7 @@ ghost use Rattle.lp_definitions.specs.LinearProgram.{size, value_at, IsRow, IsLi
 ghost use Rattle.lp_definitions.specs.Basis.{basics_of, ArePricesOf, IsOptimalBasis, IsPointOf};
 ghost use Rattle.lp_model.specs.RatesCalls.{IsRowOf, IfOverflow};
 ghost use Rattle.path_laws.specs.Laws.{IsNonsingularBasis};
-ghost use Rattle.postoptimal_definitions.specs.ObjectiveRun.{objective_family};
+ghost use Rattle.method_definitions.specs.ObjectiveRun.{objective_family};
 ghost use Rattle.para_objective.specs.Reach.{EndRefused};
 ghost use Rattle.para_objective.specs.Parts.{IsIntervalOf};
 

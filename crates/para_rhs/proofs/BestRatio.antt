@@ -11,7 +11,7 @@ use Rattle.lp_definitions.specs.LinearProgram.{LinearProgram, Vector, size, vari
 use Rattle.lp_definitions.specs.declared.Evidence.{Evidence}
 use Rattle.lp_definitions.specs.declared.Status.{Status}
 use Rattle.lp_laws.proofs.Values.{clash}
-use Rattle.path_definitions.specs.Moves.{is_no_later, signed, may_rise, may_fall}
+use Rattle.method_definitions.specs.Moves.{is_no_later, signed, may_rise, may_fall}
 use Rattle.path_laws.proofs.Numbered.{find_first, list_all_from, list_all_true}
 use Rattle.path_laws.proofs.Searches.{least_none}
 use Rattle.basis_values.specs.Formulas.{IsRefusal}

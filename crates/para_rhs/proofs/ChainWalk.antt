@@ -15,10 +15,10 @@ use Rattle.lp_model.specs.declared.Stop.TheVariants as stop
 use Rattle.lp_model.specs.declared.reports.ParaEnd.{ParaEnd}
 use Rattle.lp_model.specs.declared.reports.ParaEnd.TheVariants as end
 use Rattle.lp_model.specs.declared.reports.ParaPart.{ParaPart}
-use Rattle.path_definitions.specs.Path.{last_of}
+use Rattle.method_definitions.specs.Path.{last_of}
 use Rattle.path_laws.specs.Laws.{IsNonsingularBasis}
-use Rattle.postoptimal_definitions.specs.Chain.{Part, AtBreak, FaceDone, FaceEnds, IsPart, IsChain, at_max, past_break}
-use Rattle.postoptimal_definitions.specs.RhsRun.{rhs_family}
+use Rattle.method_definitions.specs.Chain.{Part, AtBreak, FaceDone, FaceEnds, IsPart, IsChain, at_max, past_break}
+use Rattle.method_definitions.specs.RhsRun.{rhs_family}
 use Rattle.basis_values.specs.Calls.{PointRefused}
 use Rattle.bounded_primal.specs.Stops.{primal_stop_of}
 use Rattle.bounded_primal.specs.declared.moves.PrimalStop.{PrimalStop}
@@ -27,7 +27,7 @@ use Rattle.run_calls.specs.Calls.{part_of, end_of}
 use Rattle.run_calls.specs.Walks.{MayOpen, IntervalStops}
 use Rattle.run_calls.proofs.Chains.{closes, last_append, begun_last}
 use Rattle.run_calls.proofs.Walks.{opens_later, opens_next, run_breaks, opening_follows, interval_stops}
-use Rattle.sweep_truth.proofs.RhsGrowth.{rhs_grows}
+use Rattle.sweep_laws.proofs.RhsGrowth.{rhs_grows}
 use Rattle.para_rhs.specs.Faces.{family, Face, statement, FacesReach, AnyRun, FacesStop, FacesFollow}
 use Rattle.para_rhs.specs.Parts.{IsIntervalOf}
 use Rattle.para_rhs.specs.Refusals.{RunRefused}

@@ -21,9 +21,9 @@ use Rattle.lp_laws.proofs.Exchange.{AreRates-exchanged, was_nonbasic}
 use Rattle.lp_laws.proofs.Statuses.{basics_of-replaced, changed_own, changed_other}
 use Rattle.lp_laws.proofs.Values.{clash}
 use Rattle.lp_laws.specs.Rates.{exchanged_rate}
-use Rattle.path_definitions.specs.DualRatio.{brings_back, ratio}
-use Rattle.path_definitions.specs.Moves.{rises_from, falls_from, is_fixed, lowers, signed, may_rise, may_fall}
-use Rattle.path_definitions.specs.Path.{after, worth_rate, excess_rate}
+use Rattle.method_definitions.specs.DualRatio.{brings_back, ratio}
+use Rattle.method_definitions.specs.Moves.{rises_from, falls_from, is_fixed, lowers, signed, may_rise, may_fall}
+use Rattle.method_definitions.specs.Path.{after, worth_rate, excess_rate}
 use Rattle.path_laws.specs.Laws.{IsNonsingularBasis}
 use Rattle.sweep_laws.proofs.Alike.{lowers_idle}
 use Rattle.sweep_laws.proofs.Leads.{IsMover, is_mover, signed_zero}

@@ -2,9 +2,9 @@
 use Rattle.std.proofs.Common.{◌≡◌, ◌≢◌, ℕ, ◌≤◌, inl, List, ◌∷◌, true, false, refl, sym, ◌∙◌, ap, subst, subst₂, arith}
 use Rattle.std.specs.Prelude.{Some, None, not, ◌&&◌, ◌||◌, nat_eq}
 use Rattle.exact_values.specs.Rational.{ℚ, zero_ℚ, ◌-ℚ◌}
-use Rattle.evidence_definitions.specs.Evidence.{by_ratio, names_waypoint}
-use Rattle.evidence_definitions.specs.Formulas.{PointFormula, f6, f7, f14, number_of_limit}
-use Rattle.evidence_definitions.specs.Statements.{Pararhs, is_between, EntersAt, BringsAt}
+use Rattle.method_definitions.specs.Evidence.{by_ratio, names_waypoint}
+use Rattle.method_definitions.specs.Formulas.{PointFormula, f6, f7, f14, number_of_limit}
+use Rattle.method_definitions.specs.Statements.{Pararhs, is_between, EntersAt, BringsAt}
 use Rattle.frac128.specs.declared.Op.TheVariants.{Div}
 use Rattle.lp_definitions.specs.Basis.{Basics, basics_of, IsBasic, IsNonbasic, IsDirectionOf, AreRates, ArePricesOf, IsPointOf, Tableau, IsTableau}
 use Rattle.lp_definitions.specs.LinearProgram.{LinearProgram, Vector, IsVariable, IsLinearProgram}
@@ -20,10 +20,10 @@ use Rattle.lp_laws.proofs.WaypointLaws.{within_itself}
 use Rattle.lp_model.specs.RatesCalls.{IsRowOf, IfOverflow}
 use Rattle.lp_model.specs.declared.Stop.{Stop}
 use Rattle.lp_model.specs.declared.Stop.TheVariants as stop
-use Rattle.path_definitions.specs.Moves.{signed}
+use Rattle.method_definitions.specs.Moves.{signed}
 use Rattle.path_laws.specs.Laws.{IsNonsingularBasis}
-use Rattle.postoptimal_definitions.specs.Chain.{FaceMoves}
-use Rattle.postoptimal_definitions.specs.RhsRun.{rhs_family, IsSlope, IsRhsFace}
+use Rattle.method_definitions.specs.Chain.{FaceMoves}
+use Rattle.method_definitions.specs.RhsRun.{rhs_family, IsSlope, IsRhsFace}
 use Rattle.basis_values.specs.Calls.{StopsAt, PointRefused}
 use Rattle.bounded_primal.specs.Moves.{StepRefused, move_by}
 use Rattle.bounded_primal.specs.Steps.{ReturnRefused, of_distance, of_quotient}

@@ -7,7 +7,7 @@ use Rattle.exact_values.proofs.Ring.{by_ring2, ◌⊕◌, ◌⊗◌, ◌≐◌, 
 use Rattle.exact_values.proofs.Tests_laws.{same_from_test, le_from_test}
 use Rattle.changed_programs.specs.Changes.{ChangeIsRow, HasRows, IsRightTableau}
 use Rattle.changed_programs.proofs.Tableaus.{by_tableau}
-use Rattle.evidence_definitions.specs.Formulas.{limit_numbered, number_of_limit}
+use Rattle.method_definitions.specs.Formulas.{limit_numbered, number_of_limit}
 use Rattle.lp_definitions.specs.Basis.{is_in, basics_of, IsBasic, IsNonbasic, IsDirectionOf, ArePricesOf, StandsAt, IsOptimalBasis, IsPointOf, Tableau, IsTableau}
 use Rattle.lp_definitions.specs.LinearProgram.{LinearProgram, Vector, size, value_at, IsVariable, IsLinearProgram, lower_of, upper_of}
 use Rattle.lp_definitions.specs.declared.Change.{Change}
@@ -18,14 +18,14 @@ use Rattle.lp_laws.proofs.Uniqueness.{one_direction}
 use Rattle.lp_laws.specs.Vectors.{along}
 use Rattle.lp_laws.specs.Rates.{exchanged_rate}
 use Rattle.lp_model.specs.RatesCalls.{IsRowOf}
-use Rattle.path_definitions.specs.DualRatio.{brings_back, ratio, is_cheapest, cheapest}
-use Rattle.path_definitions.specs.Moves.{on_limit, signed}
-use Rattle.path_definitions.specs.Path.{Move, after, ray_of}
+use Rattle.method_definitions.specs.DualRatio.{brings_back, ratio, is_cheapest, cheapest}
+use Rattle.method_definitions.specs.Moves.{on_limit, signed}
+use Rattle.method_definitions.specs.Path.{Move, after, ray_of}
 use Rattle.path_laws.specs.Laws.{IsNonsingularBasis}
 use Rattle.path_laws.proofs.Numbered.{list_all_true}
 use Rattle.path_laws.proofs.Searches.{found_passes}
-use Rattle.postoptimal_definitions.specs.Chain.{FaceMoves, FaceDone, FaceEnds, InfeasiblePast}
-use Rattle.postoptimal_definitions.specs.RhsRun.{rhs_family, IsSlope, leaving, leaves_below, leaves_above, face_exchange, face_at, rhs_face, IsRhsFace}
+use Rattle.method_definitions.specs.Chain.{FaceMoves, FaceDone, FaceEnds, InfeasiblePast}
+use Rattle.method_definitions.specs.RhsRun.{rhs_family, IsSlope, leaving, leaves_below, leaves_above, face_exchange, face_at, rhs_face, IsRhsFace}
 use Rattle.bounded_primal.specs.Moves.{return_by, IsStepBy, brings}
 use Rattle.bounded_primal.specs.Turns.{ray_from}
 use Rattle.basis_values.proofs.Existence.{rates_exist}

@@ -7,8 +7,8 @@ use Rattle.lp_definitions.specs.Basis.{Basics, basics_of}
 use Rattle.lp_definitions.specs.Waypoints.{KeepsWaypoints}
 use Rattle.lp_definitions.specs.declared.Status.{Status}
 use Rattle.lp_laws.proofs.WaypointLaws.{keeps_then}
-use Rattle.path_definitions.specs.Path.{Move, after}
-use Rattle.postoptimal_definitions.specs.Chain.{FaceMoves, IsFaceStep, AtBreak}
+use Rattle.method_definitions.specs.Path.{Move, after}
+use Rattle.method_definitions.specs.Chain.{FaceMoves, IsFaceStep, AtBreak}
 use Rattle.bounded_primal.specs.declared.moves.PrimalStop.{PrimalStop}
 use Rattle.run_calls.specs.Walks.{FaceStops}
 use Rattle.run_calls.proofs.Walks.{face_path_more, run_later, run_more, run_stops, follows}

@@ -7,7 +7,7 @@ use Rattle.lp_definitions.specs.LinearProgram.{Matrix, LinearProgram, size, IsLi
 use Rattle.lp_laws.proofs.Opening.{length-numbers_from}
 use Rattle.path_laws.proofs.Numbered.{get_or-listed}
 use Rattle.changed_programs.proofs.MovedLimits.{unmoved}
-use Rattle.postoptimal_definitions.specs.RhsRun.{shift_of, shifted, rhs_family}
+use Rattle.method_definitions.specs.RhsRun.{shift_of, shifted, rhs_family}
 
 -- limits that are moved by 0 times their shifts are the limits
 module _ (a : Matrix) (shift : List ℚ) (limits : List (Option ℚ)) (counted : length limits ≡ size a) where

@@ -9,8 +9,8 @@ use Rattle.lp_definitions.specs.Basis.{ArePricesOf, IsPointOf}
 use Rattle.lp_definitions.specs.declared.Status.{Status}
 use Rattle.path_laws.specs.Laws.{IsNonsingularBasis}
 use Rattle.changed_programs.proofs.RightHandSides.{points}
-use Rattle.postoptimal_definitions.specs.Chain.{along, ReachesTo, IsPart}
-use Rattle.postoptimal_definitions.specs.RhsRun.{rhs_family, IsSlope}
+use Rattle.method_definitions.specs.Chain.{along, ReachesTo, IsPart}
+use Rattle.method_definitions.specs.RhsRun.{rhs_family, IsSlope}
 
 zero_in : (n i : ℕ) → slice_index_or (replicate n zero_ℚ) i zero_ℚ ≡ zero_ℚ
 zero_in zero i = refl

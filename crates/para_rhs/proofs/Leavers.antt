@@ -11,11 +11,11 @@ use Rattle.lp_definitions.specs.LinearProgram.{LinearProgram, Vector, size, IsVa
 use Rattle.lp_definitions.specs.declared.Status.{Status}
 use Rattle.lp_laws.proofs.Uniqueness.{one_point, same_from_nonbasics}
 use Rattle.lp_laws.specs.Vectors.{along}
-use Rattle.path_definitions.specs.Moves.{least, on_limit}
+use Rattle.method_definitions.specs.Moves.{least, on_limit}
 use Rattle.path_laws.proofs.Numbered.{find_same}
 use Rattle.path_laws.proofs.Searches.{found_passes}
 use Rattle.path_laws.specs.Laws.{IsNonsingularBasis}
-use Rattle.postoptimal_definitions.specs.RhsRun.{shift_of, rhs_family, IsSlope, leaves_below, leaves_above, leaving}
+use Rattle.method_definitions.specs.RhsRun.{shift_of, rhs_family, IsSlope, leaves_below, leaves_above, leaving}
 use Rattle.changed_programs.proofs.MovedLimits.{moved, lower_is, upper_is}
 use Rattle.changed_programs.proofs.RightHandSides.{points}
 use Rattle.sweep_laws.proofs.Rhs.{to_rhs}

@@ -11,11 +11,11 @@ use Rattle.lp_definitions.specs.declared.Change.{Change}
 use Rattle.lp_definitions.specs.declared.Status.{Status}
 use Rattle.lp_laws.proofs.Uniqueness.{one_table}
 use Rattle.lp_model.specs.RatesCalls.{IsRowOf}
-use Rattle.path_definitions.specs.DualRatio.{brings_back, ratio, cheapest}
-use Rattle.path_definitions.specs.Moves.{on_limits, rises_from, falls_from, lowers, signed}
+use Rattle.method_definitions.specs.DualRatio.{brings_back, ratio, cheapest}
+use Rattle.method_definitions.specs.Moves.{on_limits, rises_from, falls_from, lowers, signed}
 use Rattle.path_laws.proofs.Numbered.{find_same, list_all_same}
 use Rattle.path_laws.specs.Laws.{IsNonsingularBasis}
-use Rattle.postoptimal_definitions.specs.RhsRun.{shift_of, rhs_family}
+use Rattle.method_definitions.specs.RhsRun.{shift_of, rhs_family}
 use Rattle.sweep_laws.proofs.Alike.{lowers_idle}
 use Rattle.changed_programs.proofs.MovedLimits.{moved, lower_is, upper_is}
 use Rattle.para_rhs.specs.Cheapest.{brings, ratio_of, cheapest_by}

@@ -10,8 +10,8 @@ use Rattle.lp_definitions.specs.LinearProgram.{LinearProgram, Vector, size, IsLi
 use Rattle.lp_definitions.specs.Basis.{IsPointOf, IsOptimalBasis}
 use Rattle.lp_definitions.specs.declared.Status.{Status}
 use Rattle.path_laws.specs.Laws.{IsNonsingularBasis}
-use Rattle.postoptimal_definitions.specs.Chain.{ReachesTo}
-use Rattle.postoptimal_definitions.specs.RhsRun.{rhs_family, IsSlope}
+use Rattle.method_definitions.specs.Chain.{ReachesTo}
+use Rattle.method_definitions.specs.RhsRun.{rhs_family, IsSlope}
 use Rattle.changed_programs.specs.Changes.{ValuesStay}
 use Rattle.changed_programs.specs.Laws.{IsDualFeasibleBasis}
 use Rattle.changed_programs.proofs.RightHandSides.{right_hand_sides, dual_feasible}

@@ -13,7 +13,7 @@ use Rattle.lp_laws.proofs.Statuses.{status_of_nonbasic}
 use Rattle.basis_values.specs.Calls.{HasRates, KeepsRates}
 use Rattle.path_laws.specs.Laws.{IsNonsingularBasis}
 use Rattle.path_laws.proofs.Numbered.{get_or-listed}
-use Rattle.postoptimal_definitions.specs.RhsRun.{shift_of, IsSlope}
+use Rattle.method_definitions.specs.RhsRun.{shift_of, IsSlope}
 use Rattle.para_rhs.specs.Slopes.{shifts_of, slope_program}
 use Rattle.changed_programs.proofs.MovedLimits.{none_to, none_from, allowed_to, free_unshifted}
 

@@ -13,10 +13,10 @@ use Rattle.lp_definitions.specs.Basis.{Basics, basics_of, IsNonbasic, IsDirectio
 use Rattle.lp_definitions.specs.declared.Status.{Status}
 use Rattle.lp_model.specs.declared.reports.ParaEnd.{ParaEnd}
 use Rattle.lp_model.specs.declared.reports.ParaEnd.TheVariants.{Infeasible}
-use Rattle.path_definitions.specs.Path.{after, last_of}
-use Rattle.postoptimal_definitions.specs.Chain.{FaceTurn, FaceMoves, FaceDone, FaceEnds, IsFacePath, AtBreak}
-use Rattle.postoptimal_definitions.specs.RhsRun.{rhs_family, IsSlope, IsRhsFace}
-use Rattle.evidence_definitions.specs.Statements.{SolvingStatement, Pararhs}
+use Rattle.method_definitions.specs.Path.{after, last_of}
+use Rattle.method_definitions.specs.Chain.{FaceTurn, FaceMoves, FaceDone, FaceEnds, IsFacePath, AtBreak}
+use Rattle.method_definitions.specs.RhsRun.{rhs_family, IsSlope, IsRhsFace}
+use Rattle.method_definitions.specs.Statements.{SolvingStatement, Pararhs}
 use Rattle.bounded_primal.specs.Moves.{IsStepBy, move_by}
 use Rattle.bounded_primal.specs.declared.moves.PrimalStop.{PrimalStop}
 use Rattle.bounded_primal.specs.declared.moves.Stopper.{Stopper}

@@ -22,8 +22,8 @@ use Rattle.lp_definitions.specs.Basis.{IsOptimalBasis}
 use Rattle.lp_definitions.specs.LinearProgram.{LinearProgram, Vector, IsVariable, lower_of, upper_of}
 use Rattle.lp_definitions.specs.declared.Evidence.{Evidence}
 use Rattle.lp_definitions.specs.declared.Status.{Status}
-use Rattle.postoptimal_definitions.specs.Chain.{ReachesTo}
-use Rattle.postoptimal_definitions.specs.RhsRun.{shift_of, rhs_family}
+use Rattle.method_definitions.specs.Chain.{ReachesTo}
+use Rattle.method_definitions.specs.RhsRun.{shift_of, rhs_family}
 use Rattle.basis_values.specs.Formulas.{IsRefusal}
 use Rattle.basis_values.specs.declared.formula.Formula.{Formula}
 use Rattle.para_rhs.specs.Limits.{limit_on, number_of, is_upper}

@@ -6,7 +6,7 @@ ghost use Rattle.exact_values.specs.Tests.{eq_ℚ};
 ghost use Rattle.lp_definitions.specs.LinearProgram.{size, value_at, IsVariable, IsLinearProgram};
 ghost use Rattle.lp_definitions.specs.Basis.{Basics, IsPointOf};
 ghost use Rattle.path_laws.specs.Laws.{IsNonsingularBasis};
-ghost use Rattle.postoptimal_definitions.specs.RhsRun.{shift_of, IsSlope};
+ghost use Rattle.method_definitions.specs.RhsRun.{shift_of, IsSlope};
 ghost use Rattle.para_rhs.specs.Breaks.{stands_at, leaving_side, IsLeaverOf, IsFaceLeaver};
 ghost use Rattle.para_rhs.specs.Limits.{limit_on};
 ghost use Rattle.para_rhs.specs.Reach.{side_ahead, VariableRefused, SomeVariableRefused};

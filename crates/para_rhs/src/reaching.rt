@@ -8,7 +8,7 @@ ghost use Rattle.lp_definitions.specs.LinearProgram.{size, value_at, IsVariable,
 ghost use Rattle.lp_definitions.specs.RatesEvidence.{Names};
 ghost use Rattle.lp_definitions.specs.Basis.{Basics, IsPointOf};
 ghost use Rattle.path_laws.specs.Laws.{IsNonsingularBasis};
-ghost use Rattle.postoptimal_definitions.specs.RhsRun.{shift_of, IsSlope};
+ghost use Rattle.method_definitions.specs.RhsRun.{shift_of, IsSlope};
 ghost use Rattle.basis_values.specs.Formulas.{IsRefusal};
 ghost use Rattle.para_rhs.specs.Limits.{limit_on, number_of};
 ghost use Rattle.para_rhs.specs.Reach.{side_ahead, bound_of, limit_sides, IsNarrowed, high_of, IsReachOf, IsReachFromAny, basic_formula, VariableRefused, SomeVariableRefused};

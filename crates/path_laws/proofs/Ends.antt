@@ -15,8 +15,8 @@ use Rattle.lp_laws.proofs.Equations.{KeepsEquations-same}
 use Rattle.lp_laws.proofs.Uniqueness.{is_in-basics_of}
 use Rattle.lp_laws.proofs.Optimal.{prices_prove}
 use Rattle.lp_laws.proofs.Duality.{best_by_prices}
-use Rattle.path_definitions.specs.Moves.{on_limit, on_limits, is_crossed, is_outside, is_fixed, rises_from, falls_from, lowers}
-use Rattle.path_definitions.specs.Path.{EndsOptimal, Ends, EndsAt, listed, worth_rate, mover}
+use Rattle.method_definitions.specs.Moves.{on_limit, on_limits, is_crossed, is_outside, is_fixed, rises_from, falls_from, lowers}
+use Rattle.method_definitions.specs.Path.{EndsOptimal, Ends, EndsAt, listed, worth_rate, mover}
 use Rattle.path_laws.specs.Laws.{IsNonsingularBasis, ProvedOptimal}
 use Rattle.path_laws.proofs.Tests.{lt_false, eq_true}
 use Rattle.path_laws.proofs.Numbered.{find_none, get_or-listed}

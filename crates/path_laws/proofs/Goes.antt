@@ -9,7 +9,7 @@ use Rattle.lp_laws.specs.Points.{standing}
 use Rattle.lp_laws.proofs.Opening.{AreRates-opening}
 use Rattle.lp_laws.proofs.Points.{IsPointOf-combination}
 use Rattle.lp_laws.proofs.Statuses.{basics_of-opening}
-use Rattle.path_definitions.specs.Path.{Turn, Moves, Ends, PathEnding, turn, after, IsStep, EndsAt, GoesOnFor}
+use Rattle.method_definitions.specs.Path.{Turn, Moves, Ends, PathEnding, turn, after, IsStep, EndsAt, GoesOnFor}
 use Rattle.path_laws.specs.Laws.{IsNonsingularBasis, HasTableau, EndsWithin}
 use Rattle.path_laws.proofs.Steps.{step_leads_to, opening_is}
 

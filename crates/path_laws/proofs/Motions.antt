@@ -15,8 +15,8 @@ use Rattle.lp_definitions.specs.declared.Status.TheVariants.{Bs, Ll, Ul}
 use Rattle.lp_laws.specs.Vectors.{along}
 use Rattle.lp_laws.proofs.Equations.{KeepsEquations-along}
 use Rattle.lp_laws.proofs.Points.{IsPointOf-replaced}
-use Rattle.path_definitions.specs.Moves.{is_no_later, signed, room, reached, stopper}
-use Rattle.path_definitions.specs.Path.{speeds}
+use Rattle.method_definitions.specs.Moves.{is_no_later, signed, room, reached, stopper}
+use Rattle.method_definitions.specs.Path.{speeds}
 use Rattle.path_laws.specs.Laws.{IsNonsingularBasis}
 use Rattle.path_laws.proofs.Tests.{lt_true, lt_false, le_true, neg_above}
 use Rattle.path_laws.proofs.Stoppers.{stopper_some, reaches_limit}

@@ -4,7 +4,7 @@ use Rattle.lp_definitions.specs.LinearProgram.{LinearProgram, IsLinearProgram}
 use Rattle.lp_definitions.specs.Basis.{basics_of, Tableau, IsTableau}
 use Rattle.lp_definitions.specs.declared.Status.{Status}
 use Rattle.lp_laws.proofs.Uniqueness.{one_point, one_table}
-use Rattle.path_definitions.specs.Path.{PathEnding, turn, after, IsStep, EndsAt, IsPath, last_of, PathEnds, GoesOnFor}
+use Rattle.method_definitions.specs.Path.{PathEnding, turn, after, IsStep, EndsAt, IsPath, last_of, PathEnds, GoesOnFor}
 use Rattle.path_laws.specs.Laws.{IsNonsingularBasis, SameEnds, EndsWithin}
 use Rattle.path_laws.proofs.OneTurn.{SameTableau, turn_same}
 use Rattle.path_laws.proofs.Steps.{step_leads}

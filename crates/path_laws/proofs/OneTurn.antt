@@ -8,8 +8,8 @@ use Rattle.lp_definitions.specs.Basis.{is_in, basics_of, status_of, is_basic, Is
 use Rattle.lp_definitions.specs.declared.Status.{Status}
 use Rattle.lp_definitions.specs.declared.Status.TheVariants.{Bs, Ll, Ul, Fr}
 use Rattle.lp_laws.proofs.Uniqueness.{is_in-basics_of}
-use Rattle.path_definitions.specs.Moves.{is_below, is_outside, is_fixed, rises_from, falls_from, lowers, entering, signed, goes_up, room, is_no_later, reaches_first, stopper, on_limit}
-use Rattle.path_definitions.specs.Path.{Moves, Ends, EndsOptimal, EndsInfeasible, EndsUnbounded, listed, ray_of, excess_rate, speeds, crossed, outside, worth_rate, mover, bring_back, run_until, better, turn_for, turn}
+use Rattle.method_definitions.specs.Moves.{is_below, is_outside, is_fixed, rises_from, falls_from, lowers, entering, signed, goes_up, room, is_no_later, reaches_first, stopper, on_limit}
+use Rattle.method_definitions.specs.Path.{Moves, Ends, EndsOptimal, EndsInfeasible, EndsUnbounded, listed, ray_of, excess_rate, speeds, crossed, outside, worth_rate, mover, bring_back, run_until, better, turn_for, turn}
 use Rattle.path_laws.proofs.Numbered.{find_same, find_some, list_all_same, map_same}
 use Rattle.path_laws.proofs.Endless.{enters, objective_value-same}
 

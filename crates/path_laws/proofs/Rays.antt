@@ -3,7 +3,7 @@ use Rattle.std.proofs.Common.{◌≡◌, ◌≢◌, ℕ, suc, ◌+◌, ◌⊎◌
 use Rattle.std.specs.Prelude.{Option, Some, None, not, ◌&&◌, ◌||◌, unwrap_or, if◌then◌else◌, nat_eq, eqb}
 use Rattle.std.proofs.lemmas.Bool.Decides.{eqb_tells}
 use Rattle.std.proofs.lemmas.Bool.{and_parts}
-use Rattle.divisors.specs.Gcd.{gcd}
+use Rattle.exact_values.specs.Gcd.{gcd}
 use Rattle.exact_values.specs.Rational.{ℚ, whole, fraction, zero_ℚ, one_ℚ, neg_ℚ, ◌+ℚ◌, ◌*ℚ◌, ◌≤ℚ◌, ◌<ℚ◌}
 use Rattle.exact_values.specs.Tests.{lt_ℚ}
 use Rattle.exact_values.proofs.Ring.{by_ring1, ◌⊗◌, ◌≐◌, number, opposite}
@@ -22,8 +22,8 @@ use Rattle.lp_laws.proofs.Functionals.{functional_at_unit, KeepsEquations-unit}
 use Rattle.lp_laws.proofs.Uniqueness.{is_in-basics_of}
 use Rattle.lp_laws.proofs.Combination.{multiplier_vanishes}
 use Rattle.lp_laws.proofs.Rays.{ray_above, ray_below}
-use Rattle.path_definitions.specs.Moves.{is_below, is_outside, is_fixed, lowers, signed, on_limit}
-use Rattle.path_definitions.specs.Path.{EndsInfeasible, Ends, EndsAt, listed, ray_of, excess_rate, mover}
+use Rattle.method_definitions.specs.Moves.{is_below, is_outside, is_fixed, lowers, signed, on_limit}
+use Rattle.method_definitions.specs.Path.{EndsInfeasible, Ends, EndsAt, listed, ray_of, excess_rate, mover}
 use Rattle.path_laws.proofs.Tests.{lt_true, neg_below, neg_above}
 use Rattle.path_laws.proofs.Numbered.{find_some, find_none, IsFound}
 use Rattle.path_laws.proofs.Turns.{IsFirstPhase, IsStuckTurn, rule_of, stuck_turn}

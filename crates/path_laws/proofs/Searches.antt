@@ -3,7 +3,7 @@ use Rattle.std.proofs.Common.{◌≡◌, ℕ, ◌≤◌, ◌<◌, Bool, true, fa
 use Rattle.std.specs.Prelude.{Some, None}
 use Rattle.lp_laws.proofs.Values.{clash}
 use Rattle.lp_definitions.specs.LinearProgram.{LinearProgram, Vector, size, IsVariable}
-use Rattle.path_definitions.specs.Moves.{least, is_no_later, room, reaches_first, stopper}
+use Rattle.method_definitions.specs.Moves.{least, is_no_later, room, reaches_first, stopper}
 use Rattle.path_laws.specs.Laws.{IsLeast}
 use Rattle.path_laws.proofs.Numbered.{find_first, find_nothing, find_none, find_some, list_all_from, list_all_true}
 use Rattle.path_laws.proofs.Stoppers.{reaches_limit}

@@ -10,8 +10,8 @@ use Rattle.lp_definitions.specs.declared.Status.{Status}
 use Rattle.lp_laws.specs.Vectors.{along}
 use Rattle.lp_laws.proofs.Duality.{for_min-along}
 use Rattle.lp_laws.proofs.Uniqueness.{one_point}
-use Rattle.path_definitions.specs.Moves.{is_below, goes_up, reached}
-use Rattle.path_definitions.specs.Path.{Move, Moves, after, IsStep, IsPath, last_of, worth_rate}
+use Rattle.method_definitions.specs.Moves.{is_below, goes_up, reached}
+use Rattle.method_definitions.specs.Path.{Move, Moves, after, IsStep, IsPath, last_of, worth_rate}
 use Rattle.path_laws.specs.Laws.{IsNonsingularBasis, IsNoWorse}
 use Rattle.path_laws.proofs.Motions.{length_of, comes, moved_feasible, moved_point}
 use Rattle.path_laws.proofs.Turns.{IsStoppedTurn, MovingRule, brings, stops, bettering, moving_turn, rule_of}

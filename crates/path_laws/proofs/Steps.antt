@@ -16,8 +16,8 @@ use Rattle.lp_laws.proofs.Values.{clash}
 use Rattle.lp_laws.proofs.Exchange.{IsNonsingular-exchanged, AreRates-exchanged}
 use Rattle.lp_laws.proofs.Statuses.{basics_of-replaced, basics_of-flipped, status_of_basic, status_of_nonbasic, IsBasis-replaced, IsBasis-flipped, IsBasis-opening, basics_of-opening}
 use Rattle.lp_laws.proofs.Opening.{IsNonsingular-row_basics}
-use Rattle.path_definitions.specs.Moves.{is_below, signed, goes_up, limit_ahead, room, reached, stopper}
-use Rattle.path_definitions.specs.Path.{Move, Moves, after, speeds, IsStep, excess_rate, worth_rate}
+use Rattle.method_definitions.specs.Moves.{is_below, signed, goes_up, limit_ahead, room, reached, stopper}
+use Rattle.method_definitions.specs.Path.{Move, Moves, after, speeds, IsStep, excess_rate, worth_rate}
 use Rattle.path_laws.specs.Laws.{IsNonsingularBasis}
 use Rattle.path_laws.proofs.Tests.{lt_true}
 use Rattle.path_laws.proofs.Stoppers.{stopper_some, reaches_limit}

@@ -5,7 +5,7 @@ use Rattle.exact_values.specs.Rational.{ℚ, ◌≤ℚ◌}
 use Rattle.exact_values.proofs.Order.{le_refl, le_trans, le_total}
 use Rattle.lp_definitions.specs.LinearProgram.{LinearProgram, Vector, IsVariable, size}
 use Rattle.lp_laws.proofs.Values.{clash}
-use Rattle.path_definitions.specs.Moves.{is_no_later, reaches_first, room, stopper}
+use Rattle.method_definitions.specs.Moves.{is_no_later, reaches_first, room, stopper}
 use Rattle.path_laws.proofs.Tests.{le_true, le_from}
 use Rattle.path_laws.proofs.Numbered.{find_none, find_some, list_all_from, list_all_true, from_first}
 

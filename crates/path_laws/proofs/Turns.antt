@@ -6,8 +6,8 @@ use Rattle.lp_definitions.specs.LinearProgram.{LinearProgram, Vector}
 use Rattle.lp_definitions.specs.Basis.{Tableau, basics_of, price_at}
 use Rattle.lp_definitions.specs.declared.Status.{Status}
 use Rattle.lp_definitions.specs.declared.Status.TheVariants.{Ll, Ul}
-use Rattle.path_definitions.specs.Moves.{is_below, goes_up, stopper}
-use Rattle.path_definitions.specs.Path.{Move, Turn, Moves, Ends, EndsOptimal, EndsCrossed, EndsInfeasible, EndsUnbounded, listed, ray_of, speeds, stopped_by, crossed, outside, worth_rate, mover, bring_back, run_until, better, turn_for, turn}
+use Rattle.method_definitions.specs.Moves.{is_below, goes_up, stopper}
+use Rattle.method_definitions.specs.Path.{Move, Turn, Moves, Ends, EndsOptimal, EndsCrossed, EndsInfeasible, EndsUnbounded, listed, ray_of, speeds, stopped_by, crossed, outside, worth_rate, mover, bring_back, run_until, better, turn_for, turn}
 
 module _ (p : LinearProgram) (s : List Status) (t : Tableau) where
   -- the speeds at which q betters the objective

@@ -10,8 +10,8 @@ use Rattle.lp_definitions.specs.LinearProgram.{LinearProgram, Vector, value_at, 
 use Rattle.lp_definitions.specs.Solutions.{IsFeasible, IsBest, AreProvingPrices, IsCrossed, IsRay, ProvesUnbounded}
 use Rattle.lp_definitions.specs.Basis.{basics_of, IsBasis, IsNonsingular, IsOptimalBasis, IsPointOf, ArePricesOf, Tableau, IsTableau, opening_statuses}
 use Rattle.lp_definitions.specs.declared.Status.{Status}
-use Rattle.path_definitions.specs.Moves.{least, is_no_later, room, stopper}
-use Rattle.path_definitions.specs.Path.{PathEnding, EndsOptimal, EndsCrossed, EndsInfeasible, EndsUnbounded, IsStep, EndsAt, IsPath, last_of, PathEnds, GoesOnFor}
+use Rattle.method_definitions.specs.Moves.{least, is_no_later, room, stopper}
+use Rattle.method_definitions.specs.Path.{PathEnding, EndsOptimal, EndsCrossed, EndsInfeasible, EndsUnbounded, IsStep, EndsAt, IsPath, last_of, PathEnds, GoesOnFor}
 
 pub record IsNonsingularBasis (p : LinearProgram) (s : List Status) : Type 0 where
   pub is_basis : IsBasis p s

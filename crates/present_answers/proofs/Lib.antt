@@ -4,3 +4,5 @@ pub mod Refused
 pub mod SolutionLines
 pub mod RangeLines
 pub mod RangeStops
+mod Facts
+mod Printable

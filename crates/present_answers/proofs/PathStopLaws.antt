@@ -5,9 +5,9 @@ use Rattle.lp_definitions.specs.LinearProgram.{LinearProgram}
 use Rattle.lp_definitions.specs.Basis.{Basics, basics_of}
 use Rattle.lp_definitions.specs.Waypoints.{waypoint}
 use Rattle.lp_definitions.specs.declared.Evidence.{Evidence}
-use Rattle.path_definitions.specs.Path.{IsPath, last_of}
-use Rattle.evidence_definitions.specs.Statements.{Primal}
-use Rattle.evidence_definitions.specs.Evidence.{EvidenceHolds}
+use Rattle.method_definitions.specs.Path.{IsPath, last_of}
+use Rattle.method_definitions.specs.Statements.{Primal}
+use Rattle.method_definitions.specs.Evidence.{EvidenceHolds}
 use Rattle.question_definitions.specs.Answers.{Basis}
 use Rattle.answer_definitions.specs.Evidence.{last_basis}
 use Rattle.listing_tables.specs.declared.sheet.Sheet.{Sheet}

@@ -7,7 +7,7 @@ use Rattle.lp_definitions.specs.Basis.{status_of, IsPointOf, Tableau, IsOptimalB
 use Rattle.lp_definitions.specs.declared.Status.{Status}
 use Rattle.lp_model.specs.declared.reports.Interval as code
 use Rattle.lp_model.specs.declared.reports.RangeReport.{RangeReport}
-use Rattle.postoptimal_definitions.specs.Ranges.{Interval, IsRangeReport}
+use Rattle.method_definitions.specs.Ranges.{Interval, IsRangeReport}
 use Rattle.problem_definitions.specs.Problem.{Problem}
 use Rattle.listing_definitions.specs.Report.{Value, Code, Number, Dash, limit_value}
 use Rattle.listing_tables.specs.Lines as printed

@@ -12,8 +12,8 @@ use Rattle.lp_laws.proofs.WaypointLaws.{Covers, Covers-all, covered, kept_within
 use Rattle.lp_model.specs.RatesCalls.{IfOverflow}
 use Rattle.lp_model.specs.declared.Stop.{Stop}
 use Rattle.lp_model.proofs.Stops.{IfOverflow-map}
-use Rattle.evidence_definitions.specs.Statements.{Primal, Range, is_between, belongs, thetas_of}
-use Rattle.evidence_definitions.specs.Evidence.{Formula, by_exchange, by_entry, by_carried, by_point, by_slack, by_move, by_ratio, by_range, by_objective, by_slope, ShowsRefusal}
+use Rattle.method_definitions.specs.Statements.{Primal, Range, is_between, belongs, thetas_of}
+use Rattle.method_definitions.specs.Evidence.{Formula, by_exchange, by_entry, by_carried, by_point, by_slack, by_move, by_ratio, by_range, by_objective, by_slope, ShowsRefusal}
 use Rattle.basis_values.specs.Calls.{job_of, is_of_point, StopsAt, PointRefused, RangeRefused}
 use Rattle.present_answers.specs.Stops.{RangesRefused}
 use Rattle.present_answers.proofs.Refused.{within_last, covers_trans}

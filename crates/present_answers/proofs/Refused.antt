@@ -13,9 +13,9 @@ use Rattle.lp_laws.proofs.WaypointLaws.{Covers, Covers-all, covered, kept_within
 use Rattle.lp_model.specs.RatesCalls.{IfOverflow}
 use Rattle.lp_model.specs.declared.Stop.{Stop}
 use Rattle.lp_model.proofs.Stops.{IfOverflow-map}
-use Rattle.evidence_definitions.specs.Formulas.{f6_slack}
-use Rattle.evidence_definitions.specs.Statements.{Primal, Solution, is_between, belongs, thetas_of}
-use Rattle.evidence_definitions.specs.Evidence.{Formula, by_exchange, by_entry, by_carried, by_point, by_slack, by_move, by_ratio, by_range, by_objective, by_slope, ShowsRefusal, GoesTo, names_waypoint}
+use Rattle.method_definitions.specs.Formulas.{f6_slack}
+use Rattle.method_definitions.specs.Statements.{Primal, Solution, is_between, belongs, thetas_of}
+use Rattle.method_definitions.specs.Evidence.{Formula, by_exchange, by_entry, by_carried, by_point, by_slack, by_move, by_ratio, by_range, by_objective, by_slope, ShowsRefusal, GoesTo, names_waypoint}
 use Rattle.basis_values.specs.Calls.{job_of, is_of_point, PointRefused}
 use Rattle.present_answers.specs.Slack.{SomeSlackRefused}
 use Rattle.present_answers.specs.Stops.{SolutionRefused}

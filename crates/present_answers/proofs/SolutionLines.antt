@@ -6,7 +6,7 @@ use Rattle.lp_definitions.specs.LinearProgram.{LinearProgram, Vector, value_at, 
 use Rattle.lp_definitions.specs.Basis.{status_of, IsPointOf, ArePricesOf, Tableau}
 use Rattle.lp_definitions.specs.declared.Status.{Status}
 use Rattle.lp_definitions.specs.declared.Status.TheVariants.{Bs, Ll, Ul, Fr}
-use Rattle.path_definitions.specs.Moves.{is_fixed}
+use Rattle.method_definitions.specs.Moves.{is_fixed}
 use Rattle.path_laws.proofs.Numbered.{map_same}
 use Rattle.problem_definitions.specs.Problem.{Problem}
 use Rattle.listing_definitions.specs.Report.{Value, Code, Number, limit_value}

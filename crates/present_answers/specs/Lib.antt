@@ -2,3 +2,6 @@ pub mod Reports
 pub mod Slack
 pub mod Answers
 pub mod Stops
+pub mod RunReports
+pub mod Objective
+pub mod RightHandSide

@@ -13,7 +13,7 @@ use Rattle.lp_model.specs.declared.reports.Outcome.{Outcome}
 use Rattle.lp_model.specs.declared.reports.Outcome.TheVariants.{Optimal, Crossed, Infeasible, Unbounded}
 use Rattle.check_definitions.specs.declared.Verdict.{Verdict}
 use Rattle.check_definitions.specs.Checks.{optimal_check, crossed_check, infeasible_check, unbounded_check}
-use Rattle.path_definitions.specs.Path.{last_of}
+use Rattle.method_definitions.specs.Path.{last_of}
 use Rattle.termination_laws.specs.Laws.{lists_of}
 use Rattle.question_definitions.specs.Answers as answers
 use Rattle.question_definitions.specs.Answers.{Basis}

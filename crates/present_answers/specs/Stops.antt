@@ -7,7 +7,7 @@ use Rattle.lp_definitions.specs.Basis.{Basics, basics_of}
 use Rattle.lp_definitions.specs.Waypoints.{waypoint}
 use Rattle.lp_definitions.specs.declared.Evidence.{Evidence}
 use Rattle.lp_definitions.specs.declared.Status.{Status}
-use Rattle.evidence_definitions.specs.Statements.{Solution, Range}
+use Rattle.method_definitions.specs.Statements.{Solution, Range}
 use Rattle.answer_definitions.specs.Evidence.{IsEvidence}
 use Rattle.basis_values.specs.Calls.{LieIn}
 

@@ -12,7 +12,7 @@ use Rattle.changed_programs.specs.Laws.{IsPresent}
 use Rattle.changed_programs.proofs.Rows.{rows_of, feasible_now}
 use Rattle.changed_programs.proofs.Tableaus.{by_tableau}
 use Rattle.changed_programs.proofs.Signs.{sides_of_rate}
-use Rattle.evidence_definitions.specs.Formulas.{limit_numbered}
+use Rattle.method_definitions.specs.Formulas.{limit_numbered}
 use Rattle.lp_definitions.specs.LinearProgram.{LinearProgram, Vector, size, IsRow, IsVariable, IsLinearProgram, lower_of, upper_of, for_min, with_change_row}
 use Rattle.lp_definitions.specs.Basis.{basics_of, is_in, is_basic, status_of, IsBasic, IsNonbasic, AreRates, IsPointOf, ArePricesOf, IsOptimalBasis, Tableau, IsTableau, objective_rate}
 use Rattle.lp_definitions.specs.declared.Change.{Change}
@@ -22,9 +22,9 @@ use Rattle.lp_laws.proofs.Values.{clash}
 use Rattle.lp_laws.proofs.Statuses.{status_of_basic}
 use Rattle.lp_laws.proofs.Uniqueness.{one_table, is_in-basics_of}
 use Rattle.lp_model.specs.RatesCalls.{IsRowOf}
-use Rattle.path_definitions.specs.Moves.{is_fixed, may_rise, may_fall, rises_from, falls_from}
-use Rattle.path_definitions.specs.Path.{worth_rate}
-use Rattle.postoptimal_definitions.specs.Ranges.{stands_at_limit}
+use Rattle.method_definitions.specs.Moves.{is_fixed, may_rise, may_fall, rises_from, falls_from}
+use Rattle.method_definitions.specs.Path.{worth_rate}
+use Rattle.method_definitions.specs.Ranges.{stands_at_limit}
 use Rattle.ranging.specs.RowEnds.{sides_of, RatesStayTo, IsRateEnd, AreEnds, AreRowEnds}
 use Rattle.ranging.specs.LimitEnds.{no_ends, ends_at, IsKeptOr, IsLimitEnd, IsMet, AreMet}
 use Rattle.ranging.specs.Tables.{IsBasicsEnd, AreLimitEnds, AllMet, IsRowEnd, AreEndsOfRow, AllFound}

@@ -15,7 +15,7 @@ use Rattle.changed_programs.proofs.Limits.{limit, sides_of_value}
 use Rattle.changed_programs.proofs.Rows.{rows_of}
 use Rattle.changed_programs.proofs.Signs.{sides_of_rate}
 use Rattle.changed_programs.proofs.Tableaus.{by_tableau}
-use Rattle.evidence_definitions.specs.Formulas.{limit_numbered, number_of_limit}
+use Rattle.method_definitions.specs.Formulas.{limit_numbered, number_of_limit}
 use Rattle.frac128.specs.declared.Op.TheVariants.{Add, Sub}
 use Rattle.lp_definitions.specs.LinearProgram.{LinearProgram, Vector, size, IsColumn, IsVariable, IsLinearProgram, lower_of, upper_of, cost, for_min, with_change_row}
 use Rattle.lp_definitions.specs.Basis.{basics_of, is_in, status_of, StandsAt, IsBasic, IsNonbasic, AreRates, IsPointOf, ArePricesOf, IsOptimalBasis, Tableau}
@@ -26,9 +26,9 @@ use Rattle.lp_definitions.specs.declared.Sense.TheVariants.{Min, Max}
 use Rattle.lp_definitions.specs.declared.Status.{Status}
 use Rattle.lp_definitions.specs.declared.Status.TheVariants.{Bs, Ll, Ul, Fr}
 use Rattle.lp_laws.proofs.Values.{clash}
-use Rattle.path_definitions.specs.Moves.{is_fixed, may_rise, may_fall}
-use Rattle.path_definitions.specs.Path.{worth_rate}
-use Rattle.postoptimal_definitions.specs.Ranges.{with_cost, with_limit, stands_at_limit}
+use Rattle.method_definitions.specs.Moves.{is_fixed, may_rise, may_fall}
+use Rattle.method_definitions.specs.Path.{worth_rate}
+use Rattle.method_definitions.specs.Ranges.{with_cost, with_limit, stands_at_limit}
 use Rattle.ranging.specs.Refusals.{IsRefusal}
 use Rattle.ranging.specs.RowEnds.{AreEnds}
 use Rattle.ranging.specs.Intervals.{IsIn, taken_from, IsOwnAt, IsOwn, IsOneOf, DifferenceRefused, SumRefused}

@@ -14,7 +14,7 @@ use Rattle.lp_definitions.specs.Basis.{IsOptimalBasis}
 use Rattle.lp_definitions.specs.declared.Status.{Status}
 use Rattle.lp_laws.proofs.Opening.{numbers_from-append}
 use Rattle.lp_model.specs.declared.reports.Interval as code
-use Rattle.postoptimal_definitions.specs.Ranges.{with_row, with_cost, AreIntervals, IsBetween}
+use Rattle.method_definitions.specs.Ranges.{with_row, with_cost, AreIntervals, IsBetween}
 use Rattle.ranging.specs.Intervals.{IsIn, opposite, taken_from}
 use Rattle.ranging.specs.Tables.{AreEndsOfRow}
 use Rattle.ranging.specs.Lists.{Item, ListsTo, interval_of}

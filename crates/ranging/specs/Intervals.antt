@@ -15,7 +15,7 @@ use Rattle.lp_definitions.specs.declared.Evidence.{Evidence}
 use Rattle.lp_definitions.specs.declared.Status.{Status}
 use Rattle.lp_definitions.specs.declared.Status.TheVariants.{Bs, Ll, Ul, Fr}
 use Rattle.lp_model.specs.declared.reports.Interval.{Interval}
-use Rattle.path_definitions.specs.Moves.{is_fixed}
+use Rattle.method_definitions.specs.Moves.{is_fixed}
 use Rattle.ranging.specs.Refusals.{IsRefusal}
 
 abbrev pub IsAtLeast : Option ℚ → ℚ → Type 0

@@ -12,8 +12,8 @@ use Rattle.affine_conditions.specs.declared.tightening.Ends.{Ends}
 use Rattle.changed_programs.specs.Changes.{SidesHold, value_sides}
 use Rattle.lp_definitions.specs.Basis.{status_of}
 use Rattle.lp_definitions.specs.declared.Status.{Status}
-use Rattle.postoptimal_definitions.specs.Ranges.{stands_at_limit}
-use Rattle.evidence_definitions.specs.Formulas.{limit_numbered}
+use Rattle.method_definitions.specs.Ranges.{stands_at_limit}
+use Rattle.method_definitions.specs.Formulas.{limit_numbered}
 use Rattle.frac128.specs.declared.Op.TheVariants.{Sub, Div}
 use Rattle.lp_definitions.specs.LinearProgram.{LinearProgram, Vector, IsVariable, lower_of, upper_of}
 use Rattle.lp_definitions.specs.declared.Evidence.{Evidence}

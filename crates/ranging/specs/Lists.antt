@@ -16,7 +16,7 @@ use Rattle.lp_definitions.specs.declared.Sense.TheVariants.{Min, Max}
 use Rattle.lp_definitions.specs.declared.Status.{Status}
 use Rattle.lp_model.specs.declared.reports.Interval as code
 use Rattle.lp_model.specs.declared.reports.RangeReport as report
-use Rattle.postoptimal_definitions.specs.Ranges.{Interval, RangeReport}
+use Rattle.method_definitions.specs.Ranges.{Interval, RangeReport}
 use Rattle.ranging.specs.Intervals.{IsIn}
 
 abbrev pub price_end : Bool → ℚ → ℕ → Option End

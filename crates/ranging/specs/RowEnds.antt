@@ -17,7 +17,7 @@ use Rattle.lp_definitions.specs.declared.Evidence.{Evidence}
 use Rattle.lp_definitions.specs.declared.Sense.{Sense}
 use Rattle.lp_definitions.specs.declared.Sense.TheVariants.{Min, Max}
 use Rattle.lp_definitions.specs.declared.Status.{Status}
-use Rattle.path_definitions.specs.Moves.{may_rise, may_fall}
+use Rattle.method_definitions.specs.Moves.{may_rise, may_fall}
 use Rattle.ranging.specs.Refusals.{IsRefusal}
 
 -- for MIN a price that may not be negative keeps its multiples of the rate below it, and for MAX above it

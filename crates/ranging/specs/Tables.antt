@@ -10,11 +10,11 @@ use Rattle.affine_conditions.specs.Ends.{IsBetweenEnds}
 use Rattle.affine_conditions.specs.declared.tightening.End.{End}
 use Rattle.affine_conditions.specs.declared.tightening.Ends.{Ends}
 use Rattle.changed_programs.specs.Changes.{SidesHold, limit_sides, RatesStay}
-use Rattle.evidence_definitions.specs.Formulas.{limit_numbered}
+use Rattle.method_definitions.specs.Formulas.{limit_numbered}
 use Rattle.lp_definitions.specs.LinearProgram.{LinearProgram, Vector, IsVariable, for_min}
 use Rattle.lp_definitions.specs.Basis.{basics_of, is_in, status_of, IsBasic, IsNonbasic, AreRates}
 use Rattle.lp_definitions.specs.declared.Status.{Status}
-use Rattle.postoptimal_definitions.specs.Ranges.{stands_at_limit}
+use Rattle.method_definitions.specs.Ranges.{stands_at_limit}
 use Rattle.ranging.specs.LimitEnds.{ends_at}
 use Rattle.ranging.specs.RowEnds.{AreEnds}
 

@@ -4,8 +4,8 @@ use Rattle.std.proofs.lemmas.List.{append_assoc}
 use Rattle.exact_values.specs.Rational.{ℚ}
 use Rattle.lp_definitions.specs.LinearProgram.{LinearProgram}
 use Rattle.lp_definitions.specs.declared.Status.{Status}
-use Rattle.path_definitions.specs.Path.{last_of}
-use Rattle.postoptimal_definitions.specs.Chain.{Part, ChainEnd, FaceTurn, IsChain, goes_on}
+use Rattle.method_definitions.specs.Path.{last_of}
+use Rattle.method_definitions.specs.Chain.{Part, ChainEnd, FaceTurn, IsChain, goes_on}
 use Rattle.run_calls.specs.Begun.{IsBegun, nothing, then}
 
 pub last_append : (s : List Status) (first second : List (List Status)) → last_of s (first ++ second) ≡ last_of (last_of s first) second

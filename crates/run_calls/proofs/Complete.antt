@@ -8,10 +8,10 @@ use Rattle.lp_definitions.specs.declared.Evidence.{Evidence}
 use Rattle.lp_definitions.specs.declared.Status.{Status}
 use Rattle.lp_model.specs.declared.reports.ParaReport.{ParaReport}
 use Rattle.lp_model.specs.declared.reports.ParaReport.TheVariants.{Opening, Run}
-use Rattle.path_definitions.specs.Counts.{counted_steps}
-use Rattle.path_definitions.specs.Path.{last_of}
+use Rattle.method_definitions.specs.Counts.{counted_steps}
+use Rattle.method_definitions.specs.Path.{last_of}
 use Rattle.path_laws.specs.Laws.{IsNonsingularBasis}
-use Rattle.postoptimal_definitions.specs.Chain.{RunReport, FailedOpening, Chain, FaceTurn, IsReport}
+use Rattle.method_definitions.specs.Chain.{RunReport, FailedOpening, Chain, FaceTurn, IsReport}
 use Rattle.sweep_laws.specs.Laws.{SameReports}
 use Rattle.sweep_laws.proofs.OneRun.{HasOneFace, one_report}
 use Rattle.sweep_laws.proofs.NotBoth.{not_both}

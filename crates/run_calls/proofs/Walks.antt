@@ -9,10 +9,10 @@ use Rattle.lp_definitions.specs.Waypoints.{IsWithinOne, IsKept, KeepsWaypoints, 
 use Rattle.lp_definitions.specs.declared.Evidence.{Evidence}
 use Rattle.lp_definitions.specs.declared.Status.{Status}
 use Rattle.lp_laws.proofs.WaypointLaws.{within_itself, within_by}
-use Rattle.path_definitions.specs.Path.{IsPath, EndsAt, EndsOptimal, last_of}
-use Rattle.postoptimal_definitions.specs.Chain.{FaceTurn, FaceDone, ReachesTo, IsFaceStep, IsFacePath, Place, InOpening, AtBreak, basis_of, break_of, Reaches, begins, path_step, first_break, face_step, next_break}
-use Rattle.evidence_definitions.specs.Statements.{SolvingStatement}
-use Rattle.evidence_definitions.specs.Evidence.{EvidenceHolds}
+use Rattle.method_definitions.specs.Path.{IsPath, EndsAt, EndsOptimal, last_of}
+use Rattle.method_definitions.specs.Chain.{FaceTurn, FaceDone, ReachesTo, IsFaceStep, IsFacePath, Place, InOpening, AtBreak, basis_of, break_of, Reaches, begins, path_step, first_break, face_step, next_break}
+use Rattle.method_definitions.specs.Statements.{SolvingStatement}
+use Rattle.method_definitions.specs.Evidence.{EvidenceHolds}
 use Rattle.basis_values.specs.Calls.{LieIn}
 use Rattle.bounded_primal.specs.declared.moves.PrimalStop.{PrimalStop}
 use Rattle.bounded_primal.specs.declared.moves.PrimalStop.TheVariants.{Limit, Overflow, NoMemory}

@@ -5,8 +5,8 @@ use Rattle.std.specs.Prelude.{List, [], ◌∷◌, ◌++◌}
 use Rattle.exact_values.specs.Rational.{ℚ}
 use Rattle.lp_definitions.specs.LinearProgram.{LinearProgram}
 use Rattle.lp_definitions.specs.declared.Status.{Status}
-use Rattle.path_definitions.specs.Path.{last_of}
-use Rattle.postoptimal_definitions.specs.Chain.{Part, FaceTurn, FaceDone, IsPart, FacesTo}
+use Rattle.method_definitions.specs.Path.{last_of}
+use Rattle.method_definitions.specs.Chain.{Part, FaceTurn, FaceDone, IsPart, FacesTo}
 
 module _ (family : ℚ → LinearProgram) (Face : ℚ → List Status → FaceTurn → Type 0) (from max : ℚ) (s : List Status) where
   -- no interval yet; or an interval whose break has no face step left

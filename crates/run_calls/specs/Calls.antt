@@ -20,11 +20,11 @@ use Rattle.lp_model.specs.declared.reports.ParaEnd.TheVariants as ends
 use Rattle.lp_model.specs.declared.reports.ParaPart.{ParaPart}
 use Rattle.lp_model.specs.declared.reports.ParaReport.{ParaReport}
 use Rattle.lp_model.specs.declared.reports.ParaReport.TheVariants.{Opening, Run}
-use Rattle.path_definitions.specs.Counts.{counted_steps}
-use Rattle.path_definitions.specs.Path.{PathEnding, last_of}
-use Rattle.postoptimal_definitions.specs.Chain.{Part, ChainEnd, AtMax, UnboundedPast, InfeasiblePast, FaceTurn, IsRun, IsFailedOpening, Place, break_of, basis_of, Reaches, RunGoesOnFor}
-use Rattle.evidence_definitions.specs.Statements.{SolvingStatement}
-use Rattle.evidence_definitions.specs.Evidence.{EvidenceHolds}
+use Rattle.method_definitions.specs.Counts.{counted_steps}
+use Rattle.method_definitions.specs.Path.{PathEnding, last_of}
+use Rattle.method_definitions.specs.Chain.{Part, ChainEnd, AtMax, UnboundedPast, InfeasiblePast, FaceTurn, IsRun, IsFailedOpening, Place, break_of, basis_of, Reaches, RunGoesOnFor}
+use Rattle.method_definitions.specs.Statements.{SolvingStatement}
+use Rattle.method_definitions.specs.Evidence.{EvidenceHolds}
 use Rattle.basis_values.specs.Calls.{LieIn}
 use Rattle.bounded_primal.specs.Calls.{outcome_of}
 use Rattle.bounded_primal.specs.declared.moves.PrimalStop.{PrimalStop}

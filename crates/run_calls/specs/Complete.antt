@@ -12,9 +12,9 @@ use Rattle.lp_definitions.specs.declared.Status.{Status}
 use Rattle.lp_model.specs.declared.reports.ParaReport.{ParaReport}
 use Rattle.lp_model.specs.declared.reports.ParaReport.TheVariants.{Opening, Run}
 use Rattle.lp_model.specs.declared.reports.ParaRun.{ParaRun}
-use Rattle.path_definitions.specs.Counts.{counted_steps}
-use Rattle.path_definitions.specs.Path.{last_of}
-use Rattle.postoptimal_definitions.specs.Chain.{RunReport, FailedOpening, Chain, FaceTurn, IsReport}
+use Rattle.method_definitions.specs.Counts.{counted_steps}
+use Rattle.method_definitions.specs.Path.{last_of}
+use Rattle.method_definitions.specs.Chain.{RunReport, FailedOpening, Chain, FaceTurn, IsReport}
 use Rattle.bounded_primal.specs.Calls.{outcome_of}
 use Rattle.bounded_primal.specs.declared.moves.PrimalStop.{PrimalStop}
 use Rattle.bounded_primal.specs.declared.moves.PrimalStop.TheVariants.{NoMemory}

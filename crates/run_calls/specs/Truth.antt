@@ -5,7 +5,7 @@ use Rattle.lp_definitions.specs.LinearProgram.{LinearProgram}
 use Rattle.lp_model.specs.declared.reports.ParaReport.{ParaReport}
 use Rattle.lp_model.specs.declared.reports.ParaReport.TheVariants.{Opening, Run}
 use Rattle.bounded_primal.specs.Outcomes.{IsTrueOutcome}
-use Rattle.sweep_truth.specs.Truth.{IsTrueRun}
+use Rattle.sweep_laws.specs.Truth.{IsTrueRun}
 use Rattle.run_calls.specs.Calls.{part_of, end_of}
 
 -- a failed opening is proved in the linear program at the first value, and a run at each value

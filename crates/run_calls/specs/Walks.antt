@@ -11,9 +11,9 @@ use Rattle.lp_definitions.specs.Basis.{Basics, basics_of}
 use Rattle.lp_definitions.specs.Waypoints.{waypoint}
 use Rattle.lp_definitions.specs.declared.Evidence.{Evidence}
 use Rattle.lp_definitions.specs.declared.Status.{Status}
-use Rattle.postoptimal_definitions.specs.Chain.{FaceTurn, ReachesTo, IsFaceStep, Place, AtBreak, basis_of, Reaches}
-use Rattle.evidence_definitions.specs.Statements.{SolvingStatement}
-use Rattle.evidence_definitions.specs.Evidence.{EvidenceHolds}
+use Rattle.method_definitions.specs.Chain.{FaceTurn, ReachesTo, IsFaceStep, Place, AtBreak, basis_of, Reaches}
+use Rattle.method_definitions.specs.Statements.{SolvingStatement}
+use Rattle.method_definitions.specs.Evidence.{EvidenceHolds}
 use Rattle.basis_values.specs.Calls.{LieIn}
 use Rattle.bounded_primal.specs.declared.moves.PrimalStop.{PrimalStop}
 use Rattle.bounded_primal.specs.declared.moves.PrimalStop.TheVariants.{Limit, Overflow, NoMemory}

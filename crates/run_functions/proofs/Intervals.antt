@@ -6,7 +6,7 @@ use Rattle.std.proofs.lemmas.List.Elements.{All-head, All-tail}
 use Rattle.exact_values.specs.Rational.{ℚ, one_ℚ, ◌+ℚ◌, ◌-ℚ◌, ◌≤ℚ◌, ◌<ℚ◌}
 use Rattle.exact_values.proofs.Ring.{by_ring1, number, ◌⊕◌, ◌⊖◌, ◌≐◌}
 use Rattle.exact_values.proofs.Order.{le_refl, le_trans, le_antisymm, le_of_lt, lt_not_le, lt_by_one, zero_below_one}
-use Rattle.postoptimal_definitions.specs.Ranges.{Interval, IsBetween}
+use Rattle.method_definitions.specs.Ranges.{Interval, IsBetween}
 
 abbrev Between : Option ℚ → Option ℚ → ℚ → Type 0
 Between low high t = IfSome low (λ l. l ≤ℚ t) × IfSome high (λ h. t ≤ℚ h)

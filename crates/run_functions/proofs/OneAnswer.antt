@@ -5,7 +5,7 @@ use Rattle.exact_values.specs.Rational.{ℚ, zero_ℚ, ◌-ℚ◌}
 use Rattle.lp_definitions.specs.LinearProgram.{IsVariable, IsLinearProgram, value_at, cost, lower_of, upper_of}
 use Rattle.lp_definitions.specs.Basis.{is_in, basics_of, Tableau, IsTableau, objective_rate, price_at}
 use Rattle.lp_laws.proofs.Uniqueness.{one_point, one_table}
-use Rattle.path_definitions.specs.Path.{PathEnding}
+use Rattle.method_definitions.specs.Path.{PathEnding}
 use Rattle.path_laws.specs.Laws.{IsNonsingularBasis}
 use Rattle.path_laws.proofs.Numbered.{map_same}
 use Rattle.path_laws.proofs.Endless.{objective_value-same}

@@ -12,8 +12,8 @@ use Rattle.lp_definitions.specs.Basis.{is_basic, status_of, StandsAt, IsOptimalB
 use Rattle.lp_definitions.specs.declared.Status.{Status}
 use Rattle.lp_definitions.specs.declared.Status.TheVariants.{Bs, Ll, Ul, Fr}
 use Rattle.lp_laws.proofs.Uniqueness.{one_point}
-use Rattle.path_definitions.specs.Moves.{is_fixed, on_limits, may_rise, may_fall}
-use Rattle.postoptimal_definitions.specs.Ranges.{with_lower, with_upper, with_limit, with_limit_at, with_cost, with_row, stands_at_limit, at_limits, columns_of, intermediate_rows, RangeReport, IsRangeReport}
+use Rattle.method_definitions.specs.Moves.{is_fixed, on_limits, may_rise, may_fall}
+use Rattle.method_definitions.specs.Ranges.{with_lower, with_upper, with_limit, with_limit_at, with_cost, with_row, stands_at_limit, at_limits, columns_of, intermediate_rows, RangeReport, IsRangeReport}
 use Rattle.changed_programs.specs.Changes.{IsRightTableau, RatesStay, worths, slopes}
 use Rattle.changed_programs.specs.Laws.{IsPresent}
 use Rattle.changed_programs.proofs.Booleans.{betters}

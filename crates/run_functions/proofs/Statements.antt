@@ -23,7 +23,7 @@ use Rattle.question_definitions.specs.Solving.{Solving}
 use Rattle.run_definitions.specs.State.{Present, present_basis, State, problem_of, choice_of}
 use Rattle.run_definitions.specs.Moves.{Outcome, Refusals, Move, Does, MayStop, or_fault}
 use Rattle.run_definitions.specs.Verbs.{or_deck_fault, or_selection_fault, files, selects, not_less, change_row, change_set, asks, if_optimal, shows_present, solves, shows, ranges, sweeps, converts, revises, sets_up, punches, verb_move}
-use Rattle.path_definitions.specs.Path.{EndsOptimal, EndsAt}
+use Rattle.method_definitions.specs.Path.{EndsOptimal, EndsAt}
 use Rattle.path_laws.proofs.Ends.{optimal_end}
 use Rattle.std.proofs.lemmas.Option.{same_Some}
 use Rattle.lp_definitions.specs.Basis.{IsOptimalBasis}

@@ -2,7 +2,7 @@
 use Rattle.std.proofs.Common.{◌≡◌}
 use Rattle.question_definitions.specs.Answers.{Basis, Sheet, Sweep, SweepEnd, OfSweep}
 use Rattle.answer_definitions.specs.Sweeps.{IsSwept}
-use Rattle.sweep_laws.proofs.OneEnd.{one_sweep_end}
+use Rattle.run_laws.proofs.OneEnd.{one_sweep_end}
 use Rattle.run_laws.proofs.ChangeRow.{changes_freely}
 use Rattle.run_laws.proofs.Selected.{selected_is_lawful}
 use Rattle.run_functions.specs.Laws.{IsAsked}

@@ -7,7 +7,7 @@ use Rattle.lp_definitions.specs.Basis.{basics_of, Tableau, IsTableau, IsOptimalB
 use Rattle.lp_laws.proofs.Uniqueness.{one_point, one_table}
 use Rattle.lp_laws.proofs.Optimal.{prices_prove_optimal, best_by_basis}
 use Rattle.lp_laws.proofs.Duality.{infeasible_by_proof, unbounded_by_direction}
-use Rattle.path_definitions.specs.Path.{PathEnding, Ends, EndsOptimal, EndsCrossed, EndsInfeasible, EndsUnbounded, EndsAt, PathEnds, turn, last_of}
+use Rattle.method_definitions.specs.Path.{PathEnding, Ends, EndsOptimal, EndsCrossed, EndsInfeasible, EndsUnbounded, EndsAt, PathEnds, turn, last_of}
 use Rattle.path_laws.specs.Laws.{IsNonsingularBasis}
 use Rattle.path_laws.proofs.Turns.{IsOptimalTurn, rule_of, optimal_turn}
 use Rattle.path_laws.proofs.Ends.{feasible, rates_right, optimal_end}

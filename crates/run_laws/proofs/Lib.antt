@@ -1,3 +1,5 @@
+pub mod Sweeps
+pub mod OneEnd
 pub mod Ends
 pub mod Selected
 pub mod Shapes

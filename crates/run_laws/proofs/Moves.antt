@@ -11,7 +11,7 @@ use Rattle.problem_definitions.specs.Names.{Name}
 use Rattle.problem_definitions.specs.Problem.{Problem}
 use Rattle.problem_definitions.specs.Valid.{IsProblem}
 use Rattle.deck_definitions.specs.declared.DeckFault.{DeckFault}
-use Rattle.path_definitions.specs.Path.{EndsOptimal, EndsAt}
+use Rattle.method_definitions.specs.Path.{EndsOptimal, EndsAt}
 use Rattle.selection_definitions.specs.declared.SelectionFault.{SelectionFault}
 use Rattle.selection_definitions.specs.Choice.{Choice}
 use Rattle.selection_definitions.specs.Selection.{selected}

@@ -17,7 +17,7 @@ use Rattle.control_definitions.specs.declared.NumberCell.TheVariants.{Xparam, Xp
 use Rattle.control_definitions.specs.declared.Demand.{Demand}
 use Rattle.control_definitions.specs.declared.Demand.TheVariants.{Xdonfs, Xdounb}
 use Rattle.control_definitions.specs.Program.{SetupOptions, Verb, Initialz, Title, MoveName, MoveNumber, MoveLimit, Mvadr, Goto, Convert, Setup, Primal, Revise, Ranging, Paraobj, Pararhs, Solution as SolutionVerb, Bcdout, Exit}
-use Rattle.path_definitions.specs.Path.{PathEnding, EndsOptimal, EndsCrossed, EndsInfeasible, EndsUnbounded, EndsAt, last_of}
+use Rattle.method_definitions.specs.Path.{PathEnding, EndsOptimal, EndsCrossed, EndsInfeasible, EndsUnbounded, EndsAt, last_of}
 use Rattle.selection_definitions.specs.Selection.{selected}
 use Rattle.listing_definitions.specs.declared.Mark.{Mark}
 use Rattle.listing_definitions.specs.declared.Mark.TheVariants.{Optimal, Infeasible, Unbounded}
@@ -37,10 +37,8 @@ use Rattle.path_laws.proofs.Ends.{optimal_end}
 use Rattle.path_laws.proofs.Steps.{opening_is}
 use Rattle.path_laws.proofs.OnePath.{path_leads}
 use Rattle.run_laws.specs.Truth.{PresentProgram, ShowsBest, ShowsRanges, IsOfProblem, named_by, TellsOfRun, ShowsOpening, ShowsChain, Holds}
-use Rattle.sweep_laws.specs.Laws.{gone_over}
-use Rattle.sweep_laws.proofs.Runs.{swept_leads}
-use Rattle.sweep_truth.specs.Printed.{IsTrueSweep}
-use Rattle.sweep_truth.proofs.Runs.{swept_true}
+use Rattle.run_laws.specs.Sweeps.{gone_over, IsTrueSweep}
+use Rattle.run_laws.proofs.Sweeps.{swept_leads, swept_true}
 use Rattle.run_laws.specs.Laws.{KnowsSolving}
 use Rattle.run_laws.proofs.ChangeRow.{changes_freely, row_named, set_named, last_is}
 use Rattle.run_laws.proofs.Ends.{IsProvedBest, shown_is_best, path_is_true}

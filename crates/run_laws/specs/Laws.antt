@@ -4,6 +4,7 @@
 --     TellsTruth S                 each report of the run of a job holds of the state in which it is made
 --     FilesProblems S              every problem that is filed in the run of a job is one
 --     EndsUnlimited S              where there is no limit on steps, PRIMAL doesn't stop at one
+--     RunLaws                      these of linear programming, and what holds of printed parametric runs
 use Rattle.std.specs.Prelude.{◌≡◌, ℕ, List, All, Option, None, Some}
 use Rattle.problem_definitions.specs.Valid.{IsProblem}
 use Rattle.control_definitions.specs.Program.{Primal, Program}
@@ -21,6 +22,7 @@ use Rattle.run_definitions.specs.Moves.{printed_by, Outcome, Goes, Ends, Gives}
 use Rattle.run_definitions.specs.Verbs.{verb_move}
 use Rattle.run_definitions.specs.Run.{Step}
 use Rattle.run_definitions.specs.Answer.{IsJobRun, IsSoFar}
+use Rattle.run_laws.specs.Sweeps.{SweepLaws}
 use Rattle.run_laws.specs.Truth.{Holds}
 use Rattle.run_laws.specs.Headline.{HoldInJob}
 
@@ -68,6 +70,7 @@ EndsUnlimited S = (card : ℕ) (state : State) (outcome : Outcome) → state.cel
 
 -- of the runs whose answers are those of linear programming
 pub record RunLaws : Type 0 where
+  pub sweeps : SweepLaws
   pub truth : TellsTruth linear_programming
   pub problems : FilesProblems linear_programming
   pub unlimited : EndsUnlimited linear_programming

@@ -1,3 +1,4 @@
+pub mod Sweeps
 pub mod Truth
 pub mod Headline
 pub mod Laws

@@ -11,7 +11,7 @@ use Rattle.exact_values.specs.Rational.{ℚ}
 use Rattle.lp_definitions.specs.LinearProgram.{LinearProgram, value_at, objective_value, IsLinearProgram}
 use Rattle.lp_definitions.specs.Solutions.{IsBest, AreProvingPrices, IsCrossed, IsRay, ProvesUnbounded, IsInfeasible, IsUnbounded}
 use Rattle.lp_definitions.specs.Basis.{basics_of, Tableau, IsTableau, IsOptimalBasis, price_at}
-use Rattle.postoptimal_definitions.specs.Ranges.{RangeReport, IsRangeReport}
+use Rattle.method_definitions.specs.Ranges.{RangeReport, IsRangeReport}
 use Rattle.path_laws.specs.Laws.{IsNonsingularBasis}
 use Rattle.problem_definitions.specs.Names.{Name}
 use Rattle.problem_definitions.specs.Problem.{Problem, has_free_row, has_group}
@@ -25,7 +25,7 @@ use Rattle.listing_definitions.specs.Report.{Line, SolutionLines, RangeLines, Ve
 use Rattle.question_definitions.specs.Answers.{Basis, Sheet, Changing, Row, Set, changing_name, sweeper, Sweep}
 use Rattle.answer_definitions.specs.Lines.{pair_lines, ray_lines}
 use Rattle.answer_definitions.specs.Sections.{solution_lines, range_lines}
-use Rattle.sweep_truth.specs.Printed.{IsTrueOpening, IsTrueChain}
+use Rattle.run_laws.specs.Sweeps.{IsTrueOpening, IsTrueChain}
 use Rattle.run_definitions.specs.State.{Present, present_basis, State, choice_of}
 
 -- There is a setup; and the linear program is selected of its problem with its options and with these

@@ -5,8 +5,8 @@ use Rattle.exact_values.specs.Rational.{zero_ℚ}
 use Rattle.lp_definitions.specs.LinearProgram.{LinearProgram, Vector, IsVariable}
 use Rattle.lp_definitions.specs.Basis.{basics_of, IsNonbasic, Tableau, IsTableau}
 use Rattle.lp_definitions.specs.declared.Status.{Status}
-use Rattle.path_definitions.specs.Moves.{lowers, stopper}
-use Rattle.path_definitions.specs.Path.{after, speeds, stopped_by}
+use Rattle.method_definitions.specs.Moves.{lowers, stopper}
+use Rattle.method_definitions.specs.Path.{after, speeds, stopped_by}
 use Rattle.path_laws.specs.Laws.{IsNonsingularBasis}
 use Rattle.path_laws.proofs.Endless.{lowering_enters}
 use Rattle.path_laws.proofs.Steps.{rate_apart, motion_leads}

@@ -7,4 +7,14 @@ pub mod OneObjective
 pub mod OneRhs
 pub mod OneRun
 pub mod NotBoth
-pub mod OneEnd
+pub mod Intervals
+pub mod Spans
+pub mod Chains
+pub mod ObjectiveGrowth
+pub mod Motions
+pub mod ObjectiveEnds
+pub mod RhsSlopes
+pub mod RhsGrowth
+pub mod Cheapest
+pub mod RhsEnds
+pub mod TrueRuns

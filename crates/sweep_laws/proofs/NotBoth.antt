@@ -4,10 +4,10 @@ use Rattle.exact_values.specs.Rational.{ℚ, ◌<ℚ◌}
 use Rattle.exact_values.proofs.Order.{lt_irrefl}
 use Rattle.lp_definitions.specs.LinearProgram.{LinearProgram}
 use Rattle.lp_definitions.specs.declared.Status.{Status}
-use Rattle.path_definitions.specs.Path.{last_of, PathEnding, EndsOptimal, IsStep, EndsAt, PathEnds}
+use Rattle.method_definitions.specs.Path.{last_of, PathEnding, EndsOptimal, IsStep, EndsAt, PathEnds}
 use Rattle.path_laws.specs.Laws.{IsNonsingularBasis}
 use Rattle.path_laws.proofs.OnePath.{one_step, one_end, step_or_end}
-use Rattle.postoptimal_definitions.specs.Chain.{Part, ChainEnd, RunReport, FailedOpening, Chain, FaceTurn, FaceMoves, FaceDone, FaceEnds, IsFailure, ReachesTo, IsFaceStep, IsFacePath, IsChain, at_max, past_break, goes_on, IsReport, Place, InOpening, AtBreak, basis_of, Reaches, begins, path_step, first_break, face_step, next_break, GoesOn, RunGoesOnFor}
+use Rattle.method_definitions.specs.Chain.{Part, ChainEnd, RunReport, FailedOpening, Chain, FaceTurn, FaceMoves, FaceDone, FaceEnds, IsFailure, ReachesTo, IsFaceStep, IsFacePath, IsChain, at_max, past_break, goes_on, IsReport, Place, InOpening, AtBreak, basis_of, Reaches, begins, path_step, first_break, face_step, next_break, GoesOn, RunGoesOnFor}
 use Rattle.sweep_laws.proofs.Runs.{reached_leads}
 use Rattle.sweep_laws.proofs.OneRun.{HasOneFace, IsStill, one_reach, still_or_steps, one_face_step}
 

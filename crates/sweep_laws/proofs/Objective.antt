@@ -7,12 +7,12 @@ use Rattle.exact_values.specs.Tests.{eq_ℚ}
 use Rattle.lp_definitions.specs.LinearProgram.{LinearProgram, Vector}
 use Rattle.lp_definitions.specs.Basis.{Tableau, IsTableau, objective_rate}
 use Rattle.lp_definitions.specs.declared.Status.{Status}
-use Rattle.path_definitions.specs.Moves.{goes_up, lowers, stopper}
-use Rattle.path_definitions.specs.Path.{Move, after, speeds, stopped_by}
+use Rattle.method_definitions.specs.Moves.{goes_up, lowers, stopper}
+use Rattle.method_definitions.specs.Path.{Move, after, speeds, stopped_by}
 use Rattle.path_laws.specs.Laws.{IsNonsingularBasis}
 use Rattle.path_laws.proofs.Searches.{found_passes}
-use Rattle.postoptimal_definitions.specs.Chain.{FaceMoves}
-use Rattle.postoptimal_definitions.specs.ObjectiveRun.{objective_family, change_rate, face_mover, face_until, face_by, objective_face, IsObjectiveFace}
+use Rattle.method_definitions.specs.Chain.{FaceMoves}
+use Rattle.method_definitions.specs.ObjectiveRun.{objective_family, change_rate, face_mover, face_until, face_by, objective_face, IsObjectiveFace}
 use Rattle.sweep_laws.proofs.Leads.{is_mover, stopped_leads}
 
 -- the change row is added to the objective; matrix and limits are as they were

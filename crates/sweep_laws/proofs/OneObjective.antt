@@ -8,15 +8,15 @@ use Rattle.lp_definitions.specs.LinearProgram.{LinearProgram, Vector, size, IsRo
 use Rattle.lp_definitions.specs.Basis.{is_in, basics_of, IsNonbasic, Tableau, objective_rate}
 use Rattle.lp_definitions.specs.declared.Status.{Status}
 use Rattle.lp_definitions.specs.declared.Status.TheVariants.{Ul, Ll}
-use Rattle.path_definitions.specs.Moves.{goes_up, lowers, signed, stopper}
-use Rattle.path_definitions.specs.Path.{speeds}
+use Rattle.method_definitions.specs.Moves.{goes_up, lowers, signed, stopper}
+use Rattle.method_definitions.specs.Path.{speeds}
 use Rattle.path_laws.specs.Laws.{IsNonsingularBasis}
 use Rattle.path_laws.proofs.Numbered.{find_same}
 use Rattle.path_laws.proofs.Endless.{objective_value-same}
 use Rattle.path_laws.proofs.OneTurn.{SameTableau}
 use Rattle.path_laws.proofs.Searches.{found_passes}
-use Rattle.postoptimal_definitions.specs.Chain.{FaceTurn, FaceMoves, FaceEnds, UnboundedPast}
-use Rattle.postoptimal_definitions.specs.ObjectiveRun.{objective_family, change_rate, face_mover, face_until, face_by, objective_face, IsObjectiveFace}
+use Rattle.method_definitions.specs.Chain.{FaceTurn, FaceMoves, FaceEnds, UnboundedPast}
+use Rattle.method_definitions.specs.ObjectiveRun.{objective_family, change_rate, face_mover, face_until, face_by, objective_face, IsObjectiveFace}
 use Rattle.sweep_laws.proofs.Leads.{is_mover}
 use Rattle.sweep_laws.proofs.Objective.{to_objective}
 use Rattle.path_laws.proofs.OneTurn.{listed_same, lowers_idle, lowers_same, stopper_same}

@@ -10,16 +10,16 @@ use Rattle.lp_definitions.specs.declared.Change.{Change}
 use Rattle.lp_definitions.specs.declared.Status.{Status}
 use Rattle.lp_laws.proofs.Opening.{length-numbers_from}
 use Rattle.lp_laws.proofs.Uniqueness.{same_from_nonbasics}
-use Rattle.path_definitions.specs.Moves.{on_limit, signed}
-use Rattle.path_definitions.specs.Path.{ray_of, excess_rate}
+use Rattle.method_definitions.specs.Moves.{on_limit, signed}
+use Rattle.method_definitions.specs.Path.{ray_of, excess_rate}
 use Rattle.path_laws.specs.Laws.{IsNonsingularBasis}
 use Rattle.path_laws.proofs.Numbered.{find_same, list_all_same}
 use Rattle.path_laws.proofs.OnePath.{same_tableau}
 use Rattle.path_laws.proofs.OneTurn.{SameTableau, listed_same, lowers_idle, lowers_same, ray_same}
 use Rattle.path_laws.proofs.Searches.{found_passes}
-use Rattle.postoptimal_definitions.specs.Chain.{FaceTurn, FaceEnds, InfeasiblePast}
-use Rattle.path_definitions.specs.DualRatio.{brings_back, ratio, is_cheapest, cheapest}
-use Rattle.postoptimal_definitions.specs.RhsRun.{shift_of, shifted, rhs_family, IsSlope, leaves_below, leaves_above, leaving, face_exchange, face_at, rhs_face, IsRhsFace}
+use Rattle.method_definitions.specs.Chain.{FaceTurn, FaceEnds, InfeasiblePast}
+use Rattle.method_definitions.specs.DualRatio.{brings_back, ratio, is_cheapest, cheapest}
+use Rattle.method_definitions.specs.RhsRun.{shift_of, shifted, rhs_family, IsSlope, leaves_below, leaves_above, leaving, face_exchange, face_at, rhs_face, IsRhsFace}
 use Rattle.changed_programs.proofs.MovedLimits.{free_to}
 use Rattle.sweep_laws.proofs.Rhs.{to_rhs}
 

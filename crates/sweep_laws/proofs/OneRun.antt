@@ -9,13 +9,13 @@ use Rattle.lp_definitions.specs.LinearProgram.{LinearProgram, Vector, value_at, 
 use Rattle.lp_definitions.specs.Basis.{is_in, basics_of, ArePricesOf, objective_rate}
 use Rattle.lp_definitions.specs.declared.Status.{Status}
 use Rattle.lp_laws.proofs.Uniqueness.{one_point, one_table}
-use Rattle.path_definitions.specs.Path.{after, last_of, PathEnding, EndsOptimal, PathEnds}
+use Rattle.method_definitions.specs.Path.{after, last_of, PathEnding, EndsOptimal, PathEnds}
 use Rattle.path_laws.specs.Laws.{IsNonsingularBasis, SameEnds}
 use Rattle.path_laws.proofs.Endless.{objective_value-same}
 use Rattle.path_laws.proofs.OnePath.{one_path}
-use Rattle.postoptimal_definitions.specs.Chain.{Part, ChainEnd, RunReport, FailedOpening, Chain, FaceTurn, FaceMoves, FaceDone, FaceEnds, along, IsFailure, ReachesTo, IsPart, IsFaceStep, IsFacePath, FacesTo, IsChain, at_max, past_break, goes_on, IsRun, IsFailedOpening, IsReport}
-use Rattle.postoptimal_definitions.specs.ObjectiveRun.{objective_family, IsObjectiveFace}
-use Rattle.postoptimal_definitions.specs.RhsRun.{rhs_family, IsRhsFace}
+use Rattle.method_definitions.specs.Chain.{Part, ChainEnd, RunReport, FailedOpening, Chain, FaceTurn, FaceMoves, FaceDone, FaceEnds, along, IsFailure, ReachesTo, IsPart, IsFaceStep, IsFacePath, FacesTo, IsChain, at_max, past_break, goes_on, IsRun, IsFailedOpening, IsReport}
+use Rattle.method_definitions.specs.ObjectiveRun.{objective_family, IsObjectiveFace}
+use Rattle.method_definitions.specs.RhsRun.{rhs_family, IsRhsFace}
 use Rattle.sweep_laws.specs.Laws.{SameReports}
 use Rattle.sweep_laws.proofs.Runs.{KeepsBases, face_step_leads, face_path_leads, opening_leads, objective_keeps, rhs_keeps}
 use Rattle.sweep_laws.proofs.OneObjective.{lawful_objective, one_objective_face}

@@ -8,13 +8,13 @@ use Rattle.lp_definitions.specs.LinearProgram.{LinearProgram, Vector, IsVariable
 use Rattle.lp_definitions.specs.Basis.{is_in, basics_of, IsAllowed, Tableau, IsTableau}
 use Rattle.lp_definitions.specs.declared.Status.{Status}
 use Rattle.lp_definitions.specs.declared.Status.TheVariants.{Bs, Ll, Ul, Fr}
-use Rattle.path_definitions.specs.Moves.{on_limit, signed}
-use Rattle.path_definitions.specs.Path.{Move, after, excess_rate}
+use Rattle.method_definitions.specs.Moves.{on_limit, signed}
+use Rattle.method_definitions.specs.Path.{Move, after, excess_rate}
 use Rattle.path_laws.specs.Laws.{IsNonsingularBasis}
 use Rattle.path_laws.proofs.Searches.{found_passes}
-use Rattle.postoptimal_definitions.specs.Chain.{FaceMoves}
-use Rattle.path_definitions.specs.DualRatio.{brings_back, is_cheapest, cheapest}
-use Rattle.postoptimal_definitions.specs.RhsRun.{shift_of, rhs_family, leaves_below, leaves_above, leaving, face_exchange, face_at, rhs_face, IsRhsFace}
+use Rattle.method_definitions.specs.Chain.{FaceMoves}
+use Rattle.method_definitions.specs.DualRatio.{brings_back, is_cheapest, cheapest}
+use Rattle.method_definitions.specs.RhsRun.{shift_of, rhs_family, leaves_below, leaves_above, leaving, face_exchange, face_at, rhs_face, IsRhsFace}
 use Rattle.changed_programs.proofs.MovedLimits.{basis_to, basis_from}
 use Rattle.path_laws.proofs.Steps.{MayStand, signed_zero, lower_apart, upper_apart, exchange_leads}
 use Rattle.sweep_laws.proofs.Leads.{IsMover, is_mover}

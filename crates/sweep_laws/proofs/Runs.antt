@@ -3,16 +3,14 @@ use Rattle.std.proofs.Common.{◌≡◌, ℕ, List, [], ◌∷◌, ◌++◌, ref
 use Rattle.exact_values.specs.Rational.{ℚ}
 use Rattle.lp_definitions.specs.LinearProgram.{LinearProgram}
 use Rattle.lp_definitions.specs.declared.Status.{Status}
-use Rattle.path_definitions.specs.Path.{Move, after, last_of, PathEnding, EndsOptimal, PathEnds}
+use Rattle.method_definitions.specs.Path.{Move, after, last_of, PathEnding, EndsOptimal, PathEnds}
 use Rattle.path_laws.specs.Laws.{IsNonsingularBasis}
 use Rattle.path_laws.proofs.Steps.{step_leads}
 use Rattle.path_laws.proofs.OnePath.{path_leads}
-use Rattle.postoptimal_definitions.specs.Chain.{Part, ChainEnd, RunReport, FailedOpening, Chain, FaceTurn, FaceMoves, IsFaceStep, IsFacePath, IsChain, at_max, past_break, goes_on, IsRun, IsReport, Place, InOpening, AtBreak, basis_of, Reaches, begins, path_step, first_break, face_step, next_break}
-use Rattle.postoptimal_definitions.specs.ObjectiveRun.{objective_family, IsObjectiveFace}
-use Rattle.postoptimal_definitions.specs.RhsRun.{rhs_family, IsRhsFace}
-use Rattle.question_definitions.specs.Answers.{Basis, Sheet, Sweep, Row, Set, Changing, SweepEnd, Opening, Chained, SweepLimit}
-use Rattle.answer_definitions.specs.Sweeps.{IsSwept, row_of, shifts_of, family_of, IsFace}
-use Rattle.sweep_laws.specs.Laws.{gone_over, LeadsToBases}
+use Rattle.method_definitions.specs.Chain.{Part, ChainEnd, RunReport, FailedOpening, Chain, FaceTurn, FaceMoves, IsFaceStep, IsFacePath, IsChain, at_max, past_break, goes_on, IsRun, IsReport, Place, InOpening, AtBreak, basis_of, Reaches, begins, path_step, first_break, face_step, next_break}
+use Rattle.method_definitions.specs.ObjectiveRun.{objective_family, IsObjectiveFace}
+use Rattle.method_definitions.specs.RhsRun.{rhs_family, IsRhsFace}
+use Rattle.sweep_laws.specs.Laws.{LeadsToBases}
 use Rattle.sweep_laws.proofs.Objective.{to_objective, from_objective, objective_leads}
 use Rattle.sweep_laws.proofs.Rhs.{to_rhs, from_rhs, rhs_leads}
 
@@ -83,12 +81,3 @@ objective_runs p h = leads_to_bases p (objective_family p h) (IsObjectiveFace p 
 
 pub rhs_runs : (p : LinearProgram) (shift : List ℚ) → LeadsToBases p (rhs_family p shift) (IsRhsFace p shift)
 rhs_runs p shift = leads_to_bases p (rhs_family p shift) (IsRhsFace p shift) (rhs_keeps p shift)
-
-runs_of : (sheet : Sheet) (changing : Changing) → LeadsToBases sheet.lp (family_of sheet changing) (IsFace sheet changing)
-runs_of sheet (Row name) = objective_runs sheet.lp (row_of sheet.problem name)
-runs_of sheet (Set name) = rhs_runs sheet.lp (shifts_of sheet.problem name)
-
-pub swept_leads : (sheet : Sheet) (s : Basis) (sweep : Sweep) (end : SweepEnd) → IsSwept sheet s sweep end → IsNonsingularBasis sheet.lp s → IsNonsingularBasis sheet.lp (last_of s (gone_over end))
-swept_leads sheet s sweep (Opening bases verdict check) fails at = (runs_of sheet sweep.changing).last sweep.from sweep.to s (FailedOpening fails.ending) bases at fails.opens
-swept_leads sheet s sweep (Chained bases intervals end) chained at = (runs_of sheet sweep.changing).last sweep.from sweep.to s (Chain chained.parts chained.past) bases at chained.is_run
-swept_leads sheet s sweep SweepLimit on at = at

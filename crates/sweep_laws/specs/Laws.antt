@@ -1,26 +1,19 @@
 -- The laws of parametric runs, as the functions of src/lib.rt promise them.
---     gone_over end                the bases that a parametric run has gone over
 --     LeadsToBases p family Face   from a nonsingular basis a run leads to nonsingular bases alone
 --     HasOneReport p family Face   from a nonsingular basis there is one run, with one report
---     BasisLaws                    the first: runs of the objective, of the right-hand side, and what the verbs print of them
---     ReportLaws                   the second of the same
-use Rattle.std.specs.Prelude.{◌≡◌, ℕ, ◌≤◌, List, [], length}
+--     HasTrueRuns p family Face    what a run from a nonsingular basis reports is true
+--     BasisLaws, ReportLaws,       these for runs of the objective and of the right-hand side
+--     TruthLaws
+use Rattle.std.specs.Prelude.{◌≡◌, ℕ, ◌≤◌, List, length}
 use Rattle.exact_values.specs.Rational.{ℚ}
 use Rattle.lp_definitions.specs.LinearProgram.{LinearProgram, IsRow, HasNoLimits, IsLinearProgram}
 use Rattle.lp_definitions.specs.declared.Status.{Status}
-use Rattle.path_definitions.specs.Path.{last_of}
+use Rattle.method_definitions.specs.Path.{last_of}
 use Rattle.path_laws.specs.Laws.{IsNonsingularBasis}
-use Rattle.postoptimal_definitions.specs.Chain.{FaceTurn, RunReport, Place, basis_of, Reaches, IsReport, RunGoesOnFor}
-use Rattle.postoptimal_definitions.specs.ObjectiveRun.{objective_family, IsObjectiveFace}
-use Rattle.postoptimal_definitions.specs.RhsRun.{rhs_family, IsRhsFace}
-use Rattle.question_definitions.specs.Answers.{Basis, Sheet, Changing, Row, Set, Sweep, SweepEnd, Opening, Chained, SweepLimit}
-use Rattle.answer_definitions.specs.Sweeps.{row_of, IsSwept}
-
--- a run that hasn't ended within its limit tells of no bases
-abbrev pub gone_over : SweepEnd → List Basis
-gone_over (Opening bases verdict check) = bases
-gone_over (Chained bases intervals end) = bases
-gone_over SweepLimit = []
+use Rattle.method_definitions.specs.Chain.{FaceTurn, RunReport, Place, basis_of, Reaches, IsReport, RunGoesOnFor}
+use Rattle.method_definitions.specs.ObjectiveRun.{objective_family, IsObjectiveFace}
+use Rattle.method_definitions.specs.RhsRun.{rhs_family, IsRhsFace}
+use Rattle.sweep_laws.specs.Truth.{IsTrueReport}
 
 -- what is done at a break with this value and basis
 abbrev pub Faces : Type 1
@@ -41,9 +34,6 @@ pub record BasisLaws : Type 0 where
   pub objective : (p : LinearProgram) (h : ℕ) → LeadsToBases p (objective_family p h) (IsObjectiveFace p h)
   -- theta times its shift is added to the limits of each row
   pub rhs : (p : LinearProgram) (shift : List ℚ) → LeadsToBases p (rhs_family p shift) (IsRhsFace p shift)
-  -- what PARAOBJ or PARARHS prints leads from a nonsingular basis to a nonsingular basis
-  pub swept : (sheet : Sheet) (s : Basis) (sweep : Sweep) (end : SweepEnd) → IsSwept sheet s sweep end →
-      IsNonsingularBasis sheet.lp s → IsNonsingularBasis sheet.lp (last_of s (gone_over end))
 
 -- the two runs went over the same bases, and tell the same
 pub record SameReports (report other : RunReport) (path further : List (List Status)) : Type 0 where
@@ -61,19 +51,24 @@ pub record HasOneReport (p : LinearProgram) (family : ℚ → LinearProgram) (Fa
       (steps : ℕ) → IsNonsingularBasis p s → IsReport family Face from max s report path →
       length path ≤ steps → RunGoesOnFor family Face from max s steps → ⊥
 
--- what PARAOBJ changes is a row without limits
-abbrev pub ChangesFreely : Sheet → Changing → Type 0
-ChangesFreely sheet (Row name) =
-    IsRow sheet.lp.matrix (row_of sheet.problem name) × HasNoLimits sheet.lp (row_of sheet.problem name)
-ChangesFreely sheet (Set name) = Unit {0}
-
 pub record ReportLaws : Type 0 where
   -- the change row is a row without limits
   pub objective : (p : LinearProgram) (h : ℕ) → IsLinearProgram p → IsRow p.matrix h → HasNoLimits p h →
       HasOneReport p (objective_family p h) (IsObjectiveFace p h)
   pub rhs : (p : LinearProgram) (shift : List ℚ) → IsLinearProgram p →
       HasOneReport p (rhs_family p shift) (IsRhsFace p shift)
-  -- what PARAOBJ or PARARHS prints is one thing
-  pub one_end : (sheet : Sheet) (s : Basis) (sweep : Sweep) (end other : SweepEnd) →
-      IsLinearProgram sheet.lp → ChangesFreely sheet sweep.changing → IsNonsingularBasis sheet.lp s →
-      IsSwept sheet s sweep end → IsSwept sheet s sweep other → end ≡ other
+
+-- what a run from a nonsingular basis of p reports is true
+abbrev pub HasTrueRuns : LinearProgram → (ℚ → LinearProgram) → Faces → Type 0
+HasTrueRuns p family Face =
+    (from max : ℚ) (s : List Status) (report : RunReport) (path : List (List Status)) →
+    IsNonsingularBasis p s → IsReport family Face from max s report path →
+    IsTrueReport family from max report
+
+pub record TruthLaws : Type 0 where
+  -- theta times a row without limits is added to the objective
+  pub objective : (p : LinearProgram) (h : ℕ) → IsLinearProgram p → IsRow p.matrix h →
+      HasNoLimits p h → HasTrueRuns p (objective_family p h) (IsObjectiveFace p h)
+  -- theta times its shift is added to the limits of each row
+  pub rhs : (p : LinearProgram) (shift : List ℚ) → IsLinearProgram p →
+      HasTrueRuns p (rhs_family p shift) (IsRhsFace p shift)

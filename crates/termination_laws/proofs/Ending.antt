@@ -5,7 +5,7 @@ use Rattle.std.proofs.lemmas.Bool.Decides.{eqb_tells, leb_tells}
 use Rattle.lp_definitions.specs.LinearProgram.{LinearProgram, size, IsLinearProgram}
 use Rattle.lp_definitions.specs.Basis.{opening_statuses}
 use Rattle.lp_definitions.specs.declared.Status.{Status}
-use Rattle.path_definitions.specs.Path.{IsStep, IsPath, last_of, GoesOnFor}
+use Rattle.method_definitions.specs.Path.{IsStep, IsPath, last_of, GoesOnFor}
 use Rattle.path_laws.specs.Laws.{IsNonsingularBasis, HasTableau, EndsWithin}
 use Rattle.path_laws.proofs.OnePath.{path_leads}
 use Rattle.path_laws.proofs.Steps.{step_leads, opening_is}

@@ -16,8 +16,8 @@ use Rattle.lp_laws.proofs.Equations.{KeepsEquations-sub}
 use Rattle.lp_laws.proofs.Uniqueness.{is_in-basics_of, one_place}
 use Rattle.lp_laws.proofs.Combination.{by_nonbasics}
 use Rattle.lp_laws.proofs.Statuses.{status_of_nonbasic}
-use Rattle.path_definitions.specs.Moves.{is_below, is_outside, is_crossed, is_fixed, lowers, signed}
-use Rattle.path_definitions.specs.Path.{excess_rate, mover}
+use Rattle.method_definitions.specs.Moves.{is_below, is_outside, is_crossed, is_fixed, lowers, signed}
+use Rattle.method_definitions.specs.Path.{excess_rate, mover}
 use Rattle.path_laws.specs.Laws.{IsNonsingularBasis}
 use Rattle.path_laws.proofs.Numbered.{find_none, find_some}
 use Rattle.path_laws.proofs.Turns.{IsFirstPhase}

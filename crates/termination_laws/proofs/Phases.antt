@@ -13,8 +13,8 @@ use Rattle.lp_laws.specs.Vectors.{along}
 use Rattle.lp_laws.proofs.Values.{clash}
 use Rattle.lp_laws.proofs.Uniqueness.{one_point}
 use Rattle.lp_laws.proofs.Statuses.{status_of_basic, status_of_nonbasic}
-use Rattle.path_definitions.specs.Moves.{is_below, room}
-use Rattle.path_definitions.specs.Path.{Moves, after, IsStep, stopped_by, excess_rate, turn}
+use Rattle.method_definitions.specs.Moves.{is_below, room}
+use Rattle.method_definitions.specs.Path.{Moves, after, IsStep, stopped_by, excess_rate, turn}
 use Rattle.path_laws.specs.Laws.{IsNonsingularBasis, IsNoWorse}
 use Rattle.path_laws.proofs.Turns.{IsFirstPhase, IsBroughtTurn, IsStoppedTurn, MovingRule, brings, stops, bettering, moving_turn, rule_of}
 use Rattle.path_laws.proofs.Ends.{feasible, IsFeasible-same, low_of, high_of}

@@ -14,8 +14,8 @@ use Rattle.lp_laws.specs.Vectors.{along}
 use Rattle.lp_laws.proofs.Values.{clash}
 use Rattle.lp_laws.proofs.Duality.{for_min-along}
 use Rattle.lp_laws.proofs.Statuses.{status_of_basic, status_of_nonbasic}
-use Rattle.path_definitions.specs.Moves.{is_fixed, lowers, signed, goes_up, room, reached}
-use Rattle.path_definitions.specs.Path.{Move, Moves, after, stopped_by, worth_rate}
+use Rattle.method_definitions.specs.Moves.{is_fixed, lowers, signed, goes_up, room, reached}
+use Rattle.method_definitions.specs.Path.{Move, Moves, after, stopped_by, worth_rate}
 use Rattle.path_laws.specs.Laws.{IsNonsingularBasis}
 use Rattle.path_laws.proofs.Tests.{lt_true, lt_false, neg_below}
 use Rattle.path_laws.proofs.Numbered.{find_some}

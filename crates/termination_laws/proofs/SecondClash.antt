@@ -13,8 +13,8 @@ use Rattle.lp_laws.specs.Rates.{weight}
 use Rattle.lp_laws.proofs.Values.{clash}
 use Rattle.lp_laws.proofs.Optimal.{objective_by_nonbasics}
 use Rattle.lp_laws.proofs.Statuses.{status_of_nonbasic, nonbasic_by_status}
-use Rattle.path_definitions.specs.Moves.{is_fixed, is_no_later, lowers, signed, goes_up, room, reaches_first, stopper}
-use Rattle.path_definitions.specs.Path.{worth_rate, mover}
+use Rattle.method_definitions.specs.Moves.{is_fixed, is_no_later, lowers, signed, goes_up, room, reaches_first, stopper}
+use Rattle.method_definitions.specs.Path.{worth_rate, mover}
 use Rattle.path_laws.specs.Laws.{IsNonsingularBasis}
 use Rattle.path_laws.proofs.Numbered.{find_some, list_all_from}
 use Rattle.path_laws.proofs.Stoppers.{stopper_some}

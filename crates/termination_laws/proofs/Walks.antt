@@ -6,7 +6,7 @@
 use Rattle.std.proofs.Common.{◌≡◌, ◌⊎◌, inl, inr, List, [], ◌∷◌, ◌++◌, refl, sym, ap, subst}
 use Rattle.lp_definitions.specs.Basis.{Tableau}
 use Rattle.lp_definitions.specs.declared.Status.{Status}
-use Rattle.path_definitions.specs.Path.{Move, after}
+use Rattle.method_definitions.specs.Path.{Move, after}
 
 pub record Visit : Type 0 where
   pub basis : List Status

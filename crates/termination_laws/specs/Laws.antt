@@ -6,7 +6,7 @@ use Rattle.std.specs.Prelude.{◌≢◌, ℕ, ◌+◌, ◌<◌, ◌≤◌, ◌^�
 use Rattle.lp_definitions.specs.LinearProgram.{LinearProgram, size, IsLinearProgram}
 use Rattle.lp_definitions.specs.Basis.{opening_statuses}
 use Rattle.lp_definitions.specs.declared.Status.{Status}
-use Rattle.path_definitions.specs.Path.{IsPath, last_of, GoesOnFor}
+use Rattle.method_definitions.specs.Path.{IsPath, last_of, GoesOnFor}
 use Rattle.path_laws.specs.Laws.{IsNonsingularBasis, HasTableau, EndsWithin}
 
 -- a variable is basic, at its upper limit, or at the third place that its limits leave it: its lower limit, or 0 where it is free

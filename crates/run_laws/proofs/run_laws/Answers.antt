@@ -1,3 +1,5 @@
+use Rattle.run_laws.proofs.Sweeps.{swept_leads, swept_true}
+use Rattle.run_laws.proofs.OneEnd.{one_sweep_end}
 use Rattle.run_laws.proofs.Runs.{knows_linear_programming, tells_truth}
 use Rattle.run_laws.proofs.Filed.{files_problems}
 use Rattle.run_laws.proofs.Unlimited.{ends_unlimited}
@@ -5,6 +7,7 @@ use Rattle.run_laws.proofs.run_laws.Goals as goal
 
 pub returns : goal.returns
 returns c = record {
+  sweeps = record { leads = swept_leads; one_end = λ sheet s sweep end other lawful free at. one_sweep_end sheet s sweep lawful free at end other; is_true = swept_true };
   truth = tells_truth _ knows_linear_programming;
   problems = files_problems _;
   unlimited = ends_unlimited;

@@ -2,13 +2,12 @@ use Rattle.exact_values.specs.Rational.{ℚ}
 use Rattle.lp_definitions.specs.LinearProgram.{LinearProgram}
 use Rattle.lp_definitions.specs.declared.Status.{Status}
 use Rattle.std.specs.Prelude.{List}
-use Rattle.postoptimal_definitions.specs.Chain.{FaceTurn}
-use Rattle.postoptimal_definitions.specs.ObjectiveRun.{objective_family, IsObjectiveFace}
-use Rattle.postoptimal_definitions.specs.RhsRun.{rhs_family, IsRhsFace}
+use Rattle.method_definitions.specs.Chain.{FaceTurn}
+use Rattle.method_definitions.specs.ObjectiveRun.{objective_family, IsObjectiveFace}
+use Rattle.method_definitions.specs.RhsRun.{rhs_family, IsRhsFace}
 use Rattle.sweep_laws.specs.Laws.{HasOneReport}
 use Rattle.sweep_laws.proofs.OneRun.{HasOneFace, one_report, objective_faces, rhs_faces}
 use Rattle.sweep_laws.proofs.NotBoth.{not_both}
-use Rattle.sweep_laws.proofs.OneEnd.{one_sweep_end}
 use Rattle.sweep_laws.proofs.report_laws.Goals as goal
 
 has_one_report : (p : LinearProgram) (family : ℚ → LinearProgram) (Face : ℚ → List Status → FaceTurn → Type 0) → HasOneFace p family Face → HasOneReport p family Face
@@ -18,5 +17,4 @@ pub returns : goal.returns
 returns c = record {
   objective = λ p h lawful row free. has_one_report p (objective_family p h) (IsObjectiveFace p h) (objective_faces p h lawful row free);
   rhs = λ p shift lawful. has_one_report p (rhs_family p shift) (IsRhsFace p shift) (rhs_faces p shift lawful);
-  one_end = λ sheet s sweep end other lawful free at. one_sweep_end sheet s sweep lawful free at end other;
 }

@@ -9,7 +9,7 @@ use Rattle.bounded_primal.proofs.PathWalk.{begins_at, follows, follows_later}
 use Rattle.bounded_primal.proofs.WalkCases.{stops_at_once, step_stops, walk_more}
 use Rattle.bounded_primal.proofs.FreeWalk.{reached_short, free_ends, free_stops, counted_more, one_less}
 use Rattle.bounded_primal.proofs.Inside.{stays_inside}
-use Rattle.path_definitions.specs.Counts.{counted_steps}
+use Rattle.method_definitions.specs.Counts.{counted_steps}
 use Rattle.bounded_primal.proofs.free_path.walk_free.Goals as goal
 
 pub returns-in_err-point_of-clause-stops : goal.returns-in_err-point_of-clause-stops

@@ -7,7 +7,7 @@ use Rattle.bounded_primal.proofs.Agreement.{point_agrees}
 use Rattle.bounded_primal.proofs.PathWalk.{begins_at, ends_there, stops_there, follows, follows_later}
 use Rattle.bounded_primal.proofs.WalkCases.{stops_at_once, walk_more, walk_stops}
 use Rattle.bounded_primal.proofs.Inside.{stays_inside}
-use Rattle.path_definitions.specs.Counts.{counted_steps}
+use Rattle.method_definitions.specs.Counts.{counted_steps}
 use Rattle.bounded_primal.proofs.path.walk.Goals as goal
 
 pub returns-in_err-point_of-clause-stops : goal.returns-in_err-point_of-clause-stops

@@ -1,6 +1,6 @@
 use Rattle.std.proofs.Common.{arith}
 use Rattle.lp_definitions.specs.LinearProgram.{value_at, size}
-use Rattle.path_definitions.specs.Moves.{room}
+use Rattle.method_definitions.specs.Moves.{room}
 use Rattle.basis_values.specs.Motions.{motion}
 use Rattle.basis_values.proofs.Skips.{value_read}
 use Rattle.basis_values.proofs.Nearest.{found_within}

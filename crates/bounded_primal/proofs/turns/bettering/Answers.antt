@@ -1,7 +1,7 @@
 use Rattle.std.proofs.Common.{sym, ap, ap₂, ◌∙◌, arith}
 use Rattle.exact_values.specs.Tests.{lt_ℚ}
 use Rattle.lp_definitions.specs.LinearProgram.{value_at}
-use Rattle.path_definitions.specs.Moves.{signed}
+use Rattle.method_definitions.specs.Moves.{signed}
 use Rattle.basis_values.specs.Motions.{motion}
 use Rattle.basis_values.proofs.Skips.{value_read}
 use Rattle.bounded_primal.proofs.TurnChoices.{entering_within, some_betters}

@@ -2,7 +2,7 @@ use Rattle.std.proofs.Common.{◌≡◌, ◌-◌, true, false, sym, ◌∙◌, a
 use Rattle.std.specs.Prelude.{Option, not}
 use Rattle.exact_values.specs.Rational.{ℚ}
 use Rattle.lp_definitions.specs.LinearProgram.{value_at}
-use Rattle.path_definitions.specs.Moves.{lowers, signed}
+use Rattle.method_definitions.specs.Moves.{lowers, signed}
 use Rattle.basis_values.proofs.Skips.{value_read}
 use Rattle.para_rhs.specs.Cheapest.{brings, IsBest}
 use Rattle.para_rhs.specs.declared.ratios.Candidate.{Candidate}

@@ -5,7 +5,7 @@ use Rattle.exact_values.proofs.Order.{le_refl}
 use Rattle.exact_values.proofs.Tests_laws.{same_from_test}
 use Rattle.lp_definitions.specs.LinearProgram.{value_at}
 use Rattle.lp_model.specs.RatesCalls.{IfOverflow}
-use Rattle.postoptimal_definitions.specs.RhsRun.{IsSlope}
+use Rattle.method_definitions.specs.RhsRun.{IsSlope}
 use Rattle.para_rhs.specs.Refusals.{RunRefused}
 use Rattle.lp_model.proofs.Stops.{IfOverflow-map}
 use Rattle.bounded_primal.specs.declared.moves.PrimalStop.TheVariants.{NoMemory}

@@ -1,0 +1,11 @@
+pub mod Moves
+pub mod Path
+pub mod Counts
+pub mod DualRatio
+pub mod Ranges
+pub mod Chain
+pub mod ObjectiveRun
+pub mod RhsRun
+pub mod Formulas
+pub mod Statements
+pub mod Evidence

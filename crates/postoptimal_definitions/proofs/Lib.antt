@@ -1,2 +1,0 @@
-mod RangeRows
-mod ParametricRows

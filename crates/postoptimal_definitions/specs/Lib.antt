@@ -1,4 +1,0 @@
-pub mod Ranges
-pub mod Chain
-pub mod ObjectiveRun
-pub mod RhsRun
