@@ -5,7 +5,7 @@ use Rattle.std.specs.Prelude.{◌≡◌, ℕ, ◌+◌, Bool, List, [], ◌∷◌
 use Rattle.exact_values.specs.Rational.{ℚ}
 use Rattle.lp_definitions.specs.declared.Evidence.{Evidence}
 use Rattle.method_definitions.specs.Path.{IsPath, last_of}
-use Rattle.method_definitions.specs.Chain.{Place as Standing, break_of, Reaches}
+use Rattle.method_definitions.specs.Chain.{RunPlace, break_of, Reaches}
 use Rattle.method_definitions.specs.Statements.{SolvingStatement, Primal, Solution, Range, Paraobj, Pararhs}
 use Rattle.method_definitions.specs.Evidence.{EvidenceHolds, ShiftHolds}
 use Rattle.listing_definitions.specs.Ending.{Place}
@@ -39,7 +39,7 @@ sweep_statement sheet (Set name) from = Pararhs sheet.lp (shifts_of sheet.proble
 
 -- a parametric run has gone over these bases, has so many steps left, and its intervals so far end at these values
 pub record StandsAt (sheet : Sheet) (bases : List Basis) (sweep : Sweep) : Type 0 where
-  pub standing : Standing
+  pub standing : RunPlace
   pub steps : List Basis
   pub ends : List ℚ
   pub reaches : Reaches (family_of sheet sweep.changing) (IsFace sheet sweep.changing) sweep.from sweep.to (last_basis bases) standing steps ends

@@ -14,7 +14,7 @@ use Rattle.problem_definitions.specs.Names.{Name, number_in}
 use Rattle.problem_definitions.specs.Problem.{Problem, row_names}
 use Rattle.problem_definitions.specs.Groups.{items_of}
 use Rattle.selection_definitions.specs.Limits.{value_on}
-use Rattle.listing_definitions.specs.Report.{Verdict, Check, Value, Code, Number, Interval, ChainEnd, EndsAt, UnboundedPast, InfeasiblePast}
+use Rattle.listing_definitions.specs.Report.{PathVerdict, Check, Value, Code, Number, Interval, ChainEnd, EndsAt, UnboundedPast, InfeasiblePast}
 use Rattle.question_definitions.specs.Answers.{Basis, Sheet, Changing, Row, Set, Sweep, SweepEnd, Opening, Chained, SweepLimit}
 use Rattle.answer_definitions.specs.Lines.{standing, lines_of, pair_lines, ray_lines}
 use Rattle.answer_definitions.specs.Verdicts.{IsVerdict}
@@ -56,7 +56,7 @@ end_of sheet max (PastInfeasible past ray) = InfeasiblePast past (ray_lines shee
 
 module _ (sheet : Sheet) (s : Basis) (sweep : Sweep) where
   -- the opening path runs in the linear program at the first value, and its verdict speaks of that one
-  pub record FailsToOpen (bases : List Basis) (verdict : Verdict) (check : Check) : Type 0 where
+  pub record FailsToOpen (bases : List Basis) (verdict : PathVerdict) (check : Check) : Type 0 where
     pub ending : PathEnding
     pub opens : IsFailedOpening (family_of sheet sweep.changing) (IsFace sheet sweep.changing) sweep.from s ending bases
     pub within_limit : length bases ≤ sweep.limit

@@ -5,41 +5,41 @@
 --     IsSolvedBy solver ..                 the path of a solving verb ends so
 use Rattle.std.specs.Prelude.{◌≡◌, ℕ, ◌≤◌, List, length, Option, None, Some, IfSome}
 use Rattle.lp_definitions.specs.LinearProgram.{LinearProgram, value_at}
-use Rattle.check_definitions.specs.declared.Verdict.{Verdict as CheckVerdict}
+use Rattle.check_definitions.specs.declared.Verdict.{Verdict}
 use Rattle.check_definitions.specs.Checks.{optimal_check, crossed_check, infeasible_check, unbounded_check}
 use Rattle.method_definitions.specs.Path.{PathEnding, EndsOptimal, EndsCrossed, EndsInfeasible, EndsUnbounded, PathEnds, GoesOnFor}
 use Rattle.method_definitions.specs.Counts.{counted_steps}
 use Rattle.listing_definitions.specs.declared.Solver.{Solver}
 use Rattle.listing_definitions.specs.declared.Solver.TheVariants.{Primal, Paraobj, Pararhs}
-use Rattle.listing_definitions.specs.Report.{Verdict, OptimalAt, CrossedAt, InfeasibleBy, UnboundedBy, Check, Checked, Unchecked}
+use Rattle.listing_definitions.specs.Report.{PathVerdict, OptimalAt, CrossedAt, InfeasibleBy, UnboundedBy, Check, Checked, Unchecked}
 use Rattle.question_definitions.specs.Answers.{Basis, Sheet, PathEnd, Reached, PathLimit}
 use Rattle.answer_definitions.specs.Lines.{pair_lines, ray_lines}
 
 -- the objective is the activity of the objective row; the count of steps stands still at its last value
-abbrev pub verdict_of : Sheet → ℕ → PathEnding → Verdict
+abbrev pub verdict_of : Sheet → ℕ → PathEnding → PathVerdict
 verdict_of sheet steps (EndsOptimal point prices) = OptimalAt (counted_steps steps) (value_at point sheet.lp.objective)
 verdict_of sheet steps (EndsCrossed k) = CrossedAt k
 verdict_of sheet steps (EndsInfeasible ray) = InfeasibleBy (counted_steps steps) (ray_lines sheet ray)
 verdict_of sheet steps (EndsUnbounded point direction) = UnboundedBy (counted_steps steps) (value_at point sheet.lp.objective) (pair_lines sheet point direction)
 
 -- the check of an end
-abbrev pub check_of : LinearProgram → PathEnding → CheckVerdict
+abbrev pub check_of : LinearProgram → PathEnding → Verdict
 check_of p (EndsOptimal point prices) = optimal_check p (value_at point) (value_at prices)
 check_of p (EndsCrossed k) = crossed_check p k
 check_of p (EndsInfeasible ray) = infeasible_check p (value_at ray)
 check_of p (EndsUnbounded point direction) = unbounded_check p (value_at point) (value_at direction)
 
 -- what is printed of a check: that it was made, or the first operation that was refused; none may fail
-abbrev pub found : Check → CheckVerdict
-found Checked = CheckVerdict.Checked
-found (Unchecked refused) = CheckVerdict.Unchecked refused
+abbrev pub found : Check → Verdict
+found Checked = Verdict.Checked
+found (Unchecked refused) = Verdict.Unchecked refused
 
-pub record IsVerdict (sheet : Sheet) (steps : ℕ) (ending : PathEnding) (verdict : Verdict) (check : Check) : Type 0 where
+pub record IsVerdict (sheet : Sheet) (steps : ℕ) (ending : PathEnding) (verdict : PathVerdict) (check : Check) : Type 0 where
   pub is_verdict : verdict ≡ verdict_of sheet steps ending
   pub is_check : check_of sheet.lp ending ≡ found check
 
 -- the path goes over these bases, within its limit if it has one, and ends with this verdict
-pub record ReachesVerdict (sheet : Sheet) (s : Basis) (limit : Option ℕ) (bases : List Basis) (verdict : Verdict) (check : Check) : Type 0 where
+pub record ReachesVerdict (sheet : Sheet) (s : Basis) (limit : Option ℕ) (bases : List Basis) (verdict : PathVerdict) (check : Check) : Type 0 where
   pub ending : PathEnding
   pub ends : PathEnds sheet.lp s bases ending
   pub within_limit : IfSome limit (λ most. length bases ≤ most)

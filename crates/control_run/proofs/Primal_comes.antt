@@ -11,7 +11,7 @@ use Rattle.listing_definitions.specs.declared.Mark.{Mark}
 use Rattle.listing_definitions.specs.declared.Solver.TheVariants.{Primal as ByPrimal}
 use Rattle.listing_definitions.specs.declared.VerbFault.{VerbFault}
 use Rattle.listing_definitions.specs.declared.VerbFault.TheVariants.{NoSetup}
-use Rattle.listing_definitions.specs.Report.{Verdict, Check, Solved}
+use Rattle.listing_definitions.specs.Report.{PathVerdict, Check, Solved}
 use Rattle.listing_definitions.specs.Ending as endings
 use Rattle.question_definitions.specs.Answers.{Basis, Sheet, OfPath, PathEnd, Reached, PathLimit}
 use Rattle.answer_definitions.specs.Verdicts.{IsSolved}
@@ -135,7 +135,7 @@ module _ (card : ℕ) (cards : List (List ℕ)) (old : Machine) (setup new : Set
       )))
 
   after_stands : (lp : LinearProgram) → selected problem (choice_of old.cells setup.options) ≡ Ok lp → new.name ≡ setup.name → new.options ≡ setup.options →
-      (bases : List Basis) (verdict : Verdict) (check : Check) → PathReaches (record { problem = problem; lp = lp }) setup.basis new.basis old.cells.xiterlim setup.engine.waypoints new.engine.waypoints bases verdict check →
+      (bases : List Basis) (verdict : PathVerdict) (check : Check) → PathReaches (record { problem = problem; lp = lp }) setup.basis new.basis old.cells.xiterlim setup.engine.waypoints new.engine.waypoints bases verdict check →
       (mark : Mark) → Stands cards (after (Some mark)) position executed (record state { setup = Some (gone_through bases present); mark = Some mark })
   after_stands lp ok same_name same_options bases verdict check r mark =
       let same = same_matrix problem (choice_of old.cells setup.options) lp ok in

@@ -19,7 +19,7 @@ use Rattle.selection_definitions.specs.Selection.{selected}
 use Rattle.listing_definitions.specs.declared.Mark.{Mark}
 use Rattle.listing_definitions.specs.declared.Mark.TheVariants.{Optimal}
 use Rattle.listing_definitions.specs.declared.Solver.TheVariants.{Primal as ByPrimal}
-use Rattle.listing_definitions.specs.Report.{Verdict, Check, Solved}
+use Rattle.listing_definitions.specs.Report.{PathVerdict, Check, Solved}
 use Rattle.listing_definitions.specs.Text.{report_text}
 use Rattle.listing_definitions.specs.Ending as endings
 use Rattle.question_definitions.specs.Answers.{Basis, Sheet, PathLimit}
@@ -49,7 +49,7 @@ use Rattle.control_run.proofs.Present.{one_problem}
 
 -- ---- the path
 
-module _ {P : Type 0} (written : P → Option (List ℕ)) (faults refusals : P → ℕ) (sheet : Sheet) (s now : Basis) (limit : Option ℕ) (before after : List Basics) (bases : List Basis) (verdict : Verdict) (check : Check)
+module _ {P : Type 0} (written : P → Option (List ℕ)) (faults refusals : P → ℕ) (sheet : Sheet) (s now : Basis) (limit : Option ℕ) (before after : List Basics) (bases : List Basis) (verdict : PathVerdict) (check : Check)
     (r : PathReaches sheet s now limit before after bases verdict check) where
   -- its verdict is printed or broken off
   pub verdict_told : (mark : Mark) {print_old print_new : P} → mark ≡ mark_of verdict → Writes {T = Unit {0}} written faults refusals print_old print_new (Ok tt) (report_text (Solved ByPrimal verdict check)) →
@@ -154,7 +154,7 @@ pub solved_ends : (sheet : Sheet) (s now : Basis) (limit : Option ℕ) (before a
     (Fact : Mark → Type 0) → ((mark : Mark) → (mark ≡ Optimal → IsOptimalBasis sheet.lp now) → Fact mark) → IfEnded finding Fact
 solved_ends sheet s now limit before after _ _ lawful at (reached {bases = bases} {verdict = verdict} r) Fact gives =
     gives (mark_of verdict) (λ is. optimal_ending sheet.lp now sheet (length bases) r.reaches.ending lawful at (subst (λ (b : Basis). EndsAt sheet.lp b r.reaches.ending) r.leads r.reaches.ends.ends)
-    (subst (λ (v : Verdict). mark_of v ≡ Optimal) r.reaches.is_verdict.is_verdict is))
+    (subst (λ (v : PathVerdict). mark_of v ≡ Optimal) r.reaches.is_verdict.is_verdict is))
 solved_ends sheet s now limit before after _ _ lawful at (at_limit h) Fact gives = tt
 solved_ends sheet s now limit before after _ _ lawful at (overflows h) Fact gives = tt
 

@@ -25,7 +25,7 @@ use Rattle.listing_definitions.specs.declared.Mark.TheVariants.{Optimal, Infeasi
 use Rattle.listing_definitions.specs.declared.VerbFault.{VerbFault}
 use Rattle.listing_definitions.specs.declared.VerbFault.TheVariants.{NotSolved, NotOptimal}
 use Rattle.listing_definitions.specs.declared.Solver.TheVariants.{Primal as ByPrimal}
-use Rattle.listing_definitions.specs.Report.{Verdict, Check, Solved, Solution, SolutionLines, Ranges, RangeLines}
+use Rattle.listing_definitions.specs.Report.{PathVerdict, Check, Solved, Solution, SolutionLines, Ranges, RangeLines}
 use Rattle.listing_definitions.specs.Ending.{Place}
 use Rattle.control_definitions.specs.Cells.{Cells, steps_allowed}
 use Rattle.question_definitions.specs.Answers.{Basis, Sheet, PathLimit}
@@ -67,7 +67,7 @@ pub data IsOverflowAt (s : Basis) (after : List Basics) (e : Evidence) : Result 
 module _ (sheet : Sheet) (s now : Basis) (limit : Option ℕ) (before after : List Basics) where
   -- The path from s goes over these bases to now, and ends there with this verdict. For every list of bases that ends with s, in which
   -- the waypoints lay before, they lie after in that list followed by these bases.
-  pub record PathReaches (bases : List Basis) (verdict : Verdict) (check : Check) : Type 0 where
+  pub record PathReaches (bases : List Basis) (verdict : PathVerdict) (check : Check) : Type 0 where
     pub reaches : ReachesVerdict sheet s limit bases verdict check
     pub leads : last_of s bases ≡ now
     pub lie : (earlier : List Basis) → LieIn sheet.lp.matrix before (earlier ++ s ∷ []) →
@@ -81,7 +81,7 @@ module _ (sheet : Sheet) (s now : Basis) (limit : Option ℕ) (before after : Li
 
   -- its verdict is printed; or it goes on past the limit; or an operation is refused
   pub data PathFinds : Gain → Finding → Type 0 where
-    reached : {bases : List Basis} {verdict : Verdict} {check : Check} →
+    reached : {bases : List Basis} {verdict : PathVerdict} {check : Check} →
         PathReaches bases verdict check →
         PathFinds (Prints (Solved ByPrimal verdict check)) (Ended (mark_of verdict))
     at_limit : IsSolved sheet s limit PathLimit → PathFinds Nothing Limit

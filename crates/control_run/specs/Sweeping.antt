@@ -21,7 +21,7 @@ use Rattle.lp_setup.specs.Changes.{IsFreeIn}
 use Rattle.selection_definitions.specs.Selection.{selected}
 use Rattle.listing_definitions.specs.declared.VerbFault.{VerbFault}
 use Rattle.listing_definitions.specs.declared.VerbFault.TheVariants.{NoChangeRow, NoChangeSet, NoParmax, ParmaxBelow}
-use Rattle.listing_definitions.specs.Report.{Verdict, Check, Interval, ChainEnd, Solved, Parametric}
+use Rattle.listing_definitions.specs.Report.{PathVerdict, Check, Interval, ChainEnd, Solved, Parametric}
 use Rattle.listing_definitions.specs.Ending.{Place}
 use Rattle.control_definitions.specs.Program as program
 use Rattle.control_definitions.specs.Cells.{Cells, steps_allowed}
@@ -163,7 +163,7 @@ module _ (sheet : Sheet) (s now : Basis) (sweep : Sweep) (before after : List Ba
   -- the verdict on its opening is printed; or its intervals are, and it has come to this value; or it goes on past the limit; or an
   -- operation is refused
   pub data SweepFinds : Gain → Finding → Type 0 where
-    opened : {bases : List Basis} {verdict : Verdict} {check : Check} →
+    opened : {bases : List Basis} {verdict : PathVerdict} {check : Check} →
         SweepReaches bases (Opening bases verdict check) →
         SweepFinds (Prints (Solved (sweeper sweep.changing) verdict check)) (Ended (mark_of verdict))
     chained : {bases : List Basis} {intervals : List Interval} {end : ChainEnd} →

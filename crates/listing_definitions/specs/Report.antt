@@ -1,6 +1,6 @@
 -- What a run reports, as plain data: just what is printed of it.
 --     Value, Line           a printed value, and a table line
---     Verdict, Check        what a solving verb says, and whether its check could be made
+--     PathVerdict, Check    what a solving verb says, and whether its check could be made
 --     Report                what a statement prints
 use Rattle.std.specs.Prelude.{ℕ, List, Option, Some, None}
 use Rattle.exact_values.specs.Rational.{ℚ}
@@ -37,11 +37,11 @@ pub record Filed : Type 0 where
 
 -- Where a path ended: optimal after so many steps, with this objective; with a crossed variable; infeasible after so many
 -- steps, with the multipliers that aren't 0; or unbounded, with its objective and with each activity and direction.
-pub data Verdict : Type 0 where
-  OptimalAt : ℕ → ℚ → Verdict
-  CrossedAt : ℕ → Verdict
-  InfeasibleBy : ℕ → List Line → Verdict
-  UnboundedBy : ℕ → ℚ → List Line → Verdict
+pub data PathVerdict : Type 0 where
+  OptimalAt : ℕ → ℚ → PathVerdict
+  CrossedAt : ℕ → PathVerdict
+  InfeasibleBy : ℕ → List Line → PathVerdict
+  UnboundedBy : ℕ → ℚ → List Line → PathVerdict
 
 -- whether all operations of a verdict's check fit, or else the first one that doesn't
 pub data Check : Type 0 where
@@ -82,7 +82,7 @@ pub data Report : Type 0 where
   Converted Revised : Filed → Report
   SetUp : Name → Sense → Report
   Punched : Name → ℕ → Report
-  Solved : Solver → Verdict → Check → Report
+  Solved : Solver → PathVerdict → Check → Report
   Solution : Mark → SolutionLines → Report
   Ranges : RangeLines → Report
   Parametric : Solver → Chain → Report

@@ -15,7 +15,7 @@ use Rattle.listing_definitions.specs.declared.Solver.TheVariants.{Primal, Paraob
 use Rattle.listing_definitions.specs.declared.At.{At}
 use Rattle.listing_definitions.specs.declared.At.TheVariants.{Basic, Outside, Equal, Lower, Upper, Free}
 use Rattle.listing_definitions.specs.Numbers.{digits, rational_text}
-use Rattle.listing_definitions.specs.Report.{Value, Code, Number, Absent, Dash, Line, Filed, Verdict, OptimalAt, CrossedAt, InfeasibleBy, UnboundedBy, Check, Checked, Unchecked, SolutionLines, RangeLines, Interval, ChainEnd, EndsAt, UnboundedPast, InfeasiblePast, Chain, Report, Titled, Converted, Revised, SetUp, Punched, Solved, Solution, Ranges, Parametric}
+use Rattle.listing_definitions.specs.Report.{Value, Code, Number, Absent, Dash, Line, Filed, PathVerdict, OptimalAt, CrossedAt, InfeasibleBy, UnboundedBy, Check, Checked, Unchecked, SolutionLines, RangeLines, Interval, ChainEnd, EndsAt, UnboundedPast, InfeasiblePast, Chain, Report, Titled, Converted, Revised, SetUp, Punched, Solved, Solution, Ranges, Parametric}
 
 -- ---- table lines
 
@@ -74,20 +74,20 @@ solver_text Paraobj = codes "PARAOBJ"
 solver_text Pararhs = codes "PARARHS"
 
 -- the first line of a verdict, without the check and the line feed
-abbrev pub verdict_head : Verdict → List ℕ
+abbrev pub verdict_head : PathVerdict → List ℕ
 verdict_head (OptimalAt steps objective) = concat (codes "OPTIMAL STEPS " ∷ digits steps ∷ codes " OBJECTIVE " ∷ rational_text objective ∷ [])
 verdict_head (CrossedAt number) = codes "INFEASIBLE STEPS 0 CROSSED " ++ digits number
 verdict_head (InfeasibleBy steps lines) = concat (codes "INFEASIBLE STEPS " ∷ digits steps ∷ codes " RAY" ∷ [])
 verdict_head (UnboundedBy steps objective lines) = concat (codes "UNBOUNDED STEPS " ∷ digits steps ∷ codes " OBJECTIVE " ∷ rational_text objective ∷ [])
 
 -- the table lines of a verdict
-abbrev pub verdict_lines : Verdict → List Line
+abbrev pub verdict_lines : PathVerdict → List Line
 verdict_lines (OptimalAt steps objective) = []
 verdict_lines (CrossedAt number) = []
 verdict_lines (InfeasibleBy steps lines) = lines
 verdict_lines (UnboundedBy steps objective lines) = lines
 
-abbrev pub verdict_text : Solver → Verdict → Check → List ℕ
+abbrev pub verdict_text : Solver → PathVerdict → Check → List ℕ
 verdict_text solver verdict check =
     concat (solver_text solver ∷ codes " " ∷ verdict_head verdict ∷ codes " " ∷ check_text check ∷ codes "\n" ∷ table_text (verdict_lines verdict) ∷ [])
 

@@ -119,23 +119,23 @@ module _ (family : ℚ → LinearProgram) (Face : ℚ → List Status → FaceTu
   IsReport from max s (Chain parts end) path = IsRun from max s parts end path
 
 -- a basis of the opening path, or one at a break
-pub data Place : Type 0 where
-  InOpening : List Status → Place
-  AtBreak : ℚ → List Status → Place
+pub data RunPlace : Type 0 where
+  InOpening : List Status → RunPlace
+  AtBreak : ℚ → List Status → RunPlace
 
 -- the break at which a run stands, if it is at one, and the basis
-abbrev pub break_of : Place → Option ℚ
+abbrev pub break_of : RunPlace → Option ℚ
 break_of (InOpening now) = None
 break_of (AtBreak theta now) = Some theta
 
-abbrev pub basis_of : Place → List Status
+abbrev pub basis_of : RunPlace → List Status
 basis_of (InOpening now) = now
 basis_of (AtBreak theta now) = now
 
 module _ (family : ℚ → LinearProgram) (Face : ℚ → List Status → FaceTurn → Type 0) (from max : ℚ) (s : List Status) where
   -- the run begins in the opening path, which takes its steps; where that ends optimal, the first interval goes to its break;
   -- there the face steps are taken; and where none is left, the next interval goes to its break
-  pub data Reaches : Place → List (List Status) → List ℚ → Type 0 where
+  pub data Reaches : RunPlace → List (List Status) → List ℚ → Type 0 where
     begins : Reaches (InOpening s) [] []
     path_step : {now next : List Status} {path : List (List Status)} →
         Reaches (InOpening now) path [] → IsStep (family from) now next → Reaches (InOpening next) (path ++ next ∷ []) []
@@ -149,12 +149,12 @@ module _ (family : ℚ → LinearProgram) (Face : ℚ → List Status → FaceTu
         ReachesTo family now theta max to → to <ℚ max → Reaches (AtBreak to now) path (to ∷ ends)
 
   -- one more step can be taken
-  abbrev pub GoesOn : Place → Type 0
+  abbrev pub GoesOn : RunPlace → Type 0
   GoesOn (InOpening now) = (next : List Status) × IsStep (family from) now next
   GoesOn (AtBreak theta now) = (next : List Status) × IsFaceStep family Face theta now next
 
   pub record RunGoesOnFor (steps : ℕ) : Type 0 where
-    pub place : Place
+    pub place : RunPlace
     pub path : List (List Status)
     pub ends : List ℚ
     pub reaches : Reaches place path ends

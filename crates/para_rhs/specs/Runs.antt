@@ -16,7 +16,7 @@ use Rattle.lp_definitions.specs.declared.Status.{Status}
 use Rattle.lp_model.specs.declared.reports.ParaReport.{ParaReport}
 use Rattle.lp_model.specs.declared.reports.ParaRun.{ParaRun}
 use Rattle.method_definitions.specs.Path.{last_of}
-use Rattle.method_definitions.specs.Chain.{RunReport, IsChain, Place, basis_of}
+use Rattle.method_definitions.specs.Chain.{RunReport, IsChain, RunPlace, basis_of}
 use Rattle.method_definitions.specs.Evidence.{ShiftHolds}
 use Rattle.bounded_primal.specs.declared.moves.PrimalStop.{PrimalStop}
 use Rattle.bounded_primal.specs.declared.moves.PrimalStop.TheVariants.{Limit, Overflow, NoMemory}
@@ -40,7 +40,7 @@ module _ (p : LinearProgram) (run : ParaRhs) where
 
   -- it stands at now after so many steps
   pub record StandsAt (start : List Status) (before : List Basics) (now : List Status) (ways : List Basics) (steps : ℕ) : Type 0 where
-    pub place : Place
+    pub place : RunPlace
     pub ends : List ℚ
     pub is_now : basis_of place ≡ now
     pub run_there : HasRun (family p run) (Face p run) run.from run.to p.matrix start before place ends ways steps

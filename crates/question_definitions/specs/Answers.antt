@@ -11,7 +11,7 @@ use Rattle.problem_definitions.specs.Problem.{Problem}
 use Rattle.listing_definitions.specs.declared.Mark.{Mark}
 use Rattle.listing_definitions.specs.declared.Solver.{Solver}
 use Rattle.listing_definitions.specs.declared.Solver.TheVariants.{Paraobj, Pararhs}
-use Rattle.listing_definitions.specs.Report.{SolutionLines, RangeLines, Verdict, Check, Interval, ChainEnd}
+use Rattle.listing_definitions.specs.Report.{SolutionLines, RangeLines, PathVerdict, Check, Interval, ChainEnd}
 
 -- a basis says where each variable stands
 abbrev pub Basis : Type 0
@@ -44,13 +44,13 @@ pub record Sweep : Type 0 where
 -- Where a path ends: it went through these bases, one a step, and its verdict and the check of it are these; or it hasn't ended
 -- within its limit.
 pub data PathEnd : Type 0 where
-  Reached : List Basis → Verdict → Check → PathEnd
+  Reached : List Basis → PathVerdict → Check → PathEnd
   PathLimit : PathEnd
 
 -- Where a parametric run ends: its opening path isn't optimal; or it went on, through all these bases, with these intervals; or it
 -- hasn't ended within its limit.
 pub data SweepEnd : Type 0 where
-  Opening : List Basis → Verdict → Check → SweepEnd
+  Opening : List Basis → PathVerdict → Check → SweepEnd
   Chained : List Basis → List Interval → ChainEnd → SweepEnd
   SweepLimit : SweepEnd
 

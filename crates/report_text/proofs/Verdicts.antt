@@ -9,7 +9,7 @@ use Rattle.exact_values.specs.Tests.{eq_ℚ}
 use Rattle.lp_definitions.specs.LinearProgram.{size, value_at, numbers_from, variables}
 use Rattle.listing_definitions.specs.Numbers.{digits, rational_text}
 use Rattle.listing_definitions.specs.declared.Solver.{Solver}
-use Rattle.listing_definitions.specs.Report.{Verdict, CrossedAt, Check}
+use Rattle.listing_definitions.specs.Report.{PathVerdict, CrossedAt, Check}
 use Rattle.listing_definitions.specs.Text.{solver_text, check_text, verdict_head, verdict_lines, verdict_text, line_text, table_text}
 use Rattle.listing_tables.specs.declared.sheet.Sheet.{Sheet}
 use Rattle.listing_tables.specs.declared.table.Table.TheVariants.{Multipliers, Pairs}
@@ -25,7 +25,7 @@ same_objective by found steps x y e = ap (λ v. concat (solver_text by ∷ codes
 pub crossed_head : (by : Solver) (number : ℕ) → concat (solver_text by ∷ codes " " ∷ concat (codes "INFEASIBLE STEPS 0 CROSSED " ∷ digits number ∷ [] ∷ []) ∷ []) ≡ concat (solver_text by ∷ codes " " ∷ verdict_head (CrossedAt number) ∷ [])
 crossed_head by number = ap (λ w. concat (solver_text by ∷ codes " " ∷ (codes "INFEASIBLE STEPS 0 CROSSED " ++ w) ∷ [])) (append-nil (digits number))
 
-pub verdict_parts : (by : Solver) (verdict : Verdict) (check : Check) → concat (solver_text by ∷ codes " " ∷ verdict_head verdict ∷ []) ++ (concat (codes " " ∷ check_text check ∷ codes "\n" ∷ []) ++ table_text (verdict_lines verdict)) ≡ verdict_text by verdict check
+pub verdict_parts : (by : Solver) (verdict : PathVerdict) (check : Check) → concat (solver_text by ∷ codes " " ∷ verdict_head verdict ∷ []) ++ (concat (codes " " ∷ check_text check ∷ codes "\n" ∷ []) ++ table_text (verdict_lines verdict)) ≡ verdict_text by verdict check
 verdict_parts by verdict check = simp (append_assoc, append-nil)
 
 module _ (sheet : Sheet) (last : ℕ) (counted : last ≡ size sheet.lp.now.matrix) where

@@ -5,7 +5,7 @@ use Rattle.frac128.specs.declared.Refused.{Refused}
 use Rattle.lp_definitions.specs.LinearProgram.{size, value_at}
 use Rattle.lp_model.specs.declared.reports.Outcome.{Outcome}
 use Rattle.lp_model.specs.declared.reports.Outcome.TheVariants.{Optimal, Crossed, Infeasible, Unbounded}
-use Rattle.listing_definitions.specs.Report.{Verdict, OptimalAt, CrossedAt, InfeasibleBy, UnboundedBy, Check, Checked, Unchecked}
+use Rattle.listing_definitions.specs.Report.{PathVerdict, OptimalAt, CrossedAt, InfeasibleBy, UnboundedBy, Check, Checked, Unchecked}
 use Rattle.listing_tables.specs.declared.sheet.Sheet.{Sheet}
 use Rattle.listing_tables.specs.Sheets.{IsSheet}
 use Rattle.listing_tables.specs.Lines.{ray_lines, pair_lines}
@@ -26,7 +26,7 @@ pub record IsOutcome (sheet : Sheet) (outcome : Outcome) : Type 0 where
   pub full : AreFull sheet outcome
 
 -- the objective is the activity of the objective row
-abbrev pub verdict_shown : Sheet → Outcome → Verdict
+abbrev pub verdict_shown : Sheet → Outcome → PathVerdict
 verdict_shown sheet (Optimal steps point prices) = OptimalAt steps (value_at point sheet.lp.now.objective)
 verdict_shown sheet (Crossed k) = CrossedAt k
 verdict_shown sheet (Infeasible steps ray) = InfeasibleBy steps (ray_lines sheet.problem.now sheet.lp.now ray)

@@ -10,7 +10,7 @@ use Rattle.lp_definitions.specs.declared.Evidence.{Evidence}
 use Rattle.lp_definitions.specs.declared.Status.{Status}
 use Rattle.lp_laws.proofs.WaypointLaws.{within_itself, within_by}
 use Rattle.method_definitions.specs.Path.{IsPath, EndsAt, EndsOptimal, last_of}
-use Rattle.method_definitions.specs.Chain.{FaceTurn, FaceDone, ReachesTo, IsFaceStep, IsFacePath, Place, InOpening, AtBreak, basis_of, break_of, Reaches, begins, path_step, first_break, face_step, next_break}
+use Rattle.method_definitions.specs.Chain.{FaceTurn, FaceDone, ReachesTo, IsFaceStep, IsFacePath, RunPlace, InOpening, AtBreak, basis_of, break_of, Reaches, begins, path_step, first_break, face_step, next_break}
 use Rattle.method_definitions.specs.Statements.{SolvingStatement}
 use Rattle.method_definitions.specs.Evidence.{EvidenceHolds}
 use Rattle.basis_values.specs.Calls.{LieIn}
@@ -72,14 +72,14 @@ module _ (family : ℚ → LinearProgram) (Face : ℚ → List Status → FaceTu
 
   module _ (from max : ℚ) (a : Matrix) (s : List Status) (before : List Basics) where
     -- the last of its bases is the one at which a run stands
-    reached_last : (place : Place) (path : List (List Status)) (ends : List ℚ) → Reaches family Face from max s place path ends → last_of s path ≡ basis_of place
+    reached_last : (place : RunPlace) (path : List (List Status)) (ends : List ℚ) → Reaches family Face from max s place path ends → last_of s path ≡ basis_of place
     reached_last _ _ _ begins = refl
     reached_last _ _ _ (path_step {now} {next} {path} so_far step) = last_more s path next
     reached_last _ _ _ (first_break {now} {path} {to} point prices so_far ends reaches within) = reached_last (InOpening now) path [] so_far
     reached_last _ _ _ (face_step {theta} {now} {next} {path} {ends} so_far step) = last_more s path next
     reached_last _ _ _ (next_break {theta} {now} {path} {ends} {to} so_far done reaches within) = reached_last (AtBreak theta now) path ends so_far
 
-    module _ (place : Place) (ends : List ℚ) (now : List Status) (ways : List Basics) (steps : ℕ) (h : HasRun family Face from max a s before place ends ways steps)
+    module _ (place : RunPlace) (ends : List ℚ) (now : List Status) (ways : List Basics) (steps : ℕ) (h : HasRun family Face from max a s before place ends ways steps)
         (is_now : basis_of place ≡ now) where
       initial : (initial : List (List Status)) × (s ∷ h.path ≡ initial ++ last_of s h.path ∷ [])
       initial = before_last s h.path
@@ -102,7 +102,7 @@ module _ (family : ℚ → LinearProgram) (Face : ℚ → List Status → FaceTu
       }
 
       -- one more step, over which a longer run stands at another place
-      step_more : (next : List Status) (other : Place) (more : List Basics) → KeepsWaypoints a (basics_of now) ways (basics_of next) more →
+      step_more : (next : List Status) (other : RunPlace) (more : List Basics) → KeepsWaypoints a (basics_of now) ways (basics_of next) more →
           Reaches family Face from max s other (h.path ++ next ∷ []) ends → HasRun family Face from max a s before other ends more (steps + 1)
       step_more next other more keeps there = record {
         path = h.path ++ next ∷ [];

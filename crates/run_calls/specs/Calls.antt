@@ -22,7 +22,7 @@ use Rattle.lp_model.specs.declared.reports.ParaReport.{ParaReport}
 use Rattle.lp_model.specs.declared.reports.ParaReport.TheVariants.{Opening, Run}
 use Rattle.method_definitions.specs.Counts.{counted_steps}
 use Rattle.method_definitions.specs.Path.{PathEnding, last_of}
-use Rattle.method_definitions.specs.Chain.{Part, ChainEnd, AtMax, UnboundedPast, InfeasiblePast, FaceTurn, IsRun, IsFailedOpening, Place, break_of, basis_of, Reaches, RunGoesOnFor}
+use Rattle.method_definitions.specs.Chain.{Part, ChainEnd, AtMax, UnboundedPast, InfeasiblePast, FaceTurn, IsRun, IsFailedOpening, RunPlace, break_of, basis_of, Reaches, RunGoesOnFor}
 use Rattle.method_definitions.specs.Statements.{SolvingStatement}
 use Rattle.method_definitions.specs.Evidence.{EvidenceHolds}
 use Rattle.basis_values.specs.Calls.{LieIn}
@@ -68,7 +68,7 @@ module _ (family : ℚ → LinearProgram) (Face : ℚ → List Status → FaceTu
       pub lie : (earlier : List (List Status)) → LieIn a before (earlier ++ s ∷ []) → LieIn a after (earlier ++ s ∷ bases)
 
     pub record StandsThere : Type 0 where
-      pub place : Place
+      pub place : RunPlace
       pub path : List (List Status)
       pub ends : List ℚ
       pub reaches : Reaches family Face from max s place path ends
@@ -81,7 +81,7 @@ module _ (family : ℚ → LinearProgram) (Face : ℚ → List Status → FaceTu
 
     -- the same of a run that has stopped at now, or ended there
     pub record WaypointsFollowRun (a : Matrix) (before after : List Basics) : Type 0 where
-      pub place : Place
+      pub place : RunPlace
       pub path : List (List Status)
       pub ends : List ℚ
       pub reaches : Reaches family Face from max s place path ends

@@ -11,7 +11,7 @@ use Rattle.lp_definitions.specs.Basis.{Basics, basics_of}
 use Rattle.lp_definitions.specs.Waypoints.{waypoint}
 use Rattle.lp_definitions.specs.declared.Evidence.{Evidence}
 use Rattle.lp_definitions.specs.declared.Status.{Status}
-use Rattle.method_definitions.specs.Chain.{FaceTurn, ReachesTo, IsFaceStep, Place, AtBreak, basis_of, Reaches}
+use Rattle.method_definitions.specs.Chain.{FaceTurn, ReachesTo, IsFaceStep, RunPlace, AtBreak, basis_of, Reaches}
 use Rattle.method_definitions.specs.Statements.{SolvingStatement}
 use Rattle.method_definitions.specs.Evidence.{EvidenceHolds}
 use Rattle.basis_values.specs.Calls.{LieIn}
@@ -22,7 +22,7 @@ module _ (family : ℚ → LinearProgram) (Face : ℚ → List Status → FaceTu
     (s : List Status) (before : List Basics) where
   -- a run from s, with the waypoints before; for every list of bases that ends with s, in which these lay, those that are now lie in
   -- that list followed by this run
-  pub record HasRun (place : Place) (ends : List ℚ) (ways : List Basics) (steps : ℕ) : Type 0 where
+  pub record HasRun (place : RunPlace) (ends : List ℚ) (ways : List Basics) (steps : ℕ) : Type 0 where
     pub path : List (List Status)
     pub reaches : Reaches family Face from max s place path ends
     pub taken : length path ≡ steps
@@ -30,7 +30,7 @@ module _ (family : ℚ → LinearProgram) (Face : ℚ → List Status → FaceTu
 
   -- where the basis stays optimal to a break before max, the run stands at that break
   pub record MayOpen (theta : ℚ) (now : List Status) (ways : List Basics) (steps : ℕ) : Type 0 where
-    pub place : Place
+    pub place : RunPlace
     pub ends : List ℚ
     pub run : HasRun place ends ways steps
     pub is_now : basis_of place ≡ now

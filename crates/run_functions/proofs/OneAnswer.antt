@@ -10,7 +10,7 @@ use Rattle.path_laws.specs.Laws.{IsNonsingularBasis}
 use Rattle.path_laws.proofs.Numbered.{map_same}
 use Rattle.path_laws.proofs.Endless.{objective_value-same}
 use Rattle.path_laws.proofs.OnePath.{one_path, not_both}
-use Rattle.listing_definitions.specs.Report.{Value, Code, Number, limit_value, Line, SolutionLines, Verdict, Check, Checked, Unchecked}
+use Rattle.listing_definitions.specs.Report.{Value, Code, Number, limit_value, Line, SolutionLines, PathVerdict, Check, Checked, Unchecked}
 use Rattle.question_definitions.specs.Answers.{Basis, Sheet, PathEnd, Reached, PathLimit}
 use Rattle.answer_definitions.specs.Lines.{at_of, name_of}
 use Rattle.answer_definitions.specs.Verdicts.{verdict_of, check_of, found, IsVerdict, IsSolved}
@@ -27,7 +27,7 @@ check_same (Unchecked refused) (Unchecked other) e = cc
 
 module _ (sheet : Sheet) where
   -- the same end after the same bases has the same verdict and the same check
-  reached_same : (bases others : List Basis) (ending other : PathEnding) (v w : Verdict) (c d : Check) → bases ≡ others → ending ≡ other →
+  reached_same : (bases others : List Basis) (ending other : PathEnding) (v w : PathVerdict) (c d : Check) → bases ≡ others → ending ≡ other →
       IsVerdict sheet (length bases) ending v c → IsVerdict sheet (length others) other w d → Reached bases v c ≡ Reached others w d
   reached_same bases others ending other v w c d same alike first second =
       let verdicts : v ≡ w = first.is_verdict ∙ ap₂ (λ xs e. verdict_of sheet (length xs) e) same alike ∙ sym second.is_verdict in

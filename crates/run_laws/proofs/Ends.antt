@@ -15,7 +15,7 @@ use Rattle.path_laws.proofs.Endless.{crossed_end, unbounded_end}
 use Rattle.path_laws.proofs.Rays.{infeasible_end}
 use Rattle.path_laws.proofs.OneTurn.{SameTableau, turn_same}
 use Rattle.path_laws.proofs.OnePath.{path_leads}
-use Rattle.listing_definitions.specs.Report.{Verdict}
+use Rattle.listing_definitions.specs.Report.{PathVerdict}
 use Rattle.question_definitions.specs.Answers.{Basis, Sheet}
 use Rattle.answer_definitions.specs.Verdicts.{verdict_of}
 use Rattle.run_laws.specs.Truth.{IsTrueOf}
@@ -72,7 +72,7 @@ module _ (sheet : Sheet) (s : Basis) (steps : ℕ) (lawful : IsLinearProgram she
       (record { point = z; direction = d; proves = proves; is_objective = plain (value_at z); are_lines = refl }, unbounded_by_direction sheet.lp _ _ proves)
 
 -- and so is the verdict of a path
-pub path_is_true : (sheet : Sheet) (s : Basis) (bases : List Basis) (ending : PathEnding) (steps : ℕ) (verdict : Verdict) → IsLinearProgram sheet.lp → HasNoChange sheet.lp → IsNonsingularBasis sheet.lp s →
+pub path_is_true : (sheet : Sheet) (s : Basis) (bases : List Basis) (ending : PathEnding) (steps : ℕ) (verdict : PathVerdict) → IsLinearProgram sheet.lp → HasNoChange sheet.lp → IsNonsingularBasis sheet.lp s →
     PathEnds sheet.lp s bases ending → verdict ≡ verdict_of sheet steps ending → IsTrueOf sheet verdict
 path_is_true sheet s bases ending steps verdict lawful plain at path is =
     subst (IsTrueOf sheet) (sym is) (end_is_true sheet (last_of s bases) steps lawful plain (path_leads sheet.lp s bases at path.is_path) ending path.ends)

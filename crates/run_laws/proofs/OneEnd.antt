@@ -3,7 +3,7 @@ use Rattle.std.proofs.Common.{◌≡◌, List, map, length, refl, sym, ap, ap₂
 use Rattle.lp_definitions.specs.LinearProgram.{IsLinearProgram}
 use Rattle.path_laws.specs.Laws.{IsNonsingularBasis}
 use Rattle.method_definitions.specs.Chain.{FailedOpening, Chain}
-use Rattle.listing_definitions.specs.Report.{Verdict, Check, Checked, Unchecked, Interval, ChainEnd}
+use Rattle.listing_definitions.specs.Report.{PathVerdict, Check, Checked, Unchecked, Interval, ChainEnd}
 use Rattle.question_definitions.specs.Answers.{Basis, Sheet, Changing, Row, Set, Sweep, SweepEnd, Opening, Chained, SweepLimit}
 use Rattle.answer_definitions.specs.Verdicts.{verdict_of, check_of, found}
 use Rattle.answer_definitions.specs.Sweeps.{row_of, shifts_of, family_of, IsFace, sheet_at, interval_of, end_of, FailsToOpen, IsChained, IsSwept}
@@ -28,7 +28,7 @@ module _ (sheet : Sheet) (s : Basis) (sweep : Sweep) (lawful : IsLinearProgram s
   abbrev first_sheet : Sheet
   first_sheet = sheet_at sheet sweep.changing sweep.from
 
-  openings : (bases others : List Basis) (verdict verdict' : Verdict) (check check' : Check) → FailsToOpen sheet s sweep bases verdict check → FailsToOpen sheet s sweep others verdict' check' →
+  openings : (bases others : List Basis) (verdict verdict' : PathVerdict) (check check' : Check) → FailsToOpen sheet s sweep bases verdict check → FailsToOpen sheet s sweep others verdict' check' →
       Opening bases verdict check ≡ Opening others verdict' check'
   openings bases others verdict verdict' check check' first second =
       let same = one_report sheet.lp (family_of sheet sweep.changing) (IsFace sheet sweep.changing) one sweep.from sweep.to s (FailedOpening first.ending) (FailedOpening second.ending) bases others at
@@ -53,7 +53,7 @@ module _ (sheet : Sheet) (s : Basis) (sweep : Sweep) (lawful : IsLinearProgram s
       let ends : end ≡ end' = first.is_end ∙ ap (end_of sheet sweep.to) pasts ∙ sym second.is_end in
       λ i. Chained (same.same_path i) (printed i) (ends i)
 
-  opens_or_chains : (bases others : List Basis) (verdict : Verdict) (check : Check) (intervals : List Interval) (end : ChainEnd) → FailsToOpen sheet s sweep bases verdict check →
+  opens_or_chains : (bases others : List Basis) (verdict : PathVerdict) (check : Check) (intervals : List Interval) (end : ChainEnd) → FailsToOpen sheet s sweep bases verdict check →
       IsChained sheet s sweep others intervals end → ⊥
   opens_or_chains bases others verdict check intervals end first second =
       let reports = (one_report sheet.lp (family_of sheet sweep.changing) (IsFace sheet sweep.changing) one sweep.from sweep.to s (FailedOpening first.ending) (Chain second.parts second.past) bases others at

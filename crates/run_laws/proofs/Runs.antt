@@ -6,7 +6,7 @@ use Rattle.control_definitions.specs.Program.{Program}
 use Rattle.listing_definitions.specs.declared.Mark.TheVariants.{Optimal, Infeasible, Unbounded}
 use Rattle.listing_definitions.specs.declared.Solver.{Solver}
 use Rattle.listing_definitions.specs.declared.Solver.TheVariants.{Primal as ByPrimal, Paraobj as ByParaobj, Pararhs as ByPararhs}
-use Rattle.listing_definitions.specs.Report.{Verdict, Check, Report, Titled, Converted, Revised, SetUp, Punched, Solved, Solution, Ranges, Parametric}
+use Rattle.listing_definitions.specs.Report.{PathVerdict, Check, Report, Titled, Converted, Revised, SetUp, Punched, Solved, Solution, Ranges, Parametric}
 use Rattle.listing_definitions.specs.Ending.{Ending}
 use Rattle.question_definitions.specs.Answers.{Basis, Sheet, Reached}
 use Rattle.question_definitions.specs.Solving.{Solving}
@@ -105,7 +105,7 @@ module _ (S : Solving) (solving : KnowsSolving S) where
   }
 
 -- PRIMAL alone asks for a path
-reached_by : (solver : Solver) (sheet : Sheet) (s : Basis) (limit : Option ℕ) (bases : List Basis) (verdict : Verdict) (check : Check) →
+reached_by : (solver : Solver) (sheet : Sheet) (s : Basis) (limit : Option ℕ) (bases : List Basis) (verdict : PathVerdict) (check : Check) →
     IsSolvedBy solver sheet s limit (Reached bases verdict check) → ReachesVerdict sheet s limit bases verdict check
 reached_by ByPrimal sheet s limit bases verdict check solved = solved
 reached_by ByParaobj sheet s limit bases verdict check solved = absurd solved

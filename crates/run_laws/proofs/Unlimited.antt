@@ -11,7 +11,7 @@ use Rattle.listing_definitions.specs.declared.Mark.TheVariants.{Optimal, Infeasi
 use Rattle.listing_definitions.specs.declared.Solver.TheVariants.{Primal as ByPrimal}
 use Rattle.listing_definitions.specs.declared.VerbFault.{VerbFault}
 use Rattle.listing_definitions.specs.declared.VerbFault.TheVariants.{NoSetup}
-use Rattle.listing_definitions.specs.Report.{Report, Verdict, Check, Solved}
+use Rattle.listing_definitions.specs.Report.{Report, PathVerdict, Check, Solved}
 use Rattle.question_definitions.specs.Answers.{Sheet, OfPath, PathEnd, Reached, PathLimit}
 use Rattle.question_definitions.specs.Solving.{Solving}
 use Rattle.answer_definitions.specs.Verdicts.{IsSolved}

@@ -23,7 +23,7 @@ use Rattle.listing_definitions.specs.declared.Mark.{Mark}
 use Rattle.listing_definitions.specs.declared.Mark.TheVariants.{Optimal, Infeasible, Unbounded}
 use Rattle.listing_definitions.specs.declared.Solver.TheVariants.{Primal as ByPrimal}
 use Rattle.listing_definitions.specs.declared.VerbFault.{VerbFault}
-use Rattle.listing_definitions.specs.Report.{SolutionLines, RangeLines, Verdict, Check, Filed, Report, Converted, Revised, SetUp, Punched, Solved, Solution, Ranges}
+use Rattle.listing_definitions.specs.Report.{SolutionLines, RangeLines, PathVerdict, Check, Filed, Report, Converted, Revised, SetUp, Punched, Solved, Solution, Ranges}
 use Rattle.question_definitions.specs.Answers.{Basis, Sheet, Changing, Row, Set, changing_name, sweeper, Sweep, Question, Answer, OfPath, OfSolution, OfRanges, OfSweep, PathEnd, Reached, PathLimit, SweepEnd, Opening, Chained, SweepLimit}
 use Rattle.question_definitions.specs.Solving.{Solving, IsRight}
 use Rattle.answer_definitions.specs.Verdicts.{verdict_of}
@@ -52,7 +52,7 @@ last_of-append s [] second = refl
 last_of-append s (next ∷ first) second = last_of-append next first second
 
 -- a path that leaves the mark OPTIMAL has ended optimal at the basis that it reached
-marks : (present : Present) (lp : LinearProgram) (objective rhs : Option Name) (bases : List Basis) (verdict : Verdict) (steps : ℕ) (ending : PathEnding) →
+marks : (present : Present) (lp : LinearProgram) (objective rhs : Option Name) (bases : List Basis) (verdict : PathVerdict) (steps : ℕ) (ending : PathEnding) →
     selected present.problem (record { objective = objective; rhs = rhs; options = present.options }) ≡ Ok lp → EndsAt lp (last_of (present_basis present) bases) ending →
     verdict ≡ verdict_of (record { problem = present.problem; lp = lp }) steps ending → KnowsMark (Some (mark_of verdict)) (Some (gone_through bases present)) objective rhs
 marks present lp objective rhs bases verdict steps (EndsOptimal z y) is ends gives marked = record {
@@ -183,7 +183,7 @@ moved_demand Xdounb position cells mark setup knows = knows
 -- ---- parametric runs
 
 -- what the opening path of a run prints holds, and so do its intervals
-opening_holds : (state : State) (changing : Changing) (verdict : Verdict) (check : Check) → TellsOfRun state.setup state.cells (sweeper changing) (ShowsOpening verdict check) → Holds state (Solved (sweeper changing) verdict check)
+opening_holds : (state : State) (changing : Changing) (verdict : PathVerdict) (check : Check) → TellsOfRun state.setup state.cells (sweeper changing) (ShowsOpening verdict check) → Holds state (Solved (sweeper changing) verdict check)
 opening_holds state (Row name) verdict check told = told
 opening_holds state (Set name) verdict check told = told
 

@@ -9,7 +9,7 @@ use Rattle.std.specs.Prelude.{◌≡◌, ℕ, List, All, Option, None, Some}
 use Rattle.problem_definitions.specs.Valid.{IsProblem}
 use Rattle.control_definitions.specs.Program.{Primal, Program}
 use Rattle.listing_definitions.specs.declared.Solver.{Solver}
-use Rattle.listing_definitions.specs.Report.{SolutionLines, RangeLines, Verdict, Check, Report}
+use Rattle.listing_definitions.specs.Report.{SolutionLines, RangeLines, PathVerdict, Check, Report}
 use Rattle.listing_definitions.specs.Ending.{Ending, LimitStop}
 use Rattle.question_definitions.specs.Answers.{Basis, Sheet, Sweep, Reached, SweepEnd}
 use Rattle.question_definitions.specs.Solving.{Solving}
@@ -29,7 +29,7 @@ use Rattle.run_laws.specs.Headline.{HoldInJob}
 -- the ends of paths and of parametric runs and the lines of SOLUTION and RANGE are those of the linear
 -- program
 pub record KnowsSolving (S : Solving) : Type 0 where
-  pub solves : (solver : Solver) (sheet : Sheet) (s : Basis) (limit : Option ℕ) (bases : List Basis) (verdict : Verdict) (check : Check) →
+  pub solves : (solver : Solver) (sheet : Sheet) (s : Basis) (limit : Option ℕ) (bases : List Basis) (verdict : PathVerdict) (check : Check) →
       S.Solves solver sheet s limit (Reached bases verdict check) → ReachesVerdict sheet s limit bases verdict check
   pub shows : (sheet : Sheet) (s : Basis) (lines : SolutionLines) → S.Shows sheet s lines → IsShown sheet s lines
   pub ranges : (sheet : Sheet) (s : Basis) (lines : RangeLines) → S.Ranges sheet s lines → IsRanged sheet s lines

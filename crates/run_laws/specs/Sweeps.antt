@@ -10,7 +10,7 @@ use Rattle.lp_definitions.specs.LinearProgram.{IsRow, HasNoLimits, IsLinearProgr
 use Rattle.method_definitions.specs.Path.{PathEnding, last_of}
 use Rattle.method_definitions.specs.Chain.{Part, ChainEnd as PastBreak}
 use Rattle.path_laws.specs.Laws.{IsNonsingularBasis}
-use Rattle.listing_definitions.specs.Report.{Verdict, Check, Interval, ChainEnd}
+use Rattle.listing_definitions.specs.Report.{PathVerdict, Check, Interval, ChainEnd}
 use Rattle.question_definitions.specs.Answers.{Basis, Sheet, Changing, Row, Set, Sweep, SweepEnd, Opening, Chained, SweepLimit}
 use Rattle.answer_definitions.specs.Sweeps.{row_of, family_of, sheet_at, interval_of, end_of, IsSwept}
 use Rattle.answer_definitions.specs.Verdicts.{IsVerdict}
@@ -32,7 +32,7 @@ module _ (sheet : Sheet) (sweep : Sweep) where
   abbrev first_sheet : Sheet
   first_sheet = sheet_at sheet sweep.changing sweep.from
 
-  pub record IsTrueOpening (bases : List Basis) (verdict : Verdict) (check : Check) : Type 0 where
+  pub record IsTrueOpening (bases : List Basis) (verdict : PathVerdict) (check : Check) : Type 0 where
     pub ending : PathEnding
     pub is_true : IsTrueFailure (family_of sheet sweep.changing sweep.from) ending
     pub is_verdict : IsVerdict first_sheet (length bases) ending verdict check

@@ -21,7 +21,7 @@ use Rattle.selection_definitions.specs.Selection.{selected}
 use Rattle.listing_definitions.specs.declared.Mark.TheVariants.{Optimal}
 use Rattle.listing_definitions.specs.declared.Solver.{Solver}
 use Rattle.listing_definitions.specs.declared.Solver.TheVariants.{Primal as ByPrimal}
-use Rattle.listing_definitions.specs.Report.{Line, SolutionLines, RangeLines, Verdict, OptimalAt, CrossedAt, InfeasibleBy, UnboundedBy, Check, Chain, Report, Solved, Solution, Ranges, Parametric}
+use Rattle.listing_definitions.specs.Report.{Line, SolutionLines, RangeLines, PathVerdict, OptimalAt, CrossedAt, InfeasibleBy, UnboundedBy, Check, Chain, Report, Solved, Solution, Ranges, Parametric}
 use Rattle.question_definitions.specs.Answers.{Basis, Sheet, Changing, Row, Set, changing_name, sweeper, Sweep}
 use Rattle.answer_definitions.specs.Lines.{pair_lines, ray_lines}
 use Rattle.answer_definitions.specs.Sections.{solution_lines, range_lines}
@@ -91,7 +91,7 @@ pub record AreLinesOfDirection (sheet : Sheet) (objective : ℚ) (lines : List L
 -- An objective that is printed is that of a best point. A variable that is printed is crossed, or the
 -- lines are those of a ray, and so no point is feasible. Or the lines are those of a feasible point and a
 -- direction, and so there is no best point.
-abbrev pub IsTrueOf : Sheet → Verdict → Type 0
+abbrev pub IsTrueOf : Sheet → PathVerdict → Type 0
 IsTrueOf sheet (OptimalAt steps objective) = IsBestObjective sheet.lp objective
 IsTrueOf sheet (CrossedAt k) = IsCrossed sheet.lp k × IsInfeasible sheet.lp
 IsTrueOf sheet (InfeasibleBy steps lines) = AreLinesOfRay sheet lines × IsInfeasible sheet.lp
@@ -120,7 +120,7 @@ pub record TellsOfRun (setup : Option Present) (cells : Cells) (solver : Solver)
   pub tells : Tells (sheet_of program) sweep
 
 -- the opening path isn't optimal, and its verdict is proved at the first value
-pub record ShowsOpening (verdict : Verdict) (check : Check) (sheet : Sheet) (sweep : Sweep) : Type 0 where
+pub record ShowsOpening (verdict : PathVerdict) (check : Check) (sheet : Sheet) (sweep : Sweep) : Type 0 where
   pub bases : List Basis
   pub is_true : IsTrueOpening sheet sweep bases verdict check
 

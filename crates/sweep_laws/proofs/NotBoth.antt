@@ -7,7 +7,7 @@ use Rattle.lp_definitions.specs.declared.Status.{Status}
 use Rattle.method_definitions.specs.Path.{last_of, PathEnding, EndsOptimal, IsStep, EndsAt, PathEnds}
 use Rattle.path_laws.specs.Laws.{IsNonsingularBasis}
 use Rattle.path_laws.proofs.OnePath.{one_step, one_end, step_or_end}
-use Rattle.method_definitions.specs.Chain.{Part, ChainEnd, RunReport, FailedOpening, Chain, FaceTurn, FaceMoves, FaceDone, FaceEnds, IsFailure, ReachesTo, IsFaceStep, IsFacePath, IsChain, at_max, past_break, goes_on, IsReport, Place, InOpening, AtBreak, basis_of, Reaches, begins, path_step, first_break, face_step, next_break, GoesOn, RunGoesOnFor}
+use Rattle.method_definitions.specs.Chain.{Part, ChainEnd, RunReport, FailedOpening, Chain, FaceTurn, FaceMoves, FaceDone, FaceEnds, IsFailure, ReachesTo, IsFaceStep, IsFacePath, IsChain, at_max, past_break, goes_on, IsReport, RunPlace, InOpening, AtBreak, basis_of, Reaches, begins, path_step, first_break, face_step, next_break, GoesOn, RunGoesOnFor}
 use Rattle.sweep_laws.proofs.Runs.{reached_leads}
 use Rattle.sweep_laws.proofs.OneRun.{HasOneFace, IsStill, one_reach, still_or_steps, one_face_step}
 
@@ -29,7 +29,7 @@ module _ (p : LinearProgram) (family : ℚ → LinearProgram) (Face : ℚ → Li
     follows : Follows max theta (last_of now bases) turn later
     whole : rest ≡ bases ++ later
 
-  abbrev Remains : ℚ → ℚ → Place → List (List Status) → Type 0
+  abbrev Remains : ℚ → ℚ → RunPlace → List (List Status) → Type 0
   Remains from max (InOpening now) rest = (report : RunReport) × IsReport family Face from max now report rest
   Remains from max (AtBreak theta now) rest = RestOfFaces max theta now rest
 
@@ -65,7 +65,7 @@ module _ (p : LinearProgram) (family : ℚ → LinearProgram) (Face : ℚ → Li
       absurd (step_or_end (family from) (one.lawful from) now x other (one.keeps.to_family from now at) path.is_path.0 ended)
 
   -- a step is the next that remains
-  record Took (from max : ℚ) (next : List Status) (place : Place) (rest : List (List Status)) : Type 0 where
+  record Took (from max : ℚ) (next : List Status) (place : RunPlace) (rest : List (List Status)) : Type 0 where
     rest_after : List (List Status)
     is_next : rest ≡ next ∷ rest_after
     remains : Remains from max place rest_after
@@ -171,16 +171,16 @@ module _ (p : LinearProgram) (family : ℚ → LinearProgram) (Face : ℚ → Li
 
   -- ---- a run that has ended
 
-  record HasLeft (from max : ℚ) (place : Place) (path whole : List (List Status)) : Type 0 where
+  record HasLeft (from max : ℚ) (place : RunPlace) (path whole : List (List Status)) : Type 0 where
     rest : List (List Status)
     is_whole : whole ≡ path ++ rest
     remains : Remains from max place rest
 
   module _ (from max : ℚ) (s : List Status) (at : IsNonsingularBasis p s) (report : RunReport) (whole : List (List Status)) (is_report : IsReport family Face from max s report whole) where
-    stands : (place : Place) (path : List (List Status)) (ends : List ℚ) → Reaches family Face from max s place path ends → IsNonsingularBasis p (basis_of place)
+    stands : (place : RunPlace) (path : List (List Status)) (ends : List ℚ) → Reaches family Face from max s place path ends → IsNonsingularBasis p (basis_of place)
     stands = reached_leads p family Face one.keeps from max s at
 
-    took : (place next_place : Place) (path : List (List Status)) (next : List Status) → (left : HasLeft from max place path whole) → Took from max next next_place left.rest →
+    took : (place next_place : RunPlace) (path : List (List Status)) (next : List Status) → (left : HasLeft from max place path whole) → Took from max next next_place left.rest →
         HasLeft from max next_place (path ++ next ∷ []) whole
     took place next_place path next left step = record {
       rest = step.rest_after;
@@ -188,7 +188,7 @@ module _ (p : LinearProgram) (family : ℚ → LinearProgram) (Face : ℚ → Li
       remains = step.remains;
     }
 
-    has_left : (place : Place) (path : List (List Status)) (ends : List ℚ) → Reaches family Face from max s place path ends → HasLeft from max place path whole
+    has_left : (place : RunPlace) (path : List (List Status)) (ends : List ℚ) → Reaches family Face from max s place path ends → HasLeft from max place path whole
     has_left _ _ _ begins = record { rest = whole; is_whole = refl; remains = (report, is_report) }
     has_left _ _ _ (path_step {now} {next} {path} before step) =
         let left = has_left (InOpening now) path [] before in
@@ -212,14 +212,14 @@ module _ (p : LinearProgram) (family : ℚ → LinearProgram) (Face : ℚ → Li
         }
 
     -- one more step than the whole has
-    one_more : (place next_place : Place) (path : List (List Status)) (next : List Status) (steps : ℕ) → length whole ≤ steps → length path ≡ steps →
+    one_more : (place next_place : RunPlace) (path : List (List Status)) (next : List Status) (steps : ℕ) → length whole ≤ steps → length path ≡ steps →
         (left : HasLeft from max place path whole) → Took from max next next_place left.rest → ⊥
     one_more place next_place path next steps within taken left step =
         let counted : length whole ≡ length path + length left.rest = ap length left.is_whole ∙ length-append path left.rest in
         let longer : length left.rest ≡ suc (length step.rest_after) = ap length step.is_next in
         absurd (omega (arith, within, taken, counted, longer))
 
-    goes_on_not : (place : Place) (path : List (List Status)) (ends : List ℚ) (steps : ℕ) → length whole ≤ steps → length path ≡ steps → Reaches family Face from max s place path ends →
+    goes_on_not : (place : RunPlace) (path : List (List Status)) (ends : List ℚ) (steps : ℕ) → length whole ≤ steps → length path ≡ steps → Reaches family Face from max s place path ends →
         GoesOn family Face from max s place → ⊥
     goes_on_not (InOpening now) path ends steps within taken reaches on =
         let left = has_left (InOpening now) path ends reaches in
@@ -236,7 +236,7 @@ module _ (p : LinearProgram) (family : ℚ → LinearProgram) (Face : ℚ → Li
 
   -- a place of it after as many steps as it has is where it ends
   pub same_path : (from max : ℚ) (s : List Status) (report : RunReport) (whole : List (List Status)) → IsNonsingularBasis p s → IsReport family Face from max s report whole →
-      (place : Place) (path : List (List Status)) (ends : List ℚ) → Reaches family Face from max s place path ends → length path ≡ length whole → path ≡ whole
+      (place : RunPlace) (path : List (List Status)) (ends : List ℚ) → Reaches family Face from max s place path ends → length path ≡ length whole → path ≡ whole
   same_path from max s report whole at is_report place path ends reaches counted =
       let left = has_left from max s at report whole is_report place path ends reaches in by_rest left.rest left.is_whole
     where

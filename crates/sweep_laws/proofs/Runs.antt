@@ -7,7 +7,7 @@ use Rattle.method_definitions.specs.Path.{Move, after, last_of, PathEnding, Ends
 use Rattle.path_laws.specs.Laws.{IsNonsingularBasis}
 use Rattle.path_laws.proofs.Steps.{step_leads}
 use Rattle.path_laws.proofs.OnePath.{path_leads}
-use Rattle.method_definitions.specs.Chain.{Part, ChainEnd, RunReport, FailedOpening, Chain, FaceTurn, FaceMoves, IsFaceStep, IsFacePath, IsChain, at_max, past_break, goes_on, IsRun, IsReport, Place, InOpening, AtBreak, basis_of, Reaches, begins, path_step, first_break, face_step, next_break}
+use Rattle.method_definitions.specs.Chain.{Part, ChainEnd, RunReport, FailedOpening, Chain, FaceTurn, FaceMoves, IsFaceStep, IsFacePath, IsChain, at_max, past_break, goes_on, IsRun, IsReport, RunPlace, InOpening, AtBreak, basis_of, Reaches, begins, path_step, first_break, face_step, next_break}
 use Rattle.method_definitions.specs.ObjectiveRun.{objective_family, IsObjectiveFace}
 use Rattle.method_definitions.specs.RhsRun.{rhs_family, IsRhsFace}
 use Rattle.sweep_laws.specs.Laws.{LeadsToBases}
@@ -33,7 +33,7 @@ module _ (p : LinearProgram) (family : ℚ → LinearProgram) (Face : ℚ → Li
   face_path_leads theta s (next ∷ bases) at path = face_path_leads theta next bases (face_step_leads theta s next at path.0) path.1
 
   module _ (from max : ℚ) (s : List Status) (at : IsNonsingularBasis p s) where
-    pub reached_leads : (place : Place) (path : List (List Status)) (ends : List ℚ) → Reaches family Face from max s place path ends → IsNonsingularBasis p (basis_of place)
+    pub reached_leads : (place : RunPlace) (path : List (List Status)) (ends : List ℚ) → Reaches family Face from max s place path ends → IsNonsingularBasis p (basis_of place)
     reached_leads _ _ _ begins = at
     reached_leads _ _ _ (path_step {now} {next} {path} before step) =
         keeps.from_family from next (step_leads (family from) now next (keeps.to_family from now (reached_leads (InOpening now) path [] before)) step)

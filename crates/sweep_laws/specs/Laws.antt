@@ -10,7 +10,7 @@ use Rattle.lp_definitions.specs.LinearProgram.{LinearProgram, IsRow, HasNoLimits
 use Rattle.lp_definitions.specs.declared.Status.{Status}
 use Rattle.method_definitions.specs.Path.{last_of}
 use Rattle.path_laws.specs.Laws.{IsNonsingularBasis}
-use Rattle.method_definitions.specs.Chain.{FaceTurn, RunReport, Place, basis_of, Reaches, IsReport, RunGoesOnFor}
+use Rattle.method_definitions.specs.Chain.{FaceTurn, RunReport, RunPlace, basis_of, Reaches, IsReport, RunGoesOnFor}
 use Rattle.method_definitions.specs.ObjectiveRun.{objective_family, IsObjectiveFace}
 use Rattle.method_definitions.specs.RhsRun.{rhs_family, IsRhsFace}
 use Rattle.sweep_laws.specs.Truth.{IsTrueReport}
@@ -22,7 +22,7 @@ Faces = ℚ → List Status → FaceTurn → Type 0
 -- a run that begins with a nonsingular basis of p stands at one after each step, and ends with one, be
 -- it by a failed opening or by a chain
 pub record LeadsToBases (p : LinearProgram) (family : ℚ → LinearProgram) (Face : Faces) : Type 0 where
-  pub each : (from max : ℚ) (s : List Status) (place : Place) (path : List (List Status)) (ends : List ℚ) →
+  pub each : (from max : ℚ) (s : List Status) (place : RunPlace) (path : List (List Status)) (ends : List ℚ) →
       IsNonsingularBasis p s → Reaches family Face from max s place path ends →
       IsNonsingularBasis p (basis_of place)
   pub last : (from max : ℚ) (s : List Status) (report : RunReport) (path : List (List Status)) →

@@ -8,7 +8,7 @@ use Rattle.listing_definitions.specs.declared.Mark.{Mark}
 use Rattle.listing_definitions.specs.declared.Solver.{Solver}
 use Rattle.listing_definitions.specs.declared.Solver.TheVariants.{Primal, Paraobj, Pararhs}
 use Rattle.listing_definitions.specs.Numbers.{digits, rational_text}
-use Rattle.listing_definitions.specs.Report.{Line, Filed, Verdict, OptimalAt, CrossedAt, InfeasibleBy, UnboundedBy, Check, SolutionLines, RangeLines, Interval, ChainEnd, EndsAt, UnboundedPast, InfeasiblePast, Chain, Report, Titled, Converted, Revised, SetUp, Punched, Solved, Solution, Ranges, Parametric}
+use Rattle.listing_definitions.specs.Report.{Line, Filed, PathVerdict, OptimalAt, CrossedAt, InfeasibleBy, UnboundedBy, Check, SolutionLines, RangeLines, Interval, ChainEnd, EndsAt, UnboundedPast, InfeasiblePast, Chain, Report, Titled, Converted, Revised, SetUp, Punched, Solved, Solution, Ranges, Parametric}
 use Rattle.listing_definitions.specs.Text.{name8, table_text, check_text, solver_text, verdict_head, verdict_lines, interval_text, chain_end_text, solution_text, ranges_text, report_text}
 use Rattle.text_laws.specs.Told.{begins_line, AreNamed, IsEndNamed, IsNamed}
 use Rattle.text_laws.proofs.Cutting.{differ}
@@ -18,7 +18,7 @@ use Rattle.text_laws.proofs.Words.{number_then, rational_then, name_then, solver
 -- ---- verdicts
 
 -- a verdict's first line and what stands after it: the check, and the table
-abbrev pub shown : Verdict → Check → List ℕ
+abbrev pub shown : PathVerdict → Check → List ℕ
 shown verdict check = verdict_head verdict ++ (codes " " ++ (check_text check ++ (codes "\n" ++ (table_text (verdict_lines verdict) ++ []))))
 
 optimal_parts : (steps : ℕ) (objective : ℚ) (rest : List ℕ) → verdict_head (OptimalAt steps objective) ++ rest ≡ codes "OPTIMAL STEPS " ++ (digits steps ++ (codes " OBJECTIVE " ++ (rational_text objective ++ rest)))
@@ -51,7 +51,7 @@ no_crossing number steps lines c d e =
     let numbers = number_then (codes " ") 0 steps (codes "CROSSED " ++ _) (codes "RAY" ++ _) refl (append_cancel_left (codes "INFEASIBLE STEPS ") _ _ whole) in
     begin_otherwise 1 _ _ refl numbers.1
 
-pub verdict_tells : (v w : Verdict) (c d : Check) → AreNamed (verdict_lines v) → AreNamed (verdict_lines w) → shown v c ≡ shown w d → (v ≡ w) × (c ≡ d)
+pub verdict_tells : (v w : PathVerdict) (c d : Check) → AreNamed (verdict_lines v) → AreNamed (verdict_lines w) → shown v c ≡ shown w d → (v ≡ w) × (c ≡ d)
 verdict_tells (OptimalAt m x) (OptimalAt n y) c d v_named w_named e =
     let whole = sym (optimal_parts m x _) ∙ e ∙ optimal_parts n y _ in
     let parts = objective_then m n x y _ _ (append_cancel_left (codes "OPTIMAL STEPS ") _ _ whole) in
@@ -244,7 +244,7 @@ chain_tells solver x y x_named y_named e =
 -- ---- reports
 
 -- a verdict is no parametric run
-no_run : (verdict : Verdict) (check : Check) (solver : Solver) (chain : Chain) → shown verdict check ≡ chain_rest solver chain → ⊥
+no_run : (verdict : PathVerdict) (check : Check) (solver : Solver) (chain : Chain) → shown verdict check ≡ chain_rest solver chain → ⊥
 no_run (OptimalAt m x) check solver chain e = begin_otherwise 1 _ _ refl e
 no_run (CrossedAt m) check solver chain e = begin_otherwise 1 _ _ refl e
 no_run (InfeasibleBy m xs) check solver chain e = begin_otherwise 1 _ _ refl e
