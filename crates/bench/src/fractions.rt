@@ -2,7 +2,7 @@
 
 ghost use Rattle.std.specs.Prelude.{pos, ◌≤ℤ◌};
 
-use exact_values::gcd;
+use divisors::gcd;
 use frac128::{Frac, Op};
 use std::cmp::Ordering;
 use std::io;

@@ -2,4 +2,3 @@ pub mod Rational
 pub mod Sums
 pub mod Laws
 pub mod Tests
-pub mod Gcd
