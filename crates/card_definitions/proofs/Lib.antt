@@ -1,4 +1,4 @@
 mod Examples
-pub mod Behind
+pub mod FirstFaults
 pub mod Trailing
 pub mod Trimmed

@@ -7,7 +7,7 @@ use Rattle.std.proofs.lemmas.Bool.Decides.{nat_tests}
 use Rattle.std.proofs.lemmas.List.{map-append}
 use Rattle.std.proofs.lemmas.List.Elements.{All-cons, All-nil}
 use Rattle.std.proofs.lemmas.Bool.{or_left, or_right, or_from}
-use Rattle.card_definitions.proofs.Behind.{first_fault-append, no_first, no_second}
+use Rattle.card_definitions.proofs.FirstFaults.{first_fault-append, no_first, no_second}
 use Rattle.card_definitions.specs.Words.{first_fault, ◌⟹◌}
 use Rattle.card_definitions.specs.Cards.{Card, card_fault, is_printable, cards_of, job_fault, numbered_cards, numbered_from}
 use Rattle.card_definitions.specs.declared.CardFault.{CardFault}

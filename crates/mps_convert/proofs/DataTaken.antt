@@ -3,7 +3,7 @@ use Rattle.std.proofs.Common.{◌≡◌, ℕ, ◌+◌, ◌≤◌, true, false, n
 use Rattle.std.specs.Option.{option_or}
 use Rattle.card_definitions.specs.Words.{is_empty, ◌⟹◌}
 use Rattle.card_definitions.specs.Fields.{Fixed, Reading, reading_of}
-use Rattle.card_definitions.proofs.Behind.{passes}
+use Rattle.card_definitions.proofs.FirstFaults.{passes}
 use Rattle.problem_definitions.specs.declared.TheConstants.{MAX_COLUMNS, MAX_ENTRIES}
 use Rattle.problem_definitions.specs.Names.{Name}
 use Rattle.problem_definitions.specs.Problem.{Problem, has_group, entry_count}

@@ -4,7 +4,7 @@ use Rattle.std.specs.List.{sum_by}
 use Rattle.std.specs.Option.{option_or}
 use Rattle.card_definitions.specs.Words.{is_empty, ◌⟹◌, first_fault}
 use Rattle.card_definitions.specs.Fields.{Reading}
-use Rattle.card_definitions.proofs.Behind.{first_fault-append}
+use Rattle.card_definitions.proofs.FirstFaults.{first_fault-append}
 use Rattle.problem_definitions.specs.declared.TheConstants.{MAX_COLUMNS}
 use Rattle.problem_definitions.specs.Names.{Name}
 use Rattle.problem_definitions.specs.Problem.{Entry, Group, Problem, has_group}

@@ -16,4 +16,4 @@ pub returns : goal.returns
 returns c = passed c.args.cards.now c.args.number c.bytes.result.now c.args.draft.now c.take.new.self
     (ap (λ (n : ℕ). slice_get c.args.cards.now n) (same_place c.args.number) ∙ c.card-card.ensures ∙ ap Some (sym c.bytes.ensures.bytes))
     (ap is_skipped c.bytes.ensures.bytes ∙ sym c.is_skipped.ensures ∙ c.if-is_skipped.false) c.requires.underway c.take.result
-    (c.take.ensures c.requires.underway.before c.requires.underway.behind c.requires.underway.count)
+    (c.take.ensures c.requires.underway.before c.requires.underway.after c.requires.underway.count)
