@@ -6,6 +6,7 @@ use Rattle.std.specs.List.{list_any, position_or_len}
 use Rattle.std.proofs.lemmas.List.{append_assoc, append-nil}
 use Rattle.std.proofs.Math.ListN.{drop_of_length-le}
 use Rattle.card_definitions.specs.Cards.{Card, is_skipped, live, numbered_from}
+use Rattle.card_definitions.proofs.FirstFaults.{or_none}
 use Rattle.control_definitions.specs.declared.ControlFault.{ControlFault}
 use Rattle.control_definitions.specs.Verbs.{verb_of}
 use Rattle.control_definitions.specs.declared.ControlFaultKind.TheVariants.{NoProgram}
@@ -82,10 +83,6 @@ reached_nothing job before (card ∷ rest) reached e = cc e
 
 -- ---- the first card
 
-or_none : {F : Type 0} (fault : Option F) → option_or fault None ≡ fault
-or_none None = refl
-or_none (Some fault) = refl
-
 -- PROGRAM names no label.
 names_no_label : (whole : List Card) (head : Card) (rest : List Card) → verb_of head.bytes ≡ None → find (misses_label whole) rest ≡ find (misses_label whole) (head ∷ rest)
 names_no_label whole head rest none = rw none refl
@@ -115,3 +112,6 @@ head_is_faulty job head rest fault e some = ap (live_fault (length job)) e ∙ r
 pub all_skipped : (job : List (List ℕ)) → live_cards job ≡ [] → control_fault job ≡ Some (fault_at (length job) NoProgram)
 unfolding control_fault
 all_skipped job e = ap (live_fault (length job)) e
+
+pub same_place : (number : ℕ) → number ≡ number + 1 - 1
+same_place number = omega arith

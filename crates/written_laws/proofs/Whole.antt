@@ -13,6 +13,7 @@ use Rattle.problem_definitions.specs.Problem.{Row, Entry, Bound, Group, Problem,
 use Rattle.problem_definitions.specs.Numbering.{entry_by, group_by, numbered, by_names}
 use Rattle.problem_definitions.specs.Valid.{IsName, IsProblem}
 use Rattle.problem_definitions.proofs.Lawful.{IsLabel, IsLawful}
+use Rattle.problem_definitions.proofs.Each.{all-each}
 use Rattle.deck_definitions.specs.declared.DeckFault.{DeckFault}
 use Rattle.deck_definitions.specs.declared.DeckFaultKind.TheVariants.{NoEndata}
 use Rattle.deck_definitions.specs.declared.Section.{Section}
@@ -21,7 +22,6 @@ use Rattle.deck_definitions.specs.Sections.{may_follow, is_section, section_begu
 use Rattle.deck_definitions.specs.Described.{described}
 use Rattle.deck_definitions.specs.Conversion.{section_card_fault, card_fault, first_faulty, deck_fault, deck_name, conversion}
 use Rattle.deck_definitions.specs.Written.{data_card, row_card, entry_cards, bound_cards, column_cards, set_section, written}
-use Rattle.revise_laws.proofs.Places.{all-each}
 use Rattle.revise_laws.proofs.ByNames.{named-lawful}
 use Rattle.written_laws.proofs.Accepts.{Stands, Accepts, accepts-none, accepts-then, accepts-section}
 use Rattle.written_laws.proofs.Facts.{from-map}

@@ -4,9 +4,7 @@ use Rattle.std.specs.Prelude.{slice_get}
 use Rattle.card_definitions.specs.Cards.{is_skipped}
 use Rattle.control_compiler.proofs.Passing.{passed_over, passed}
 use Rattle.control_compiler.proofs.reading.pass.Goals as goal
-
-same_place : (number : ℕ) → number ≡ number + 1 - 1
-same_place number = omega arith
+use Rattle.control_compiler.proofs.Live.{same_place}
 
 pub returns-then-is_skipped : goal.returns-then-is_skipped
 returns-then-is_skipped c = passed_over c.args.cards.now c.args.number c.card-card.result.bytes.now c.args.draft.now
