@@ -59,7 +59,6 @@ apart-absent (other ∷ names) name apart = rw apart.0 (apart-absent names name 
 
 pub all-each : {X : Type 0} (P : X → Type 0) (xs : List X) → All P xs → AllByRecursion P xs
 all-each P [] all = tt
-all-each P (x ∷ xs) all = (all zero x first, all-each P xs (λ k d below. all (suc k) d (next k below)))
-  where
-    first : 0 < suc (length xs)
-    first = omega arith
+all-each P (x ∷ xs) all =
+    let first : 0 < length (x ∷ xs) = omega arith in
+    (all 0 x first, all-each P xs (λ k d below. all (suc k) d (omega (arith, below))))

@@ -10,9 +10,6 @@ use Rattle.problem_definitions.specs.Valid.{IsNumberOf, is_free_row}
 use Rattle.problem_definitions.proofs.Names.{same_eq, same_refl, same_sym}
 use Rattle.problem_definitions.proofs.Places.{number_in-is}
 
-    next : (k : ℕ) → k < length xs → suc k < suc (length xs)
-    next k below = omega (arith, below)
-
 -- the name at a place, from 0
 abbrev at : List Name → ℕ → Name
 at names place = unwrap_or (slice_get names place) []
