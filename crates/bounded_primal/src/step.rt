@@ -56,9 +56,6 @@ fn moved(value: Frac, step: Frac, rate: Frac, p: u32, q: u32, i: u32) -> Result<
     ensures refused { IfErr result (MovedRefused step rate value p q i) }
     ensures needed { OnErr result (rate ≢ zero_ℚ) }
 {
-    if rate.is_zero() {
-        return Ok(value);
-    }
     match plainly_moved(value, step, rate, p, q, i) {
         Ok(moved) => Ok(moved),
         Err(evidence) => match plus_product(value, step, rate) {
@@ -107,7 +104,8 @@ fn moved_if_possible(
 }
 
 /// Moves the point by the step: all its values where they are `whole`, and else those of the variables with a limit. Answers
-/// whether all values have been moved. Unless they are to be `exact`, a refused value of a variable without limits stays.
+/// whether all values have been moved. Unless they are to be `exact`, a refused value of a variable without limits stays. Most rates
+/// of a sparse program are 0, and what has such a rate stays as it is.
 fn move_point(
     lp: &Lp,
     direction: &[Frac],
@@ -131,12 +129,15 @@ fn move_point(
 {
     let mut all = whole;
     for k in 0..lp.number_of_variables() {
+        let rate = direction[k as usize];
+        if rate.is_zero() {
+            continue;
+        }
         let needed = is_needed(lp, exact, k + 1);
         if !all && !needed {
             continue;
         }
         let value = point[k as usize];
-        let rate = direction[k as usize];
         let Some(next) = moved_if_possible(value, by.step, rate, by.p, q, k + 1, needed)? else {
             all = false;
             continue;
