@@ -21,7 +21,9 @@ use Rattle.basis_values.specs.Reach.{reach_formula, RoomRefused, SomeRoomRefused
 use Rattle.basis_values.specs.Reach as reach
 use Rattle.basis_values.proofs.Existence.{rates_exist}
 use Rattle.basis_values.proofs.RatesStops.{tableau_of, IsTableau-of}
-use Rattle.bounded_primal.specs.KeptPoints.{has_limit, AgreesAtLimits, AgreesWithPoint}
+use Rattle.bounded_primal.specs.KeptPoints.{all_kept, all_needed, has_limit, AgreesAtLimits, AgreesWithPoint}
+use Rattle.bounded_primal.specs.declared.kept.Kept.{Kept}
+use Rattle.bounded_primal.specs.declared.kept.Kept.TheVariants.{All, AllSoFar, Limited}
 use Rattle.bounded_primal.specs.Moves.{stop_at, stopper_of, return_by}
 use Rattle.bounded_primal.specs.Steps.{IsMovedAtLimits, ReturnRefused, of_distance, of_quotient}
 use Rattle.bounded_primal.specs.Turns.{least_outside}
@@ -36,9 +38,15 @@ basis_point p s basis nonsingular =
 pub point_agrees : (p : LinearProgram) (s : List Status) → IsBasis p s → IsNonsingular p.matrix (basics_of s) → (z : Vector) → IsPointOf p s z → AgreesWithPoint p s z
 point_agrees p s basis nonsingular z point w other k is limited = one_point p s z w basis.counted nonsingular point other k is
 
--- the values that a step needs are those of the point, where x is it if all are to be exact
-pub needed_same : (p : LinearProgram) (s : List Status) → IsBasis p s → IsNonsingular p.matrix (basics_of s) → (z : Vector) → IsPointOf p s z → (x : Vector) (exact : Bool) → AgreesWithPoint p s x → (IsTrue exact → IsPointOf p s x) →
-    (k : ℕ) → IsVariable p.matrix k → IsTrue (exact || has_limit p k) → x k ≡ z k
+-- what is needed is kept
+pub needed_kept : (kept : Kept) → IsTrue (all_needed kept) → IsTrue (all_kept kept)
+needed_kept All h = h
+needed_kept AllSoFar h = refl
+needed_kept Limited h = h
+
+-- the values that a step needs are those of the point, where x is it if all are needed
+pub needed_same : (p : LinearProgram) (s : List Status) → IsBasis p s → IsNonsingular p.matrix (basics_of s) → (z : Vector) → IsPointOf p s z → (x : Vector) (all : Bool) → AgreesWithPoint p s x → (IsTrue all → IsPointOf p s x) →
+    (k : ℕ) → IsVariable p.matrix k → IsTrue (all || has_limit p k) → x k ≡ z k
 needed_same p s basis nonsingular z point x true agrees is_point k is needed = one_point p s x z basis.counted nonsingular (is_point refl) point k is
 needed_same p s basis nonsingular z point x false agrees is_point k is needed = agrees z point k is needed
 

@@ -31,6 +31,6 @@ loop-k-preserved-then-is_zero c =
       limited = limited_past c.args.by.now.step d z w c.loop-k.k still same c.args.lp.now c.loop-k.invariant.limited;
       moved = λ all. moved_past c.args.by.now.step d z w c.loop-k.k still same (c.loop-k.invariant.moved all);
       kept = c.loop-k.invariant.kept;
-      exact = c.loop-k.invariant.exact;
+      needed = c.loop-k.invariant.needed;
       rest = λ j above. c.loop-k.invariant.rest j (omega (arith, above));
     }
