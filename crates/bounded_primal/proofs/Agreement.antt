@@ -1,6 +1,7 @@
 -- Vectors that agree at the variables with limits: the path finds the same with each of them.
 use Rattle.std.proofs.Common.{◌≡◌, ℕ, List, Bool, true, false, refl, sym, ap, ap₂, ◌∙◌, subst, arith}
 use Rattle.std.specs.Prelude.{Option, Some, None, IsSome, IfSome, IsTrue, is_some, nat_eq, ◌||◌, ◌&&◌, option_map, unwrap_or, if◌then◌else◌}
+use Rattle.std.proofs.lemmas.Bool.{or_left, or_right}
 use Rattle.exact_values.specs.Rational.{ℚ, zero_ℚ, ◌+ℚ◌, ◌-ℚ◌, ◌*ℚ◌, ◌/ℚ◌, ◌≤ℚ◌}
 use Rattle.exact_values.specs.Tests.{lt_ℚ}
 use Rattle.lp_definitions.specs.LinearProgram.{LinearProgram, Vector, size, IsVariable, lower_of, upper_of}
@@ -59,20 +60,12 @@ agrees_moved p next basis nonsingular z d t point x y agrees moved w other k is 
 
 -- ---- which variables have a limit
 
-one_of : (a b : Bool) → a ≡ true → (a || b) ≡ true
-one_of true b e = refl
-one_of false b e = cc
-
-other_of : (a b : Bool) → b ≡ true → (a || b) ≡ true
-other_of true b e = refl
-other_of false b e = e
-
 module _ (p : LinearProgram) (k : ℕ) where
   lower_counts : IsSome (lower_of p k) → IsTrue (has_limit p k)
-  lower_counts some = one_of (is_some (lower_of p k)) (is_some (upper_of p k)) some
+  lower_counts some = or_left (is_some (lower_of p k)) (is_some (upper_of p k)) some
 
   upper_counts : IsSome (upper_of p k) → IsTrue (has_limit p k)
-  upper_counts some = other_of (is_some (lower_of p k)) (is_some (upper_of p k)) some
+  upper_counts some = or_right (is_some (lower_of p k)) (is_some (upper_of p k)) some
 
   ahead_counts : (up down : Bool) → IsSome (if up then upper_of p k else (if down then lower_of p k else None)) → IsTrue (has_limit p k)
   ahead_counts true down some = upper_counts some

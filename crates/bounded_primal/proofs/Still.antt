@@ -26,7 +26,7 @@ nearest_past p z d up n nearest still h = nearest_more (room p z (motion d up)) 
     same (Some r) = refl
 
 -- a fact of each number up to n, and of the next
-and_next : (P : ℕ → Type 0) (n : ℕ) → ((k : ℕ) → 1 ≤ k → k ≤ n → P k) → P (n + 1) → (k : ℕ) → 1 ≤ k → k ≤ n + 1 → P k
+pub and_next : (P : ℕ → Type 0) (n : ℕ) → ((k : ℕ) → 1 ≤ k → k ≤ n → P k) → P (n + 1) → (k : ℕ) → 1 ≤ k → k ≤ n + 1 → P k
 and_next P n before here = subst (λ (m : ℕ). (k : ℕ) → 1 ≤ k → k ≤ m → P k) (sym (add-one n)) (up_to P n before (subst P (add-one n) here))
 
 -- where w still has the value of z, the step goes past it
