@@ -1,11 +1,12 @@
--- The list of the changed variables, and rates that are taken over at them.
+-- The list of the changed variables, and rates that are taken over at them, or at the basics of the lines.
 use Rattle.std.specs.Prelude.{eqb}
-use Rattle.std.proofs.Common.{refl, true, false, ◌≡◌, ◌≢◌, ℕ, ◌+◌, ◌-◌, ◌<◌, ◌≤◌, ◌⊎◌, inl, inr, List, length, get_or, set, sym, ap, ◌∙◌, arith, below_more}
+use Rattle.std.proofs.Common.{refl, true, false, ◌≡◌, ◌≢◌, ℕ, ◌+◌, ◌-◌, ◌<◌, ◌≤◌, ◌⊎◌, inl, inr, List, length, get_or, set, sym, ap, ◌∙◌, subst, All, arith, below_more}
 use Rattle.std.proofs.lemmas.Bool.Decides.{eqb_tells}
-use Rattle.std.proofs.lemmas.List.{get_or-set_same, get_or-set_other}
+use Rattle.std.proofs.lemmas.List.{get_or-set_same, get_or-set_other, get_or-map, length-map}
 use Rattle.exact_values.specs.Rational.{ℚ, zero_ℚ}
 use Rattle.lp_definitions.specs.LinearProgram.{value_at}
-use Rattle.rates_dense.specs.Lines.{AreNumbers, IsTakenOver}
+use Rattle.rates_dense.specs.declared.line.Line.{Line}
+use Rattle.rates_dense.specs.Lines.{AreNumbers, HasPlaces, basics_of, HaveRatesAt, IsTakenOver}
 
 -- ---- the list
 
@@ -57,3 +58,25 @@ taken_more js old new f n v numbers within is_v so_far = record {
     other i low (inl same) before = inl (there i same.1)
     other i low (inr apart) (inl is) = inl (kept i low apart.1 ∙ is)
     other i low (inr apart) (inr is) = inr (kept i low apart.1 ∙ is)
+
+-- the basic of the line that a loop has
+pub basic_within : (lines : List Line) (size n : ℕ) (line : Line) → n < length lines → line ≡ get_or lines n line → AreNumbers size (basics_of lines) → (1 ≤ line.basic) × (line.basic ≤ size)
+basic_within lines size n line within is_line numbers =
+    let basic : Line → ℕ = λ (x : Line). x.basic in
+    let is : get_or (basics_of lines) n 0 ≡ line.basic = get_or-map basic lines n line 0 within ∙ ap basic (sym is_line) in
+    let listed : n < length (basics_of lines) = omega (arith, length-map lines basic, within) in
+    subst (λ (k : ℕ). (1 ≤ k) × (k ≤ size)) is (numbers n listed)
+
+pub place_within : (lines : List Line) (size n : ℕ) (line : Line) → n < length lines → line ≡ get_or lines n line → All (HasPlaces size) lines → length line.rates.items ≡ size
+place_within lines size n line within is_line places = ap (λ (x : Line). length x.rates.items) is_line ∙ (places n line within).places
+
+-- the same at the basic of one more line
+pub taken_line : (lines : List Line) (j : ℕ) (old new : List ℚ) (f : ℕ → ℚ) (n : ℕ) (line : Line) (v : ℚ) → n < length lines → line ≡ get_or lines n line → AreNumbers (length new) (basics_of lines) → HaveRatesAt j lines f → v ≡ value_at line.rates.items j
+    → TakenTo (basics_of lines) old new f n → TakenTo (basics_of lines) old (set new (line.basic - 1) v) f (n + 1)
+taken_line lines j old new f n line v within is_line numbers have is_v so_far =
+    let basic : Line → ℕ = λ (x : Line). x.basic in
+    let is_basic : get_or (basics_of lines) n 0 ≡ line.basic = get_or-map basic lines n line 0 within ∙ ap basic (sym is_line) in
+    let has_rate : value_at line.rates.items j ≡ f line.basic = subst (λ (x : Line). value_at x.rates.items j ≡ f x.basic) (sym is_line) (have n line within) in
+    let listed : n < length (basics_of lines) = omega (arith, length-map lines basic, within) in
+    subst (λ (k : ℕ). TakenTo (basics_of lines) old (set new (k - 1) v) f (n + 1)) is_basic
+    (taken_more (basics_of lines) old new f n v numbers listed (is_v ∙ has_rate ∙ ap f (sym is_basic)) so_far)

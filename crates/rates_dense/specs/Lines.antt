@@ -9,12 +9,14 @@
 --     entering_rate p q quotients j            the rate at j of the basic that enters
 --     staying_rate p q quotients rates j       the rate at j of a basic that stays, from its rates before
 --     HasPlaces n line             the line has this number of places, twice
+--     basics_of lines              the basic of each line
+--     HaveRatesAt j lines f        the rate at j of each line is f at its basic
 --     LineByLine R old new         R holds of each line before and after
 --     SameRates old new            the line has the same rates; only the room beside them may differ
 --     IsReady p q quotients js line            the rates after the exchange stand ready at the variables of js, where they change
 --     IsCommitted p q js old new   they were taken
 --     IsExchanged p q quotients old new        both, one after the other, with the changed variables
-use Rattle.std.specs.Prelude.{◌≡◌, ◌≢◌, ℕ, ◌+◌, ◌<◌, ◌≤◌, ◌⊎◌, List, length, slice_index, slice_index_or, nat_eq, if◌then◌else◌}
+use Rattle.std.specs.Prelude.{◌≡◌, ◌≢◌, ℕ, ◌+◌, ◌<◌, ◌≤◌, ◌⊎◌, List, length, map, All, slice_index, slice_index_or, nat_eq, if◌then◌else◌}
 use Rattle.exact_values.specs.Rational.{ℚ, zero_ℚ, one_ℚ, neg_ℚ, ◌-ℚ◌, ◌*ℚ◌, ◌/ℚ◌}
 use Rattle.lp_definitions.specs.LinearProgram.{value_at}
 use Rattle.rates_dense.specs.declared.line.Line.{Line}
@@ -61,6 +63,12 @@ staying_rate p q quotients rates j =
 pub record HasPlaces (n : ℕ) (line : Line) : Type 0 where
   pub places : length line.rates.items ≡ n
   pub room : length line.next.items ≡ n
+
+abbrev pub basics_of : List Line → List ℕ
+basics_of lines = map (λ line. line.basic) lines
+
+abbrev pub HaveRatesAt : ℕ → List Line → (ℕ → ℚ) → Type 0
+HaveRatesAt j lines f = All (λ line. value_at line.rates.items j ≡ f line.basic) lines
 
 abbrev pub LineByLine : (Line → Line → Type 0) → List Line → List Line → Type 0
 LineByLine R old new = (slot : ℕ) (d : Line) → slot < length old → R (slice_index_or old slot d) (slice_index_or new slot d)

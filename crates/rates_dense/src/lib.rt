@@ -4,13 +4,12 @@
 ghost use Rattle.std.specs.Prelude.{◌≡◌, ◌≢◌, ◌<◌, ◌≤◌, ◌^◌, length, All, Contains, IfOk, IfErr, IsOk, OnOk, OnErr, []};
 ghost use Rattle.std.specs.List.{HoldsAt};
 ghost use Rattle.exact_values.specs.Rational.{zero_ℚ};
-ghost use Rattle.lp_definitions.specs.LinearProgram.{size, value_at, Vector, IsVariable};
+ghost use Rattle.lp_definitions.specs.LinearProgram.{size, value_at, Vector};
 ghost use Rattle.lp_definitions.specs.Basis.{IsBasic, IsNonbasic, IsDirectionOf, exchanged, row_basics};
 ghost use Rattle.lp_definitions.specs.Waypoints.{KeepsWaypoints, waypoint};
 ghost use Rattle.lp_model.specs.RatesCalls.{IsRowOf, HasPivot, ExchangeOverflow};
-ghost use Rattle.rates_dense.specs.Lines.{AreQuotients, AreNumbers, HasPlaces, LineByLine, SameRates, IsReady, IsCommitted, IsExchanged};
+ghost use Rattle.rates_dense.specs.Lines.{AreQuotients, AreNumbers, HasPlaces, basics_of, HaveRatesAt, IsTakenOver, LineByLine, SameRates, IsReady, IsCommitted, IsExchanged};
 ghost use Rattle.rates_dense.specs.Placed.{IsPlaced};
-ghost use Rattle.rates_dense.specs.Inverse.{HasRates};
 ghost use Rattle.rates_dense.specs.Refusals.{SomeLineRefused, LinesRefused, IsOwnOverflow};
 
 mod line;
@@ -97,6 +96,20 @@ fn line_of<'a>(slots: &[u32], lines: &'a [Line], k: u32) -> &'a Line
     &lines[slots[k as usize - 1] as usize]
 }
 
+/// Writes the rate of each line at `j` to the place of its basic.
+fn take_rates(lines: &[Line], j: u32, out: &mut [Frac])
+    requires low { 1 ≤ j }
+    requires high { j ≤ length out.old }
+    requires basics { AreNumbers (length out.old) (basics_of lines.now) }
+    requires places { All (HasPlaces (length out.old)) lines.now }
+    ensures { (f : Vector) → HaveRatesAt j lines.now f → IsTakenOver (basics_of lines.now) out.old
+        out.new f }
+{
+    for line in lines {
+        out[line.basic as usize - 1] = line.rates[j as usize - 1];
+    }
+}
+
 /// Makes the lines after an exchange of `p`, whose line has this slot, for `q`. `quotients` is room for the leaver's rates over the
 /// pivot, and `changed` for the numbers of those that aren't 0.
 fn exchange_lines(
@@ -129,29 +142,6 @@ fn exchange_lines(
 }
 
 impl Dense {
-    /// The number of variables. The basics have rates.
-    fn size(&self) -> u32
-        ensures size { result ≡ size self.now.matrix }
-        ensures rates { HasRates self.now.matrix self.now.basics }
-    {
-        self.rows + self.cols
-    }
-
-    /// The entry at `k` of the direction of the nonbasic `j`.
-    fn entry(&self, j: u32, k: u32) -> Frac
-        requires nonbasic { IsNonbasic self.now.matrix self.now.basics j }
-        requires variable { IsVariable self.now.matrix k }
-        ensures { (d : Vector) → IsDirectionOf self.now.matrix self.now.basics j d → result ≡ d k }
-    {
-        if self.marks[k as usize - 1] {
-            line_of(&self.slots, &self.lines, k).rates[j as usize - 1]
-        } else if k == j {
-            Frac::whole(1)
-        } else {
-            Frac::whole(0)
-        }
-    }
-
     /// All rows are basic.
     pub fn new(alloc: Global, lp: &Lp) -> Result<Dense, NoMemory>
         ensures matrix { IfOk result (λ table. table.matrix ≡ lp.now.matrix) }
@@ -188,9 +178,9 @@ impl Rates for Dense {
         ensures always { IsOk result }
         ensures same { self.new ≡ self.old }
     {
-        for k in 0..self.size() {
-            out[k as usize] = self.entry(j, k + 1);
-        }
+        out.fill(Frac::whole(0));
+        take_rates(&self.lines, j, out);
+        out[j as usize - 1] = Frac::whole(1);
         Ok(())
     }
 
