@@ -8,3 +8,4 @@ mod Exchanges
 mod RefusedLaws
 mod OpeningTable
 pub mod Changes
+pub mod OpeningLines

@@ -2,13 +2,16 @@
 --     IsFilled xs f                the list has f of each variable
 --     quotient_at p q rates j      the leaver's rate over the pivot, which is its rate at q; 1 over the pivot at p itself
 --     AreQuotients p q rates quotients         the list of all these
---     AreNumbers n js              each of the list is the number of one of n variables
+--     IsNumberOf n j               the number of one of n variables
+--     AreNumbers n js              each of the list is one
 --     AreChanged js quotients      the list has the variables whose quotient is not 0
 --     IsFilledAt js xs f           the first places of xs have f of the variables of the list, in its order
 --     IsTakenOver js old new f     the new list has f at the variables of js, and elsewhere f or what was there
 --     entering_rate p q quotients j            the rate at j of the basic that enters
 --     staying_rate p q quotients rates j       the rate at j of a basic that stays, from its rates before
 --     HasPlaces n line             the line has this number of places, twice
+--     IsBlankLine n i line         the line of the basic i, with so many zeros
+--     IsWritten j v old new        the line has v at j, and all else as it was
 --     basics_of lines              the basic of each line
 --     HaveRatesAt j lines f        the rate at j of each line is f at its basic
 --     LineByLine R old new         R holds of each line before and after
@@ -16,7 +19,7 @@
 --     IsReady p q quotients js line            the rates after the exchange stand ready at the variables of js, where they change
 --     IsCommitted p q js old new   they were taken
 --     IsExchanged p q quotients old new        both, one after the other, with the changed variables
-use Rattle.std.specs.Prelude.{◌≡◌, ◌≢◌, ℕ, ◌+◌, ◌<◌, ◌≤◌, ◌⊎◌, List, length, map, All, slice_index, slice_index_or, nat_eq, if◌then◌else◌}
+use Rattle.std.specs.Prelude.{◌≡◌, ◌≢◌, ℕ, ◌+◌, ◌<◌, ◌≤◌, ◌⊎◌, List, length, map, replicate, All, slice_index, slice_index_or, nat_eq, if◌then◌else◌}
 use Rattle.exact_values.specs.Rational.{ℚ, zero_ℚ, one_ℚ, neg_ℚ, ◌-ℚ◌, ◌*ℚ◌, ◌/ℚ◌}
 use Rattle.lp_definitions.specs.LinearProgram.{value_at}
 use Rattle.rates_dense.specs.declared.line.Line.{Line}
@@ -31,8 +34,11 @@ pub record AreQuotients (p q : ℕ) (rates quotients : List ℚ) : Type 0 where
   pub counted : length quotients ≡ length rates
   pub filled : IsFilled quotients (quotient_at p q rates)
 
+abbrev pub IsNumberOf : ℕ → ℕ → Type 0
+IsNumberOf n j = (1 ≤ j) × (j ≤ n)
+
 abbrev pub AreNumbers : ℕ → List ℕ → Type 0
-AreNumbers n js = (place : ℕ) → place < length js → (1 ≤ slice_index js place) × (slice_index js place ≤ n)
+AreNumbers n js = (place : ℕ) → place < length js → IsNumberOf n (slice_index js place)
 
 -- j stands in the list
 pub record IsListed (js : List ℕ) (j : ℕ) : Type 0 where
@@ -63,6 +69,18 @@ staying_rate p q quotients rates j =
 pub record HasPlaces (n : ℕ) (line : Line) : Type 0 where
   pub places : length line.rates.items ≡ n
   pub room : length line.next.items ≡ n
+
+pub record IsBlankLine (n i : ℕ) (line : Line) : Type 0 where
+  pub own : line.basic ≡ i
+  pub places : HasPlaces n line
+  pub zeros : line.rates.items ≡ replicate n zero_ℚ
+
+pub record IsWritten (j : ℕ) (v : ℚ) (old new : Line) : Type 0 where
+  pub same_basic : new.basic ≡ old.basic
+  pub same_places : length new.rates.items ≡ length old.rates.items
+  pub same_room : length new.next.items ≡ length old.next.items
+  pub there : value_at new.rates.items j ≡ v
+  pub others : (k : ℕ) → 1 ≤ k → k ≢ j → value_at new.rates.items k ≡ value_at old.rates.items k
 
 abbrev pub basics_of : List Line → List ℕ
 basics_of lines = map (λ line. line.basic) lines

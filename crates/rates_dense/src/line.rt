@@ -4,11 +4,12 @@ ghost use Rattle.std.specs.Prelude.{◌≡◌, ◌≢◌, ℕ, ◌<◌, ◌≤�
 ghost use Rattle.exact_values.specs.Rational.{ℚ, zero_ℚ, one_ℚ, ◌-ℚ◌, ◌*ℚ◌, ◌/ℚ◌};
 ghost use Rattle.lp_definitions.specs.LinearProgram.{value_at};
 ghost use Rattle.lp_definitions.specs.RatesEvidence.{Names};
-ghost use Rattle.rates_dense.specs.Lines.{IsFilled, quotient_at, AreNumbers, AreChanged, IsFilledAt, IsTakenOver, entering_rate, staying_rate, SameRates, IsReady, IsCommitted};
+ghost use Rattle.rates_dense.specs.Lines.{IsFilled, quotient_at, AreNumbers, AreChanged, IsFilledAt, IsTakenOver, entering_rate, staying_rate, IsBlankLine, IsWritten, SameRates, IsReady, IsCommitted};
 ghost use Rattle.rates_dense.specs.Refusals.{IsRefusal, IsDifferenceRefused, QuotientRefused, StayingRefused};
 
 use frac128::{Frac, Op, Refused};
-use lp_model::Evidence;
+use lp_model::{Evidence, NoMemory};
+use std::alloc::Global;
 
 /// The rates of a basic variable: a place for each variable, with 0 at the basics. `next` is room for those that an exchange changes.
 #[derive(Drop)]
@@ -295,6 +296,26 @@ fn take_over(changed: &[u32], next: &[Frac], rates: &mut [Frac])
 }
 
 impl Line {
+    /// The line of a basic, with zeros.
+    pub fn blank(alloc: Global, basic: u32, size: u32) -> Result<Line, NoMemory>
+        ensures { IfOk result (IsBlankLine size basic) }
+    {
+        Ok(Line {
+            basic,
+            rates: vec![in alloc; Frac::whole(0); size as usize]?,
+            next: vec![in alloc; Frac::whole(0); size as usize]?,
+        })
+    }
+
+    /// Writes the rate at `j`.
+    pub fn write(&mut self, j: u32, rate: Frac)
+        requires low { 1 ≤ j }
+        requires high { j ≤ length self.old.rates.items }
+        ensures { IsWritten j rate self.old self.new }
+    {
+        self.rates[j as usize - 1] = rate;
+    }
+
     /// Makes ready the rates that an exchange of `p` for `q` changes, at the variables of the list.
     pub fn prepare(
         &mut self,
