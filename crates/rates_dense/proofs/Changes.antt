@@ -1,19 +1,72 @@
 -- The list of the changed variables, and rates that are taken over at them, or at the basics of the lines.
 use Rattle.std.specs.Prelude.{eqb}
-use Rattle.std.proofs.Common.{refl, true, false, ◌≡◌, ◌≢◌, ℕ, ◌+◌, ◌-◌, ◌<◌, ◌≤◌, ◌⊎◌, inl, inr, List, length, get_or, set, sym, ap, ◌∙◌, subst, All, arith, below_more}
+use Rattle.std.proofs.Common.{refl, true, false, ◌≡◌, ◌≢◌, ℕ, ◌+◌, ◌-◌, ◌<◌, ◌≤◌, ◌⊎◌, inl, inr, List, length, get_or, set, take, sym, ap, ◌∙◌, subst, All, arith, below_more}
 use Rattle.std.proofs.lemmas.Bool.Decides.{eqb_tells}
-use Rattle.std.proofs.lemmas.List.{get_or-set_same, get_or-set_other, get_or-map, length-map}
+use Rattle.std.proofs.lemmas.List.{get_or-set_same, get_or-set_other, get_or-map, length-map, length-take-le, get_or-take}
 use Rattle.exact_values.specs.Rational.{ℚ, zero_ℚ}
 use Rattle.lp_definitions.specs.LinearProgram.{value_at}
 use Rattle.rates_dense.specs.declared.line.Line.{Line}
-use Rattle.rates_dense.specs.Lines.{AreNumbers, HasPlaces, basics_of, HaveRatesAt, IsTakenOver}
+use Rattle.rates_dense.proofs.Fills.{filled_at}
+use Rattle.rates_dense.specs.Lines.{IsFilled, AreNumbers, AreChanged, IsListed, HasPlaces, basics_of, HaveRatesAt, IsTakenOver}
 
 -- ---- the list
 
--- the first `count` places have the variables up to n whose quotient is not 0
-pub record ListedTo (js : List ℕ) (quotients : List ℚ) (n count : ℕ) : Type 0 where
+-- the first `count` places have the variables up to n where f is not 0
+pub record ListedTo (js : List ℕ) (f : ℕ → ℚ) (n count : ℕ) : Type 0 where
   pub numbers : (place : ℕ) → place < count → (1 ≤ get_or js place 0) × (get_or js place 0 ≤ n)
-  pub each : (j : ℕ) → 1 ≤ j → j ≤ n → ((place : ℕ) × (place < count) × (get_or js place 0 ≡ j)) ⊎ (value_at quotients j ≡ zero_ℚ)
+  pub each : (j : ℕ) → 1 ≤ j → j ≤ n → ((place : ℕ) × (place < count) × (get_or js place 0 ≡ j)) ⊎ (f j ≡ zero_ℚ)
+
+-- at the next variable f is 0
+pub listed_zero : (js : List ℕ) (f : ℕ → ℚ) (n count : ℕ) → f (n + 1) ≡ zero_ℚ → ListedTo js f n count → ListedTo js f (n + 1) count
+listed_zero js f n count zero so_far = record {
+  numbers = λ place below. let h = so_far.numbers place below in (h.0, omega (arith, h.1));
+  each = λ j low high. at j low high (eqb_tells j (n + 1));
+}
+  where
+    at : (j : ℕ) → 1 ≤ j → j ≤ n + 1 → ((eqb j (n + 1) ≡ true) × (j ≡ n + 1)) ⊎ ((eqb j (n + 1) ≡ false) × (j ≢ n + 1)) → ((place : ℕ) × (place < count) × (get_or js place 0 ≡ j)) ⊎ (f j ≡ zero_ℚ)
+    at j low high (inl same) = inr (ap f same.1 ∙ zero)
+    at j low high (inr other) = so_far.each j low (omega (arith, other.1, high))
+
+-- the next variable is listed
+pub listed_more : (js : List ℕ) (f : ℕ → ℚ) (n count : ℕ) → count < length js → ListedTo js f n count → ListedTo (set js count (n + 1)) f (n + 1) (count + 1)
+listed_more js f n count room so_far = record {
+  numbers = below_more (λ place. (1 ≤ get_or (set js count (n + 1)) place 0) × (get_or (set js count (n + 1)) place 0 ≤ n + 1)) count
+      (λ place below. let h = so_far.numbers place below in subst (λ (k : ℕ). (1 ≤ k) × (k ≤ n + 1)) (sym (kept place below)) (h.0, omega (arith, h.1)))
+      (subst (λ (k : ℕ). (1 ≤ k) × (k ≤ n + 1)) (sym own) (omega arith, omega arith));
+  each = λ j low high. at j low high (eqb_tells j (n + 1));
+}
+  where
+    own : get_or (set js count (n + 1)) count 0 ≡ n + 1
+    own = get_or-set_same js count (n + 1) 0 room
+
+    kept : (place : ℕ) → place < count → get_or (set js count (n + 1)) place 0 ≡ get_or js place 0
+    kept place below = let other : place ≢ count = omega arith in get_or-set_other js count place (n + 1) 0 other
+
+    before : (j : ℕ) → ((place : ℕ) × (place < count) × (get_or js place 0 ≡ j)) ⊎ (f j ≡ zero_ℚ) → ((place : ℕ) × (place < count + 1) × (get_or (set js count (n + 1)) place 0 ≡ j)) ⊎ (f j ≡ zero_ℚ)
+    before j (inl there) = inl (there.0, omega (arith, there.1), kept there.0 there.1 ∙ there.2)
+    before j (inr none) = inr none
+
+    at : (j : ℕ) → 1 ≤ j → j ≤ n + 1 → ((eqb j (n + 1) ≡ true) × (j ≡ n + 1)) ⊎ ((eqb j (n + 1) ≡ false) × (j ≢ n + 1)) → ((place : ℕ) × (place < count + 1) × (get_or (set js count (n + 1)) place 0 ≡ j)) ⊎ (f j ≡ zero_ℚ)
+    at j low high (inl same) = inl (count, omega arith, own ∙ sym same.1)
+    at j low high (inr other) = before j (so_far.each j low (omega (arith, other.1, high)))
+
+-- all variables are listed
+pub listed_to_end : (js : List ℕ) (quotients : List ℚ) (f : ℕ → ℚ) (n count : ℕ) → length quotients ≤ n → n ≤ length quotients → count ≤ length js → IsFilled quotients f → ListedTo js f n count → AreChanged (take count js) quotients
+listed_to_end js quotients f n count all within room filled listed = record {
+  numbers = λ place below. let h = listed.numbers place (omega (arith, counted, below)) in
+      subst (λ (k : ℕ). (1 ≤ k) × (k ≤ length quotients)) (sym (read place (omega (arith, counted, below)))) (h.0, omega (arith, h.1, within));
+  each = λ j low high. at j low high (listed.each j low (omega (arith, high, all)));
+}
+  where
+    counted : length (take count js) ≡ count
+    counted = length-take-le count js room
+
+    read : (place : ℕ) → place < count → get_or (take count js) place 0 ≡ get_or js place 0
+    read place below = get_or-take count js place 0 below
+
+    at : (j : ℕ) → 1 ≤ j → j ≤ length quotients → ((place : ℕ) × (place < count) × (get_or js place 0 ≡ j)) ⊎ (f j ≡ zero_ℚ) → IsListed (take count js) j ⊎ (value_at quotients j ≡ zero_ℚ)
+    at j low high (inl there) = inl (record { place = there.0; within = omega (arith, counted, there.1); is = read there.0 there.1 ∙ there.2 })
+    at j low high (inr none) = inr (filled_at quotients f filled j low high ∙ none)
 
 -- ---- taking over
 

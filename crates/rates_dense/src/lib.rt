@@ -16,7 +16,7 @@ mod line;
 mod opening;
 
 use frac128::Frac;
-use line::{Line, fill_quotients, list_changed};
+use line::{Line, fill_quotients};
 use lp_model::{Engine, Entry, Evidence, Lp, NoMemory, Rates, Stop};
 use opening::{opening_lines, opening_marks, opening_slots};
 use std::alloc::Global;
@@ -133,8 +133,7 @@ fn exchange_lines(
     ensures err { OnErr result (LineByLine SameRates lines.old lines.new) }
     ensures refused { IfErr result (LinesRefused p q lines.old slot) }
 {
-    fill_quotients(&lines[slot].rates, p, q, quotients)?;
-    let count = list_changed(quotients, changed);
+    let count = fill_quotients(&lines[slot].rates, p, q, quotients, changed)?;
     let changed = &changed[..count];
     prepare_lines(lines, p, q, quotients, changed)?;
     commit_lines(lines, quotients.len(), p, q, changed);

@@ -184,49 +184,43 @@ impl Cell {
     }
 }
 
-/// The leaver's rates over the pivot, which is its rate at `q`, and 1 over the pivot at the leaver itself.
+/// The leaver's rates over the pivot, which is its rate at `q`, and 1 over the pivot at the leaver itself. Lists the variables where
+/// that isn't 0, and says how many there are.
 pub fn fill_quotients(
     rates: &[Frac],
     p: u32,
     q: u32,
     quotients: &mut [Frac],
-) -> Result<(), Evidence>
+    changed: &mut [u32],
+) -> Result<usize, Evidence>
     requires q_low { 1 ≤ q }
     requires q_high { q ≤ length rates.now }
     requires small { length rates.now < 2 ^ 32 }
     requires room { length quotients.old ≡ length rates.now }
+    requires list { length changed.old ≡ length rates.now }
     requires pivot { value_at rates.now q ≢ zero_ℚ }
     ensures filled { OnOk result (IsFilled quotients.new (quotient_at p q rates.now)) }
+    ensures within { IfOk result (λ count. count ≤ length quotients.new) }
+    ensures listed { IfOk result (λ count. AreChanged (take count changed.new) quotients.new) }
     ensures refused { IfErr result (QuotientRefused p q rates.now) }
 {
     let pivot = rates[q as usize - 1];
+    let mut count = 0;
     for (k, rate) in rates.iter().enumerate() {
         let j = k as u32 + 1;
+        if j != p && rate.is_zero() {
+            quotients[k] = *rate;
+            continue;
+        }
         quotients[k] = if j == p {
             Cell { p, q, i: 0, j: 0 }.reciprocal(pivot)?
         } else {
             Cell { p, q, i: 0, j }.quotient(*rate, pivot)?
         };
-    }
-    Ok(())
-}
-
-/// Lists the variables whose quotient isn't 0, and says how many there are.
-pub fn list_changed(quotients: &[Frac], changed: &mut [u32]) -> usize
-    requires small { length quotients.now < 2 ^ 32 }
-    requires room { length changed.old ≡ length quotients.now }
-    ensures within { result ≤ length quotients.now }
-    ensures listed { AreChanged (take result changed.new) quotients.now }
-{
-    let mut count = 0;
-    for (k, quotient) in quotients.iter().enumerate() {
-        if quotient.is_zero() {
-            continue;
-        }
-        changed[count] = k as u32 + 1;
+        changed[count] = j;
         count += 1;
     }
-    count
+    Ok(count)
 }
 
 /// The enterer's rates at the variables of the list, from the quotients.
