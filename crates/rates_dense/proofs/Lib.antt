@@ -9,3 +9,4 @@ mod RefusedLaws
 mod OpeningTable
 pub mod Changes
 pub mod OpeningLines
+pub mod Moving

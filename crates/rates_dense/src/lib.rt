@@ -1,14 +1,14 @@
 //! The rates of a matrix as a table: a line for each basic variable, with a place for each variable.
 #![tactic(auto)]
 
-ghost use Rattle.std.specs.Prelude.{◌≡◌, ◌≢◌, ◌<◌, ◌≤◌, ◌^◌, length, All, Contains, IfOk, IfErr, IsOk, OnOk, OnErr, []};
+ghost use Rattle.std.specs.Prelude.{◌≡◌, ◌≢◌, ◌<◌, ◌≤◌, ◌^◌, length, take, All, Contains, IfOk, IfErr, IsOk, OnOk, OnErr, []};
 ghost use Rattle.std.specs.List.{HoldsAt};
 ghost use Rattle.exact_values.specs.Rational.{zero_ℚ};
 ghost use Rattle.lp_definitions.specs.LinearProgram.{size, value_at, Vector};
 ghost use Rattle.lp_definitions.specs.Basis.{IsBasic, IsNonbasic, IsDirectionOf, exchanged, row_basics};
 ghost use Rattle.lp_definitions.specs.Waypoints.{KeepsWaypoints, waypoint};
 ghost use Rattle.lp_model.specs.RatesCalls.{IsRowOf, HasPivot, ExchangeOverflow};
-ghost use Rattle.rates_dense.specs.Lines.{AreQuotients, AreNumbers, HasPlaces, basics_of, HaveRatesAt, IsTakenOver, LineByLine, SameRates, IsReady, IsCommitted, IsExchanged};
+ghost use Rattle.rates_dense.specs.Lines.{AreQuotients, AreNumbers, HasPlaces, basics_of, HaveRatesAt, IsTakenOver, LineByLine, AreMoving, SameRates, IsReady, IsCommitted, IsExchanged};
 ghost use Rattle.rates_dense.specs.Placed.{IsPlaced};
 ghost use Rattle.rates_dense.specs.Refusals.{SomeLineRefused, LinesRefused, IsOwnOverflow};
 
@@ -34,6 +34,7 @@ pub struct Dense {
     lines: Vec<Line>,
     quotients: Vec<Frac>,
     changed: Vec<u32>,
+    moving: Vec<usize>,
 }
 
 impl Model for Dense {
@@ -48,9 +49,28 @@ impl Model for Dense {
     ghost invariant = { IsTable };
 }
 
-/// Makes the lines ready for an exchange of `p` for `q`, at the variables of the list.
+/// Lists the slots of the lines that an exchange of `p` for `q` changes, and says how many there are.
+fn list_moving(lines: &[Line], p: u32, q: u32, moving: &mut [usize]) -> usize
+    requires q_low { 1 ≤ q }
+    requires q_high { All (λ line. q ≤ length line.rates.items) lines.now }
+    requires room { length moving.old ≡ length lines.now }
+    ensures within { result ≤ length lines.now }
+    ensures listed { AreMoving p q lines.now (take result moving.new) }
+{
+    let mut count = 0;
+    for (slot, line) in lines.iter().enumerate() {
+        if line.changes(p, q) {
+            moving[count] = slot;
+            count += 1;
+        }
+    }
+    count
+}
+
+/// Makes the lines that change ready for an exchange of `p` for `q`, at the variables of the list.
 fn prepare_lines(
     lines: &mut [Line],
+    moving: &[usize],
     p: u32,
     q: u32,
     quotients: &[Frac],
@@ -58,6 +78,7 @@ fn prepare_lines(
 ) -> Result<(), Evidence>
     requires q_low { 1 ≤ q }
     requires q_high { q ≤ length quotients.now }
+    requires moving { AreMoving p q lines.old moving.now }
     requires variables { AreNumbers (length quotients.now) changed.now }
     requires listed { length changed.now ≤ length quotients.now }
     requires places { All (HasPlaces (length quotients.now)) lines.old }
@@ -65,23 +86,24 @@ fn prepare_lines(
     ensures ready { OnOk result (All (IsReady p q quotients.now changed.now) lines.new) }
     ensures refused { IfErr result (SomeLineRefused p q quotients.now lines.old) }
 {
-    for line in lines.iter_mut() {
-        line.prepare(p, q, quotients, changed)?;
+    for slot in moving {
+        lines[*slot].prepare(p, q, quotients, changed)?;
     }
     Ok(())
 }
 
 /// Takes what was made ready.
-fn commit_lines(lines: &mut [Line], size: usize, p: u32, q: u32, changed: &[u32])
+fn commit_lines(lines: &mut [Line], moving: &[usize], size: usize, p: u32, q: u32, changed: &[u32])
     requires q_low { 1 ≤ q }
     requires q_high { q ≤ size }
+    requires moving { AreMoving p q lines.old moving.now }
     requires variables { AreNumbers size changed.now }
     requires listed { length changed.now ≤ size }
     requires places { All (HasPlaces size) lines.old }
     ensures { LineByLine (IsCommitted p q changed.now) lines.old lines.new }
 {
-    for line in lines.iter_mut() {
-        line.commit(p, q, changed);
+    for slot in moving {
+        lines[*slot].commit(p, q, changed);
     }
 }
 
@@ -111,7 +133,7 @@ fn take_rates(lines: &[Line], j: u32, out: &mut [Frac])
 }
 
 /// Makes the lines after an exchange of `p`, whose line has this slot, for `q`. `quotients` is room for the leaver's rates over the
-/// pivot, and `changed` for the numbers of those that aren't 0.
+/// pivot, `changed` for the numbers of those that aren't 0, and `moving` for the slots of the lines that change.
 fn exchange_lines(
     lines: &mut [Line],
     slot: usize,
@@ -119,11 +141,13 @@ fn exchange_lines(
     q: u32,
     quotients: &mut [Frac],
     changed: &mut [u32],
+    moving: &mut [usize],
 ) -> Result<(), Evidence>
     requires q_low { 1 ≤ q }
     requires q_high { q ≤ length quotients.old }
     requires small { length quotients.old < 2 ^ 32 }
     requires room { length changed.old ≡ length quotients.old }
+    requires slots { length moving.old ≡ length lines.old }
     requires places { All (HasPlaces (length quotients.old)) lines.old }
     requires slot { slot < length lines.old }
     requires pivot { HoldsAt (λ leaver. value_at leaver.rates.items q ≢ zero_ℚ) lines.old slot }
@@ -135,8 +159,10 @@ fn exchange_lines(
 {
     let count = fill_quotients(&lines[slot].rates, p, q, quotients, changed)?;
     let changed = &changed[..count];
-    prepare_lines(lines, p, q, quotients, changed)?;
-    commit_lines(lines, quotients.len(), p, q, changed);
+    let count = list_moving(lines, p, q, moving);
+    let moving = &moving[..count];
+    prepare_lines(lines, moving, p, q, quotients, changed)?;
+    commit_lines(lines, moving, quotients.len(), p, q, changed);
     Ok(())
 }
 
@@ -156,6 +182,7 @@ impl Dense {
             lines: opening_lines(alloc, lp)?,
             quotients: vec![in alloc; Frac::whole(0); size as usize]?,
             changed: vec![in alloc; 0; size as usize]?,
+            moving: vec![in alloc; 0; lp.rows as usize]?,
         })
     }
 }
@@ -217,6 +244,7 @@ impl Rates for Dense {
             q,
             &mut self.quotients,
             &mut self.changed,
+            &mut self.moving,
         ) {
             return Err(Stop::Overflow(evidence));
         }

@@ -1,10 +1,10 @@
 //! The lines of the table, and what an exchange makes of them.
 
-ghost use Rattle.std.specs.Prelude.{◌≡◌, ◌≢◌, ℕ, ◌<◌, ◌≤◌, ◌^◌, length, take, IfOk, IfErr, IfSome, OnOk, OnErr};
+ghost use Rattle.std.specs.Prelude.{◌≡◌, ◌≢◌, ℕ, false, ◌<◌, ◌≤◌, ◌^◌, length, take, IfOk, IfErr, IfSome, OnOk, OnErr};
 ghost use Rattle.exact_values.specs.Rational.{ℚ, zero_ℚ, one_ℚ, ◌-ℚ◌, ◌*ℚ◌, ◌/ℚ◌};
 ghost use Rattle.lp_definitions.specs.LinearProgram.{value_at};
 ghost use Rattle.lp_definitions.specs.RatesEvidence.{Names};
-ghost use Rattle.rates_dense.specs.Lines.{IsFilled, quotient_at, AreNumbers, AreChanged, IsFilledAt, IsTakenOver, entering_rate, staying_rate, IsBlankLine, IsWritten, SameRates, IsReady, IsCommitted};
+ghost use Rattle.rates_dense.specs.Lines.{IsFilled, quotient_at, AreNumbers, AreChanged, IsFilledAt, IsTakenOver, entering_rate, staying_rate, IsBlankLine, IsWritten, IsUnchanged, SameRates, IsReady, IsCommitted};
 ghost use Rattle.rates_dense.specs.Refusals.{IsRefusal, IsDifferenceRefused, QuotientRefused, StayingRefused};
 
 use frac128::{Frac, Op, Refused};
@@ -308,6 +308,15 @@ impl Line {
         ensures { IsWritten j rate self.old self.new }
     {
         self.rates[j as usize - 1] = rate;
+    }
+
+    /// Whether an exchange of `p` for `q` changes the line: it is the leaver's, or its rate at `q` isn't 0.
+    pub fn changes(&self, p: u32, q: u32) -> bool
+        requires q_low { 1 ≤ q }
+        requires q_high { q ≤ length self.now.rates.items }
+        ensures { result ≡ false → IsUnchanged p q self.now }
+    {
+        self.basic == p || !self.rates[q as usize - 1].is_zero()
     }
 
     /// Makes ready the rates that an exchange of `p` for `q` changes, at the variables of the list.
