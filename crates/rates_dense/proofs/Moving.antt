@@ -1,13 +1,13 @@
 -- The list of the lines that change, and what a pass over it makes of the lines.
 use Rattle.std.specs.Prelude.{eqb}
-use Rattle.std.proofs.Common.{◌≡◌, ◌≢◌, ℕ, ◌+◌, ◌<◌, ◌⊎◌, inl, inr, List, length, get_or, set, sym, ap, ◌∙◌, subst, true, false, arith, below_more}
+use Rattle.std.proofs.Common.{◌≡◌, ◌≢◌, ℕ, ◌+◌, ◌<◌, ◌≤◌, ◌⊎◌, inl, inr, List, length, get_or, set, take, sym, ap, ◌∙◌, subst, true, false, arith, below_more}
 use Rattle.std.proofs.lemmas.Bool.Decides.{eqb_tells}
-use Rattle.std.proofs.lemmas.List.{get_or-set_same, get_or-set_other, get_or_default}
+use Rattle.std.proofs.lemmas.List.{get_or-set_same, get_or-set_other, get_or_default, length-take-le, get_or-take}
 use Rattle.exact_values.specs.Rational.{ℚ}
 use Rattle.lp_definitions.specs.declared.Evidence.{Evidence}
 use Rattle.rates_dense.specs.declared.line.Line.{Line}
 use Rattle.rates_dense.specs.Refusals.{StayingRefused, SomeLineRefused}
-use Rattle.rates_dense.specs.Lines.{LineByLine, SameRates, IsReady, IsUnchanged, AreMoving, IsCommitted}
+use Rattle.rates_dense.specs.Lines.{IsListed, LineByLine, SameRates, IsReady, IsUnchanged, AreMoving, IsCommitted}
 
 -- ---- the list
 
@@ -16,6 +16,68 @@ pub record MovingTo (p q : ℕ) (lines : List Line) (slots : List ℕ) (n count 
   pub within : (place : ℕ) → place < count → get_or slots place 0 < n
   pub in_order : (one other : ℕ) → one < other → other < count → get_or slots one 0 < get_or slots other 0
   pub each : (slot : ℕ) (d : Line) → slot < n → ((place : ℕ) × (place < count) × (get_or slots place 0 ≡ slot)) ⊎ IsUnchanged p q (get_or lines slot d)
+
+module _ (p q : ℕ) (lines : List Line) (slots : List ℕ) (n count : ℕ) (so_far : MovingTo p q lines slots n count) where
+  pub moving_skipped : ((d : Line) → IsUnchanged p q (get_or lines n d)) → MovingTo p q lines slots (n + 1) count
+  moving_skipped unchanged = record {
+    within = λ place below. omega (arith, so_far.within place below);
+    in_order = so_far.in_order;
+    each = λ slot d below. at slot d below (eqb_tells slot n);
+  }
+    where
+      at : (slot : ℕ) (d : Line) → slot < n + 1 → ((eqb slot n ≡ true) × (slot ≡ n)) ⊎ ((eqb slot n ≡ false) × (slot ≢ n)) → ((place : ℕ) × (place < count) × (get_or slots place 0 ≡ slot)) ⊎ IsUnchanged p q (get_or lines slot d)
+      at slot d below (inl same) = inr (subst (λ (k : ℕ). IsUnchanged p q (get_or lines k d)) (sym same.1) (unchanged d))
+      at slot d below (inr other) = so_far.each slot d (omega (arith, other.1, below))
+
+  pub moving_listed : count < length slots → MovingTo p q lines (set slots count n) (n + 1) (count + 1)
+  moving_listed room = record {
+    within = below_more (λ place. get_or (set slots count n) place 0 < n + 1) count
+        (λ place below. subst (λ (k : ℕ). k < n + 1) (sym (kept place below)) (omega (arith, so_far.within place below)))
+        (subst (λ (k : ℕ). k < n + 1) (sym own) (omega arith));
+    in_order = λ one other before below. ordered one other before below (eqb_tells other count);
+    each = λ slot d below. at slot d below (eqb_tells slot n);
+  }
+    where
+      own : get_or (set slots count n) count 0 ≡ n
+      own = get_or-set_same slots count n 0 room
+
+      kept : (place : ℕ) → place < count → get_or (set slots count n) place 0 ≡ get_or slots place 0
+      kept place below = let other : place ≢ count = omega arith in get_or-set_other slots count place n 0 other
+
+      ordered : (one other : ℕ) → one < other → other < count + 1 → ((eqb other count ≡ true) × (other ≡ count)) ⊎ ((eqb other count ≡ false) × (other ≢ count)) → get_or (set slots count n) one 0 < get_or (set slots count n) other 0
+      ordered one other before below (inl last) =
+          let early : one < count = omega (arith, before, last.1) in
+          omega (arith, kept one early, so_far.within one early, own, ap (λ k. get_or (set slots count n) k 0) last.1)
+      ordered one other before below (inr apart) =
+          let early : other < count = omega (arith, below, apart.1) in
+          omega (arith, kept one (omega (arith, before, early)), kept other early, so_far.in_order one other before early)
+
+      before_it : (slot : ℕ) (d : Line) → ((place : ℕ) × (place < count) × (get_or slots place 0 ≡ slot)) ⊎ IsUnchanged p q (get_or lines slot d) → ((place : ℕ) × (place < count + 1) × (get_or (set slots count n) place 0 ≡ slot)) ⊎ IsUnchanged p q (get_or lines slot d)
+      before_it slot d (inl there) = inl (there.0, omega (arith, there.1), kept there.0 there.1 ∙ there.2)
+      before_it slot d (inr unchanged) = inr unchanged
+
+      at : (slot : ℕ) (d : Line) → slot < n + 1 → ((eqb slot n ≡ true) × (slot ≡ n)) ⊎ ((eqb slot n ≡ false) × (slot ≢ n)) → ((place : ℕ) × (place < count + 1) × (get_or (set slots count n) place 0 ≡ slot)) ⊎ IsUnchanged p q (get_or lines slot d)
+      at slot d below (inl same) = inl (count, omega arith, own ∙ sym same.1)
+      at slot d below (inr other) = before_it slot d (so_far.each slot d (omega (arith, other.1, below)))
+
+  pub moving_to_end : length lines ≤ n → n ≤ length lines → count ≤ length slots → AreMoving p q lines (take count slots)
+  moving_to_end all high room = record {
+    within = λ place below. let early : place < count = omega (arith, counted, below) in omega (arith, read place early, so_far.within place early, high);
+    in_order = λ one other before below.
+        let early : other < count = omega (arith, counted, below) in
+        omega (arith, read one (omega (arith, before, early)), read other early, so_far.in_order one other before early);
+    each = λ slot d below. at slot d (so_far.each slot d (omega (arith, below, all)));
+  }
+    where
+      counted : length (take count slots) ≡ count
+      counted = length-take-le count slots room
+
+      read : (place : ℕ) → place < count → get_or (take count slots) place 0 ≡ get_or slots place 0
+      read place below = get_or-take count slots place 0 below
+
+      at : (slot : ℕ) (d : Line) → ((place : ℕ) × (place < count) × (get_or slots place 0 ≡ slot)) ⊎ IsUnchanged p q (get_or lines slot d) → IsListed (take count slots) slot ⊎ IsUnchanged p q (get_or lines slot d)
+      at slot d (inl there) = inl (record { place = there.0; within = omega (arith, counted, there.1); is = read there.0 there.1 ∙ there.2 })
+      at slot d (inr unchanged) = inr unchanged
 
 -- ---- lines that are made ready
 

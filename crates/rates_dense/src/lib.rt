@@ -59,10 +59,11 @@ fn list_moving(lines: &[Line], p: u32, q: u32, moving: &mut [usize]) -> usize
 {
     let mut count = 0;
     for (slot, line) in lines.iter().enumerate() {
-        if line.changes(p, q) {
-            moving[count] = slot;
-            count += 1;
+        if !line.changes(p, q) {
+            continue;
         }
+        moving[count] = slot;
+        count += 1;
     }
     count
 }
