@@ -1,6 +1,6 @@
 -- The list of the changed variables, and rates that are taken over at them, or at the basics of the lines.
 use Rattle.std.specs.Prelude.{eqb}
-use Rattle.std.proofs.Common.{refl, true, false, ◌≡◌, ◌≢◌, ℕ, ◌+◌, ◌-◌, ◌<◌, ◌≤◌, ◌⊎◌, inl, inr, List, length, get_or, set, take, sym, ap, ◌∙◌, subst, All, arith, below_more}
+use Rattle.std.proofs.Common.{true, false, ◌≡◌, ◌≢◌, ℕ, ◌+◌, ◌-◌, ◌<◌, ◌≤◌, ◌⊎◌, inl, inr, List, length, get_or, set, take, sym, ap, ◌∙◌, subst, All, arith, below_more}
 use Rattle.std.proofs.lemmas.Bool.Decides.{eqb_tells}
 use Rattle.std.proofs.lemmas.List.{get_or-set_same, get_or-set_other, get_or-map, length-map, length-take-le, get_or-take}
 use Rattle.exact_values.specs.Rational.{ℚ, zero_ℚ}
@@ -75,9 +75,6 @@ pub record TakenTo (js : List ℕ) (old new : List ℚ) (f : ℕ → ℚ) (n : �
   pub listed : (place : ℕ) → place < n → value_at new (get_or js place 0) ≡ f (get_or js place 0)
   pub others : (j : ℕ) → 1 ≤ j → j ≤ length old → (value_at new j ≡ f j) ⊎ (value_at new j ≡ value_at old j)
 
-pub taken_none : (js : List ℕ) (old : List ℚ) (f : ℕ → ℚ) → TakenTo js old old f 0
-taken_none js old f = record { listed = λ place within. absurd (omega arith); others = λ j low high. inr refl }
-
 pub taken_to_end : (js : List ℕ) (old new : List ℚ) (f : ℕ → ℚ) (n : ℕ) → length js ≤ n → TakenTo js old new f n → IsTakenOver js old new f
 taken_to_end js old new f n all so_far = record { listed = λ place within. so_far.listed place (omega (arith, all, within)); others = so_far.others }
 
@@ -133,3 +130,25 @@ taken_line lines j old new f n line v within is_line numbers have is_v so_far =
     let listed : n < length (basics_of lines) = omega (arith, length-map lines basic, within) in
     subst (λ (k : ℕ). TakenTo (basics_of lines) old (set new (k - 1) v) f (n + 1)) is_basic
     (taken_more (basics_of lines) old new f n v numbers listed (is_v ∙ has_rate ∙ ap f (sym is_basic)) so_far)
+
+-- a rate that is 0 stands there already
+pub taken_zero : (lines : List Line) (j : ℕ) (old new : List ℚ) (f : ℕ → ℚ) (n : ℕ) (line : Line) → n < length lines → line ≡ get_or lines n line → AreNumbers (length old) (basics_of lines) → All (λ v. v ≡ zero_ℚ) old → HaveRatesAt j lines f
+    → value_at line.rates.items j ≡ zero_ℚ → TakenTo (basics_of lines) old new f n → TakenTo (basics_of lines) old new f (n + 1)
+taken_zero lines j old new f n line within is_line numbers zeros have none so_far = record {
+  listed = below_more (λ place. value_at new (get_or (basics_of lines) place 0) ≡ f (get_or (basics_of lines) place 0)) n so_far.listed
+      (subst (λ (k : ℕ). value_at new k ≡ f k) (sym is_basic) (there (so_far.others line.basic number.0 number.1)));
+  others = so_far.others;
+}
+  where
+    is_basic : get_or (basics_of lines) n 0 ≡ line.basic
+    is_basic = get_or-map (λ (x : Line). x.basic) lines n line 0 within ∙ ap (λ (x : Line). x.basic) (sym is_line)
+
+    number : (1 ≤ line.basic) × (line.basic ≤ length old)
+    number = basic_within lines (length old) n line within is_line numbers
+
+    f_none : f line.basic ≡ zero_ℚ
+    f_none = sym (subst (λ (x : Line). value_at x.rates.items j ≡ f x.basic) (sym is_line) (have n line within)) ∙ none
+
+    there : (value_at new line.basic ≡ f line.basic) ⊎ (value_at new line.basic ≡ value_at old line.basic) → value_at new line.basic ≡ f line.basic
+    there (inl is) = is
+    there (inr kept) = kept ∙ zeros (line.basic - 1) zero_ℚ (omega (arith, number.0, number.1)) ∙ sym f_none

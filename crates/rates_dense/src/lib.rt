@@ -119,17 +119,22 @@ fn line_of<'a>(slots: &[u32], lines: &'a [Line], k: u32) -> &'a Line
     &lines[slots[k as usize - 1] as usize]
 }
 
-/// Writes the rate of each line at `j` to the place of its basic.
+/// Writes the rate of each line at `j` to the place of its basic, where there were zeros.
 fn take_rates(lines: &[Line], j: u32, out: &mut [Frac])
     requires low { 1 ≤ j }
     requires high { j ≤ length out.old }
     requires basics { AreNumbers (length out.old) (basics_of lines.now) }
     requires places { All (HasPlaces (length out.old)) lines.now }
+    requires zeros { All (λ v. v ≡ zero_ℚ) out.old }
     ensures { (f : Vector) → HaveRatesAt j lines.now f → IsTakenOver (basics_of lines.now) out.old
         out.new f }
 {
     for line in lines {
-        out[line.basic as usize - 1] = line.rates[j as usize - 1];
+        let rate = line.rates[j as usize - 1];
+        if rate.is_zero() {
+            continue;
+        }
+        out[line.basic as usize - 1] = rate;
     }
 }
 
