@@ -9,4 +9,4 @@ mod RefusedLaws
 mod OpeningTable
 pub mod Changes
 pub mod OpeningLines
-pub mod Moving
+pub mod ChangingLines

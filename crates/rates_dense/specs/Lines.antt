@@ -18,7 +18,7 @@
 --     SameRates old new            the line has the same rates; only the room beside them may differ
 --     IsReady p q quotients js line            the rates after the exchange stand ready at the variables of js, where they change
 --     IsUnchanged p q line         it is not the leaver's line, and its rate at q is 0
---     AreMoving p q lines slots    the slots of the lines that change, in order
+--     AreChanging p q lines slots    the slots of the lines that change, in order
 --     IsCommitted p q js old new   they were taken
 --     IsExchanged p q quotients old new        both, one after the other, with the changed variables
 use Rattle.std.specs.Prelude.{◌≡◌, ◌≢◌, ℕ, ◌+◌, ◌<◌, ◌≤◌, ◌⊎◌, List, length, map, replicate, All, slice_index, slice_index_or, nat_eq, if◌then◌else◌}
@@ -106,7 +106,7 @@ pub record IsUnchanged (p q : ℕ) (line : Line) : Type 0 where
   pub stays : line.basic ≢ p
   pub none : value_at line.rates.items q ≡ zero_ℚ
 
-pub record AreMoving (p q : ℕ) (lines : List Line) (slots : List ℕ) : Type 0 where
+pub record AreChanging (p q : ℕ) (lines : List Line) (slots : List ℕ) : Type 0 where
   pub within : (place : ℕ) → place < length slots → slice_index slots place < length lines
   pub in_order : (one other : ℕ) → one < other → other < length slots → slice_index slots one < slice_index slots other
   pub each : (slot : ℕ) (d : Line) → slot < length lines → IsListed slots slot ⊎ IsUnchanged p q (slice_index_or lines slot d)

@@ -8,7 +8,7 @@ ghost use Rattle.lp_definitions.specs.LinearProgram.{size, value_at, Vector};
 ghost use Rattle.lp_definitions.specs.Basis.{IsBasic, IsNonbasic, IsDirectionOf, exchanged, row_basics};
 ghost use Rattle.lp_definitions.specs.Waypoints.{KeepsWaypoints, waypoint};
 ghost use Rattle.lp_model.specs.RatesCalls.{IsRowOf, HasPivot, ExchangeOverflow};
-ghost use Rattle.rates_dense.specs.Lines.{AreQuotients, AreNumbers, HasPlaces, basics_of, HaveRatesAt, IsTakenOver, LineByLine, AreMoving, SameRates, IsReady, IsCommitted, IsExchanged};
+ghost use Rattle.rates_dense.specs.Lines.{AreQuotients, AreNumbers, HasPlaces, basics_of, HaveRatesAt, IsTakenOver, LineByLine, AreChanging, SameRates, IsReady, IsCommitted, IsExchanged};
 ghost use Rattle.rates_dense.specs.Placed.{IsPlaced};
 ghost use Rattle.rates_dense.specs.Refusals.{SomeLineRefused, LinesRefused, IsOwnOverflow};
 
@@ -34,7 +34,7 @@ pub struct Dense {
     lines: Vec<Line>,
     quotients: Vec<Frac>,
     changed: Vec<u32>,
-    moving: Vec<usize>,
+    changing: Vec<usize>,
 }
 
 impl Model for Dense {
@@ -50,19 +50,19 @@ impl Model for Dense {
 }
 
 /// Lists the slots of the lines that an exchange of `p` for `q` changes, and says how many there are.
-fn list_moving(lines: &[Line], p: u32, q: u32, moving: &mut [usize]) -> usize
+fn list_changing(lines: &[Line], p: u32, q: u32, changing: &mut [usize]) -> usize
     requires q_low { 1 ≤ q }
     requires q_high { All (λ line. q ≤ length line.rates.items) lines.now }
-    requires room { length moving.old ≡ length lines.now }
+    requires room { length changing.old ≡ length lines.now }
     ensures within { result ≤ length lines.now }
-    ensures listed { AreMoving p q lines.now (take result moving.new) }
+    ensures listed { AreChanging p q lines.now (take result changing.new) }
 {
     let mut count = 0;
     for (slot, line) in lines.iter().enumerate() {
         if !line.changes(p, q) {
             continue;
         }
-        moving[count] = slot;
+        changing[count] = slot;
         count += 1;
     }
     count
@@ -71,7 +71,7 @@ fn list_moving(lines: &[Line], p: u32, q: u32, moving: &mut [usize]) -> usize
 /// Makes the lines that change ready for an exchange of `p` for `q`, at the variables of the list.
 fn prepare_lines(
     lines: &mut [Line],
-    moving: &[usize],
+    changing: &[usize],
     p: u32,
     q: u32,
     quotients: &[Frac],
@@ -79,7 +79,7 @@ fn prepare_lines(
 ) -> Result<(), Evidence>
     requires q_low { 1 ≤ q }
     requires q_high { q ≤ length quotients.now }
-    requires moving { AreMoving p q lines.old moving.now }
+    requires changing { AreChanging p q lines.old changing.now }
     requires variables { AreNumbers (length quotients.now) changed.now }
     requires listed { length changed.now ≤ length quotients.now }
     requires places { All (HasPlaces (length quotients.now)) lines.old }
@@ -87,23 +87,30 @@ fn prepare_lines(
     ensures ready { OnOk result (All (IsReady p q quotients.now changed.now) lines.new) }
     ensures refused { IfErr result (SomeLineRefused p q quotients.now lines.old) }
 {
-    for slot in moving {
+    for slot in changing {
         lines[*slot].prepare(p, q, quotients, changed)?;
     }
     Ok(())
 }
 
 /// Takes what was made ready.
-fn commit_lines(lines: &mut [Line], moving: &[usize], size: usize, p: u32, q: u32, changed: &[u32])
+fn commit_lines(
+    lines: &mut [Line],
+    changing: &[usize],
+    size: usize,
+    p: u32,
+    q: u32,
+    changed: &[u32],
+)
     requires q_low { 1 ≤ q }
     requires q_high { q ≤ size }
-    requires moving { AreMoving p q lines.old moving.now }
+    requires changing { AreChanging p q lines.old changing.now }
     requires variables { AreNumbers size changed.now }
     requires listed { length changed.now ≤ size }
     requires places { All (HasPlaces size) lines.old }
     ensures { LineByLine (IsCommitted p q changed.now) lines.old lines.new }
 {
-    for slot in moving {
+    for slot in changing {
         lines[*slot].commit(p, q, changed);
     }
 }
@@ -139,7 +146,7 @@ fn take_rates(lines: &[Line], j: u32, out: &mut [Frac])
 }
 
 /// Makes the lines after an exchange of `p`, whose line has this slot, for `q`. `quotients` is room for the leaver's rates over the
-/// pivot, `changed` for the numbers of those that aren't 0, and `moving` for the slots of the lines that change.
+/// pivot, `changed` for the numbers of those that aren't 0, and `changing` for the slots of the lines that change.
 fn exchange_lines(
     lines: &mut [Line],
     slot: usize,
@@ -147,13 +154,13 @@ fn exchange_lines(
     q: u32,
     quotients: &mut [Frac],
     changed: &mut [u32],
-    moving: &mut [usize],
+    changing: &mut [usize],
 ) -> Result<(), Evidence>
     requires q_low { 1 ≤ q }
     requires q_high { q ≤ length quotients.old }
     requires small { length quotients.old < 2 ^ 32 }
     requires room { length changed.old ≡ length quotients.old }
-    requires slots { length moving.old ≡ length lines.old }
+    requires slots { length changing.old ≡ length lines.old }
     requires places { All (HasPlaces (length quotients.old)) lines.old }
     requires slot { slot < length lines.old }
     requires pivot { HoldsAt (λ leaver. value_at leaver.rates.items q ≢ zero_ℚ) lines.old slot }
@@ -165,10 +172,10 @@ fn exchange_lines(
 {
     let count = fill_quotients(&lines[slot].rates, p, q, quotients, changed)?;
     let changed = &changed[..count];
-    let count = list_moving(lines, p, q, moving);
-    let moving = &moving[..count];
-    prepare_lines(lines, moving, p, q, quotients, changed)?;
-    commit_lines(lines, moving, quotients.len(), p, q, changed);
+    let count = list_changing(lines, p, q, changing);
+    let changing = &changing[..count];
+    prepare_lines(lines, changing, p, q, quotients, changed)?;
+    commit_lines(lines, changing, quotients.len(), p, q, changed);
     Ok(())
 }
 
@@ -188,7 +195,7 @@ impl Dense {
             lines: opening_lines(alloc, lp)?,
             quotients: vec![in alloc; Frac::whole(0); size as usize]?,
             changed: vec![in alloc; 0; size as usize]?,
-            moving: vec![in alloc; 0; lp.rows as usize]?,
+            changing: vec![in alloc; 0; lp.rows as usize]?,
         })
     }
 }
@@ -250,7 +257,7 @@ impl Rates for Dense {
             q,
             &mut self.quotients,
             &mut self.changed,
-            &mut self.moving,
+            &mut self.changing,
         ) {
             return Err(Stop::Overflow(evidence));
         }

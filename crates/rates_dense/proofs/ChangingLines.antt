@@ -7,19 +7,19 @@ use Rattle.exact_values.specs.Rational.{ℚ}
 use Rattle.lp_definitions.specs.declared.Evidence.{Evidence}
 use Rattle.rates_dense.specs.declared.line.Line.{Line}
 use Rattle.rates_dense.specs.Refusals.{StayingRefused, SomeLineRefused}
-use Rattle.rates_dense.specs.Lines.{IsListed, LineByLine, SameRates, IsReady, IsUnchanged, AreMoving, IsCommitted}
+use Rattle.rates_dense.specs.Lines.{IsListed, LineByLine, SameRates, IsReady, IsUnchanged, AreChanging, IsCommitted}
 
 -- ---- the list
 
 -- the first `count` places have the slots of the first n lines that change
-pub record MovingTo (p q : ℕ) (lines : List Line) (slots : List ℕ) (n count : ℕ) : Type 0 where
+pub record ChangingTo (p q : ℕ) (lines : List Line) (slots : List ℕ) (n count : ℕ) : Type 0 where
   pub within : (place : ℕ) → place < count → get_or slots place 0 < n
   pub in_order : (one other : ℕ) → one < other → other < count → get_or slots one 0 < get_or slots other 0
   pub each : (slot : ℕ) (d : Line) → slot < n → ((place : ℕ) × (place < count) × (get_or slots place 0 ≡ slot)) ⊎ IsUnchanged p q (get_or lines slot d)
 
-module _ (p q : ℕ) (lines : List Line) (slots : List ℕ) (n count : ℕ) (so_far : MovingTo p q lines slots n count) where
-  pub moving_skipped : ((d : Line) → IsUnchanged p q (get_or lines n d)) → MovingTo p q lines slots (n + 1) count
-  moving_skipped unchanged = record {
+module _ (p q : ℕ) (lines : List Line) (slots : List ℕ) (n count : ℕ) (so_far : ChangingTo p q lines slots n count) where
+  pub changing_skipped : ((d : Line) → IsUnchanged p q (get_or lines n d)) → ChangingTo p q lines slots (n + 1) count
+  changing_skipped unchanged = record {
     within = λ place below. omega (arith, so_far.within place below);
     in_order = so_far.in_order;
     each = λ slot d below. at slot d below (eqb_tells slot n);
@@ -29,8 +29,8 @@ module _ (p q : ℕ) (lines : List Line) (slots : List ℕ) (n count : ℕ) (so_
       at slot d below (inl same) = inr (subst (λ (k : ℕ). IsUnchanged p q (get_or lines k d)) (sym same.1) (unchanged d))
       at slot d below (inr other) = so_far.each slot d (omega (arith, other.1, below))
 
-  pub moving_listed : count < length slots → MovingTo p q lines (set slots count n) (n + 1) (count + 1)
-  moving_listed room = record {
+  pub changing_listed : count < length slots → ChangingTo p q lines (set slots count n) (n + 1) (count + 1)
+  changing_listed room = record {
     within = below_more (λ place. get_or (set slots count n) place 0 < n + 1) count
         (λ place below. subst (λ (k : ℕ). k < n + 1) (sym (kept place below)) (omega (arith, so_far.within place below)))
         (subst (λ (k : ℕ). k < n + 1) (sym own) (omega arith));
@@ -60,8 +60,8 @@ module _ (p q : ℕ) (lines : List Line) (slots : List ℕ) (n count : ℕ) (so_
       at slot d below (inl same) = inl (count, omega arith, own ∙ sym same.1)
       at slot d below (inr other) = before_it slot d (so_far.each slot d (omega (arith, other.1, below)))
 
-  pub moving_to_end : length lines ≤ n → n ≤ length lines → count ≤ length slots → AreMoving p q lines (take count slots)
-  moving_to_end all high room = record {
+  pub changing_to_end : length lines ≤ n → n ≤ length lines → count ≤ length slots → AreChanging p q lines (take count slots)
+  changing_to_end all high room = record {
     within = λ place below. let early : place < count = omega (arith, counted, below) in omega (arith, read place early, so_far.within place early, high);
     in_order = λ one other before below.
         let early : other < count = omega (arith, counted, below) in
@@ -155,11 +155,11 @@ pub data TakenAt (p q : ℕ) (js slots : List ℕ) (old new : List Line) (n slot
   as_it_was : ((place : ℕ) → place < n → get_or slots place 0 ≢ slot) → get_or new slot d ≡ get_or old slot d → TakenAt p q js slots old new n slot d
 
 -- the next line of the list is as it was
-pub not_yet : (p q : ℕ) (js slots : List ℕ) (old now : List Line) (n : ℕ) (d : Line) → AreMoving p q old slots → n < length slots → TakenAt p q js slots old now n (get_or slots n 0) d → get_or now (get_or slots n 0) d ≡ get_or old (get_or slots n 0) d
+pub not_yet : (p q : ℕ) (js slots : List ℕ) (old now : List Line) (n : ℕ) (d : Line) → AreChanging p q old slots → n < length slots → TakenAt p q js slots old now n (get_or slots n 0) d → get_or now (get_or slots n 0) d ≡ get_or old (get_or slots n 0) d
 not_yet p q js slots old now n d are within (taken place below is committed) = absurd (omega (arith, are.in_order place n below within, is))
 not_yet p q js slots old now n d are within (as_it_was none same) = same
 
-pub taken_next : (p q : ℕ) (js slots : List ℕ) (old now : List Line) (n : ℕ) (f after : Line) → AreMoving p q old slots → n < length slots → length now ≡ length old → IsCommitted p q js (get_or now (get_or slots n 0) f) after
+pub taken_next : (p q : ℕ) (js slots : List ℕ) (old now : List Line) (n : ℕ) (f after : Line) → AreChanging p q old slots → n < length slots → length now ≡ length old → IsCommitted p q js (get_or now (get_or slots n 0) f) after
     → ((slot : ℕ) (d : Line) → slot < length old → TakenAt p q js slots old now n slot d) → (slot : ℕ) (d : Line) → slot < length old → TakenAt p q js slots old (set now (get_or slots n 0) after) (n + 1) slot d
 taken_next p q js slots old now n f after are within counted committed so_far slot d below = pick (eqb_tells slot next) (so_far slot d below)
   where
