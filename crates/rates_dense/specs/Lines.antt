@@ -18,7 +18,7 @@
 --     SameRates old new            the line has the same rates; only the room beside them may differ
 --     IsReady p q quotients js line            the rates after the exchange stand ready at the variables of js, where they change
 --     IsUnchanged p q line         it is not the leaver's line, and its rate at q is 0
---     AreChanging p q lines slots    the slots of the lines that change, in order
+--     AreChanging p q lines slots  the slots of the lines that change, in order
 --     IsCommitted p q js old new   they were taken
 --     IsExchanged p q quotients old new        both, one after the other, with the changed variables
 use Rattle.std.specs.Prelude.{◌≡◌, ◌≢◌, ℕ, ◌+◌, ◌<◌, ◌≤◌, ◌⊎◌, List, length, map, replicate, All, slice_index, slice_index_or, nat_eq, if◌then◌else◌}

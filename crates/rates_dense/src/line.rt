@@ -184,8 +184,8 @@ impl Cell {
     }
 }
 
-/// The leaver's rates over the pivot, which is its rate at `q`, and 1 over the pivot at the leaver itself. Lists the variables where
-/// that isn't 0, and says how many there are.
+/// The leaver's rates over the pivot, which is its rate at `q`, and 1 over the pivot at the leaver itself. Lists the variables
+/// where that isn't 0, and says how many there are.
 pub fn fill_quotients(
     rates: &[Frac],
     p: u32,
