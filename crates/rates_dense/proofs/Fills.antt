@@ -1,11 +1,12 @@
 -- Lists that a loop fills place by place, and the refusals on the way.
-use Rattle.std.proofs.Common.{◌≡◌, ◌≢◌, ℕ, ◌+◌, ◌-◌, ◌<◌, ◌≤◌, ◌⊎◌, inl, inr, List, length, get_or, set, sym, ap, ◌∙◌, arith, below_more, subst}
+use Rattle.std.proofs.Common.{◌≡◌, ◌≢◌, ℕ, ◌+◌, ◌-◌, ◌<◌, ◌≤◌, ◌⊎◌, inl, inr, List, length, get_or, set, sym, ap, ◌∙◌, arith, below_more, subst, cond}
+use Rattle.std.proofs.lemmas.Bool.{eq-eqb, ne_eqb}
 use Rattle.std.proofs.lemmas.List.{get_or-set_same, get_or-set_other, get_or_read}
-use Rattle.exact_values.specs.Rational.{ℚ, zero_ℚ, ◌*ℚ◌}
+use Rattle.exact_values.specs.Rational.{ℚ, zero_ℚ, one_ℚ, ◌*ℚ◌, ◌/ℚ◌}
 use Rattle.frac128.specs.declared.Op.TheVariants.{Sub, Mul, Div}
 use Rattle.lp_definitions.specs.declared.Evidence.{Evidence}
 use Rattle.lp_definitions.specs.LinearProgram.{value_at}
-use Rattle.rates_dense.specs.Lines.{IsFilled, IsListed, AreChanged, IsFilledAt, IsTakenOver}
+use Rattle.rates_dense.specs.Lines.{IsFilled, quotient_at, IsListed, AreChanged, IsFilledAt, IsTakenOver}
 use Rattle.rates_dense.specs.Refusals.{IsRefusal, IsDifferenceRefused, by_product, by_difference, QuotientRefused, of_rate, StayingRefused, of_product, of_difference}
 
 -- one more place is filled
@@ -42,6 +43,15 @@ taken_everywhere js quotients old new f listing same over j low high kept = at (
     at (inl l) = subst (λ (n : ℕ). value_at new n ≡ f n) l.is (over.listed l.place l.within)
     at (inr none) = elim (over.others j low (omega (arith, same, high))) [ inl e ↦ e | inr e ↦ e ∙ kept none ]
 
+-- a quotient at the leaver, and one at another variable
+pub quotient_own : (p q : ℕ) (rates : List ℚ) (j : ℕ) (v pivot : ℚ) → j ≡ p → pivot ≡ value_at rates q → v ≡ one_ℚ /ℚ pivot → v ≡ quotient_at p q rates j
+quotient_own p q rates j v pivot same at_q is =
+    is ∙ ap (λ y. one_ℚ /ℚ y) at_q ∙ sym (ap (λ b. cond b one_ℚ (value_at rates j) /ℚ value_at rates q) (eq-eqb j p same))
+
+pub quotient_other : (p q : ℕ) (rates : List ℚ) (j : ℕ) (v rate pivot : ℚ) → j ≢ p → rate ≡ value_at rates j → pivot ≡ value_at rates q → v ≡ rate /ℚ pivot → v ≡ quotient_at p q rates j
+quotient_other p q rates j v rate pivot other at_j at_q is =
+    is ∙ ap (λ x. x /ℚ pivot) at_j ∙ ap (λ y. value_at rates j /ℚ y) at_q ∙ sym (ap (λ b. cond b one_ℚ (value_at rates j) /ℚ value_at rates q) (ne_eqb j p other))
+
 pub rate_refused : (p q : ℕ) (rates : List ℚ) (k : ℕ) (v pivot : ℚ) (e : Evidence) → k < length rates → v ≡ value_at rates (k + 1) → pivot ≡ value_at rates q → v ≢ zero_ℚ → IsRefusal 1 p q 0 (k + 1) Div v pivot e → QuotientRefused p q rates e
 rate_refused p q rates k v pivot e within at_k at_q apart refusal =
     of_rate (k + 1) (omega arith) (omega arith) (λ zero. apart (at_k ∙ zero))
@@ -55,5 +65,3 @@ rest_refused_at i p q quotients rates j v quotient factor e low high at_v at_quo
     of_difference j low high other (λ zero. apart (at_quotient ∙ zero))
     (subst (λ x. IsRefusal 3 p q i j Sub x (value_at quotients j *ℚ value_at rates q) e) at_v
     (subst (λ x. IsRefusal 3 p q i j Sub v (x *ℚ value_at rates q) e) at_quotient (subst (λ y. IsRefusal 3 p q i j Sub v (quotient *ℚ y) e) at_factor refusal)))
-
--- the rate of a basic that stays: at the enterer, at the leaver, and elsewhere

@@ -8,3 +8,5 @@ mod Exchanges
 mod RefusedLaws
 mod OpeningTable
 pub mod Changes
+pub mod OpeningLines
+pub mod ChangingLines

@@ -1,11 +1,16 @@
 -- What a pass over the lines shows.
-use Rattle.std.proofs.Common.{◌≡◌, ◌≢◌, ℕ, ◌<◌, List, [], ◌++◌, length, take, drop, get_or, sym, ap, ◌∙◌, subst, arith}
+use Rattle.std.proofs.Common.{◌≡◌, ◌≢◌, ℕ, ◌<◌, List, [], ◌∷◌, ◌++◌, length, take, drop, get_or, sym, ap, ◌∙◌, subst, arith}
 use Rattle.std.specs.List.{HoldsAt}
 use Rattle.std.proofs.lemmas.List.{get_or_default, drop_all, append-nil, take_all}
 use Rattle.exact_values.specs.Rational.{ℚ}
 use Rattle.lp_definitions.specs.declared.Evidence.{Evidence}
 use Rattle.rates_dense.specs.declared.line.Line.{Line}
 use Rattle.rates_dense.specs.Refusals.{StayingRefused, SomeLineRefused}
+
+-- a line of a list that has one
+pub some_line : (lines : List Line) (at : ℕ) → at < length lines → Line
+some_line [] at within = absurd (omega arith)
+some_line (line ∷ lines) at within = line
 
 pub some_refused : (p q : ℕ) (quotients : List ℚ) (lines : List Line) (slot : ℕ) (line : Line) (e : Evidence) → slot < length lines → ((d : Line) → get_or lines slot d ≡ line) → line.basic ≢ p → StayingRefused line.basic p q quotients line.rates.items e → SomeLineRefused p q quotients lines e
 some_refused p q quotients lines slot line e within is_line stays refused = record {

@@ -15,6 +15,7 @@ use Rattle.rates_dense.specs.declared.line.Line.{Line}
 use Rattle.rates_dense.specs.Lines.{AreQuotients}
 use Rattle.rates_dense.specs.Table.{IsLine, IsTableOf}
 use Rattle.rates_dense.specs.Refusals.{IsRefusal, QuotientRefused, of_rate, of_one, StayingRefused, of_product, of_difference, of_multiple, LinesRefused, at_leaver, at_another, IsOwn}
+use Rattle.rates_dense.proofs.LineSteps.{some_line}
 use Rattle.rates_dense.proofs.NewLines.{line_entry, quotient_at_basic, quotient_at_nonbasic, quotient_at_leaver}
 use Rattle.rates_dense.proofs.Exchanges.{slot, slot_within, rate_apart, leaver_entry, leaver_at_enterer, nonsingular_then, are_quotients}
 
@@ -38,11 +39,6 @@ own_of formula p q i j op left right e low high h = record {
   same_p = h.names.is_p;
   same_q = h.names.is_q;
 }
-
--- a line of a list that has one
-some_line : (lines : List Line) (at : ℕ) → at < length lines → Line
-some_line [] at within = absurd (omega arith)
-some_line (line ∷ lines) at within = line
 
 pub lines_own : (p q : ℕ) (lines : List Line) (at : ℕ) (e : Evidence) → at < length lines → LinesRefused p q lines at e → IsOwn p q e
 lines_own p q lines at e within (at_leaver h) = leaver (h d)

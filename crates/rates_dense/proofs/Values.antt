@@ -9,8 +9,11 @@ use Rattle.exact_values.proofs.Ring.{by_ring1, ◌≐◌, ◌⊗◌, number, opp
 use Rattle.lp_laws.proofs.Values.{no_divisors}
 use Rattle.exact_values.proofs.Ring_laws.{mul_comm, zero-add, zero-mul, mul-one, add-zero, add-neg}
 
+pub zero_quotient : (x y : ℚ) → x ≡ zero_ℚ → x /ℚ y ≡ zero_ℚ
+zero_quotient x y zero = ap (λ v. v *ℚ inverse_ℚ y) zero ∙ zero-mul (inverse_ℚ y)
+
 pub quotient_of_zero : (x y : ℚ) → x ≡ zero_ℚ → x ≡ x /ℚ y
-quotient_of_zero x y zero = zero ∙ sym (ap (λ v. v *ℚ inverse_ℚ y) zero ∙ zero-mul (inverse_ℚ y))
+quotient_of_zero x y zero = zero ∙ sym (zero_quotient x y zero)
 
 pub neg_zero : neg_ℚ zero_ℚ ≡ zero_ℚ
 neg_zero = sym (zero-add (neg_ℚ zero_ℚ)) ∙ add-neg zero_ℚ

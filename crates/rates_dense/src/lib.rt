@@ -1,23 +1,22 @@
 //! The rates of a matrix as a table: a line for each basic variable, with a place for each variable.
 #![tactic(auto)]
 
-ghost use Rattle.std.specs.Prelude.{◌≡◌, ◌≢◌, ◌<◌, ◌≤◌, ◌^◌, length, All, Contains, IfOk, IfErr, IsOk, OnOk, OnErr, []};
+ghost use Rattle.std.specs.Prelude.{◌≡◌, ◌≢◌, ◌<◌, ◌≤◌, ◌^◌, length, take, All, Contains, IfOk, IfErr, IsOk, OnOk, OnErr, []};
 ghost use Rattle.std.specs.List.{HoldsAt};
 ghost use Rattle.exact_values.specs.Rational.{zero_ℚ};
-ghost use Rattle.lp_definitions.specs.LinearProgram.{size, value_at, Vector, IsVariable};
+ghost use Rattle.lp_definitions.specs.LinearProgram.{size, value_at, Vector};
 ghost use Rattle.lp_definitions.specs.Basis.{IsBasic, IsNonbasic, IsDirectionOf, exchanged, row_basics};
 ghost use Rattle.lp_definitions.specs.Waypoints.{KeepsWaypoints, waypoint};
 ghost use Rattle.lp_model.specs.RatesCalls.{IsRowOf, HasPivot, ExchangeOverflow};
-ghost use Rattle.rates_dense.specs.Lines.{AreQuotients, AreNumbers, HasPlaces, LineByLine, SameRates, IsReady, IsCommitted, IsExchanged};
+ghost use Rattle.rates_dense.specs.Lines.{AreQuotients, AreNumbers, HasPlaces, basics_of, HaveRatesAt, IsTakenOver, LineByLine, AreChanging, SameRates, IsReady, IsCommitted, IsExchanged};
 ghost use Rattle.rates_dense.specs.Placed.{IsPlaced};
-ghost use Rattle.rates_dense.specs.Inverse.{HasRates};
 ghost use Rattle.rates_dense.specs.Refusals.{SomeLineRefused, LinesRefused, IsOwnOverflow};
 
 mod line;
 mod opening;
 
 use frac128::Frac;
-use line::{Line, fill_quotients, list_changed};
+use line::{Line, fill_quotients};
 use lp_model::{Engine, Entry, Evidence, Lp, NoMemory, Rates, Stop};
 use opening::{opening_lines, opening_marks, opening_slots};
 use std::alloc::Global;
@@ -35,6 +34,7 @@ pub struct Dense {
     lines: Vec<Line>,
     quotients: Vec<Frac>,
     changed: Vec<u32>,
+    changing: Vec<usize>,
 }
 
 impl Model for Dense {
@@ -49,9 +49,29 @@ impl Model for Dense {
     ghost invariant = { IsTable };
 }
 
-/// Makes the lines ready for an exchange of `p` for `q`, at the variables of the list.
+/// Lists the slots of the lines that an exchange of `p` for `q` changes, and says how many there are.
+fn list_changing(lines: &[Line], p: u32, q: u32, changing: &mut [usize]) -> usize
+    requires q_low { 1 ≤ q }
+    requires q_high { All (λ line. q ≤ length line.rates.items) lines.now }
+    requires room { length changing.old ≡ length lines.now }
+    ensures within { result ≤ length lines.now }
+    ensures listed { AreChanging p q lines.now (take result changing.new) }
+{
+    let mut count = 0;
+    for (slot, line) in lines.iter().enumerate() {
+        if !line.changes(p, q) {
+            continue;
+        }
+        changing[count] = slot;
+        count += 1;
+    }
+    count
+}
+
+/// Makes the lines that change ready for an exchange of `p` for `q`, at the variables of the list.
 fn prepare_lines(
     lines: &mut [Line],
+    changing: &[usize],
     p: u32,
     q: u32,
     quotients: &[Frac],
@@ -59,6 +79,7 @@ fn prepare_lines(
 ) -> Result<(), Evidence>
     requires q_low { 1 ≤ q }
     requires q_high { q ≤ length quotients.now }
+    requires changing { AreChanging p q lines.old changing.now }
     requires variables { AreNumbers (length quotients.now) changed.now }
     requires listed { length changed.now ≤ length quotients.now }
     requires places { All (HasPlaces (length quotients.now)) lines.old }
@@ -66,23 +87,31 @@ fn prepare_lines(
     ensures ready { OnOk result (All (IsReady p q quotients.now changed.now) lines.new) }
     ensures refused { IfErr result (SomeLineRefused p q quotients.now lines.old) }
 {
-    for line in lines.iter_mut() {
-        line.prepare(p, q, quotients, changed)?;
+    for slot in changing {
+        lines[*slot].prepare(p, q, quotients, changed)?;
     }
     Ok(())
 }
 
 /// Takes what was made ready.
-fn commit_lines(lines: &mut [Line], size: usize, p: u32, q: u32, changed: &[u32])
+fn commit_lines(
+    lines: &mut [Line],
+    changing: &[usize],
+    size: usize,
+    p: u32,
+    q: u32,
+    changed: &[u32],
+)
     requires q_low { 1 ≤ q }
     requires q_high { q ≤ size }
+    requires changing { AreChanging p q lines.old changing.now }
     requires variables { AreNumbers size changed.now }
     requires listed { length changed.now ≤ size }
     requires places { All (HasPlaces size) lines.old }
     ensures { LineByLine (IsCommitted p q changed.now) lines.old lines.new }
 {
-    for line in lines.iter_mut() {
-        line.commit(p, q, changed);
+    for slot in changing {
+        lines[*slot].commit(p, q, changed);
     }
 }
 
@@ -97,8 +126,27 @@ fn line_of<'a>(slots: &[u32], lines: &'a [Line], k: u32) -> &'a Line
     &lines[slots[k as usize - 1] as usize]
 }
 
+/// Writes the rate of each line at `j` to the place of its basic, where there were zeros.
+fn take_rates(lines: &[Line], j: u32, out: &mut [Frac])
+    requires low { 1 ≤ j }
+    requires high { j ≤ length out.old }
+    requires basics { AreNumbers (length out.old) (basics_of lines.now) }
+    requires places { All (HasPlaces (length out.old)) lines.now }
+    requires zeros { All (λ v. v ≡ zero_ℚ) out.old }
+    ensures { (f : Vector) → HaveRatesAt j lines.now f → IsTakenOver (basics_of lines.now) out.old
+        out.new f }
+{
+    for line in lines {
+        let rate = line.rates[j as usize - 1];
+        if rate.is_zero() {
+            continue;
+        }
+        out[line.basic as usize - 1] = rate;
+    }
+}
+
 /// Makes the lines after an exchange of `p`, whose line has this slot, for `q`. `quotients` is room for the leaver's rates over the
-/// pivot, and `changed` for the numbers of those that aren't 0.
+/// pivot, `changed` for the numbers of those that aren't 0, and `changing` for the slots of the lines that change.
 fn exchange_lines(
     lines: &mut [Line],
     slot: usize,
@@ -106,11 +154,13 @@ fn exchange_lines(
     q: u32,
     quotients: &mut [Frac],
     changed: &mut [u32],
+    changing: &mut [usize],
 ) -> Result<(), Evidence>
     requires q_low { 1 ≤ q }
     requires q_high { q ≤ length quotients.old }
     requires small { length quotients.old < 2 ^ 32 }
     requires room { length changed.old ≡ length quotients.old }
+    requires slots { length changing.old ≡ length lines.old }
     requires places { All (HasPlaces (length quotients.old)) lines.old }
     requires slot { slot < length lines.old }
     requires pivot { HoldsAt (λ leaver. value_at leaver.rates.items q ≢ zero_ℚ) lines.old slot }
@@ -120,38 +170,16 @@ fn exchange_lines(
     ensures err { OnErr result (LineByLine SameRates lines.old lines.new) }
     ensures refused { IfErr result (LinesRefused p q lines.old slot) }
 {
-    fill_quotients(&lines[slot].rates, p, q, quotients)?;
-    let count = list_changed(quotients, changed);
+    let count = fill_quotients(&lines[slot].rates, p, q, quotients, changed)?;
     let changed = &changed[..count];
-    prepare_lines(lines, p, q, quotients, changed)?;
-    commit_lines(lines, quotients.len(), p, q, changed);
+    let count = list_changing(lines, p, q, changing);
+    let changing = &changing[..count];
+    prepare_lines(lines, changing, p, q, quotients, changed)?;
+    commit_lines(lines, changing, quotients.len(), p, q, changed);
     Ok(())
 }
 
 impl Dense {
-    /// The number of variables. The basics have rates.
-    fn size(&self) -> u32
-        ensures size { result ≡ size self.now.matrix }
-        ensures rates { HasRates self.now.matrix self.now.basics }
-    {
-        self.rows + self.cols
-    }
-
-    /// The entry at `k` of the direction of the nonbasic `j`.
-    fn entry(&self, j: u32, k: u32) -> Frac
-        requires nonbasic { IsNonbasic self.now.matrix self.now.basics j }
-        requires variable { IsVariable self.now.matrix k }
-        ensures { (d : Vector) → IsDirectionOf self.now.matrix self.now.basics j d → result ≡ d k }
-    {
-        if self.marks[k as usize - 1] {
-            line_of(&self.slots, &self.lines, k).rates[j as usize - 1]
-        } else if k == j {
-            Frac::whole(1)
-        } else {
-            Frac::whole(0)
-        }
-    }
-
     /// All rows are basic.
     pub fn new(alloc: Global, lp: &Lp) -> Result<Dense, NoMemory>
         ensures matrix { IfOk result (λ table. table.matrix ≡ lp.now.matrix) }
@@ -167,6 +195,7 @@ impl Dense {
             lines: opening_lines(alloc, lp)?,
             quotients: vec![in alloc; Frac::whole(0); size as usize]?,
             changed: vec![in alloc; 0; size as usize]?,
+            changing: vec![in alloc; 0; lp.rows as usize]?,
         })
     }
 }
@@ -188,9 +217,9 @@ impl Rates for Dense {
         ensures always { IsOk result }
         ensures same { self.new ≡ self.old }
     {
-        for k in 0..self.size() {
-            out[k as usize] = self.entry(j, k + 1);
-        }
+        out.fill(Frac::whole(0));
+        take_rates(&self.lines, j, out);
+        out[j as usize - 1] = Frac::whole(1);
         Ok(())
     }
 
@@ -228,6 +257,7 @@ impl Rates for Dense {
             q,
             &mut self.quotients,
             &mut self.changed,
+            &mut self.changing,
         ) {
             return Err(Stop::Overflow(evidence));
         }

@@ -1,14 +1,15 @@
 //! The lines of the table, and what an exchange makes of them.
 
-ghost use Rattle.std.specs.Prelude.{◌≡◌, ◌≢◌, ℕ, ◌<◌, ◌≤◌, ◌^◌, length, take, IfOk, IfErr, IfSome, OnOk, OnErr};
+ghost use Rattle.std.specs.Prelude.{◌≡◌, ◌≢◌, ℕ, false, ◌<◌, ◌≤◌, ◌^◌, length, take, IfOk, IfErr, IfSome, OnOk, OnErr};
 ghost use Rattle.exact_values.specs.Rational.{ℚ, zero_ℚ, one_ℚ, ◌-ℚ◌, ◌*ℚ◌, ◌/ℚ◌};
 ghost use Rattle.lp_definitions.specs.LinearProgram.{value_at};
 ghost use Rattle.lp_definitions.specs.RatesEvidence.{Names};
-ghost use Rattle.rates_dense.specs.Lines.{IsFilled, quotient_at, AreNumbers, AreChanged, IsFilledAt, IsTakenOver, entering_rate, staying_rate, SameRates, IsReady, IsCommitted};
+ghost use Rattle.rates_dense.specs.Lines.{IsFilled, quotient_at, AreNumbers, AreChanged, IsFilledAt, IsTakenOver, entering_rate, staying_rate, IsBlankLine, IsWritten, IsUnchanged, SameRates, IsReady, IsCommitted};
 ghost use Rattle.rates_dense.specs.Refusals.{IsRefusal, IsDifferenceRefused, QuotientRefused, StayingRefused};
 
 use frac128::{Frac, Op, Refused};
-use lp_model::Evidence;
+use lp_model::{Evidence, NoMemory};
+use std::alloc::Global;
 
 /// The rates of a basic variable: a place for each variable, with 0 at the basics. `next` is room for those that an exchange changes.
 #[derive(Drop)]
@@ -183,49 +184,43 @@ impl Cell {
     }
 }
 
-/// The leaver's rates over the pivot, which is its rate at `q`, and 1 over the pivot at the leaver itself.
+/// The leaver's rates over the pivot, which is its rate at `q`, and 1 over the pivot at the leaver itself. Lists the variables
+/// where that isn't 0, and says how many there are.
 pub fn fill_quotients(
     rates: &[Frac],
     p: u32,
     q: u32,
     quotients: &mut [Frac],
-) -> Result<(), Evidence>
+    changed: &mut [u32],
+) -> Result<usize, Evidence>
     requires q_low { 1 ≤ q }
     requires q_high { q ≤ length rates.now }
     requires small { length rates.now < 2 ^ 32 }
     requires room { length quotients.old ≡ length rates.now }
+    requires list { length changed.old ≡ length rates.now }
     requires pivot { value_at rates.now q ≢ zero_ℚ }
     ensures filled { OnOk result (IsFilled quotients.new (quotient_at p q rates.now)) }
+    ensures within { IfOk result (λ count. count ≤ length quotients.new) }
+    ensures listed { IfOk result (λ count. AreChanged (take count changed.new) quotients.new) }
     ensures refused { IfErr result (QuotientRefused p q rates.now) }
 {
     let pivot = rates[q as usize - 1];
+    let mut count = 0;
     for (k, rate) in rates.iter().enumerate() {
         let j = k as u32 + 1;
+        if j != p && rate.is_zero() {
+            quotients[k] = *rate;
+            continue;
+        }
         quotients[k] = if j == p {
             Cell { p, q, i: 0, j: 0 }.reciprocal(pivot)?
         } else {
             Cell { p, q, i: 0, j }.quotient(*rate, pivot)?
         };
-    }
-    Ok(())
-}
-
-/// Lists the variables whose quotient isn't 0, and says how many there are.
-pub fn list_changed(quotients: &[Frac], changed: &mut [u32]) -> usize
-    requires small { length quotients.now < 2 ^ 32 }
-    requires room { length changed.old ≡ length quotients.now }
-    ensures within { result ≤ length quotients.now }
-    ensures listed { AreChanged (take result changed.new) quotients.now }
-{
-    let mut count = 0;
-    for (k, quotient) in quotients.iter().enumerate() {
-        if quotient.is_zero() {
-            continue;
-        }
-        changed[count] = k as u32 + 1;
+        changed[count] = j;
         count += 1;
     }
-    count
+    Ok(count)
 }
 
 /// The enterer's rates at the variables of the list, from the quotients.
@@ -295,6 +290,35 @@ fn take_over(changed: &[u32], next: &[Frac], rates: &mut [Frac])
 }
 
 impl Line {
+    /// The line of a basic, with zeros.
+    pub fn blank(alloc: Global, basic: u32, size: u32) -> Result<Line, NoMemory>
+        ensures { IfOk result (IsBlankLine size basic) }
+    {
+        Ok(Line {
+            basic,
+            rates: vec![in alloc; Frac::whole(0); size as usize]?,
+            next: vec![in alloc; Frac::whole(0); size as usize]?,
+        })
+    }
+
+    /// Writes the rate at `j`.
+    pub fn write(&mut self, j: u32, rate: Frac)
+        requires low { 1 ≤ j }
+        requires high { j ≤ length self.old.rates.items }
+        ensures { IsWritten j rate self.old self.new }
+    {
+        self.rates[j as usize - 1] = rate;
+    }
+
+    /// Whether an exchange of `p` for `q` changes the line: it is the leaver's, or its rate at `q` isn't 0.
+    pub fn changes(&self, p: u32, q: u32) -> bool
+        requires q_low { 1 ≤ q }
+        requires q_high { q ≤ length self.now.rates.items }
+        ensures { result ≡ false → IsUnchanged p q self.now }
+    {
+        self.basic == p || !self.rates[q as usize - 1].is_zero()
+    }
+
     /// Makes ready the rates that an exchange of `p` for `q` changes, at the variables of the list.
     pub fn prepare(
         &mut self,

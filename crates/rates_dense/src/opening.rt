@@ -1,66 +1,61 @@
 //! The table where all rows are basic.
 
-ghost use Rattle.std.specs.Prelude.{◌≡◌, IfOk};
-ghost use Rattle.lp_definitions.specs.LinearProgram.{IsRow, IsVariable, on_row};
+ghost use Rattle.std.specs.Prelude.{◌≡◌, ◌≤◌, length, All, IfOk};
+ghost use Rattle.exact_values.specs.Rational.{zero_ℚ};
+ghost use Rattle.lp_definitions.specs.LinearProgram.{size, value_at};
 ghost use Rattle.lp_definitions.specs.Basis.{row_basics};
-ghost use Rattle.rates_dense.specs.Opening.{opening_entry, IsOpeningLine, AreOpeningLines, AreInOrder};
+ghost use Rattle.rates_dense.specs.Lines.{IsNumberOf};
+ghost use Rattle.rates_dense.specs.Opening.{AreBlankLines, AreWritten, AreOpeningLines, AreInOrder};
 
 use crate::line::Line;
-use frac128::Frac;
 use lp_model::{Entry, Lp, NoMemory};
 use std::alloc::Global;
 
-/// The number that a column has on row `i`.
-fn number_on(column: &[Entry], i: u32) -> Frac
-    ensures { result ≡ on_row column.now i }
+/// A line of zeros for each row, in order.
+fn blank_lines(alloc: Global, rows: u32, size: u32) -> Result<Vec<Line>, NoMemory>
+    ensures { IfOk result (λ lines. AreBlankLines size rows lines.items) }
 {
-    for entry in column {
-        if entry.row == i {
-            return entry.value;
-        }
+    let mut lines = Vec::with_capacity(alloc, rows as usize)?;
+    for k in 0..rows {
+        lines
+            .push(Line::blank(alloc, k + 1, size)?)
+            .map_err(|_| NoMemory)?;
     }
-    Frac::whole(0)
+    Ok(lines)
 }
 
-/// The entry of the line of row `i` at `j`: the number of a column, and 0 at a row.
-fn entry_at(lp: &Lp, i: u32, j: u32) -> Frac
-    requires { IsVariable lp.now.matrix j }
-    ensures { result ≡ opening_entry lp.now.matrix i j }
+/// Writes the numbers of a column, which is variable `j`, into the lines of their rows, from the last to the first.
+fn write_column(column: &[Entry], j: u32, lines: &mut [Line])
+    requires low { 1 ≤ j }
+    requires high { All (λ line. j ≤ length line.rates.items) lines.old }
+    requires rows { All (λ entry. IsNumberOf (length lines.old) entry.row) column.now }
+    requires zeros { All (λ line. value_at line.rates.items j ≡ zero_ℚ) lines.old }
+    ensures { AreWritten j column.now lines.old lines.new }
 {
-    if j <= lp.rows {
-        Frac::whole(0)
-    } else {
-        number_on(lp.column(j - lp.rows), i)
+    let count = column.len();
+    for back in 0..count {
+        let entry = &column[count - 1 - back];
+        lines[entry.row as usize - 1].write(j, entry.value);
     }
 }
 
-/// The line of row `i`.
-fn opening_line(alloc: Global, lp: &Lp, i: u32) -> Result<Line, NoMemory>
-    requires { IsRow lp.now.matrix i }
-    ensures { IfOk result (IsOpeningLine lp.now.matrix i) }
+/// Writes the numbers of all columns into lines of zeros.
+fn write_columns(lp: &Lp, lines: &mut [Line])
+    requires { AreBlankLines (size lp.now.matrix) lp.now.matrix.rows lines.old }
+    ensures { AreOpeningLines lp.now.matrix lp.now.matrix.rows lines.new }
 {
-    let size = lp.number_of_variables();
-    let mut rates = Vec::with_capacity(alloc, size as usize)?;
-    for k in 0..size {
-        rates.push(entry_at(lp, i, k + 1)).map_err(|_| NoMemory)?;
+    let _size = lp.number_of_variables();
+    for k in 0..lp.cols {
+        write_column(lp.column(k + 1), lp.rows + k + 1, lines);
     }
-    Ok(Line {
-        basic: i,
-        rates,
-        next: vec![in alloc; Frac::whole(0); size as usize]?,
-    })
 }
 
 /// The lines of all rows, in order.
 pub fn opening_lines(alloc: Global, lp: &Lp) -> Result<Vec<Line>, NoMemory>
     ensures { IfOk result (λ lines. AreOpeningLines lp.now.matrix lp.now.matrix.rows lines.items) }
 {
-    let mut lines = Vec::with_capacity(alloc, lp.rows as usize)?;
-    for k in 0..lp.rows {
-        lines
-            .push(opening_line(alloc, lp, k + 1)?)
-            .map_err(|_| NoMemory)?;
-    }
+    let mut lines = blank_lines(alloc, lp.rows, lp.number_of_variables())?;
+    write_columns(lp, &mut lines);
     Ok(lines)
 }
 

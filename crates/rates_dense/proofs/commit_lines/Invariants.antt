@@ -1,11 +1,8 @@
-use Rattle.std.proofs.Common.{◌≡◌, ℕ, ◌<◌, ◌≤◌, get_or}
+use Rattle.std.proofs.Common.{ℕ, ◌<◌, length}
 use Rattle.rates_dense.specs.declared.line.Line.{Line}
-use Rattle.rates_dense.specs.Lines.{IsCommitted}
+use Rattle.rates_dense.proofs.ChangingLines.{TakenAt}
 use Rattle.rates_dense.proofs.commit_lines.Given as goal
 
--- the lines so far are committed, and the others as they were
-abbrev pub invariant-loop-line : goal.invariant-loop-line
-invariant-loop-line l = record {
-  committed : (slot : ℕ) (d : Line) → slot < l.line-index → IsCommitted l.p l.q l.changed (get_or l.fn.lines slot d) (get_or l.lines slot d);
-  untouched : (slot : ℕ) (d : Line) → l.line-index ≤ slot → get_or l.lines slot d ≡ get_or l.fn.lines slot d;
-}
+-- the lines of the list so far are committed, and the others as they were
+abbrev pub invariant-loop-slot : goal.invariant-loop-slot
+invariant-loop-slot l = (slot : ℕ) (d : Line) → slot < length l.fn.lines → TakenAt l.p l.q l.changed l.changing l.fn.lines l.lines l.slot-index slot d

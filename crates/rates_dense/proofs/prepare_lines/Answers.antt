@@ -1,14 +1,25 @@
-use Rattle.std.proofs.Common.{rules, arith, ◌≡◌, ◌<◌, ◌∙◌, Err, sym, length, get_or}
-use Rattle.std.proofs.lemmas.List.{get_or_default}
-use Rattle.rates_dense.proofs.LineSteps.{some_refused}
+use Rattle.std.proofs.Common.{rules, arith, ◌≡◌, ◌<◌, Err, length, get_or}
+use Rattle.rates_dense.proofs.ChangingLines.{same_more, ready_more, refused_same}
 use Rattle.rates_dense.proofs.prepare_lines.Goals as goal
+
+pub returns-in_err-prepare-clause-same : goal.returns-in_err-prepare-clause-same
+returns-in_err-prepare-clause-same c =
+    let slot = get_or c.args.changing.now c.loop-slot.slot-index 0 in
+    let inside : slot < length c.loop-slot.lines = omega (arith, c.requires.changing.within c.loop-slot.slot-index c.loop-slot-test.true, c.loop-slot.auto.lines) in
+    same_more c.args.lines.now c.loop-slot.lines slot c.index-lines-slot.result c.prepare.new.self inside c.loop-slot.invariant.same c.prepare.ensures.same
 
 pub returns-in_err-prepare-clause-refused : goal.returns-in_err-prepare-clause-refused
 returns-in_err-prepare-clause-refused c =
+    let slot = get_or c.args.changing.now c.loop-slot.slot-index 0 in
     let is_err : c.from_residual.result ≡ Err c.in_err-prepare.field-0.0 = search rules in
-    let within : c.loop-line.line-index < length c.loop-line.lines = search rules in
     rw is_err
-    (some_refused c.args.p c.args.q c.args.quotients.now c.args.lines.now c.loop-line.line-index (get_or c.loop-line.lines c.loop-line.line-index c.line-item.result) c.in_err-prepare.field-0.0
-    (search rules)
-    (λ d. sym (c.loop-line.invariant.untouched c.loop-line.line-index d (omega arith)) ∙ get_or_default c.loop-line.lines c.loop-line.line-index d c.line-item.result within)
+    (refused_same c.args.p c.args.q c.args.quotients.now c.args.lines.now c.loop-slot.lines slot c.index-lines-slot.result c.in_err-prepare.field-0.0
+    (c.requires.changing.within c.loop-slot.slot-index c.loop-slot-test.true) c.loop-slot.auto.lines c.loop-slot.invariant.same
     c.in_err-prepare.ensures.stays c.in_err-prepare.ensures.refused)
+
+pub loop-slot-preserved : goal.loop-slot-preserved
+loop-slot-preserved c =
+    let slot = get_or c.args.changing.now c.loop-slot.slot-index 0 in
+    let inside : slot < length c.loop-slot.lines = omega (arith, c.requires.changing.within c.loop-slot.slot-index c.loop-slot-test.true, c.loop-slot.auto.lines) in
+    ready_more c.args.p c.args.q c.args.quotients.now c.args.changed.now c.args.changing.now c.args.lines.now c.loop-slot.lines c.loop-slot.slot-index c.index-lines-slot.result c.prepare.new.self
+    inside c.prepare.ensures.same c.in_ok-prepare.ensures.ready c.loop-slot.invariant
