@@ -30,10 +30,6 @@ read_at xs k v within is = let same : k + 1 - 1 ≡ k = omega arith in get_or_re
 pub read_filled : (js : List ℕ) (xs : List ℚ) (f : ℕ → ℚ) (place : ℕ) (v : ℚ) → place < length js → length js ≤ length xs → IsFilledAt js xs f → v ≡ get_or xs place v → v ≡ f (get_or js place 0)
 read_filled js xs f place v within room filled is = get_or_read xs place v (omega (arith, within, room)) is zero_ℚ ∙ filled place within
 
--- and at a variable's own place
-pub read_of : (xs : List ℚ) (j : ℕ) (v : ℚ) → 1 ≤ j → j ≤ length xs → v ≡ get_or xs (j - 1) v → v ≡ value_at xs j
-read_of xs j v low high is = let within : j - 1 < length xs = omega arith in get_or_read xs (j - 1) v within is zero_ℚ
-
 -- what was taken over at the variables of a list has the values everywhere, where the others keep theirs
 pub taken_everywhere : (js : List ℕ) (quotients old new : List ℚ) (f : ℕ → ℚ) → AreChanged js quotients → length old ≡ length quotients → IsTakenOver js old new f
     → (j : ℕ) → 1 ≤ j → j ≤ length quotients → (value_at quotients j ≡ zero_ℚ → value_at old j ≡ f j) → value_at new j ≡ f j

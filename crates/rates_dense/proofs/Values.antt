@@ -2,24 +2,18 @@
 use Rattle.std.specs.Prelude.{Bool, Option, Some, None, IfSome}
 use Rattle.std.specs.Cmp.{Equal-is}
 use Rattle.std.proofs.Common.{refl, true, pos, negsuc, ◌≡◌, ◌≢◌, sym, ◌∙◌, ap}
-use Rattle.exact_values.specs.Rational.{ℚ, whole, zero_ℚ, one_ℚ, compare_ℚ, neg_ℚ, inverse_ℚ, ◌+ℚ◌, ◌-ℚ◌, ◌*ℚ◌, ◌/ℚ◌}
+use Rattle.exact_values.specs.Rational.{ℚ, whole, zero_ℚ, compare_ℚ, neg_ℚ, inverse_ℚ, ◌+ℚ◌, ◌-ℚ◌, ◌*ℚ◌, ◌/ℚ◌}
 use Rattle.exact_values.proofs.Inverse.{inverse_apart, div_is, one_apart}
 use Rattle.exact_values.proofs.Compare.{parts_equal, compare_ties, same_from_compare}
 use Rattle.exact_values.proofs.Ring.{by_ring1, ◌≐◌, ◌⊗◌, number, opposite}
 use Rattle.lp_laws.proofs.Values.{no_divisors}
-use Rattle.exact_values.proofs.Ring_laws.{mul_comm, zero-add, zero-mul, mul-one, add-zero, add-neg}
+use Rattle.exact_values.proofs.Ring_laws.{mul_comm, zero-add, zero-mul, add-zero, add-neg}
 
 pub zero_quotient : (x y : ℚ) → x ≡ zero_ℚ → x /ℚ y ≡ zero_ℚ
 zero_quotient x y zero = ap (λ v. v *ℚ inverse_ℚ y) zero ∙ zero-mul (inverse_ℚ y)
 
-pub quotient_of_zero : (x y : ℚ) → x ≡ zero_ℚ → x ≡ x /ℚ y
-quotient_of_zero x y zero = zero ∙ sym (zero_quotient x y zero)
-
 pub neg_zero : neg_ℚ zero_ℚ ≡ zero_ℚ
 neg_zero = sym (zero-add (neg_ℚ zero_ℚ)) ∙ add-neg zero_ℚ
-
-pub zero_less : (x y : ℚ) → x ≡ zero_ℚ → neg_ℚ y ≡ x -ℚ y
-zero_less x y zero = sym (ap (λ v. v -ℚ y) zero ∙ zero-add (neg_ℚ y))
 
 -- a quotient is 0 only where the dividend is
 pub zero_from_quotient : (x y : ℚ) → y ≢ zero_ℚ → x /ℚ y ≡ zero_ℚ → x ≡ zero_ℚ
@@ -38,14 +32,8 @@ minus_one_apart : whole (negsuc 0) ≢ zero_ℚ
 minus_one_apart e =
     one_apart (by_ring1 zero_ℚ (λ x. number (pos 1) ≐ number (negsuc 0) ⊗ number (negsuc 0)) refl ∙ ap (λ u. u *ℚ whole (negsuc 0)) e ∙ zero-mul (whole (negsuc 0)))
 
-pub times_one : (x f : ℚ) → f ≡ one_ℚ → x ≡ x *ℚ f
-times_one x f e = sym (ap (λ u. x *ℚ u) e ∙ mul-one x)
-
 pub times_minus_one : (x f : ℚ) → f ≡ whole (negsuc 0) → neg_ℚ x ≡ x *ℚ f
 times_minus_one x f e = by_ring1 x (λ x. opposite x ≐ x ⊗ number (negsuc 0)) refl ∙ ap (λ u. x *ℚ u) (sym e)
-
-pub over_one : (x f : ℚ) → f ≡ one_ℚ → x ≡ x /ℚ f
-over_one x f e = sym (div_is x f x (λ none. one_apart (sym e ∙ none)) (times_one x f e))
 
 pub over_minus_one : (x f : ℚ) → f ≡ whole (negsuc 0) → neg_ℚ x ≡ x /ℚ f
 over_minus_one x f e =

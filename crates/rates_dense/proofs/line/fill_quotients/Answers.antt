@@ -2,11 +2,12 @@ use Rattle.std.proofs.Common.{rules, arith, ◌≡◌, ◌+◌, ◌<◌, ◌∙�
 use Rattle.exact_values.specs.Rational.{zero_ℚ}
 use Rattle.lp_definitions.specs.LinearProgram.{value_at}
 use Rattle.rates_dense.specs.Lines.{quotient_at}
-use Rattle.rates_dense.proofs.Fills.{filled_more, quotient_own, quotient_other, rate_refused, read_at, read_of}
+use Rattle.rates_dense.proofs.Fills.{filled_more, quotient_own, quotient_other, rate_refused, read_at}
 use Rattle.rates_dense.proofs.Changes.{listed_zero, listed_more, listed_to_end}
 use Rattle.rates_dense.proofs.Values.{zero_quotient}
 use Rattle.rates_dense.proofs.line.fill_quotients.Goals.{then-j-p-2+in_ok-reciprocal, else-j-p-2+in_ok-quotients}
 use Rattle.rates_dense.proofs.line.fill_quotients.Goals as goal
+use Rattle.lp_laws.proofs.Places.{value_at_place}
 
 pub returns-in_err-quotients-clause-refused : goal.returns-in_err-quotients-clause-refused
 returns-in_err-quotients-clause-refused c =
@@ -14,7 +15,7 @@ returns-in_err-quotients-clause-refused c =
     rw is_err
     (rate_refused c.args.p c.args.q c.args.rates.now c.loop-k.k c.index-rates-k.result c.index-rates-q.result c.in_err-quotients.field-0.0
     (search rules) (read_at c.args.rates.now c.loop-k.k c.index-rates-k.result (search rules) c.index-rates-k.is)
-    (read_of c.args.rates.now c.args.q c.index-rates-q.result c.requires.q_low c.requires.q_high c.index-rates-q.is)
+    (value_at_place c.args.rates.now c.args.q c.index-rates-q.result c.requires.q_low c.requires.q_high c.index-rates-q.is)
     c.in_err-quotients.ensures.needed c.in_err-quotients.ensures.refused)
 
 pub loop-k-preserved-then-is_zero : goal.loop-k-preserved-then-is_zero
@@ -39,7 +40,7 @@ loop-k-preserved c =
     let f = quotient_at c.args.p c.args.q c.args.rates.now in
     let j = c.loop-k.k + 1 in
     let here : c.index-rates-k.result ≡ value_at c.args.rates.now j = read_at c.args.rates.now c.loop-k.k c.index-rates-k.result within c.index-rates-k.is in
-    let pivot : c.index-rates-q.result ≡ value_at c.args.rates.now c.args.q = read_of c.args.rates.now c.args.q c.index-rates-q.result c.requires.q_low c.requires.q_high c.index-rates-q.is in
+    let pivot : c.index-rates-q.result ≡ value_at c.args.rates.now c.args.q = value_at_place c.args.rates.now c.args.q c.index-rates-q.result c.requires.q_low c.requires.q_high c.index-rates-q.is in
     let is : c.if-j-p-2.quotients ≡ f j = elim c.if-j-p-2.branch [
       | then-j-p-2+in_ok-reciprocal w ↦ quotient_own c.args.p c.args.q c.args.rates.now j c.if-j-p-2.quotients c.index-rates-q.result w.if-j-p-2.true pivot (w.quotients-is ∙ w.in_ok-reciprocal.ensures.value)
       | else-j-p-2+in_ok-quotients w ↦ quotient_other c.args.p c.args.q c.args.rates.now j c.if-j-p-2.quotients c.index-rates-k.result c.index-rates-q.result w.if-j-p-2.false here pivot (w.quotients-is ∙ w.in_ok-quotients.ensures.value)
