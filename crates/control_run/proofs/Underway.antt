@@ -15,16 +15,16 @@ use Rattle.question_definitions.specs.Solving.{Solving}
 use Rattle.run_definitions.specs.State.{State, start}
 use Rattle.run_definitions.specs.Moves.{Gain, printed_by, punched_by, Outcome, Goes as GoesOn, Ends as EndsRun}
 use Rattle.run_definitions.specs.Run.{Step, Reaches, begun, stepped, is_over, is_ended, at_end, at_limit}
-use Rattle.control_run.specs.declared.act.Halt.{Halt}
-use Rattle.control_run.specs.declared.act.Halt.TheVariants as halt
-use Rattle.control_run.specs.declared.act.AfterStatement.{AfterStatement}
-use Rattle.control_run.specs.declared.act.AfterStatement.TheVariants.{Goes, Ends}
-use Rattle.control_run.specs.declared.end.End.{End}
-use Rattle.control_run.specs.Machines.{Machine}
-use Rattle.control_run.specs.Ends.{end_shown}
-use Rattle.control_run.specs.Standing.{IsSound, Stands}
-use Rattle.control_run.specs.Statements.{gain_text, gain_of}
-use Rattle.control_run.specs.Punching.{gain_cards}
+use Rattle.run_machine.specs.declared.act.Halt.{Halt}
+use Rattle.run_machine.specs.declared.act.Halt.TheVariants as halt
+use Rattle.run_machine.specs.declared.act.AfterStatement.{AfterStatement}
+use Rattle.run_machine.specs.declared.act.AfterStatement.TheVariants.{Goes, Ends}
+use Rattle.run_machine.specs.declared.end.End.{End}
+use Rattle.run_machine.specs.Machines.{Machine}
+use Rattle.run_machine.specs.Ends.{end_shown}
+use Rattle.run_machine.specs.Standing.{IsSound, Stands}
+use Rattle.run_machine.specs.Statements.{gain_text, gain_of}
+use Rattle.run_machine.specs.Punching.{gain_cards}
 use Rattle.control_run.specs.Running.{decks_behind, by_itself, for_memory, for_memory_of_punch, for_punch_fault, Turns, IsStepCut, IsDeckCut, Steps, RunsTo, IsRunCut, Runs}
 use Rattle.control_run.proofs.Gains.{reports_text_more, card_text_more, gains_whole, front_of_whole, gains_front_at_fault, gains_front_for_memory}
 

@@ -22,16 +22,16 @@ use Rattle.run_definitions.specs.State.{State}
 use Rattle.run_definitions.specs.Moves.{Gain, Outcome, Goes as GoesOn, Ends as EndsRun}
 use Rattle.run_definitions.specs.Run.{max_executed, Step, Reaches, IsRun}
 use Rattle.run_definitions.specs.Answer.{Gains, IsPunching}
-use Rattle.control_run.specs.declared.act.Halt.{Halt}
-use Rattle.control_run.specs.declared.act.Halt.TheVariants as halt
-use Rattle.control_run.specs.declared.act.AfterStatement.{AfterStatement}
-use Rattle.control_run.specs.declared.act.AfterStatement.TheVariants.{Goes, Ends}
-use Rattle.control_run.specs.declared.end.End.{End}
-use Rattle.control_run.specs.Machines.{Machine}
-use Rattle.control_run.specs.Ends.{end_shown}
-use Rattle.control_run.specs.Standing.{Stands}
-use Rattle.control_run.specs.Statements.{gain_text, gain_of}
-use Rattle.control_run.specs.Punching.{gain_cards}
+use Rattle.run_machine.specs.declared.act.Halt.{Halt}
+use Rattle.run_machine.specs.declared.act.Halt.TheVariants as halt
+use Rattle.run_machine.specs.declared.act.AfterStatement.{AfterStatement}
+use Rattle.run_machine.specs.declared.act.AfterStatement.TheVariants.{Goes, Ends}
+use Rattle.run_machine.specs.declared.end.End.{End}
+use Rattle.run_machine.specs.Machines.{Machine}
+use Rattle.run_machine.specs.Ends.{end_shown}
+use Rattle.run_machine.specs.Standing.{Stands}
+use Rattle.run_machine.specs.Statements.{gain_text, gain_of}
+use Rattle.run_machine.specs.Punching.{gain_cards}
 
 -- the decks of the cards after a program
 abbrev pub decks_behind : Program → List (List ℕ) → List (List Card)

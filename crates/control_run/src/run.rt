@@ -5,21 +5,19 @@ ghost use Rattle.std.specs.Io.KnownBytes.{Appends};
 ghost use Rattle.job_devices.specs.Causes.{Rose};
 ghost use Rattle.run_definitions.specs.Answer.{Job, bytes_of, IsProgramOf, IsAnswered};
 ghost use Rattle.answer_definitions.specs.Real.{linear_programming};
-ghost use Rattle.control_run.specs.Ends.{code_of, IsStatusOfRun};
+ghost use Rattle.control_run.specs.Statuses.{code_of, IsStatusOfRun};
 ghost use Rattle.control_run.specs.Finishing.{failures_in_run};
 ghost use Rattle.control_run.specs.Running.{Runs, IsRunAnswer};
 
-use crate::act::{AfterStatement, Halt};
-use crate::end::End;
 use crate::execute::step;
 use crate::finish::{finish, finish_halted};
-use crate::machine::{Machine, Setup};
 use crate::status::Status;
 use card_reader::Cards;
 use control_compiler::Program;
 use job_devices::Sink;
 use lp_model::Engine;
 use reinversion::ProductForm;
+use run_machine::{AfterStatement, End, Halt, Machine, Setup};
 use std::alloc::Global;
 
 /// What keeps the rates of a run.
