@@ -9,6 +9,7 @@ use Rattle.exact_values.proofs.Order.{le_trans, lt_from_le, lt_or_le, le_by_one,
 use Rattle.exact_values.proofs.Ring.{by_ring1, by_ring3, number, opposite, ◌⊕◌, ◌⊖◌, ◌⊗◌, ◌≐◌}
 use Rattle.exact_values.proofs.Ring_laws.{mul_comm}
 use Rattle.exact_values.proofs.Tests_laws.{lt_from_test, le_from_lt_fails}
+use Rattle.exact_values.proofs.Signs.{neg_above}
 use Rattle.affine_conditions.specs.Ends.{MeetsBy, Meets, is_high, end_of, IsOnSide, IsBefore, IsNearer, IsTightened}
 use Rattle.affine_conditions.specs.declared.tightening.Bound.{Bound}
 use Rattle.affine_conditions.specs.declared.tightening.End.{End}
@@ -23,14 +24,11 @@ up_to b x q positive = (
   λ h. subst₂ ◌≤ℚ◌ (mul_comm b x) (mul_comm b q) (mul-le-mul_left (le_of_lt positive) h),
 )
 
-neg_positive : (b : ℚ) → b <ℚ zero_ℚ → zero_ℚ <ℚ neg_ℚ b
-neg_positive b h = subst (λ z. z <ℚ neg_ℚ b) (by_ring1 b (λ b. opposite (number (pos 0)) ≐ number (pos 0)) refl) (neg-lt-neg h)
-
 -- by a negative one the other way round
 down_to : (b x q : ℚ) → b <ℚ zero_ℚ → (x *ℚ b ≤ℚ q *ℚ b) ↔ (q ≤ℚ x)
 down_to b x q negative = (
-  λ h. (up_to (neg_ℚ b) q x (neg_positive b negative)).0 (le_by_product_of h),
-  λ h. from_product ((up_to (neg_ℚ b) q x (neg_positive b negative)).1 h),
+  λ h. (up_to (neg_ℚ b) q x (neg_above b negative)).0 (le_by_product_of h),
+  λ h. from_product ((up_to (neg_ℚ b) q x (neg_above b negative)).1 h),
 )
   where
     le_by_product_of : x *ℚ b ≤ℚ q *ℚ b → q *ℚ neg_ℚ b ≤ℚ x *ℚ neg_ℚ b

@@ -45,7 +45,3 @@ point_refused_later p before mid after s e keeps h = record {
   of_call = h.of_call;
   stops = stops_covered (λ to. ⊥) p (basics_of s ∷ mid) (basics_of s ∷ before) s after e (inl (within_itself p.matrix (basics_of s)), kept_within p.matrix (basics_of s) before mid keeps) h.stops;
 }
-
--- a call that makes no call keeps the waypoints
-pub keeps_same : (a : Matrix) (b : Basics) (ways : List Basics) → KeepsWaypoints a b ways b ways
-keeps_same a b ways = record { each = λ k d below. inl (Contains-get_or ways k d below) }

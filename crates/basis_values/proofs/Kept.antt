@@ -4,9 +4,8 @@ use Rattle.lp_definitions.specs.LinearProgram.{Matrix, LinearProgram}
 use Rattle.lp_definitions.specs.Basis.{Basics, basics_of}
 use Rattle.lp_definitions.specs.Waypoints.{KeepsWaypoints}
 use Rattle.lp_definitions.specs.declared.Status.{Status}
-use Rattle.lp_laws.proofs.WaypointLaws.{keeps_then}
+use Rattle.lp_laws.proofs.WaypointLaws.{keeps_then, keeps_same}
 use Rattle.basis_values.specs.Calls.{HasRates, KeepsRates}
-use Rattle.basis_values.proofs.Covered.{keeps_same}
 use Rattle.basis_values.proofs.RatesStops.{keeps_at}
 
 -- what makes no call

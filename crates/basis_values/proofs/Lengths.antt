@@ -6,9 +6,9 @@ use Rattle.exact_values.specs.Tests.{lt_ℚ}
 use Rattle.exact_values.proofs.Inverse.{inverse-neg}
 use Rattle.exact_values.proofs.Order.{lt_irrefl}
 use Rattle.exact_values.proofs.Ring.{by_ring1, by_ring2, number, ◌⊗◌, ◌≐◌, opposite}
+use Rattle.exact_values.proofs.Tests_laws.{lt_from_test}
 use Rattle.lp_definitions.specs.LinearProgram.{LinearProgram, Vector, lower_of, upper_of}
 use Rattle.method_definitions.specs.Moves.{limit_ahead, room, signed}
-use Rattle.path_laws.proofs.Tests.{lt_true}
 use Rattle.basis_values.specs.Motions.{motion}
 use Rattle.frac128.specs.declared.Op.TheVariants.{Sub, Div}
 use Rattle.lp_definitions.specs.declared.Evidence.{Evidence}
@@ -24,17 +24,17 @@ pub none_ahead : (p : LinearProgram) (k : ℕ) (v : ℚ) → v ≡ zero_ℚ → 
 none_ahead p k v e = subst (λ (x : ℚ). limit_ahead p (λ _. x) k ≡ None) (sym e) (rw at_rest refl)
   where
     by_test : (b : Bool) → lt_ℚ zero_ℚ zero_ℚ ≡ b → lt_ℚ zero_ℚ zero_ℚ ≡ false
-    by_test true is = absurd (lt_irrefl (lt_true zero_ℚ zero_ℚ is))
+    by_test true is = absurd (lt_irrefl (lt_from_test zero_ℚ zero_ℚ is))
     by_test false is = is
 
     at_rest : lt_ℚ zero_ℚ zero_ℚ ≡ false
     at_rest = by_test (lt_ℚ zero_ℚ zero_ℚ) refl
 
 pub ahead_up : (p : LinearProgram) (k : ℕ) (v l : ℚ) → lt_ℚ zero_ℚ v ≡ true → upper_of p k ≡ Some l → IsAhead p (λ _. v) k (Some (record { term = 2; limit = l }))
-ahead_up p k v l up is = (rw up is, is, omega arith, λ e. lt_irrefl (lt_true zero_ℚ zero_ℚ (subst (λ (x : ℚ). lt_ℚ zero_ℚ x ≡ true) e up)))
+ahead_up p k v l up is = (rw up is, is, omega arith, λ e. lt_irrefl (lt_from_test zero_ℚ zero_ℚ (subst (λ (x : ℚ). lt_ℚ zero_ℚ x ≡ true) e up)))
 
 pub ahead_down : (p : LinearProgram) (k : ℕ) (v l : ℚ) → lt_ℚ zero_ℚ v ≡ false → lt_ℚ v zero_ℚ ≡ true → lower_of p k ≡ Some l → IsAhead p (λ _. v) k (Some (record { term = 1; limit = l }))
-ahead_down p k v l not_up down is = (rw (not_up, down) is, is, omega arith, λ e. lt_irrefl (lt_true zero_ℚ zero_ℚ (subst (λ (x : ℚ). lt_ℚ x zero_ℚ ≡ true) e down)))
+ahead_down p k v l not_up down is = (rw (not_up, down) is, is, omega arith, λ e. lt_irrefl (lt_from_test zero_ℚ zero_ℚ (subst (λ (x : ℚ). lt_ℚ x zero_ℚ ≡ true) e down)))
 
 pub ahead_at : (p : LinearProgram) (v : Vector) (k : ℕ) (speed : ℚ) (o : Option Ahead) → speed ≡ v k → IsAhead p (λ _. speed) k o → IsAhead p v k o
 ahead_at p v k speed None e h = subst (λ (x : ℚ). limit_ahead p (λ _. x) k ≡ None) e h

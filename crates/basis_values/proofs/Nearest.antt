@@ -5,23 +5,13 @@ use Rattle.std.proofs.lemmas.Bool.Decides.{eqb_tells}
 use Rattle.exact_values.specs.Rational.{ℚ, ◌≤ℚ◌, ◌<ℚ◌}
 use Rattle.exact_values.specs.Tests.{lt_ℚ, le_ℚ}
 use Rattle.exact_values.proofs.Order.{le_refl, le_of_lt, lt_of_lt_of_le}
+use Rattle.exact_values.proofs.Tests_laws.{le_fails_from_lt, lt_from_le_fails, lt_from_test, test_from_lt, le_from_test, test_from_le}
 use Rattle.lp_definitions.specs.LinearProgram.{LinearProgram, Vector, size}
 use Rattle.method_definitions.specs.Moves.{is_no_later, room, stopper}
-use Rattle.path_laws.proofs.Tests.{le_true, le_from, lt_true, lt_from}
 use Rattle.path_laws.proofs.Searches.{stopper_is, stopper_nothing}
 use Rattle.lp_laws.proofs.Values.{clash}
 use Rattle.basis_values.specs.Reach.{reach_of, sooner, IsFirst, IsNearest}
 use Rattle.basis_values.specs.declared.reach.Reach.{Reach}
-
-pub le_false : (x y : ℚ) → y <ℚ x → le_ℚ x y ≡ false
-le_false x y h = ap not (lt_from y x h)
-
-false_lt : (x y : ℚ) → le_ℚ x y ≡ false → y <ℚ x
-false_lt x y e = by_test (lt_ℚ y x) refl
-  where
-    by_test : (b : Bool) → lt_ℚ y x ≡ b → y <ℚ x
-    by_test true is = lt_true y x is
-    by_test false is = absurd (clash (ap not (sym is) ∙ e))
 
 -- a fact of each number up to n, and of the next
 pub up_to : (P : ℕ → Type 0) (n : ℕ) → ((k : ℕ) → 1 ≤ k → k ≤ n → P k) → P (suc n) → (k : ℕ) → 1 ≤ k → k ≤ suc n → P k
@@ -38,7 +28,7 @@ module _ (f : ℕ → Option ℚ) (n : ℕ) where
     low = omega arith;
     high = omega arith;
     reaches = is;
-    first = up_to (λ i. is_no_later (f (suc n)) (f i) ≡ true) n (λ i low high. rw (is, none i low high) refl) (rw is (le_from l l (le_refl l)));
+    first = up_to (λ i. is_no_later (f (suc n)) (f i) ≡ true) n (λ i low high. rw (is, none i low high) refl) (rw is (test_from_le l l (le_refl l)));
     later = λ j low below. rw (none j low (omega (arith, below))) refl;
   }
 
@@ -56,9 +46,9 @@ module _ (f : ℕ → Option ℚ) (n : ℕ) where
   below_first : (r : Reach) (l : ℚ) → IsFirst f n r → l <ℚ r.length → (i : ℕ) → 1 ≤ i → i ≤ n → (o : Option ℚ) → f i ≡ o → (is_no_later (Some l) o ≡ true) × (is_no_later o (Some l) ≡ false)
   below_first r l h less i low high None is = (refl, refl)
   below_first r l h less i low high (Some x) is =
-      let at_most : r.length ≤ℚ x = le_true r.length x (rw (h.reaches, is) at (h.first i low high)) in
+      let at_most : r.length ≤ℚ x = le_from_test r.length x (rw (h.reaches, is) at (h.first i low high)) in
       let above : l <ℚ x = lt_of_lt_of_le less at_most in
-      (le_from l x (le_of_lt above), le_false x l above)
+      (test_from_le l x (le_of_lt above), le_fails_from_lt x l above)
 
   -- one that is sooner
   is_sooner : (r : Reach) (l : ℚ) → IsFirst f n r → f (suc n) ≡ Some l → l <ℚ r.length → IsFirst f (suc n) (reach_of (suc n) l)
@@ -66,7 +56,7 @@ module _ (f : ℕ → Option ℚ) (n : ℕ) where
     low = omega arith;
     high = omega arith;
     reaches = is;
-    first = up_to (λ i. is_no_later (f (suc n)) (f i) ≡ true) n (λ i low high. rw is (below_first r l h less i low high (f i) refl).0) (rw is (le_from l l (le_refl l)));
+    first = up_to (λ i. is_no_later (f (suc n)) (f i) ≡ true) n (λ i low high. rw is (below_first r l h less i low high (f i) refl).0) (rw is (test_from_le l l (le_refl l)));
     later = λ j low below. rw is (below_first r l h less j low (omega (arith, below)) (f j) refl).1;
   }
 
@@ -80,7 +70,7 @@ module _ (f : ℕ → Option ℚ) (n : ℕ) where
     where
       by_test : (l : ℚ) → f (suc n) ≡ Some l → (b : Bool) → le_ℚ r.length l ≡ b → IsNearest f (suc n) (cond b (Some r) (Some (reach_of (suc n) l)))
       by_test l is true e = stays_first r h (rw (h.reaches, is) e)
-      by_test l is false e = is_sooner r l h is (false_lt r.length l e)
+      by_test l is false e = is_sooner r l h is (lt_from_le_fails r.length l e)
 
       at : (o : Option ℚ) → f (suc n) ≡ o → IsNearest f (suc n) (sooner (Some r) o (suc n))
       at None is = stays_first r h (rw (h.reaches, is) refl)

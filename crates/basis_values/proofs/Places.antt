@@ -7,15 +7,16 @@ use Rattle.exact_values.proofs.Inverse.{same_quotients, div-mul_cancel}
 use Rattle.exact_values.proofs.Order.{le_by_one, le_of_lt, lt_from_le, lt_of_not-le, lt_not_le, le-div, mul-le-mul_left, apart_from_above}
 use Rattle.exact_values.proofs.Ring.{by_ring3, by_ring4, ◌⊖◌, ◌⊗◌, ◌⊕◌, ◌≐◌, opposite}
 use Rattle.exact_values.proofs.Ring_laws.{mul_comm}
+use Rattle.exact_values.proofs.Tests_laws.{le_fails_from_lt, lt_from_test, le_from_lt_fails, test_from_le}
+use Rattle.exact_values.proofs.Signs.{neg_above}
 use Rattle.lp_definitions.specs.LinearProgram.{LinearProgram, Vector}
 use Rattle.method_definitions.specs.Moves.{room, signed, is_no_later}
-use Rattle.path_laws.proofs.Tests.{lt_true, lt_false, le_from, neg_above}
 use Rattle.basis_values.specs.Motions.{motion}
 use Rattle.basis_values.specs.Reach.{IsAhead, IsFirst, Reaches, Yields, reach_of, sooner}
 use Rattle.basis_values.specs.declared.reach.Ahead.{Ahead}
 use Rattle.basis_values.specs.declared.reach.Reach.{Reach}
 use Rattle.basis_values.proofs.Lengths.{ahead_at, no_length}
-use Rattle.basis_values.proofs.Nearest.{le_false, up_to}
+use Rattle.basis_values.proofs.Nearest.{up_to}
 
 fails : (b : Bool) → IsTrue (not b) → b ≡ false
 fails true h = cc
@@ -26,8 +27,8 @@ forward : (v : ℚ) → v ≢ zero_ℚ → zero_ℚ <ℚ signed (lt_ℚ zero_ℚ
 forward v moves = at (lt_ℚ zero_ℚ v) refl
   where
     at : (b : Bool) → lt_ℚ zero_ℚ v ≡ b → zero_ℚ <ℚ signed b v
-    at true is = lt_true zero_ℚ v is
-    at false is = neg_above v (lt_from_le (lt_false zero_ℚ v is) moves)
+    at true is = lt_from_test zero_ℚ v is
+    at false is = neg_above v (lt_from_le (le_from_lt_fails zero_ℚ v is) moves)
 
 turned_place : (rises : Bool) (z l v : ℚ) → signed rises (z +ℚ l *ℚ v) ≡ signed rises z +ℚ l *ℚ signed rises v
 turned_place true z l v = refl
@@ -75,14 +76,14 @@ module _ (p : LinearProgram) (z d : Vector) (up : Bool) (k : ℕ) (r : Reach) (s
     -- it hasn't reached the limit
     pub before_yields : (b : Bool) → b ≡ lt_ℚ (signed rises place) (signed rises a.limit) → IsTrue b → Yields (room p z (motion d up)) r k
     before_yields b is holds =
-        let less = later (signed rises value) (signed rises a.limit) (signed rises speed) r.length toward (subst (λ x. x <ℚ signed rises a.limit) stands (lt_true (signed rises place) (signed rises a.limit) (sym is ∙ holds))) in
-        by_room _ found (le_from _ _ (le_of_lt less)) (λ _. le_false _ _ less)
+        let less = later (signed rises value) (signed rises a.limit) (signed rises speed) r.length toward (subst (λ x. x <ℚ signed rises a.limit) stands (lt_from_test (signed rises place) (signed rises a.limit) (sym is ∙ holds))) in
+        by_room _ found (test_from_le _ _ (le_of_lt less)) (λ _. le_fails_from_lt _ _ less)
 
     -- it hasn't passed the limit, and its number is not the smaller one
     pub within_yields : r.p ≤ k → (b : Bool) → b ≡ lt_ℚ (signed rises a.limit) (signed rises place) → IsTrue (not b) → Yields (room p z (motion d up)) r k
     within_yields not_smaller b is holds =
-        let least = no_sooner (signed rises value) (signed rises a.limit) (signed rises speed) r.length toward (subst (λ x. x ≤ℚ signed rises a.limit) stands (lt_false (signed rises a.limit) (signed rises place) (sym is ∙ fails b holds))) in
-        by_room _ found (le_from _ _ least) (λ below. absurd (omega (arith, not_smaller, below)))
+        let least = no_sooner (signed rises value) (signed rises a.limit) (signed rises speed) r.length toward (subst (λ x. x ≤ℚ signed rises a.limit) stands (le_from_lt_fails (signed rises a.limit) (signed rises place) (sym is ∙ fails b holds))) in
+        by_room _ found (test_from_le _ _ least) (λ below. absurd (omega (arith, not_smaller, below)))
 
 -- ---- what all others yield to is the first
 

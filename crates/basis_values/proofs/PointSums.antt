@@ -39,7 +39,7 @@ filter_kept : Bool → ℕ → List ℕ → List ℕ
 filter_kept true x xs = x ∷ xs
 filter_kept false x xs = xs
 
-filter-append : (test : ℕ → Bool) (xs ys : List ℕ) → filter test (xs ++ ys) ≡ filter test xs ++ filter test ys
+pub filter-append : (test : ℕ → Bool) (xs ys : List ℕ) → filter test (xs ++ ys) ≡ filter test xs ++ filter test ys
 filter-append test [] ys = refl
 filter-append test (x ∷ xs) ys = by_test (test x) refl (filter-append test xs ys)
   where

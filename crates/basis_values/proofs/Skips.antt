@@ -7,6 +7,7 @@ use Rattle.exact_values.specs.Rational.{ℚ, zero_ℚ, one_ℚ, neg_ℚ, ◌+ℚ
 use Rattle.exact_values.proofs.Ring_laws.{zero-add, add-zero, zero-mul, mul-zero, one-mul, mul-one}
 use Rattle.exact_values.proofs.Inverse.{div_is, one_apart}
 use Rattle.lp_laws.proofs.Values.{sub-zero}
+use Rattle.lp_laws.proofs.Places.{value_next}
 use Rattle.std.proofs.lemmas.List.{get_or_default}
 use Rattle.lp_definitions.specs.LinearProgram.{LinearProgram, size, value_at}
 use Rattle.lp_definitions.specs.declared.Status.{Status}
@@ -22,45 +23,7 @@ value_had (Some x) P v w h e = h.1 ∙ e
 pub stays_put : (x y z : ℚ) → z ≡ zero_ℚ → x ≡ x +ℚ y *ℚ z
 stays_put x y z e = sym (ap (λ u. x +ℚ y *ℚ u) e ∙ ap (λ u. x +ℚ u) (mul-zero y) ∙ add-zero x)
 
-pub left_sum : (x y : ℚ) → x ≡ zero_ℚ → y ≡ x +ℚ y
-left_sum x y e = sym (ap (λ u. u +ℚ y) e ∙ zero-add y)
-
-pub right_sum : (x y : ℚ) → y ≡ zero_ℚ → x ≡ x +ℚ y
-right_sum x y e = sym (ap (λ u. x +ℚ u) e ∙ add-zero x)
-
-pub left_difference : (x y : ℚ) → x ≡ zero_ℚ → neg_ℚ y ≡ x -ℚ y
-left_difference x y e = left_sum x (neg_ℚ y) e
-
-pub right_difference : (x y : ℚ) → y ≡ zero_ℚ → x ≡ x -ℚ y
-right_difference x y e = sym (ap (λ u. x -ℚ u) e ∙ sub-zero x)
-
-pub left_nothing : (x y : ℚ) → x ≡ zero_ℚ → x ≡ x *ℚ y
-left_nothing x y e = e ∙ sym (ap (λ u. u *ℚ y) e ∙ zero-mul y)
-
-pub right_nothing : (x y : ℚ) → y ≡ zero_ℚ → y ≡ x *ℚ y
-right_nothing x y e = e ∙ sym (ap (λ u. x *ℚ u) e ∙ mul-zero x)
-
-pub left_once : (x y : ℚ) → x ≡ one_ℚ → y ≡ x *ℚ y
-left_once x y e = sym (ap (λ u. u *ℚ y) e ∙ one-mul y)
-
-pub right_once : (x y : ℚ) → y ≡ one_ℚ → x ≡ x *ℚ y
-right_once x y e = sym (ap (λ u. x *ℚ u) e ∙ mul-one x)
-
-pub over_once : (x y : ℚ) → y ≡ one_ℚ → x ≡ x /ℚ y
-over_once x y e = sym (ap (λ u. x /ℚ u) e ∙ div_is x one_ℚ x one_apart (sym (mul-one x)))
-
-pub left_nothing_over : (x y : ℚ) → x ≡ zero_ℚ → x ≡ x /ℚ y
-left_nothing_over x y e = left_nothing x (inverse_ℚ y) e
-
 -- ---- values at variables
-
-pub value_next : (xs : List ℚ) (k : ℕ) (x : ℚ) → k < length xs → x ≡ get_or xs k x → value_at xs (k + 1) ≡ x
-value_next xs k x below is =
-    let place : k + 1 - 1 ≡ k = omega arith in
-    ap (λ i. get_or xs i zero_ℚ) place ∙ sym (is ∙ get_or_default xs k x zero_ℚ below)
-
-pub value_read : (xs : List ℚ) (k : ℕ) (x : ℚ) → k - 1 < length xs → x ≡ get_or xs (k - 1) x → x ≡ value_at xs k
-value_read xs k x below is = is ∙ get_or_default xs (k - 1) x zero_ℚ below
 
 pub lowers_at : (p : LinearProgram) (s : List Status) (xs : List ℚ) (up : Bool) (k : ℕ) (x r : ℚ) → k < length xs → x ≡ get_or xs k x → r ≡ signed up x → lowers p s (motion (value_at xs) up) (k + 1) ≡ lowers p s (λ _. r) (k + 1)
 lowers_at p s xs up k x r below is signed_is = ap (λ (u : ℚ). lowers p s (λ _. u) (k + 1)) (ap (signed up) (value_next xs k x below is) ∙ sym signed_is)

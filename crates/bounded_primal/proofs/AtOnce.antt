@@ -6,10 +6,11 @@ use Rattle.exact_values.specs.Tests.{lt_ℚ}
 use Rattle.exact_values.proofs.Ring.{by_ring1, by_ring2, ◌⊖◌, ◌⊗◌, ◌⊕◌, ◌≐◌, number, opposite}
 use Rattle.exact_values.proofs.Inverse.{same_quotients}
 use Rattle.exact_values.proofs.Order.{le_by_one, le-div, apart_from_above, apart_from_below}
+use Rattle.exact_values.proofs.Tests_laws.{lt_from_test, test_from_le}
+use Rattle.exact_values.proofs.Signs.{neg_above}
 use Rattle.lp_definitions.specs.LinearProgram.{LinearProgram, Vector, size, lower_of, upper_of}
 use Rattle.lp_definitions.specs.Solutions.{IsWithinLimits}
 use Rattle.method_definitions.specs.Moves.{is_no_later, room}
-use Rattle.path_laws.proofs.Tests.{lt_true, le_from, neg_above}
 use Rattle.basis_values.specs.Reach.{length_of, IsNearest}
 use Rattle.basis_values.specs.declared.reach.Reach.{Reach}
 
@@ -40,8 +41,8 @@ forward low high z v x within e = by_tests (lt_ℚ zero_ℚ v) refl (lt_ℚ v ze
         (le-div (neg_above v down) (subst (λ y. y ≤ℚ neg_ℚ (l -ℚ z)) (by_ring1 v (λ v. number (pos 0) ≐ number (pos 0) ⊗ opposite v) refl) ahead))
 
     by_tests : (up : Bool) → lt_ℚ zero_ℚ v ≡ up → (down : Bool) → lt_ℚ v zero_ℚ ≡ down → option_map (λ l. (l -ℚ z) /ℚ v) (if up then high else (if down then low else None)) ≡ Some x → zero_ℚ ≤ℚ x
-    by_tests true up down down_is e = upper high within.1 (lt_true zero_ℚ v up) e
-    by_tests false up true down_is e = lower low within.0 (lt_true v zero_ℚ down_is) e
+    by_tests true up down down_is e = upper high within.1 (lt_from_test zero_ℚ v up) e
+    by_tests false up true down_is e = lower low within.0 (lt_from_test v zero_ℚ down_is) e
     by_tests false up false down_is e = cc
 
 -- what is reached at once among the first n is nearest of all
@@ -60,4 +61,4 @@ module _ (p : LinearProgram) (z v : Vector) (all_within : IsWithinLimits p z) (n
       no_sooner i low high None is = rw (h.reaches, is) refl
       no_sooner i low high (Some l) is =
           let ahead : zero_ℚ ≤ℚ l = forward (lower_of p i) (upper_of p i) (z i) (v i) l (all_within i (low, high)) is in
-          rw (h.reaches, is) (le_from r.length l (subst (λ x. x ≤ℚ l) (sym (some_value now)) ahead))
+          rw (h.reaches, is) (test_from_le r.length l (subst (λ x. x ≤ℚ l) (sym (some_value now)) ahead))

@@ -4,6 +4,7 @@ use Rattle.std.specs.Prelude.{Option, Some, None, IfSome, ◌&&◌, ◌||◌, Bo
 use Rattle.exact_values.specs.Rational.{ℚ, ◌≤ℚ◌}
 use Rattle.exact_values.specs.Tests.{lt_ℚ}
 use Rattle.exact_values.proofs.Order.{lt_not_le}
+use Rattle.exact_values.proofs.Tests_laws.{lt_from_test}
 use Rattle.lp_definitions.specs.LinearProgram.{LinearProgram, Matrix, Vector, IsLinearProgram, lower_of, upper_of}
 use Rattle.lp_definitions.specs.Basis.{Basics, basics_of, is_in, IsPointOf, Tableau, IsTableau}
 use Rattle.lp_definitions.specs.Solutions.{IsFeasible}
@@ -16,7 +17,6 @@ use Rattle.path_laws.proofs.Turns.{IsSecondPhase}
 use Rattle.path_laws.proofs.Second.{feasible_step}
 use Rattle.path_laws.proofs.Searches.{least_none}
 use Rattle.path_laws.proofs.Steps.{step_leads}
-use Rattle.path_laws.proofs.Tests.{lt_true}
 use Rattle.basis_values.proofs.Existence.{rates_exist}
 use Rattle.basis_values.specs.Calls.{HasRates}
 use Rattle.bounded_primal.specs.KeptPoints.{AgreesWithPoint}
@@ -30,7 +30,7 @@ not_less : (x y : ℚ) → y ≤ℚ x → lt_ℚ x y ≡ false
 not_less x y h = by_test (lt_ℚ x y) refl
   where
     by_test : (b : Bool) → lt_ℚ x y ≡ b → lt_ℚ x y ≡ false
-    by_test true is = absurd (lt_not_le (lt_true x y is) h)
+    by_test true is = absurd (lt_not_le (lt_from_test x y is) h)
     by_test false is = is
 
 not_below : (low : Option ℚ) (x : ℚ) → IfSome low (λ l. l ≤ℚ x) → on_limit (λ l. lt_ℚ x l) low ≡ false

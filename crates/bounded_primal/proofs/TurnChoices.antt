@@ -5,6 +5,7 @@ use Rattle.exact_values.specs.Rational.{ℚ, zero_ℚ, one_ℚ, neg_ℚ, ◌-ℚ
 use Rattle.exact_values.specs.Tests.{lt_ℚ}
 use Rattle.exact_values.proofs.Order.{lt_irrefl, lt_not_le, le_of_lt}
 use Rattle.exact_values.proofs.Ring.{by_ring1, ◌≐◌, number, opposite}
+use Rattle.exact_values.proofs.Tests_laws.{lt_from_test}
 use Rattle.lp_definitions.specs.LinearProgram.{LinearProgram, Vector, size, value_at, IsVariable, lower_of, upper_of, for_min}
 use Rattle.lp_definitions.specs.Solutions.{IsFeasible}
 use Rattle.lp_definitions.specs.Basis.{basics_of, is_in, IsBasis, IsBasic, IsNonbasic, IsNonsingular, IsDirectionOf, AreRates, IsPointOf, ArePricesOf, Tableau, IsTableau, objective_rate, price_at}
@@ -17,7 +18,6 @@ use Rattle.lp_laws.proofs.Uniqueness.{one_direction}
 use Rattle.lp_laws.proofs.Values.{clash}
 use Rattle.method_definitions.specs.Moves.{least, is_crossed, is_below, signed, goes_up, lowers, may_rise, may_fall, entering, limit_ahead, room, stopper}
 use Rattle.method_definitions.specs.Path.{Move, Moves, EndsOptimal, EndsCrossed, EndsInfeasible, EndsUnbounded, listed, ray_of, excess_rate, outside, worth_rate, mover, bring_back, run_until, better, turn_for, turn}
-use Rattle.path_laws.proofs.Tests.{lt_true}
 use Rattle.path_laws.proofs.Numbered.{find_some}
 use Rattle.path_laws.proofs.Stoppers.{stopper_some, reaches_limit}
 use Rattle.path_laws.proofs.Turns.{IsFirstPhase, IsSecondPhase, bettering}
@@ -219,7 +219,7 @@ module _ (p : LinearProgram) (s : List Status) (z : Vector) (basis : IsBasis p s
           way false false x w e one = cc
 
           one_way : lt_ℚ (worth_by p y m.q) zero_ℚ ≡ true → lt_ℚ zero_ℚ (worth_by p y m.q) ≡ true → ⊥
-          one_way low high = lt_not_le (lt_true (worth_by p y m.q) zero_ℚ low) (le_of_lt (lt_true zero_ℚ (worth_by p y m.q) high))
+          one_way low high = lt_not_le (lt_from_test (worth_by p y m.q) zero_ℚ low) (le_of_lt (lt_from_test zero_ℚ (worth_by p y m.q) high))
 
       module _ (d : Vector) (direction : IsDirectionOf p.matrix (basics_of s) m.q d) where
         speeds_are : (k : ℕ) → IsVariable p.matrix k → bettering p s u m.q k ≡ motion d m.up k
@@ -266,8 +266,8 @@ module _ (p : LinearProgram) (s : List Status) (z : Vector) (basis : IsBasis p s
         run_step by stops = is_stopper m.up point_feasible better_may (sym stops)
 
         moves_ahead : (low high : Option ℚ) (v l : ℚ) (a b : Bool) → lt_ℚ zero_ℚ v ≡ a → lt_ℚ v zero_ℚ ≡ b → (if a then high else (if b then low else None)) ≡ Some l → v ≢ zero_ℚ
-        moves_ahead low high v l true b a_is b_is e = λ vanishes. lt_irrefl (subst (λ x. zero_ℚ <ℚ x) vanishes (lt_true zero_ℚ v a_is))
-        moves_ahead low high v l false true a_is b_is e = λ vanishes. lt_irrefl (subst (λ x. x <ℚ zero_ℚ) vanishes (lt_true v zero_ℚ b_is))
+        moves_ahead low high v l true b a_is b_is e = λ vanishes. lt_irrefl (subst (λ x. zero_ℚ <ℚ x) vanishes (lt_from_test zero_ℚ v a_is))
+        moves_ahead low high v l false true a_is b_is e = λ vanishes. lt_irrefl (subst (λ x. x <ℚ zero_ℚ) vanishes (lt_from_test v zero_ℚ b_is))
         moves_ahead low high v l false false a_is b_is e = λ vanishes. cc
 
         limit_of : (o : Option ℚ) (w v x : ℚ) → option_map (λ l. (l -ℚ w) /ℚ v) o ≡ Some x → (l : ℚ) × (o ≡ Some l)

@@ -6,7 +6,8 @@ use Rattle.std.specs.List.{list_all}
 use Rattle.std.proofs.lemmas.Bool.Decides.{nat_tests}
 use Rattle.std.proofs.lemmas.List.{map-append}
 use Rattle.std.proofs.lemmas.List.Elements.{All-cons, All-nil}
-use Rattle.card_definitions.proofs.Behind.{first_fault-append}
+use Rattle.std.proofs.lemmas.Bool.{or_left, or_right, or_from}
+use Rattle.card_definitions.proofs.Behind.{first_fault-append, no_first, no_second}
 use Rattle.card_definitions.specs.Words.{first_fault, ◌⟹◌}
 use Rattle.card_definitions.specs.Cards.{Card, card_fault, is_printable, cards_of, job_fault, numbered_cards, numbered_from}
 use Rattle.card_definitions.specs.declared.CardFault.{CardFault}
@@ -40,30 +41,19 @@ fault_of_cards-append cards card number at =
     ∙ first_fault-append (map card_fault (numbered_cards cards)) (card_fault last ∷ [])
     ∙ ap (option_or (fault_of_cards cards)) (first_fault-one (card_fault last))
 
-either_true : (a b : Bool) → a ≡ true → (a || b) ≡ true
-either_true true b e = refl
-either_true false b e = cc
-
-or_true : (a b : Bool) → b ≡ true → (a || b) ≡ true
-or_true true b e = refl
-or_true false b e = e
-
-or_false : (a b : Bool) → a ≡ false → b ≡ false → (a || b) ≡ false
-or_false a b e h = cc
-
 -- more bytes than a job may have
 pub job_fault-bytes : (job : List ℕ) → 16400000 < length job → job_fault job ≡ Some TooLong
 unfolding job_fault
 job_fault-bytes job long =
     let size : nat_lt 16400000 (length job) ≡ true = grind (arith, nat_tests) in
-    ap (λ t. first_fault ((t ⟹ TooLong) ∷ map card_fault (numbered_cards (cards_of job)))) (either_true (nat_lt 16400000 (length job)) (nat_lt 200000 (length (cards_of job))) size)
+    ap (λ t. first_fault ((t ⟹ TooLong) ∷ map card_fault (numbered_cards (cards_of job)))) (or_left (nat_lt 16400000 (length job)) (nat_lt 200000 (length (cards_of job))) size)
 
 -- more cards than a job may have
 pub job_fault-cards : (job : List ℕ) → 200000 < length (cards_of job) → job_fault job ≡ Some TooLong
 unfolding job_fault
 job_fault-cards job many =
     let count : nat_lt 200000 (length (cards_of job)) ≡ true = grind (arith, nat_tests) in
-    ap (λ t. first_fault ((t ⟹ TooLong) ∷ map card_fault (numbered_cards (cards_of job)))) (or_true (nat_lt 16400000 (length job)) (nat_lt 200000 (length (cards_of job))) count)
+    ap (λ t. first_fault ((t ⟹ TooLong) ∷ map card_fault (numbered_cards (cards_of job)))) (or_right (nat_lt 16400000 (length job)) (nat_lt 200000 (length (cards_of job))) count)
 
 -- neither, so the fault is that of the first card that has one
 pub job_fault-within : (job : List ℕ) (cards : List (List ℕ)) → length job ≤ 16400000 → length cards ≤ 200000 → cards ≡ cards_of job → job_fault job ≡ fault_of_cards cards
@@ -72,7 +62,7 @@ job_fault-within job cards short few all =
     let size : nat_lt 16400000 (length job) ≡ false = grind (arith, nat_tests) in
     let fewer : length (cards_of job) ≤ 200000 = omega (arith, ap length all) in
     let count : nat_lt 200000 (length (cards_of job)) ≡ false = grind (arith, nat_tests) in
-    ap (λ t. first_fault ((t ⟹ TooLong) ∷ map card_fault (numbered_cards (cards_of job)))) (or_false (nat_lt 16400000 (length job)) (nat_lt 200000 (length (cards_of job))) size count)
+    ap (λ t. first_fault ((t ⟹ TooLong) ∷ map card_fault (numbered_cards (cards_of job)))) (or_from (nat_lt 16400000 (length job)) (nat_lt 200000 (length (cards_of job))) size count)
     ∙ ap fault_of_cards (sym all)
 
 -- the answer that tells a fault
@@ -83,14 +73,6 @@ tells_fault fault stop found same e = let Goal : ReadStop → Type 0 = λ s. Tel
     each TooLong e = e
     each (NotPrintable number) e = e
     each (CardTooLong number) e = e
-
-none_first : {F : Type 0} (first rest : Option F) → option_or first rest ≡ None → first ≡ None
-none_first None rest e = refl
-none_first (Some fault) rest e = cc
-
-none_rest : {F : Type 0} (first rest : Option F) → option_or first rest ≡ None → rest ≡ None
-none_rest None rest e = e
-none_rest (Some fault) rest e = cc
 
 -- a card without a fault is printable, and short enough
 faultless_card : (number : ℕ) (card : List ℕ) → card_fault (record { number = number; bytes = card }) ≡ None → IsFaultless card
@@ -111,4 +93,4 @@ faultless cards none = from 1 cards none
     from number (card ∷ cards) e =
         let first = card_fault (record { number = number; bytes = card }) in
         let rest = first_fault (map card_fault (numbered_from (number + 1) cards)) in
-        All-cons IsFaultless card cards (faultless_card number card (none_first first rest e)) (from (number + 1) cards (none_rest first rest e))
+        All-cons IsFaultless card cards (faultless_card number card (no_first first rest e)) (from (number + 1) cards (no_second first rest e))

@@ -17,6 +17,7 @@ use Rattle.exact_values.proofs.Tests_laws.{same_from_test, le_from_test}
 use Rattle.exact_values.proofs.Order.{lt_not_le, le_of_lt, apart_from_above, apart_from_below}
 use Rattle.lp_definitions.specs.LinearProgram.{LinearProgram, Vector, IsMatrix, IsColumn, IsVariable, KeepsEquations, numbers_from, variables, column, entry, lower_of, upper_of, cost, for_min, size}
 use Rattle.lp_definitions.specs.Solutions.{IsWithinLimits, IsFeasible, AreProvingPrices, IsCrossed, IsRay, ProvesUnbounded, limit_against}
+use Rattle.lp_definitions.proofs.Lawful.{none as no_limit}
 use Rattle.check_definitions.specs.declared.Verdict.TheVariants.{Checked, Unchecked}
 use Rattle.check_definitions.specs.Steps.{Step, operation, comparison, verdict_of, product_of, sum_steps, sum_of}
 use Rattle.check_definitions.specs.Checks.{is_not_below, is_not_above, is_at, is_crossed, by_sign, row_products, equation, equations, within_limit, within_limits, feasible_point, column_products, combined_steps, reduced_cost, reduced_costs, standing_price, standing_prices, ray_column, ray_columns, multiplied, limit_product, ray_limits, ray_sum, free_to_move, free_direction, bettering, optimal_check, crossed_check, infeasible_check, unbounded_check}
@@ -39,10 +40,6 @@ below_upper (Some u) v h = le_from_test v u h
 at_limit : (limit : Option ℚ) (v : ℚ) → is_at limit v ≡ true → limit ≡ Some v
 at_limit None v h = cc
 at_limit (Some l) v h = ap Some (same_from_test l v h)
-
-no_limit : (limit : Option ℚ) → is_none limit ≡ true → limit ≡ None
-no_limit None h = refl
-no_limit (Some l) h = cc
 
 -- what is asked by sign holds of a negative and of a positive number
 asked_negative : (x : ℚ) (negative positive : Bool) → by_sign (compare_ℚ x zero_ℚ) negative positive ≡ true → x <ℚ zero_ℚ → negative ≡ true

@@ -64,7 +64,7 @@ stands_at_both Ll v e = (refl, refl)
 stands_at_both Ul v e = (refl, refl)
 stands_at_both Fr v e = absurd (clash (sym e))
 
-out_of_basis : (st : Status) → stands_at_limit st ≡ true → is_basic st ≡ false
+pub out_of_basis : (st : Status) → stands_at_limit st ≡ true → is_basic st ≡ false
 out_of_basis Bs e = sym e
 out_of_basis Ll e = refl
 out_of_basis Ul e = refl

@@ -123,7 +123,7 @@ fixed_at p shift theta x k is fixed =
     (there.0, lower_is p shift x k is ∙ there.1, upper_is p shift x k is ∙ there.2)
 
 -- and the test of it tells the same
-moved_tests : (low high : Option ℚ) (theta shift : ℚ) → on_limits eq_ℚ (moved theta shift low) (moved theta shift high) ≡ on_limits eq_ℚ low high
+pub moved_tests : (low high : Option ℚ) (theta shift : ℚ) → on_limits eq_ℚ (moved theta shift low) (moved theta shift high) ≡ on_limits eq_ℚ low high
 moved_tests None high theta shift = refl
 moved_tests (Some l) None theta shift = refl
 moved_tests (Some l) (Some u) theta shift = by_test (eq_ℚ l u) refl

@@ -2,7 +2,7 @@
 use Rattle.std.proofs.Common.{◌≡◌, ◌⊎◌, inl, inr, ℕ, ◌==◌, Bool, true, false, List, [], ◌∷◌, ◌++◌, codes, drop, Option, None, Some, if◌then◌else◌, refl, ap, subst, sym, ◌∙◌, true≢false, one-add}
 use Rattle.std.specs.List.{before_first}
 use Rattle.std.specs.Str.{bytes_eq}
-use Rattle.std.proofs.lemmas.Bool.{eqb-true}
+use Rattle.std.proofs.lemmas.Bool.{eqb-true, false_from_ne_true}
 use Rattle.std.proofs.lemmas.Slice.Eq.{bytes_eq-Decides}
 use Rattle.clap.specs.Lexer.{name_and_value}
 use Rattle.clap.specs.Walk.{Text}
@@ -99,17 +99,13 @@ none_of : (o : Option Text) → ((v : Text) → o ≡ Some v → ⊥) → o ≡ 
 none_of None h = refl
 none_of (Some v) h = absurd (h v refl)
 
-false_of : (b : Bool) → (b ≡ true → ⊥) → b ≡ false
-false_of true h = absurd (h refl)
-false_of false h = refl
-
 -- a word with another name
 abbrev names_make : Text → Bool
 names_make word = bytes_eq (codes "make") (before_first is_equals (drop 2 word))
 
 pub unknown_is_none : (x : ℕ) (xs : Text) → bytes_eq (codes "make") (name_and_value (x ∷ xs)).0 ≡ false → IsNoOption (45 ∷ 45 ∷ x ∷ xs)
 unknown_is_none x xs e = record {
-  alone = false_of _ (λ same. apart names_make (codes "--make") (45 ∷ 45 ∷ x ∷ xs) refl e (sym ((bytes_eq-Decides (45 ∷ 45 ∷ x ∷ xs) (codes "--make")).0 same)));
+  alone = false_from_ne_true _ (λ same. apart names_make (codes "--make") (45 ∷ 45 ∷ x ∷ xs) refl e (sym ((bytes_eq-Decides (45 ∷ 45 ∷ x ∷ xs) (codes "--make")).0 same)));
   joined = none_of _ (λ v same. apart names_make (codes "--make=" ++ v) (45 ∷ 45 ∷ x ∷ xs) refl e (sym (behind_is (codes "--make=") (45 ∷ 45 ∷ x ∷ xs) v same)));
 }
 

@@ -4,6 +4,7 @@ use Rattle.std.specs.Prelude.{bytes_eq, IsSome, IfSome}
 use Rattle.std.specs.List.{list_all}
 use Rattle.std.proofs.lemmas.Bool.Decides.{nat_tests}
 use Rattle.std.proofs.lemmas.Slice.Eq.{bytes_eq-Decides}
+use Rattle.std.proofs.lemmas.Bool.{and_parts}
 use Rattle.card_definitions.specs.Words.{without_trailing, is_empty}
 use Rattle.card_definitions.specs.Cards.{is_blank, is_printable}
 use Rattle.card_definitions.proofs.Trailing.{without_trailing-cons}
@@ -48,21 +49,16 @@ label_byte_prints byte e = grind (arith, nat_tests)
 label_byte_is_no_blank : (byte : ℕ) → is_label_byte byte ≡ true → is_blank byte ≡ false
 label_byte_is_no_blank byte e = grind (arith, nat_tests)
 
-both : (a b : Bool) → (a && b) ≡ true → (a ≡ true) × (b ≡ true)
-both true true e = (refl, refl)
-both true false e = cc e
-both false b e = cc e
-
 label_bytes_print : (text : List ℕ) → list_all is_label_byte text ≡ true → list_all is_printable text ≡ true
 label_bytes_print [] e = refl
 label_bytes_print (byte ∷ text) e =
-    let each = both (is_label_byte byte) (list_all is_label_byte text) e in
+    let each = and_parts (is_label_byte byte) (list_all is_label_byte text) e in
     rw (label_byte_prints byte each.0) (label_bytes_print text each.1)
 
 label_bytes_are_trimmed : (text : List ℕ) → list_all is_label_byte text ≡ true → without_trailing is_blank text ≡ text
 label_bytes_are_trimmed [] e = refl
 label_bytes_are_trimmed (byte ∷ text) e =
-    let each = both (is_label_byte byte) (list_all is_label_byte text) e in
+    let each = and_parts (is_label_byte byte) (list_all is_label_byte text) e in
     without_trailing-cons is_blank byte text ∙ rw (label_byte_is_no_blank byte each.0, label_bytes_are_trimmed text each.1) (keeps (is_empty text))
   where
     keeps : (b : Bool) → cond (b && false) [] (byte ∷ text) ≡ byte ∷ text

@@ -2,7 +2,7 @@
 use Rattle.std.proofs.Common.{◌≡◌, ℕ, ◌+◌, ◌≤◌, Bool, true, false, cond, not, ◌&&◌, ◌||◌, List, [], ◌∷◌, ◌++◌, Option, Some, None, length, map, refl, ap, sym, ◌∙◌, subst, arith, nat_le}
 use Rattle.std.specs.List.{AllByRecursion, IsDistinct}
 use Rattle.std.specs.Option.{option_or, option_map}
-use Rattle.std.proofs.lemmas.Bool.{leb-false}
+use Rattle.std.proofs.lemmas.Bool.{leb-false, not-false}
 use Rattle.std.proofs.lemmas.List.{append_assoc, append-nil, map-append}
 use Rattle.card_definitions.specs.Words.{is_empty, ◌⟹◌}
 use Rattle.card_definitions.specs.Fields.{Reading}
@@ -22,10 +22,6 @@ use Rattle.deck_definitions.specs.DataCards.{Pair, pairs_of, entry_of}
 use Rattle.deck_definitions.specs.Tests.{pair_row_fault, pair_fault, pairs_fault, value_fault, number_fault_from}
 use Rattle.deck_definitions.proofs.Pairs.{pairs_fault-cons}
 use Rattle.deck_definitions.proofs.CardTexts.{decimal-lawful}
-
-pub is_true_of_not : (b : Bool) → not b ≡ false → b ≡ true
-is_true_of_not true h = refl
-is_true_of_not false h = absurd (cc h)
 
 -- a count that a limit doesn't stop
 pub not_full : (limit count : ℕ) → nat_le limit count ≡ false → count + 1 ≤ limit
@@ -74,7 +70,7 @@ module _ (seen : Problem Name) (section : Section) where
       (not (has_row seen.rows pair.row) ⟹ UnknownRow) ∷
       (is_section Ranges section && has_free_row seen.rows pair.row ⟹ RangeOnFree) ∷ []) t.0 in
       record {
-        there = is_true_of_not (has_row seen.rows pair.row) (test_fails (not (has_row seen.rows pair.row)) UnknownRow r.1.0);
+        there = not-false (has_row seen.rows pair.row) (test_fails (not (has_row seen.rows pair.row)) UnknownRow r.1.0);
         unfree = test_fails (is_section Ranges section && has_free_row seen.rows pair.row) RangeOnFree r.1.1.0;
         new = test_fails (has_entry taken pair.row) DuplicateEntry t.1.0;
         value = no_value_fault pair.column pair.value t.1.1.0;

@@ -120,7 +120,7 @@ pub described-problem : (name : Name) (cards : List Card) → IsName name → Ar
 unfolding described
 described-problem name cards named printable fine = lawful-numbered (described name cards) named (renamed name cards (accepted-cards [] cards printable nothing fine))
 
-printable_live : (cards : List Card) → ArePrintable cards → ArePrintable (live cards)
+pub printable_live : (cards : List Card) → ArePrintable cards → ArePrintable (live cards)
 printable_live [] printable = tt
 printable_live (card ∷ cards) printable = by (is_skipped card.bytes) (printable_live cards printable.1)
   where
@@ -129,7 +129,7 @@ printable_live (card ∷ cards) printable = by (is_skipped card.bytes) (printabl
     by false rest = (printable.0, rest)
 
 -- the name of a deck is a name
-deck_name-name : (cards : List Card) → ArePrintable cards → IsName (deck_name cards)
+pub deck_name-name : (cards : List Card) → ArePrintable cards → IsName (deck_name cards)
 deck_name-name [] printable = record { short = lit≤ tt; printable = refl; trimmed = refl }
 deck_name-name (card ∷ cards) printable = columns-name 15 22 card.bytes (lit≤ tt) printable.0
 

@@ -1,4 +1,4 @@
-mod Examples
+pub mod Examples
 mod Faults
 pub mod Steps
 pub mod Pairs

@@ -4,6 +4,7 @@ use Rattle.std.specs.List.{AllByRecursion, IsDistinct}
 use Rattle.std.specs.Option.{option_map, option_to_list, IfSome}
 use Rattle.std.proofs.lemmas.List.{map-append, length-append}
 use Rattle.std.proofs.lemmas.List.Folds.{list_any-append}
+use Rattle.std.proofs.lemmas.Bool.{not-false}
 use Rattle.card_definitions.specs.Words.{is_empty, named, ◌⟹◌}
 use Rattle.card_definitions.specs.Fields.{Reading}
 use Rattle.card_definitions.specs.Numbers.{decimal_of}
@@ -28,7 +29,7 @@ use Rattle.deck_definitions.specs.Tests.{kind_filled, filled_from_3, filled_from
 use Rattle.deck_definitions.specs.Conversion.{section_fault}
 use Rattle.deck_definitions.proofs.Steps.{with_card, with_group}
 use Rattle.deck_definitions.proofs.CardTexts.{IsReading, pairs-short, decimal-lawful}
-use Rattle.deck_definitions.proofs.Accepted.{pairs-lawful, pairs-limited, pairs-few, pairs-unmarked, added_some, is_true_of_not, not_full, no_value_fault}
+use Rattle.deck_definitions.proofs.Accepted.{pairs-lawful, pairs-limited, pairs-few, pairs-unmarked, added_some, not_full, no_value_fault}
 
 -- ---- ROWS
 
@@ -232,7 +233,7 @@ module _ (p : Problem Name) (lawful : IsLawful p) where
         record {
           bounds_lawful = record {
             on_columns = each-push (λ (bound : Bound Name). has_group p.columns bound.column ≡ true) (items_of card.name1 p.bounds) (bound_of card kind) known.on_columns
-                (is_true_of_not (has_group p.columns card.name2) (test_fails (not (has_group p.columns card.name2)) UnknownColumn t.1.0));
+                (not-false (has_group p.columns card.name2) (test_fails (not (has_group p.columns card.name2)) UnknownColumn t.1.0));
             apart = distinct-push clash_by_name (items_of card.name1 p.bounds) (bound_of card kind) known.apart
                 (apart_from (items_of card.name1 p.bounds) (test_fails (is_bound_already (items_of card.name1 p.bounds) card.name2 kind) BoundTwice t.1.1.0));
             valued = each-push (λ (bound : Bound Name). is_some bound.value ≡ takes_value bound.kind) (items_of card.name1 p.bounds) (bound_of card kind) known.valued value.0;

@@ -15,7 +15,7 @@ blanks : (n : ℕ) → list_all is_blank (replicate n 32) ≡ true
 blanks zero = refl
 blanks (suc n) = blanks n
 
-length-padded : (width : ℕ) (text : List ℕ) → length text ≤ width → length (padded width text) ≡ width
+pub length-padded : (width : ℕ) (text : List ℕ) → length text ≤ width → length (padded width text) ≡ width
 length-padded width text short =
     let sum : length text + (width - length text) ≡ width = omega arith in
     length-append text (replicate (width - length text) 32) ∙ ap (λ n. length text + n) (length-replicate (width - length text) 32) ∙ sum

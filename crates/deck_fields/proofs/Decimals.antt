@@ -27,10 +27,6 @@ exponent_is_small field e =
     let small : nat_lt 18 (exponent_size text) ≡ false = last_test_fails (is_empty text) (nat_lt (formed_length text) (length text)) (lacks_digit text) (nat_lt 18 (exponent_size text)) _ e in
     grind (arith, nat_tests)
 
--- for `using`, which takes no name with a dash
-pub text_is_decimal : (field : List ℕ) → length field ≤ 12 → number_fault field ≡ None → IsDecimal (decimal_of field)
-text_is_decimal = decimal-lawful
-
 -- a value that is given is the one that there is
 unless-Ok : {A F : Type 0} (fault : Option F) (given value : A) → unless fault given ≡ Ok value → given ≡ value
 unless-Ok None given value e = cc e

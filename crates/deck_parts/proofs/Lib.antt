@@ -1,6 +1,6 @@
 pub mod Keyed
 mod NumbersTold
-mod Second
+pub mod Second
 pub mod Grouped
 pub mod Fronts
 mod FirstPlaces

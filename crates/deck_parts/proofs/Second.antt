@@ -9,7 +9,7 @@ use Rattle.deck_definitions.specs.DataCards.{Pair, entry_of}
 use Rattle.deck_definitions.specs.Tests.{pair_fault, pairs_fault}
 use Rattle.deck_definitions.proofs.Pairs.{pairs_fault-cons}
 
-or_none : (o : Option DeckFaultKind) → option_or o None ≡ o
+pub or_none : (o : Option DeckFaultKind) → option_or o None ≡ o
 or_none None = refl
 or_none (Some kind) = refl
 

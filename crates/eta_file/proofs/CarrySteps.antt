@@ -8,6 +8,7 @@ use Rattle.exact_values.specs.Rational.{ℚ, zero_ℚ, ◌+ℚ◌, ◌-ℚ◌, �
 use Rattle.exact_values.proofs.Ring.{by_ring4, ◌⊕◌, ◌⊖◌, ◌⊗◌, ◌≐◌}
 use Rattle.exact_values.proofs.Ring_laws.{add-zero, zero-add, mul-zero}
 use Rattle.lp_laws.proofs.Values.{sub-zero}
+use Rattle.lp_laws.proofs.Places.{value_at_place}
 use Rattle.lp_definitions.specs.LinearProgram.{on_row, value_at}
 use Rattle.lp_definitions.specs.declared.Entry.{Entry}
 use Rattle.eta_file.specs.declared.eta.EtaEntry.{EtaEntry}
@@ -53,9 +54,6 @@ module _ (es : List EtaEntry) (n : ℕ) (e : EtaEntry) (below : n < length es) (
 
 -- ---- the value at k, after the entry's place is written
 
-pub read_place : (xs : List ℚ) (j : ℕ) (v : ℚ) → 1 ≤ j → j ≤ length xs → v ≡ get_or xs (j - 1) v → v ≡ value_at xs j
-read_place xs j v low high is = let within : j - 1 < length xs = omega arith in get_or_read xs (j - 1) v within is zero_ℚ
-
 pub written_same : (xs : List ℚ) (j k : ℕ) (v : ℚ) → 1 ≤ j → j ≤ length xs → j ≡ k → value_at (set xs (j - 1) v) k ≡ v
 written_same xs j k v low high same =
     let within : j - 1 < length xs = omega arith in
@@ -73,7 +71,7 @@ module _ (es : List EtaEntry) (n : ℕ) (e : EtaEntry) (below : n < length es) (
       at : (((eqb e.i k ≡ true) × (e.i ≡ k)) ⊎ ((eqb e.i k ≡ false) × (e.i ≢ k))) → value_at (set out (e.i - 1) v) k ≡ value_at old k -ℚ u *ℚ sum_rate (take (n + 1) es) k
       at (inl same) =
           written_same out e.i k v within.0 within.1 same.1 ∙ is_v
-          ∙ ap (λ y. y -ℚ u *ℚ e.rate) (read_place out e.i x within.0 within.1 at_x ∙ ap (value_at out) same.1 ∙ so_far)
+          ∙ ap (λ y. y -ℚ u *ℚ e.rate) (value_at_place out e.i x within.0 within.1 at_x ∙ ap (value_at out) same.1 ∙ so_far)
           ∙ by_ring4 (value_at old k) u (sum_rate (take n es) k) e.rate (λ o u s r. (o ⊖ u ⊗ s) ⊖ u ⊗ r ≐ o ⊖ u ⊗ (s ⊕ r)) refl
           ∙ ap (λ s. value_at old k -ℚ u *ℚ s) (sym (sum_next_same es n e below is k same.1))
       at (inr other) =
@@ -111,6 +109,3 @@ module _ (c : List Entry) (n : ℕ) (e : Entry) (below : n < length c) (is : e �
 
 pub minus_nothing : (x u : ℚ) → x -ℚ u *ℚ zero_ℚ ≡ x
 minus_nothing x u = ap (λ s. x -ℚ s) (mul-zero u) ∙ sub-zero x
-
-pub times_nothing : (u : ℚ) → u *ℚ zero_ℚ ≡ zero_ℚ
-times_nothing u = mul-zero u

@@ -10,19 +10,15 @@ use Rattle.lp_model.specs.declared.Stop.{Stop}
 use Rattle.lp_model.specs.declared.Stop.TheVariants.{Overflow, NoMemory}
 use Rattle.lp_laws.proofs.Uniqueness.{one_direction}
 use Rattle.lp_laws.proofs.Values.{clash}
-use Rattle.eta_file.proofs.CarrySteps.{read_place}
 use Rattle.lp_definitions.specs.Waypoints.{KeepsWaypoints, IsKept}
 use Rattle.lp_model.specs.RatesCalls.{IsRowOf, IfOverflow}
 use Rattle.lp_laws.proofs.Opening.{length-row_basics, AreRates-opening}
-use Rattle.lp_laws.proofs.WaypointLaws.{within_itself}
+use Rattle.lp_laws.proofs.WaypointLaws.{within_itself, keeps_same}
 use Rattle.lp_laws.specs.Rates.{opening_rate}
+use Rattle.lp_laws.proofs.Places.{value_at_place}
 use Rattle.eta_file.specs.Prefixes.{Passed, after, prefixes}
 use Rattle.eta_file.specs.Inverse.{Inverse, ways_of, IsAppended, IsRateAt, IsColumnStop}
 use Rattle.eta_file.proofs.PrefixLaws.{prefixes-append, rates_after}
-
--- an inverse whose call left it as it was keeps its waypoints
-pub keeps_same : (a : Matrix) (b : Basics) (ways : List Basics) → KeepsWaypoints a b ways b ways
-keeps_same a b ways = record { each = λ k d below. inl (Contains-get_or ways k d below) }
 
 -- and so does one with one eta more
 pub keeps_appended : (f : Inverse) (p q : ℕ) (g : Inverse) → f.basics ≡ after (row_basics f.matrix) f.etas → IsAppended f p q g → KeepsWaypoints f.matrix f.basics (ways_of f) g.basics (ways_of g)
@@ -77,7 +73,7 @@ pub rate_read : (f : Inverse) (i k : ℕ) (v : ℚ) (xs : List ℚ) → IsNonsin
 rate_read f i k v xs one is_i is_k basic is_mark out counted direction read = record {
   at_basic = λ inside. absurd (clash (sym inside ∙ sym is_mark ∙ out));
   at_nonbasic = λ outside d its.
-      read_place xs i v is_i.0 (omega (arith, is_i.1, counted)) read ∙ one_direction f.matrix f.basics k (value_at xs) d one direction its i is_i;
+      value_at_place xs i v is_i.0 (omega (arith, is_i.1, counted)) read ∙ one_direction f.matrix f.basics k (value_at xs) d one direction its i is_i;
 }
 
 -- the column of a nonbasic that is refused refuses a row

@@ -12,6 +12,7 @@ use Rattle.lp_definitions.specs.LinearProgram.{Matrix, Vector, size, numbers_fro
 use Rattle.lp_definitions.specs.Basis.{Basics, is_in}
 use Rattle.lp_laws.proofs.Values.{clash}
 use Rattle.lp_laws.proofs.Opening.{numbers_from-append}
+use Rattle.lp_laws.proofs.Places.{value_next}
 use Rattle.eta_file.specs.declared.eta.EtaEntry.{EtaEntry}
 use Rattle.eta_file.specs.Entries.{sum_rate, others, AreApart}
 use Rattle.eta_file.specs.Prefixes.{is_entry, entry_of, entries_to, rate_entries}
@@ -150,9 +151,6 @@ length_from w d first (suc n) = at (is_entry w d first) (length_from w d (suc fi
 pub length-rate_entries : (a : Matrix) (w : Basics) (d : Vector) → length (rate_entries a w d) ≤ size a
 length-rate_entries a w d = length_from w d 1 (size a)
 
-value_next : (xs : List ℚ) (n : ℕ) (x : ℚ) → n < length xs → x ≡ get_or xs n x → x ≡ value_at xs (n + 1)
-value_next xs n x within is = let same : n + 1 - 1 ≡ n = omega arith in get_or_read xs n x within is zero_ℚ ∙ ap (λ k. get_or xs k zero_ℚ) (sym same)
-
 mark_next : (w : Basics) (n : ℕ) → get_or w n false ≡ is_in w (n + 1)
 mark_next w n = let same : n + 1 - 1 ≡ n = omega arith in ap (λ k. get_or w k false) (sym same)
 
@@ -160,7 +158,7 @@ mark_next w n = let same : n + 1 - 1 ≡ n = omega arith in ap (λ k. get_or w k
 pub entry_more : (w : Basics) (xs : List ℚ) (n : ℕ) (mark keeps : Bool) (x : ℚ) (es : List EtaEntry) → n < length xs → x ≡ get_or xs n x → mark ≡ get_or w n false → keeps ≡ mark && not (eq_ℚ x zero_ℚ)
     → es ≡ entries_to w (value_at xs) n → keeps ≡ true → es ++ (record { i = n + 1; rate = x } ∷ []) ≡ entries_to w (value_at xs) (n + 1)
 entry_more w xs n mark keeps x es within is_x is_mark tested so_far kept =
-    let at_x : x ≡ value_at xs (n + 1) = value_next xs n x within is_x in
+    let at_x : x ≡ value_at xs (n + 1) = sym (value_next xs n x within is_x) in
     let passes : is_entry w (value_at xs) (n + 1) ≡ true = ap₂ (λ m v. m && not (eq_ℚ v zero_ℚ)) (sym (is_mark ∙ mark_next w n)) (sym at_x) ∙ sym tested ∙ kept in
     let one : EtaEntry = record { i = n + 1; rate = x } in
     ap (λ ys. ys ++ (one ∷ [])) so_far
@@ -170,7 +168,7 @@ entry_more w xs n mark keeps x es within is_x is_mark tested so_far kept =
 pub entry_none : (w : Basics) (xs : List ℚ) (n : ℕ) (mark keeps : Bool) (x : ℚ) (es : List EtaEntry) → n < length xs → x ≡ get_or xs n x → mark ≡ get_or w n false → keeps ≡ mark && not (eq_ℚ x zero_ℚ)
     → es ≡ entries_to w (value_at xs) n → keeps ≡ false → es ≡ entries_to w (value_at xs) (n + 1)
 entry_none w xs n mark keeps x es within is_x is_mark tested so_far kept =
-    let at_x : x ≡ value_at xs (n + 1) = value_next xs n x within is_x in
+    let at_x : x ≡ value_at xs (n + 1) = sym (value_next xs n x within is_x) in
     let fails : is_entry w (value_at xs) (n + 1) ≡ false = ap₂ (λ m v. m && not (eq_ℚ v zero_ℚ)) (sym (is_mark ∙ mark_next w n)) (sym at_x) ∙ sym tested ∙ kept in
     so_far ∙ sym (entries_to-more w (value_at xs) n ∙ ap (λ t. entries_to w (value_at xs) n ++ cond t (entry_of (value_at xs) (n + 1) ∷ []) []) fails ∙ append-nil (entries_to w (value_at xs) n))
 

@@ -5,6 +5,7 @@ use Rattle.std.specs.Prelude.{◌<ℤ◌, ◌≤ℤ◌}
 use Rattle.std.specs.Ordering.{is_lt}
 use Rattle.std.specs.Cmp.{Equal-is}
 use Rattle.std.specs.declared.cmp.Ordering.{Ordering}
+use Rattle.std.proofs.lemmas.Bool.{false_from_ne_true, not-false, not-true}
 use Rattle.exact_values.specs.Rational.{ℚ, zero_ℚ, ◌≤ℚ◌, ◌<ℚ◌, compare_ℚ, sign_of, sign_ℚ}
 use Rattle.exact_values.specs.Tests.{lt_ℚ, le_ℚ, eq_ℚ}
 use Rattle.exact_values.proofs.Compare.{lt_from_compare, compare_from_lt, same_from_compare, compare_from_same, gt_from_compare, compare_from_gt, le_from_compare}
@@ -22,19 +23,6 @@ not_less_from Less e h = cc
 not_less_from Equal e h = cc
 not_less_from Greater e h = cc
 
--- a test does not pass where that is absurd
-fails : (test : Bool) → (test ≡ true → ⊥) → test ≡ false
-fails true never = absurd (never refl)
-fails false never = refl
-
-not_true : (test : Bool) → not test ≡ true → test ≡ false
-not_true true e = cc
-not_true false e = refl
-
-not_false : (test : Bool) → not test ≡ false → test ≡ true
-not_false true e = refl
-not_false false e = cc
-
 pub lt_from_test : (x y : ℚ) → lt_ℚ x y ≡ true → x <ℚ y
 lt_from_test x y h = lt_from_compare (less_from (compare_ℚ x y) h)
 
@@ -45,18 +33,18 @@ pub le_from_lt_fails : (x y : ℚ) → lt_ℚ x y ≡ false → y ≤ℚ x
 le_from_lt_fails x y h = le_from_compare (not_less_from (compare_ℚ x y) h)
 
 pub lt_fails_from_le : (x y : ℚ) → y ≤ℚ x → lt_ℚ x y ≡ false
-lt_fails_from_le x y h = fails (lt_ℚ x y) (λ e. lt_not_le (lt_from_test x y e) h)
+lt_fails_from_le x y h = false_from_ne_true (lt_ℚ x y) (λ e. lt_not_le (lt_from_test x y e) h)
 
 -- ---- whether x is at most y
 
 pub le_from_test : (x y : ℚ) → le_ℚ x y ≡ true → x ≤ℚ y
-le_from_test x y h = le_from_lt_fails y x (not_true (lt_ℚ y x) h)
+le_from_test x y h = le_from_lt_fails y x (not-true (lt_ℚ y x) h)
 
 pub test_from_le : (x y : ℚ) → x ≤ℚ y → le_ℚ x y ≡ true
 test_from_le x y h = ap not (lt_fails_from_le y x h)
 
 pub lt_from_le_fails : (x y : ℚ) → le_ℚ x y ≡ false → y <ℚ x
-lt_from_le_fails x y h = lt_from_test y x (not_false (lt_ℚ y x) h)
+lt_from_le_fails x y h = lt_from_test y x (not-false (lt_ℚ y x) h)
 
 pub le_fails_from_lt : (x y : ℚ) → y <ℚ x → le_ℚ x y ≡ false
 le_fails_from_lt x y h = ap not (test_from_lt y x h)
@@ -73,7 +61,7 @@ pub apart_from_eq_fails : (x y : ℚ) → eq_ℚ x y ≡ false → x ≢ y
 apart_from_eq_fails x y h e = let passes : eq_ℚ x y ≡ true = test_from_same x y e in cc
 
 pub eq_fails_from_apart : (x y : ℚ) → x ≢ y → eq_ℚ x y ≡ false
-eq_fails_from_apart x y h = fails (eq_ℚ x y) (λ e. h (same_from_test x y e))
+eq_fails_from_apart x y h = false_from_ne_true (eq_ℚ x y) (λ e. h (same_from_test x y e))
 
 -- ---- the sign
 

@@ -1,16 +1,13 @@
 -- Numbers below 1000 in three digits.
 use Rattle.std.proofs.Common.{◌≡◌, ℕ, ◌+◌, ◌-◌, ◌/◌, ◌%◌, ◌<◌, ◌≤◌, ◌⊎◌, inl, inr, List, [], ◌∷◌, ◌++◌, length, replicate, refl, ap, ◌∙◌, arith}
 use Rattle.std.specs.Fmt.{decimal}
-use Rattle.std.proofs.lemmas.Fmt.{decimal_digit, decimal_step}
+use Rattle.std.proofs.lemmas.Fmt.{decimal_digit, decimal_step, decimal_digit as one}
 use Rattle.std.proofs.lemmas.Bool.{cases_lt}
 use Rattle.deck_definitions.specs.Transport.{three_digits}
 
 -- with zeros before a text, so that there are three
 abbrev filled : List ℕ → List ℕ
 filled text = replicate (3 - length text) 48 ++ text
-
-one : (n : ℕ) → n < 10 → decimal n ≡ (48 + n) ∷ []
-one = decimal_digit
 
 two : (n : ℕ) → 10 ≤ n → n < 100 → decimal n ≡ (48 + n / 10) ∷ (48 + n % 10) ∷ []
 two n low high = decimal_step n low (omega arith) ∙ ap (λ front. front ++ (48 + n % 10) ∷ []) (decimal_digit (n / 10) (omega arith))

@@ -4,6 +4,7 @@ use Rattle.std.specs.Str.{bytes_eq}
 use Rattle.std.specs.List.{position_or_len, prefix_len}
 use Rattle.std.proofs.lemmas.List.{length-drop, drop-drop}
 use Rattle.std.proofs.Math.ListN.{drop_of_length-le}
+use Rattle.std.proofs.lemmas.Bool.{cases_lt}
 use Rattle.card_definitions.specs.Cards.{Card, is_skipped, numbered_from, numbered_cards, cards_between}
 use Rattle.deck_definitions.specs.declared.Section.TheVariants.{Header, Endata}
 use Rattle.deck_definitions.specs.Sections.{begins, header_name}
@@ -75,11 +76,6 @@ module _ {X : Type 0} where
   all_taken zero (x ∷ xs) few = absurd (omega arith)
   all_taken (suc n) (x ∷ xs) few = let inner : length xs ≤ n = omega arith in ap (λ ys. x ∷ ys) (all_taken n xs inner)
 
-past_or_within : (m n : ℕ) → (m < n) ⊎ (n ≤ m)
-past_or_within m zero = inr (omega arith)
-past_or_within zero (suc n) = inl (omega arith)
-past_or_within (suc m) (suc n) = elim (past_or_within m n) [ inl past ↦ inl (omega arith) | inr within ↦ inr (omega arith) ]
-
 -- how far the first ENDATA card is from a place
 abbrev to_end : ℕ → List (List ℕ) → ℕ
 to_end first cards = position_or_len (begins Endata) (cards_from first cards)
@@ -98,7 +94,7 @@ cut_here first cards from_one within live =
 pub deck_at : (first last : ℕ) (cards : List (List ℕ)) → 1 ≤ first → first ≤ length cards → IsLiveAt first cards
     → last ≡ min (first + position_or_len (begins Endata) (cards_from first cards)) (length cards)
     → decks_of (cards_from first cards) ≡ cards_between first last cards ∷ decks_of (drop last (numbered_cards cards))
-deck_at first last cards from_one within live is = cut_here first cards from_one within live ∙ by (past_or_within (length cards) (first + to_end first cards))
+deck_at first last cards from_one within live is = cut_here first cards from_one within live ∙ by (cases_lt (length cards) (first + to_end first cards))
   where
     count : length (cards_from first cards) ≡ length cards - (first - 1)
     count = length-drop (first - 1) (numbered_cards cards) ∙ ap (λ n. n - (first - 1)) (length-numbered 1 cards)

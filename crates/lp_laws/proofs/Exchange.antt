@@ -22,7 +22,7 @@ marked (m ∷ ms) = cond m (1 + marked ms) (marked ms)
 pub marked_is : (b : Basics) → marked b ≡ count_by (λ m. m) b
 marked_is b = is_count_by marked (λ m. m) refl (λ m ms. refl) b
 
-marked-set_true : (b : Basics) (i : ℕ) → i < length b → get_or b i false ≡ false → marked (set b i true) ≡ suc (marked b)
+pub marked-set_true : (b : Basics) (i : ℕ) → i < length b → get_or b i false ≡ false → marked (set b i true) ≡ suc (marked b)
 marked-set_true [] i below out = absurd (omega arith)
 marked-set_true (m ∷ ms) zero below out = rw out (omega arith)
 marked-set_true (true ∷ ms) (suc i) below out = ap (λ n. 1 + n) (marked-set_true ms i (omega arith) out) ∙ omega arith

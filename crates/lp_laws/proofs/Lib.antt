@@ -1,4 +1,6 @@
 pub mod Values
+pub mod Idle
+pub mod Places
 pub mod Equations
 pub mod Functionals
 pub mod Duality

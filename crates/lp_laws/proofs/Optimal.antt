@@ -74,7 +74,7 @@ at_fixed Ll low high u v out allowed stands at_low at_high = (stands, at_high �
 at_fixed Ul low high u v out allowed stands at_low at_high = (at_low ∙ sym at_high ∙ stands, stands)
 at_fixed Fr low high u v out allowed stands at_low at_high = let P : low ≡ None → low ≡ Some u → ⊥ = λ e h. cc in absurd (P allowed.0 at_low)
 
-for_min-zero : (s : Sense) → for_min s zero_ℚ ≡ zero_ℚ
+pub for_min-zero : (s : Sense) → for_min s zero_ℚ ≡ zero_ℚ
 for_min-zero Min = refl
 for_min-zero Max = by_ring1 zero_ℚ (λ z. opposite (number (pos 0)) ≐ number (pos 0)) refl
 

@@ -15,7 +15,7 @@ use Rattle.selection_definitions.specs.declared.SelectionFault.TheVariants.{NoOb
 use Rattle.selection_definitions.specs.Choice.{Choice, objective_of, is_not_free, misses_set, selection_fault}
 use Rattle.selection_definitions.specs.Selection.{matrix_of, program_of_choice, selected}
 use Rattle.lp_setup.specs.Changes.{free_row_number, IsFreeIn}
-use Rattle.lp_setup.proofs.Lawful.{program_is_lawful}
+use Rattle.lp_setup.proofs.Lawful.{program_is_lawful, number_there}
 
 -- ---- the row of a name
 
@@ -46,10 +46,6 @@ is_there : (name : Name) (rows : List (Row ℕ)) → has_free_row rows name ≡ 
 is_there name rows free =
     above_zero (objective_of rows (Some name))
     (subst (λ n. 0 < n) (objective_number name rows) (number_in-within (map (λ (row : Row ℕ). row.name) rows) name (free_is_there name rows free)).positive)
-
-number_there : (o : Option ℕ) → is_none o ≡ false → o ≡ Some (unwrap_or o 0)
-number_there None e = absurd (cc e)
-number_there (Some number) e = refl
 
 free_number : (problem : Problem ℕ) (name : Name) → has_free_row problem.rows name ≡ true → objective_of problem.rows (Some name) ≡ free_row_number problem name
 free_number problem name free =
@@ -87,7 +83,7 @@ faultless : {A F : Type 0} (fault : Option F) (value lp : A) → unless fault va
 faultless None value lp e = (refl, cc e)
 faultless (Some fault) value lp e = absurd (cc e)
 
-is_chosen : (problem : Problem ℕ) (choice : Choice) (lp : LinearProgram) → selected problem choice ≡ Ok lp → (selection_fault problem choice ≡ None) × (program_of_choice problem choice ≡ lp)
+pub is_chosen : (problem : Problem ℕ) (choice : Choice) (lp : LinearProgram) → selected problem choice ≡ Ok lp → (selection_fault problem choice ≡ None) × (program_of_choice problem choice ≡ lp)
 unfolding selected
 is_chosen problem choice lp e = faultless (selection_fault problem choice) (program_of_choice problem choice) lp e
 

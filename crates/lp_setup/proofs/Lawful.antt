@@ -6,6 +6,7 @@ use Rattle.std.proofs.lemmas.List.{length-map, length-append, get_or-map, get_or
 use Rattle.std.proofs.lemmas.List.FromFn.{length-enumerate_from, get_or-enumerate_from}
 use Rattle.std.proofs.lemmas.List.Quantifiers.{position-Some}
 use Rattle.std.proofs.lemmas.Option.{same_Some, slice_get-get_or, slice_get_within, get_or_from_slice_get}
+use Rattle.std.proofs.lemmas.Bool.{not-false}
 use Rattle.exact_values.specs.Rational.{ℚ}
 use Rattle.lp_definitions.specs.declared.Entry.{Entry as Coefficient}
 use Rattle.lp_definitions.specs.declared.Sense.{Sense}
@@ -92,10 +93,6 @@ row_found p rows number e =
     let found = position-Some p rows at.0 some at.2 in
     (at.0, get_or rows at.0 some, at.1, slice_get-get_or rows at.0 some found.0, found.1)
 
-negated : (b : Bool) → not b ≡ false → b ≡ true
-negated true e = refl
-negated false e = absurd (cc e)
-
 pub free_objective : (rows : List (Row ℕ)) → IsDistinct same (map (λ (r : Row ℕ). r.name) rows) → (chosen : Option Name) (number : ℕ) → objective_of rows chosen ≡ Some number → is_not_free rows chosen ≡ false → IsFreeRow rows number
 free_objective rows distinct (Some name) number e free =
     let at = row_found (λ row. same name row.name) rows number e in
@@ -104,7 +101,7 @@ free_objective rows distinct (Some name) number e free =
       row = at.1;
       is_number = at.2;
       is_row = at.3;
-      is_free = free_kind at.1.kind (named_free name rows distinct (negated (has_free_row rows name) free) at.0 at.1 at.3 at.4);
+      is_free = free_kind at.1.kind (named_free name rows distinct (not-false (has_free_row rows name) free) at.0 at.1 at.3 at.4);
     }
 free_objective rows distinct None number e free =
     let at = row_found (λ row. is_free_kind row.kind) rows number e in
@@ -219,7 +216,7 @@ module _ (problem : Problem ℕ) (is : IsProblem problem) where
 
 -- ---- the definitions' promise
 
-number_there : (o : Option ℕ) → is_none o ≡ false → o ≡ Some (unwrap_or o 0)
+pub number_there : (o : Option ℕ) → is_none o ≡ false → o ≡ Some (unwrap_or o 0)
 number_there None e = absurd (cc e)
 number_there (Some number) e = refl
 

@@ -17,10 +17,7 @@ use Rattle.deck_definitions.specs.DataCards.{FixedFields, entries_of, pairs_of}
 use Rattle.deck_definitions.specs.Tests.{kind_filled, marks, all_but_last, columns_fault, pairs_fault}
 use Rattle.deck_definitions.specs.Conversion.{form_fault, section_fault, data_card_fault}
 use Rattle.deck_definitions.proofs.Accepted.{pairs-few}
-
-or_none : (o : Option DeckFaultKind) → option_or o None ≡ o
-or_none None = refl
-or_none (Some kind) = refl
+use Rattle.deck_parts.proofs.Second.{or_none}
 
 -- a data card that has its form, in a section that has data cards, has the fault of its section
 pub fault_in_section : (seen : Problem Name) (section : Section) (card : List ℕ) (reading : Reading) → is_section Header section ≡ false → form_fault Fixed card ≡ None → reading ≡ reading_of Fixed card

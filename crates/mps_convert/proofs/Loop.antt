@@ -103,7 +103,7 @@ stops_whole cards card more whole state (Fault told) split is none holds =
     (fault-push cards card none ∙ ap (λ s. option_map (λ kind. record { card = card.number; kind = kind }) (live_fault s card.bytes)) (sym is) ∙ holds)
 
 -- the card of a number
-numbered_at : (start i : ℕ) (cards : List (List ℕ)) (card : List ℕ) → slice_get cards i ≡ Some card → slice_get (numbered_from start cards) i ≡ Some (record { number = start + i; bytes = card })
+pub numbered_at : (start i : ℕ) (cards : List (List ℕ)) (card : List ℕ) → slice_get cards i ≡ Some card → slice_get (numbered_from start cards) i ≡ Some (record { number = start + i; bytes = card })
 numbered_at start i [] card at = absurd (cc at)
 numbered_at start zero (c ∷ cards) card at = let n : start + 0 ≡ start = omega arith in rw n (ap (option_map (λ (bytes : List ℕ). record { number = start; bytes = bytes })) at)
 numbered_at start (suc i) (c ∷ cards) card at = let n : start + suc i ≡ start + 1 + i = omega arith in rw n (numbered_at (start + 1) i cards card at)

@@ -16,7 +16,7 @@ use Rattle.deck_definitions.specs.declared.Section.TheVariants.{Endata}
 use Rattle.deck_definitions.specs.Sections.{is_section_after, header_name}
 use Rattle.deck_definitions.specs.Described.{described}
 use Rattle.deck_definitions.specs.Conversion.{card_fault, first_faulty, deck_fault, deck_name, conversion}
-use Rattle.deck_definitions.proofs.Converted.{ArePrintable, described-problem}
+use Rattle.deck_definitions.proofs.Converted.{ArePrintable, described-problem, printable_live}
 use Rattle.deck_definitions.proofs.Steps.{last_or-push}
 use Rattle.deck_fields.specs.declared.stop.DeckStop.{DeckStop}
 use Rattle.deck_fields.specs.declared.stop.DeckStop.TheVariants.{Fault, NoMemory}
@@ -59,15 +59,6 @@ module _ (deck : List Card) (name : Option Name) where
 pub named_as : (name : Name) (cards : List Card) (problem : Problem Name) → problem ≡ described [] cards → record problem { name = name } ≡ described name cards
 unfolding described
 named_as name cards problem is = ap (λ (p : Problem Name). record p { name = name }) is
-
--- the cards that aren't skipped are printable where all are
-pub printable_live : (cards : List Card) → ArePrintable cards → ArePrintable (live cards)
-printable_live [] h = tt
-printable_live (card ∷ cards) h = by (is_skipped card.bytes) (printable_live cards h.1)
-  where
-    by : (b : Bool) → ArePrintable (live cards) → ArePrintable (cond (not b) (card ∷ live cards) (live cards))
-    by true rest = rest
-    by false rest = (h.0, rest)
 
 -- what a draft shows after the cards of a deck without a fault, under a name, is a problem
 pub is_problem : (deck : List Card) (own : Name) (problem : Problem Name) → IsName own → ArePrintable deck → first_faulty card_fault [] (live deck) ≡ None → problem ≡ described [] (live deck)

@@ -4,6 +4,7 @@ use Rattle.std.specs.Prelude.{Option, Some, None, IsTrue, ◌&&◌, ◌||◌, op
 use Rattle.exact_values.specs.Rational.{ℚ, zero_ℚ}
 use Rattle.exact_values.specs.Tests.{lt_ℚ}
 use Rattle.exact_values.proofs.Order.{le_of_lt, lt_not_le}
+use Rattle.exact_values.proofs.Tests_laws.{lt_from_test}
 use Rattle.lp_definitions.specs.LinearProgram.{LinearProgram, Vector, size, value_at, IsRow, IsVariable, HasNoLimits, IsLinearProgram, for_min}
 use Rattle.lp_definitions.specs.Solutions.{IsFeasible}
 use Rattle.lp_definitions.specs.Basis.{basics_of, IsNonbasic, IsDirectionOf, IsOptimalBasis, IsPointOf, Tableau, IsTableau, objective_rate}
@@ -17,7 +18,6 @@ use Rattle.method_definitions.specs.Path.{after, speeds, stopped_by}
 use Rattle.path_laws.specs.Laws.{IsNonsingularBasis}
 use Rattle.path_laws.proofs.Searches.{found_passes}
 use Rattle.path_laws.proofs.Stoppers.{stopper_some}
-use Rattle.path_laws.proofs.Tests.{lt_true}
 use Rattle.method_definitions.specs.Chain.{FaceMoves, FaceDone, FaceEnds, UnboundedPast}
 use Rattle.method_definitions.specs.ObjectiveRun.{objective_family, change_rate, face_mover, face_until, face_by, objective_face, IsObjectiveFace}
 use Rattle.basis_values.specs.Motions.{may_move, motion}
@@ -44,7 +44,7 @@ may_go false true rises false e one = cc
 may_go false false rises falls e one = cc
 
 one_sign : (x : ℚ) → lt_ℚ x zero_ℚ ≡ true → lt_ℚ zero_ℚ x ≡ true → ⊥
-one_sign x low high = lt_not_le (lt_true x zero_ℚ low) (le_of_lt (lt_true zero_ℚ x high))
+one_sign x low high = lt_not_le (lt_from_test x zero_ℚ low) (le_of_lt (lt_from_test zero_ℚ x high))
 
 module _ (p : LinearProgram) (h : ℕ) (lawful : IsLinearProgram p) (row : IsRow p.matrix h) (free : HasNoLimits p h) (theta : ℚ) (s : List Status) (at : IsNonsingularBasis p s)
     (z : Vector) (point : IsPointOf p s z) (optimal : IsOptimalBasis (objective_family p h theta) s) (change : Vector) (changed : IsRowOf p.matrix (basics_of s) h change) where

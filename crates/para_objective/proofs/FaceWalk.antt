@@ -23,10 +23,10 @@ use Rattle.bounded_primal.specs.declared.moves.Stopper.{Stopper}
 use Rattle.bounded_primal.proofs.StepFacts.{step_reaches, limit_apart}
 use Rattle.run_calls.specs.Walks.{FaceStops}
 use Rattle.run_calls.proofs.Walks.{face_path_more, run_later, run_more, run_stops, follows}
-use Rattle.run_calls.proofs.Chains.{last_append}
 use Rattle.para_objective.specs.Faces.{family, Face, statement, FaceMovesOn, FacesReach, AnyRun, FacesStop, FacesFollow}
 use Rattle.para_objective.specs.declared.parts.ParaObj.{ParaObj}
 use Rattle.para_objective.proofs.RunEvidence.{of_point, of_stopper, of_step}
+use Rattle.sweep_laws.proofs.Runs.{last_of-append}
 
 module _ (p : LinearProgram) (run : ParaObj) (no_change : p.change ≡ None) (theta : ℚ) (s : List Status) (left : ℕ) (ways now : List Basics) where
   -- the direction of q, or what stops it
@@ -59,7 +59,7 @@ module _ (p : LinearProgram) (run : ParaObj) (theta : ℚ) (s : List Status) (be
   faces_more now next steps m reach moves left is = record {
     bases = reach.bases ++ next ∷ [];
     path = face_path_more (family p run) (Face p run) theta s reach.bases next reach.path (subst (λ (x : List Status). IsFaceStep (family p run) (Face p run) theta x next) (sym reach.reaches) (m, moves, is));
-    reaches = last_append s reach.bases (next ∷ []);
+    reaches = last_of-append s reach.bases (next ∷ []);
     taken = let counted = reach.taken in let longer : length (reach.bases ++ next ∷ []) ≡ length reach.bases + 1 = length-append reach.bases (next ∷ []) in omega (arith, counted, longer);
     within = omega (arith, left);
   }

@@ -18,6 +18,7 @@ use Rattle.lp_laws.specs.Rates.{exchanged_rate}
 use Rattle.lp_laws.proofs.Values.{clash, sub-zero}
 use Rattle.lp_laws.proofs.Exchange.{AreRates-exchanged, was_nonbasic}
 use Rattle.lp_laws.proofs.Statuses.{basics_of-replaced, basics_of-flipped, changed_other, status_of_nonbasic}
+use Rattle.lp_laws.proofs.Optimal.{for_min-zero}
 use Rattle.method_definitions.specs.Moves.{rises_from, falls_from, is_fixed, lowers, signed, room, reached, stopper}
 use Rattle.method_definitions.specs.Path.{after, speeds, stopped_by}
 use Rattle.path_laws.specs.Laws.{IsNonsingularBasis}
@@ -31,10 +32,6 @@ use Rattle.sweep_laws.proofs.Objective.{to_objective}
 use Rattle.sweep_laws.proofs.Motions.{HasFeasiblePoint, stopped_feasible}
 
 -- ---- a rate of 0
-
-for_min_of_zero : (sense : Sense) → for_min sense zero_ℚ ≡ zero_ℚ
-for_min_of_zero Min = refl
-for_min_of_zero Max = signed_zero false
 
 idle_at_zero : (rises falls : Bool) (x : ℚ) → x ≡ zero_ℚ → ((lt_ℚ x zero_ℚ && rises) || (lt_ℚ zero_ℚ x && falls)) ≡ false
 idle_at_zero rises falls x e =
@@ -113,7 +110,7 @@ module _ (p : LinearProgram) (h : ℕ) (lawful : IsLinearProgram p) (row : IsRow
     where
       by_kind : (j : ℕ) → IsVariable p.matrix j → IsStill rate j → lowers present next (λ i. for_min p.sense (objective_rate present rate i)) j ≡ false
       by_kind j is (at_zero zero) =
-          idle_at_zero (rises_from (status_of next j) && not (is_fixed present j)) (falls_from (status_of next j) && not (is_fixed present j)) (for_min p.sense (objective_rate present rate j)) (ap (for_min p.sense) zero ∙ for_min_of_zero p.sense)
+          idle_at_zero (rises_from (status_of next j) && not (is_fixed present j)) (falls_from (status_of next j) && not (is_fixed present j)) (for_min p.sense (objective_rate present rate j)) (ap (for_min p.sense) zero ∙ for_min-zero p.sense)
       by_kind j is (as_it_was same stands) =
           ap₂ (λ w st. (lt_ℚ w zero_ℚ && (rises_from st && not (is_fixed present j))) || (lt_ℚ zero_ℚ w && (falls_from st && not (is_fixed present j)))) (ap (for_min p.sense) same) stands
           ∙ right_now.right j is

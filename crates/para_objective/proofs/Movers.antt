@@ -13,9 +13,9 @@ use Rattle.method_definitions.specs.Moves.{least, may_rise, may_fall}
 use Rattle.path_laws.proofs.Numbered.{find_same}
 use Rattle.path_laws.specs.Laws.{IsNonsingularBasis}
 use Rattle.method_definitions.specs.ObjectiveRun.{objective_family, face_mover}
-use Rattle.ranging.proofs.RateBounds.{value_next}
 use Rattle.para_objective.specs.Breaks.{is_mover}
 use Rattle.para_objective.proofs.Reaches.{still, price_is, rate_is}
+use Rattle.lp_laws.proofs.Places.{value_next}
 
 pub opposite_if_zero : (price product : ℚ) → price +ℚ product ≡ zero_ℚ → product ≡ neg_ℚ price
 opposite_if_zero price product e = same_by_one one_ℚ e (by_ring2 price product (λ a q. q ≐ opposite a ⊕ number (pos 1) ⊗ (a ⊕ q ⊖ number (pos 0))) refl)

@@ -28,13 +28,13 @@ use Rattle.bounded_primal.specs.declared.moves.PrimalStop.{PrimalStop}
 use Rattle.bounded_primal.specs.declared.moves.PrimalStop.TheVariants.{Limit, Overflow, NoMemory}
 use Rattle.run_calls.specs.Calls.{part_of, end_of}
 use Rattle.run_calls.specs.Walks.{HasRun}
-use Rattle.run_calls.proofs.Chains.{last_append}
 use Rattle.run_calls.proofs.Walks.{opening_reaches, opening_run, opens_first}
 use Rattle.sweep_laws.proofs.NotBoth.{same_path}
 use Rattle.sweep_laws.proofs.OneRun.{objective_faces}
 use Rattle.sweep_laws.proofs.Objective.{to_objective}
 use Rattle.sweep_laws.proofs.OneObjective.{lawful_objective}
 use Rattle.sweep_laws.proofs.TrueRuns.{objective_runs}
+use Rattle.sweep_laws.proofs.Runs.{last_of-append}
 use Rattle.para_objective.specs.Faces.{family, Face}
 use Rattle.para_objective.specs.Runs.{StandsAt, ChainEnds, OpensFrom, ObjectiveEnds, ObjectiveStops, ObjectiveFollows, IsTrueObjective}
 use Rattle.para_objective.specs.declared.parts.ParaObj.{ParaObj}
@@ -252,7 +252,7 @@ module _ (p : LinearProgram) (run : ParaObj) (lawful : IsLinearProgram p) (row :
       run_ends = record {
         bases = ends.bases ++ chain.path;
         is_report = is_run;
-        reaches = last_append s ends.bases chain.path ∙ ap (λ x. last_of x chain.path) ends.reaches ∙ chain.reaches;
+        reaches = last_of-append s ends.bases chain.path ∙ ap (λ x. last_of x chain.path) ends.reaches ∙ chain.reaches;
         within = let count = counted in let within = chain.within in omega (arith, count, within);
         lie = λ earlier lie. subst (λ xs. LieIn p.matrix later (earlier ++ s ∷ xs)) same (stood.run_there.lie earlier lie);
       }

@@ -1,12 +1,14 @@
 -- The values at which combined rates are 0, and how far conditions on them hold.
 use Rattle.std.proofs.Common.{◌≡◌, ◌≢◌, ℕ, ◌+◌, List, arith, cond, pos, refl, sym, ap, ◌∙◌, subst, subst₂, ◌⊎◌, inl, inr, Bool, true, false}
 use Rattle.std.specs.Prelude.{◌↔◌, IfSome, not, ◌&&◌, ◌||◌}
+use Rattle.std.proofs.lemmas.Bool.{not-true}
 use Rattle.exact_values.specs.Rational.{ℚ, zero_ℚ, one_ℚ, neg_ℚ, ◌+ℚ◌, ◌-ℚ◌, ◌*ℚ◌, ◌/ℚ◌, ◌≤ℚ◌, ◌<ℚ◌}
 use Rattle.exact_values.specs.Tests.{lt_ℚ}
 use Rattle.exact_values.proofs.Inverse.{div-mul_cancel}
 use Rattle.exact_values.proofs.Order.{le_by_one, lt_by_one, le_of_lt, le_trans, le_refl, lt_from_le}
 use Rattle.exact_values.proofs.Ring.{by_ring1, by_ring3, same_by_one, number, opposite, ◌⊕◌, ◌⊖◌, ◌⊗◌, ◌≐◌}
 use Rattle.exact_values.proofs.Tests_laws.{lt_from_test, test_from_lt, le_from_lt_fails, lt_fails_from_le}
+use Rattle.exact_values.proofs.Signs.{neg_below, neg_not_below}
 use Rattle.affine_conditions.specs.Conditions.{Holds}
 use Rattle.affine_conditions.proofs.Single.{before_zero, holds_before, holds_on, zero_is}
 use Rattle.changed_programs.specs.Changes.{SidesHold, condition, condition_if, sign_sides}
@@ -33,12 +35,6 @@ opposite_zero w v z e =
 pub for_sense : (s : Sense) (w v z : ℚ) → w +ℚ z *ℚ v ≡ zero_ℚ → for_min s w +ℚ z *ℚ for_min s v ≡ zero_ℚ
 for_sense Min w v z e = e
 for_sense Max w v z e = opposite_zero w v z e
-
-neg_below : (v : ℚ) → zero_ℚ <ℚ v → neg_ℚ v <ℚ zero_ℚ
-neg_below v h = lt_by_one h (by_ring1 v (λ v. number (pos 0) ≐ opposite v ⊕ (v ⊖ number (pos 0))) refl)
-
-neg_above : (v : ℚ) → v ≤ℚ zero_ℚ → zero_ℚ ≤ℚ neg_ℚ v
-neg_above v h = le_by_one h (by_ring1 v (λ v. opposite v ≐ number (pos 0) ⊕ (number (pos 0) ⊖ v)) refl)
 
 -- a falling function that is 0 at z
 falling_to : (w v z : ℚ) → w +ℚ z *ℚ v ≡ zero_ℚ → v <ℚ zero_ℚ → (x : ℚ) → Holds (condition w v) x ↔ (x ≤ℚ z)
@@ -88,7 +84,7 @@ module _ (up down : Bool) (w v : ℚ) where
   pub goes_on : ((lt_ℚ v zero_ℚ && up) || (lt_ℚ zero_ℚ v && down)) ≡ false → (from x : ℚ) → SidesHold (sign_sides up down w v) from → from ≤ℚ x → SidesHold (sign_sides up down w v) x
   goes_on none from x h forward = (
     on_if up w v from x (λ may. le_from_lt_fails v zero_ℚ (up_grows (lt_ℚ v zero_ℚ) (lt_ℚ zero_ℚ v) up down none may)) forward h.0,
-    on_if down (neg_ℚ w) (neg_ℚ v) from x (λ may. neg_above v (le_from_lt_fails zero_ℚ v (down_grows (lt_ℚ v zero_ℚ) (lt_ℚ zero_ℚ v) up down none may))) forward h.1,
+    on_if down (neg_ℚ w) (neg_ℚ v) from x (λ may. neg_not_below v (le_from_lt_fails zero_ℚ v (down_grows (lt_ℚ v zero_ℚ) (lt_ℚ zero_ℚ v) up down none may))) forward h.1,
   )
 
   pub goes_to : (z : ℚ) → w +ℚ z *ℚ v ≡ zero_ℚ → ((lt_ℚ v zero_ℚ && up) || (lt_ℚ zero_ℚ v && down)) ≡ true → (from x : ℚ) → SidesHold (sign_sides up down w v) from → from ≤ℚ x → SidesHold (sign_sides up down w v) x ↔ (x ≤ℚ z)
@@ -99,7 +95,7 @@ module _ (up down : Bool) (w v : ℚ) where
         λ k. (rate_falls w v z zero is.0 x).0 ((if_there up w v x is.1).0 k.0),
         λ le. (
           (if_there up w v x is.1).1 ((rate_falls w v z zero is.0 x).1 le),
-          on_if down (neg_ℚ w) (neg_ℚ v) from x (λ _. neg_above v (le_of_lt (lt_from_test v zero_ℚ is.0))) forward h.1,
+          on_if down (neg_ℚ w) (neg_ℚ v) from x (λ _. neg_not_below v (le_of_lt (lt_from_test v zero_ℚ is.0))) forward h.1,
         ),
       )
       at (inr is) = (
@@ -111,10 +107,6 @@ module _ (up down : Bool) (w v : ℚ) where
       )
 
 -- ---- a product that tells that a theta isn't past the zero
-
-fails : (b : Bool) → not b ≡ true → b ≡ false
-fails true e = absurd (clash (sym e))
-fails false e = refl
 
 pub meets_zero : (best price rate product : ℚ) → rate ≢ zero_ℚ → product ≡ best *ℚ rate → meets product price rate ≡ true → best ≤ℚ zero_at price rate
 meets_zero best price rate product apart is h = at (lt_ℚ rate zero_ℚ) refl h
@@ -129,10 +121,10 @@ meets_zero best price rate product apart is h = at (lt_ℚ rate zero_ℚ) refl h
     below le = le_by_one (subst (λ (u : ℚ). u ≤ℚ neg_ℚ price) is le) (by_ring3 price rate best (λ a r x. opposite a ⊕ x ⊗ opposite r ≐ number (pos 0) ⊕ (opposite a ⊖ x ⊗ r)) refl)
 
     at : (test : Bool) → lt_ℚ rate zero_ℚ ≡ test → cond test (not (lt_ℚ product (neg_ℚ price))) (not (lt_ℚ (neg_ℚ price) product)) ≡ true → best ≤ℚ zero_at price rate
-    at true e k = (rate_falls price rate (zero_at price rate) zero e best).0 (above (le_from_lt_fails product (neg_ℚ price) (fails (lt_ℚ product (neg_ℚ price)) k)))
+    at true e k = (rate_falls price rate (zero_at price rate) zero e best).0 (above (le_from_lt_fails product (neg_ℚ price) (not-true (lt_ℚ product (neg_ℚ price)) k)))
     at false e k =
         let rises : zero_ℚ <ℚ rate = lt_from_le (le_from_lt_fails rate zero_ℚ e) (λ z. apart (sym z)) in
-        (rate_rises price rate (zero_at price rate) zero (test_from_lt zero_ℚ rate rises) best).0 (below (le_from_lt_fails (neg_ℚ price) product (fails (lt_ℚ (neg_ℚ price) product) k)))
+        (rate_rises price rate (zero_at price rate) zero (test_from_lt zero_ℚ rate rises) best).0 (below (le_from_lt_fails (neg_ℚ price) product (not-true (lt_ℚ (neg_ℚ price) product) k)))
 
 -- the combined rate itself tells it
 pub meets_combined : (best price rate combined : ℚ) → rate ≢ zero_ℚ → combined ≡ price +ℚ best *ℚ rate → meets combined zero_ℚ rate ≡ true → best ≤ℚ zero_at price rate
@@ -140,9 +132,9 @@ meets_combined best price rate combined apart is h =
     meets_zero best price rate (best *ℚ rate) apart refl (at (lt_ℚ rate zero_ℚ) h)
   where
     at : (test : Bool) → cond test (not (lt_ℚ combined (neg_ℚ zero_ℚ))) (not (lt_ℚ (neg_ℚ zero_ℚ) combined)) ≡ true → cond test (not (lt_ℚ (best *ℚ rate) (neg_ℚ price))) (not (lt_ℚ (neg_ℚ price) (best *ℚ rate))) ≡ true
-    at true k = ap not (lt_fails_from_le (best *ℚ rate) (neg_ℚ price) (le_by_one (le_from_lt_fails combined (neg_ℚ zero_ℚ) (fails (lt_ℚ combined (neg_ℚ zero_ℚ)) k))
+    at true k = ap not (lt_fails_from_le (best *ℚ rate) (neg_ℚ price) (le_by_one (le_from_lt_fails combined (neg_ℚ zero_ℚ) (not-true (lt_ℚ combined (neg_ℚ zero_ℚ)) k))
         (by_ring3 price rate best (λ a r x. x ⊗ r ≐ opposite a ⊕ (a ⊕ x ⊗ r ⊖ opposite (number (pos 0)))) refl ∙ ap (λ u. neg_ℚ price +ℚ (u -ℚ neg_ℚ zero_ℚ)) (sym is))))
-    at false k = ap not (lt_fails_from_le (neg_ℚ price) (best *ℚ rate) (le_by_one (le_from_lt_fails (neg_ℚ zero_ℚ) combined (fails (lt_ℚ (neg_ℚ zero_ℚ) combined) k))
+    at false k = ap not (lt_fails_from_le (neg_ℚ price) (best *ℚ rate) (le_by_one (le_from_lt_fails (neg_ℚ zero_ℚ) combined (not-true (lt_ℚ (neg_ℚ zero_ℚ) combined) k))
         (by_ring3 price rate best (λ a r x. opposite a ≐ x ⊗ r ⊕ (opposite (number (pos 0)) ⊖ (a ⊕ x ⊗ r))) refl ∙ ap (λ u. best *ℚ rate +ℚ (neg_ℚ zero_ℚ -ℚ u)) (sym is))))
 
 -- ---- the lesser of two values

@@ -25,9 +25,10 @@ use Rattle.bounded_primal.specs.declared.moves.PrimalStop.{PrimalStop}
 use Rattle.run_calls.specs.Begun.{IsBegun, nothing, then}
 use Rattle.run_calls.specs.Calls.{part_of, end_of}
 use Rattle.run_calls.specs.Walks.{MayOpen, IntervalStops}
-use Rattle.run_calls.proofs.Chains.{closes, last_append, begun_last}
+use Rattle.run_calls.proofs.Chains.{closes, begun_last}
 use Rattle.run_calls.proofs.Walks.{opens_later, opens_next, run_breaks, opening_follows, interval_stops}
 use Rattle.sweep_laws.proofs.RhsGrowth.{rhs_grows}
+use Rattle.sweep_laws.proofs.Runs.{last_of-append}
 use Rattle.para_rhs.specs.Faces.{family, Face, statement, FacesReach, AnyRun, FacesStop, FacesFollow}
 use Rattle.para_rhs.specs.Parts.{IsIntervalOf}
 use Rattle.para_rhs.specs.Refusals.{RunRefused}
@@ -137,7 +138,7 @@ module _ (p : LinearProgram) (run : ParaRhs) (s : List Status) (begun : ℕ) whe
           (closes (family p run) (Face p run) run.from run.to s (map part_of old) theta now b.path (part_of part ∷ []) (end_of last) reach.bases b.is_begun
           (past_break {from = theta} {s = now} {part = part_of part} is
           (record { before_max = before; face_path = reach.path; last = subst (λ x. Face p run part.to x (FaceEnds (end_of last))) (sym reach.reaches) ends })));
-      reaches = last_append s b.path reach.bases ∙ ap (λ x. last_of x reach.bases) (begun_last (family p run) (Face p run) run.from run.to s (map part_of old) theta now b.path b.is_begun) ∙ reach.reaches;
+      reaches = last_of-append s b.path reach.bases ∙ ap (λ x. last_of x reach.bases) (begun_last (family p run) (Face p run) run.from run.to s (map part_of old) theta now b.path b.is_begun) ∙ reach.reaches;
       steps = taken;
       taken = let first = b.taken in let second = reach.taken in let both : length (b.path ++ reach.bases) ≡ length b.path + length reach.bases = length-append b.path reach.bases in omega (arith, first, second, both);
       within = reach.within;

@@ -53,7 +53,7 @@ not_three Ll = refl
 not_three Ul = refl
 not_three Fr = refl
 
-step_number : (n term : ℕ) → (is_between 1 12 n && (not (nat_eq n 6) || not (nat_eq term 3))) ≡ true → is_between 1 12 n ≡ true
+pub step_number : (n term : ℕ) → (is_between 1 12 n && (not (nat_eq n 6) || not (nat_eq term 3))) ≡ true → is_between 1 12 n ≡ true
 step_number n term h = grind arith
 
 step_brings_not : (n term : ℕ) → (is_between 1 12 n && (not (nat_eq n 6) || not (nat_eq term 3))) ≡ true → nat_eq n 14 ≡ false

@@ -12,9 +12,9 @@ use Rattle.method_definitions.specs.Chain.{FaceMoves, IsFaceStep, AtBreak}
 use Rattle.bounded_primal.specs.declared.moves.PrimalStop.{PrimalStop}
 use Rattle.run_calls.specs.Walks.{FaceStops}
 use Rattle.run_calls.proofs.Walks.{face_path_more, run_later, run_more, run_stops, follows}
-use Rattle.run_calls.proofs.Chains.{last_append}
 use Rattle.para_rhs.specs.Faces.{family, Face, statement, FacesReach, AnyRun, FacesStop, FacesFollow}
 use Rattle.para_rhs.specs.declared.parts.ParaRhs.{ParaRhs}
+use Rattle.sweep_laws.proofs.Runs.{last_of-append}
 
 module _ (p : LinearProgram) (run : ParaRhs) (theta : ℚ) (s : List Status) (begun : ℕ) where
   pub faces_begin : begun ≤ run.limit → FacesReach p run theta s s begun begun
@@ -25,7 +25,7 @@ module _ (p : LinearProgram) (run : ParaRhs) (theta : ℚ) (s : List Status) (be
   faces_more now next steps m reach moves left is = record {
     bases = reach.bases ++ next ∷ [];
     path = face_path_more (family p run) (Face p run) theta s reach.bases next reach.path (subst (λ (x : List Status). IsFaceStep (family p run) (Face p run) theta x next) (sym reach.reaches) (m, moves, is));
-    reaches = last_append s reach.bases (next ∷ []);
+    reaches = last_of-append s reach.bases (next ∷ []);
     taken = let counted = reach.taken in let longer : length (reach.bases ++ next ∷ []) ≡ length reach.bases + 1 = length-append reach.bases (next ∷ []) in omega (arith, counted, longer);
     within = omega (arith, left);
   }

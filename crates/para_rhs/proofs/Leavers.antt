@@ -1,6 +1,7 @@
 -- The variable that leaves, by values and slopes, is that of each tableau.
 use Rattle.std.proofs.Common.{◌≡◌, ℕ, List, Bool, true, false, cond, pos, refl, sym, ap, ap₂, ◌∙◌, arith}
 use Rattle.std.specs.Prelude.{Option, Some, None, not, ◌&&◌, ◌||◌}
+use Rattle.std.proofs.lemmas.Bool.{and_right}
 use Rattle.exact_values.specs.Rational.{ℚ, one_ℚ, ◌+ℚ◌, ◌-ℚ◌, ◌*ℚ◌, ◌≤ℚ◌}
 use Rattle.exact_values.specs.Tests.{eq_ℚ, lt_ℚ}
 use Rattle.exact_values.proofs.Order.{le_of_eq, le_of_lt}
@@ -49,10 +50,6 @@ on_moved : (limit : Option ℚ) (theta value slope by : ℚ) → on_limit (λ l.
 on_moved None theta value slope by = refl
 on_moved (Some l) theta value slope by = refl
 
-and_false : (a b : Bool) → b ≡ false → (a && b) ≡ false
-and_false true b e = e
-and_false false b e = refl
-
 found_if : (b : Bool) (side : Side) → is_there (cond b (Some side) None) ≡ b
 found_if true side = refl
 found_if false side = refl
@@ -86,10 +83,10 @@ module _ (p : LinearProgram) (shift : List ℚ) (theta : ℚ) (s : List Status) 
   rises k is b e = ap (λ x. lt_ℚ (shift_of p.matrix shift k) x) (slope_is k is) ∙ e
 
   not_below : (k : ℕ) → IsVariable p.matrix k → lt_ℚ (v k) (shift_of p.matrix shift k) ≡ false → below k ≡ false
-  not_below k is e = and_false _ _ (falls k is false e)
+  not_below k is e = and_right _ _ (falls k is false e)
 
   not_above : (k : ℕ) → IsVariable p.matrix k → lt_ℚ (shift_of p.matrix shift k) (v k) ≡ false → above k ≡ false
-  not_above k is e = and_false _ _ (rises k is false e)
+  not_above k is e = and_right _ _ (rises k is false e)
 
   and_true : (a b : Bool) → b ≡ true → (a && b) ≡ a
   and_true true b e = e
@@ -131,7 +128,7 @@ module _ (p : LinearProgram) (shift : List ℚ) (theta : ℚ) (s : List Status) 
     where
       by_side : (o : Option Side) → side_ahead (v k) (shift_of p.matrix shift k) ≡ o →
           (is_in (basics_of s) k && (below k || above k)) ≡ is_there (leaving_on p theta (z k) (v k) (shift_of p.matrix shift k) k o)
-      by_side None ahead = let h = by_none k is ahead in and_false (is_in (basics_of s) k) (below k || above k) (ap₂ (λ a b. a || b) h.0 h.1)
+      by_side None ahead = let h = by_none k is ahead in and_right (is_in (basics_of s) k) (below k || above k) (ap₂ (λ a b. a || b) h.0 h.1)
       by_side (Some Lower) ahead =
           let h = by_lower k is ahead in
           ap₂ (λ m b. m && b) (marked k is Lower ahead) (ap₂ (λ a b. a || b) h.0 h.1 ∙ or_false _) ∙ sym (found_if (on_limit (stands_at theta (z k) (v k) (shift_of p.matrix shift k)) (lower_of p k)) Lower)

@@ -8,9 +8,7 @@ use Rattle.exact_values.proofs.Order.{le_refl, le_of_lt, le_by_one, le_antisymm,
 use Rattle.exact_values.proofs.Ring.{by_ring1, by_ring2, by_ring3, number, opposite, ◌⊕◌, ◌⊖◌, ◌⊗◌, ◌≐◌}
 use Rattle.exact_values.proofs.Ring_laws.{zero-mul, mul-zero}
 use Rattle.exact_values.proofs.Tests_laws.{lt_from_test, le_from_lt_fails, le_from_test, test_from_le, le_fails_from_lt}
-
-neg_up : (u : ℚ) → u ≤ℚ zero_ℚ → zero_ℚ ≤ℚ neg_ℚ u
-neg_up u h = le_by_one h (by_ring1 u (λ u. opposite u ≐ number (pos 0) ⊕ (number (pos 0) ⊖ u)) refl)
+use Rattle.exact_values.proofs.Signs.{neg_not_below}
 
 neg_down : (u : ℚ) → zero_ℚ ≤ℚ neg_ℚ u → u ≤ℚ zero_ℚ
 neg_down u h = le_by_one h (by_ring1 u (λ u. number (pos 0) ≐ u ⊕ (opposite u ⊖ number (pos 0))) refl)
@@ -31,7 +29,7 @@ pub magnitude_least : (u : ℚ) → zero_ℚ ≤ℚ magnitude u
 magnitude_least u = at (lt_ℚ u zero_ℚ) refl
   where
     at : (b : Bool) → lt_ℚ u zero_ℚ ≡ b → zero_ℚ ≤ℚ cond b (neg_ℚ u) u
-    at true is = neg_up u (le_of_lt (lt_from_test u zero_ℚ is))
+    at true is = neg_not_below u (le_of_lt (lt_from_test u zero_ℚ is))
     at false is = le_from_lt_fails u zero_ℚ is
 
 pub magnitude_either : (u : ℚ) → (magnitude u ≡ u) ⊎ (magnitude u ≡ neg_ℚ u)
@@ -71,7 +69,7 @@ pub magnitude_above : (u : ℚ) → zero_ℚ ≤ℚ u → magnitude u ≡ u
 magnitude_above u h = is_magnitude u u h (inl refl)
 
 pub magnitude_below : (u : ℚ) → u ≤ℚ zero_ℚ → magnitude u ≡ neg_ℚ u
-magnitude_below u h = is_magnitude u (neg_ℚ u) (neg_up u h) (inr refl)
+magnitude_below u h = is_magnitude u (neg_ℚ u) (neg_not_below u h) (inr refl)
 
 pub magnitude-neg : (u : ℚ) → magnitude (neg_ℚ u) ≡ magnitude u
 magnitude-neg u = is_magnitude (neg_ℚ u) (magnitude u) (magnitude_least u) (at (magnitude_either u))

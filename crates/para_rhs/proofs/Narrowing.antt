@@ -7,6 +7,7 @@ use Rattle.exact_values.specs.Tests.{lt_ℚ}
 use Rattle.exact_values.proofs.Order.{le_by_one, lt_by_one, le_of_lt, le_refl, le_antisymm, lt_irrefl}
 use Rattle.exact_values.proofs.Ring.{by_ring1, by_ring2, by_ring4, number, opposite, ◌⊕◌, ◌⊖◌, ◌⊗◌, ◌≐◌}
 use Rattle.exact_values.proofs.Tests_laws.{lt_from_test, le_from_lt_fails}
+use Rattle.exact_values.proofs.Signs.{neg_not_below}
 use Rattle.affine_conditions.specs.Conditions.{Condition, Holds}
 use Rattle.affine_conditions.specs.Ends.{IsTightened}
 use Rattle.affine_conditions.specs.declared.tightening.Ends.{Ends}
@@ -62,9 +63,6 @@ module _ (v by : ℚ) where
   pub closing_apart : v ≢ by → v -ℚ by ≢ zero_ℚ
   closing_apart apart e = apart (by_ring2 v by (λ v s. v ≐ s ⊕ (v ⊖ s)) refl ∙ ap (λ x. by +ℚ x) e ∙ by_ring1 by (λ s. s ⊕ number (pos 0) ≐ s) refl)
 
-opposite_grows : (c : ℚ) → c ≤ℚ zero_ℚ → zero_ℚ ≤ℚ neg_ℚ c
-opposite_grows c h = le_by_one h (by_ring1 c (λ c. opposite c ≐ number (pos 0) ⊕ (number (pos 0) ⊖ c)) refl)
-
 -- ---- the conditions of one variable
 
 module _ (p : LinearProgram) (shift : List ℚ) (k : ℕ) (z v : ℚ) where
@@ -86,7 +84,7 @@ module _ (p : LinearProgram) (shift : List ℚ) (k : ℕ) (z v : ℚ) where
 
   second_on : (high : Option ℚ) (from x : ℚ) → c ≤ℚ zero_ℚ → from ≤ℚ x → IfSome (second high) (λ e. Holds e from) → IfSome (second high) (λ e. Holds e x)
   second_on None from x falls forward h = tt
-  second_on (Some u) from x falls forward h = holds_on (condition (u -ℚ z) (neg_ℚ c)) (opposite_grows c falls) from x h forward
+  second_on (Some u) from x falls forward h = holds_on (condition (u -ℚ z) (neg_ℚ c)) (neg_not_below c falls) from x h forward
 
   none_there : (f : ℚ → Condition) (o : Option ℚ) (x : ℚ) → o ≡ None → IfSome (option_map f o) (λ e. Holds e x)
   none_there f None x e = tt

@@ -1,6 +1,7 @@
 -- The list of the nonbasics, and sums over its first members.
 use Rattle.std.proofs.Common.{◌≡◌, ℕ, zero, suc, ◌+◌, ◌<◌, ◌≤◌, List, [], ◌∷◌, map, take, Bool, true, false, cond, refl, sym, ap, ap₂, ◌∙◌, arith}
 use Rattle.std.specs.Prelude.{Some, not, filter, slice_get}
+use Rattle.std.proofs.lemmas.Bool.{not-true}
 use Rattle.exact_values.specs.Rational.{ℚ, zero_ℚ}
 use Rattle.method_definitions.specs.Formulas.{nonbasics}
 use Rattle.lp_definitions.specs.Basis.{Basics, is_in, IsNonbasic}
@@ -28,14 +29,10 @@ found_in test (suc n) first term j e = at (test first) refl term e (λ term. fou
     at true is zero e rest = let same : first ≡ j = some_same e in record { low = omega (arith, same); high = omega (arith, same); passes = ap test (sym same) ∙ is }
     at true is (suc term) e rest = later (rest term e)
 
-unmarked : (b : Bool) → not b ≡ true → b ≡ false
-unmarked true e = cc
-unmarked false e = refl
-
 pub nonbasic_at : (a : Matrix) (b : Basics) (term j : ℕ) → slice_get (nonbasics a b) term ≡ Some j → IsNonbasic a b j
 nonbasic_at a b term j e =
     let h = found_in (λ k. not (is_in b k)) (size a) 1 term j e in
-    ((h.low, omega (arith, h.high)), unmarked (is_in b j) h.passes)
+    ((h.low, omega (arith, h.high)), not-true (is_in b j) h.passes)
 
 -- values that are the same at each member
 taken_same : (test : ℕ → Bool) (f g : ℕ → ℚ) (n first m : ℕ) → ((k : ℕ) → first ≤ k → k < first + n → test k ≡ true → f k ≡ g k) →
@@ -59,4 +56,4 @@ taken_same test f g (suc n) first m same =
 pub sum_same : (a : Matrix) (b : Basics) (f g : ℕ → ℚ) (term : ℕ) → ((k : ℕ) → IsNonbasic a b k → f k ≡ g k) →
     sum_from zero_ℚ (map f (take term (nonbasics a b))) ≡ sum_from zero_ℚ (map g (take term (nonbasics a b)))
 sum_same a b f g term same =
-    ap (sum_from zero_ℚ) (taken_same (λ k. not (is_in b k)) f g (size a) 1 term (λ k low high passes. same k ((low, omega (arith, high)), unmarked (is_in b k) passes)))
+    ap (sum_from zero_ℚ) (taken_same (λ k. not (is_in b k)) f g (size a) 1 term (λ k low high passes. same k ((low, omega (arith, high)), not-true (is_in b k) passes)))

@@ -36,17 +36,17 @@ use Rattle.bounded_primal.specs.declared.moves.PrimalStop.{PrimalStop}
 use Rattle.bounded_primal.specs.declared.moves.PrimalStop.TheVariants.{Limit, Overflow, NoMemory}
 use Rattle.run_calls.specs.Calls.{RunStops, RunOverflows, part_of, end_of}
 use Rattle.run_calls.specs.Walks.{HasRun}
-use Rattle.run_calls.proofs.Chains.{last_append}
 use Rattle.run_calls.proofs.Walks.{opening_reaches, opening_run, opens_first}
 use Rattle.sweep_laws.proofs.NotBoth.{same_path}
 use Rattle.sweep_laws.proofs.OneRun.{rhs_faces}
 use Rattle.sweep_laws.proofs.Rhs.{to_rhs, from_rhs}
 use Rattle.sweep_laws.proofs.OneRhs.{lawful_rhs}
 use Rattle.sweep_laws.proofs.TrueRuns.{rhs_runs}
+use Rattle.sweep_laws.proofs.Runs.{last_of-append}
 use Rattle.para_rhs.specs.Faces.{family, Face, statement}
 use Rattle.para_rhs.specs.Runs.{told_at, StandsAt, ChainEnds, OpensFrom, RhsEnds, RhsStops, RhsFollows, IsTrueRhs}
 use Rattle.para_rhs.specs.declared.parts.ParaRhs.{ParaRhs}
-use Rattle.para_rhs.proofs.FaceEvidence.{step_belongs}
+use Rattle.para_rhs.proofs.FaceEvidence.{step_belongs, step_number}
 
 -- ---- evidence of the path of the linear program at theta, told of theta
 
@@ -135,9 +135,6 @@ module _ (p : LinearProgram) (shift : List ℚ) (from : ℚ) (Goes Other : Statu
     no_way = r.no_way;
   }
 
-path_number : (n term : ℕ) → (is_between 1 12 n && (not (nat_eq n 6) || not (nat_eq term 3))) ≡ true → is_between 1 12 n ≡ true
-path_number n term h = grind arith
-
 path_brings : (n term : ℕ) → (is_between 1 12 n && (not (nat_eq n 6) || not (nat_eq term 3))) ≡ true → nat_eq n 14 ≡ false
 path_brings n term h = grind arith
 
@@ -148,7 +145,7 @@ holds_of p shift from left bases s w e r = record {
   reached = r.reached;
   ahead = r.ahead;
   is_ahead = is_ahead r.ahead r.is_ahead;
-  shows = shows_of p shift from (GoesTo (Primal (rhs_family p shift from)) None s e) (GoesTo (Pararhs p shift from) None s (record e { theta = from })) s e (path_number e.formula e.term r.of_statement)
+  shows = shows_of p shift from (GoesTo (Primal (rhs_family p shift from)) None s e) (GoesTo (Pararhs p shift from) None s (record e { theta = from })) s e (step_number e.formula e.term r.of_statement)
       (λ to l. record { move = l.move; moves = l.moves; enters = l.enters; leaves = l.leaves; goes_to = l.goes_to }) (map basics_of (with_ahead bases r.ahead)) w r.shows;
   is_theta = (1, omega arith, refl);
   of_move = record { enters = r.of_move.enters; brings = λ is. absurd (clash (sym is ∙ path_brings e.formula e.term r.of_statement)); steps = λ _. tt };
@@ -349,7 +346,7 @@ module _ (p : LinearProgram) (run : ParaRhs) (lawful : IsLinearProgram p) (s now
       run_ends = record {
         bases = ends.bases ++ chain.path;
         is_report = is_run;
-        reaches = last_append s ends.bases chain.path ∙ ap (λ x. last_of x chain.path) ends.reaches ∙ chain.reaches;
+        reaches = last_of-append s ends.bases chain.path ∙ ap (λ x. last_of x chain.path) ends.reaches ∙ chain.reaches;
         within = let count = counted in let within = chain.within in omega (arith, count, within);
         lie = λ earlier lie. subst (λ xs. LieIn p.matrix later (earlier ++ s ∷ xs)) same (stood.run_there.lie earlier lie);
       }

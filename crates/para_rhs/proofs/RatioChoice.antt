@@ -17,24 +17,15 @@ use Rattle.path_laws.proofs.Numbered.{find_same, list_all_same}
 use Rattle.path_laws.specs.Laws.{IsNonsingularBasis}
 use Rattle.method_definitions.specs.RhsRun.{shift_of, rhs_family}
 use Rattle.sweep_laws.proofs.Alike.{lowers_idle}
-use Rattle.changed_programs.proofs.MovedLimits.{moved, lower_is, upper_is}
+use Rattle.changed_programs.proofs.MovedLimits.{moved, lower_is, upper_is, moved_tests}
 use Rattle.para_rhs.specs.Cheapest.{brings, ratio_of, cheapest_by}
 use Rattle.para_rhs.proofs.Leavers.{same_tests}
-
--- limits that move together are equal where they were
-fixed_moved : (low high : Option ℚ) (theta s : ℚ) → on_limits eq_ℚ (moved theta s low) (moved theta s high) ≡ on_limits eq_ℚ low high
-fixed_moved None high theta s = refl
-fixed_moved (Some l) None theta s = refl
-fixed_moved (Some l) (Some u) theta s =
-    same_tests (l +ℚ theta *ℚ s) (u +ℚ theta *ℚ s) l u
-    (λ e. same_by_one one_ℚ e (by_ring4 l u theta s (λ l u t s. l ≐ u ⊕ number (pos 1) ⊗ ((l ⊕ t ⊗ s) ⊖ (u ⊕ t ⊗ s))) refl))
-    (λ e. ap (λ x. x +ℚ theta *ℚ s) e)
 
 module _ (p : LinearProgram) (shift : List ℚ) (theta : ℚ) (s : List Status) where
   pub lowers_family : (f : Vector) (k : ℕ) → IsVariable p.matrix k → lowers (rhs_family p shift theta) s f k ≡ lowers p s f k
   lowers_family f k is =
       ap (λ b. (lt_ℚ (f k) zero_ℚ && (rises_from (status_of s k) && not b)) || (lt_ℚ zero_ℚ (f k) && (falls_from (status_of s k) && not b)))
-      (ap₂ (λ (low high : Option ℚ). on_limits eq_ℚ low high) (lower_is p shift theta k is) (upper_is p shift theta k is) ∙ fixed_moved (lower_of p k) (upper_of p k) theta (shift_of p.matrix shift k))
+      (ap₂ (λ (low high : Option ℚ). on_limits eq_ℚ low high) (lower_is p shift theta k is) (upper_is p shift theta k is) ∙ moved_tests (lower_of p k) (upper_of p k) theta (shift_of p.matrix shift k))
 
   module _ (lawful : IsLinearProgram p) (no_change : p.change ≡ None) (at : IsNonsingularBasis p s) (prices row : Vector) (priced : ArePricesOf p s prices) (r : ℕ) (r_is : IsVariable p.matrix r)
       (rowed : IsRowOf p.matrix (basics_of s) r row) (below : Bool) (z : Vector) where

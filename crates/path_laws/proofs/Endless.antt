@@ -7,6 +7,8 @@ use Rattle.exact_values.specs.Tests.{lt_ℚ}
 use Rattle.exact_values.proofs.Ring.{by_ring2, by_ring3, ◌⊕◌, ◌⊗◌, ◌≐◌, opposite}
 use Rattle.exact_values.proofs.Sums.{sum_to-same, sum_to-neg}
 use Rattle.exact_values.proofs.Order.{le_of_lt, lt_not_le}
+use Rattle.exact_values.proofs.Tests_laws.{lt_from_test, le_from_lt_fails}
+use Rattle.exact_values.proofs.Signs.{neg_below}
 use Rattle.lp_definitions.specs.LinearProgram.{Matrix, LinearProgram, Vector, value_at, size, IsVariable, KeepsEquations, lower_of, upper_of, for_min, entry, combined, with_change_row, objective_value, IsLinearProgram, ChangeIsFree}
 use Rattle.lp_definitions.specs.Solutions.{IsFeasible, IsCrossed, ProvesUnbounded}
 use Rattle.lp_definitions.specs.Basis.{basics_of, status_of, is_basic, IsBasis, IsNonbasic, Tableau, IsTableau}
@@ -19,7 +21,6 @@ use Rattle.lp_laws.proofs.Equations.{KeepsEquations-same}
 use Rattle.lp_laws.proofs.Uniqueness.{is_in-basics_of}
 use Rattle.method_definitions.specs.Moves.{on_limits, is_crossed, is_fixed, rises_from, falls_from, lowers, signed, goes_up, limit_ahead, entering, stopper}
 use Rattle.method_definitions.specs.Path.{EndsCrossed, EndsUnbounded, Ends, EndsAt, listed, speeds, worth_rate}
-use Rattle.path_laws.proofs.Tests.{lt_false, lt_true, neg_below}
 use Rattle.path_laws.proofs.Numbered.{find_some}
 use Rattle.path_laws.proofs.Stoppers.{stopper_none}
 use Rattle.path_laws.proofs.Turns.{bettering, IsEndlessTurn, rule_of, crossed_turn, endless_turn}
@@ -30,7 +31,7 @@ use Rattle.path_laws.proofs.Ends.{feasible, value_at-listed, IsFeasible-same}
 limits_of : (low high : Option ℚ) → on_limits (λ l u. lt_ℚ u l) low high ≡ true → (l : ℚ) × (u : ℚ) × (low ≡ Some l) × (high ≡ Some u) × (u <ℚ l)
 limits_of None high e = cc
 limits_of (Some l) None e = cc
-limits_of (Some l) (Some u) e = (l, u, refl, refl, lt_true u l e)
+limits_of (Some l) (Some u) e = (l, u, refl, refl, lt_from_test u l e)
 
 pub crossed_end : (p : LinearProgram) (s : List Status) (k : ℕ) → EndsAt p s (EndsCrossed k) → IsCrossed p k
 crossed_end p s k ends =
@@ -53,7 +54,7 @@ lowering st r fixed true above true falling below_is above_is up down e = (nonba
 lowering st r fixed true true false true below_is above_is up down e = (nonbasic_status st (rw (up, down) refl), inl refl)
 lowering st r fixed true true false false below_is above_is up down e = cc
 lowering st r fixed true false false falling below_is above_is up down e = cc
-lowering st r fixed false true rising true below_is above_is up down e = (nonbasic_status st (rw (up, down) (or_right rising true refl)), inr (lt_true zero_ℚ r above_is))
+lowering st r fixed false true rising true below_is above_is up down e = (nonbasic_status st (rw (up, down) (or_right rising true refl)), inr (lt_from_test zero_ℚ r above_is))
 lowering st r fixed false true rising false below_is above_is up down e = cc
 lowering st r fixed false false rising falling below_is above_is up down e = cc
 
@@ -103,16 +104,16 @@ ahead_of_falling : (p : LinearProgram) (v : Vector) (k : ℕ) → limit_ahead p 
 ahead_of_falling p v k e h = by_tests (lt_ℚ zero_ℚ (v k)) refl (lt_ℚ (v k) zero_ℚ) refl e
   where
     by_tests : (up : Bool) → lt_ℚ zero_ℚ (v k) ≡ up → (down : Bool) → lt_ℚ (v k) zero_ℚ ≡ down → (if up then upper_of p k else (if down then lower_of p k else None)) ≡ None → lower_of p k ≡ None
-    by_tests true up down down_is g = absurd (lt_not_le (lt_true zero_ℚ (v k) up) (le_of_lt h))
+    by_tests true up down down_is g = absurd (lt_not_le (lt_from_test zero_ℚ (v k) up) (le_of_lt h))
     by_tests false up true down_is g = g
-    by_tests false up false down_is g = absurd (lt_not_le h (lt_false (v k) zero_ℚ down_is))
+    by_tests false up false down_is g = absurd (lt_not_le h (le_from_lt_fails (v k) zero_ℚ down_is))
 
 ahead_of_rising : (p : LinearProgram) (v : Vector) (k : ℕ) → limit_ahead p v k ≡ None → zero_ℚ <ℚ v k → upper_of p k ≡ None
 ahead_of_rising p v k e h = by_test (lt_ℚ zero_ℚ (v k)) refl e
   where
     by_test : (up : Bool) → lt_ℚ zero_ℚ (v k) ≡ up → (if up then upper_of p k else (if lt_ℚ (v k) zero_ℚ then lower_of p k else None)) ≡ None → upper_of p k ≡ None
     by_test true up g = g
-    by_test false up g = absurd (lt_not_le h (lt_false zero_ℚ (v k) up))
+    by_test false up g = absurd (lt_not_le h (le_from_lt_fails zero_ℚ (v k) up))
 
 -- a nonbasic that betters the objective, with its direction turned the way that it moves
 module _ (p : LinearProgram) (s : List Status) (t : Tableau) (basis : IsBasis p s) (tab : IsTableau p s t) where
@@ -123,7 +124,7 @@ module _ (p : LinearProgram) (s : List Status) (t : Tableau) (basis : IsBasis p 
   bettering_betters q e = by_way (goes_up (worth_rate p s t) q) refl
     where
       by_way : (up : Bool) → goes_up (worth_rate p s t) q ≡ up → for_min p.sense (combined p (speeds t.rate up q)) <ℚ zero_ℚ
-      by_way true is = lt_true (worth_rate p s t q) zero_ℚ is
+      by_way true is = lt_from_test (worth_rate p s t q) zero_ℚ is
       by_way false is = subst (λ v. v <ℚ zero_ℚ) (sym (ap (for_min p.sense) (with_change_row-neg p.change (λ i. t.rate i q) (t.rate p.objective q)) ∙ for_min-neg p.sense (combined p (λ i. t.rate i q)))) (neg_below (worth_rate p s t q) (positive e.turns))
         where
           positive : ((goes_up (worth_rate p s t) q ≡ true) ⊎ (zero_ℚ <ℚ worth_rate p s t q)) → zero_ℚ <ℚ worth_rate p s t q

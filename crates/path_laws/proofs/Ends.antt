@@ -6,6 +6,7 @@ use Rattle.std.proofs.lemmas.Option.{same_Some}
 use Rattle.exact_values.specs.Rational.{ℚ, zero_ℚ, ◌≤ℚ◌}
 use Rattle.exact_values.specs.Tests.{lt_ℚ, eq_ℚ}
 use Rattle.exact_values.proofs.Order.{le_refl, le_antisymm}
+use Rattle.exact_values.proofs.Tests_laws.{le_from_lt_fails, same_from_test}
 use Rattle.lp_definitions.specs.LinearProgram.{Matrix, LinearProgram, Vector, value_at, size, IsVariable, IsLinearProgram, lower_of, upper_of, for_min}
 use Rattle.lp_definitions.specs.Solutions.{IsWithinLimits, IsFeasible, AreProvingPrices}
 use Rattle.lp_definitions.specs.Basis.{is_in, basics_of, status_of, is_basic, IsBasis, IsAllowed, StandsAt, IsPointOf, Tableau, IsTableau, IsFixed, IsRightAt, price_at, objective_rate}
@@ -18,7 +19,6 @@ use Rattle.lp_laws.proofs.Duality.{best_by_prices}
 use Rattle.method_definitions.specs.Moves.{on_limit, on_limits, is_crossed, is_outside, is_fixed, rises_from, falls_from, lowers}
 use Rattle.method_definitions.specs.Path.{EndsOptimal, Ends, EndsAt, listed, worth_rate, mover}
 use Rattle.path_laws.specs.Laws.{IsNonsingularBasis, ProvedOptimal}
-use Rattle.path_laws.proofs.Tests.{lt_false, eq_true}
 use Rattle.path_laws.proofs.Numbered.{find_none, get_or-listed}
 use Rattle.path_laws.proofs.Turns.{IsSecondPhase, IsOptimalTurn, rule_of, optimal_turn}
 
@@ -27,7 +27,7 @@ pub and_false : (a b : Bool) → (a && b) ≡ false → b ≡ true → a ≡ fal
 and_false true b e h = cc
 and_false false b e h = refl
 
-and_true : (a b : Bool) → (a && b) ≡ false → a ≡ true → b ≡ false
+pub and_true : (a b : Bool) → (a && b) ≡ false → a ≡ true → b ≡ false
 and_true true b e h = e
 and_true false b e h = cc
 
@@ -38,19 +38,19 @@ value_at-listed a v k is = get_or-listed v (size a) 1 (k - 1) zero_ℚ (omega (a
 -- a basic inside its limits, or a nonbasic at one of two limits that are not crossed, lies within them
 below_none : (z : ℚ) (low : Option ℚ) → on_limit (λ l. lt_ℚ z l) low ≡ false → IfSome low (λ l. l ≤ℚ z)
 below_none z None e = tt
-below_none z (Some l) e = lt_false z l e
+below_none z (Some l) e = le_from_lt_fails z l e
 
 above_none : (z : ℚ) (high : Option ℚ) → on_limit (λ u. lt_ℚ u z) high ≡ false → IfSome high (λ u. z ≤ℚ u)
 above_none z None e = tt
-above_none z (Some u) e = lt_false u z e
+above_none z (Some u) e = le_from_lt_fails u z e
 
 from_lower : (z : ℚ) (high : Option ℚ) → on_limits (λ l u. lt_ℚ u l) (Some z) high ≡ false → IfSome high (λ u. z ≤ℚ u)
 from_lower z None e = tt
-from_lower z (Some u) e = lt_false u z e
+from_lower z (Some u) e = le_from_lt_fails u z e
 
 from_upper : (z : ℚ) (low : Option ℚ) → on_limits (λ l u. lt_ℚ u l) low (Some z) ≡ false → IfSome low (λ l. l ≤ℚ z)
 from_upper z None e = tt
-from_upper z (Some l) e = lt_false z l e
+from_upper z (Some l) e = le_from_lt_fails z l e
 
 pub inside : (st : Status) (low high : Option ℚ) (z : ℚ) → IsAllowed st low high → StandsAt st low high z → on_limits (λ l u. lt_ℚ u l) low high ≡ false →
     (is_basic st ≡ true → (on_limit (λ l. lt_ℚ z l) low || on_limit (λ u. lt_ℚ u z) high) ≡ false) → IfSome low (λ l. l ≤ℚ z) × IfSome high (λ u. z ≤ℚ u)
@@ -74,17 +74,17 @@ high_of (Some m) z u h e = subst (λ y. z ≤ℚ y) (same_Some m u e) h
 fixed_from : (low high : Option ℚ) → on_limits eq_ℚ low high ≡ true → (v : ℚ) × (low ≡ Some v) × (high ≡ Some v)
 fixed_from None high e = cc
 fixed_from (Some l) None e = cc
-fixed_from (Some l) (Some u) e = (l, refl, ap (λ v. Some v) (sym (eq_true l u e)))
+fixed_from (Some l) (Some u) e = (l, refl, ap (λ v. Some v) (sym (same_from_test l u e)))
 
 pub right : (st : Status) (low high : Option ℚ) (r : ℚ) (fixed : Bool) → on_limits eq_ℚ low high ≡ fixed →
     ((lt_ℚ r zero_ℚ && (rises_from st && not fixed)) || (lt_ℚ zero_ℚ r && (falls_from st && not fixed))) ≡ false →
     ((v : ℚ) × (low ≡ Some v) × (high ≡ Some v)) ⊎ IsRightAt st r
 right st low high r true is e = inl (fixed_from low high is)
 right Bs low high r false is e = inr tt
-right Ll low high r false is e = inr (lt_false r zero_ℚ (and_false _ _ (or_parts _ _ e).0 refl))
-right Ul low high r false is e = inr (lt_false zero_ℚ r (and_false _ _ (or_parts _ _ e).1 refl))
+right Ll low high r false is e = inr (le_from_lt_fails r zero_ℚ (and_false _ _ (or_parts _ _ e).0 refl))
+right Ul low high r false is e = inr (le_from_lt_fails zero_ℚ r (and_false _ _ (or_parts _ _ e).1 refl))
 right Fr low high r false is e =
-    let h = or_parts _ _ e in inr (le_antisymm (lt_false zero_ℚ r (and_false _ _ h.1 refl)) (lt_false r zero_ℚ (and_false _ _ h.0 refl)))
+    let h = or_parts _ _ e in inr (le_antisymm (le_from_lt_fails zero_ℚ r (and_false _ _ h.1 refl)) (le_from_lt_fails r zero_ℚ (and_false _ _ h.0 refl)))
 
 module _ (p : LinearProgram) (s : List Status) (t : Tableau) (basis : IsBasis p s) (tab : IsTableau p s t) where
   -- at the basis of a path that is not crossed and has no basic outside its limits the point is feasible

@@ -1,5 +1,4 @@
 pub mod Numbered
-pub mod Tests
 pub mod Stoppers
 pub mod Motions
 pub mod Turns

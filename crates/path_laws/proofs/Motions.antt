@@ -7,6 +7,8 @@ use Rattle.exact_values.specs.Tests.{lt_ℚ}
 use Rattle.exact_values.proofs.Ring.{by_ring1, by_ring2, by_ring3, by_ring4, ◌⊕◌, ◌⊖◌, ◌⊗◌, ◌≐◌, number, opposite}
 use Rattle.exact_values.proofs.Inverse.{div-mul_cancel, same_quotients}
 use Rattle.exact_values.proofs.Order.{le_refl, le_trans, le_antisymm, le_of_lt, le_by_one, le_by_product, le-div, mul-le_of_le-div, apart_from_above, apart_from_below}
+use Rattle.exact_values.proofs.Tests_laws.{lt_from_test, le_from_lt_fails, le_from_test}
+use Rattle.exact_values.proofs.Signs.{neg_above}
 use Rattle.lp_definitions.specs.LinearProgram.{LinearProgram, IsVariable, KeepsEquations, lower_of, upper_of}
 use Rattle.lp_definitions.specs.Solutions.{IsFeasible}
 use Rattle.lp_definitions.specs.Basis.{basics_of, with_status, StandsAt, IsNonbasic, IsPointOf, Tableau, IsTableau}
@@ -18,7 +20,6 @@ use Rattle.lp_laws.proofs.Points.{IsPointOf-replaced}
 use Rattle.method_definitions.specs.Moves.{is_no_later, signed, room, reached, stopper}
 use Rattle.method_definitions.specs.Path.{speeds}
 use Rattle.path_laws.specs.Laws.{IsNonsingularBasis}
-use Rattle.path_laws.proofs.Tests.{lt_true, lt_false, le_true, neg_above}
 use Rattle.path_laws.proofs.Stoppers.{stopper_some, reaches_limit}
 
 -- ---- how far a variable may move
@@ -62,18 +63,18 @@ module _ (z v x : ℚ) (forward : zero_ℚ ≤ℚ x) where
 
       upper_ahead : (high : Option ℚ) → zero_ℚ <ℚ v → is_no_later (Some x) (option_map (λ l. (l -ℚ z) /ℚ v) high) ≡ true → IfSome high (λ u. z +ℚ x *ℚ v ≤ℚ u)
       upper_ahead None h e = tt
-      upper_ahead (Some u) h e = below_upper u h (le_true x ((u -ℚ z) /ℚ v) e)
+      upper_ahead (Some u) h e = below_upper u h (le_from_test x ((u -ℚ z) /ℚ v) e)
 
       lower_ahead : (low : Option ℚ) → v <ℚ zero_ℚ → is_no_later (Some x) (option_map (λ l. (l -ℚ z) /ℚ v) low) ≡ true → IfSome low (λ l. l ≤ℚ z +ℚ x *ℚ v)
       lower_ahead None h e = tt
-      lower_ahead (Some l) h e = above_lower l h (le_true x ((l -ℚ z) /ℚ v) e)
+      lower_ahead (Some l) h e = above_lower l h (le_from_test x ((l -ℚ z) /ℚ v) e)
 
       by_tests : (up : Bool) → lt_ℚ zero_ℚ v ≡ up → (down : Bool) → lt_ℚ v zero_ℚ ≡ down → is_no_later (Some x) (option_map (λ l. (l -ℚ z) /ℚ v) (if up then high else (if down then low else None))) ≡ true →
           IfSome low (λ l. l ≤ℚ z +ℚ x *ℚ v) × IfSome high (λ u. z +ℚ x *ℚ v ≤ℚ u)
-      by_tests true up down down_is e = let h = lt_true zero_ℚ v up in (low_kept low within.0 (z +ℚ x *ℚ v) (moved_up h), upper_ahead high h e)
-      by_tests false up true down_is e = let h = lt_true v zero_ℚ down_is in (lower_ahead low h e, high_kept high within.1 (z +ℚ x *ℚ v) (moved_down h))
+      by_tests true up down down_is e = let h = lt_from_test zero_ℚ v up in (low_kept low within.0 (z +ℚ x *ℚ v) (moved_up h), upper_ahead high h e)
+      by_tests false up true down_is e = let h = lt_from_test v zero_ℚ down_is in (lower_ahead low h e, high_kept high within.1 (z +ℚ x *ℚ v) (moved_down h))
       by_tests false up false down_is e =
-          let none : v ≡ zero_ℚ = le_antisymm (lt_false zero_ℚ v up) (lt_false v zero_ℚ down_is) in
+          let none : v ≡ zero_ℚ = le_antisymm (le_from_lt_fails zero_ℚ v up) (le_from_lt_fails v zero_ℚ down_is) in
           let still : z ≡ z +ℚ x *ℚ v = by_ring2 z x (λ z x. z ≐ z ⊕ x ⊗ number (pos 0)) refl ∙ ap (λ y. z +ℚ x *ℚ y) (sym none) in
           (low_kept low within.0 (z +ℚ x *ℚ v) (subst (λ y. z ≤ℚ y) still (le_refl z)), high_kept high within.1 (z +ℚ x *ℚ v) (subst (λ y. y ≤ℚ z) still (le_refl z)))
 
@@ -112,10 +113,10 @@ comes_to low high z v x within e = by_tests (lt_ℚ zero_ℚ v) refl (lt_ℚ v z
 
     by_tests : (up : Bool) → lt_ℚ zero_ℚ v ≡ up → (down : Bool) → lt_ℚ v zero_ℚ ≡ down → option_map (λ l. (l -ℚ z) /ℚ v) (if up then high else (if down then low else None)) ≡ Some x → ComesTo low high z v x
     by_tests true up down down_is e =
-        let above = lt_true zero_ℚ v up in
+        let above = lt_from_test zero_ℚ v up in
         let h = upper high within.1 above e in record { forward = h.0; arrives = rw up h.1; moves = apart_from_above above }
     by_tests false up true down_is e =
-        let below = lt_true v zero_ℚ down_is in
+        let below = lt_from_test v zero_ℚ down_is in
         let h = lower low within.0 below e in record { forward = h.0; arrives = rw up h.1; moves = apart_from_below below }
     by_tests false up false down_is e = cc
 

@@ -10,6 +10,8 @@ use Rattle.exact_values.proofs.Ring.{by_ring1, ◌⊗◌, ◌≐◌, number, opp
 use Rattle.exact_values.proofs.Ring_laws.{mul-one, mul-zero, mul_assoc}
 use Rattle.exact_values.proofs.Order.{lt_irrefl, le_refl, lt_not_le}
 use Rattle.exact_values.proofs.Sums.{sum_to-same, sum_to-mul_left}
+use Rattle.exact_values.proofs.Tests_laws.{lt_from_test}
+use Rattle.exact_values.proofs.Signs.{neg_below, neg_above}
 use Rattle.lp_definitions.specs.LinearProgram.{LinearProgram, Vector, value_at, size, entry, IsVariable, IsColumn, KeepsEquations, lower_of, upper_of}
 use Rattle.lp_definitions.specs.Solutions.{IsRay}
 use Rattle.lp_definitions.specs.Basis.{IsNonsingular, is_in, basics_of, status_of, is_basic, IsBasis, IsBasic, StandsAt, IsAllowed, IsFixed, IsRightAt, Tableau, IsTableau}
@@ -24,7 +26,6 @@ use Rattle.lp_laws.proofs.Combination.{multiplier_vanishes}
 use Rattle.lp_laws.proofs.Rays.{ray_above, ray_below}
 use Rattle.method_definitions.specs.Moves.{is_below, is_outside, is_fixed, lowers, signed, on_limit}
 use Rattle.method_definitions.specs.Path.{EndsInfeasible, Ends, EndsAt, listed, ray_of, excess_rate, mover}
-use Rattle.path_laws.proofs.Tests.{lt_true, neg_below, neg_above}
 use Rattle.path_laws.proofs.Numbered.{find_some, find_none, IsFound}
 use Rattle.path_laws.proofs.Turns.{IsFirstPhase, IsStuckTurn, rule_of, stuck_turn}
 use Rattle.path_laws.proofs.Ends.{right, value_at-listed}
@@ -77,9 +78,9 @@ pub data Breaks (low high : Option ℚ) (z : ℚ) (below : Bool) : Type 0 where
 
 broken_by : (low high : Option ℚ) (z : ℚ) (below : Bool) → on_limit (λ l. lt_ℚ z l) low ≡ below → (below || on_limit (λ u. lt_ℚ u z) high) ≡ true → Breaks low high z below
 broken_by None high z true e h = cc
-broken_by (Some l) high z true e h = breaks_lower l refl refl (lt_true z l e)
+broken_by (Some l) high z true e h = breaks_lower l refl refl (lt_from_test z l e)
 broken_by low None z false e h = cc
-broken_by low (Some u) z false e h = breaks_upper u refl refl (lt_true u z h)
+broken_by low (Some u) z false e h = breaks_upper u refl refl (lt_from_test u z h)
 
 module _ (p : LinearProgram) (s : List Status) (t : Tableau) (r : ℕ) (phase : IsFirstPhase p s t r) where
   found : IsFound (λ k. is_in (basics_of s) k && is_outside p t.point k) (size p.matrix) 1 r

@@ -7,6 +7,7 @@ use Rattle.exact_values.specs.Rational.{ℚ, zero_ℚ, ◌-ℚ◌, ◌/ℚ◌, �
 use Rattle.exact_values.specs.Tests.{lt_ℚ}
 use Rattle.exact_values.proofs.Ring.{by_ring1, ◌≐◌, number, opposite}
 use Rattle.exact_values.proofs.Order.{lt_irrefl}
+use Rattle.exact_values.proofs.Tests_laws.{lt_from_test}
 use Rattle.lp_definitions.specs.LinearProgram.{LinearProgram, Vector, IsVariable, lower_of, upper_of}
 use Rattle.lp_definitions.specs.Basis.{AreRates, is_in, basics_of, status_of, with_status, is_basic, IsBasis, IsBasic, IsNonbasic, IsAllowed, IsNonsingular, opening_statuses, Tableau, IsTableau}
 use Rattle.lp_definitions.specs.declared.Status.{Status}
@@ -19,7 +20,6 @@ use Rattle.lp_laws.proofs.Opening.{IsNonsingular-row_basics}
 use Rattle.method_definitions.specs.Moves.{is_below, signed, goes_up, limit_ahead, room, reached, stopper}
 use Rattle.method_definitions.specs.Path.{Move, Moves, after, speeds, IsStep, excess_rate, worth_rate}
 use Rattle.path_laws.specs.Laws.{IsNonsingularBasis}
-use Rattle.path_laws.proofs.Tests.{lt_true}
 use Rattle.path_laws.proofs.Stoppers.{stopper_some, reaches_limit}
 use Rattle.path_laws.proofs.Turns.{IsBroughtTurn, IsStoppedTurn, MovingRule, brings, stops, moving_turn, bettering, rule_of}
 use Rattle.path_laws.proofs.Endless.{IsEntering, enters}
@@ -82,7 +82,7 @@ module _ (p : LinearProgram) (s : List Status) (f : Vector) (q : ℕ) (e : IsEnt
   rate_apart zero = by_turn e.turns
     where
       by_turn : ((goes_up f q ≡ true) ⊎ (zero_ℚ <ℚ f q)) → ⊥
-      by_turn (inl up) = lt_irrefl (subst (λ v. v <ℚ zero_ℚ) zero (lt_true (f q) zero_ℚ up))
+      by_turn (inl up) = lt_irrefl (subst (λ v. v <ℚ zero_ℚ) zero (lt_from_test (f q) zero_ℚ up))
       by_turn (inr above) = lt_irrefl (subst (λ v. zero_ℚ <ℚ v) zero above)
 
 -- the limit ahead of a variable that moves
@@ -95,12 +95,12 @@ is_ahead : (low high : Option ℚ) (v l : ℚ) (up down : Bool) → lt_ℚ zero_
 is_ahead low high v l true down up_is down_is e = record {
   apart = upper_apart;
   allowed = rw e refl;
-  moves = λ zero. lt_irrefl (subst (λ x. zero_ℚ <ℚ x) zero (lt_true zero_ℚ v up_is));
+  moves = λ zero. lt_irrefl (subst (λ x. zero_ℚ <ℚ x) zero (lt_from_test zero_ℚ v up_is));
 }
 is_ahead low high v l false true up_is down_is e = record {
   apart = lower_apart;
   allowed = rw e refl;
-  moves = λ zero. lt_irrefl (subst (λ x. x <ℚ zero_ℚ) zero (lt_true v zero_ℚ down_is));
+  moves = λ zero. lt_irrefl (subst (λ x. x <ℚ zero_ℚ) zero (lt_from_test v zero_ℚ down_is));
 }
 is_ahead low high v l false false up_is down_is e = cc
 

@@ -3,17 +3,17 @@ use Rattle.std.proofs.Common.{◌≡◌, ℕ, zero, suc, ◌+◌, ◌<◌, ◌�
 use Rattle.std.specs.Prelude.{Option, Some, None}
 use Rattle.exact_values.specs.Rational.{ℚ, ◌≤ℚ◌}
 use Rattle.exact_values.proofs.Order.{le_refl, le_trans, le_total}
+use Rattle.exact_values.proofs.Tests_laws.{le_from_test, test_from_le}
 use Rattle.lp_definitions.specs.LinearProgram.{LinearProgram, Vector, IsVariable, size}
 use Rattle.lp_laws.proofs.Values.{clash}
 use Rattle.method_definitions.specs.Moves.{is_no_later, reaches_first, room, stopper}
-use Rattle.path_laws.proofs.Tests.{le_true, le_from}
 use Rattle.path_laws.proofs.Numbered.{find_none, find_some, list_all_from, list_all_true, from_first}
 
 no_later-trans : (a b c : Option ℚ) → is_no_later a b ≡ true → is_no_later b c ≡ true → is_no_later a c ≡ true
 no_later-trans None b c first second = cc
 no_later-trans (Some a) None c first second = cc
 no_later-trans (Some a) (Some b) None first second = refl
-no_later-trans (Some a) (Some b) (Some c) first second = le_from a c (le_trans (le_true a b first) (le_true b c second))
+no_later-trans (Some a) (Some b) (Some c) first second = test_from_le a c (le_trans (le_from_test a b first) (le_from_test b c second))
 
 pub reaches_limit : (a b : Option ℚ) → is_no_later a b ≡ true → (x : ℚ) × (a ≡ Some x)
 reaches_limit None b e = cc
@@ -56,7 +56,7 @@ module _ (f : ℕ → Option ℚ) where
       alone a is none = record {
         low = omega arith;
         high = omega arith;
-        no_later = from_first (λ i. is_no_later (f first) (f i) ≡ true) first n (rw is (le_from a a (le_refl a))) (λ i low high. rw (is, none i low high) refl);
+        no_later = from_first (λ i. is_no_later (f first) (f i) ≡ true) first n (rw is (test_from_le a a (le_refl a))) (λ i low high. rw (is, none i low high) refl);
       }
 
       value_of : (k : ℕ) → IsLeastOf n (suc first) k → (b : ℚ) × (f k ≡ Some b)
@@ -66,8 +66,8 @@ module _ (f : ℕ → Option ℚ) where
       by_second a is k h (b, at) = pick (le_total a b)
         where
           pick : ((a ≤ℚ b) ⊎ (b ≤ℚ a)) → Found
-          pick (inl less) = inr (first, sooner k h (rw (is, at) (le_from a b less)) (rw is (le_from a a (le_refl a))))
-          pick (inr more) = inr (k, later k h (rw (is, at) (le_from b a more)))
+          pick (inl less) = inr (first, sooner k h (rw (is, at) (test_from_le a b less)) (rw is (test_from_le a a (le_refl a))))
+          pick (inr more) = inr (k, later k h (rw (is, at) (test_from_le b a more)))
 
       by_first : (o : Option ℚ) → f first ≡ o → ((NoneReaches n (suc first)) ⊎ ((k : ℕ) × IsLeastOf n (suc first) k)) → Found
       by_first None is (inl none) = inl (from_first (λ k. f k ≡ None) first n is none)

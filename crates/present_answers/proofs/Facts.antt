@@ -34,7 +34,6 @@ use Rattle.bounded_primal.specs.declared.moves.PrimalStop.{PrimalStop}
 use Rattle.bounded_primal.specs.declared.moves.PrimalStop.TheVariants.{Limit, Overflow, NoMemory}
 use Rattle.bounded_primal.specs.Stops.{primal_stop_of}
 use Rattle.run_calls.specs.Calls.{RunEnds, StandsThere, RunOverflows, RunStops}
-use Rattle.run_calls.proofs.Chains.{last_append}
 use Rattle.run_calls.proofs.Walks.{opening_reaches}
 use Rattle.para_objective.specs.Faces as objective
 use Rattle.para_objective.specs.Runs.{ObjectiveEnds, ObjectiveStops}
@@ -49,11 +48,12 @@ use Rattle.present_answers.specs.Objective.{IsObjectiveAnswered, ObjectiveRunSto
 use Rattle.present_answers.specs.Objective.{sweep_of as row_sweep}
 use Rattle.present_answers.specs.RightHandSide.{IsRhsAnswered, RhsRunStops}
 use Rattle.present_answers.specs.RightHandSide.{sweep_of as set_sweep}
+use Rattle.sweep_laws.proofs.Runs.{last_of-append}
 
 -- the last of a list that ends with s
-last_is : (earlier : List Basis) (s : Basis) → last_basis (earlier ++ s ∷ []) ≡ s
+pub last_is : (earlier : List Basis) (s : Basis) → last_basis (earlier ++ s ∷ []) ≡ s
 last_is [] s = refl
-last_is (first ∷ earlier) s = last_append first earlier (s ∷ [])
+last_is (first ∷ earlier) s = last_of-append first earlier (s ∷ [])
 
 -- the check of an outcome is that of its ending
 ending_checked : (p : LinearProgram) (steps : ℕ) (ending : PathEnding) (check : Check) → IsCheckedSo p (outcome_of steps ending) (found check) → check_of p ending ≡ found check

@@ -17,15 +17,12 @@ use Rattle.bounded_primal.specs.Stops.{PrimalStops}
 use Rattle.bounded_primal.specs.declared.moves.PrimalStop.{PrimalStop}
 use Rattle.bounded_primal.specs.declared.moves.PrimalStop.TheVariants.{Limit, Overflow, NoMemory}
 use Rattle.present_answers.specs.Reports.{most_steps, OverflowsThere, PassesLimit, PathStops}
+use Rattle.present_answers.proofs.Facts.{last_is}
 
 -- the last of a list that ends with s
 last_after : (first : Basis) (earlier : List Basis) (s : Basis) → last_of first (earlier ++ s ∷ []) ≡ s
 last_after first [] s = refl
 last_after first (next ∷ earlier) s = last_after next earlier s
-
-last_is : (earlier : List Basis) (s : Basis) → last_basis (earlier ++ s ∷ []) ≡ s
-last_is [] s = refl
-last_is (first ∷ earlier) s = last_after first earlier s
 
 -- a list that ends with s, followed by the bases after it
 then_more : (earlier : List Basis) (s : Basis) (bases : List Basis) → (earlier ++ s ∷ []) ++ bases ≡ earlier ++ s ∷ bases

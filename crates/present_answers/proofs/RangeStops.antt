@@ -17,10 +17,7 @@ use Rattle.method_definitions.specs.Evidence.{Formula, by_exchange, by_entry, by
 use Rattle.basis_values.specs.Calls.{job_of, is_of_point, StopsAt, PointRefused, RangeRefused}
 use Rattle.present_answers.specs.Stops.{RangesRefused}
 use Rattle.present_answers.proofs.Refused.{within_last, covers_trans}
-
--- the formulas of a point are among those of a report
-of_number : (n term : ℕ) → (is_between 1 5 n || is_between 10 12 n) ≡ true → ((is_between 1 12 n || is_between 14 15 n) && (not (nat_eq n 6) || not (nat_eq term 3))) ≡ true
-of_number n term h = grind arith
+use Rattle.ranging.proofs.Shown.{of_number}
 
 -- what shows that a path stops shows it of RANGE
 module _ (p : LinearProgram) (Goes : Status → Type 0) (s : List Status) (e : Evidence) where

@@ -12,12 +12,12 @@ use Rattle.problem_definitions.proofs.PlainRows.{rows-again, row_names-by}
 use Rattle.problem_definitions.proofs.Lawful.{AreGroups, AreColumnEntries, AreRightHandSides, AreRanges, AreBoundSets, IsLawful, names-by}
 
 -- a list of elements that a function leaves as they are
-map-kept : {X : Type 0} (f : X → X) (xs : List X) → AllByRecursion (λ x. f x ≡ x) xs → map f xs ≡ xs
+pub map-kept : {X : Type 0} (f : X → X) (xs : List X) → AllByRecursion (λ x. f x ≡ x) xs → map f xs ≡ xs
 map-kept f [] each = refl
 map-kept f (x ∷ xs) each = ap₂ (λ y ys. y ∷ ys) each.0 (map-kept f xs each.1)
 
 -- groups whose items come back
-groups-again : {X Y : Type 0} (to : X → Y) (back : Y → X) (groups : List (Group X)) → AllByRecursion (λ group. AllByRecursion (λ item. back (to item) ≡ item) group.items) groups
+pub groups-again : {X Y : Type 0} (to : X → Y) (back : Y → X) (groups : List (Group X)) → AllByRecursion (λ group. AllByRecursion (λ item. back (to item) ≡ item) group.items) groups
     → map (group_by back) (map (group_by to) groups) ≡ groups
 groups-again to back [] each = refl
 groups-again to back (group ∷ groups) each =

@@ -77,7 +77,7 @@ pub record IsLawful (problem : Problem Name) : Type 0 where
 pub names-by : {X Y : Type 0} (h : X → Y) (groups : List (Group X)) → group_names (map (group_by h) groups) ≡ group_names groups
 names-by h groups = map-map (λ group. group.name) (group_by h) groups
 
-empty-map : {X Y : Type 0} (h : X → Y) (xs : List X) → is_empty xs ≡ false → is_empty (map h xs) ≡ false
+pub empty-map : {X Y : Type 0} (h : X → Y) (xs : List X) → is_empty xs ≡ false → is_empty (map h xs) ≡ false
 empty-map h [] e = e
 empty-map h (x ∷ xs) e = refl
 

@@ -12,6 +12,7 @@ use Rattle.changed_programs.specs.Laws.{IsPresent}
 use Rattle.changed_programs.proofs.Rows.{rows_of, feasible_now}
 use Rattle.changed_programs.proofs.Tableaus.{by_tableau}
 use Rattle.changed_programs.proofs.Signs.{sides_of_rate}
+use Rattle.changed_programs.proofs.Limits.{out_of_basis}
 use Rattle.method_definitions.specs.Formulas.{limit_numbered}
 use Rattle.lp_definitions.specs.LinearProgram.{LinearProgram, Vector, size, IsRow, IsVariable, IsLinearProgram, lower_of, upper_of, for_min, with_change_row}
 use Rattle.lp_definitions.specs.Basis.{basics_of, is_in, is_basic, status_of, IsBasic, IsNonbasic, AreRates, IsPointOf, ArePricesOf, IsOptimalBasis, Tableau, IsTableau, objective_rate}
@@ -34,12 +35,6 @@ use Rattle.ranging.proofs.Distances.{ends_written, ends_unwritten}
 -- a basic has no conditions
 pub no_sides : (rises falls : Bool) (a b : ℚ) (x : ℚ) → rises ≡ false → falls ≡ false → SidesHold (sign_sides rises falls a b) x
 no_sides rises falls a b x no_rise no_fall = subst₂ (λ r f. SidesHold (sign_sides r f a b) x) (sym no_rise) (sym no_fall) (tt, tt)
-
-not_basic : (st : Status) → stands_at_limit st ≡ true → is_basic st ≡ false
-not_basic Bs e = sym e
-not_basic Ll e = refl
-not_basic Ul e = refl
-not_basic Fr e = refl
 
 module _ (p : LinearProgram) (s : List Status) (lawful : IsLinearProgram p) (no_change : p.change ≡ None) (optimal : IsOptimalBasis p s) (z : Vector) (point : IsPointOf p s z) where
   -- the tableau with these rates
@@ -65,7 +60,7 @@ module _ (p : LinearProgram) (s : List Status) (lawful : IsLinearProgram p) (no_
   among k is = is_in-basics_of s k is.0 (omega (arith, is.1, optimal.is_basis.counted))
 
   pub nonbasic_at_limit : (k : ℕ) → IsVariable p.matrix k → stands_at_limit (status_of s k) ≡ true → IsNonbasic p.matrix (basics_of s) k
-  nonbasic_at_limit k is stands = (is, among k is ∙ not_basic (status_of s k) stands)
+  nonbasic_at_limit k is stands = (is, among k is ∙ out_of_basis (status_of s k) stands)
 
   basic_status : (k : ℕ) → IsVariable p.matrix k → is_in (basics_of s) k ≡ true → status_of s k ≡ Bs
   basic_status k is mark = status_of_basic p s optimal.is_basis k (is, mark)

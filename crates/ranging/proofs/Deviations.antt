@@ -14,9 +14,6 @@ use Rattle.lp_definitions.specs.declared.Evidence.{Evidence}
 use Rattle.ranging.specs.Refusals.{IsRefusal}
 use Rattle.ranging.specs.Intervals.{IsAtLeast, IsAtMost, IsIn, less_end, taken_from, opposite_end, opposite, DifferenceRefused, SumRefused}
 
-none_some : {A : Type 0} (x : A) → None ≡ Some x → ⊥
-none_some x e = cc
-
 -- what holds of an end that is there
 pub of_end : (o : Option End) (P : End → Type 0) → IfSome o P → IsSome o → (e : End) × (o ≡ Some e) × P e
 of_end None P h there = let Q : IsSome (let n : Option End = None in n) → ⊥ = λ e. cc in absurd (Q there)

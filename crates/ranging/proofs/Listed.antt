@@ -19,20 +19,13 @@ use Rattle.ranging.specs.Intervals.{IsIn, opposite, taken_from}
 use Rattle.ranging.specs.Tables.{AreEndsOfRow}
 use Rattle.ranging.specs.Lists.{Item, ListsTo, interval_of}
 use Rattle.ranging.proofs.Deviations.{opposite_is, taken_is}
+use Rattle.basis_values.proofs.PointSums.{filter-append}
 
 -- ---- lists of numbers
 
 map-append : {A B : Type 0} (f : A → B) (xs : List A) (y : A) → map f (xs ++ y ∷ []) ≡ map f xs ++ f y ∷ []
 map-append f [] y = refl
 map-append f (x ∷ xs) y = ap (λ zs. f x ∷ zs) (map-append f xs y)
-
-filter-append : (test : ℕ → Bool) (xs ys : List ℕ) → filter test (xs ++ ys) ≡ filter test xs ++ filter test ys
-filter-append test [] ys = refl
-filter-append test (x ∷ xs) ys = by_test (test x) refl (filter-append test xs ys)
-  where
-    by_test : (m : Bool) → test x ≡ m → filter test (xs ++ ys) ≡ filter test xs ++ filter test ys → filter test ((x ∷ xs) ++ ys) ≡ filter test (x ∷ xs) ++ filter test ys
-    by_test true is rest = rw is (ap (λ zs. x ∷ zs) rest)
-    by_test false is rest = rw is rest
 
 numbers-next : (first n : ℕ) → numbers_from first (n + 1) ≡ numbers_from first n ++ (first + n) ∷ []
 numbers-next first n = numbers_from-append first n 1

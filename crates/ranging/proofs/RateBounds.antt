@@ -108,14 +108,6 @@ module _ (p : LinearProgram) (s : List Status) (price rate : ℚ) (j : ℕ) wher
 
 -- ---- one variable more
 
-pub value_next : (xs : List ℚ) (k : ℕ) (x : ℚ) → k < length xs → x ≡ get_or xs k x → value_at xs (k + 1) ≡ x
-value_next xs k x below is =
-    let place : k + 1 - 1 ≡ k = omega arith in
-    ap (λ i. get_or xs i zero_ℚ) place ∙ sym (is ∙ get_or_default xs k x zero_ℚ below)
-
-pub value_read : (xs : List ℚ) (k : ℕ) (x : ℚ) → k - 1 < length xs → x ≡ get_or xs (k - 1) x → x ≡ value_at xs k
-value_read xs k x below is = is ∙ get_or_default xs (k - 1) x zero_ℚ below
-
 -- what holds of the first n, and of the next
 pub up_to_next : (P : ℕ → Type 0) (n : ℕ) → ((k : ℕ) → 1 ≤ k → k ≤ n → P k) → P (n + 1) → (k : ℕ) → 1 ≤ k → k ≤ n + 1 → P k
 up_to_next P n before next k low high = at (eqb_tells k (n + 1))

@@ -33,7 +33,7 @@ any_move statement s t w rate e (by_range f) = by_range f
 any_move statement s t w rate e (by_objective f) = by_objective f
 any_move statement s t w rate e (by_slope u is f) = by_slope u is f
 
-of_number : (n term : ℕ) → (is_between 1 5 n || is_between 10 12 n) ≡ true → ((is_between 1 12 n || is_between 14 15 n) && (not (nat_eq n 6) || not (nat_eq term 3))) ≡ true
+pub of_number : (n term : ℕ) → (is_between 1 5 n || is_between 10 12 n) ≡ true → ((is_between 1 12 n || is_between 14 15 n) && (not (nat_eq n 6) || not (nat_eq term 3))) ≡ true
 of_number n term h = grind arith
 
 pub range_by_point : (p : LinearProgram) (before after : List Basics) (s : List Status) (e : Evidence) → p.change ≡ None → PointRefused p before s after e → RangeRefused p before s after e

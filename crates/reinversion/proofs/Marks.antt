@@ -1,7 +1,7 @@
 -- Sets of basics of one size, of which one lies in the other.
 use Rattle.std.proofs.Common.{◌≡◌, ℕ, zero, suc, ◌+◌, ◌<◌, ◌≤◌, [], ◌∷◌, length, drop, set, get_or, refl, sym, ◌∙◌, ap, true, false, arith}
 use Rattle.lp_definitions.specs.Basis.{Basics}
-use Rattle.lp_laws.proofs.Exchange.{marked}
+use Rattle.lp_laws.proofs.Exchange.{marked, marked-set_true}
 use Rattle.lp_laws.proofs.Values.{clash}
 
 pub fewer_marks : (b g : Basics) → length b ≡ length g → ((i : ℕ) → get_or b i false ≡ true → get_or g i false ≡ true) → marked b ≤ marked g
@@ -22,17 +22,10 @@ same_marks (true ∷ xs) (false ∷ ys) same within count = absurd (clash (sym (
 same_marks (false ∷ xs) (true ∷ ys) same within count = absurd (let rest = fewer_marks xs ys (omega (arith, same)) (λ i h. within (suc i) h) in omega (arith, rest, count))
 same_marks (false ∷ xs) (false ∷ ys) same within count = ap (λ ms. false ∷ ms) (same_marks xs ys (omega (arith, same)) (λ i h. within (suc i) h) count)
 
--- a mark past m more, and one before it less
-one_more : (b : Basics) (i : ℕ) → i < length b → get_or b i false ≡ false → marked (set b i true) ≡ suc (marked b)
-one_more [] i below out = absurd (omega arith)
-one_more (m ∷ ms) zero below out = rw out (omega arith)
-one_more (true ∷ ms) (suc i) below out = ap (λ n. 1 + n) (one_more ms i (omega arith) out) ∙ omega arith
-one_more (false ∷ ms) (suc i) below out = one_more ms i (omega arith) out
-
 more_past : (b : Basics) (m i : ℕ) → m ≤ i → i < length b → get_or b i false ≡ false → marked (drop m (set b i true)) ≡ suc (marked (drop m b))
 more_past [] m i after below out = absurd (omega arith)
-more_past (x ∷ ms) zero zero after below out = one_more (x ∷ ms) zero below out
-more_past (x ∷ ms) zero (suc i) after below out = one_more (x ∷ ms) (suc i) below out
+more_past (x ∷ ms) zero zero after below out = marked-set_true (x ∷ ms) zero below out
+more_past (x ∷ ms) zero (suc i) after below out = marked-set_true (x ∷ ms) (suc i) below out
 more_past (x ∷ ms) (suc m) zero after below out = absurd (omega arith)
 more_past (x ∷ ms) (suc m) (suc i) after below out = more_past ms m i (omega arith) (omega arith) out
 

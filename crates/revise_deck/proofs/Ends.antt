@@ -16,17 +16,18 @@ use Rattle.deck_definitions.specs.declared.DeckFaultKind.TheVariants.{NoEndata}
 use Rattle.deck_definitions.specs.declared.Section.TheVariants.{Endata}
 use Rattle.deck_definitions.specs.Sections.{is_section_after}
 use Rattle.deck_definitions.specs.Conversion.{first_faulty, deck_name}
-use Rattle.deck_definitions.proofs.Converted.{ArePrintable}
+use Rattle.deck_definitions.proofs.Converted.{ArePrintable, printable_live}
 use Rattle.deck_definitions.proofs.Steps.{last_or-push}
 use Rattle.deck_fields.specs.declared.stop.DeckStop.{DeckStop}
 use Rattle.deck_fields.specs.declared.stop.DeckStop.TheVariants.{Fault, NoMemory}
 use Rattle.revise_definitions.specs.Revision.{revised, revise_card_fault, revise_fault, revision}
 use Rattle.revise_laws.proofs.ByNames.{named-lawful}
-use Rattle.revise_laws.proofs.Revisions.{revised-lawful, renamed, printable_live}
+use Rattle.revise_laws.proofs.Revisions.{revised-lawful, renamed}
 use Rattle.revise_parts.specs.Summary.{under_of}
 use Rattle.revise_deck.specs.State.{State, state_of, Stops}
 use Rattle.revise_deck.specs.Revision.{Refuses}
-use Rattle.revise_deck.proofs.Loop.{cards_up_to, cards_more}
+use Rattle.revise_deck.proofs.Loop.{cards_up_to}
+use Rattle.mps_convert.proofs.Loop.{cards_more}
 
 module _ (old : Problem ℕ) (deck : List Card) (name : Option Name) where
   made : Problem ℕ
@@ -78,13 +79,3 @@ gives old deck name own shown problem fine ended is own_is problem_is =
 pub nothing_read : (old : Problem Name) (state : State) (problem : Problem Name) → problem ≡ old → state ≡ record { section = None; action = None; under = under_of [] []; problem = problem } → state ≡ state_of old []
 unfolding revised
 nothing_read old state problem is e = e ∙ ap (λ p. record { section = None; action = None; under = under_of [] []; problem = p }) is
-
--- the number of the last card
-pub last_is : (first last : ℕ) (cards : List (List ℕ)) → 1 ≤ first → first ≤ last → last ≤ length cards → last_number (cards_between first last cards) ≡ last
-last_is first last cards from_one from within =
-    let inside : last - 1 < length cards = omega arith in
-    let card = get_or cards (last - 1) [] in
-    let more = cards_more first last cards card from_one from (slice_get-get_or cards (last - 1) [] inside) in
-    ap last_number more
-    ∙ ap (λ numbers. unwrap_or (last_or None numbers) 0) (map-append (λ (c : Card). c.number) (cards_up_to first last cards) (record { number = last; bytes = card } ∷ []))
-    ∙ ap (λ o. unwrap_or o 0) (last_or-push None (map (λ (c : Card). c.number) (cards_up_to first last cards)) (Some last))

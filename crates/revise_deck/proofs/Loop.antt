@@ -18,6 +18,7 @@ use Rattle.revise_deck.proofs.CardStep.{fault-state, state-step}
 use Rattle.deck_fields.specs.declared.stop.DeckStop.{DeckStop}
 use Rattle.deck_fields.specs.declared.stop.DeckStop.TheVariants.{Fault, NoMemory}
 use Rattle.revise_deck.specs.State.{State, state_of, state_with, state_after, fault_at, live_fault, Stops, StopsAt}
+use Rattle.mps_convert.proofs.Loop.{numbered_at, cards_more, cards_split}
 
 pub live-append : (xs ys : List Card) → live (xs ++ ys) ≡ live xs ++ live ys
 live-append xs ys = filter-append (λ card. not (is_skipped card.bytes)) xs ys
@@ -68,12 +69,6 @@ stops_whole old cards card more whole state (Fault told) split is none holds =
     ∙ ap (λ o. option_or o (first_faulty (revise_card_fault old) (live (cards ++ card ∷ [])) (live more)))
     (fault-push old cards card none ∙ ap (λ s. option_map (λ kind. record { card = card.number; kind = kind }) (live_fault s card.bytes)) (sym is) ∙ holds)
 
--- the card of a number
-numbered_at : (start i : ℕ) (cards : List (List ℕ)) (card : List ℕ) → slice_get cards i ≡ Some card → slice_get (numbered_from start cards) i ≡ Some (record { number = start + i; bytes = card })
-numbered_at start i [] card at = absurd (cc at)
-numbered_at start zero (c ∷ cards) card at = let n : start + 0 ≡ start = omega arith in rw n (ap (option_map (λ (bytes : List ℕ). record { number = start; bytes = bytes })) at)
-numbered_at start (suc i) (c ∷ cards) card at = let n : start + suc i ≡ start + 1 + i = omega arith in rw n (numbered_at (start + 1) i cards card at)
-
 module _ {X : Type 0} where
   -- one more element of a part
   part_more : (k i : ℕ) (xs : List X) (x : X) → slice_get xs (k + i) ≡ Some x → take (i + 1) (drop k xs) ≡ take i (drop k xs) ++ x ∷ []
@@ -105,33 +100,6 @@ module _ {X : Type 0} where
 -- the cards from the first up to a number, that one left out
 abbrev pub cards_up_to : ℕ → ℕ → List (List ℕ) → List Card
 cards_up_to first number cards = take (number - first) (drop (first - 1) (numbered_cards cards))
-
-pub cards_more : (first number : ℕ) (cards : List (List ℕ)) (card : List ℕ) → 1 ≤ first → first ≤ number → slice_get cards (number - 1) ≡ Some card
-    → cards_up_to first (number + 1) cards ≡ cards_up_to first number cards ++ record { number = number; bytes = card } ∷ []
-cards_more first number cards card from_one from at =
-    let count : number + 1 - first ≡ number - first + 1 = omega arith in
-    let place : number - 1 ≡ (first - 1) + (number - first) = omega arith in
-    let own : 1 + (number - 1) ≡ number = omega arith in
-    let found : slice_get (numbered_cards cards) ((first - 1) + (number - first)) ≡ Some (record { number = number; bytes = card })
-    = ap (λ k. slice_get (numbered_cards cards) k) (sym place) ∙ numbered_at 1 (number - 1) cards card at ∙ ap (λ (n : ℕ). Some (record { number = n; bytes = card })) own in
-    rw count (part_more (first - 1) (number - first) (numbered_cards cards) (record { number = number; bytes = card }) found)
-
-pub cards_split : (first number last : ℕ) (cards : List (List ℕ)) → number ≤ last → first ≤ number
-    → cards_between first last cards ≡ cards_up_to first (number + 1) cards ++ take (last + 1 - first - (number + 1 - first)) (drop (number + 1 - first) (drop (first - 1) (numbered_cards cards)))
-cards_split first number last cards below from =
-    let fits : number + 1 - first ≤ last + 1 - first = omega arith in
-    part_split (number + 1 - first) (last + 1 - first) (drop (first - 1) (numbered_cards cards)) fits
-
--- at first no card is seen
-pub nothing_yet : (first : ℕ) (cards : List (List ℕ)) → cards_up_to first first cards ≡ []
-nothing_yet first cards = let none : first - first ≡ 0 = omega arith in rw none refl
-
--- one more printable card
-pub next_printable : (first number : ℕ) (cards : List (List ℕ)) (card : List ℕ) → 1 ≤ first → first ≤ number → slice_get cards (number - 1) ≡ Some card
-    → ArePrintable (cards_up_to first number cards) → list_all is_printable card ≡ true → ArePrintable (cards_up_to first (number + 1) cards)
-next_printable first number cards card from_one from at printable also =
-    subst ArePrintable (sym (cards_more first number cards card from_one from at))
-    (each-push (λ (c : Card). list_all is_printable c.bytes ≡ true) (cards_up_to first number cards) (record { number = number; bytes = card }) printable also)
 
 module _ (old : Problem Name) (first number : ℕ) (cards : List (List ℕ)) (card : List ℕ) (from_one : 1 ≤ first) (from : first ≤ number) (at : slice_get cards (number - 1) ≡ Some card)
     (state : State) (is : state ≡ state_of old (live (cards_up_to first number cards))) where

@@ -15,12 +15,8 @@ use Rattle.problem_definitions.proofs.Names.{row_is_named}
 use Rattle.problem_definitions.proofs.Groups.{map-map, has_group-names}
 use Rattle.problem_definitions.proofs.Each.{each-change, each-mapped, distinct-mapped}
 use Rattle.problem_definitions.proofs.PlainRows.{row_names-by, row_count-by, has_free_row-by, plain-by}
-use Rattle.problem_definitions.proofs.Lawful.{IsLabel, AreGroups, AreLawfulEntries, AreColumnEntries, AreRightHandSides, AreRanges, clash_by_name, AreLawfulBounds, AreBoundSets, IsLawful, names-by}
+use Rattle.problem_definitions.proofs.Lawful.{IsLabel, AreGroups, AreLawfulEntries, AreColumnEntries, AreRightHandSides, AreRanges, clash_by_name, AreLawfulBounds, AreBoundSets, IsLawful, names-by, empty-map}
 use Rattle.revise_laws.proofs.Places.{all-each, name_at-there, names_apart, free_row-name}
-
-empty-map : {X Y : Type 0} (h : X → Y) (xs : List X) → is_empty xs ≡ false → is_empty (map h xs) ≡ false
-empty-map h [] e = e
-empty-map h (x ∷ xs) e = refl
 
 labels : (names : List Name) → AreLabels names → AllByRecursion IsLabel names
 labels names are = both names (all-each IsName names are.each) (all-each (λ name. is_empty name ≡ false) names are.present)

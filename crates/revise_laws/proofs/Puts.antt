@@ -3,6 +3,7 @@ use Rattle.std.proofs.Common.{◌≡◌, ℕ, ◌+◌, ◌-◌, ◌≤◌, Bool,
 use Rattle.std.specs.List.{AllByRecursion, IsDistinct}
 use Rattle.std.specs.Option.{option_or}
 use Rattle.std.proofs.lemmas.List.{map-append, length-append, length-map}
+use Rattle.std.proofs.lemmas.Bool.{not-false}
 use Rattle.card_definitions.specs.Words.{is_empty, ◌⟹◌}
 use Rattle.card_definitions.proofs.Behind.{no_first, no_second, passes, test_fails}
 use Rattle.problem_definitions.specs.declared.TheConstants.{MAX_ENTRIES}
@@ -19,7 +20,7 @@ use Rattle.deck_definitions.specs.Sections.{is_section}
 use Rattle.deck_definitions.specs.DataCards.{Pair, entry_of}
 use Rattle.deck_definitions.specs.Tests.{pair_row_fault, value_fault}
 use Rattle.deck_definitions.proofs.CardTexts.{decimal-lawful}
-use Rattle.deck_definitions.proofs.Accepted.{is_true_of_not, not_full, no_value_fault}
+use Rattle.deck_definitions.proofs.Accepted.{not_full, no_value_fault}
 use Rattle.revise_definitions.specs.Edits.{put_entry, put_entries}
 use Rattle.revise_definitions.specs.Tests.{put_fault, puts_fault}
 use Rattle.revise_definitions.proofs.Pairs.{puts_fault-cons, put_entries-length, put_entry-length}
@@ -133,7 +134,7 @@ module _ (seen : Problem Name) (section : Section) where
       (not (has_row seen.rows pair.row) ⟹ UnknownRow) ∷
       (is_section Ranges section && has_free_row seen.rows pair.row ⟹ RangeOnFree) ∷ []) t.0 in
       record {
-        there = is_true_of_not (has_row seen.rows pair.row) (test_fails (not (has_row seen.rows pair.row)) UnknownRow r.1.0);
+        there = not-false (has_row seen.rows pair.row) (test_fails (not (has_row seen.rows pair.row)) UnknownRow r.1.0);
         unfree = test_fails (is_section Ranges section && has_free_row seen.rows pair.row) RangeOnFree r.1.1.0;
         few = test_fails (is_section Columns section && not (has_entry present pair.row) && nat_le MAX_ENTRIES count) TooManyEntries t.1.1.0;
         fine = t.1.0;

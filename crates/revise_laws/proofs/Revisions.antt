@@ -21,7 +21,7 @@ use Rattle.deck_definitions.specs.Sections.{is_section_card, section_after, is_s
 use Rattle.deck_definitions.specs.DataCards.{Style, style_of, form_on}
 use Rattle.deck_definitions.specs.Conversion.{section_card_fault, form_fault, first_faulty, deck_name}
 use Rattle.deck_definitions.proofs.CardTexts.{IsReading, columns-name, reading-lawful}
-use Rattle.deck_definitions.proofs.Converted.{ArePrintable}
+use Rattle.deck_definitions.proofs.Converted.{ArePrintable, printable_live, deck_name-name}
 use Rattle.revise_definitions.specs.declared.Action.{Action}
 use Rattle.revise_definitions.specs.declared.Action.TheVariants.{Modify, Delete, Before, After}
 use Rattle.revise_definitions.specs.Actions.{deletes, is_action_card, action_on, anchor_on, action_after, anchor_after, under_after, edit_of, is_heading}
@@ -166,18 +166,6 @@ renamed name p lawful = record {
   few_columns = lawful.few_columns;
   few_entries = lawful.few_entries;
 }
-
-pub printable_live : (cards : List Card) → ArePrintable cards → ArePrintable (live cards)
-printable_live [] printable = tt
-printable_live (card ∷ cards) printable = by (is_skipped card.bytes) (printable_live cards printable.1)
-  where
-    by : (b : Bool) → ArePrintable (live cards) → ArePrintable (cond (not b) (card ∷ live cards) (live cards))
-    by true rest = rest
-    by false rest = (printable.0, rest)
-
-deck_name-name : (cards : List Card) → ArePrintable cards → IsName (deck_name cards)
-deck_name-name [] printable = record { short = lit≤ tt; printable = refl; trimmed = refl }
-deck_name-name (card ∷ cards) printable = columns-name 15 22 card.bytes (lit≤ tt) printable.0
 
 -- What a REVISE deck of printable cards makes of a lawful problem, under a name or its own, is a lawful problem.
 pub revision-problem : (old : Problem ℕ) (deck : List Card) (name : Option Name) (new : Problem ℕ) → IsProblem old → ArePrintable deck → IfSome name IsName → revision old deck name ≡ Ok new → IsProblem new

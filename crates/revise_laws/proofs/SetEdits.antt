@@ -2,6 +2,7 @@
 use Rattle.std.proofs.Common.{◌≡◌, Bool, true, false, cond, not, ◌&&◌, ◌||◌, List, [], ◌∷◌, ◌++◌, Option, Some, None, map, refl, ap₂, sym, ◌∙◌, is_some, unwrap_or}
 use Rattle.std.specs.List.{AllByRecursion, IsDistinct, filter}
 use Rattle.std.specs.Option.{option_map, IfSome}
+use Rattle.std.proofs.lemmas.Bool.{not-false}
 use Rattle.card_definitions.specs.Words.{is_empty, named, ◌⟹◌}
 use Rattle.card_definitions.specs.Fields.{Reading}
 use Rattle.card_definitions.specs.Numbers.{decimal_of}
@@ -21,7 +22,7 @@ use Rattle.deck_definitions.specs.declared.Section.TheVariants.{Rhs, Ranges}
 use Rattle.deck_definitions.specs.DataCards.{entry_of, pairs_of, entries_of, bound_kinds, bound_of}
 use Rattle.deck_definitions.specs.Tests.{kind_filled, filled_from_5, value_fault, bound_value_fault, of_bound_type}
 use Rattle.deck_definitions.proofs.CardTexts.{IsReading, pairs-short, decimal-lawful}
-use Rattle.deck_definitions.proofs.Accepted.{is_true_of_not, no_value_fault}
+use Rattle.deck_definitions.proofs.Accepted.{no_value_fault}
 use Rattle.revise_definitions.specs.Edits.{put_entries, put_bound, without_row, without_column, delete_items}
 use Rattle.revise_definitions.specs.Tests.{puts_fault, modify_sets_fault, modify_bound_fault}
 use Rattle.revise_laws.proofs.Lists.{each-filter, each-passes, distinct-filter, groups-changed, groups-set, groups-without, groups-filled}
@@ -158,7 +159,7 @@ module _ (p : Problem Name) (lawful : IsLawful p) where
         let value = valued (takes_value kind) t.1.1.0 in
         record {
           bounds_lawful = record {
-            on_columns = each-push (λ (bound : Bound Name). has_group p.columns bound.column ≡ true) kept (bound_of card kind) left.on_columns (is_true_of_not (has_group p.columns card.name2) (test_fails (not (has_group p.columns card.name2)) UnknownColumn t.1.0));
+            on_columns = each-push (λ (bound : Bound Name). has_group p.columns bound.column ≡ true) kept (bound_of card kind) left.on_columns (not-false (has_group p.columns card.name2) (test_fails (not (has_group p.columns card.name2)) UnknownColumn t.1.0));
             apart = distinct-push clash_by_name kept (bound_of card kind) left.apart
                 (each-passes (λ bound. Unit {0}) (λ (bound : Bound Name). clash_by_name bound (bound_of card kind) ≡ false) (λ other. not (same card.name2 other.column && meet kind other.kind)) (λ bound u e. turned bound e) bounds (nothing bounds));
             valued = each-push (λ (bound : Bound Name). is_some bound.value ≡ takes_value bound.kind) kept (bound_of card kind) left.valued value.0;

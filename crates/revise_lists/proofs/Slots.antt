@@ -4,6 +4,7 @@ use Rattle.std.proofs.Math.ListN.{set}
 use Rattle.std.proofs.lemmas.List.{take_more, append-nil}
 use Rattle.std.specs.List.{list_any}
 use Rattle.std.specs.Map.{lookup}
+use Rattle.std.proofs.lemmas.Bool.{and_parts}
 use Rattle.indexmap.specs.IndexMap.{insert_entry}
 use Rattle.card_definitions.specs.Words.{is_empty}
 use Rattle.problem_definitions.specs.declared.BoundKind.{BoundKind}
@@ -78,14 +79,10 @@ hit end column None is = absurd (cc is)
 hit end column (Some None) is = absurd (cc is)
 hit end column (Some (Some bound)) is = (bound, refl, is)
 
-both : (a b : Bool) → (a && b) ≡ true → (a ≡ true) × (b ≡ true)
-both true b e = (refl, e)
-both false b e = absurd (cc e)
-
 module _ (end : End) (column : Name) (places : List (Name × ℕ)) (slots : Slots) (notes : AreNoted end places slots) where
   noted_at : (place : ℕ) (bound : Bound Name) → slice_get slots place ≡ Some (Some bound) → is_at_end end column bound ≡ true → lookup (same column) places ≡ Some place
   noted_at place bound at is =
-      let p = both (same column bound.column) (touches_end end bound.kind) is in
+      let p = and_parts (same column bound.column) (touches_end end bound.kind) is in
       subst (λ n. lookup (same n) places ≡ Some place) (sym (same_eq column bound.column p.0)) (notes place bound at p.1)
 
   noted_there : (place : ℕ) → is_at_end_there end column (slice_get slots place) ≡ true → lookup (same column) places ≡ Some place
@@ -227,7 +224,7 @@ free_ends column kind bounds none =
     second true true false h e = absurd (cc e)
     second false a rest h e = absurd (cc h)
 
--- ---- both ends
+-- ---- and_parts ends
 
 abbrev free_touches : (kind : BoundKind) → meet Fr kind ≡ true
 free_touches Up = refl

@@ -16,10 +16,7 @@ use Rattle.deck_definitions.specs.DataCards.{pairs_of}
 use Rattle.deck_definitions.specs.Tests.{kind_filled, marks, pairs_fault}
 use Rattle.revise_definitions.specs.Tests.{puts_fault, modify_columns_fault}
 use Rattle.revise_parts.specs.Summary.{insert_columns_test}
-
-or_none : (o : Option DeckFaultKind) → option_or o None ≡ o
-or_none None = refl
-or_none (Some kind) = refl
+use Rattle.deck_parts.proofs.Second.{or_none}
 
 module _ (seen : Problem Name) (card : Reading) where
   abbrev head : List (Option DeckFaultKind)

@@ -16,10 +16,7 @@ use Rattle.revise_definitions.specs.Edits.{put_entry}
 use Rattle.revise_definitions.specs.Tests.{puts_fault}
 use Rattle.revise_definitions.proofs.Pairs.{puts_fault-cons}
 use Rattle.revise_parts.specs.Summary.{put_test, pair_test}
-
-or_none : (o : Option DeckFaultKind) → option_or o None ≡ o
-or_none None = refl
-or_none (Some kind) = refl
+use Rattle.deck_parts.proofs.Second.{or_none}
 
 or_turned : (a b : Bool) → (a || (b || false)) ≡ (b || a)
 or_turned true true = refl

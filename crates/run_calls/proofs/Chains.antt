@@ -7,10 +7,7 @@ use Rattle.lp_definitions.specs.declared.Status.{Status}
 use Rattle.method_definitions.specs.Path.{last_of}
 use Rattle.method_definitions.specs.Chain.{Part, ChainEnd, FaceTurn, IsChain, goes_on}
 use Rattle.run_calls.specs.Begun.{IsBegun, nothing, then}
-
-pub last_append : (s : List Status) (first second : List (List Status)) → last_of s (first ++ second) ≡ last_of (last_of s first) second
-last_append s [] second = refl
-last_append s (next ∷ first) second = last_append next first second
+use Rattle.sweep_laws.proofs.Runs.{last_of-append}
 
 module _ (family : ℚ → LinearProgram) (Face : ℚ → List Status → FaceTurn → Type 0) (from max : ℚ) (s : List Status) where
   pub closes : (parts : List Part) (theta : ℚ) (now : List Status) (path : List (List Status)) (rest : List Part) (end : ChainEnd) (later : List (List Status)) →
@@ -26,4 +23,4 @@ module _ (family : ℚ → LinearProgram) (Face : ℚ → List Status → FaceTu
   pub begun_last : (parts : List Part) (theta : ℚ) (now : List Status) (path : List (List Status)) → IsBegun family Face from max s parts theta now path → last_of s path ≡ now
   begun_last _ _ _ _ nothing = refl
   begun_last _ _ _ _ (then {parts} {theta} {now} {path} {part} {bases} begun is faces) =
-      last_append s path bases ∙ ap (λ x. last_of x bases) (begun_last parts theta now path begun)
+      last_of-append s path bases ∙ ap (λ x. last_of x bases) (begun_last parts theta now path begun)

@@ -15,15 +15,9 @@ use Rattle.question_definitions.specs.Answers.{Basis, Sheet, PathEnd, Reached, P
 use Rattle.answer_definitions.specs.Lines.{at_of, name_of}
 use Rattle.answer_definitions.specs.Verdicts.{verdict_of, check_of, found, IsVerdict, IsSolved}
 use Rattle.answer_definitions.specs.Sections.{solution_lines, IsShown}
+use Rattle.run_laws.proofs.OneEnd.{one_check}
 
 -- ---- paths
-
--- a check is told by what it has found
-check_same : (a b : Check) → found a ≡ found b → a ≡ b
-check_same Checked Checked e = refl
-check_same Checked (Unchecked refused) e = absurd (cc e)
-check_same (Unchecked refused) Checked e = absurd (cc e)
-check_same (Unchecked refused) (Unchecked other) e = cc
 
 module _ (sheet : Sheet) where
   -- the same end after the same bases has the same verdict and the same check
@@ -31,7 +25,7 @@ module _ (sheet : Sheet) where
       IsVerdict sheet (length bases) ending v c → IsVerdict sheet (length others) other w d → Reached bases v c ≡ Reached others w d
   reached_same bases others ending other v w c d same alike first second =
       let verdicts : v ≡ w = first.is_verdict ∙ ap₂ (λ xs e. verdict_of sheet (length xs) e) same alike ∙ sym second.is_verdict in
-      let checks : c ≡ d = check_same c d (sym first.is_check ∙ ap (check_of sheet.lp) alike ∙ second.is_check) in
+      let checks : c ≡ d = one_check c d (sym first.is_check ∙ ap (check_of sheet.lp) alike ∙ second.is_check) in
       cc
 
   module _ (s : Basis) (lawful : IsLinearProgram sheet.lp) (at : IsNonsingularBasis sheet.lp s) where

@@ -20,13 +20,14 @@ use Rattle.run_definitions.specs.Run.{counted, Step, IsOver, at_end, at_limit, I
 use Rattle.run_definitions.specs.Answer.{IsProgramOf, job_decks, IsJobRun, card_fault, control_fault, run}
 use Rattle.run_laws.specs.Laws.{KnowsSolving}
 use Rattle.lp_definitions.specs.LinearProgram.{LinearProgram, IsLinearProgram}
-use Rattle.run_laws.proofs.Selected.{is_chosen, selected_is_lawful}
+use Rattle.run_laws.proofs.Selected.{selected_is_lawful}
 use Rattle.run_functions.specs.Laws.{IsAsked, MeetsNoEvidence, AnswersOnce, IsOverflow, IsOverflowStop, IsSameOrStop, AreSame, Continues, IsFunction}
 use Rattle.run_functions.proofs.Stops.{statement_evidence}
 use Rattle.run_functions.proofs.OneRange.{ranged_once}
 use Rattle.run_functions.proofs.Swept.{swept_once}
 use Rattle.run_functions.proofs.OneAnswer.{path_once, shown_once}
 use Rattle.run_functions.proofs.Steps.{Comes, two_outcomes, steps, GoesOn, same_so_far, goes_on, continues}
+use Rattle.lp_setup.proofs.FreeRows.{is_chosen}
 
 -- two outcomes that end a run are the same
 record SameEnding (gain other : Gain) (ending another : Ending) : Type 0 where

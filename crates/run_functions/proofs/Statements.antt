@@ -34,16 +34,11 @@ use Rattle.run_laws.proofs.Selected.{selected_is_lawful}
 use Rattle.run_laws.proofs.Moves.{HasProblem, EndsOptimally, Knows}
 use Rattle.run_laws.specs.Truth.{IsOfProblem}
 use Rattle.run_laws.proofs.ChangeRow.{row_of_problem, set_of_problem, changes_part, last_no_less}
+use Rattle.run_laws.proofs.Verbs.{optimal_alone}
 use Rattle.run_functions.specs.Laws.{Suits, HasOneAnswer, AnswersOnce, AsksOnce}
 
 pub record IsOnce (S : Solving) (move : Move) : Type 0 where
   pub once : AsksOnce S move
-
--- RANGE goes on under the mark OPTIMAL alone
-is_optimal : (mark found : Mark) → if_optimal mark ≡ Some found → mark ≡ Optimal
-is_optimal Optimal found e = refl
-is_optimal Infeasible found e = absurd (cc e)
-is_optimal Unbounded found e = absurd (cc e)
 
 module _ (S : Solving) where
   does : (outcome : Outcome) → IsOnce S (Does outcome)
@@ -153,7 +148,7 @@ module _ (S : Solving) where
         unless_fault card VerbFault.NoSetup state.setup _ (λ present e.
         unless_fault card VerbFault.NotSolved state.mark _ (λ mark m.
         unless_fault {X = Mark} card VerbFault.NotOptimal (if_optimal mark) _ (λ optimal o.
-        showing_once present OfRanges Ranges one e (λ lp is. optimal_now present lp (m ∙ ap (λ x. Some x) (is_optimal mark optimal o)) e is))))
+        showing_once present OfRanges Ranges one e (λ lp is. optimal_now present lp (m ∙ ap (λ x. Some x) (optimal_alone mark optimal o)) e is))))
 
     sweeps_once : (fault : VerbFault) (change : Problem ℕ → Name → Option Changing) (moved : Option Name) →
         ((problem : Problem ℕ) (name : Name) (changing : Changing) → change problem name ≡ Some changing → IsOfProblem changing problem) → ((sweep : Sweep) → HasOneAnswer S (OfSweep sweep)) →

@@ -2,6 +2,7 @@
 use Rattle.std.proofs.Common.{◌≡◌, ℕ, zero, suc, ◌-◌, Bool, true, false, cond, not, List, [], ◌∷◌, Option, Some, None, length, map, ltb, drop, filter, refl, subst}
 use Rattle.std.specs.List.{AllByRecursion, list_all, onto_first, prefix_len}
 use Rattle.std.proofs.lemmas.Option.{same_Some}
+use Rattle.std.proofs.lemmas.Bool.{not-false}
 use Rattle.card_definitions.specs.declared.CardFault.TheVariants.{TooLong, NotPrintable, CardTooLong}
 use Rattle.card_definitions.specs.declared.TheConstants.{CARD_COLUMNS}
 use Rattle.card_definitions.specs.Words.{◌⟹◌, is_empty, without_leading}
@@ -17,13 +18,9 @@ use Rattle.run_definitions.specs.Answer.{job_decks}
 
 -- ---- the cards of a job
 
-negated : (b : Bool) → not b ≡ false → b ≡ true
-negated true e = refl
-negated false e = absurd (cc e)
-
 printable_card : (card : Card) → card_fault card ≡ None → list_all is_printable card.bytes ≡ true
 printable_card card none =
-    negated (list_all is_printable card.bytes) (test_fails (not (list_all is_printable card.bytes)) (NotPrintable card.number) (passes (
+    not-false (list_all is_printable card.bytes) (test_fails (not (list_all is_printable card.bytes)) (NotPrintable card.number) (passes (
     (not (list_all is_printable card.bytes) ⟹ NotPrintable card.number) ∷ (ltb CARD_COLUMNS (length card.bytes) ⟹ CardTooLong card.number) ∷ []) none).0)
 
 printable_cards : (cards : List Card) → AllByRecursion (λ test. test ≡ None) (map card_fault cards) → ArePrintable cards

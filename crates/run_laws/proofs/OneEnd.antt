@@ -11,7 +11,7 @@ use Rattle.sweep_laws.proofs.OneRun.{HasOneFace, one_report, objective_faces, rh
 use Rattle.sweep_laws.proofs.NotBoth.{not_both}
 use Rattle.run_laws.specs.Sweeps.{ChangesFreely}
 
-one_check : (check other : Check) → found check ≡ found other → check ≡ other
+pub one_check : (check other : Check) → found check ≡ found other → check ≡ other
 one_check Checked Checked e = refl
 one_check Checked (Unchecked refused) e = cc
 one_check (Unchecked refused) Checked e = cc

@@ -4,6 +4,7 @@ use Rattle.std.specs.Prelude.{Option, Some, None, Ok}
 use Rattle.card_definitions.specs.Words.{unless}
 use Rattle.lp_definitions.specs.LinearProgram.{LinearProgram, IsLinearProgram}
 use Rattle.lp_setup.proofs.Lawful.{program_is_lawful}
+use Rattle.lp_setup.proofs.FreeRows.{is_chosen}
 use Rattle.problem_definitions.specs.Problem.{Problem}
 use Rattle.problem_definitions.specs.Valid.{IsProblem}
 use Rattle.selection_definitions.specs.declared.SelectionFault.{SelectionFault}
@@ -14,11 +15,6 @@ use Rattle.run_laws.proofs.Ends.{HasNoChange}
 faultless : (fault : Option SelectionFault) (value lp : LinearProgram) → unless fault value ≡ Ok lp → (fault ≡ None) × (value ≡ lp)
 faultless None value lp e = (refl, cc)
 faultless (Some fault) value lp e = absurd (cc e)
-
--- what is selected has no fault, and is the linear program of the choice
-pub is_chosen : (problem : Problem ℕ) (choice : Choice) (lp : LinearProgram) → selected problem choice ≡ Ok lp → (selection_fault problem choice ≡ None) × (program_of_choice problem choice ≡ lp)
-unfolding selected
-is_chosen problem choice lp e = faultless (selection_fault problem choice) (program_of_choice problem choice) lp e
 
 pub selected_is_lawful : (problem : Problem ℕ) (choice : Choice) (lp : LinearProgram) → IsProblem problem → selected problem choice ≡ Ok lp → IsLinearProgram lp
 selected_is_lawful problem choice lp is e = let h = is_chosen problem choice lp e in subst IsLinearProgram h.1 (program_is_lawful problem choice is h.0)

@@ -19,7 +19,7 @@ use Rattle.path_laws.specs.Laws.{IsNonsingularBasis}
 use Rattle.selection_definitions.specs.Limits.{Limits, row_limits, with_range}
 use Rattle.selection_definitions.specs.Selection.{program_of_choice, selected}
 use Rattle.question_definitions.specs.Answers.{Basis}
-use Rattle.run_laws.proofs.Selected.{is_chosen}
+use Rattle.lp_setup.proofs.FreeRows.{is_chosen}
 
 -- the same limits are there
 record AlikeLimits (a b : Limits) : Type 0 where

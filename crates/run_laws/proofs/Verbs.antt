@@ -153,7 +153,7 @@ ranges_shown present lp cells setup lines lawful known at is_setup is ranged =
     }
 
 -- no other mark lets RANGE go on
-optimal_alone : (mark left : Mark) → if_optimal mark ≡ Some left → mark ≡ Optimal
+pub optimal_alone : (mark left : Mark) → if_optimal mark ≡ Some left → mark ≡ Optimal
 optimal_alone Optimal left e = refl
 optimal_alone Infeasible left e = absurd (cc e)
 optimal_alone Unbounded left e = absurd (cc e)

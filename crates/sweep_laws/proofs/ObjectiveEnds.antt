@@ -7,6 +7,8 @@ use Rattle.exact_values.specs.Rational.{ℚ, zero_ℚ, one_ℚ, neg_ℚ, ◌+ℚ
 use Rattle.exact_values.specs.Tests.{eq_ℚ, lt_ℚ}
 use Rattle.exact_values.proofs.Ring.{by_ring3, by_ring4, same_by_one, ◌⊕◌, ◌⊖◌, ◌⊗◌, ◌≐◌, number, opposite}
 use Rattle.exact_values.proofs.Order.{lt_from_le, lt_by_product}
+use Rattle.exact_values.proofs.Tests_laws.{lt_from_test, le_from_lt_fails, same_from_test}
+use Rattle.exact_values.proofs.Signs.{neg_below}
 use Rattle.lp_definitions.specs.LinearProgram.{LinearProgram, Vector, value_at, IsRow, HasNoLimits, IsLinearProgram, for_min, objective_value}
 use Rattle.lp_definitions.specs.Solutions.{IsFeasible, ProvesUnbounded}
 use Rattle.lp_definitions.specs.Basis.{IsOptimalBasis, Tableau, IsTableau, objective_rate}
@@ -21,7 +23,6 @@ use Rattle.path_laws.specs.Laws.{IsNonsingularBasis}
 use Rattle.path_laws.proofs.Endless.{keeps-signed, motion_proves}
 use Rattle.path_laws.proofs.Ends.{IsFeasible-same}
 use Rattle.path_laws.proofs.Searches.{found_passes}
-use Rattle.path_laws.proofs.Tests.{lt_true, lt_false, eq_true, neg_below}
 use Rattle.method_definitions.specs.Chain.{ChainEnd, UnboundedPast, FaceMoves, FaceEnds}
 use Rattle.method_definitions.specs.ObjectiveRun.{objective_family, change_rate, face_mover, face_until, face_by, objective_face, IsObjectiveFace}
 use Rattle.sweep_laws.proofs.Leads.{IsMover, is_mover}
@@ -87,7 +88,7 @@ module _ (p : LinearProgram) (h : ℕ) (theta : ℚ) (s : List Status) (t : Tabl
   face_mover_is q at found =
       let passes = found_passes p (λ q. eq_ℚ (objective_rate p t.rate q) zero_ℚ && lowers p s (change_rate p h theta s t) q) q found in
       let both = and_parts (eq_ℚ (objective_rate p t.rate q) zero_ℚ) (lowers p s (change_rate p h theta s t) q) passes.1 in
-      record { zero_rate = eq_true _ _ both.0; mover = is_mover p s (change_rate p h theta s t) q at passes.0 both.1 }
+      record { zero_rate = same_from_test _ _ both.0; mover = is_mover p s (change_rate p h theta s t) q at passes.0 both.1 }
 
 -- ---- the point stays feasible
 
@@ -147,8 +148,8 @@ turned_below : (c : ℚ) → c ≢ zero_ℚ → signed (lt_ℚ c zero_ℚ) c <�
 turned_below c apart = by_test (lt_ℚ c zero_ℚ) refl
   where
     by_test : (up : Bool) → lt_ℚ c zero_ℚ ≡ up → signed up c <ℚ zero_ℚ
-    by_test true is = lt_true c zero_ℚ is
-    by_test false is = neg_below c (lt_from_le (lt_false c zero_ℚ is) (λ e. apart (sym e)))
+    by_test true is = lt_from_test c zero_ℚ is
+    by_test false is = neg_below c (lt_from_le (le_from_lt_fails c zero_ℚ is) (λ e. apart (sym e)))
 
 module _ (p : LinearProgram) (h : ℕ) (theta : ℚ) (s : List Status) (t : Tableau) (lawful : (x : ℚ) → IsLinearProgram (objective_family p h x)) (at : IsNonsingularBasis p s)
     (tab : IsTableau (objective_family p h theta) s t) (have : HasFeasiblePoint p s) (q : ℕ) (mover : IsFaceMover (objective_family p h theta) h theta s t q)

@@ -7,6 +7,7 @@ use Rattle.exact_values.specs.Rational.{ℚ, zero_ℚ, one_ℚ, ◌+ℚ◌, ◌-
 use Rattle.exact_values.specs.Tests.{eq_ℚ, lt_ℚ}
 use Rattle.exact_values.proofs.Ring.{by_ring4, by_ring5, same_by_one, ◌⊕◌, ◌⊖◌, ◌⊗◌, ◌≐◌, number}
 use Rattle.exact_values.proofs.Order.{lt_by_product}
+use Rattle.exact_values.proofs.Tests_laws.{lt_from_test, same_from_test}
 use Rattle.lp_definitions.specs.LinearProgram.{LinearProgram, Vector, value_at, IsVariable, lower_of, upper_of}
 use Rattle.lp_definitions.specs.Solutions.{IsRay}
 use Rattle.lp_definitions.specs.Basis.{is_in, is_basic, basics_of, status_of, StandsAt, IsPointOf, IsFixed, IsRightAt, Tableau, IsTableau}
@@ -23,7 +24,6 @@ use Rattle.path_laws.specs.Laws.{IsNonsingularBasis}
 use Rattle.path_laws.proofs.Ends.{right, value_at-listed}
 use Rattle.path_laws.proofs.Rays.{Breaks, breaks_lower, breaks_upper, ray_is, IsRay-same}
 use Rattle.path_laws.proofs.Searches.{found_passes}
-use Rattle.path_laws.proofs.Tests.{lt_true, eq_true}
 use Rattle.method_definitions.specs.Chain.{ChainEnd, InfeasiblePast, FaceEnds}
 use Rattle.method_definitions.specs.RhsRun.{shift_of, rhs_family, IsSlope, leaves_below, leaves_above, leaving, face_exchange, face_at, rhs_face, IsRhsFace}
 use Rattle.changed_programs.proofs.MovedLimits.{moved, lower_is, upper_is, fixed_at, free_unshifted}
@@ -69,14 +69,14 @@ data Crosses (low high : Option ℚ) (z v shift : ℚ) (below : Bool) : Type 0 w
 
 limit_at : (o : Option ℚ) (z : ℚ) → on_limit (λ l. eq_ℚ z l) o ≡ true → o ≡ Some z
 limit_at None z e = cc
-limit_at (Some l) z e = ap (λ y. Some y) (sym (eq_true z l e))
+limit_at (Some l) z e = ap (λ y. Some y) (sym (same_from_test z l e))
 
 crosses : (low high : Option ℚ) (z v shift : ℚ) (below : Bool) → (on_limit (λ l. eq_ℚ z l) low && lt_ℚ v shift) ≡ below →
     (below || (on_limit (λ u. eq_ℚ z u) high && lt_ℚ shift v)) ≡ true → Crosses low high z v shift below
 crosses low high z v shift true is e =
-    let both = and_parts (on_limit (λ l. eq_ℚ z l) low) (lt_ℚ v shift) is in crosses_lower refl (limit_at low z both.0) (lt_true v shift both.1)
+    let both = and_parts (on_limit (λ l. eq_ℚ z l) low) (lt_ℚ v shift) is in crosses_lower refl (limit_at low z both.0) (lt_from_test v shift both.1)
 crosses low high z v shift false is e =
-    let both = and_parts (on_limit (λ u. eq_ℚ z u) high) (lt_ℚ shift v) e in crosses_upper refl (limit_at high z both.0) (lt_true shift v both.1)
+    let both = and_parts (on_limit (λ u. eq_ℚ z u) high) (lt_ℚ shift v) e in crosses_upper refl (limit_at high z both.0) (lt_from_test shift v both.1)
 
 -- ---- a greater value
 

@@ -14,7 +14,7 @@ use Rattle.sweep_laws.specs.Laws.{LeadsToBases}
 use Rattle.sweep_laws.proofs.Objective.{to_objective, from_objective, objective_leads}
 use Rattle.sweep_laws.proofs.Rhs.{to_rhs, from_rhs, rhs_leads}
 
-last_of-append : (s : List Status) (first second : List (List Status)) → last_of s (first ++ second) ≡ last_of (last_of s first) second
+pub last_of-append : (s : List Status) (first second : List (List Status)) → last_of s (first ++ second) ≡ last_of (last_of s first) second
 last_of-append s [] second = refl
 last_of-append s (next ∷ first) second = last_of-append next first second
 

@@ -6,6 +6,7 @@ use Rattle.exact_values.specs.Rational.{zero_ℚ, ◌-ℚ◌, ◌*ℚ◌, ◌≤
 use Rattle.exact_values.specs.Sums.{sum_to}
 use Rattle.exact_values.proofs.Ring.{by_ring2, ◌⊕◌, ◌⊖◌, ◌≐◌, number, opposite}
 use Rattle.exact_values.proofs.Order.{le_of_lt, le_by_one, lt_not_le, le_trans}
+use Rattle.exact_values.proofs.Sums_order.{sum_to-positive}
 use Rattle.lp_definitions.specs.LinearProgram.{LinearProgram, Vector, size, IsVariable, KeepsEquations, lower_of, upper_of}
 use Rattle.lp_definitions.specs.Basis.{is_in, basics_of, status_of, StandsAt, Tableau, IsTableau}
 use Rattle.lp_definitions.specs.declared.Status.{Status}
@@ -21,15 +22,11 @@ use Rattle.method_definitions.specs.Path.{excess_rate, mover}
 use Rattle.path_laws.specs.Laws.{IsNonsingularBasis}
 use Rattle.path_laws.proofs.Numbered.{find_none, find_some}
 use Rattle.path_laws.proofs.Turns.{IsFirstPhase}
-use Rattle.path_laws.proofs.Ends.{right, inside, low_of, high_of}
+use Rattle.path_laws.proofs.Ends.{right, inside, low_of, high_of, and_true}
 use Rattle.path_laws.proofs.Endless.{enters, IsEntering}
 use Rattle.path_laws.proofs.Rays.{Breaks, breaks_lower, breaks_upper, broken_basic, broken_limit}
-use Rattle.termination_laws.proofs.Numbers.{find_before, against_product, still_product, weighed, sum_positive, signed_sum}
+use Rattle.termination_laws.proofs.Numbers.{find_before, against_product, still_product, weighed, signed_sum}
 use Rattle.termination_laws.proofs.Resting.{StopsAt, idle_stops, moving, comes_back}
-
-and_right : (a b : Bool) → (a && b) ≡ false → a ≡ true → b ≡ false
-and_right true b e h = e
-and_right false b e h = cc
 
 -- at the first basis t comes in to bring r back, and at the second t is the first that is outside its limits
 module _ (p : LinearProgram) (s₁ s₂ : List Status) (t₁ t₂ : Tableau) (at₁ : IsNonsingularBasis p s₁) (at₂ : IsNonsingularBasis p s₂) (tab₁ : IsTableau p s₁ t₁) (tab₂ : IsTableau p s₂ t₂)
@@ -59,7 +56,7 @@ module _ (p : LinearProgram) (s₁ s₂ : List Status) (t₁ t₂ : Tableau) (at
       (find_none (is_crossed p) (size p.matrix) 1 phase₂.uncrossed k is.0 (omega (arith, is.1)))
       (λ basic.
       let among : is_in (basics_of s₂) k ≡ true = is_in-basics_of s₂ k is.0 (omega (arith, is.1, at₂.is_basis.counted)) ∙ basic in
-      and_right (is_in (basics_of s₂) k) (is_outside p t₂.point k) (find_before (λ k. is_in (basics_of s₂) k && is_outside p t₂.point k) (size p.matrix) 1 t phase₂.broken k is.0 before) among)
+      and_true (is_in (basics_of s₂) k) (is_outside p t₂.point k) (find_before (λ k. is_in (basics_of s₂) k && is_outside p t₂.point k) (size p.matrix) 1 t phase₂.broken k is.0 before) among)
 
   back : zero_ℚ <ℚ x t *ℚ e t
   back =
@@ -97,7 +94,7 @@ module _ (p : LinearProgram) (s₁ s₂ : List Status) (t₁ t₂ : Tableau) (at
   farther : zero_ℚ <ℚ signed (not (is_below p t₁.point r)) (x r)
   farther =
       subst (λ v. zero_ℚ <ℚ v) (sym total)
-      (sum_positive (size p.matrix) (t - 1) (λ k. weight (basics_of s₁) x (suc k) *ℚ e (suc k)) (omega (arith, entered.is_variable.0, entered.is_variable.1))
+      (sum_to-positive (size p.matrix) (t - 1) (λ k. weight (basics_of s₁) x (suc k) *ℚ e (suc k)) (omega (arith, entered.is_variable.0, entered.is_variable.1))
       (λ k below. term (suc k) (omega arith, omega (arith, below)))
       (subst (λ j. zero_ℚ <ℚ weight (basics_of s₁) x j *ℚ e j) own counts))
     where

@@ -56,16 +56,6 @@ pub weighed : (mark : Bool) (d w : ℚ) → (mark ≡ false → zero_ℚ ≤ℚ 
 weighed true d w h = le_of_eq (sym (zero-mul w))
 weighed false d w h = h refl
 
--- a sum of terms of which none is negative and one is positive
-pub sum_positive : (n i : ℕ) (f : ℕ → ℚ) → i < n → ((k : ℕ) → k < n → zero_ℚ ≤ℚ f k) → zero_ℚ <ℚ f i → zero_ℚ <ℚ sum_to n f
-sum_positive n i f below terms positive =
-    lt_by_two positive (sum_to-nonnegative n (without i f) (λ k high. at k high (eqb_tells k i)))
-    (sum_to-without n i f below ∙ by_ring2 (f i) (sum_to n (without i f)) (λ x y. x ⊕ y ≐ number (pos 0) ⊕ ((x ⊖ number (pos 0)) ⊕ (y ⊖ number (pos 0)))) refl)
-  where
-    at : (k : ℕ) → k < n → (((eqb k i ≡ true) × (k ≡ i)) ⊎ ((eqb k i ≡ false) × (k ≢ i))) → zero_ℚ ≤ℚ without i f k
-    at k high (inl same) = le_of_eq (sym (without_same i k f same.1))
-    at k high (inr other) = subst (λ x. zero_ℚ ≤ℚ x) (sym (without_other i k f other.1)) (terms k high)
-
 -- signs of sums of products
 pub signed_sum : (up : Bool) (n : ℕ) (x f : ℕ → ℚ) → signed up (sum_to n (λ k. x k *ℚ f k)) ≡ sum_to n (λ k. x k *ℚ signed up (f k))
 signed_sum true n x f = refl

@@ -7,7 +7,7 @@ use Rattle.exact_values.specs.Rational.{ℚ, zero_ℚ, ◌-ℚ◌, ◌*ℚ◌, �
 use Rattle.exact_values.specs.Tests.{lt_ℚ, eq_ℚ}
 use Rattle.exact_values.proofs.Ring.{by_ring2, by_ring3, ◌⊕◌, ◌⊖◌, ◌⊗◌, ◌≐◌, number}
 use Rattle.exact_values.proofs.Ring_laws.{zero-mul}
-use Rattle.exact_values.proofs.Tests_laws.{apart_from_eq_fails}
+use Rattle.exact_values.proofs.Tests_laws.{apart_from_eq_fails, lt_from_test, le_from_lt_fails}
 use Rattle.exact_values.proofs.Inverse.{div-mul_cancel, div_is}
 use Rattle.exact_values.proofs.Order.{le_of_lt, lt_irrefl, lt_not_le, lt_by_product, le_antisymm, apart_from_above, apart_from_below}
 use Rattle.lp_definitions.specs.Basis.{is_basic, IsAllowed, StandsAt, IsRightAt}
@@ -15,7 +15,6 @@ use Rattle.lp_definitions.specs.declared.Status.{Status}
 use Rattle.lp_definitions.specs.declared.Status.TheVariants.{Bs, Ll, Ul, Fr}
 use Rattle.lp_laws.proofs.Values.{same_from_difference}
 use Rattle.method_definitions.specs.Moves.{on_limits, rises_from, falls_from}
-use Rattle.path_laws.proofs.Tests.{lt_true, lt_false}
 use Rattle.path_laws.proofs.Rays.{Breaks, breaks_lower, breaks_upper}
 use Rattle.termination_laws.proofs.Numbers.{Against}
 
@@ -55,8 +54,8 @@ pub moving : (st : Status) (fixed : Bool) (w : ℚ) → ((lt_ℚ w zero_ℚ && (
 moving st fixed w e = by_way (or_cases _ _ e)
   where
     by_way : (((lt_ℚ w zero_ℚ && (rises_from st && not fixed)) ≡ true) ⊎ ((lt_ℚ zero_ℚ w && (falls_from st && not fixed)) ≡ true)) → Moving st fixed w
-    by_way (inl h) = let parts = all_true _ _ _ h in rising_from (lt_true w zero_ℚ parts.0) parts.1 parts.2
-    by_way (inr h) = let parts = all_true _ _ _ h in falling_from (lt_true zero_ℚ w parts.0) parts.1 parts.2
+    by_way (inl h) = let parts = all_true _ _ _ h in rising_from (lt_from_test w zero_ℚ parts.0) parts.1 parts.2
+    by_way (inr h) = let parts = all_true _ _ _ h in falling_from (lt_from_test zero_ℚ w parts.0) parts.1 parts.2
 
 -- ---- motions of no length
 
@@ -82,9 +81,9 @@ pub no_room : (low high : Option ℚ) (z d : ℚ) → (zero_ℚ <ℚ d → high 
 no_room low high z d upper lower apart = none_room (ahead low high d) z d apart (by_tests (lt_ℚ zero_ℚ d) refl (lt_ℚ d zero_ℚ) refl)
   where
     by_tests : (up : Bool) → lt_ℚ zero_ℚ d ≡ up → (down : Bool) → lt_ℚ d zero_ℚ ≡ down → (if up then high else (if down then low else None)) ≡ Some z
-    by_tests true up down down_is = upper (lt_true zero_ℚ d up)
-    by_tests false up true down_is = lower (lt_true d zero_ℚ down_is)
-    by_tests false up false down_is = absurd (apart (le_antisymm (lt_false zero_ℚ d up) (lt_false d zero_ℚ down_is)))
+    by_tests true up down down_is = upper (lt_from_test zero_ℚ d up)
+    by_tests false up true down_is = lower (lt_from_test d zero_ℚ down_is)
+    by_tests false up false down_is = absurd (apart (le_antisymm (le_from_lt_fails zero_ℚ d up) (le_from_lt_fails d zero_ℚ down_is)))
 
 -- a nonbasic that may rise, and isn't fixed, doesn't stand at its upper limit
 no_rise : (st : Status) (low high : Option ℚ) (z : ℚ) → rises_from st ≡ true → IsAllowed st low high → StandsAt st low high z → high ≡ Some z → on_limits eq_ℚ low high ≡ false → ⊥
@@ -104,14 +103,14 @@ pub blocked : (st : Status) (low high : Option ℚ) (z w d : ℚ) → IsAllowed 
 blocked st low high z w d allowed stands (rising_from h up free) room = record { rising = λ g. by_test (lt_ℚ zero_ℚ d) refl room; falling = λ g. absurd (lt_not_le h (le_of_lt g)) }
   where
     by_test : (above : Bool) → lt_ℚ zero_ℚ d ≡ above → room_to (if above then high else (if lt_ℚ d zero_ℚ then low else None)) z d ≡ Some zero_ℚ → d ≤ℚ zero_ℚ
-    by_test false is e = lt_false zero_ℚ d is
-    by_test true is e = absurd (no_rise st low high z up allowed stands (room_none high z d (apart_from_above (lt_true zero_ℚ d is)) e) free)
+    by_test false is e = le_from_lt_fails zero_ℚ d is
+    by_test true is e = absurd (no_rise st low high z up allowed stands (room_none high z d (apart_from_above (lt_from_test zero_ℚ d is)) e) free)
 blocked st low high z w d allowed stands (falling_from h down free) room = record { rising = λ g. absurd (lt_not_le h (le_of_lt g)); falling = λ g. by_tests (lt_ℚ zero_ℚ d) refl (lt_ℚ d zero_ℚ) refl room }
   where
     by_tests : (above : Bool) → lt_ℚ zero_ℚ d ≡ above → (below : Bool) → lt_ℚ d zero_ℚ ≡ below → room_to (if above then high else (if below then low else None)) z d ≡ Some zero_ℚ → zero_ℚ ≤ℚ d
-    by_tests true is below below_is e = le_of_lt (lt_true zero_ℚ d is)
-    by_tests false is true below_is e = absurd (no_fall st low high z down allowed stands (room_none low z d (apart_from_below (lt_true d zero_ℚ below_is)) e) free)
-    by_tests false is false below_is e = lt_false d zero_ℚ below_is
+    by_tests true is below below_is e = le_of_lt (lt_from_test zero_ℚ d is)
+    by_tests false is true below_is e = absurd (no_fall st low high z down allowed stands (room_none low z d (apart_from_below (lt_from_test d zero_ℚ below_is)) e) free)
+    by_tests false is false below_is e = le_from_lt_fails d zero_ℚ below_is
 
 -- ---- what left outside its limits
 

@@ -5,6 +5,8 @@ use Rattle.exact_values.specs.Rational.{ℚ, zero_ℚ, one_ℚ, ◌≤ℚ◌, �
 use Rattle.exact_values.specs.Tests.{lt_ℚ}
 use Rattle.exact_values.proofs.Ring.{by_ring3, ◌⊕◌, ◌⊖◌, ◌⊗◌, ◌≐◌, number}
 use Rattle.exact_values.proofs.Order.{le_of_lt, le_by_product, lt_not_le, lt_from_le, lt_by_product, same_or_not, zero_below_one}
+use Rattle.exact_values.proofs.Tests_laws.{lt_from_test, le_from_lt_fails}
+use Rattle.exact_values.proofs.Signs.{neg_below}
 use Rattle.lp_definitions.specs.LinearProgram.{LinearProgram, Vector, IsVariable, lower_of, upper_of, for_min, objective_value, size}
 use Rattle.lp_definitions.specs.Solutions.{IsFeasible}
 use Rattle.lp_definitions.specs.Basis.{IsPointOf, IsBasic, Tableau, IsTableau, is_in, is_basic, basics_of, status_of}
@@ -17,7 +19,6 @@ use Rattle.lp_laws.proofs.Statuses.{status_of_basic, status_of_nonbasic}
 use Rattle.method_definitions.specs.Moves.{is_fixed, lowers, signed, goes_up, room, reached}
 use Rattle.method_definitions.specs.Path.{Move, Moves, after, stopped_by, worth_rate}
 use Rattle.path_laws.specs.Laws.{IsNonsingularBasis}
-use Rattle.path_laws.proofs.Tests.{lt_true, lt_false, neg_below}
 use Rattle.path_laws.proofs.Numbered.{find_some}
 use Rattle.path_laws.proofs.Motions.{ComesTo, stopped_is, length_of, comes, moved_point}
 use Rattle.path_laws.proofs.Turns.{IsStoppedTurn, bettering}
@@ -99,10 +100,10 @@ module _ (p : LinearProgram) (s : List Status) (t : Tableau) (at : IsNonsingular
         (subst (λ i. room p t.point (bettering p s t q) i ≡ Some zero_ℚ) same at_once)))
       where
         by_way : (up : Bool) → goes_up (worth_rate p s t) q ≡ up → Against (worth_rate p s t q) (signed up one_ℚ) → ⊥
-        by_way true is h = lt_not_le zero_below_one (h.rising (lt_true (worth_rate p s t q) zero_ℚ is))
+        by_way true is h = lt_not_le zero_below_one (h.rising (lt_from_test (worth_rate p s t q) zero_ℚ is))
         by_way false is h =
             lt_not_le (neg_below one_ℚ zero_below_one)
-            (h.falling (lt_from_le (lt_false (worth_rate p s t q) zero_ℚ is) (λ e. rate_apart p s (worth_rate p s t) q entered (sym e))))
+            (h.falling (lt_from_le (le_from_lt_fails (worth_rate p s t q) zero_ℚ is) (λ e. rate_apart p s (worth_rate p s t) q entered (sym e))))
 
     stopped_basic : IsBasic p.matrix (basics_of s) k
     stopped_basic = (k_is, by_mark (is_in (basics_of s) k) refl)

@@ -4,6 +4,7 @@ use Rattle.std.specs.Prelude.{bytes_eq}
 use Rattle.std.specs.List.{list_all}
 use Rattle.std.proofs.lemmas.Slice.Eq.{bytes_eq-Decides}
 use Rattle.std.proofs.lemmas.List.Folds.{list_all-append}
+use Rattle.std.proofs.lemmas.Bool.{and_parts}
 
 -- two words that aren't the same
 pub differ : (a b : List ℕ) → bytes_eq a b ≡ false → a ≡ b → ⊥
@@ -11,21 +12,16 @@ differ a b other e =
     let same : bytes_eq a b ≡ true = (bytes_eq-Decides a b).1 e in
     cc (other, same)
 
-pub both : (a b : Bool) → (a && b) ≡ true → (a ≡ true) × (b ≡ true)
-both true true e = (refl, refl)
-both true false e = cc e
-both false b e = cc e
-
 pub weaker : (p q : ℕ → Bool) (xs : List ℕ) → ((x : ℕ) → p x ≡ true → q x ≡ true) → list_all p xs ≡ true → list_all q xs ≡ true
 weaker p q [] implied all = refl
 weaker p q (x ∷ xs) implied all =
-    let parts = both (p x) (list_all p xs) all in
+    let parts = and_parts (p x) (list_all p xs) all in
     ap₂ (λ a b. a && b) (implied x parts.0) (weaker p q xs implied parts.1)
 
 -- no byte of a list that is free of a kind is of this kind
 pub clash : (p : ℕ → Bool) (x : ℕ) (xs : List ℕ) → list_all (λ y. not (p y)) (x ∷ xs) ≡ true → p x ≡ true → ⊥
 clash p x xs free passes =
-    let fails : not (p x) ≡ true = (both (not (p x)) (list_all (λ y. not (p y)) xs) free).0 in
+    let fails : not (p x) ≡ true = (and_parts (not (p x)) (list_all (λ y. not (p y)) xs) free).0 in
     let fails_too : not true ≡ true = ap not (sym passes) ∙ fails in
     cc fails_too
 
@@ -42,14 +38,14 @@ cut p (x ∷ a) [] c d r s a_free b_free c_passes d_passes e =
     absurd (clash p x a a_free (ap p (heads x d (a ++ c ∷ r) s e).0 ∙ d_passes))
 cut p (x ∷ a) (y ∷ b) c d r s a_free b_free c_passes d_passes e =
     let front = heads x y (a ++ c ∷ r) (b ++ d ∷ s) e in
-    let rest = cut p a b c d r s (both _ _ a_free).1 (both _ _ b_free).1 c_passes d_passes front.1 in
+    let rest = cut p a b c d r s (and_parts _ _ a_free).1 (and_parts _ _ b_free).1 c_passes d_passes front.1 in
     (ap₂ (λ z zs. z ∷ zs) front.0 rest.0, rest.1)
 
 -- a list that is free of a kind isn't one with such a byte
 pub none_within : (p : ℕ → Bool) (a b : List ℕ) (c : ℕ) (r : List ℕ) → list_all (λ y. not (p y)) a ≡ true → p c ≡ true → a ≡ b ++ c ∷ r → ⊥
 none_within p a b c r free passes e =
     let whole : list_all (λ y. not (p y)) (b ++ c ∷ r) ≡ true = ap (list_all (λ y. not (p y))) (sym e) ∙ free in
-    let parts = both (list_all (λ y. not (p y)) b) (list_all (λ y. not (p y)) (c ∷ r)) (sym (list_all-append (λ y. not (p y)) b (c ∷ r)) ∙ whole) in
+    let parts = and_parts (list_all (λ y. not (p y)) b) (list_all (λ y. not (p y)) (c ∷ r)) (sym (list_all-append (λ y. not (p y)) b (c ∷ r)) ∙ whole) in
     clash p c r parts.1 passes
 
 -- texts of one length before others

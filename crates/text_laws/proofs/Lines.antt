@@ -3,6 +3,7 @@ use Rattle.std.proofs.Common.{◌≡◌, ℕ, zero, suc, ◌-◌, Bool, true, fa
 use Rattle.std.specs.List.{list_all, list_any}
 use Rattle.std.proofs.lemmas.List.{append-nil}
 use Rattle.std.proofs.lemmas.Bool.Decides.{nat_tests}
+use Rattle.std.proofs.lemmas.Bool.{and_parts}
 use Rattle.card_definitions.specs.Words.{padded}
 use Rattle.card_definitions.specs.Numbers.{is_digit}
 use Rattle.problem_definitions.specs.Valid.{IsName}
@@ -12,7 +13,7 @@ use Rattle.listing_definitions.specs.Numbers.{digits}
 use Rattle.listing_definitions.specs.Report.{Line}
 use Rattle.listing_definitions.specs.Text.{name8, values_text, line_text, table_text}
 use Rattle.text_laws.specs.Told.{begins_line}
-use Rattle.text_laws.proofs.Cutting.{both, weaker, heads, cut, same_front}
+use Rattle.text_laws.proofs.Cutting.{weaker, heads, cut, same_front}
 use Rattle.text_laws.proofs.Digits.{digits_are, digit_there, digits_tell}
 use Rattle.text_laws.proofs.Values.{values_tell}
 
@@ -26,7 +27,7 @@ digit_is_no_blank x e = grind (arith, nat_tests, e)
 no_blank_first : (a r s : List ℕ) → list_all is_digit a ≡ true → list_any is_digit a ≡ true → a ++ r ≡ 32 ∷ s → ⊥
 no_blank_first [] r s all some e = cc some
 no_blank_first (x ∷ a) r s all some e =
-    let digit : is_digit 32 ≡ true = ap is_digit (sym (heads x 32 (a ++ r) s e).0) ∙ (both (is_digit x) (list_all is_digit a) all).0 in
+    let digit : is_digit 32 ≡ true = ap is_digit (sym (heads x 32 (a ++ r) s e).0) ∙ (and_parts (is_digit x) (list_all is_digit a) all).0 in
     cc digit
 
 -- digits at the right of some places, with a blank after them
@@ -70,7 +71,7 @@ whole_line_tells x y x_named y_named e =
 first_byte : (k : ℕ) (a r : List ℕ) → list_all is_digit a ≡ true → list_any is_digit a ≡ true → begins_line (replicate k 32 ++ (a ++ r)) ≡ true
 first_byte (suc k) a r all some = refl
 first_byte zero [] r all some = cc some
-first_byte zero (x ∷ a) r all some = ap (λ b. x == 32 || b) (both (is_digit x) (list_all is_digit a) all).0 ∙ or_true (x == 32)
+first_byte zero (x ∷ a) r all some = ap (λ b. x == 32 || b) (and_parts (is_digit x) (list_all is_digit a) all).0 ∙ or_true (x == 32)
   where
     or_true : (b : Bool) → (b || true) ≡ true
     or_true true = refl

@@ -23,6 +23,7 @@ use Rattle.deck_definitions.specs.Tests.{bounds_fault, bound_fault, is_bound_alr
 use Rattle.deck_definitions.specs.Written.{data_card, bound_kind_text, bound_text}
 use Rattle.deck_definitions.proofs.Steps.{with_card, with_group}
 use Rattle.deck_definitions.proofs.WrittenCards.{FitsField}
+use Rattle.deck_definitions.proofs.Examples.{bound_words}
 use Rattle.written_laws.proofs.Cards.{IsWritten, fields, written-card}
 use Rattle.written_laws.proofs.Accepts.{Accepts, accepts-data}
 use Rattle.written_laws.proofs.Facts.{none_found, not_found, all-at, apart-before, from-map, fits-name, label-of, reads-as, fits-number}
@@ -49,14 +50,6 @@ kind-kept Fx = refl
 kind-kept Fr = refl
 kind-kept Mi = refl
 kind-kept Pl = refl
-
-kind-known : (kind : BoundKind) → named bound_kinds (bound_kind_text kind) ≡ Some kind
-kind-known Up = refl
-kind-known Lo = refl
-kind-known Fx = refl
-kind-known Fr = refl
-kind-known Mi = refl
-kind-known Pl = refl
 
 type-known : (seen : Problem Name) (kind : BoundKind) (name column value : List ℕ)
     → bounds_fault seen (fields (bound_kind_text kind) name column value) ≡ bound_fault seen (fields (bound_kind_text kind) name column value) kind
@@ -165,7 +158,7 @@ module _ (rows : List (Row Name)) (columns rhs ranges : List (Group (Entry Name)
   adds-bound : (sets : List (Group (Bound Name))) (name : Name) (bound : Bound Name) → is_some bound.value ≡ takes_value bound.kind → IfSome bound.value IsDecimal
       → with_card Bounds (bound_fields name bound) (with_bounds sets) ≡ with_bounds (in_set name (λ items. items ++ bound ∷ []) sets)
   adds-bound sets name bound valued value =
-      ap (λ o. with_bounds (with_group (option_map (λ (kind : BoundKind). record { name = name; items = bound_of (bound_fields name bound) kind ∷ [] }) o) sets)) (kind-known bound.kind)
+      ap (λ o. with_bounds (with_group (option_map (λ (kind : BoundKind). record { name = name; items = bound_of (bound_fields name bound) kind ∷ [] }) o) sets)) (bound_words bound.kind)
       ∙ ap (λ v. with_bounds (in_set name (λ items. items ++ record { kind = bound.kind; column = bound.column; value = v } ∷ []) sets))
       (ap (λ text. cond (takes_value bound.kind) (Some (decimal_of text)) None) (text-is bound) ∙ value-again bound.kind bound.value valued value)
 

@@ -4,13 +4,14 @@ use Rattle.std.specs.List.{list_all, slice_get}
 use Rattle.std.specs.Prelude.{codes}
 use Rattle.std.proofs.lemmas.List.{append_assoc, length-append, length-replicate}
 use Rattle.std.proofs.Math.ListN.{drop_of_length-le}
+use Rattle.std.proofs.lemmas.Bool.{and_from}
 use Rattle.card_definitions.specs.Words.{without_trailing, without_leading, padded, is_empty}
 use Rattle.card_definitions.specs.Cards.{is_blank, is_skipped}
 use Rattle.card_definitions.specs.Fields.{Fixed, Reading, reading_of, columns, gaps_are_blank}
 use Rattle.card_definitions.proofs.Trailing.{without_trailing-cons, trailing_split}
 use Rattle.deck_definitions.specs.Sections.{is_section_card}
 use Rattle.deck_definitions.specs.Written.{data_card}
-use Rattle.deck_definitions.proofs.WrittenCards.{FitsField, reading_of-data_card}
+use Rattle.deck_definitions.proofs.WrittenCards.{FitsField, reading_of-data_card, length-padded}
 
 -- ---- blank columns
 
@@ -49,10 +50,6 @@ over n k part rest long h = subst (λ m. IsBlankAt (m + k) (part ++ rest)) long 
 past : (k : ℕ) (xs : List ℕ) → length xs ≤ k → IsBlankAt k xs
 past k xs short = ap (λ list. list_all is_blank (take 1 list)) (drop_of_length-le xs short)
 
-both : (a b : Bool) → a ≡ true → b ≡ true → (a && b) ≡ true
-both true b ea eb = eb
-both false b ea eb = ea
-
 module _ (K A B v : List ℕ) (lK : length K ≡ 2) (lA : length A ≡ 8) (lB : length B ≡ 8) (lv : length v ≤ 12) where
   abbrev line : List ℕ
   line = 32 ∷ (K ++ 32 ∷ (A ++ 32 ∷ 32 ∷ (B ++ 32 ∷ 32 ∷ v)))
@@ -75,25 +72,20 @@ module _ (K A B v : List ℕ) (lK : length K ≡ 2) (lA : length A ≡ 8) (lB : 
 
   gaps_blank : gaps_are_blank (without_trailing is_blank line) ≡ true
   gaps_blank =
-      both _ _ (column 0 refl)
-      (both _ _ (column 3 (behind_kind 0 refl))
-      (both _ _ (column 12 (behind_name1 0 refl))
-      (both _ _ (column 13 (behind_name1 1 refl))
-      (both _ _ (column 22 (behind_name2 0 refl))
-      (both _ _ (column 23 (behind_name2 1 refl))
-      (both _ _ (column 36 (behind_value 12 (lit≤ tt)))
-      (both _ _ (column 37 (behind_value 13 (lit≤ tt)))
-      (both _ _ (column 38 (behind_value 14 (lit≤ tt)))
-      (both _ _ (column 47 (behind_value 23 (lit≤ tt)))
-      (both _ _ (column 48 (behind_value 24 (lit≤ tt))) refl))))))))))
+      and_from _ _ (column 0 refl)
+      (and_from _ _ (column 3 (behind_kind 0 refl))
+      (and_from _ _ (column 12 (behind_name1 0 refl))
+      (and_from _ _ (column 13 (behind_name1 1 refl))
+      (and_from _ _ (column 22 (behind_name2 0 refl))
+      (and_from _ _ (column 23 (behind_name2 1 refl))
+      (and_from _ _ (column 36 (behind_value 12 (lit≤ tt)))
+      (and_from _ _ (column 37 (behind_value 13 (lit≤ tt)))
+      (and_from _ _ (column 38 (behind_value 14 (lit≤ tt)))
+      (and_from _ _ (column 47 (behind_value 23 (lit≤ tt)))
+      (and_from _ _ (column 48 (behind_value 24 (lit≤ tt))) refl))))))))))
 
 pub reassoc : (a K b A c B d v : List ℕ) → a ++ K ++ b ++ A ++ c ++ B ++ d ++ v ≡ a ++ (K ++ (b ++ (A ++ (c ++ (B ++ (d ++ v))))))
 reassoc a K b A c B d v = simp append_assoc
-
-length-padded : (width : ℕ) (text : List ℕ) → length text ≤ width → length (padded width text) ≡ width
-length-padded width text short =
-    let sum : length text + (width - length text) ≡ width = omega arith in
-    length-append text (replicate (width - length text) 32) ∙ ap (λ n. length text + n) (length-replicate (width - length text) 32) ∙ sum
 
 -- ---- the card
 

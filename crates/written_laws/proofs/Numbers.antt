@@ -10,17 +10,8 @@ use Rattle.problem_definitions.proofs.Groups.{map-map}
 use Rattle.problem_definitions.proofs.Each.{each-change}
 use Rattle.problem_definitions.proofs.PlainRows.{row_names-by, rows-again}
 use Rattle.problem_definitions.proofs.Lawful.{names-by}
+use Rattle.problem_definitions.proofs.Again.{map-kept, groups-again}
 use Rattle.revise_laws.proofs.Places.{all-each, number_in-name_at}
-
-map-kept : {X : Type 0} (f : X → X) (xs : List X) → AllByRecursion (λ x. f x ≡ x) xs → map f xs ≡ xs
-map-kept f [] each = refl
-map-kept f (x ∷ xs) each = ap₂ (λ y ys. y ∷ ys) each.0 (map-kept f xs each.1)
-
-groups-again : {X Y : Type 0} (to : X → Y) (back : Y → X) (groups : List (Group X)) → AllByRecursion (λ group. AllByRecursion (λ item. back (to item) ≡ item) group.items) groups
-    → map (group_by back) (map (group_by to) groups) ≡ groups
-groups-again to back [] each = refl
-groups-again to back (group ∷ groups) each =
-    ap₂ (λ items rest. record { name = group.name; items = items } ∷ rest) (map-map back to group.items ∙ map-kept (λ item. back (to item)) group.items each.0) (groups-again to back groups each.1)
 
 module _ (names : List Name) (distinct : IsDistinct same names) (count : ℕ) (counted : count ≡ length names) where
   again : (number : ℕ) → IsNumberOf count number → number_in names (name_at names number) ≡ number

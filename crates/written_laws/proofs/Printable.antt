@@ -2,7 +2,7 @@
 use Rattle.std.proofs.Common.{◌≡◌, ℕ, suc, ◌+◌, ◌-◌, ◌≤◌, Bool, true, false, cond, not, eqb, ◌&&◌, ◌||◌, List, [], ◌∷◌, length, take, drop, refl, ap, ◌∙◌, subst, arith, nat_le, nat_lt}
 use Rattle.std.specs.List.{list_all, prefix_len, before_first, after_first, position_or_len}
 use Rattle.std.proofs.lemmas.List.{length-take}
-use Rattle.std.proofs.lemmas.Bool.{leb-true, leb-false, eqb-true}
+use Rattle.std.proofs.lemmas.Bool.{leb-true, leb-false, eqb-true, and_from}
 use Rattle.card_definitions.specs.declared.NumberFault.TheVariants.{Empty, BadCharacter, NoDigit, ExponentRange}
 use Rattle.card_definitions.specs.Words.{without_leading, is_empty, ◌⟹◌}
 use Rattle.card_definitions.specs.Cards.{is_blank, is_printable}
@@ -24,10 +24,6 @@ and-second : (a b : Bool) → (a && b) ≡ true → b ≡ true
 and-second true b h = h
 and-second false b h = absurd (cc h)
 
-both : (a b : Bool) → a ≡ true → b ≡ true → (a && b) ≡ true
-both true b ea eb = eb
-both false b ea eb = ea
-
 module _ (p : ℕ → Bool) (printable : (x : ℕ) → p x ≡ true → is_printable x ≡ true) where
   all-leading : (xs : List ℕ) → ArePrintable (without_leading p xs) → ArePrintable xs
   all-leading [] h = refl
@@ -36,7 +32,7 @@ module _ (p : ℕ → Bool) (printable : (x : ℕ) → p x ≡ true → is_print
       by : (b : Bool) → p x ≡ b → ArePrintable (drop (cond b (1 + prefix_len p xs) 0) (x ∷ xs)) → (ArePrintable (drop (prefix_len p xs) xs) → ArePrintable xs) → ArePrintable (x ∷ xs)
       by true e h rest =
           let next : 1 + prefix_len p xs ≡ suc (prefix_len p xs) = omega arith in
-          both (is_printable x) (list_all is_printable xs) (printable x e) (rest (subst (λ n. ArePrintable (drop n (x ∷ xs))) next h))
+          and_from (is_printable x) (list_all is_printable xs) (printable x e) (rest (subst (λ n. ArePrintable (drop n (x ∷ xs))) next h))
       by false e h rest = h
 
   all-after_one : (xs : List ℕ) → ArePrintable (after_one p xs) → ArePrintable xs
@@ -44,7 +40,7 @@ module _ (p : ℕ → Bool) (printable : (x : ℕ) → p x ≡ true → is_print
   all-after_one (x ∷ xs) h = by (p x) refl h
     where
       by : (b : Bool) → p x ≡ b → ArePrintable (cond b xs (x ∷ xs)) → ArePrintable (x ∷ xs)
-      by true e h = both (is_printable x) (list_all is_printable xs) (printable x e) h
+      by true e h = and_from (is_printable x) (list_all is_printable xs) (printable x e) h
       by false e h = h
 
   all-parts : (xs : List ℕ) → ArePrintable (before_first p xs) → ArePrintable (after_first p xs) → ArePrintable xs
@@ -53,12 +49,12 @@ module _ (p : ℕ → Bool) (printable : (x : ℕ) → p x ≡ true → is_print
     where
       by : (b : Bool) → p x ≡ b → ArePrintable (take (cond (not b) (1 + position_or_len p xs) 0) (x ∷ xs)) → ArePrintable (drop (cond (not b) (1 + position_or_len p xs) 0 + 1) (x ∷ xs))
           → (ArePrintable (take (position_or_len p xs) xs) → ArePrintable (drop (position_or_len p xs + 1) xs) → ArePrintable xs) → ArePrintable (x ∷ xs)
-      by true e front back rest = both (is_printable x) (list_all is_printable xs) (printable x e) back
+      by true e front back rest = and_from (is_printable x) (list_all is_printable xs) (printable x e) back
       by false e front back rest =
           let one : 1 + position_or_len p xs ≡ suc (position_or_len p xs) = omega arith in
           let two : 1 + position_or_len p xs + 1 ≡ suc (position_or_len p xs + 1) = omega arith in
           let front = subst (λ n. ArePrintable (take n (x ∷ xs))) one front in
-          both (is_printable x) (list_all is_printable xs) (and-first (is_printable x) (list_all is_printable (take (position_or_len p xs) xs)) front)
+          and_from (is_printable x) (list_all is_printable xs) (and-first (is_printable x) (list_all is_printable (take (position_or_len p xs) xs)) front)
           (rest (and-second (is_printable x) (list_all is_printable (take (position_or_len p xs) xs)) front) (subst (λ n. ArePrintable (drop n (x ∷ xs))) two back))
 
 -- ---- the bytes of a number
@@ -74,7 +70,7 @@ digit-printable : (x : ℕ) → is_digit x ≡ true → is_printable x ≡ true
 digit-printable x h =
     let low = leb-true 48 x (and-first (nat_le 48 x) (nat_le x 57) h) in
     let high = leb-true x 57 (and-second (nat_le 48 x) (nat_le x 57) h) in
-    both (nat_le 32 x) (nat_le x 126) (le-true 32 x (omega (arith, low))) (le-true x 126 (omega (arith, high)))
+    and_from (nat_le 32 x) (nat_le x 126) (le-true 32 x (omega (arith, low))) (le-true x 126 (omega (arith, high)))
 
 is-byte : (x n : ℕ) → is_printable n ≡ true → eqb x n ≡ true → is_printable x ≡ true
 is-byte x n h e = ap is_printable (eqb-true x n e) ∙ h

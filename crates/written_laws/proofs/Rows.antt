@@ -21,6 +21,7 @@ use Rattle.deck_definitions.specs.Tests.{combination_kinds, rows_fault, filled_f
 use Rattle.deck_definitions.specs.Written.{row_kind_text, row_card}
 use Rattle.deck_definitions.proofs.Steps.{with_card}
 use Rattle.deck_definitions.proofs.WrittenCards.{FitsField}
+use Rattle.deck_definitions.proofs.Examples.{row_words}
 use Rattle.written_laws.proofs.Cards.{fields, written-card}
 use Rattle.written_laws.proofs.Accepts.{Accepts, accepts-none, accepts-then, accepts-data}
 use Rattle.written_laws.proofs.Facts.{none_found, not_found, below, apart-before, absent-before, fits-name}
@@ -43,12 +44,6 @@ no_combination G = refl
 no_combination L = refl
 no_combination E = refl
 
-kind-known : (kind : RowKind) → named row_kinds (row_kind_text kind) ≡ Some kind
-kind-known N = refl
-kind-known G = refl
-kind-known L = refl
-kind-known E = refl
-
 abbrev row_fields : Row Name → Reading
 row_fields row = fields (row_kind_text row.kind) row.name [] []
 
@@ -62,7 +57,7 @@ rows_fine seen row some new few = none_found (
     filled_from_3 (row_fields row) ∷ []) (
       not_found (has_name combination_kinds (row_kind_text row.kind)) CombinationRow (no_combination row.kind),
       (
-        not_found (is_none (named row_kinds (row_kind_text row.kind))) BadRowType (ap is_none (kind-known row.kind)),
+        not_found (is_none (named row_kinds (row_kind_text row.kind))) BadRowType (ap is_none (row_words row.kind)),
         (
           not_found (is_empty row.name) EmptyName some,
           (

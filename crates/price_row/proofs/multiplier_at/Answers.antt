@@ -1,8 +1,8 @@
 use Rattle.std.proofs.Common.{◌∙◌, length, arith, sym}
 use Rattle.eta_file.specs.declared.eta.StoredEta.{StoredEta}
-use Rattle.eta_file.proofs.CarrySteps.{read_place}
 use Rattle.price_row.proofs.CarriedBack.{is, q_in, entries_within, pivot_is, multiplier_is, an_eta}
 use Rattle.price_row.proofs.multiplier_at.Goals as goal
+use Rattle.lp_laws.proofs.Places.{value_at_place}
 
 pub overflow_add-place : goal.overflow_add-place
 overflow_add-place c = omega (arith, c.etas-etas.ensures.all, c.requires.within)
@@ -30,7 +30,7 @@ returns c = record {
         ∙ multiplier_is c.args.file.now c.size-size.ensures.passed c.args.place c.requires.within d c.eta-eta.result.p c.eta-eta.result.q c.eta-eta.result.entries.now c.eta-eta.ensures.lent
         c.args.row c.requires.basic c.size-size.ensures.nonsingular c.args.out.now c.requires.known rate are
         c.index-out-eta.result c.in_ok-sum.sum c.pivot-pivot.result c.in_ok-ratio.ratio
-        (read_place c.args.out.now c.eta-eta.result.q c.index-out-eta.result enters.0 (omega (arith, enters.1, c.requires.places)) c.index-out-eta.is) c.in_ok-sum.ensures.value
+        (value_at_place c.args.out.now c.eta-eta.result.q c.index-out-eta.result enters.0 (omega (arith, enters.1, c.requires.places)) c.index-out-eta.is) c.in_ok-sum.ensures.value
         (pivot_is c.args.file.now c.size-size.ensures.passed c.args.place c.requires.within d c.eta-eta.result.p c.eta-eta.result.q c.eta-eta.result.entries.now c.eta-eta.ensures.lent c.pivot-pivot.result c.pivot-pivot.ensures)
         c.in_ok-ratio.ensures.value;
   };

@@ -2,11 +2,11 @@ use Rattle.std.proofs.Common.{◌≡◌, ℕ, Err, rules, sym, ◌∙◌, subst,
 use Rattle.lp_definitions.specs.LinearProgram.{value_at}
 use Rattle.lp_definitions.specs.Basis.{basics_of}
 use Rattle.basis_values.specs.Points.{AreAdded, ColumnTermRefused}
-use Rattle.basis_values.proofs.Skips.{value_read}
 use Rattle.basis_values.proofs.PointSums.{more_basic, more_zero, more_added, more_refused}
 use Rattle.basis_values.proofs.Kept.{kept_same, kept_by}
 use Rattle.basis_values.proofs.RatesStops.{column_refused}
 use Rattle.basis_values.proofs.point.add_direction.Goals as goal
+use Rattle.lp_laws.proofs.Places.{value_read}
 
 pub returns-then-stands_basic-clause-rates : goal.returns-then-stands_basic-clause-rates
 returns-then-stands_basic-clause-rates g c = kept_same (g.R.Rates.waypoints c.args.rates.now) c.requires.rates

@@ -1,9 +1,9 @@
 use Rattle.std.proofs.Common.{◌≡◌, Err, rules, arith}
 use Rattle.lp_definitions.specs.LinearProgram.{value_at}
-use Rattle.basis_values.proofs.Skips.{value_read}
 use Rattle.basis_values.proofs.Lengths.{distance_refused, change_refused, length_is, signed_apart}
 use Rattle.std.proofs.Common.{◌∙◌}
 use Rattle.basis_values.proofs.reach.length_to.Goals as goal
+use Rattle.lp_laws.proofs.Places.{value_read}
 
 pub returns-in_err-distance-clause-refused : goal.returns-in_err-distance-clause-refused
 returns-in_err-distance-clause-refused c =

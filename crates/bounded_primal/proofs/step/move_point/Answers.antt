@@ -2,8 +2,8 @@ use Rattle.std.proofs.Common.{◌≡◌, ◌+◌, Err, rules, sym, ◌∙◌, su
 use Rattle.exact_values.specs.Rational.{ℚ}
 use Rattle.lp_definitions.specs.LinearProgram.{value_at}
 use Rattle.bounded_primal.specs.Steps.{MovedRefused}
-use Rattle.basis_values.proofs.Skips.{value_next}
 use Rattle.bounded_primal.proofs.step.move_point.Goals as goal
+use Rattle.lp_laws.proofs.Places.{value_next}
 
 pub returns-in_err-next-clause-refused : goal.returns-in_err-next-clause-refused
 returns-in_err-next-clause-refused c =

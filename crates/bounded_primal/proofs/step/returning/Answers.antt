@@ -3,9 +3,9 @@ use Rattle.std.specs.Prelude.{unwrap_or}
 use Rattle.exact_values.specs.Rational.{zero_ℚ}
 use Rattle.lp_definitions.specs.LinearProgram.{value_at}
 use Rattle.method_definitions.specs.Formulas.{limit_numbered, number_of_limit}
-use Rattle.basis_values.proofs.Skips.{value_read}
 use Rattle.bounded_primal.proofs.Returns.{distance_refused, change_refused}
 use Rattle.bounded_primal.proofs.step.returning.Goals as goal
+use Rattle.lp_laws.proofs.Places.{value_read}
 
 pub returns-in_err-distance-clause-refused : goal.returns-in_err-distance-clause-refused
 returns-in_err-distance-clause-refused c =

@@ -2,11 +2,11 @@ use Rattle.std.proofs.Common.{◌≡◌, Err, rules, sym, ◌∙◌, ap, subst}
 use Rattle.lp_definitions.specs.LinearProgram.{value_at}
 use Rattle.lp_definitions.specs.Basis.{Basics, basics_of, exchanged}
 use Rattle.lp_definitions.specs.Waypoints.{KeepsWaypoints}
-use Rattle.basis_values.proofs.Covered.{keeps_same}
 use Rattle.bounded_primal.proofs.Agreement.{needed_same}
 use Rattle.bounded_primal.proofs.StepFacts.{reaches, leaver_basic, leaver_status, basics_replaced, has_replaced, replaced_agrees, replaced_exact, basics_flipped, has_flipped, flipped_agrees, flipped_exact, flip_is}
 use Rattle.bounded_primal.proofs.StepRefusals.{move_refused, exchange_refused, keeps_to}
 use Rattle.bounded_primal.proofs.step.step_over.Goals as goal
+use Rattle.lp_laws.proofs.WaypointLaws.{keeps_same}
 
 pub returns-in-Err-clause-waypoints : goal.returns-in-Err-clause-waypoints
 returns-in-Err-clause-waypoints g c = keeps_same c.args.lp.now.matrix (basics_of c.args.basis.now) (g.R.Rates.waypoints c.args.rates.now)

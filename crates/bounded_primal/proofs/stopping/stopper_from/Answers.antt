@@ -2,10 +2,10 @@ use Rattle.std.proofs.Common.{arith}
 use Rattle.lp_definitions.specs.LinearProgram.{value_at, size}
 use Rattle.method_definitions.specs.Moves.{room}
 use Rattle.basis_values.specs.Motions.{motion}
-use Rattle.basis_values.proofs.Skips.{value_read}
 use Rattle.basis_values.proofs.Nearest.{found_within}
 use Rattle.bounded_primal.proofs.StopperFacts.{stop_found, nothing_found}
 use Rattle.bounded_primal.proofs.stopping.stopper_from.Goals as goal
+use Rattle.lp_laws.proofs.Places.{value_read}
 
 pub returns-in-None-clause-stopper : goal.returns-in-None-clause-stopper
 returns-in-None-clause-stopper c = nothing_found c.args.lp.now (value_at c.args.point.now) (value_at c.args.direction.now) c.args.up c.in_ok-found.found c.in_ok-found.ensures.nearest c.in-None.is

@@ -3,9 +3,9 @@ use Rattle.exact_values.specs.Tests.{lt_ℚ}
 use Rattle.lp_definitions.specs.LinearProgram.{value_at}
 use Rattle.method_definitions.specs.Moves.{signed}
 use Rattle.basis_values.specs.Motions.{motion}
-use Rattle.basis_values.proofs.Skips.{value_read}
 use Rattle.bounded_primal.proofs.TurnChoices.{entering_within, some_betters}
 use Rattle.bounded_primal.proofs.turns.bettering.Goals as goal
+use Rattle.lp_laws.proofs.Places.{value_read}
 
 pub overflow_sub-price : goal.overflow_sub-price
 overflow_sub-price c = (entering_within c.args.lp.now c.args.basis.now (motion (value_at c.args.prices.now) c.is_minimized-minimized.result) c.in_ok-q.q (sym c.in_ok-q.was ∙ c.enterer.ensures)).0

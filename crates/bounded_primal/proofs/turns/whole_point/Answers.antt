@@ -1,6 +1,6 @@
 use Rattle.lp_definitions.specs.Basis.{basics_of}
-use Rattle.basis_values.proofs.Covered.{keeps_same}
 use Rattle.bounded_primal.proofs.turns.whole_point.Goals as goal
+use Rattle.lp_laws.proofs.WaypointLaws.{keeps_same}
 
 pub returns-in_err-values-clause-rates : goal.returns-in_err-values-clause-rates
 returns-in_err-values-clause-rates g c = (c.requires.rates, keeps_same c.args.lp.now.matrix (basics_of c.args.basis.now) (g.R.Rates.waypoints c.args.rates.now))

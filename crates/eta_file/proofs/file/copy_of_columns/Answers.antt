@@ -1,6 +1,6 @@
 use Rattle.std.proofs.Common.{rules, ◌≡◌, ◌++◌, ◌∷◌, [], ◌∙◌, ap, ◌<◌, length}
 use Rattle.lp_model.specs.Columns.{entries_of}
-use Rattle.eta_file.proofs.Lists.{copied}
+use Rattle.lp_model.proofs.Lists.{copied}
 use Rattle.eta_file.proofs.file.copy_of_columns.Goals as goal
 
 pub loop-column-preserved : goal.loop-column-preserved

@@ -3,10 +3,10 @@ use Rattle.std.proofs.lemmas.Result.{err_from_is_err_and}
 use Rattle.lp_definitions.specs.LinearProgram.{value_at}
 use Rattle.lp_definitions.specs.Basis.{basics_of, IsOptimalBasis}
 use Rattle.bounded_primal.specs.Moves.{move_by}
-use Rattle.basis_values.proofs.Covered.{keeps_same}
 use Rattle.para_objective.specs.Faces.{family}
 use Rattle.para_objective.proofs.FaceWalk.{step_stops, rows_stop, faces_more, any_later, any_more, any_stops, any_follows}
 use Rattle.para_objective.proofs.faces.faces.Goals as goal
+use Rattle.lp_laws.proofs.WaypointLaws.{keeps_same}
 
 pub returns-in_err-face_turn-clause-found : goal.returns-in_err-face_turn-clause-found
 returns-in_err-face_turn-clause-found g c =

@@ -1,8 +1,8 @@
 use Rattle.std.proofs.Common.{arith}
 use Rattle.lp_definitions.specs.LinearProgram.{value_at}
-use Rattle.ranging.proofs.RateBounds.{value_next}
 use Rattle.para_objective.proofs.Zeros.{none_above, next_above, skipped_above}
 use Rattle.para_objective.proofs.reaching.least_had.Goals as goal
+use Rattle.lp_laws.proofs.Places.{value_next}
 
 pub loop-k-init : goal.loop-k-init
 loop-k-init c = none_above c.args.lp.now c.args.basis.now (value_at c.args.prices.now) (value_at c.args.change.now) c.args.max

@@ -1,8 +1,9 @@
 use Rattle.lp_definitions.specs.LinearProgram.{value_at}
-use Rattle.ranging.proofs.Results.{IfOk-map, IfErr-map}
+use Rattle.ranging.proofs.Results.{IfOk-map}
 use Rattle.para_objective.proofs.Reaches.{reaches}
 use Rattle.para_objective.proofs.Refusals.{end_refused}
 use Rattle.para_objective.proofs.reaching.reach.Goals as goal
+use Rattle.basis_values.proofs.TermLaws.{IfErr-map}
 
 pub returns-clause-reaches : goal.returns-clause-reaches
 returns-clause-reaches c =

@@ -1,8 +1,8 @@
 use Rattle.std.proofs.Common.{arith}
 use Rattle.lp_definitions.specs.LinearProgram.{value_at}
-use Rattle.ranging.proofs.RateBounds.{value_next}
 use Rattle.para_objective.proofs.Zeros.{next_reach}
 use Rattle.para_objective.proofs.reaching.reach_from.Goals as goal
+use Rattle.lp_laws.proofs.Places.{value_next}
 
 pub loop-k-preserved : goal.loop-k-preserved
 loop-k-preserved c =

@@ -1,10 +1,11 @@
 use Rattle.std.proofs.Common.{rules, ◌≡◌, ◌+◌, Err, sym, ◌∙◌, ap, arith}
 use Rattle.lp_definitions.specs.LinearProgram.{value_at}
-use Rattle.basis_values.proofs.Skips.{value_next, found_least, found_none, one_more}
+use Rattle.basis_values.proofs.Skips.{found_least, found_none, one_more}
 use Rattle.para_rhs.specs.Breaks.{leaves, is_there}
 use Rattle.para_rhs.proofs.Leavers.{side_here}
 use Rattle.para_rhs.proofs.Narrowing.{refused_at}
 use Rattle.para_rhs.proofs.breaks.leaver_by.Goals as goal
+use Rattle.lp_laws.proofs.Places.{value_next}
 
 pub returns-in_err-side-clause-refused : goal.returns-in_err-side-clause-refused
 returns-in_err-side-clause-refused c =

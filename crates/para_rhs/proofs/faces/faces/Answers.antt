@@ -7,12 +7,12 @@ use Rattle.lp_model.specs.RatesCalls.{IfOverflow}
 use Rattle.method_definitions.specs.RhsRun.{IsSlope}
 use Rattle.bounded_primal.specs.Moves.{move_by}
 use Rattle.bounded_primal.proofs.StepFacts.{step_reaches, limit_apart}
-use Rattle.basis_values.proofs.Covered.{keeps_same}
 use Rattle.para_rhs.specs.Faces.{family}
 use Rattle.para_rhs.specs.Refusals.{RunRefused}
 use Rattle.para_rhs.proofs.FaceEvidence.{step_stops, motion_stops}
 use Rattle.para_rhs.proofs.FaceWalk.{faces_more, any_later, any_more, any_stops, any_follows}
 use Rattle.para_rhs.proofs.faces.faces.Goals as goal
+use Rattle.lp_laws.proofs.WaypointLaws.{keeps_same}
 
 pub returns-in_err-face_turn-clause-found : goal.returns-in_err-face_turn-clause-found
 returns-in_err-face_turn-clause-found g c =

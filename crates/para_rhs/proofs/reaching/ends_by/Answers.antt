@@ -1,8 +1,8 @@
 use Rattle.std.proofs.Common.{rules, ◌≡◌, Err, arith}
 use Rattle.lp_definitions.specs.LinearProgram.{value_at}
-use Rattle.basis_values.proofs.Skips.{value_next}
 use Rattle.para_rhs.proofs.Narrowing.{next_reach, refused_at}
 use Rattle.para_rhs.proofs.reaching.ends_by.Goals as goal
+use Rattle.lp_laws.proofs.Places.{value_next}
 
 pub returns-in_err-ends-clause-refused : goal.returns-in_err-ends-clause-refused
 returns-in_err-ends-clause-refused c =

@@ -2,9 +2,9 @@ use Rattle.std.proofs.lemmas.Result.{err_from_is_err_and}
 use Rattle.lp_definitions.specs.Basis.{basics_of}
 use Rattle.present_answers.proofs.RangeStops.{point_stops, report_stops}
 use Rattle.present_answers.proofs.RangeLines.{ranged}
-use Rattle.basis_values.proofs.Covered.{keeps_same}
 use Rattle.basis_values.proofs.Kept.{kept_then}
 use Rattle.present_answers.proofs.ranges.ranges_of.Goals as goal
+use Rattle.lp_laws.proofs.WaypointLaws.{keeps_same}
 
 pub returns-in_err-point-clause-overflow : goal.returns-in_err-point-clause-overflow
 returns-in_err-point-clause-overflow g c =

@@ -3,9 +3,9 @@ use Rattle.lp_definitions.specs.LinearProgram.{value_at}
 use Rattle.lp_definitions.specs.Basis.{basics_of}
 use Rattle.present_answers.proofs.Refused.{point_stops, slack_stops}
 use Rattle.present_answers.proofs.SolutionLines.{shown}
-use Rattle.basis_values.proofs.Covered.{keeps_same}
 use Rattle.basis_values.proofs.Kept.{kept_then}
 use Rattle.present_answers.proofs.solution.solution_of.Goals as goal
+use Rattle.lp_laws.proofs.WaypointLaws.{keeps_same}
 
 pub returns-in_err-point-clause-overflow : goal.returns-in_err-point-clause-overflow
 returns-in_err-point-clause-overflow g c =

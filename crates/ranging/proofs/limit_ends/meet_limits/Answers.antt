@@ -4,9 +4,9 @@ use Rattle.lp_definitions.specs.LinearProgram.{value_at}
 use Rattle.lp_definitions.specs.Basis.{status_of}
 use Rattle.method_definitions.specs.Ranges.{stands_at_limit}
 use Rattle.ranging.specs.LimitEnds.{distances_of, IsWithBasic}
-use Rattle.ranging.proofs.RateBounds.{value_next, value_read}
 use Rattle.ranging.proofs.Distances.{met, met_next, rate_refused}
 use Rattle.ranging.proofs.limit_ends.meet_limits.Goals as goal
+use Rattle.lp_laws.proofs.Places.{value_next, value_read}
 
 pub returns-in_err-now-clause-refused : goal.returns-in_err-now-clause-refused
 returns-in_err-now-clause-refused c =

@@ -5,12 +5,13 @@ use Rattle.ranging.specs.Intervals.{IsIn, taken_from, DifferenceRefused}
 use Rattle.lp_definitions.specs.Basis.{IsOptimalBasis}
 use Rattle.method_definitions.specs.Ranges.{with_cost}
 use Rattle.ranging.specs.Tables.{AreEndsOfRow}
-use Rattle.ranging.proofs.Results.{IfOk-map, IfErr-map}
-use Rattle.ranging.proofs.RateBounds.{value_read}
+use Rattle.ranging.proofs.Results.{IfOk-map}
 use Rattle.ranging.proofs.Distances.{ends_read}
 use Rattle.ranging.proofs.AtBasis.{basic_by_test, nonbasic_by_test}
 use Rattle.ranging.proofs.Items.{column_exact, basic_cost_refused, own_ends_are, nonbasic_cost_refused}
 use Rattle.ranging.proofs.lists.column_cost.Goals as goal
+use Rattle.basis_values.proofs.TermLaws.{IfErr-map}
+use Rattle.lp_laws.proofs.Places.{value_read}
 
 pub returns-then-stands_basic-clause-interval : goal.returns-then-stands_basic-clause-interval
 returns-then-stands_basic-clause-interval c =

@@ -6,11 +6,11 @@ use Rattle.method_definitions.specs.Ranges.{with_limit, stands_at_limit}
 use Rattle.ranging.specs.Intervals.{IsIn}
 use Rattle.ranging.specs.Lists.{ListsTo}
 use Rattle.ranging.specs.Tables.{AreLimitEnds}
-use Rattle.ranging.proofs.RateBounds.{value_next}
 use Rattle.ranging.proofs.Distances.{ends_next}
 use Rattle.ranging.proofs.Listed.{listed_kept, listed_left}
 use Rattle.ranging.proofs.Items.{limit_exact, limit_sum_refused}
 use Rattle.ranging.proofs.lists.limit_list.Goals as goal
+use Rattle.lp_laws.proofs.Places.{value_next}
 
 pub loop-k-preserved-then-not-at_limit : goal.loop-k-preserved-then-not-at_limit
 loop-k-preserved-then-not-at_limit c =

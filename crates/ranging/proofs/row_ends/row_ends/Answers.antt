@@ -1,7 +1,8 @@
 use Rattle.std.proofs.Common.{arith}
 use Rattle.lp_definitions.specs.LinearProgram.{value_at}
-use Rattle.ranging.proofs.RateBounds.{value_next, next_ends}
+use Rattle.ranging.proofs.RateBounds.{next_ends}
 use Rattle.ranging.proofs.row_ends.row_ends.Goals as goal
+use Rattle.lp_laws.proofs.Places.{value_next}
 
 pub loop-k-preserved : goal.loop-k-preserved
 loop-k-preserved c =

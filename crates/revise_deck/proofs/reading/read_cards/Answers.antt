@@ -6,8 +6,9 @@ use Rattle.problem_definitions.specs.Numbering.{by_names}
 use Rattle.revise_definitions.specs.Revision.{revise_card_fault}
 use Rattle.deck_definitions.proofs.Converted.{ArePrintable}
 use Rattle.revise_deck.specs.State.{state_of}
-use Rattle.revise_deck.proofs.Loop.{nothing_yet, next_state, next_no_fault, next_printable, stop_at}
+use Rattle.revise_deck.proofs.Loop.{next_state, next_no_fault, stop_at}
 use Rattle.revise_deck.proofs.reading.read_cards.Goals as goal
+use Rattle.mps_convert.proofs.Loop.{nothing_yet, next_printable}
 
 pub returns-in_err-read_card-clause-stop : goal.returns-in_err-read_card-clause-stop
 returns-in_err-read_card-clause-stop g c =

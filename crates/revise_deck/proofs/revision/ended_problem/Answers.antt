@@ -4,8 +4,9 @@ use Rattle.card_definitions.specs.Cards.{cards_between}
 use Rattle.deck_definitions.specs.declared.Section.TheVariants.{Endata}
 use Rattle.deck_definitions.specs.Sections.{is_section}
 use Rattle.revise_deck.specs.State.{State}
-use Rattle.revise_deck.proofs.Ends.{unended, last_is, is_problem, gives}
+use Rattle.revise_deck.proofs.Ends.{unended, is_problem, gives}
 use Rattle.revise_deck.proofs.revision.ended_problem.Goals as goal
+use Rattle.mps_convert.proofs.Whole.{last_is}
 
 pub returns-then-not-is_ended-clause-stop : goal.returns-then-not-is_ended-clause-stop
 returns-then-not-is_ended-clause-stop c =

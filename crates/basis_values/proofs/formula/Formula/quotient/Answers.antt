@@ -1,6 +1,6 @@
-use Rattle.basis_values.proofs.Skips.{left_nothing_over, over_once}
 use Rattle.basis_values.proofs.formula.Formula.quotient.Goals as goal
 use Rattle.basis_values.proofs.formula.Formula.quotient.Goals.{then-is_zero-via-then-is_zero, then-is_zero-via-else-is_zero+then-is_one}
+use Rattle.lp_laws.proofs.Idle.{left_nothing_over, over_once}
 
 pub returns-then-is_zero-clause-value : goal.returns-then-is_zero-clause-value
 returns-then-is_zero-clause-value c =

@@ -1,13 +1,14 @@
 use Rattle.std.proofs.Common.{rules, ◌≡◌, ◌≢◌, ◌-◌, ◌∙◌, sym, ap, Err, length, arith, subst}
 use Rattle.exact_values.specs.Rational.{◌*ℚ◌}
+use Rattle.exact_values.proofs.Ring_laws.{mul-zero}
 use Rattle.eta_file.specs.declared.eta.EtaEntry.{EtaEntry}
 use Rattle.eta_file.specs.Entries.{IsEntryWithin}
-use Rattle.eta_file.proofs.CarrySteps.{scaled_more, sum_next_other, others_next_same, others_next_other, others_room, entry_at, times_nothing}
+use Rattle.eta_file.proofs.CarrySteps.{scaled_more, sum_next_other, others_next_same, others_next_other, others_room, entry_at}
 use Rattle.eta_file.proofs.carry.Crossing.scale.Goals as goal
 use Rattle.eta_file.proofs.carry.Crossing.scale.Goals.{then-entry-self+in_ok-out, else-entry-self}
 
 pub loop-entry-init : goal.loop-entry-init
-loop-entry-init g c = record { each = λ k low high other. c.requires.zero (k - 1) ∙ sym (times_nothing c.args.reciprocal); cost = omega arith }
+loop-entry-init g c = record { each = λ k low high other. c.requires.zero (k - 1) ∙ sym (mul-zero c.args.reciprocal); cost = omega arith }
 
 pub returns-in_err-out-clause-cost : goal.returns-in_err-out-clause-cost
 returns-in_err-out-clause-cost g c =

@@ -4,9 +4,10 @@ use Rattle.lp_definitions.specs.LinearProgram.{value_at}
 use Rattle.eta_file.specs.declared.eta.EtaEntry.{EtaEntry}
 use Rattle.eta_file.specs.Entries.{sum_rate, IsEntryWithin}
 use Rattle.eta_file.specs.Refusals.{IsRestRefused}
-use Rattle.eta_file.proofs.CarrySteps.{subtracted_more, sum_next_other, others_next_same, others_next_other, others_room, entry_at, read_place, minus_nothing}
+use Rattle.eta_file.proofs.CarrySteps.{subtracted_more, sum_next_other, others_next_same, others_next_other, others_room, entry_at, minus_nothing}
 use Rattle.eta_file.proofs.carry.Crossing.subtract.Goals as goal
 use Rattle.eta_file.proofs.carry.Crossing.subtract.Goals.{then-entry-self+in_ok-out, else-entry-self}
+use Rattle.lp_laws.proofs.Places.{value_at_place}
 
 pub loop-entry-init : goal.loop-entry-init
 loop-entry-init g c = record { each = λ k low high other. sym (minus_nothing (value_at c.args.out.now k) c.args.quotient); cost = omega arith }
@@ -24,7 +25,7 @@ returns-in_err-out-clause-refused g c =
     subst (λ (x : EtaEntry). IsEntryWithin (length c.args.out.now) x) (sym c.entry-item.is) (c.requires c.loop-entry.entry-index c.entry-item.result c.loop-entry-test.true) in
     let high : c.entry-item.result.i ≤ length c.loop-entry.out = omega (arith, within.1, c.loop-entry.auto.out) in
     let is_old : c.index-out-place.result ≡ value_at c.args.out.now c.entry-item.result.i -ℚ c.args.quotient *ℚ sum_rate (take c.loop-entry.entry-index c.args.entries.now) c.entry-item.result.i =
-    read_place c.loop-entry.out c.entry-item.result.i c.index-out-place.result within.0 high c.index-out-place.is ∙ c.loop-entry.invariant.each c.entry-item.result.i within.0 within.1 c.if-entry-self.true in
+    value_at_place c.loop-entry.out c.entry-item.result.i c.index-out-place.result within.0 high c.index-out-place.is ∙ c.loop-entry.invariant.each c.entry-item.result.i within.0 within.1 c.if-entry-self.true in
     rw is_err (record {
       place = c.loop-entry.entry-index;
       entry = c.entry-item.result;

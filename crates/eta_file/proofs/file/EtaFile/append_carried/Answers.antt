@@ -4,9 +4,9 @@ use Rattle.lp_definitions.specs.Basis.{IsBasic, IsNonbasic}
 use Rattle.eta_file.specs.declared.eta.StoredEta.{StoredEta}
 use Rattle.eta_file.specs.Prefixes.{entries_to}
 use Rattle.eta_file.specs.File.{inverse_of}
-use Rattle.eta_file.proofs.CarrySteps.{read_place}
 use Rattle.eta_file.proofs.FileLaws.{marks_counted, appended, added}
 use Rattle.eta_file.proofs.file.EtaFile.append_carried.Goals as goal
+use Rattle.lp_laws.proofs.Places.{value_at_place}
 
 pub entries_at-requires-clause-places : goal.entries_at-requires-clause-places
 entries_at-requires-clause-places c =
@@ -39,7 +39,7 @@ invariant_of-self-2 c =
     let room : length f.etas < 4294967294 = search rules in
     rw pushed
     (appended f.matrix f.etas f.basics c.self.invariant c.args.p c.args.q leaves (rw (← c.self.view_is) at c.requires.enters) c.args.direction.now (rw (← c.self.view_is) at c.requires.direction) c.requires.pivot
-    eta refl refl (read_place c.args.direction.now c.args.p c.index-direction-p.result leaves.0.0 (omega (arith, leaves.0.1, places)) c.index-direction-p.is) entries room)
+    eta refl refl (value_at_place c.args.direction.now c.args.p c.index-direction-p.result leaves.0.0 (omega (arith, leaves.0.1, places)) c.index-direction-p.is) entries room)
 
 pub returns-clause-ok : goal.returns-clause-ok
 returns-clause-ok c =

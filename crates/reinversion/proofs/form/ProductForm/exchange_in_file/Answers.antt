@@ -2,9 +2,10 @@ use Rattle.std.proofs.Common.{rules, ◌≡◌, ◌∷◌, Err}
 use Rattle.lp_definitions.specs.Basis.{exchanged}
 use Rattle.lp_definitions.specs.RatesEvidence.{ExchangeRefused}
 use Rattle.eta_file.specs.Inverse.{Inverse, ways_of}
-use Rattle.eta_file.proofs.ColumnLaws.{keeps_same, keeps_appended}
+use Rattle.eta_file.proofs.ColumnLaws.{keeps_appended}
 use Rattle.eta_file.proofs.FileLaws.{pivot_apart, stop_map, column_to_exchange}
 use Rattle.reinversion.proofs.form.ProductForm.exchange_in_file.Goals as goal
+use Rattle.lp_laws.proofs.WaypointLaws.{keeps_same}
 
 pub append_carried-requires-clause-pivot : goal.append_carried-requires-clause-pivot
 append_carried-requires-clause-pivot c =

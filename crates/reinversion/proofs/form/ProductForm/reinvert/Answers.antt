@@ -1,9 +1,9 @@
 use Rattle.std.proofs.Common.{◌∙◌, sym, refl, false}
 use Rattle.std.specs.Vec.{with_items}
 use Rattle.eta_file.specs.Inverse.{ways_of}
-use Rattle.eta_file.proofs.ColumnLaws.{keeps_same}
 use Rattle.reinversion.proofs.Turns.{form_remade}
 use Rattle.reinversion.proofs.form.ProductForm.reinvert.Goals as goal
+use Rattle.lp_laws.proofs.WaypointLaws.{keeps_same}
 
 pub invariant_of-self : goal.invariant_of-self
 invariant_of-self c =

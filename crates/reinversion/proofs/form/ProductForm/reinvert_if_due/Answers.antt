@@ -1,8 +1,8 @@
 use Rattle.std.proofs.Common.{arith}
 use Rattle.eta_file.specs.Inverse.{ways_of}
-use Rattle.eta_file.proofs.ColumnLaws.{keeps_same}
 use Rattle.reinversion.proofs.Turns.{prepared}
 use Rattle.reinversion.proofs.form.ProductForm.reinvert_if_due.Goals as goal
+use Rattle.lp_laws.proofs.WaypointLaws.{keeps_same}
 
 pub returns-in_ok-reinvert-clause-prepared : goal.returns-in_ok-reinvert-clause-prepared
 returns-in_ok-reinvert-clause-prepared c =
