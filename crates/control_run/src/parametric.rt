@@ -32,7 +32,9 @@ use present_answers::{RunReport, objective_run_of, rhs_run_of};
 use problem_file::ProblemFile;
 use report_text::{Report, text_of};
 use run_cells::{Cells, NumberCell};
-use run_machine::{Act, Finding, Halt, Machine, Refusal, Setup, act_of, overflow_at, refused, select_present};
+use run_machine::{
+    Act, Finding, Halt, Machine, Refusal, Setup, act_of, overflow_at, refused, select_present,
+};
 use std::alloc::Global;
 
 // The number of the formula of a row's limit at a value of the parameter.

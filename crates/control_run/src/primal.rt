@@ -27,7 +27,10 @@ use present_answers::{PathReport, path_from};
 use problem_file::ProblemFile;
 use report_text::{Report, text_of};
 use run_cells::Cells;
-use run_machine::{Act, Finding, Halt, Machine, Refusal, Setup, act_of, mark_left, overflow_at, refused, select_present};
+use run_machine::{
+    Act, Finding, Halt, Machine, Refusal, Setup, act_of, mark_left, overflow_at, refused,
+    select_present,
+};
 use std::alloc::Global;
 
 /// The mark of the verdict of an outcome.

@@ -1,5 +1,5 @@
-//! The machine of a run: its cells, the problems on file, the setup and the mark; the statements that need no linear programming, from
-//! INITIALZ to BCDOUT; what the present cells select; what a finding comes to; and how a run ends.
+//! The machine of a run: its cells, the problems on file, the setup and the mark; the statements that ask nothing of linear programming,
+//! as CONVERT, REVISE, SETUP and BCDOUT; what the present cells select; what follows a finding; and how a run ends.
 #![tactic(auto)]
 
 mod act;
