@@ -75,8 +75,8 @@ text_of_parts n r c e rows columns rhs ranges bounds =
     let body = text_of_five columns rhs ranges bounds (e ∷ []) ∙ ap (λ w. card_text columns ++ (card_text rhs ++ (card_text ranges ++ (card_text bounds ++ w)))) (append-nil (line e)) in
     let whole = card_text rhs ++ (card_text ranges ++ (card_text bounds ++ line e)) in
     let from_columns = ap (λ w. line c ++ w) body ∙ sym (append_assoc (line c) (card_text columns) whole) in
-    let behind = (line c ++ card_text columns) ++ whole in
-    let from_rows = ap (λ w. line r ++ w) (two rows (c ∷ (columns ++ rhs ++ ranges ++ bounds ++ e ∷ [])) ∙ ap (λ w. card_text rows ++ w) from_columns) ∙ sym (append_assoc (line r) (card_text rows) behind) in
+    let after = (line c ++ card_text columns) ++ whole in
+    let from_rows = ap (λ w. line r ++ w) (two rows (c ∷ (columns ++ rhs ++ ranges ++ bounds ++ e ∷ [])) ∙ ap (λ w. card_text rows ++ w) from_columns) ∙ sym (append_assoc (line r) (card_text rows) after) in
     ap (λ w. line n ++ w) from_rows
 
 pieces : (n r c e : List ℕ) {a b d f g a' b' d' f' g' : List ℕ} → a ≡ a' → b ≡ b' → d ≡ d' → f ≡ f' → g ≡ g'

@@ -294,8 +294,8 @@ stopper_number n term h = at (eqb_tells n 6) (eqb_tells n 7)
     at (inr other) (inl seven) = (λ e. seven.0, ap (λ m. nat_eq m 14) seven.1, ap (is_between 1 12) seven.1, ap (λ a. not a || not (nat_eq term 3)) other.0)
     at (inr other) (inr far) = absurd (clash (sym h ∙ ap₂ (λ a b. (a && not (nat_eq term 3)) || b) other.0 far.0))
 
-step_number : (n term : ℕ) → (is_between 1 12 n && (not (nat_eq n 6) || not (nat_eq term 3))) ≡ true → nat_eq n 14 ≡ false
-step_number n term h = at (eqb_tells n 14)
+pub step_brings_not : (n term : ℕ) → (is_between 1 12 n && (not (nat_eq n 6) || not (nat_eq term 3))) ≡ true → nat_eq n 14 ≡ false
+step_brings_not n term h = at (eqb_tells n 14)
   where
     at : (((eqb n 14 ≡ true) × (n ≡ 14)) ⊎ ((eqb n 14 ≡ false) × (n ≢ 14))) → nat_eq n 14 ≡ false
     at (inl same) = absurd (clash (sym (subst (λ (m : ℕ). (is_between 1 12 m && (not (nat_eq m 6) || not (nat_eq term 3))) ≡ true) same.1 h)))
@@ -370,7 +370,7 @@ module _ (p : LinearProgram) (s : List Status) (left : ℕ) (before now : List B
       (λ to same number. goes_to p s (move_by q by) e to moves (sym (h.enters number.0)) (sym (h.leaves number.1)) (sym same))
       (record {
         enters = λ is. subst (EntersAt (job_of p p.change) None s) (sym (h.enters is)) (enters_at p s q enters);
-        brings = λ is. absurd (clash (sym is ∙ step_number e.formula e.term h.of_call));
+        brings = λ is. absurd (clash (sym is ∙ step_brings_not e.formula e.term h.of_call));
         steps = λ is. takes_step p s (move_by q by) moves;
       })
       (belongs_job p e h.of_call)

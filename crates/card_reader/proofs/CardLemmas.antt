@@ -17,9 +17,9 @@ lines_of [] = []
 lines_of (byte ∷ bytes) = cond (is_line_feed byte) ([] ∷ lines_of bytes) (onto_first byte (lines_of bytes))
 
 -- the same from the part in front of the first line feed on
-behind_feed : (parts : List (List ℕ)) → 0 < length parts → without_empty_last ([] ∷ parts) ≡ [] ∷ without_empty_last parts
-behind_feed [] some = absurd (omega arith)
-behind_feed (part ∷ parts) some = refl
+after_feed : (parts : List (List ℕ)) → 0 < length parts → without_empty_last ([] ∷ parts) ≡ [] ∷ without_empty_last parts
+after_feed [] some = absurd (omega arith)
+after_feed (part ∷ parts) some = refl
 
 onto_first_part : (byte : ℕ) (parts : List (List ℕ)) → 0 < length parts → without_empty_last (onto_first byte parts) ≡ onto_first byte (without_empty_last parts)
 onto_first_part byte [] some = absurd (omega arith)
@@ -34,7 +34,7 @@ lines_are (byte ∷ bytes) =
     let parts = slice_split is_line_feed bytes in
     let some : 0 < length parts = omega (arith, length-slice_split is_line_feed bytes) in
     elim (is_line_feed byte) as (λ t. without_empty_last (cond t ([] ∷ parts) (onto_first byte parts)) ≡ cond t ([] ∷ lines_of bytes) (onto_first byte (lines_of bytes)))
-    [ true ↦ behind_feed parts some ∙ ap (λ lines. [] ∷ lines) (lines_are bytes) | false ↦ onto_first_part byte parts some ∙ ap (onto_first byte) (lines_are bytes) ]
+    [ true ↦ after_feed parts some ∙ ap (λ lines. [] ∷ lines) (lines_are bytes) | false ↦ onto_first_part byte parts some ∙ ap (onto_first byte) (lines_are bytes) ]
 
 -- one more byte at the front of the first line
 onto_first_line : (byte n : ℕ) (bytes : List ℕ) → lines_of bytes ≡ take n bytes ∷ lines_of (drop (n + 1) bytes) → onto_first byte (lines_of bytes) ≡ take (1 + n) (byte ∷ bytes) ∷ lines_of (drop (1 + n + 1) (byte ∷ bytes))
@@ -77,9 +77,9 @@ cards_of-drop bytes start len card rest line inside at_rest at_line at_len at_ca
     let length_of : start + card - start ≡ card = omega arith in
     let span : slice_range bytes start (start + card) ≡ take card rest = ap (λ n. take n (drop start bytes)) length_of ∙ ap (λ w. take card w) (sym at_rest) in
     let place : start + (len + 1) ≡ start + len + 1 = omega arith in
-    let behind : after_first is_line_feed rest ≡ drop (start + len + 1) bytes =
+    let later : after_first is_line_feed rest ≡ drop (start + len + 1) bytes =
     ap (λ n. drop (n + 1) rest) (sym at_len) ∙ ap (λ w. drop (len + 1) w) at_rest ∙ drop-drop (len + 1) start bytes ∙ ap (λ n. drop n bytes) place in
-    ap cards_of (sym at_rest) ∙ cards_of-first rest some ∙ ap (λ w. w ∷ cards_of (after_first is_line_feed rest)) (front ∙ sym span) ∙ ap (λ w. slice_range bytes start (start + card) ∷ cards_of w) behind
+    ap cards_of (sym at_rest) ∙ cards_of-first rest some ∙ ap (λ w. w ∷ cards_of (after_first is_line_feed rest)) (front ∙ sym span) ∙ ap (λ w. slice_range bytes start (start + card) ∷ cards_of w) later
 
 -- after the last byte stands no card
 pub cards_done : (bytes : List ℕ) (start : ℕ) (cards : List (List ℕ)) → length bytes ≤ start → cards ++ cards_of (drop start bytes) ≡ cards_of bytes → cards ≡ cards_of bytes

@@ -7,11 +7,12 @@ use Rattle.std.proofs.lemmas.Bool.Decides.{nat_tests}
 use Rattle.std.proofs.lemmas.List.{map-append}
 use Rattle.std.proofs.lemmas.List.Elements.{All-cons, All-nil}
 use Rattle.std.proofs.lemmas.Bool.{or_left, or_right, or_from}
-use Rattle.card_definitions.proofs.Behind.{first_fault-append, no_first, no_second}
+use Rattle.card_definitions.proofs.FirstFaults.{first_fault-append, no_first, no_second}
 use Rattle.card_definitions.specs.Words.{first_fault, ◌⟹◌}
 use Rattle.card_definitions.specs.Cards.{Card, card_fault, is_printable, cards_of, job_fault, numbered_cards, numbered_from}
 use Rattle.card_definitions.specs.declared.CardFault.{CardFault}
 use Rattle.card_definitions.specs.declared.CardFault.TheVariants.{TooLong, NotPrintable, CardTooLong}
+use Rattle.card_definitions.proofs.Numbered.{numbered_from-append}
 use Rattle.card_reader.specs.Reading.{TellsCardFault}
 use Rattle.card_reader.specs.Spans.{IsFaultless}
 use Rattle.card_reader.specs.Stop.{stop_of}
@@ -20,12 +21,6 @@ use Rattle.card_reader.specs.declared.stop.ReadStop.{ReadStop}
 -- the fault of the first card that has one
 abbrev pub fault_of_cards : List (List ℕ) → Option CardFault
 fault_of_cards cards = first_fault (map card_fault (numbered_cards cards))
-
-numbered_from-append : (number : ℕ) (xs ys : List (List ℕ)) → numbered_from number (xs ++ ys) ≡ numbered_from number xs ++ numbered_from (number + length xs) ys
-numbered_from-append number [] ys = let same : number + 0 ≡ number = omega arith in ap (λ n. numbered_from n ys) (sym same)
-numbered_from-append number (x ∷ xs) ys =
-    let next : number + 1 + length xs ≡ number + length (x ∷ xs) = omega arith in
-    ap (λ cards. record { number = number; bytes = x } ∷ cards) (numbered_from-append (number + 1) xs ys ∙ ap (λ n. numbered_from (number + 1) xs ++ numbered_from n ys) next)
 
 first_fault-one : {F : Type 0} (test : Option F) → first_fault (test ∷ []) ≡ test
 first_fault-one None = refl

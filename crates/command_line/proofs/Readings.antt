@@ -14,7 +14,7 @@ use Rattle.clap.specs.declared.error.kind.ErrorKind.TheVariants as kind
 use Rattle.command_line.proofs.Sizes.{no_dash}
 use Rattle.command_line.proofs.WordForms.{Word, mark, named, with_value, unknown, short, empty, dash, plain, word_kind, ends_not, IsNoOption, unknown_is_none, short_is_none, empty_is_none, dash_is_none, plain_is_none}
 use Rattle.command_line.specs.Options.{command}
-use Rattle.command_line.specs.Requests.{asked, asked_with, asked_first, behind, ends, valued, valued_by_next}
+use Rattle.command_line.specs.Requests.{asked, asked_with, asked_first, rest_after, ends, valued, valued_by_next}
 use Rattle.command_line.specs.declared.request.Request.{Request}
 use Rattle.command_line.specs.declared.request.Request.TheVariants.{Read, Make}
 
@@ -299,13 +299,13 @@ as_none : (w : Walk) (words : List Text) {expected : Option Request} → expecte
 as_none w words none reads = subst (λ o. Reads w words o) (sym none) reads
 
 -- after the mark there is no further word
-behind_mark : (h : Held) (waiting : Waiting) (expected : List Text → Option Request) → Reads (at h waiting true) [] (expected []) → ((word : Text) (rest : List Text) → expected (word ∷ rest) ≡ None) →
+after_mark : (h : Held) (waiting : Waiting) (expected : List Text → Option Request) → Reads (at h waiting true) [] (expected []) → ((word : Text) (rest : List Text) → expected (word ∷ rest) ≡ None) →
     (rest : List Text) → Reads (at h waiting true) rest (expected rest)
-behind_mark h waiting expected alone none [] = alone
-behind_mark h waiting expected alone none (word ∷ rest) = stops (at h waiting true) word rest (expected (word ∷ rest)) (fails _ word (trailing_stray h waiting word)) (none word rest)
+after_mark h waiting expected alone none [] = alone
+after_mark h waiting expected alone none (word ∷ rest) = stops (at h waiting true) word rest (expected (word ∷ rest)) (fails _ word (trailing_stray h waiting word)) (none word rest)
 
-refuses_behind_mark : (h : Held) (waiting : Waiting) {k : kind.the_data} {ks : Kinds} → faults (at h waiting true) [] ≡ k ∷ ks → (rest : List Text) → Reads (at h waiting true) rest None
-refuses_behind_mark h waiting is = behind_mark h waiting (λ rest. None) (ends_failing (at h waiting true) None is refl) (λ word rest. refl)
+refuses_after_mark : (h : Held) (waiting : Waiting) {k : kind.the_data} {ks : Kinds} → faults (at h waiting true) [] ≡ k ∷ ks → (rest : List Text) → Reads (at h waiting true) rest None
+refuses_after_mark h waiting is = after_mark h waiting (λ rest. None) (ends_failing (at h waiting true) None is refl) (λ word rest. refl)
 
 -- a word that is no option, where nothing is waited for
 module _ (rows : List Row) (pending : Option (Text × List Text)) (rest : List Text) (expected : Option Request) (none : expected ≡ None) where
@@ -333,7 +333,7 @@ twice v u [] = ends_failing (has (used_with v) u) None (twice_end v u) refl
 twice v u (word ∷ rest) = by word (word_kind word)
   where
     by : (word : Text) → Word word → Reads (has (used_with v) u) (word ∷ rest) None
-    by _ mark = moves _ _ (codes "--") rest None (twice_mark v u).0 (twice_mark v u).1 (refuses_behind_mark _ idle (twice_marked_end v u) rest)
+    by _ mark = moves _ _ (codes "--") rest None (twice_mark v u).0 (twice_mark v u).1 (refuses_after_mark _ idle (twice_marked_end v u) rest)
     by _ named = stops _ (codes "--make") rest None (fails _ _ (twice_named v u)) refl
     by _ (with_value t) = stops _ (codes "--make=" ++ t) rest None (fails _ _ (twice_with_value v u t)) refl
     by _ (unknown x xs e) = stops_unknown (used_with v) (option_with (u ∷ [])) rest None refl x xs e
@@ -354,7 +354,7 @@ module _ (rows : List Row) (expected : List Text → Option Request) (none_at_en
       short_word word none (inr p) = moves (waits rows) (has rows word) word rest (expected (word ∷ rest)) p.0 p.1 (after word rest)
 
       by : (word : Text) → Word word → Reads (waits rows) (word ∷ rest) (expected (word ∷ rest))
-      by _ mark = moves _ _ (codes "--") rest _ (waits_mark rows).0 (waits_mark rows).1 (as_none _ rest (none_dashed (codes "-") rest) (refuses_behind_mark _ _ (waits_marked_end rows _) rest))
+      by _ mark = moves _ _ (codes "--") rest _ (waits_mark rows).0 (waits_mark rows).1 (as_none _ rest (none_dashed (codes "-") rest) (refuses_after_mark _ _ (waits_marked_end rows _) rest))
       by _ named = stops _ (codes "--make") rest _ (fails _ _ (waits_named rows)) (none_dashed (codes "-make") rest)
       by _ (with_value t) = stops _ (codes "--make=" ++ t) rest _ (fails _ _ (waits_with_value rows t)) (none_dashed (codes "-make=" ++ t) rest)
       by _ (unknown x xs e) = stops _ (45 ∷ 45 ∷ x ∷ xs) rest _ (fails _ _ (waits_unknown rows x xs e)) (none_dashed (45 ∷ x ∷ xs) rest)
@@ -381,7 +381,7 @@ module _ (v : Text) (rows : List Row) (pending : Option (Text × List Text))
   valued_reads (word ∷ rest) = by word (word_kind word)
     where
       by : (word : Text) → Word word → Reads (at (held rows pending) idle false) (word ∷ rest) (valued (Some v) (word ∷ rest))
-      by _ mark = moves _ _ (codes "--") rest _ marked.0 marked.1 (behind_mark _ idle (λ rest. valued (Some v) (codes "--" ∷ rest)) (taken marked_end.0 (ap asked_with (sym marked_end.1))) (λ word rest. refl) rest)
+      by _ mark = moves _ _ (codes "--") rest _ marked.0 marked.1 (after_mark _ idle (λ rest. valued (Some v) (codes "--" ∷ rest)) (taken marked_end.0 (ap asked_with (sym marked_end.1))) (λ word rest. refl) rest)
       by _ named = moves _ _ (codes "--make") rest _ renamed.0 renamed.1 (as_none _ rest (no_more v (codes "--make") rest refl) (again v rest))
       by _ (with_value u) = stops _ (codes "--make=" ++ u) rest _ (fails _ _ (revalued u)) (no_more v (codes "--make=" ++ u) rest refl)
       by _ (unknown x xs e) = stops_unknown rows pending rest _ (no_more v (45 ∷ 45 ∷ x ∷ xs) rest refl) x xs e
@@ -403,7 +403,7 @@ by_first word rest e = ap (λ b. if b then Some Read else asked_first word rest)
 
 no_option : (word : Text) (rest : List Text) → IsNoOption word → bytes_eq word (codes "--") ≡ false → asked (word ∷ rest) ≡ None
 no_option word rest h e =
-    by_first word rest e ∙ ap (λ b. if b then valued_by_next rest else valued (behind (codes "--make=") word) rest) h.alone ∙ ap (λ o. valued o rest) h.joined
+    by_first word rest e ∙ ap (λ b. if b then valued_by_next rest else valued (rest_after (codes "--make=") word) rest) h.alone ∙ ap (λ o. valued o rest) h.joined
 
 abbrev nothing : Option Request
 nothing = None
@@ -420,7 +420,7 @@ reads_all [] = taken begins_end.0 (ap asked_with (sym begins_end.1))
 reads_all (word ∷ rest) = by word (word_kind word)
   where
     by : (word : Text) → Word word → Reads begins (word ∷ rest) (asked (word ∷ rest))
-    by _ mark = moves _ _ (codes "--") rest _ begins_mark.0 begins_mark.1 (behind_mark nothing_held idle (λ rest. asked (codes "--" ∷ rest)) (taken begins_marked_end.0 (ap asked_with (sym begins_marked_end.1))) (λ word rest. refl) rest)
+    by _ mark = moves _ _ (codes "--") rest _ begins_mark.0 begins_mark.1 (after_mark nothing_held idle (λ rest. asked (codes "--" ∷ rest)) (taken begins_marked_end.0 (ap asked_with (sym begins_marked_end.1))) (λ word rest. refl) rest)
     by _ named = moves _ _ (codes "--make") rest _ begins_named.0 begins_named.1 (subst (λ o. Reads (waits []) rest o) (sym (by_first (codes "--make") rest refl)) (waits_reads [] valued_by_next refl not_valued has_reads rest))
     by _ (with_value v) = moves _ _ (codes "--make=" ++ v) rest _ (begins_with_value v).0 (begins_with_value v).1 (subst (λ o. Reads (used_up v) rest o) (sym (by_first (codes "--make=" ++ v) rest refl)) (used_reads v rest))
     by _ (unknown x xs e) = stops_unknown [] None rest _ (no_option _ rest (unknown_is_none x xs e) refl) x xs e

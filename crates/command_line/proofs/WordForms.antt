@@ -6,7 +6,7 @@ use Rattle.std.proofs.lemmas.Bool.{eqb-true, false_from_ne_true}
 use Rattle.std.proofs.lemmas.Slice.Eq.{bytes_eq-Decides}
 use Rattle.clap.specs.Lexer.{name_and_value}
 use Rattle.clap.specs.Walk.{Text}
-use Rattle.command_line.specs.Requests.{behind, ends}
+use Rattle.command_line.specs.Requests.{rest_after, ends}
 
 pub data Word : Text → Type 0 where
   mark : Word (codes "--")
@@ -72,19 +72,19 @@ word_kind (x ∷ xs) = first (x == 45) refl xs
 
 -- ---- what is asked for where a word is none of those that ask
 
-behind_is : (front text v : Text) → behind front text ≡ Some v → text ≡ front ++ v
-behind_is [] text v e = cc
-behind_is (c ∷ front) [] v e = absurd (cc)
-behind_is (c ∷ front) (x ∷ text) v e = at (x == c) refl e (behind_is front text v)
+after_is : (front text v : Text) → rest_after front text ≡ Some v → text ≡ front ++ v
+after_is [] text v e = cc
+after_is (c ∷ front) [] v e = absurd (cc)
+after_is (c ∷ front) (x ∷ text) v e = at (x == c) refl e (after_is front text v)
   where
-    at : (b : Bool) → (x == c) ≡ b → (if b then behind front text else None) ≡ Some v → (behind front text ≡ Some v → text ≡ front ++ v) → x ∷ text ≡ c ∷ (front ++ v)
+    at : (b : Bool) → (x == c) ≡ b → (if b then rest_after front text else None) ≡ Some v → (rest_after front text ≡ Some v → text ≡ front ++ v) → x ∷ text ≡ c ∷ (front ++ v)
     at true test rest tail = let head = eqb-true x c test in let same = tail rest in cc
     at false test rest tail = absurd (cc)
 
 -- no word `--make`, and none that begins with `--make=`
 pub record IsNoOption (word : Text) : Type 0 where
   pub alone : bytes_eq word (codes "--make") ≡ false
-  pub joined : behind (codes "--make=") word ≡ None
+  pub joined : rest_after (codes "--make=") word ≡ None
 
 -- a word other than the mark ends nothing
 pub ends_not : (word : Text) (rest : List Text) → bytes_eq word (codes "--") ≡ false → ends (word ∷ rest) ≡ false
@@ -106,7 +106,7 @@ names_make word = bytes_eq (codes "make") (before_first is_equals (drop 2 word))
 pub unknown_is_none : (x : ℕ) (xs : Text) → bytes_eq (codes "make") (name_and_value (x ∷ xs)).0 ≡ false → IsNoOption (45 ∷ 45 ∷ x ∷ xs)
 unknown_is_none x xs e = record {
   alone = false_from_ne_true _ (λ same. apart names_make (codes "--make") (45 ∷ 45 ∷ x ∷ xs) refl e (sym ((bytes_eq-Decides (45 ∷ 45 ∷ x ∷ xs) (codes "--make")).0 same)));
-  joined = none_of _ (λ v same. apart names_make (codes "--make=" ++ v) (45 ∷ 45 ∷ x ∷ xs) refl e (sym (behind_is (codes "--make=") (45 ∷ 45 ∷ x ∷ xs) v same)));
+  joined = none_of _ (λ v same. apart names_make (codes "--make=" ++ v) (45 ∷ 45 ∷ x ∷ xs) refl e (sym (after_is (codes "--make=") (45 ∷ 45 ∷ x ∷ xs) v same)));
 }
 
 pub mark_is_none : IsNoOption (codes "--")

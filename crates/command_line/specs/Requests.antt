@@ -19,10 +19,10 @@ asked_with None = Some Read
 asked_with (Some value) = option_map (λ size. Make size) (size_written value)
 
 -- what follows a front in a text, if it begins with it
-abbrev pub behind : List ℕ → List ℕ → Option (List ℕ)
-behind [] text = Some text
-behind (c ∷ front) [] = None
-behind (c ∷ front) (x ∷ text) = if x == c then behind front text else None
+abbrev pub rest_after : List ℕ → List ℕ → Option (List ℕ)
+rest_after [] text = Some text
+rest_after (c ∷ front) [] = None
+rest_after (c ∷ front) (x ∷ text) = if x == c then rest_after front text else None
 
 -- nothing may follow what is asked for but the word `--`, which ends options
 abbrev pub ends : List (List ℕ) → Bool
@@ -41,7 +41,7 @@ valued_by_next (value ∷ rest) = valued (Some value) rest
 
 -- the words `--make` and its value, or the word `--make=` with its value in it
 abbrev pub asked_first : List ℕ → List (List ℕ) → Option Request
-asked_first word rest = if bytes_eq word (codes "--make") then valued_by_next rest else valued (behind (codes "--make=") word) rest
+asked_first word rest = if bytes_eq word (codes "--make") then valued_by_next rest else valued (rest_after (codes "--make=") word) rest
 
 -- No words, or the word `--` alone: the job is read. The option with its value: it is made. All other words are refused.
 abbrev pub asked : List (List ℕ) → Option Request

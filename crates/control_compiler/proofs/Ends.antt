@@ -65,18 +65,18 @@ stopped job NoMemory some = tt
 
 module _ (job : List (List ℕ)) (reading : Reading) (is : IsRead job reading) where
   lawful : All HoldsLaw (filter_map statement_said (cards_to_pend (live_cards job)))
-  lawful = subst (All HoldsLaw) is.behind.statements (All-map HoldsLaw statement_shown reading.draft.statements.items is.behind.lawful)
+  lawful = subst (All HoldsLaw) is.after.statements (All-map HoldsLaw statement_shown reading.draft.statements.items is.after.lawful)
 
   statements_are : map (λ (statement : read.Statement (List ℕ)). settled reading.draft.labels (statement_shown statement)) reading.draft.statements.items
       ≡ filter_map (statement_on (cards_to_pend (live_cards job))) (cards_to_pend (live_cards job))
-  statements_are = map_shown (settled reading.draft.labels) reading.draft.statements.items ∙ ap (map (settled reading.draft.labels)) is.behind.statements
-      ∙ statements_told reading.draft.labels (cards_to_pend (live_cards job)) is.behind.labels (cards_to_pend (live_cards job)) lawful
+  statements_are = map_shown (settled reading.draft.labels) reading.draft.statements.items ∙ ap (map (settled reading.draft.labels)) is.after.statements
+      ∙ statements_told reading.draft.labels (cards_to_pend (live_cards job)) is.after.labels (cards_to_pend (live_cards job)) lawful
 
   -- the first statement that names a label without a position
   missing_is : option_map (λ (statement : read.Statement (List ℕ)). statement.card) (find (λ (statement : read.Statement (List ℕ)). lacks_label reading.draft.labels (shown statement.verb)) reading.draft.statements.items)
       ≡ option_map (λ (card : Card). card.number) (first_missing job)
-  missing_is = find_shown (lacks_label reading.draft.labels) reading.draft.statements.items ∙ ap (lacking reading.draft.labels) is.behind.statements
-      ∙ missing_told reading.draft.labels (cards_to_pend (live_cards job)) is.behind.labels (cards_to_pend (live_cards job)) lawful
+  missing_is = find_shown (lacks_label reading.draft.labels) reading.draft.statements.items ∙ ap (lacking reading.draft.labels) is.after.statements
+      ∙ missing_told reading.draft.labels (cards_to_pend (live_cards job)) is.after.labels (cards_to_pend (live_cards job)) lawful
 
   -- what decides, by the job's last card and the first statement that misses its label
   pub ends_at : (last : ℕ) (missing : Option ℕ) (outcome : Result ℕ ControlFault) → last ≡ length job

@@ -6,11 +6,12 @@ use Rattle.std.specs.List.{list_any, position_or_len}
 use Rattle.std.proofs.lemmas.List.{append_assoc, append-nil}
 use Rattle.std.proofs.Math.ListN.{drop_of_length-le}
 use Rattle.card_definitions.specs.Cards.{Card, is_skipped, live, numbered_from}
+use Rattle.card_definitions.proofs.FirstFaults.{or_none}
 use Rattle.control_definitions.specs.declared.ControlFault.{ControlFault}
 use Rattle.control_definitions.specs.Verbs.{verb_of}
 use Rattle.control_definitions.specs.declared.ControlFaultKind.TheVariants.{NoProgram}
 use Rattle.control_definitions.specs.Compiled.{is_pend, program_cards, cards_to_pend, control_card_fault, first_control_fault, control_fault, fault_at, head_fault, live_fault, end_fault, misses_label}
-use Rattle.control_compiler.specs.Jobs.{live_cards, live_behind, behind_head, has_end, late_fault}
+use Rattle.control_compiler.specs.Jobs.{live_cards, live_after, after_head, has_end, late_fault}
 use Rattle.control_compiler.specs.Underway.{IsReached}
 use Rattle.control_compiler.proofs.Taking.{program_is_no_statement}
 
@@ -21,21 +22,21 @@ drop_at (y ∷ xs) (suc n) x e = drop_at xs n x e
 
 module _ (job : List (List ℕ)) (number : ℕ) where
   next_cards : (card : List ℕ) → slice_get job number ≡ Some card
-      → live_behind number job ≡ filter (λ (other : Card). not (is_skipped other.bytes)) ((record { number = number + 1; bytes = card }) ∷ numbered_from (number + 1 + 1) (drop (number + 1) job))
+      → live_after number job ≡ filter (λ (other : Card). not (is_skipped other.bytes)) ((record { number = number + 1; bytes = card }) ∷ numbered_from (number + 1 + 1) (drop (number + 1) job))
   next_cards card e =
       let next : number + 1 ≡ suc number = omega arith in
       ap (λ cards. live (numbered_from (number + 1) cards)) (drop_at job number card e ∙ ap (λ n. card ∷ drop n job) (sym next))
 
   -- a skipped card, and another
-  pub skipped_next : (card : List ℕ) → slice_get job number ≡ Some card → is_skipped card ≡ true → live_behind number job ≡ live_behind (number + 1) job
+  pub skipped_next : (card : List ℕ) → slice_get job number ≡ Some card → is_skipped card ≡ true → live_after number job ≡ live_after (number + 1) job
   skipped_next card e skipped = next_cards card e ∙ rw skipped refl
 
   pub live_next : (card : List ℕ) → slice_get job number ≡ Some card → is_skipped card ≡ false
-      → live_behind number job ≡ (record { number = number + 1; bytes = card }) ∷ live_behind (number + 1) job
+      → live_after number job ≡ (record { number = number + 1; bytes = card }) ∷ live_after (number + 1) job
   live_next card e kept = next_cards card e ∙ rw kept refl
 
-  pub none_behind : length job ≤ number → live_behind number job ≡ []
-  none_behind le = ap (λ cards. live (numbered_from (number + 1) cards)) (drop_of_length-le job le)
+  pub none_follows : length job ≤ number → live_after number job ≡ []
+  none_follows le = ap (λ cards. live (numbered_from (number + 1) cards)) (drop_of_length-le job le)
 
 -- ---- the program's cards
 
@@ -82,10 +83,6 @@ reached_nothing job before (card ∷ rest) reached e = cc e
 
 -- ---- the first card
 
-or_none : {F : Type 0} (fault : Option F) → option_or fault None ≡ fault
-or_none None = refl
-or_none (Some fault) = refl
-
 -- PROGRAM names no label.
 names_no_label : (whole : List Card) (head : Card) (rest : List Card) → verb_of head.bytes ≡ None → find (misses_label whole) rest ≡ find (misses_label whole) (head ∷ rest)
 names_no_label whole head rest none = rw none refl
@@ -96,15 +93,15 @@ unfolding control_fault
 reached_first job head rest e lawful =
     let whole : List Card = head ∷ program_cards rest in
     let ends : Bool = list_any (λ (card : Card). is_pend card.bytes) rest in
-    let behind : live_fault (length job) (head ∷ rest) ≡ option_or (first_control_fault (head ∷ []) (program_cards rest)) (end_fault (length job) ends (find (misses_label whole) (program_cards rest))) =
+    let after : live_fault (length job) (head ∷ rest) ≡ option_or (first_control_fault (head ∷ []) (program_cards rest)) (end_fault (length job) ends (find (misses_label whole) (program_cards rest))) =
     rw lawful (ap (option_or (first_control_fault (head ∷ []) (program_cards rest))) (or_none (end_fault (length job) ends (find (misses_label whole) (program_cards rest))))) in
     let missing : find (misses_label whole) (program_cards rest) ≡ find (misses_label whole) whole = names_no_label whole head (program_cards rest) (program_is_no_statement head.bytes lawful).1 in
     record {
       whole = ap cards_to_pend e;
-      ends = ap (λ cards. list_any (λ (card : Card). is_pend card.bytes) (behind_head cards)) e;
+      ends = ap (λ cards. list_any (λ (card : Card). is_pend card.bytes) (after_head cards)) e;
       fault = subst (λ (cards : List Card). live_fault (length job) cards ≡ option_or (first_control_fault (head ∷ []) (program_cards rest))
-          (end_fault (length job) (list_any (λ (card : Card). is_pend card.bytes) (behind_head cards)) (find (misses_label (cards_to_pend cards)) (cards_to_pend cards))))
-          (sym e) (behind ∙ ap (λ (card : Option Card). option_or (first_control_fault (head ∷ []) (program_cards rest)) (end_fault (length job) ends card)) missing);
+          (end_fault (length job) (list_any (λ (card : Card). is_pend card.bytes) (after_head cards)) (find (misses_label (cards_to_pend cards)) (cards_to_pend cards))))
+          (sym e) (after ∙ ap (λ (card : Option Card). option_or (first_control_fault (head ∷ []) (program_cards rest)) (end_fault (length job) ends card)) missing);
     }
 
 -- The first card isn't PROGRAM in its lawful form, or there is none.
@@ -115,3 +112,6 @@ head_is_faulty job head rest fault e some = ap (live_fault (length job)) e ∙ r
 pub all_skipped : (job : List (List ℕ)) → live_cards job ≡ [] → control_fault job ≡ Some (fault_at (length job) NoProgram)
 unfolding control_fault
 all_skipped job e = ap (live_fault (length job)) e
+
+pub same_place : (number : ℕ) → number ≡ number + 1 - 1
+same_place number = omega arith

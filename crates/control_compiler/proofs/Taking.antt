@@ -15,7 +15,7 @@ use Rattle.control_definitions.specs.declared.ControlFaultKind.TheVariants.{NoPr
 use Rattle.control_definitions.specs.Compiled.{head_fault, is_program, has_verb, is_program_argument, has_bad_label, has_label_twice, lacks_word, is_lawful_pend, is_pend, control_card_fault}
 use Rattle.control_verbs.specs.Shown.{statement_shown}
 use Rattle.control_compiler.specs.Cards.{statement_said}
-use Rattle.control_compiler.specs.Behind.{IsBehind}
+use Rattle.control_compiler.specs.After.{IsAfter}
 use Rattle.control_compiler.specs.declared.draft.Draft.{Draft}
 
 -- where no test finds a fault, each fails
@@ -79,11 +79,11 @@ abbrev pub said_on : ℕ → Verb (List ℕ) → Statement (List ℕ)
 said_on number verb = record { card = number; verb = verb }
 
 -- how many statements there are with one more card
-pub statements_more : (cards : List Card) (card : Card) (old new : Draft) → IsBehind cards old → IsBehind (cards ++ card ∷ []) new
+pub statements_more : (cards : List Card) (card : Card) (old new : Draft) → IsAfter cards old → IsAfter (cards ++ card ∷ []) new
     → length new.statements.items ≡ length old.statements.items + length (option_to_list (verb_of card.bytes))
-statements_more cards card old new behind more =
+statements_more cards card old new after more =
     let now : length (map statement_shown new.statements.items) ≡ length (filter_map statement_said (cards ++ card ∷ [])) = ap (λ (list : List (Statement (List ℕ))). length list) more.statements in
-    let then : length (map statement_shown old.statements.items) ≡ length (filter_map statement_said cards) = ap (λ (list : List (Statement (List ℕ))). length list) behind.statements in
+    let then : length (map statement_shown old.statements.items) ≡ length (filter_map statement_said cards) = ap (λ (list : List (Statement (List ℕ))). length list) after.statements in
     let split : length (filter_map statement_said (cards ++ card ∷ [])) ≡ length (filter_map statement_said cards) + length (filter_map statement_said (card ∷ [])) =
     ap (λ (list : List (Statement (List ℕ))). length list) (filter_map-append statement_said cards (card ∷ [])) ∙ length-append (filter_map statement_said cards) (filter_map statement_said (card ∷ [])) in
     let last : length (filter_map statement_said (card ∷ [])) ≡ length (option_to_list (verb_of card.bytes)) = by (verb_of card.bytes) in

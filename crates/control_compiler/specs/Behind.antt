@@ -9,7 +9,7 @@ use Rattle.control_compiler.specs.Cards.{HasPositions, statement_said}
 use Rattle.control_compiler.specs.declared.draft.Draft.{Draft}
 
 -- a draft holds the labels and the statements of these cards
-pub record IsBehind (cards : List Card) (draft : Draft) : Type 0 where
+pub record IsAfter (cards : List Card) (draft : Draft) : Type 0 where
   pub labels : HasPositions draft.labels cards
   pub statements : map statement_shown draft.statements.items ≡ filter_map statement_said cards
   pub lawful : All (λ statement. IsLawful (shown statement.verb)) draft.statements.items
@@ -19,4 +19,4 @@ pub record IsBehind (cards : List Card) (draft : Draft) : Type 0 where
 abbrev pub Takes : Result Bool CompileStop → List Card → Card → Draft → Type 0
 Takes (Err (Fault fault)) cards card draft = option_map (fault_at card.number) (control_card_fault cards card.bytes) ≡ Some fault
 Takes (Err NoMemory) cards card draft = Unit {0}
-Takes (Ok ends) cards card draft = (control_card_fault cards card.bytes ≡ None) × (ends ≡ is_pend card.bytes) × IsBehind (cards ++ card ∷ []) draft
+Takes (Ok ends) cards card draft = (control_card_fault cards card.bytes ≡ None) × (ends ≡ is_pend card.bytes) × IsAfter (cards ++ card ∷ []) draft

@@ -9,17 +9,17 @@ use Rattle.control_definitions.specs.Compiled.{is_pend, cards_to_pend, misses_la
 abbrev pub live_cards : List (List ℕ) → List Card
 live_cards job = live (numbered_cards job)
 
-abbrev pub live_behind : ℕ → List (List ℕ) → List Card
-live_behind number job = live (numbered_from (number + 1) (drop number job))
+abbrev pub live_after : ℕ → List (List ℕ) → List Card
+live_after number job = live (numbered_from (number + 1) (drop number job))
 
 -- the cards after the first
-abbrev pub behind_head : List Card → List Card
-behind_head [] = []
-behind_head (head ∷ cards) = cards
+abbrev pub after_head : List Card → List Card
+after_head [] = []
+after_head (head ∷ cards) = cards
 
 -- whether a card ends the program
 abbrev pub has_end : List (List ℕ) → Bool
-has_end job = list_any (λ card. is_pend card.bytes) (behind_head (live_cards job))
+has_end job = list_any (λ card. is_pend card.bytes) (after_head (live_cards job))
 
 -- the first card of the program whose statement names a label that none of its cards has
 abbrev pub first_missing : List (List ℕ) → Option Card

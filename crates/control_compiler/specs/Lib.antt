@@ -1,6 +1,6 @@
 pub mod Valid
 pub mod Cards
-pub mod Behind
+pub mod After
 pub mod Jobs
 pub mod Underway
 pub mod Outcomes

@@ -8,12 +8,12 @@ use Rattle.control_definitions.specs.declared.TheConstants.{MAX_STATEMENTS}
 use Rattle.control_compiler.specs.declared.stop.CompileStop.{CompileStop}
 use Rattle.control_compiler.specs.declared.stop.CompileStop.TheVariants.{Fault, NoMemory}
 use Rattle.control_compiler.specs.declared.reading.Reading.{Reading}
-use Rattle.control_compiler.specs.Behind.{IsBehind}
+use Rattle.control_compiler.specs.After.{IsAfter}
 use Rattle.control_compiler.specs.Jobs.{live_cards, has_end, late_fault}
 
 -- what is read of a job none of whose cards has a fault of its own: its statements and labels, and PEND's number, if it has one
 pub record IsRead (job : List (List ℕ)) (reading : Reading) : Type 0 where
-  pub behind : IsBehind (cards_to_pend (live_cards job)) reading.draft
+  pub after : IsAfter (cards_to_pend (live_cards job)) reading.draft
   pub ends : is_some reading.end ≡ has_end job
   pub fault : control_fault job ≡ late_fault job
   pub count : length (cards_to_pend (live_cards job)) ≡ length reading.draft.statements.items + (if is_some reading.end then 2 else 1)

@@ -8,8 +8,8 @@ use Rattle.control_definitions.specs.Compiled.{is_pend, program_cards, cards_to_
 use Rattle.control_compiler.specs.declared.stop.CompileStop.{CompileStop}
 use Rattle.control_compiler.specs.declared.stop.CompileStop.TheVariants.{Fault, NoMemory}
 use Rattle.control_compiler.specs.declared.draft.Draft.{Draft}
-use Rattle.control_compiler.specs.Behind.{IsBehind}
-use Rattle.control_compiler.specs.Jobs.{live_cards, live_behind, has_end, late_fault}
+use Rattle.control_compiler.specs.After.{IsAfter}
+use Rattle.control_compiler.specs.Jobs.{live_cards, live_after, has_end, late_fault}
 
 -- The first card that isn't skipped has this number.
 pub record IsFirst (job : List (List ℕ)) (number : ℕ) : Type 0 where
@@ -17,7 +17,7 @@ pub record IsFirst (job : List (List ℕ)) (number : ℕ) : Type 0 where
   pub positive : 1 ≤ number
   pub within : number ≤ length job
   pub there : slice_get job (number - 1) ≡ Some bytes
-  pub live : live_cards job ≡ (record { number = number; bytes = bytes }) ∷ live_behind number job
+  pub live : live_cards job ≡ (record { number = number; bytes = bytes }) ∷ live_after number job
 
 abbrev pub FindsFirst : Option ℕ → List (List ℕ) → Type 0
 FindsFirst None job = live_cards job ≡ []
@@ -26,9 +26,9 @@ FindsFirst (Some number) job = IsFirst job number
 -- A lawful PROGRAM is the first card that isn't skipped, and the draft holds its label.
 pub record StandsFirst (job : List (List ℕ)) (first : ℕ) (draft : Draft) : Type 0 where
   pub card : Card
-  pub live : live_cards job ≡ card ∷ live_behind first job
+  pub live : live_cards job ≡ card ∷ live_after first job
   pub lawful : head_fault card.bytes ≡ None
-  pub behind : IsBehind (card ∷ []) draft
+  pub after : IsAfter (card ∷ []) draft
   pub empty : draft.statements.items ≡ []
 
 -- the draft of PROGRAM's card, or the card's fault
@@ -46,14 +46,14 @@ pub record IsReached (job : List (List ℕ)) (before rest : List Card) : Type 0 
 -- The cards up to this number are read: those of the program are after, without a fault and without PEND.
 pub record IsUnderway (job : List (List ℕ)) (number : ℕ) (draft : Draft) : Type 0 where
   pub before : List Card
-  pub reached : IsReached job before (live_behind number job)
-  pub behind : IsBehind before draft
+  pub reached : IsReached job before (live_after number job)
+  pub after : IsAfter before draft
   pub count : length before ≡ length draft.statements.items + 1
   pub few : length draft.statements.items ≤ MAX_STATEMENTS
 
 -- The card of this number is PEND, and no card has a fault of its own.
 pub record IsThrough (job : List (List ℕ)) (number : ℕ) (draft : Draft) : Type 0 where
-  pub behind : IsBehind (cards_to_pend (live_cards job)) draft
+  pub after : IsAfter (cards_to_pend (live_cards job)) draft
   pub ends : has_end job ≡ true
   pub fault : control_fault job ≡ late_fault job
   pub count : length (cards_to_pend (live_cards job)) ≡ length draft.statements.items + 2

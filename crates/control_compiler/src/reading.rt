@@ -73,11 +73,11 @@ impl Reading {
             return Err(CompileStop::Fault(ControlFaultKind::NoProgram.on_card(cards.count())));
         };
         let draft = begin(alloc, cards, number)?;
-        Reading::behind(draft, cards, number)
+        Reading::after(draft, cards, number)
     }
 
     // Reads the cards after the one of this number, which is PROGRAM's.
-    fn behind(mut draft: Draft, cards: &Cards, first: u32) -> Result<Reading, CompileStop>
+    fn after(mut draft: Draft, cards: &Cards, first: u32) -> Result<Reading, CompileStop>
         requires { StandsFirst cards.now first draft }
         ensures { Reads result cards.now }
     {

@@ -69,9 +69,9 @@ end_on_one_card : job_fault "         PROGRAM\n         GOTO(HERE)\n" ≡ fault 
 unfolding job_fault fault control_fault control_card_fault verb_of label_of statement_of cards_of
 end_on_one_card = refl
 
-label_behind_end : program_fault "         GOTO(HERE)\n         PEND\nHERE     EXIT" ≡ fault 6 2
+label_after_end : program_fault "         GOTO(HERE)\n         PEND\nHERE     EXIT" ≡ fault 6 2
 unfolding program_fault fault control_fault control_card_fault verb_of label_of statement_of cards_of
-label_behind_end = refl
+label_after_end = refl
 
 other_fault_first : program_fault "         GOTO(HERE)\n         SOLVE" ≡ fault 3 3
 unfolding program_fault fault control_fault control_card_fault verb_of label_of statement_of cards_of
@@ -127,9 +127,9 @@ open_parenthesis : program_fault "         MOVE(XOBJ" ≡ fault 7 2
 unfolding program_fault fault control_fault control_card_fault verb_of label_of statement_of cards_of
 open_parenthesis = refl
 
-behind_arguments : program_fault "         EXIT\n         GOTO(A)B" ≡ fault 7 3
+after_arguments : program_fault "         EXIT\n         GOTO(A)B" ≡ fault 7 3
 unfolding program_fault fault control_fault control_card_fault verb_of label_of statement_of cards_of
-behind_arguments = refl
+after_arguments = refl
 
 no_arguments : program_fault "         EXIT()" ≡ fault 7 2
 unfolding program_fault fault control_fault control_card_fault verb_of label_of statement_of cards_of
@@ -237,6 +237,6 @@ statement_5001 : control_card_fault (replicate 5001 exit_card) exit_card.bytes �
 unfolding control_card_fault verb_of label_of statement_of exit_card
 statement_5001 = refl
 
-pend_behind_5000 : control_card_fault (replicate 5001 exit_card) (codes "         PEND") ≡ None
+pend_after_5000 : control_card_fault (replicate 5001 exit_card) (codes "         PEND") ≡ None
 unfolding control_card_fault verb_of label_of statement_of exit_card
-pend_behind_5000 = refl
+pend_after_5000 = refl

@@ -5,7 +5,7 @@
 use Rattle.std.specs.Prelude.{ℕ, ◌+◌, max, Bool, true, false, not, ◌&&◌, nat_lt, List, [], ◌∷◌, Option, Some, None, Result, codes, if◌then◌else◌, unwrap_or, option_map, option_and_then, filter_map, find, position, take, length, is_none, is_some, bytes_eq}
 use Rattle.std.specs.List.{position_or_len, list_any}
 use Rattle.std.specs.Option.{option_map_or}
-use Rattle.card_definitions.specs.Words.{named, is_empty, each_behind, ◌⟹◌, first_fault, unless}
+use Rattle.card_definitions.specs.Words.{named, is_empty, each_after, ◌⟹◌, first_fault, unless}
 use Rattle.card_definitions.specs.Cards.{Card, live, last_number, numbered_cards}
 use Rattle.control_definitions.specs.declared.TheConstants.{MAX_STATEMENTS}
 use Rattle.control_definitions.specs.declared.ControlFault.{ControlFault}
@@ -92,7 +92,7 @@ control_card_fault before card = first_fault (
 -- the fault of the first card that has one, where the cards before stand before them all
 abbrev pub first_control_fault : List Card → List Card → Option ControlFault
 first_control_fault before cards =
-    first_fault (each_behind (λ earlier card. option_map (fault_at card.number) (control_card_fault earlier card.bytes)) before cards)
+    first_fault (each_after (λ earlier card. option_map (fault_at card.number) (control_card_fault earlier card.bytes)) before cards)
 
 -- ---- the program
 

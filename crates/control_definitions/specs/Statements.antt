@@ -69,8 +69,8 @@ is_unclosed statement = count_by is_quote statement % 2 == 1
 abbrev pub verb_word : List ℕ → List ℕ
 verb_word statement = before_first is_open_parenthesis statement
 
-abbrev pub behind_parenthesis : List ℕ → List ℕ
-behind_parenthesis statement = after_first is_open_parenthesis statement
+abbrev pub after_parenthesis : List ℕ → List ℕ
+after_parenthesis statement = after_first is_open_parenthesis statement
 
 -- A statement has no parentheses; or it has arguments between a parenthesis and one at its end; or neither.
 pub data Arguments : Type 0 where
@@ -88,11 +88,11 @@ between_parentheses (Some text) = With (split_outside is_comma text)
 
 abbrev pub arguments_of : List ℕ → Arguments
 arguments_of statement =
-    if list_any is_open_parenthesis statement then between_parentheses (without_close (behind_parenthesis statement)) else Without
+    if list_any is_open_parenthesis statement then between_parentheses (without_close (after_parenthesis statement)) else Without
 
 -- what stands after the parenthesis up to the first comma outside quotes or, where there is none, up to the first closing
 -- parenthesis outside quotes, or else to the statement's end
 abbrev pub first_argument : List ℕ → List ℕ
 first_argument statement =
-    let text = behind_parenthesis statement in
+    let text = after_parenthesis statement in
     before_outside (if has_outside is_comma text then is_comma else is_close_parenthesis) text

@@ -10,7 +10,7 @@ use Rattle.lp_definitions.specs.declared.Sense.{Sense}
 use Rattle.control_definitions.specs.Statements.{split_outside, is_comma, marked, outside}
 use Rattle.control_definitions.specs.Arguments.{SetupArgument, BoundSet, RangeSet, Direction, bound_chosen, range_chosen, sense_chosen, choices, led_by, sense_choice, set_choice, is_setup, options_of, setup_arguments}
 use Rattle.control_verbs.specs.declared.options.Chosen.{Chosen}
-use Rattle.control_verbs.specs.Chosen.{nothing_chosen, first_choice, behind_first, added, all_added, chosen_options}
+use Rattle.control_verbs.specs.Chosen.{nothing_chosen, first_choice, after_first_word, added, all_added, chosen_options}
 
 -- ---- what is chosen, and how often
 
@@ -104,7 +104,7 @@ setup_is text =
 -- ---- the first choice
 
 -- the choices of arguments are the first one and those after it
-choices_one_by_one : (word : List ℕ) (parts : List (List ℕ)) → choices (word ∷ parts) ≡ led_by (first_choice (word ∷ parts)) (choices (behind_first (word ∷ parts)))
+choices_one_by_one : (word : List ℕ) (parts : List (List ℕ)) → choices (word ∷ parts) ≡ led_by (first_choice (word ∷ parts)) (choices (after_first_word (word ∷ parts)))
 choices_one_by_one word [] = by (sense_choice word)
   where
     by : (sense : Option SetupArgument) → led_by sense (Some []) ≡ led_by sense (choices (if is_some sense then [] else []))
@@ -118,13 +118,13 @@ choices_one_by_one word (next ∷ parts) = by (sense_choice word)
     by (Some choice) = refl
     by None = refl
 
-pub one_by_one : (text : List ℕ) → choices (split_outside is_comma text) ≡ led_by (first_choice (split_outside is_comma text)) (choices (behind_first (split_outside is_comma text)))
+pub one_by_one : (text : List ℕ) → choices (split_outside is_comma text) ≡ led_by (first_choice (split_outside is_comma text)) (choices (after_first_word (split_outside is_comma text)))
 one_by_one text =
     let parts = slice_split (outside is_comma) (marked text) in
     let some : 0 < length parts = omega (arith, length-slice_split (outside is_comma) (marked text)) in
     by (split_outside is_comma text) (simp length-map some)
   where
-    by : (parts : List (List ℕ)) → 0 < length parts → choices parts ≡ led_by (first_choice parts) (choices (behind_first parts))
+    by : (parts : List (List ℕ)) → 0 < length parts → choices parts ≡ led_by (first_choice parts) (choices (after_first_word parts))
     by [] some = absurd (omega arith)
     by (word ∷ parts) some = choices_one_by_one word parts
 
@@ -132,8 +132,8 @@ one_by_one text =
 
 module _ (so_far : Chosen) (text : List ℕ) where
   pub one_more : (more : Chosen) (choice : SetupArgument) → first_choice (split_outside is_comma text) ≡ Some choice → added so_far choice ≡ Some more
-      → option_and_then (all_added so_far) (choices (split_outside is_comma text)) ≡ option_and_then (all_added more) (choices (behind_first (split_outside is_comma text)))
-  one_more more choice first e = ap (option_and_then (all_added so_far)) (one_by_one text) ∙ rw first (by (choices (behind_first (split_outside is_comma text))))
+      → option_and_then (all_added so_far) (choices (split_outside is_comma text)) ≡ option_and_then (all_added more) (choices (after_first_word (split_outside is_comma text)))
+  one_more more choice first e = ap (option_and_then (all_added so_far)) (one_by_one text) ∙ rw first (by (choices (after_first_word (split_outside is_comma text))))
     where
       by : (others : Option (List SetupArgument)) → option_and_then (all_added so_far) (led_by (Some choice) others) ≡ option_and_then (all_added more) others
       by None = refl
@@ -141,7 +141,7 @@ module _ (so_far : Chosen) (text : List ℕ) where
 
   pub one_too_many : (choice : SetupArgument) → first_choice (split_outside is_comma text) ≡ Some choice → added so_far choice ≡ None
       → option_and_then (all_added so_far) (choices (split_outside is_comma text)) ≡ None
-  one_too_many choice first e = ap (option_and_then (all_added so_far)) (one_by_one text) ∙ rw first (by (choices (behind_first (split_outside is_comma text))))
+  one_too_many choice first e = ap (option_and_then (all_added so_far)) (one_by_one text) ∙ rw first (by (choices (after_first_word (split_outside is_comma text))))
     where
       by : (others : Option (List SetupArgument)) → option_and_then (all_added so_far) (led_by (Some choice) others) ≡ None
       by None = refl

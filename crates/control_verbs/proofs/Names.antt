@@ -10,15 +10,7 @@ use Rattle.card_definitions.specs.Cards.{is_blank, is_printable}
 use Rattle.card_definitions.proofs.Trailing.{without_trailing-cons}
 use Rattle.problem_definitions.specs.Valid.{IsName}
 use Rattle.control_definitions.specs.Arguments.{if_passes, is_name, is_label, is_label_byte}
-
-all_three : (a b c : Bool) → (a && b && c) ≡ true → (a ≡ true) × (b ≡ true) × (c ≡ true)
-all_three true true true e = (refl, refl, refl)
-all_three true true false e = cc e
-all_three true false c e = cc e
-all_three false b c e = cc e
-
-at_most_eight : (n : ℕ) → leb n 8 ≡ true → n ≤ 8
-at_most_eight n e = grind (arith, nat_tests)
+use Rattle.control_definitions.proofs.Names.{all_three, at_most_eight, passes_name}
 
 eight_at_most : (n : ℕ) → n ≤ 8 → leb n 8 ≡ true
 eight_at_most n e = grind (arith, nat_tests)
@@ -26,11 +18,6 @@ eight_at_most n e = grind (arith, nat_tests)
 -- the test of names finds names
 name_passes : (text : List ℕ) → IsName text → is_name text ≡ true
 name_passes text h = rw (eight_at_most (length text) h.short, h.printable) ((bytes_eq-Decides (without_trailing is_blank text) text).1 h.trimmed)
-
-passes_name : (text : List ℕ) → is_name text ≡ true → IsName text
-passes_name text e =
-    let each = all_three (leb (length text) 8) (list_all is_printable text) (bytes_eq (without_trailing is_blank text) text) e in
-    record { short = at_most_eight (length text) each.0; printable = each.1; trimmed = (bytes_eq-Decides (without_trailing is_blank text) text).0 each.2 }
 
 -- A name that is made of a text where that is one is the text where it passes.
 pub named_text : (r : Option (List ℕ)) (text : List ℕ) → (IsSome r ↔ IsName text) → IfSome r (λ name. name ≡ text) → r ≡ if_passes is_name text

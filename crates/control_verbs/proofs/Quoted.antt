@@ -4,7 +4,7 @@ use Rattle.std.specs.Prelude.{bytes_eq, option_and_then}
 use Rattle.std.specs.List.{list_any}
 use Rattle.control_definitions.specs.Statements.{is_quote}
 use Rattle.control_definitions.specs.Arguments.{quotation}
-use Rattle.control_verbs.specs.Pieces.{behind_quote, before_quote}
+use Rattle.control_verbs.specs.Pieces.{after_quote, before_quote}
 
 same_byte : (byte : ℕ) → eqb byte byte ≡ true
 same_byte byte = eq-eqb byte byte refl
@@ -20,7 +20,7 @@ abbrev without_quotes : List ℕ → Option (List ℕ)
 without_quotes inner = if list_any is_quote inner then None else Some inner
 
 -- A quotation is what stands after a quote and before a quote, where it has none.
-pub quotation_is : (argument : List ℕ) → quotation argument ≡ option_and_then without_quotes (option_and_then before_quote (behind_quote argument))
+pub quotation_is : (argument : List ℕ) → quotation argument ≡ option_and_then without_quotes (option_and_then before_quote (after_quote argument))
 quotation_is [] = refl
 quotation_is (byte ∷ text) = by (is_quote byte)
   where

@@ -26,9 +26,9 @@ first_choice (word ∷ []) = arguments.sense_choice word
 first_choice (word ∷ next ∷ parts) = option_or (arguments.sense_choice word) (arguments.set_choice word next)
 
 -- the arguments after it
-abbrev pub behind_first : List (List ℕ) → List (List ℕ)
-behind_first [] = []
-behind_first (word ∷ parts) = if is_some (arguments.sense_choice word) then parts else drop 1 parts
+abbrev pub after_first_word : List (List ℕ) → List (List ℕ)
+after_first_word [] = []
+after_first_word (word ∷ parts) = if is_some (arguments.sense_choice word) then parts else drop 1 parts
 
 abbrev pub nothing_chosen : Chosen
 nothing_chosen = record { bound = None; range = None; sense = None }

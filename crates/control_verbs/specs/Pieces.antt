@@ -12,9 +12,9 @@ arguments_shown Malformed = NoForm
 arguments_shown (With text) = TheParts (split_outside is_comma text.now)
 
 -- the arguments in a text, where there is one
-abbrev pub parts_behind : Option (Bor (List ℕ)) → List (List ℕ)
-parts_behind None = []
-parts_behind (Some rest) = split_outside is_comma rest.now
+abbrev pub parts_after : Option (Bor (List ℕ)) → List (List ℕ)
+parts_after None = []
+parts_after (Some rest) = split_outside is_comma rest.now
 
 -- the part of a list that has one
 abbrev pub only_part : List (List ℕ) → Option (List ℕ)
@@ -32,9 +32,9 @@ pair_shown None = None
 pair_shown (Some pair) = Some (pair.0.now, pair.1.now)
 
 -- a text without the quote at its front, and without the one at its end
-abbrev pub behind_quote : List ℕ → Option (List ℕ)
-behind_quote [] = None
-behind_quote (byte ∷ text) = if is_quote byte then Some text else None
+abbrev pub after_quote : List ℕ → Option (List ℕ)
+after_quote [] = None
+after_quote (byte ∷ text) = if is_quote byte then Some text else None
 
 abbrev pub before_quote : List ℕ → Option (List ℕ)
 before_quote text = if bytes_eq (drop (length text - 1) text) (39 ∷ []) then Some (take (length text - 1) text) else None

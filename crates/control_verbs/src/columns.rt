@@ -32,8 +32,8 @@ pub fn label(card: &[u8]) -> &[u8]
 pub fn statement(card: &[u8]) -> &[u8]
     ensures { result.now ≡ statement_of card.now }
 {
-    let (_, behind) = read_columns(card).split_at(label(card).len());
-    before_outside(after_blanks(behind), b' ')
+    let (_, after) = read_columns(card).split_at(label(card).len());
+    before_outside(after_blanks(after), b' ')
 }
 
 /// Whether a quote of a statement isn't closed.

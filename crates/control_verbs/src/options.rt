@@ -4,9 +4,9 @@ ghost use Rattle.control_definitions.specs.Statements.{split_outside, is_comma};
 ghost use Rattle.control_definitions.specs.Arguments.{set_words, sense_choice, set_choice, quotation, choices, setup_arguments};
 ghost use Rattle.control_definitions.specs.Arguments.{Direction as TheDirection};
 ghost use Rattle.card_definitions.specs.Words.{named};
-ghost use Rattle.control_verbs.specs.Pieces.{parts_behind};
+ghost use Rattle.control_verbs.specs.Pieces.{parts_after};
 ghost use Rattle.control_verbs.specs.Shown.{options_shown};
-ghost use Rattle.control_verbs.specs.Chosen.{set_shown, choice_shown, first_choice, behind_first, added, all_added, nothing_chosen, chosen_options};
+ghost use Rattle.control_verbs.specs.Chosen.{set_shown, choice_shown, first_choice, after_first_word, added, all_added, nothing_chosen, chosen_options};
 
 use crate::given::name_in;
 use crate::parts::{quotation, split_argument};
@@ -73,24 +73,24 @@ fn set_in(word: &[u8], argument: &[u8]) -> Option<SetupArgument>
 fn choice_in(text: &[u8]) -> Option<SetupArgument>
     ensures { option_map choice_shown result ≡ first_choice (split_outside is_comma text.now) }
 {
-    let (word, behind) = split_argument(text);
+    let (word, after) = split_argument(text);
     if let Some(sense) = sense_of(word) {
         return Some(SetupArgument::Direction(sense));
     }
-    let (argument, _) = split_argument(behind?);
+    let (argument, _) = split_argument(after?);
     set_in(word, argument)
 }
 
 // The text after the first choice, if there is any.
-fn behind_choice(text: &[u8]) -> Option<&[u8]>
-    ensures parts { parts_behind result ≡ behind_first (split_outside is_comma text.now) }
+fn after_choice(text: &[u8]) -> Option<&[u8]>
+    ensures parts { parts_after result ≡ after_first_word (split_outside is_comma text.now) }
     ensures shorter { IfSome result (λ rest. length rest.now < length text.now) }
 {
-    let (word, behind) = split_argument(text);
+    let (word, after) = split_argument(text);
     if sense_of(word).is_some() {
-        return behind;
+        return after;
     }
-    let (_, rest) = split_argument(behind?);
+    let (_, rest) = split_argument(after?);
     rest
 }
 
@@ -131,7 +131,7 @@ fn chosen_in(text: &[u8]) -> Option<Chosen>
     let mut rest = Some(text);
     while let Some(choices) = rest {
         chosen = chosen.with(choice_in(choices)?)?;
-        rest = behind_choice(choices);
+        rest = after_choice(choices);
     }
     Some(chosen)
 }

@@ -4,14 +4,14 @@ ghost use Rattle.std.specs.Option.{option_copied};
 ghost use Rattle.std.specs.List.{list_any};
 ghost use Rattle.control_definitions.specs.Statements.{split_outside, is_comma, is_quote};
 ghost use Rattle.control_definitions.specs.Arguments.{quotation};
-ghost use Rattle.control_verbs.specs.Pieces.{parts_behind, only_part, two_parts, pair_shown, behind_quote, before_quote};
+ghost use Rattle.control_verbs.specs.Pieces.{parts_after, only_part, two_parts, pair_shown, after_quote, before_quote};
 
 use crate::quotes::place_outside;
 
 /// The first argument of a text, and the text of those after it, if there are any.
 #[tactic(auto, using(crate::proofs::Outside::only_one_part))]
 pub fn split_argument(text: &[u8]) -> (&[u8], Option<&[u8]>)
-    ensures parts { split_outside is_comma text.now ≡ result.0.now ∷ parts_behind result.1 }
+    ensures parts { split_outside is_comma text.now ≡ result.0.now ∷ parts_after result.1 }
     ensures shorter { IfSome result.1 (λ rest. length rest.now < length text.now) }
 {
     let comma = place_outside(text, b',');
@@ -51,8 +51,8 @@ fn has_quote(text: &[u8]) -> bool
 }
 
 // A text without the quote at its front.
-fn behind_quote(text: &[u8]) -> Option<&[u8]>
-    ensures { option_copied result ≡ behind_quote text.now }
+fn after_quote(text: &[u8]) -> Option<&[u8]>
+    ensures { option_copied result ≡ after_quote text.now }
 {
     match text.split_first() {
         Some((b'\'', rest)) => Some(rest),
@@ -75,6 +75,6 @@ fn before_quote(text: &[u8]) -> Option<&[u8]>
 pub fn quotation(argument: &[u8]) -> Option<&[u8]>
     ensures { option_copied result ≡ quotation argument.now }
 {
-    let inner = before_quote(behind_quote(argument)?)?;
+    let inner = before_quote(after_quote(argument)?)?;
     if has_quote(inner) { None } else { Some(inner) }
 }

@@ -2,7 +2,7 @@
 ghost use Rattle.std.specs.Prelude.{◌≡◌, ◌≤◌, length};
 ghost use Rattle.std.specs.List.{list_any};
 ghost use Rattle.std.specs.Option.{option_copied};
-ghost use Rattle.control_definitions.specs.Statements.{verb_word, behind_parenthesis, first_argument, arguments_of, without_close, is_open_parenthesis};
+ghost use Rattle.control_definitions.specs.Statements.{verb_word, after_parenthesis, first_argument, arguments_of, without_close, is_open_parenthesis};
 ghost use Rattle.control_verbs.specs.Pieces.{arguments_shown};
 
 use crate::places::parenthesis_place;
@@ -27,8 +27,8 @@ pub fn verb_word(statement: &[u8]) -> &[u8]
 }
 
 // What stands after the first parenthesis.
-fn behind_parenthesis(statement: &[u8]) -> &[u8]
-    ensures { result.now ≡ behind_parenthesis statement.now }
+fn after_parenthesis(statement: &[u8]) -> &[u8]
+    ensures { result.now ≡ after_parenthesis statement.now }
 {
     statement
         .get(parenthesis_place(statement) + 1..)
@@ -59,7 +59,7 @@ pub fn arguments_of(statement: &[u8]) -> Arguments<'_>
     if !has_parenthesis(statement) {
         return Arguments::Without;
     }
-    match without_close(behind_parenthesis(statement)) {
+    match without_close(after_parenthesis(statement)) {
         Some(text) => Arguments::With(text),
         None => Arguments::Malformed,
     }
@@ -70,7 +70,7 @@ pub fn arguments_of(statement: &[u8]) -> Arguments<'_>
 pub fn first_argument(statement: &[u8]) -> &[u8]
     ensures { result.now ≡ first_argument statement.now }
 {
-    let text = behind_parenthesis(statement);
+    let text = after_parenthesis(statement);
     let comma = place_outside(text, b',');
     if comma < text.len() {
         &text[..comma]

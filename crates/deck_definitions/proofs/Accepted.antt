@@ -7,7 +7,7 @@ use Rattle.std.proofs.lemmas.List.{append_assoc, append-nil, map-append}
 use Rattle.card_definitions.specs.Words.{is_empty, ◌⟹◌}
 use Rattle.card_definitions.specs.Fields.{Reading}
 use Rattle.card_definitions.specs.Numbers.{number_fault}
-use Rattle.card_definitions.proofs.Behind.{no_first, no_second, passes, test_fails}
+use Rattle.card_definitions.proofs.FirstFaults.{no_first, no_second, passes, test_fails}
 use Rattle.problem_definitions.specs.declared.TheConstants.{MAX_ENTRIES}
 use Rattle.problem_definitions.specs.Names.{Name, same, has_name, marker}
 use Rattle.problem_definitions.specs.Problem.{Entry, Problem, has_row, has_free_row, has_entry}

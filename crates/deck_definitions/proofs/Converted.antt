@@ -6,7 +6,7 @@ use Rattle.std.proofs.lemmas.List.{append_assoc, append-nil}
 use Rattle.card_definitions.specs.Words.{first_fault, unless, ◌⟹◌}
 use Rattle.card_definitions.specs.Cards.{Card, is_printable, is_skipped, live, last_number}
 use Rattle.card_definitions.specs.Fields.{reading_of}
-use Rattle.card_definitions.proofs.Behind.{no_first, no_second, passes}
+use Rattle.card_definitions.proofs.FirstFaults.{no_first, no_second, passes}
 use Rattle.problem_definitions.specs.Names.{Name}
 use Rattle.problem_definitions.specs.Problem.{Problem}
 use Rattle.problem_definitions.specs.Numbering.{numbered}
@@ -17,7 +17,7 @@ use Rattle.deck_definitions.specs.declared.DeckFaultKind.TheVariants.{NoEndata}
 use Rattle.deck_definitions.specs.declared.Section.{Section}
 use Rattle.deck_definitions.specs.declared.Section.TheVariants.{Header, Rows, Columns, Rhs, Ranges, Bounds, Endata}
 use Rattle.deck_definitions.specs.Sections.{is_section_card, section_after, is_section_after}
-use Rattle.deck_definitions.specs.DataCards.{Style, style_of, form_on, read_behind}
+use Rattle.deck_definitions.specs.DataCards.{Style, style_of, form_on, read_after}
 use Rattle.deck_definitions.specs.Described.{described}
 use Rattle.deck_definitions.specs.Conversion.{section_card_fault, form_fault, section_fault, data_card_fault, card_fault, first_faulty, deck_fault, deck_name, conversion}
 use Rattle.deck_definitions.specs.Sections.{may_follow}
@@ -67,7 +67,7 @@ accepted-card before card printable lawful fine = by (is_section_card card.bytes
         let pass = data-passes (described [] before) (style_of before) (section_after before) card.bytes h in
         let form = form_on (style_of before) pass.place false card.bytes in
         let read = reading_of form card.bytes in
-        let read_so : read_behind before card ≡ read = ap (λ section. reading_of (form_on (style_of before) (unwrap_or section Header) false card.bytes) card.bytes) pass.stands in
+        let read_so : read_after before card ≡ read = ap (λ section. reading_of (form_on (style_of before) (unwrap_or section Header) false card.bytes) card.bytes) pass.stands in
         subst IsLawful (sym (described-data [] before card pass.place e pass.stands ∙ ap (λ reading. with_card pass.place reading (described [] before)) read_so))
         (card-step (described [] before) lawful read (reading-lawful form card.bytes printable pass.formed) pass.place pass.fine)
 

@@ -89,9 +89,9 @@ unfolding deck_fault card_fault described reading_of number_fault
 sixth_field = refl
 
 -- columns 62 to 80 are not read
-behind_the_fields : after_cost (" L  R1                                                       X                 Y" ∷ "COLUMNS" ∷ "ENDATA" ∷ []) ≡ None
+after_the_fields : after_cost (" L  R1                                                       X                 Y" ∷ "COLUMNS" ∷ "ENDATA" ∷ []) ≡ None
 unfolding deck_fault card_fault described reading_of number_fault
-behind_the_fields = refl
+after_the_fields = refl
 
 -- a gap that is not blank comes before the row type, and the row type before what follows
 gap_first : after_cost (" Q  R1      X" ∷ "ENDATA" ∷ []) ≡ found 11 ExtraField
@@ -185,9 +185,9 @@ marker_card : after_cost ("COLUMNS" ∷ "    M1        'MARKER'" ∷ "ENDATA" �
 unfolding deck_fault card_fault described reading_of number_fault
 marker_card = refl
 
-marker_behind : after_cost ("COLUMNS" ∷ "    X         COST      1              'MARKER'  'INTORG'" ∷ "ENDATA" ∷ []) ≡ found 12 Marker
+marker_after : after_cost ("COLUMNS" ∷ "    X         COST      1              'MARKER'  'INTORG'" ∷ "ENDATA" ∷ []) ≡ found 12 Marker
 unfolding deck_fault card_fault described reading_of number_fault
-marker_behind = refl
+marker_after = refl
 
 filled_kind : after_cost ("COLUMNS" ∷ " N  X         COST      1" ∷ "ENDATA" ∷ []) ≡ found 12 ExtraField
 unfolding deck_fault card_fault described reading_of number_fault
@@ -202,9 +202,9 @@ two_points : after_cost ("COLUMNS" ∷ "    X         COST      1.2.3" ∷ "ENDA
 unfolding deck_fault card_fault described reading_of number_fault
 two_points = refl
 
-two_points_behind : after_cost (" L  LIM" ∷ "COLUMNS" ∷ "    X         COST      1              LIM        1.2.3" ∷ "ENDATA" ∷ []) ≡ found 13 (Number (BadCharacter 5) 54)
+two_points_after : after_cost (" L  LIM" ∷ "COLUMNS" ∷ "    X         COST      1              LIM        1.2.3" ∷ "ENDATA" ∷ []) ≡ found 13 (Number (BadCharacter 5) 54)
 unfolding deck_fault card_fault described reading_of number_fault
-two_points_behind = refl
+two_points_after = refl
 
 no_digit : after_cost ("COLUMNS" ∷ "    X         COST      ." ∷ "ENDATA" ∷ []) ≡ found 12 (Number NoDigit 0)
 unfolding deck_fault card_fault described reading_of number_fault

@@ -7,7 +7,7 @@ use Rattle.std.proofs.lemmas.List.Elements.{filter_map-append}
 use Rattle.std.proofs.lemmas.List.{append-nil}
 use Rattle.card_definitions.specs.Cards.{Card}
 use Rattle.card_definitions.specs.Fields.{Reading}
-use Rattle.card_definitions.proofs.Behind.{first_fault_behind, gathered-push, cons_option-nil}
+use Rattle.card_definitions.proofs.FirstFaults.{first_fault_after, gathered-push, cons_option-nil}
 use Rattle.problem_definitions.specs.Names.{Name}
 use Rattle.problem_definitions.specs.Problem.{Row, Problem, Group, Entry, Bound}
 use Rattle.problem_definitions.specs.Groups.{grouped, in_set}
@@ -16,7 +16,7 @@ use Rattle.deck_definitions.specs.declared.DeckFaultKind.{DeckFaultKind}
 use Rattle.deck_definitions.specs.declared.Section.{Section}
 use Rattle.deck_definitions.specs.declared.Section.TheVariants.{Header, Rows, Columns, Rhs, Ranges, Bounds, Endata}
 use Rattle.deck_definitions.specs.Sections.{is_section, section_begun, is_section_card, section_after}
-use Rattle.deck_definitions.specs.DataCards.{read_behind, given_by, given, row_of, entry_group, entries_of, bound_group}
+use Rattle.deck_definitions.specs.DataCards.{read_after, given_by, given, row_of, entry_group, entries_of, bound_group}
 use Rattle.deck_definitions.specs.Described.{described}
 use Rattle.deck_definitions.specs.Conversion.{first_faulty}
 
@@ -58,7 +58,7 @@ given_in section give place card = cond (is_section section place) (give card) N
 module _ {X : Type 0} (section : Section) (give : Reading → Option X) (cards : List Card) (card : Card) where
   -- a data card gives what it holds to its section
   pub given-data : (place : Section) → is_section_card card.bytes ≡ false → section_after cards ≡ Some place
-      → given section give (cards ++ card ∷ []) ≡ given section give cards ++ option_to_list (given_in section give place (read_behind cards card))
+      → given section give (cards ++ card ∷ []) ≡ given section give cards ++ option_to_list (given_in section give place (read_after cards card))
   given-data place e s = given-push section give cards card ∙ rw (e, s) refl
 
   -- a section card gives nothing
@@ -86,11 +86,11 @@ module _ (name : Name) (card : Reading) (rows : List (Row Name)) (columns rhs ra
 
 -- One more data card changes the problem by one list edit; a section card changes nothing.
 pub described-data : (name : Name) (cards : List Card) (card : Card) (place : Section) → is_section_card card.bytes ≡ false → section_after cards ≡ Some place
-    → described name (cards ++ card ∷ []) ≡ with_card place (read_behind cards card) (described name cards)
+    → described name (cards ++ card ∷ []) ≡ with_card place (read_after cards card) (described name cards)
 unfolding described
 described-data name cards card place e s =
     rw (given-data Rows row_of cards card place e s, given-data Columns entry_group cards card place e s, given-data Rhs entry_group cards card place e s, given-data Ranges entry_group cards card place e s, given-data Bounds bound_group cards card place e s)
-    (built-step name (read_behind cards card) (given Rows row_of cards) (given Columns entry_group cards) (given Rhs entry_group cards) (given Ranges entry_group cards) (given Bounds bound_group cards) place)
+    (built-step name (read_after cards card) (given Rows row_of cards) (given Columns entry_group cards) (given Rhs entry_group cards) (given Ranges entry_group cards) (given Bounds bound_group cards) place)
 
 pub described-section : (name : Name) (cards : List Card) (card : Card) → is_section_card card.bytes ≡ true → described name (cards ++ card ∷ []) ≡ described name cards
 unfolding described
@@ -100,4 +100,4 @@ described-section name cards card e =
 -- the first faulty card of two parts is that of the first, or else that of the second after it
 pub first_faulty-append : (test : List Card → List ℕ → Option DeckFaultKind) (before cards after : List Card)
     → first_faulty test before (cards ++ after) ≡ option_or (first_faulty test before cards) (first_faulty test (before ++ cards) after)
-first_faulty-append test before cards after = first_fault_behind (λ before card. option_map (λ kind. record { card = card.number; kind = kind }) (test before card.bytes)) before cards after
+first_faulty-append test before cards after = first_fault_after (λ before card. option_map (λ kind. record { card = card.number; kind = kind }) (test before card.bytes)) before cards after

@@ -8,7 +8,7 @@ use Rattle.std.proofs.lemmas.Bool.{not-false}
 use Rattle.card_definitions.specs.Words.{is_empty, named, ◌⟹◌}
 use Rattle.card_definitions.specs.Fields.{Reading}
 use Rattle.card_definitions.specs.Numbers.{decimal_of}
-use Rattle.card_definitions.proofs.Behind.{passes, test_fails}
+use Rattle.card_definitions.proofs.FirstFaults.{passes, test_fails}
 use Rattle.problem_definitions.specs.declared.TheConstants.{MAX_ROWS, MAX_COLUMNS, MAX_ENTRIES}
 use Rattle.problem_definitions.specs.declared.RowKind.{RowKind}
 use Rattle.problem_definitions.specs.declared.BoundKind.{BoundKind}

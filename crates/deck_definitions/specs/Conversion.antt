@@ -1,6 +1,6 @@
 -- The first fault of a data deck, and the problem of a deck without one.
 use Rattle.std.specs.Prelude.{ℕ, Bool, false, not, List, [], ◌∷◌, Option, Some, None, Result, if◌then◌else◌, unwrap_or, option_map}
-use Rattle.card_definitions.specs.Words.{named, each_behind, ◌⟹◌, first_fault, unless}
+use Rattle.card_definitions.specs.Words.{named, each_after, ◌⟹◌, first_fault, unless}
 use Rattle.card_definitions.specs.Cards.{Card, live, last_number}
 use Rattle.card_definitions.specs.Fields.{Form, Fixed, Reading, reading_of, gaps_are_blank}
 use Rattle.problem_definitions.specs.Names.{Name}
@@ -60,7 +60,7 @@ card_fault before card =
 -- the first fault that a test finds in a list of cards, after the cards before it
 abbrev pub first_faulty : (List Card → List ℕ → Option DeckFaultKind) → List Card → List Card → Option DeckFault
 first_faulty test before cards =
-    first_fault (each_behind (λ before card. option_map (λ kind. record { card = card.number; kind = kind }) (test before card.bytes)) before cards)
+    first_fault (each_after (λ before card. option_map (λ kind. record { card = card.number; kind = kind }) (test before card.bytes)) before cards)
 
 -- The fault of a deck, by a test of a card after others: that of the first faulty card, or else that ENDATA is
 -- missing, on the deck's last card. Skipped cards are left out.

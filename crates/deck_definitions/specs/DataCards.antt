@@ -32,8 +32,8 @@ abbrev pub form_of : List Card → List ℕ → Form
 form_of before card = form_on (style_of before) (unwrap_or (section_after before) Header) false card
 
 -- what is read of a data card after others of its deck
-abbrev pub read_behind : List Card → Card → Reading
-read_behind before card = reading_of (form_of before card.bytes) card.bytes
+abbrev pub read_after : List Card → Card → Reading
+read_after before card = reading_of (form_of before card.bytes) card.bytes
 
 -- whether a card, after others, is a data card of this section
 abbrev pub is_data_card_of : Section → List Card → Card → Bool
@@ -41,7 +41,7 @@ is_data_card_of section before card = not (is_section_card card.bytes) && is_sec
 
 -- what a card, after others, gives as a data card of this section
 abbrev pub given_by : {X : Type 0} → Section → (Reading → Option X) → List Card → Card → Option X
-given_by section give before card = if is_data_card_of section before card then give (read_behind before card) else None
+given_by section give before card = if is_data_card_of section before card then give (read_after before card) else None
 
 -- what the data cards of one section give, in order
 abbrev pub given : {X : Type 0} → Section → (Reading → Option X) → List Card → List X

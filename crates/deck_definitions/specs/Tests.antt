@@ -4,7 +4,7 @@ use Rattle.std.specs.Prelude.{take, ℕ, ◌+◌, ◌-◌, Bool, not, ◌||◌, 
 use Rattle.std.specs.List.{list_any}
 use Rattle.card_definitions.specs.declared.NumberFault.{NumberFault}
 use Rattle.card_definitions.specs.declared.NumberFault.TheVariants.{Empty, BadCharacter, NoDigit, ExponentRange}
-use Rattle.card_definitions.specs.Words.{named, is_empty, each_behind, ◌⟹◌, first_fault}
+use Rattle.card_definitions.specs.Words.{named, is_empty, each_after, ◌⟹◌, first_fault}
 use Rattle.card_definitions.specs.Fields.{Reading}
 use Rattle.card_definitions.specs.Numbers.{number_fault}
 use Rattle.problem_definitions.specs.declared.TheConstants.{MAX_ROWS, MAX_COLUMNS, MAX_ENTRIES}
@@ -75,7 +75,7 @@ pair_fault seen section taken count pair = first_fault (
 -- the tests of a card's pairs, each after those before it
 abbrev pub pairs_fault : Problem Name → Section → List (Entry Name) → ℕ → List Pair → Option DeckFaultKind
 pairs_fault seen section taken count pairs =
-    first_fault (each_behind (λ before pair. pair_fault seen section (taken ++ map entry_of before) (count + length before) pair) [] pairs)
+    first_fault (each_after (λ before pair. pair_fault seen section (taken ++ map entry_of before) (count + length before) pair) [] pairs)
 
 -- a card that marks integer columns has the word in field 3 or 5
 abbrev pub marks : Reading → Option DeckFaultKind

@@ -50,14 +50,14 @@ module _ {X : Type 0} where
   put_in_set name f [] distinct = refl
   put_in_set name f (e ∷ es) distinct = by (same name e.0) refl (put_in_set name f es distinct.1)
     where
-      behind : (b : Bool) → (group_at e ∷ cond b (in_group name f (map group_at es)) (map group_at es ++ record { name = name; items = f [] } ∷ []))
+      after : (b : Bool) → (group_at e ∷ cond b (in_group name f (map group_at es)) (map group_at es ++ record { name = name; items = f [] } ∷ []))
           ≡ cond b (group_at e ∷ in_group name f (map group_at es)) ((group_at e ∷ map group_at es) ++ record { name = name; items = f [] } ∷ [])
-      behind true = refl
-      behind false = refl
+      after true = refl
+      after false = refl
 
       by : (b : Bool) → same name e.0 ≡ b → map group_at (insert_entry same es name (f (unwrap_or (lookup (same name) es) []))) ≡ in_set name f (map group_at es)
           → map group_at (cond b ((e.0, f (unwrap_or (cond b (Some e.1) (lookup (same name) es)) [])) ∷ es) (e ∷ insert_entry same es name (f (unwrap_or (cond b (Some e.1) (lookup (same name) es)) []))))
           ≡ cond (b || has_group (map group_at es) name) (cond b (record { name = e.0; items = f e.1 }) (group_at e) ∷ in_group name f (map group_at es))
           ((group_at e ∷ map group_at es) ++ record { name = name; items = f [] } ∷ [])
       by true is rest = ap (λ groups. record { name = e.0; items = f e.1 } ∷ groups) (sym (untouched name f es (apart name e es is distinct.0)))
-      by false is rest = ap (λ groups. group_at e ∷ groups) rest ∙ behind (has_group (map group_at es) name)
+      by false is rest = ap (λ groups. group_at e ∷ groups) rest ∙ after (has_group (map group_at es) name)

@@ -8,10 +8,7 @@ use Rattle.deck_definitions.specs.declared.DeckFaultKind.{DeckFaultKind}
 use Rattle.deck_definitions.specs.DataCards.{Pair, entry_of}
 use Rattle.deck_definitions.specs.Tests.{pair_fault, pairs_fault}
 use Rattle.deck_definitions.proofs.Pairs.{pairs_fault-cons}
-
-pub or_none : (o : Option DeckFaultKind) → option_or o None ≡ o
-or_none None = refl
-or_none (Some kind) = refl
+use Rattle.card_definitions.proofs.FirstFaults.{or_none}
 
 pub second_tells : (seen : Problem Name) (section : Section) (taken mid : List (Entry Name)) (count : ℕ) (first second : Pair) (pairs : List Pair)
     → pair_fault seen section taken count first ≡ None → mid ≡ taken ++ entry_of first ∷ [] → pairs ≡ first ∷ second ∷ []

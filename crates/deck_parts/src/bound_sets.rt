@@ -13,7 +13,7 @@ ghost use Rattle.deck_parts.specs.Shown.{group_at, bounds_alone, bound_end_fault
 ghost use Rattle.deck_cards.specs.Shown.{shown};
 
 use crate::bounds::{Bounds, NamedBound};
-use crate::card_stop::{CardStop, fault_behind};
+use crate::card_stop::{CardStop, fault_after};
 use crate::groups::Groups;
 use crate::pairs::number_in;
 use deck_cards::{DataCard, bound_kind, is_blank};
@@ -97,7 +97,7 @@ fn take_bound(
         }),
         Err(fault) => {
             let is_taken = items.has(&column, kind);
-            let fault = fault_behind(is_taken, DeckFaultKind::BoundTwice, fault);
+            let fault = fault_after(is_taken, DeckFaultKind::BoundTwice, fault);
             Err(CardStop::Refused(fault))
         }
     }

@@ -46,7 +46,7 @@ impl From<DeckFaultKind> for CardStop {
 }
 
 // The fault of a card that has this fault where an earlier test doesn't hold.
-pub fn fault_behind(is_earlier: bool, earlier: DeckFaultKind, fault: DeckFaultKind) -> DeckFaultKind
+pub fn fault_after(is_earlier: bool, earlier: DeckFaultKind, fault: DeckFaultKind) -> DeckFaultKind
     ensures { Some result ≡ first_fault ((is_earlier ⟹ earlier) ∷ Some fault ∷ []) }
 {
     if is_earlier {

@@ -8,7 +8,7 @@ ghost use Rattle.deck_parts.specs.Told.{TellsDeckFault};
 ghost use Rattle.deck_parts.specs.Shown.{rows_alone, pair_value_fault};
 ghost use Rattle.deck_cards.specs.Shown.{shown, pair_shown};
 
-use crate::card_stop::{CardStop, fault_behind};
+use crate::card_stop::{CardStop, fault_after};
 use crate::entries::Entries;
 use crate::on_row::OnRow;
 use crate::rows::{FoundRow, Rows, is_free};
@@ -106,7 +106,7 @@ pub fn take_pair(
         }
         Err(kind) => {
             let is_taken = items.has(&pair.row);
-            let fault = fault_behind(is_taken, DeckFaultKind::DuplicateEntry, kind);
+            let fault = fault_after(is_taken, DeckFaultKind::DuplicateEntry, kind);
             Err(CardStop::Refused(fault))
         }
     }

@@ -12,7 +12,7 @@ ghost use Rattle.deck_parts.specs.Told.{TellsDeckFault};
 ghost use Rattle.deck_parts.specs.Shown.{rows_alone, columns_alone, row_kind_fault};
 ghost use Rattle.deck_cards.specs.Shown.{shown};
 
-use crate::card_stop::{CardStop, fault_behind};
+use crate::card_stop::{CardStop, fault_after};
 use crate::groups::Groups;
 use crate::rows::Rows;
 use deck_cards::{DataCard, is_blank, is_combination, is_word, row_kind};
@@ -75,7 +75,7 @@ pub fn take_row_card(rows: &mut Rows, card: &DataCard<'_>) -> Result<(), CardSto
         None => rows.add(kind, card.name1),
         Some(fault) => {
             let is_taken = rows.has(&card.name1);
-            let fault = fault_behind(is_taken, DeckFaultKind::DuplicateRow, fault);
+            let fault = fault_after(is_taken, DeckFaultKind::DuplicateRow, fault);
             Err(CardStop::Refused(fault))
         }
     }

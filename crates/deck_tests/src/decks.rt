@@ -23,7 +23,7 @@ pub fn fault_of(alloc: Global, deck: &[u8]) -> Result<Option<(u32, DeckFaultKind
 }
 
 // The same of a deck with the rows COST and LIM and the column X on COST, whose cards from the seventh on are these.
-pub fn fault_behind_a_column(
+pub fn fault_after_a_column(
     alloc: Global,
     cards: &[u8],
 ) -> Result<Option<(u32, DeckFaultKind)>, Fail> {

@@ -1,4 +1,4 @@
-use crate::decks::{fault_behind_a_column, fault_of};
+use crate::decks::{fault_after_a_column, fault_of};
 use deck_fields::NumberFault;
 use mps_convert::DeckFaultKind;
 use std::test::Fail;
@@ -79,7 +79,7 @@ fn faults_of_second_pairs(rt: HostRuntime) -> Result<(), Fail> {
     ];
     for (cards, card, kind) in decks {
         assert_eq!(rt;
-            fault_behind_a_column(rt.alloc(), cards)?,
+            fault_after_a_column(rt.alloc(), cards)?,
             Some((card, kind))
         );
     }
@@ -123,7 +123,7 @@ fn the_first_test_decides(rt: HostRuntime) -> Result<(), Fail> {
     ];
     for (cards, card, kind) in decks {
         assert_eq!(rt;
-            fault_behind_a_column(rt.alloc(), cards)?,
+            fault_after_a_column(rt.alloc(), cards)?,
             Some((card, kind))
         );
     }
@@ -157,7 +157,7 @@ fn faults_of_bounds(rt: HostRuntime) -> Result<(), Fail> {
     ];
     for (cards, card, kind) in decks {
         assert_eq!(rt;
-            fault_behind_a_column(rt.alloc(), cards)?,
+            fault_after_a_column(rt.alloc(), cards)?,
             Some((card, kind))
         );
     }
@@ -168,6 +168,6 @@ fn faults_of_bounds(rt: HostRuntime) -> Result<(), Fail> {
 fn sets_may_be_mixed_and_free_bounds_have_no_number(rt: HostRuntime) -> Result<(), Fail> {
     let cards =
         b"RHS\n    A         COST      1\n    B         COST      2\n    A         LIM       3\nBOUNDS\n FR B         X         1..2\n MI           X\n UP           X         1\nENDATA\n";
-    assert_eq!(rt; fault_behind_a_column(rt.alloc(), cards)?, None);
+    assert_eq!(rt; fault_after_a_column(rt.alloc(), cards)?, None);
     Ok(())
 }

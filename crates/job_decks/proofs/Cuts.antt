@@ -56,9 +56,9 @@ decks_onto card [] e = rw (cut_skipped card [] e) refl
 decks_onto card (part ∷ parts) e = rw (cut_skipped card part e) refl
 
 -- Skipped cards in front of the others make no difference to the decks.
-pub decks_behind_skipped : (card : Card) (cards : List Card) → is_skipped card.bytes ≡ true → decks_of (card ∷ cards) ≡ decks_of cards
+pub decks_after_skipped : (card : Card) (cards : List Card) → is_skipped card.bytes ≡ true → decks_of (card ∷ cards) ≡ decks_of cards
 unfolding decks_of
-decks_behind_skipped card cards e =
+decks_after_skipped card cards e =
     ap (λ b. filter some (map cut (cond b ((card ∷ []) ∷ parts_ended_by (begins Endata) cards) (onto_first card (parts_ended_by (begins Endata) cards))))) (no_end card.number card.bytes e)
     ∙ decks_onto card (parts_ended_by (begins Endata) cards) e
 

@@ -11,7 +11,7 @@ use Rattle.deck_definitions.specs.Sections.{begins, header_name}
 use Rattle.deck_definitions.specs.Decks.{decks_of, is_wanted, deck_taken, first_and_rest}
 use Rattle.problem_definitions.specs.Names.{Name}
 use Rattle.job_decks.specs.Positions.{cards_from, IsLiveAt}
-use Rattle.job_decks.proofs.Cuts.{decks_behind_skipped, no_decks, first_deck}
+use Rattle.job_decks.proofs.Cuts.{decks_after_skipped, no_decks, first_deck}
 
 length-numbered : (number : ℕ) (cards : List (List ℕ)) → length (numbered_from number cards) ≡ length cards
 length-numbered number [] = refl
@@ -43,7 +43,7 @@ none_from number cards past = let beyond : length (numbered_cards cards) ≤ num
 pub skip_card : (number : ℕ) (cards : List (List ℕ)) (card : List ℕ) → 1 ≤ number → slice_get cards (number - 1) ≡ Some card → is_skipped card ≡ true
     → decks_of (cards_from number cards) ≡ decks_of (cards_from (number + 1) cards)
 skip_card number cards card from_one at skipped =
-    ap decks_of (card_at number cards card from_one at) ∙ decks_behind_skipped (record { number = number; bytes = card }) (cards_from (number + 1) cards) skipped
+    ap decks_of (card_at number cards card from_one at) ∙ decks_after_skipped (record { number = number; bytes = card }) (cards_from (number + 1) cards) skipped
 
 pub no_deck : (number : ℕ) (cards : List (List ℕ)) → length cards < number → decks_of (cards_from number cards) ≡ []
 no_deck number cards past = ap decks_of (none_from number cards past) ∙ no_decks

@@ -14,7 +14,7 @@ punch_file punch = punch.file
 abbrev pub punch_faults : {R F D : Type 0} → PunchFile R F D → ℕ
 punch_faults punch = punch.faults
 
--- what a call leaves in the file, where that was there before: all that it took, and behind a fault a front of it
+-- what a call leaves in the file, where that was there before: all that it took, and after a fault a front of it
 abbrev pub FileTakes : {F : Type 0} → (F → Option (List ℕ)) → Option (StreamSink F) → Option (StreamSink F) → Option ℕ → List ℕ → Type 0
 FileTakes contents None now taken piece = Unit
 FileTakes contents (Some before) None taken piece = ⊥

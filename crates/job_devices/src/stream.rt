@@ -93,7 +93,7 @@ impl<W: Write> Sink for StreamSink<W> {
         ensures cause { HasWriteCause (stream_write_faults self.old)
             (stream_write_faults self.new) 0 0 result }
 
-        // The writer holds the bytes that were taken. Behind a fault it may hold some too, where its flush failed.
+        // The writer holds the bytes that were taken. After a fault it may hold some too, where its flush failed.
         ensures writer { MatchResult result
             (λ taken. Appends (W.contents (stream_writer self.old))
             (W.contents (stream_writer self.new)) (take taken piece.now))

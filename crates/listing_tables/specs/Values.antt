@@ -12,5 +12,5 @@ value_shown Absent = reports.Absent
 value_shown Dash = reports.Dash
 
 -- the text of a value, with the blank before it
-abbrev pub value_behind_blank : Value → List ℕ
-value_behind_blank value = codes " " ++ value_text (value_shown value)
+abbrev pub value_after_blank : Value → List ℕ
+value_after_blank value = codes " " ++ value_text (value_shown value)

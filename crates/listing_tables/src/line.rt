@@ -4,7 +4,7 @@ ghost use Rattle.std.specs.List.{concat, flat_map};
 ghost use Rattle.job_devices.specs.Text.{Writes};
 ghost use Rattle.listing_definitions.specs.Report.{limit_value};
 ghost use Rattle.listing_definitions.specs.Text.{at_text, number5, name8, value_text, line_text};
-ghost use Rattle.listing_tables.specs.Values.{value_shown, value_behind_blank};
+ghost use Rattle.listing_tables.specs.Values.{value_shown, value_after_blank};
 
 use crate::pieces::{NAME_PLACES, NUMBER_PLACES, blanks, decimal, fraction};
 use frac128::Frac;
@@ -54,7 +54,7 @@ fn at_word(at: At) -> &'static [u8]
 // A value after a blank.
 fn put_value<P: Sink>(print: &mut P, value: Value) -> Result<(), WriteStop>
     ensures { Writes P.written P.faults P.refusals print.old print.new result
-        (value_behind_blank value) }
+        (value_after_blank value) }
 {
     match value {
         Value::Code(at) => put_each(print, &[b" ", at_word(at)]),
@@ -70,7 +70,7 @@ fn put_value<P: Sink>(print: &mut P, value: Value) -> Result<(), WriteStop>
 // Each value after a blank.
 fn put_values<P: Sink>(print: &mut P, values: &[Value]) -> Result<(), WriteStop>
     ensures { Writes P.written P.faults P.refusals print.old print.new result
-        (flat_map value_behind_blank values.now) }
+        (flat_map value_after_blank values.now) }
 {
     for value in values {
         put_value(print, *value)?;

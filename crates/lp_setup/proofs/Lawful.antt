@@ -19,7 +19,7 @@ use Rattle.problem_definitions.specs.Problem.{Row, plain_row, Entry, Bound, Grou
 use Rattle.problem_definitions.specs.Valid.{IsNumberOf, AreEntries, IsProblem}
 use Rattle.problem_definitions.proofs.Names.{same_eq}
 use Rattle.problem_definitions.proofs.Groups.{map-map}
-use Rattle.problem_definitions.proofs.Each.{each-change, each-all, each-mapped}
+use Rattle.problem_definitions.proofs.Each.{each-change, each-all, each-mapped, all-each}
 use Rattle.problem_definitions.proofs.PlainRows.{ArePlain}
 use Rattle.selection_definitions.specs.Choice.{Choice, row_number, objective_of, rhs_items, set_items, is_not_free, selection_fault}
 use Rattle.selection_definitions.specs.Limits.{Limits, no_limits, value_on, row_limits, column_limits}
@@ -27,7 +27,6 @@ use Rattle.selection_definitions.specs.Selection.{entered, coefficients, matrix_
 use Rattle.selection_definitions.proofs.PlainRows.{plain_columns}
 use Rattle.lp_setup.specs.Parts.{side_on, limits_with, program_with}
 use Rattle.lp_setup.proofs.Faults.{objective-passes}
-use Rattle.lp_setup.proofs.Sets.{all-each}
 
 -- ---- the objective row
 

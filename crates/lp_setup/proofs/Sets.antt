@@ -10,7 +10,7 @@ use Rattle.problem_definitions.specs.Groups.{items_of}
 use Rattle.problem_definitions.specs.Valid.{AreEntries, AreBounds, IsProblem}
 use Rattle.problem_definitions.proofs.Names.{same_eq}
 use Rattle.problem_definitions.proofs.Groups.{items_of-absent}
-use Rattle.problem_definitions.proofs.Each.{apart-absent, each-all}
+use Rattle.problem_definitions.proofs.Each.{apart-absent, each-all, all-each}
 use Rattle.problem_definitions.proofs.Added.{items_of-each}
 use Rattle.selection_definitions.specs.Choice.{rhs_items, set_items}
 
@@ -45,12 +45,6 @@ module _ {X : Type 0} (name : Name) where
       by false t h rest = rest h
 
 -- ---- what holds of their items
-
-pub all-each : {X : Type 0} (P : X → Type 0) (xs : List X) → All P xs → AllByRecursion P xs
-all-each P [] all = tt
-all-each P (x ∷ xs) all =
-    let first : 0 < length (x ∷ xs) = omega arith in
-    (all 0 x first, all-each P xs (λ k d below. all (suc k) d (omega (arith, below))))
 
 module _ {X : Type 0} (P : List X → Type 0) (none : P []) where
   pub items-each : (sets : List (Group X)) → IsDistinct same (group_names sets) → All (λ (set : Group X). P set.items) sets → (chosen : Option Name) → P (set_items sets chosen)

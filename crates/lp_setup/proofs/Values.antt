@@ -12,12 +12,9 @@ use Rattle.problem_definitions.specs.Problem.{Entry, Bound}
 use Rattle.problem_definitions.specs.Valid.{IsNumberOf, AreEntries, AreBounds}
 use Rattle.lp_setup.proofs.Lists.{Holds, holds-set}
 use Rattle.selection_definitions.specs.Limits.{Limits, value_on, column_limits, bounded, unbounded}
+use Rattle.card_definitions.proofs.FirstFaults.{or_none}
 
 -- ---- values on rows
-
-or_none : {X : Type 0} (o : Option X) → option_or o None ≡ o
-or_none None = refl
-or_none (Some x) = refl
 
 -- an item on another row changes nothing
 value_on-other : (xs : List (Entry ℕ)) (x : Entry ℕ) (row : ℕ) → nat_eq x.row row ≡ false → value_on (xs ++ x ∷ []) row ≡ value_on xs row

@@ -3,7 +3,7 @@ use Rattle.std.proofs.Common.{◌≡◌, ℕ, ◌+◌, ◌≤◌, true, false, n
 use Rattle.std.specs.Option.{option_or}
 use Rattle.card_definitions.specs.Words.{is_empty, ◌⟹◌}
 use Rattle.card_definitions.specs.Fields.{Fixed, Reading, reading_of}
-use Rattle.card_definitions.proofs.Behind.{passes}
+use Rattle.card_definitions.proofs.FirstFaults.{passes, or_none}
 use Rattle.problem_definitions.specs.declared.TheConstants.{MAX_COLUMNS, MAX_ENTRIES}
 use Rattle.problem_definitions.specs.Names.{Name}
 use Rattle.problem_definitions.specs.Problem.{Problem, has_group, entry_count}
@@ -17,7 +17,6 @@ use Rattle.deck_definitions.specs.DataCards.{FixedFields, entries_of, pairs_of}
 use Rattle.deck_definitions.specs.Tests.{kind_filled, marks, all_but_last, columns_fault, pairs_fault}
 use Rattle.deck_definitions.specs.Conversion.{form_fault, section_fault, data_card_fault}
 use Rattle.deck_definitions.proofs.Accepted.{pairs-few}
-use Rattle.deck_parts.proofs.Second.{or_none}
 
 -- a data card that has its form, in a section that has data cards, has the fault of its section
 pub fault_in_section : (seen : Problem Name) (section : Section) (card : List ℕ) (reading : Reading) → is_section Header section ≡ false → form_fault Fixed card ≡ None → reading ≡ reading_of Fixed card

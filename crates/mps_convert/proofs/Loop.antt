@@ -6,6 +6,7 @@ use Rattle.std.proofs.lemmas.List.Elements.{filter-append}
 use Rattle.std.proofs.lemmas.List.{append_assoc, append-nil}
 use Rattle.card_definitions.specs.Cards.{Card, live, numbered_from, numbered_cards, cards_between, is_skipped, is_printable}
 use Rattle.card_definitions.specs.Fields.{Fixed, reading_of}
+use Rattle.card_definitions.proofs.Numbered.{live-append}
 use Rattle.problem_definitions.proofs.Each.{each-push}
 use Rattle.deck_definitions.specs.declared.Section.{Section}
 use Rattle.deck_definitions.specs.declared.DeckFault.{DeckFault}
@@ -51,9 +52,6 @@ state-step cards card fine = by (is_section_card card.bytes) refl fine
     by false e h =
         let place = stands cards card.bytes (section_after cards) (rw e at h) in
         build false e (described-data [] cards card place.0 e place.1 ∙ ap (λ s. with_data s (reading_of Fixed card.bytes) (described [] cards)) (sym place.1))
-
-pub live-append : (xs ys : List Card) → live (xs ++ ys) ≡ live xs ++ live ys
-live-append xs ys = filter-append (λ card. not (is_skipped card.bytes)) xs ys
 
 -- the first fault of one card after others
 alone : (before : List Card) (card : Card) → first_faulty card_fault before (card ∷ []) ≡ option_map (λ kind. record { card = card.number; kind = kind }) (fault_at (state_of before) card.bytes)

@@ -6,6 +6,7 @@ use Rattle.std.proofs.lemmas.Option.{slice_get-get_or}
 use Rattle.std.proofs.lemmas.List.{map-append}
 use Rattle.card_definitions.specs.Words.{unless, ◌⟹◌}
 use Rattle.card_definitions.specs.Cards.{Card, live, numbered_cards, cards_between, is_skipped, last_number}
+use Rattle.card_definitions.proofs.Numbered.{live-append}
 use Rattle.problem_definitions.specs.Names.{Name}
 use Rattle.problem_definitions.specs.Problem.{Problem}
 use Rattle.problem_definitions.specs.Numbering.{numbered}
@@ -22,7 +23,7 @@ use Rattle.deck_fields.specs.declared.stop.DeckStop.{DeckStop}
 use Rattle.deck_fields.specs.declared.stop.DeckStop.TheVariants.{Fault, NoMemory}
 use Rattle.mps_convert.specs.State.{State, state_of, Stops}
 use Rattle.mps_convert.specs.Conversion.{Refuses}
-use Rattle.mps_convert.proofs.Loop.{cards_up_to, cards_more, cards_split, live-append}
+use Rattle.mps_convert.proofs.Loop.{cards_up_to, cards_more, cards_split}
 
 module _ (deck : List Card) (name : Option Name) where
   made : Problem ℕ

@@ -30,8 +30,8 @@ blanks_pass p zero h = refl
 blanks_pass p (suc n) h = rw h (blanks_pass p n h)
 
 module _ (width : ℕ) where
-  pub padded_behind : (text : List ℕ) → length text ≤ width → text ++ drop (length text) (replicate width 32) ≡ padded width text
-  padded_behind text short = ap (λ zs. text ++ zs) (drop-replicate (length text) width 32)
+  pub padded_after : (text : List ℕ) → length text ≤ width → text ++ drop (length text) (replicate width 32) ≡ padded width text
+  padded_after text short = ap (λ zs. text ++ zs) (drop-replicate (length text) width 32)
 
   pub length-padded : (text : List ℕ) → length text ≤ width → length (padded width text) ≡ width
   length-padded text short =

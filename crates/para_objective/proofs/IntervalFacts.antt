@@ -13,11 +13,7 @@ use Rattle.method_definitions.specs.Chain.{along, ReachesTo, IsPart}
 use Rattle.method_definitions.specs.ObjectiveRun.{objective_family}
 use Rattle.bounded_primal.proofs.StepFacts.{point_same}
 use Rattle.para_objective.proofs.Reaches.{price_is, rate_is}
-
-zero_in : (n i : ℕ) → slice_index_or (replicate n zero_ℚ) i zero_ℚ ≡ zero_ℚ
-zero_in zero i = refl
-zero_in (suc n) zero = refl
-zero_in (suc n) (suc i) = zero_in n i
+use Rattle.run_calls.proofs.Chains.{zero_in}
 
 module _ (p : LinearProgram) (s : List Status) (h : ℕ) (lawful : IsLinearProgram p) (no_change : p.change ≡ None) (row : IsRow p.matrix h) (basis : IsNonsingularBasis p s)
     (prices change : List ℚ) (priced : ArePricesOf p s (value_at prices)) (changed : IsRowOf p.matrix (basics_of s) h (value_at change)) where

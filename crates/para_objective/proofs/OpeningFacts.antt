@@ -29,6 +29,7 @@ use Rattle.bounded_primal.specs.declared.moves.PrimalStop.TheVariants.{Limit, Ov
 use Rattle.run_calls.specs.Calls.{part_of, end_of}
 use Rattle.run_calls.specs.Walks.{HasRun}
 use Rattle.run_calls.proofs.Walks.{opening_reaches, opening_run, opens_first}
+use Rattle.run_calls.proofs.Openings.{IsFailed, failure_by}
 use Rattle.sweep_laws.proofs.NotBoth.{same_path}
 use Rattle.sweep_laws.proofs.OneRun.{objective_faces}
 use Rattle.sweep_laws.proofs.Objective.{to_objective}
@@ -131,18 +132,6 @@ module _ (p : LinearProgram) (run : ParaObj) (s now : List Status) (before after
   }
 
 -- ---- where the opening path has ended
-
-abbrev pub IsFailed : Outcome → Type 0
-IsFailed (Optimal steps point prices) = ⊥
-IsFailed (Crossed k) = Unit {0}
-IsFailed (Infeasible steps ray) = Unit {0}
-IsFailed (Unbounded steps point direction) = Unit {0}
-
-failure_by : (steps : ℕ) (ending : PathEnding) (outcome : Outcome) → outcome ≡ outcome_of steps ending → IsFailed outcome → IsFailure ending
-failure_by steps (EndsOptimal z y) outcome e failed = subst IsFailed e failed
-failure_by steps (EndsCrossed k) outcome e failed = tt
-failure_by steps (EndsInfeasible w) outcome e failed = tt
-failure_by steps (EndsUnbounded z d) outcome e failed = tt
 
 module _ (p : LinearProgram) (run : ParaObj) (lawful : IsLinearProgram p) (row : IsRow p.matrix run.row) (free : HasNoLimits p run.row) (s now : List Status) (at : IsNonsingularBasis p s)
     (before after : List Basics) (outcome : Outcome) (ends : CallEnds (family p run run.from) s now run.limit outcome) (follow : WaypointsFollow (family p run run.from) s now before after) where

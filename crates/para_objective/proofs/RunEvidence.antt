@@ -17,9 +17,10 @@ use Rattle.method_definitions.specs.Evidence.{ShowsRefusal}
 use Rattle.basis_values.specs.Calls.{StopsAt, job_of, is_of_point, PointRefused}
 use Rattle.bounded_primal.specs.Moves.{StopperRefused, StepRefused, move_by}
 use Rattle.bounded_primal.specs.declared.moves.Stopper.{Stopper}
+use Rattle.bounded_primal.proofs.TurnEvidence.{step_brings_not}
 use Rattle.basis_values.proofs.Covered.{stops_covered}
 use Rattle.run_calls.specs.Walks.{EvidenceHere}
-use Rattle.run_calls.proofs.Evidence.{evidence_here, evidence_ahead, evidence_own}
+use Rattle.run_calls.proofs.Evidence.{evidence_here, evidence_ahead, evidence_own, step_number, step_moves}
 use Rattle.para_objective.specs.Reach.{EndRefused}
 
 -- ---- the numbers of formulas
@@ -49,17 +50,8 @@ module _ (n term : ℕ) where
   stopper_belongs : ((nat_eq n 6 && not (nat_eq term 3)) || nat_eq n 7) ≡ true → ((is_between 1 13 n || is_between 16 17 n) && (not (nat_eq n 6) || not (nat_eq term 3))) ≡ true
   stopper_belongs h = grind arith
 
-  step_number : (is_between 1 12 n && (not (nat_eq n 6) || not (nat_eq term 3))) ≡ true → is_between 1 12 n ≡ true
-  step_number h = grind arith
-
-  step_brings_not : (is_between 1 12 n && (not (nat_eq n 6) || not (nat_eq term 3))) ≡ true → nat_eq n 14 ≡ false
-  step_brings_not h = grind arith
-
   step_belongs : (is_between 1 12 n && (not (nat_eq n 6) || not (nat_eq term 3))) ≡ true → ((is_between 1 13 n || is_between 16 17 n) && (not (nat_eq n 6) || not (nat_eq term 3))) ≡ true
   step_belongs h = grind arith
-
-step_moves : (n : ℕ) → is_between 8 9 n ≡ true → is_between 7 9 n ≡ true
-step_moves n h = grind arith
 
 -- ---- a call on p, which has no change row, in a run that changes row h
 

@@ -25,7 +25,7 @@ use Rattle.bounded_primal.specs.declared.moves.PrimalStop.{PrimalStop}
 use Rattle.run_calls.specs.Begun.{IsBegun, nothing, then}
 use Rattle.run_calls.specs.Calls.{part_of, end_of}
 use Rattle.run_calls.specs.Walks.{MayOpen, IntervalStops}
-use Rattle.run_calls.proofs.Chains.{closes, begun_last}
+use Rattle.run_calls.proofs.Chains.{closes, begun_last, before_max}
 use Rattle.run_calls.proofs.Walks.{opens_later, opens_next, run_breaks, opening_follows, interval_stops}
 use Rattle.sweep_laws.proofs.RhsGrowth.{rhs_grows}
 use Rattle.sweep_laws.proofs.Runs.{last_of-append}
@@ -35,10 +35,6 @@ use Rattle.para_rhs.specs.Refusals.{RunRefused}
 use Rattle.para_rhs.specs.Runs.{StandsAt, ChainEnds, OpensFrom, ChainStops, ChainFollows}
 use Rattle.para_rhs.specs.declared.parts.ParaRhs.{ParaRhs}
 use Rattle.para_rhs.proofs.RunEvidence.{of_point}
-
--- an end other than the last value is before it
-pub before_max : (to max : ℚ) → to ≤ℚ max → eq_ℚ to max ≡ false → to <ℚ max
-before_max to max within other = lt_from_le within (apart_from_eq_fails to max other)
 
 -- ---- a stop where an interval begins
 

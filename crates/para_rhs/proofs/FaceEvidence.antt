@@ -30,11 +30,12 @@ use Rattle.bounded_primal.specs.Steps.{ReturnRefused, of_distance, of_quotient}
 use Rattle.bounded_primal.specs.Stops.{primal_stop_of}
 use Rattle.bounded_primal.specs.Turns.{ReturnStops, by_column, by_return}
 use Rattle.bounded_primal.specs.declared.moves.Stopper.{Stopper}
+use Rattle.bounded_primal.proofs.TurnEvidence.{step_brings_not}
 use Rattle.basis_values.proofs.Covered.{point_refused_later}
 use Rattle.basis_values.proofs.Existence.{rates_exist}
 use Rattle.basis_values.proofs.Refusals.{stops_at_basis}
 use Rattle.run_calls.specs.Walks.{EvidenceHere, FaceStops}
-use Rattle.run_calls.proofs.Evidence.{evidence_ahead, evidence_own}
+use Rattle.run_calls.proofs.Evidence.{evidence_ahead, evidence_own, step_number, step_moves}
 use Rattle.sweep_laws.proofs.Leads.{is_mover}
 use Rattle.para_rhs.specs.Breaks.{IsFaceLeaver}
 use Rattle.para_rhs.specs.Cheapest.{SomeRatioRefused}
@@ -53,17 +54,8 @@ not_three Ll = refl
 not_three Ul = refl
 not_three Fr = refl
 
-pub step_number : (n term : ℕ) → (is_between 1 12 n && (not (nat_eq n 6) || not (nat_eq term 3))) ≡ true → is_between 1 12 n ≡ true
-step_number n term h = grind arith
-
-step_brings_not : (n term : ℕ) → (is_between 1 12 n && (not (nat_eq n 6) || not (nat_eq term 3))) ≡ true → nat_eq n 14 ≡ false
-step_brings_not n term h = grind arith
-
 pub step_belongs : (n term : ℕ) → (is_between 1 12 n && (not (nat_eq n 6) || not (nat_eq term 3))) ≡ true → ((is_between 1 14 n || nat_eq n 18) && (not (nat_eq n 6) || not (nat_eq term 3))) ≡ true
 step_belongs n term h = grind arith
-
-step_moves : (n : ℕ) → is_between 8 9 n ≡ true → is_between 7 9 n ≡ true
-step_moves n h = grind arith
 
 module _ (p : LinearProgram) (shift : List ℚ) (lawful : IsLinearProgram p) (no_change : p.change ≡ None) (theta : ℚ) (s : List Status) (at : IsNonsingularBasis p s)
     (z v : Vector) (point : IsPointOf p s z) (slope : IsSlope p s shift v) (from : ℚ) (left : ℕ) (before now : List Basics) (e : Evidence) where

@@ -11,11 +11,7 @@ use Rattle.path_laws.specs.Laws.{IsNonsingularBasis}
 use Rattle.changed_programs.proofs.RightHandSides.{points}
 use Rattle.method_definitions.specs.Chain.{along, ReachesTo, IsPart}
 use Rattle.method_definitions.specs.RhsRun.{rhs_family, IsSlope}
-
-zero_in : (n i : ℕ) → slice_index_or (replicate n zero_ℚ) i zero_ℚ ≡ zero_ℚ
-zero_in zero i = refl
-zero_in (suc n) zero = refl
-zero_in (suc n) (suc i) = zero_in n i
+use Rattle.run_calls.proofs.Chains.{zero_in}
 
 module _ (p : LinearProgram) (shift : List ℚ) (s : List Status) (at : IsNonsingularBasis p s) (value slope prices : List ℚ)
     (point : IsPointOf p s (value_at value)) (sloped : IsSlope p s shift (value_at slope)) (priced : ArePricesOf p s (value_at prices)) where

@@ -34,9 +34,12 @@ use Rattle.bounded_primal.specs.Calls.{CallEnds, WaypointsFollow, outcome_of}
 use Rattle.bounded_primal.specs.Stops.{PrimalStops, primal_stop_of}
 use Rattle.bounded_primal.specs.declared.moves.PrimalStop.{PrimalStop}
 use Rattle.bounded_primal.specs.declared.moves.PrimalStop.TheVariants.{Limit, Overflow, NoMemory}
+use Rattle.bounded_primal.proofs.TurnEvidence.{step_brings_not}
 use Rattle.run_calls.specs.Calls.{RunStops, RunOverflows, part_of, end_of}
 use Rattle.run_calls.specs.Walks.{HasRun}
 use Rattle.run_calls.proofs.Walks.{opening_reaches, opening_run, opens_first}
+use Rattle.run_calls.proofs.Openings.{IsFailed, failure_by}
+use Rattle.run_calls.proofs.Evidence.{step_number}
 use Rattle.sweep_laws.proofs.NotBoth.{same_path}
 use Rattle.sweep_laws.proofs.OneRun.{rhs_faces}
 use Rattle.sweep_laws.proofs.Rhs.{to_rhs, from_rhs}
@@ -46,7 +49,7 @@ use Rattle.sweep_laws.proofs.Runs.{last_of-append}
 use Rattle.para_rhs.specs.Faces.{family, Face, statement}
 use Rattle.para_rhs.specs.Runs.{told_at, StandsAt, ChainEnds, OpensFrom, RhsEnds, RhsStops, RhsFollows, IsTrueRhs}
 use Rattle.para_rhs.specs.declared.parts.ParaRhs.{ParaRhs}
-use Rattle.para_rhs.proofs.FaceEvidence.{step_belongs, step_number}
+use Rattle.para_rhs.proofs.FaceEvidence.{step_belongs}
 
 -- ---- evidence of the path of the linear program at theta, told of theta
 
@@ -135,9 +138,6 @@ module _ (p : LinearProgram) (shift : List ℚ) (from : ℚ) (Goes Other : Statu
     no_way = r.no_way;
   }
 
-path_brings : (n term : ℕ) → (is_between 1 12 n && (not (nat_eq n 6) || not (nat_eq term 3))) ≡ true → nat_eq n 14 ≡ false
-path_brings n term h = grind arith
-
 holds_of : (p : LinearProgram) (shift : List ℚ) (from : ℚ) (left : ℕ) (bases : List (List Status)) (s : List Status) (w : Basics) (e : Evidence) →
     EvidenceHolds (Primal (rhs_family p shift from)) None left bases [] s w e → EvidenceHolds (Pararhs p shift from) None left bases [] s w (record e { theta = from })
 holds_of p shift from left bases s w e r = record {
@@ -148,7 +148,7 @@ holds_of p shift from left bases s w e r = record {
   shows = shows_of p shift from (GoesTo (Primal (rhs_family p shift from)) None s e) (GoesTo (Pararhs p shift from) None s (record e { theta = from })) s e (step_number e.formula e.term r.of_statement)
       (λ to l. record { move = l.move; moves = l.moves; enters = l.enters; leaves = l.leaves; goes_to = l.goes_to }) (map basics_of (with_ahead bases r.ahead)) w r.shows;
   is_theta = (1, omega arith, refl);
-  of_move = record { enters = r.of_move.enters; brings = λ is. absurd (clash (sym is ∙ path_brings e.formula e.term r.of_statement)); steps = λ _. tt };
+  of_move = record { enters = r.of_move.enters; brings = λ is. absurd (clash (sym is ∙ step_brings_not e.formula e.term r.of_statement)); steps = λ _. tt };
   of_statement = step_belongs e.formula e.term r.of_statement;
 }
   where
@@ -230,18 +230,6 @@ module _ (p : LinearProgram) (run : ParaRhs) (s now : List Status) (before after
   }
 
 -- ---- where the opening path has ended
-
-abbrev pub IsFailed : Outcome → Type 0
-IsFailed (Optimal steps point prices) = ⊥
-IsFailed (Crossed k) = Unit {0}
-IsFailed (Infeasible steps ray) = Unit {0}
-IsFailed (Unbounded steps point direction) = Unit {0}
-
-failure_by : (steps : ℕ) (ending : PathEnding) (outcome : Outcome) → outcome ≡ outcome_of steps ending → IsFailed outcome → IsFailure ending
-failure_by steps (EndsOptimal z y) outcome e failed = subst IsFailed e failed
-failure_by steps (EndsCrossed k) outcome e failed = tt
-failure_by steps (EndsInfeasible w) outcome e failed = tt
-failure_by steps (EndsUnbounded z d) outcome e failed = tt
 
 module _ (p : LinearProgram) (run : ParaRhs) (lawful : IsLinearProgram p) (s now : List Status) (at : IsNonsingularBasis p s)
     (before after : List Basics) (outcome : Outcome) (ends : CallEnds (family p run run.from) s now run.limit outcome) (follow : WaypointsFollow (family p run run.from) s now before after) where

@@ -1,5 +1,5 @@
 -- Facts of each element of a list, and lists without two alike.
-use Rattle.std.proofs.Common.{◌≡◌, zero, suc, ◌<◌, Bool, true, false, ◌||◌, List, [], ◌∷◌, ◌++◌, length, map, refl, ◌∙◌, arith}
+use Rattle.std.proofs.Common.{◌≡◌, ℕ, zero, suc, ◌<◌, Bool, true, false, ◌||◌, List, [], ◌∷◌, ◌++◌, length, map, refl, ◌∙◌, arith}
 use Rattle.std.specs.List.{All, AllByRecursion, IsDistinct}
 use Rattle.problem_definitions.specs.Names.{Name, same, has_name}
 use Rattle.problem_definitions.proofs.Names.{same_sym}
@@ -56,3 +56,9 @@ absent-apart (other ∷ names) name absent = by (same name other) refl absent (a
 pub apart-absent : (names : List Name) (name : Name) → AllByRecursion (λ other. same name other ≡ false) names → has_name names name ≡ false
 apart-absent [] name apart = refl
 apart-absent (other ∷ names) name apart = rw apart.0 (apart-absent names name apart.1)
+
+pub all-each : {X : Type 0} (P : X → Type 0) (xs : List X) → All P xs → AllByRecursion P xs
+all-each P [] all = tt
+all-each P (x ∷ xs) all =
+    let first : 0 < length (x ∷ xs) = omega arith in
+    (all 0 x first, all-each P xs (λ k d below. all (suc k) d (omega (arith, below))))

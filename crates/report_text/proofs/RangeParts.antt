@@ -39,10 +39,10 @@ module _ (sheet : Sheet) (ranging : Ranging) where
   limit_columns_lines is_sheet is_ranging k low high = record { is_sheet = is_sheet; is_variable = (omega arith, high); listed = is_ranging; lined = low }
 
   pub limit_columns_table : (first last : ℕ) → first ≡ sheet.lp.now.matrix.rows → last ≡ size sheet.lp.now.matrix → flat_map (line_shown sheet (LimitColumns ranging)) (numbers_from (first + 1) (last - first)) ≡ table_text (ranges_shown sheet ranging).columns_at_limit
-  limit_columns_table first last behind counted =
+  limit_columns_table first last after counted =
       let count : last - first ≡ sheet.lp.now.matrix.cols = omega arith in
       ap (λ n. flat_map (line_shown sheet (LimitColumns ranging)) (numbers_from (first + 1) n)) count
-      ∙ ap (λ n. flat_map (line_shown sheet (LimitColumns ranging)) (numbers_from (n + 1) sheet.lp.now.matrix.cols)) behind
+      ∙ ap (λ n. flat_map (line_shown sheet (LimitColumns ranging)) (numbers_from (n + 1) sheet.lp.now.matrix.cols)) after
       ∙ kept_lines sheet (stands_at_limit ranging.basis.now) (limit_column_values sheet.lp.now ranging.basis.now ranging.point.now ranging.report.now) (numbers_from (sheet.lp.now.matrix.rows + 1) sheet.lp.now.matrix.cols)
 
   pub between_rows_lines : IsSheet sheet → IsRanging sheet ranging → (k : ℕ) → 0 < k → k ≤ sheet.lp.now.matrix.rows → HasLine sheet (BetweenRows ranging) k
@@ -58,8 +58,8 @@ module _ (sheet : Sheet) (ranging : Ranging) where
   between_columns_lines is_sheet is_ranging k low high = record { is_sheet = is_sheet; is_variable = (omega arith, high); listed = is_ranging; lined = low }
 
   pub between_columns_table : (first last : ℕ) → first ≡ sheet.lp.now.matrix.rows → last ≡ size sheet.lp.now.matrix → flat_map (line_shown sheet (BetweenColumns ranging)) (numbers_from (first + 1) (last - first)) ≡ table_text (ranges_shown sheet ranging).columns_between
-  between_columns_table first last behind counted =
+  between_columns_table first last after counted =
       let count : last - first ≡ sheet.lp.now.matrix.cols = omega arith in
       ap (λ n. flat_map (line_shown sheet (BetweenColumns ranging)) (numbers_from (first + 1) n)) count
-      ∙ ap (λ n. flat_map (line_shown sheet (BetweenColumns ranging)) (numbers_from (n + 1) sheet.lp.now.matrix.cols)) behind
+      ∙ ap (λ n. flat_map (line_shown sheet (BetweenColumns ranging)) (numbers_from (n + 1) sheet.lp.now.matrix.cols)) after
       ∙ kept_lines sheet (stands_between sheet.lp.now ranging.basis.now) (between_column_values sheet.lp.now ranging.basis.now ranging.point.now ranging.report.now) (numbers_from (sheet.lp.now.matrix.rows + 1) sheet.lp.now.matrix.cols)

@@ -33,8 +33,8 @@ module _ (sheet : Sheet) (standing : Standing) where
       ∙ sym (flat_map-map line_text (line_of sheet.problem.now (row_values sheet.lp.now standing.basis.now standing.point.now standing.slack.now standing.prices.now)) (numbers_from 1 sheet.lp.now.matrix.rows))
 
   pub column_table : (first last : ℕ) → first ≡ sheet.lp.now.matrix.rows → last ≡ size sheet.lp.now.matrix → flat_map (line_shown sheet (Columns standing)) (numbers_from (first + 1) (last - first)) ≡ table_text (lines_shown sheet standing).columns
-  column_table first last behind counted =
+  column_table first last after counted =
       let count : last - first ≡ sheet.lp.now.matrix.cols = omega arith in
       ap (λ n. flat_map (line_shown sheet (Columns standing)) (numbers_from (first + 1) n)) count
-      ∙ ap (λ n. flat_map (line_shown sheet (Columns standing)) (numbers_from (n + 1) sheet.lp.now.matrix.cols)) behind
+      ∙ ap (λ n. flat_map (line_shown sheet (Columns standing)) (numbers_from (n + 1) sheet.lp.now.matrix.cols)) after
       ∙ sym (flat_map-map line_text (line_of sheet.problem.now (column_values sheet.lp.now standing.basis.now standing.point.now standing.prices.now)) (numbers_from (sheet.lp.now.matrix.rows + 1) sheet.lp.now.matrix.cols))

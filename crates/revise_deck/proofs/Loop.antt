@@ -5,6 +5,7 @@ use Rattle.std.specs.Option.{option_or, option_map}
 use Rattle.std.proofs.lemmas.List.Elements.{filter-append}
 use Rattle.std.proofs.lemmas.List.{append_assoc, append-nil}
 use Rattle.card_definitions.specs.Cards.{Card, live, numbered_from, numbered_cards, cards_between, is_skipped, is_printable}
+use Rattle.card_definitions.proofs.Numbered.{live-append}
 use Rattle.problem_definitions.proofs.Each.{each-push}
 use Rattle.deck_definitions.specs.declared.DeckFault.{DeckFault}
 use Rattle.deck_definitions.specs.declared.DeckFaultKind.{DeckFaultKind}
@@ -19,9 +20,6 @@ use Rattle.deck_fields.specs.declared.stop.DeckStop.{DeckStop}
 use Rattle.deck_fields.specs.declared.stop.DeckStop.TheVariants.{Fault, NoMemory}
 use Rattle.revise_deck.specs.State.{State, state_of, state_with, state_after, fault_at, live_fault, Stops, StopsAt}
 use Rattle.mps_convert.proofs.Loop.{numbered_at, cards_more, cards_split}
-
-pub live-append : (xs ys : List Card) → live (xs ++ ys) ≡ live xs ++ live ys
-live-append xs ys = filter-append (λ card. not (is_skipped card.bytes)) xs ys
 
 -- the first fault of one card after others
 alone : (old : Problem Name) (before : List Card) (card : Card) → first_faulty (revise_card_fault old) before (card ∷ []) ≡ option_map (λ kind. record { card = card.number; kind = kind }) (fault_at (state_of old before) card.bytes)

@@ -144,7 +144,7 @@ fn action_named(word: &[u8]) -> Option<Action>
 }
 
 // A text without its first byte.
-fn behind_first(text: &[u8]) -> &[u8]
+fn after_first_word(text: &[u8]) -> &[u8]
     ensures { result.now ≡ drop 1 text.now }
 {
     if text.is_empty() {
@@ -157,7 +157,7 @@ fn behind_first(text: &[u8]) -> &[u8]
 pub fn action_of(card: &[u8]) -> Option<Action>
     ensures { result ≡ action_on FixedFields card.now }
 {
-    action_named(first_word(behind_first(card)))
+    action_named(first_word(after_first_word(card)))
 }
 
 // The name on an action card.

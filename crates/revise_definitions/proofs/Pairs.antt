@@ -3,7 +3,7 @@ use Rattle.std.proofs.Common.{◌≡◌, ℕ, ◌+◌, ◌-◌, ◌≤◌, Bool,
 use Rattle.std.specs.Option.{option_or}
 use Rattle.std.proofs.lemmas.List.{length-append, length-map}
 use Rattle.card_definitions.specs.Words.{first_fault}
-use Rattle.card_definitions.proofs.Behind.{each_behind-same, each_behind-shift}
+use Rattle.card_definitions.proofs.FirstFaults.{each_after-same, each_after-shift}
 use Rattle.problem_definitions.specs.Names.{Name, same}
 use Rattle.problem_definitions.specs.Problem.{Problem, Entry, has_entry}
 use Rattle.deck_definitions.specs.declared.DeckFaultKind.{DeckFaultKind}
@@ -29,23 +29,23 @@ put_entries-length (entry ∷ new) entries = omega (arith, put_entry-length entr
 
 module _ (seen : Problem Name) (section : Section) where
   -- the test of a pair after others
-  abbrev behind : List (Entry Name) → ℕ → List Pair → Pair → Option DeckFaultKind
-  behind items count before pair = put_fault seen section (put_entries (map entry_of before) items) (count + (length (put_entries (map entry_of before) items) - length items)) pair
+  abbrev after : List (Entry Name) → ℕ → List Pair → Pair → Option DeckFaultKind
+  after items count before pair = put_fault seen section (put_entries (map entry_of before) items) (count + (length (put_entries (map entry_of before) items) - length items)) pair
 
   -- the first pair is tested against the items that are there, and the others against what it leaves
   pub puts_fault-cons : (items : List (Entry Name)) (count : ℕ) (pair : Pair) (pairs : List Pair)
       → puts_fault seen section items count (pair ∷ pairs)
       ≡ option_or (put_fault seen section items count pair) (puts_fault seen section (put_entry items (entry_of pair)) (count + (length (put_entry items (entry_of pair)) - length items)) pairs)
   puts_fault-cons items count pair pairs =
-      ap₂ option_or first (ap first_fault (each_behind-shift (behind items count) (pair ∷ []) [] pairs ∙ each_behind-same (λ before. behind items count (pair ∷ before)) (behind next (count + (length next - length items))) same_later [] pairs))
+      ap₂ option_or first (ap first_fault (each_after-shift (after items count) (pair ∷ []) [] pairs ∙ each_after-same (λ before. after items count (pair ∷ before)) (after next (count + (length next - length items))) same_later [] pairs))
     where
       next : List (Entry Name)
       next = put_entry items (entry_of pair)
 
-      first : behind items count [] pair ≡ put_fault seen section items count pair
+      first : after items count [] pair ≡ put_fault seen section items count pair
       first = let none : count + (length items - length items) ≡ count = omega arith in ap (λ n. put_fault seen section items n pair) none
 
-      same_later : (before : List Pair) (other : Pair) → behind items count (pair ∷ before) other ≡ behind next (count + (length next - length items)) before other
+      same_later : (before : List Pair) (other : Pair) → after items count (pair ∷ before) other ≡ after next (count + (length next - length items)) before other
       same_later before other =
           let more : count + (length (put_entries (map entry_of before) next) - length items) ≡ count + (length next - length items) + (length (put_entries (map entry_of before) next) - length next)
           = omega (arith, put_entry-length items (entry_of pair), put_entries-length (map entry_of before) next) in

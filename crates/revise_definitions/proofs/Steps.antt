@@ -13,7 +13,7 @@ use Rattle.problem_definitions.specs.Names.{Name}
 use Rattle.problem_definitions.specs.Problem.{Problem}
 use Rattle.deck_definitions.specs.Sections.{is_section_card}
 use Rattle.deck_definitions.specs.DataCards.{style_of}
-use Rattle.card_definitions.proofs.Behind.{gathered-push}
+use Rattle.card_definitions.proofs.FirstFaults.{gathered-push}
 use Rattle.deck_definitions.proofs.Steps.{last_or-push}
 use Rattle.revise_definitions.specs.Actions.{Edit, is_action_card, is_heading, action_card_after, edit_form_of, under_after, edit_of}
 use Rattle.revise_definitions.specs.Edits.{edited}

@@ -2,7 +2,7 @@
 -- old one. That problem is called `seen`.
 use Rattle.std.specs.Prelude.{ℕ, ◌+◌, ◌-◌, Bool, true, false, not, ◌&&◌, ◌||◌, List, [], ◌∷◌, nat_le, Option, Some, None, option_map, unwrap_or, is_none, length, map}
 use Rattle.std.specs.List.{list_any}
-use Rattle.card_definitions.specs.Words.{named, is_empty, each_behind, ◌⟹◌, first_fault}
+use Rattle.card_definitions.specs.Words.{named, is_empty, each_after, ◌⟹◌, first_fault}
 use Rattle.card_definitions.specs.Fields.{Reading, reading_of}
 use Rattle.problem_definitions.specs.declared.TheConstants.{MAX_COLUMNS, MAX_ENTRIES}
 use Rattle.problem_definitions.specs.declared.BoundKind.{BoundKind}
@@ -79,7 +79,7 @@ put_fault seen section present count pair = first_fault (
 
 -- the tests of a card's pairs, each after those before it, of which only an added entry counts
 abbrev pub puts_fault : Problem Name → Section → List (Entry Name) → ℕ → List Pair → Option DeckFaultKind
-puts_fault seen section items count pairs = first_fault (each_behind (λ before pair.
+puts_fault seen section items count pairs = first_fault (each_after (λ before pair.
     let present = put_entries (map entry_of before) items in
     put_fault seen section present (count + (length present - length items)) pair) [] pairs)
 

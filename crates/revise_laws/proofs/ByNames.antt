@@ -13,10 +13,10 @@ use Rattle.problem_definitions.specs.Numbering.{entry_by, row_by, bound_by, grou
 use Rattle.problem_definitions.specs.Valid.{IsName, IsDecimal, AreLabels, IsNumberOf, AreEntries, clash, AreBounds, AreSets, is_free_row, IsProblem}
 use Rattle.problem_definitions.proofs.Names.{row_is_named}
 use Rattle.problem_definitions.proofs.Groups.{map-map, has_group-names}
-use Rattle.problem_definitions.proofs.Each.{each-change, each-mapped, distinct-mapped}
+use Rattle.problem_definitions.proofs.Each.{each-change, each-mapped, distinct-mapped, all-each}
 use Rattle.problem_definitions.proofs.PlainRows.{row_names-by, row_count-by, has_free_row-by, plain-by}
 use Rattle.problem_definitions.proofs.Lawful.{IsLabel, AreGroups, AreLawfulEntries, AreColumnEntries, AreRightHandSides, AreRanges, clash_by_name, AreLawfulBounds, AreBoundSets, IsLawful, names-by, empty-map}
-use Rattle.revise_laws.proofs.Places.{all-each, name_at-there, names_apart, free_row-name}
+use Rattle.revise_laws.proofs.Places.{name_at-there, names_apart, free_row-name}
 
 labels : (names : List Name) → AreLabels names → AllByRecursion IsLabel names
 labels names are = both names (all-each IsName names are.each) (all-each (λ name. is_empty name ≡ false) names are.present)

@@ -5,7 +5,7 @@ use Rattle.std.specs.Option.{IfSome}
 use Rattle.std.proofs.lemmas.List.{length-append}
 use Rattle.card_definitions.specs.Words.{is_empty, ◌⟹◌}
 use Rattle.card_definitions.specs.Fields.{Reading}
-use Rattle.card_definitions.proofs.Behind.{passes, test_fails}
+use Rattle.card_definitions.proofs.FirstFaults.{passes, test_fails}
 use Rattle.problem_definitions.specs.declared.TheConstants.{MAX_COLUMNS, MAX_ENTRIES}
 use Rattle.problem_definitions.specs.Names.{Name, same, marker, different}
 use Rattle.problem_definitions.specs.Kinds.{takes_value}

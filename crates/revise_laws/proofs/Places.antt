@@ -10,16 +10,6 @@ use Rattle.problem_definitions.specs.Valid.{IsNumberOf, is_free_row}
 use Rattle.problem_definitions.proofs.Names.{same_eq, same_refl, same_sym}
 use Rattle.problem_definitions.proofs.Places.{number_in-is}
 
-pub all-each : {X : Type 0} (P : X → Type 0) (xs : List X) → All P xs → AllByRecursion P xs
-all-each P [] all = tt
-all-each P (x ∷ xs) all = (all zero x first, all-each P xs (λ k d below. all (suc k) d (next k below)))
-  where
-    first : 0 < suc (length xs)
-    first = omega arith
-
-    next : (k : ℕ) → k < length xs → suc k < suc (length xs)
-    next k below = omega (arith, below)
-
 -- the name at a place, from 0
 abbrev at : List Name → ℕ → Name
 at names place = unwrap_or (slice_get names place) []

@@ -5,7 +5,7 @@ use Rattle.std.specs.Option.{option_or}
 use Rattle.std.proofs.lemmas.List.{map-append, length-append, length-map}
 use Rattle.std.proofs.lemmas.Bool.{not-false}
 use Rattle.card_definitions.specs.Words.{is_empty, ◌⟹◌}
-use Rattle.card_definitions.proofs.Behind.{no_first, no_second, passes, test_fails}
+use Rattle.card_definitions.proofs.FirstFaults.{no_first, no_second, passes, test_fails}
 use Rattle.problem_definitions.specs.declared.TheConstants.{MAX_ENTRIES}
 use Rattle.problem_definitions.specs.Names.{Name, same, has_name}
 use Rattle.problem_definitions.specs.Problem.{Entry, Problem, has_row, has_free_row, has_entry}

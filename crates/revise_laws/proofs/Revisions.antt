@@ -6,7 +6,7 @@ use Rattle.std.proofs.lemmas.List.{append_assoc, append-nil}
 use Rattle.card_definitions.specs.Words.{is_empty, unless, ◌⟹◌}
 use Rattle.card_definitions.specs.Cards.{Card, is_printable, is_skipped, live, last_number}
 use Rattle.card_definitions.specs.Fields.{Reading, reading_of}
-use Rattle.card_definitions.proofs.Behind.{no_first, no_second, passes}
+use Rattle.card_definitions.proofs.FirstFaults.{no_first, no_second, passes}
 use Rattle.problem_definitions.specs.Names.{Name}
 use Rattle.problem_definitions.specs.Problem.{Problem}
 use Rattle.problem_definitions.specs.Groups.{in_group}

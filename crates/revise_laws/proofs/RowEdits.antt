@@ -5,7 +5,7 @@ use Rattle.std.specs.Option.{option_map}
 use Rattle.std.proofs.lemmas.List.{length-map}
 use Rattle.card_definitions.specs.Words.{is_empty, named, ◌⟹◌}
 use Rattle.card_definitions.specs.Fields.{Reading}
-use Rattle.card_definitions.proofs.Behind.{passes, test_fails}
+use Rattle.card_definitions.proofs.FirstFaults.{passes, test_fails}
 use Rattle.problem_definitions.specs.declared.TheConstants.{MAX_ROWS, MAX_COLUMNS}
 use Rattle.problem_definitions.specs.declared.RowKind.{RowKind}
 use Rattle.problem_definitions.specs.Names.{Name, same, has_name, marker}

@@ -54,9 +54,9 @@ module _ {X : Type 0} where
   total-placed (d ∷ es) (suc place) e = omega (arith, cons d (insert es place e), cons d es, total-placed es place e)
 
   -- the count is kept with what is put, taken out or placed
-  pub count_put : (name : Name) (v : List X) (es after : List (Name × List X)) (count before behind less more : ℕ) → count ≡ total es → after ≡ insert_entry same es name v → before ≡ length (under name es)
-      → behind ≡ length (under name after) → less ≡ count - before → more ≡ less + behind → more ≡ total after
-  count_put name v es after count before behind less more c a b h l m =
+  pub count_put : (name : Name) (v : List X) (es after : List (Name × List X)) (count before afterwards less more : ℕ) → count ≡ total es → after ≡ insert_entry same es name v → before ≡ length (under name es)
+      → afterwards ≡ length (under name after) → less ≡ count - before → more ≡ less + afterwards → more ≡ total after
+  count_put name v es after count before afterwards less more c a b h l m =
       let grown : total after ≡ total (insert_entry same es name v) = ap total a in
       let at : length (under name after) ≡ length v = ap (λ list. length (under name list)) a ∙ ap (λ o. length (unwrap_or o [])) (lookup-own name v es) in
       omega (arith, c, b, h, l, m, grown, at, total-put name v es, total-removed name es)

@@ -4,7 +4,7 @@ use Rattle.std.specs.List.{sum_by}
 use Rattle.std.specs.Option.{option_or}
 use Rattle.card_definitions.specs.Words.{is_empty, ◌⟹◌, first_fault}
 use Rattle.card_definitions.specs.Fields.{Reading}
-use Rattle.card_definitions.proofs.Behind.{first_fault-append}
+use Rattle.card_definitions.proofs.FirstFaults.{first_fault-append, or_none}
 use Rattle.problem_definitions.specs.declared.TheConstants.{MAX_COLUMNS}
 use Rattle.problem_definitions.specs.Names.{Name}
 use Rattle.problem_definitions.specs.Problem.{Entry, Group, Problem, has_group}
@@ -16,7 +16,6 @@ use Rattle.deck_definitions.specs.DataCards.{pairs_of}
 use Rattle.deck_definitions.specs.Tests.{kind_filled, marks, pairs_fault}
 use Rattle.revise_definitions.specs.Tests.{puts_fault, modify_columns_fault}
 use Rattle.revise_parts.specs.Summary.{insert_columns_test}
-use Rattle.deck_parts.proofs.Second.{or_none}
 
 module _ (seen : Problem Name) (card : Reading) where
   abbrev head : List (Option DeckFaultKind)

@@ -34,7 +34,7 @@ impl Model for UnderAction {
 }
 
 impl UnderAction {
-    /// Behind the card of an action that gives this name.
+    /// After the card of an action that gives this name.
     pub fn new(alloc: Global, anchor: Name) -> UnderAction
         ensures { result ≡ record { anchor = anchor; there = 0; names = []; last = None } }
     {

@@ -1,7 +1,11 @@
 -- A chain that is begun, and the rest of it, make a whole chain.
-use Rattle.std.proofs.Common.{◌≡◌, List, [], ◌∷◌, ◌++◌, refl, sym, ap, subst, ◌∙◌}
+use Rattle.std.proofs.Common.{◌≡◌, ℕ, zero, suc, false, List, [], ◌∷◌, ◌++◌, replicate, refl, sym, ap, subst, ◌∙◌}
+use Rattle.std.specs.Prelude.{slice_index_or}
 use Rattle.std.proofs.lemmas.List.{append_assoc}
-use Rattle.exact_values.specs.Rational.{ℚ}
+use Rattle.exact_values.specs.Rational.{ℚ, zero_ℚ, ◌≤ℚ◌, ◌<ℚ◌}
+use Rattle.exact_values.specs.Tests.{eq_ℚ}
+use Rattle.exact_values.proofs.Order.{lt_from_le}
+use Rattle.exact_values.proofs.Tests_laws.{apart_from_eq_fails}
 use Rattle.lp_definitions.specs.LinearProgram.{LinearProgram}
 use Rattle.lp_definitions.specs.declared.Status.{Status}
 use Rattle.method_definitions.specs.Path.{last_of}
@@ -24,3 +28,12 @@ module _ (family : ℚ → LinearProgram) (Face : ℚ → List Status → FaceTu
   begun_last _ _ _ _ nothing = refl
   begun_last _ _ _ _ (then {parts} {theta} {now} {path} {part} {bases} begun is faces) =
       last_of-append s path bases ∙ ap (λ x. last_of x bases) (begun_last parts theta now path begun)
+
+-- an end other than the last value is before it
+pub before_max : (to max : ℚ) → to ≤ℚ max → eq_ℚ to max ≡ false → to <ℚ max
+before_max to max within other = lt_from_le within (apart_from_eq_fails to max other)
+
+pub zero_in : (n i : ℕ) → slice_index_or (replicate n zero_ℚ) i zero_ℚ ≡ zero_ℚ
+zero_in zero i = refl
+zero_in (suc n) zero = refl
+zero_in (suc n) (suc i) = zero_in n i

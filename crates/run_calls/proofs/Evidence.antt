@@ -1,7 +1,7 @@
 -- Evidence of a call on a linear program without a change row is evidence of another statement, whose program at the value that the
 -- evidence names differs in the change row alone.
-use Rattle.std.proofs.Common.{arith, ◌≡◌, ℕ, ◌≤◌, inl, inr, List, [], ◌∷◌, ◌++◌, map, true, false, refl, sym, ◌∙◌, ap, subst}
-use Rattle.std.specs.Prelude.{Option, Some, None, IsTrue, Contains}
+use Rattle.std.proofs.Common.{arith, ◌≡◌, ℕ, ◌≤◌, inl, inr, List, [], ◌∷◌, ◌++◌, map, true, false, refl, sym, ◌∙◌, ap, subst, Bool, not, ◌&&◌, ◌||◌}
+use Rattle.std.specs.Prelude.{nat_eq, Option, Some, None, IsTrue, Contains}
 use Rattle.exact_values.specs.Rational.{ℚ}
 use Rattle.lp_definitions.specs.LinearProgram.{Matrix, LinearProgram}
 use Rattle.lp_definitions.specs.Basis.{Basics, basics_of, exchanged, AreRates, Tableau, IsTableau}
@@ -19,11 +19,19 @@ use Rattle.method_definitions.specs.Evidence.{Formula, by_exchange, by_entry, by
 use Rattle.basis_values.specs.Calls.{StopsAt, job_of}
 use Rattle.run_calls.specs.Walks.{EvidenceHere}
 
+-- ---- the numbers of formulas that a call at a step may show
+
+pub step_number : (n term : ℕ) → (is_between 1 12 n && (not (nat_eq n 6) || not (nat_eq term 3))) ≡ true → is_between 1 12 n ≡ true
+step_number n term h = grind arith
+
+pub step_moves : (n : ℕ) → is_between 8 9 n ≡ true → is_between 7 9 n ≡ true
+step_moves n h = grind arith
+
+-- ---- formulas of a point and of a move know of no change row
+
 -- p with any change row, or none
 abbrev changed : LinearProgram → Option Change → LinearProgram
 changed p o = record p { change = o }
-
--- ---- formulas of a point and of a move know of no change row
 
 module _ (p : LinearProgram) (o : Option Change) (s : List Status) (t : Tableau) (e : Evidence) where
   point_as : PointFormula p s t e → PointFormula (changed p o) s t e

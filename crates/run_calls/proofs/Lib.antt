@@ -1,3 +1,4 @@
+pub mod Openings
 pub mod Chains
 pub mod Walks
 pub mod Evidence

@@ -38,8 +38,8 @@ settled (Does outcome) = Some outcome
 settled (MayStop refusals move) = settled move
 settled (Asks question sheet s go) = None
 
-abbrev pub behind : Gain → Course → Course
-behind gain course = record { reports = printed_by gain ++ course.reports; cards = punched_by gain ++ course.cards; ending = course.ending }
+abbrev pub following : Gain → Course → Course
+following gain course = record { reports = printed_by gain ++ course.reports; cards = punched_by gain ++ course.cards; ending = course.ending }
 
 abbrev pub unanswered : Course
 unanswered = record { reports = []; cards = []; ending = None }
@@ -49,7 +49,7 @@ end gain ending = record { reports = printed_by gain; cards = punched_by gain; e
 
 abbrev pub goes_on : (State → Course) → Option Outcome → Course
 goes_on course None = unanswered
-goes_on course (Some (Goes gain state)) = behind gain (course state)
+goes_on course (Some (Goes gain state)) = following gain (course state)
 goes_on course (Some (Ends gain ending)) = end gain ending
 
 abbrev pub by_statement : (State → Course) → State → Option (Statement ℕ) → Course

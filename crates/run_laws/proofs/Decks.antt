@@ -7,7 +7,7 @@ use Rattle.card_definitions.specs.declared.CardFault.TheVariants.{TooLong, NotPr
 use Rattle.card_definitions.specs.declared.TheConstants.{CARD_COLUMNS}
 use Rattle.card_definitions.specs.Words.{◌⟹◌, is_empty, without_leading}
 use Rattle.card_definitions.specs.Cards.{Card, cards_of, numbered_cards, is_skipped, is_printable, card_fault, is_too_long, job_fault}
-use Rattle.card_definitions.proofs.Behind.{passes, test_fails}
+use Rattle.card_definitions.proofs.FirstFaults.{passes, test_fails}
 use Rattle.problem_definitions.specs.Names.{Name}
 use Rattle.deck_definitions.specs.declared.Section.TheVariants.{Endata}
 use Rattle.deck_definitions.specs.Sections.{begins}

@@ -16,6 +16,7 @@ use Rattle.control_definitions.specs.Statements.{statement_of, verb_word, Argume
 use Rattle.control_definitions.specs.Arguments.{if_passes, is_name, quotation, quoted_name, title_argument, number_argument, limit_argument, label_text, setup_arguments}
 use Rattle.control_definitions.specs.Verbs.{Cell, OfName, OfNumber, OfLimit, cell_words, demand_words, moved, VerbWord, Alone, TakesTitle, TakesCell, TakesDemand, TakesLabel, TakesOptions, EndsProgram, verb_words, verb_with, verb_of}
 use Rattle.control_definitions.specs.Compiled.{positioned, statement_on, program_of, control_fault, cards_to_pend, compiled}
+use Rattle.control_definitions.proofs.Names.{all_three, at_most_eight, passes_name}
 
 -- what a verb moves to a cell of names is a name
 abbrev pub MovesName : {L : Type 0} → Verb L → Type 0
@@ -57,20 +58,6 @@ line_holds P (line ∷ table) word each = by (bytes_eq line.0 word) (line_holds 
     by false rest = rest
 
 -- ---- names
-
-all_three : (a b c : Bool) → (a && b && c) ≡ true → (a ≡ true) × (b ≡ true) × (c ≡ true)
-all_three true true true e = (refl, refl, refl)
-all_three true true false e = cc e
-all_three true false c e = cc e
-all_three false b c e = cc e
-
-at_most_eight : (n : ℕ) → leb n 8 ≡ true → n ≤ 8
-at_most_eight n e = grind (arith, nat_tests)
-
-passes_name : (text : List ℕ) → is_name text ≡ true → IsName text
-passes_name text e =
-    let each = all_three (leb (length text) 8) (list_all is_printable text) (bytes_eq (without_trailing is_blank text) text) e in
-    record { short = at_most_eight (length text) each.0; printable = each.1; trimmed = (bytes_eq-Decides (without_trailing is_blank text) text).0 each.2 }
 
 -- ---- cards
 

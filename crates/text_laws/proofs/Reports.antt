@@ -215,14 +215,14 @@ module _ (solver : Solver) where
   run_tells k [] (y ∷ ys) a b x_named y_named a_named b_named e = absurd (no_end k y ys a b e)
   run_tells k (x ∷ xs) [] a b x_named y_named a_named b_named e = absurd (no_end k x xs b a (sym e))
   run_tells k (x ∷ xs) (y ∷ ys) a b x_named y_named a_named b_named e =
-      let behind = run_text (k + 1) xs a in
+      let after = run_text (k + 1) xs a in
       let other = run_text (k + 1) ys b in
-      let whole = sym (interval_parts k x behind) ∙ sym (append_assoc (interval_text (k, x)) (flat_map interval_text (enumerate_from (k + 1) xs)) (chain_end_text solver a ++ []))
+      let whole = sym (interval_parts k x after) ∙ sym (append_assoc (interval_text (k, x)) (flat_map interval_text (enumerate_from (k + 1) xs)) (chain_end_text solver a ++ []))
       ∙ e ∙ append_assoc (interval_text (k, y)) (flat_map interval_text (enumerate_from (k + 1) ys)) (chain_end_text solver b ++ []) ∙ interval_parts k y other in
       let number = number_then (codes " FROM ") k k _ _ refl (append_cancel_left (codes "INTERVAL ") _ _ whole) in
       let first = rational_then (codes " TO ") x.from y.from _ _ refl number.1 in
       let last = rational_then (codes "\n") x.to y.to _ _ refl first.1 in
-      let lines = table_tells x.lines y.lines behind other (x_named 0 x (omega arith)) (y_named 0 y (omega arith)) (run_is_no_line (k + 1) xs a) (run_is_no_line (k + 1) ys b) last.1 in
+      let lines = table_tells x.lines y.lines after other (x_named 0 x (omega arith)) (y_named 0 y (omega arith)) (run_is_no_line (k + 1) xs a) (run_is_no_line (k + 1) ys b) last.1 in
       let rest = run_tells (k + 1) xs ys a b (λ i d below. x_named (suc i) d (omega (arith, below))) (λ i d below. y_named (suc i) d (omega (arith, below))) a_named b_named lines.1 in
       (ap₂ (λ z zs. z ∷ zs) (same_interval x y first.0 last.0 lines.0) rest.0, rest.1)
 

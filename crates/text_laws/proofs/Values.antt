@@ -132,9 +132,9 @@ record Ends (rest : List ℕ) : Type 0 where
   is : rest ≡ byte ∷ bytes
   ends : ends_value byte ≡ true
 
-values_end : (xs : List Value) (behind : List ℕ) → Ends (values_text xs ++ 10 ∷ behind)
-values_end [] behind = record { byte = 10; bytes = behind; is = refl; ends = refl }
-values_end (x ∷ xs) behind = record { byte = 32; bytes = (value_text x ++ values_text xs) ++ 10 ∷ behind; is = refl; ends = refl }
+values_end : (xs : List Value) (after : List ℕ) → Ends (values_text xs ++ 10 ∷ after)
+values_end [] after = record { byte = 10; bytes = after; is = refl; ends = refl }
+values_end (x ∷ xs) after = record { byte = 32; bytes = (value_text x ++ values_text xs) ++ 10 ∷ after; is = refl; ends = refl }
 
 -- two values with what stands after them
 one_value : (x y : Value) (r s : List ℕ) → Ends r → Ends s → value_text x ++ r ≡ value_text y ++ s → (x ≡ y) × (r ≡ s)

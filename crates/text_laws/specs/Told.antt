@@ -20,8 +20,8 @@ begins_line (byte ∷ bytes) = byte == 32 || is_digit byte
 
 -- A table ends where no line begins: two tables with equal texts have the same lines, and the same text stands after them.
 abbrev pub TellsTables : Type 0
-TellsTables = (xs ys : List Line) (behind other : List ℕ) → All (λ line. IsName line.name) xs → All (λ line. IsName line.name) ys
-    → begins_line behind ≡ false → begins_line other ≡ false → table_text xs ++ behind ≡ table_text ys ++ other → (xs ≡ ys) × (behind ≡ other)
+TellsTables = (xs ys : List Line) (after other : List ℕ) → All (λ line. IsName line.name) xs → All (λ line. IsName line.name) ys
+    → begins_line after ≡ false → begins_line other ≡ false → table_text xs ++ after ≡ table_text ys ++ other → (xs ≡ ys) × (after ≡ other)
 
 -- ---- reports
 

@@ -5,6 +5,7 @@ use Rattle.std.proofs.lemmas.List.{append_assoc, append-nil}
 use Rattle.card_definitions.specs.Words.{first_fault, named, ◌⟹◌}
 use Rattle.card_definitions.specs.Cards.{Card, is_skipped, live, numbered_from}
 use Rattle.card_definitions.specs.Fields.{Fixed, Reading, reading_of}
+use Rattle.card_definitions.proofs.Numbered.{numbered_from-append, live-append}
 use Rattle.problem_definitions.specs.Names.{Name}
 use Rattle.problem_definitions.specs.Problem.{Problem}
 use Rattle.deck_definitions.specs.declared.DeckFaultKind.{DeckFaultKind}
@@ -33,20 +34,6 @@ pub record AreTaken (before cards : List Card) (place : Option Section) (problem
 abbrev pub Accepts : Option Section → Problem Name → List (List ℕ) → Option Section → Problem Name → Type 0
 Accepts from p texts to q = (n : ℕ) (before : List Card) → Stands before from p → AreTaken before (numbered_from n texts) to q
 
-numbered-append : (n : ℕ) (xs ys : List (List ℕ)) → numbered_from n (xs ++ ys) ≡ numbered_from n xs ++ numbered_from (n + length xs) ys
-numbered-append n [] ys = let none : n ≡ n + 0 = omega arith in ap (λ k. numbered_from k ys) none
-numbered-append n (x ∷ xs) ys =
-    let more : n + 1 + length xs ≡ n + length (x ∷ xs) = omega arith in
-    ap (λ list. record { number = n; bytes = x } ∷ list) (numbered-append (n + 1) xs ys ∙ ap (λ k. numbered_from (n + 1) xs ++ numbered_from k ys) more)
-
-live-append : (xs ys : List Card) → live (xs ++ ys) ≡ live xs ++ live ys
-live-append [] ys = refl
-live-append (x ∷ xs) ys = by (not (is_skipped x.bytes)) (live-append xs ys)
-  where
-    by : (b : Bool) → live (xs ++ ys) ≡ live xs ++ live ys → cond b (x ∷ live (xs ++ ys)) (live (xs ++ ys)) ≡ cond b (x ∷ live xs) (live xs) ++ live ys
-    by true e = ap (λ list. x ∷ list) e
-    by false e = e
-
 none_or : {F : Type 0} (a b : Option F) → a ≡ None → b ≡ None → option_or a b ≡ None
 none_or None b ea eb = eb
 none_or (Some x) b ea eb = ea
@@ -62,7 +49,7 @@ pub accepts-then : {a b c : Option Section} {p q r : Problem Name} (xs ys : List
 accepts-then {c = c} {r = r} xs ys f h = λ n before s.
     let first = f n before s in
     let second = h (n + length xs) (before ++ numbered_from n xs) first.after in
-    joined before (numbered_from n xs) (numbered_from (n + length xs) ys) (numbered_from n (xs ++ ys)) (numbered-append n xs ys) first.alive first.fine second
+    joined before (numbered_from n xs) (numbered_from (n + length xs) ys) (numbered_from n (xs ++ ys)) (numbered_from-append n xs ys) first.alive first.fine second
   where
     joined : (before one two whole : List Card) → whole ≡ one ++ two → live one ≡ one → first_faulty card_fault before one ≡ None → AreTaken (before ++ one) two c r → AreTaken before whole c r
     joined before one two whole e alive fine second = subst (λ cards. AreTaken before cards c r) (sym e) (record {

@@ -41,11 +41,11 @@ blank_trimmed k xs h = blank_front k (without_trailing is_blank xs) (trailing_sp
 
 -- a column after a part of so many columns
 over : (n k : ℕ) (part rest : List ℕ) → length part ≡ n → IsBlankAt k rest → IsBlankAt (n + k) (part ++ rest)
-over n k part rest long h = subst (λ m. IsBlankAt (m + k) (part ++ rest)) long (behind part)
+over n k part rest long h = subst (λ m. IsBlankAt (m + k) (part ++ rest)) long (after part)
   where
-    behind : (part : List ℕ) → IsBlankAt (length part + k) (part ++ rest)
-    behind [] = let none : k ≡ 0 + k = omega arith in subst (λ m. IsBlankAt m rest) none h
-    behind (x ∷ xs) = let more : suc (length xs + k) ≡ length (x ∷ xs) + k = omega arith in subst (λ m. IsBlankAt m ((x ∷ xs) ++ rest)) more (behind xs)
+    after : (part : List ℕ) → IsBlankAt (length part + k) (part ++ rest)
+    after [] = let none : k ≡ 0 + k = omega arith in subst (λ m. IsBlankAt m rest) none h
+    after (x ∷ xs) = let more : suc (length xs + k) ≡ length (x ∷ xs) + k = omega arith in subst (λ m. IsBlankAt m ((x ∷ xs) ++ rest)) more (after xs)
 
 past : (k : ℕ) (xs : List ℕ) → length xs ≤ k → IsBlankAt k xs
 past k xs short = ap (λ list. list_all is_blank (take 1 list)) (drop_of_length-le xs short)
@@ -55,17 +55,17 @@ module _ (K A B v : List ℕ) (lK : length K ≡ 2) (lA : length A ≡ 8) (lB : 
   line = 32 ∷ (K ++ 32 ∷ (A ++ 32 ∷ 32 ∷ (B ++ 32 ∷ 32 ∷ v)))
 
   -- a column after each of the fields
-  behind_kind : (k : ℕ) → IsBlankAt k (32 ∷ (A ++ 32 ∷ 32 ∷ (B ++ 32 ∷ 32 ∷ v))) → IsBlankAt (suc (2 + k)) line
-  behind_kind k h = over 2 k K (32 ∷ (A ++ 32 ∷ 32 ∷ (B ++ 32 ∷ 32 ∷ v))) lK h
+  after_kind : (k : ℕ) → IsBlankAt k (32 ∷ (A ++ 32 ∷ 32 ∷ (B ++ 32 ∷ 32 ∷ v))) → IsBlankAt (suc (2 + k)) line
+  after_kind k h = over 2 k K (32 ∷ (A ++ 32 ∷ 32 ∷ (B ++ 32 ∷ 32 ∷ v))) lK h
 
-  behind_name1 : (k : ℕ) → IsBlankAt k (32 ∷ 32 ∷ (B ++ 32 ∷ 32 ∷ v)) → IsBlankAt (suc (2 + suc (8 + k))) line
-  behind_name1 k h = behind_kind (suc (8 + k)) (over 8 k A (32 ∷ 32 ∷ (B ++ 32 ∷ 32 ∷ v)) lA h)
+  after_name1 : (k : ℕ) → IsBlankAt k (32 ∷ 32 ∷ (B ++ 32 ∷ 32 ∷ v)) → IsBlankAt (suc (2 + suc (8 + k))) line
+  after_name1 k h = after_kind (suc (8 + k)) (over 8 k A (32 ∷ 32 ∷ (B ++ 32 ∷ 32 ∷ v)) lA h)
 
-  behind_name2 : (k : ℕ) → IsBlankAt k (32 ∷ 32 ∷ v) → IsBlankAt (suc (2 + suc (8 + suc (suc (8 + k))))) line
-  behind_name2 k h = behind_name1 (suc (suc (8 + k))) (over 8 k B (32 ∷ 32 ∷ v) lB h)
+  after_name2 : (k : ℕ) → IsBlankAt k (32 ∷ 32 ∷ v) → IsBlankAt (suc (2 + suc (8 + suc (suc (8 + k))))) line
+  after_name2 k h = after_name1 (suc (suc (8 + k))) (over 8 k B (32 ∷ 32 ∷ v) lB h)
 
-  behind_value : (k : ℕ) → 12 ≤ k → IsBlankAt (suc (2 + suc (8 + suc (suc (8 + suc (suc k)))))) line
-  behind_value k far = behind_name2 (suc (suc k)) (past k v (omega (arith, far, lv)))
+  after_value : (k : ℕ) → 12 ≤ k → IsBlankAt (suc (2 + suc (8 + suc (suc (8 + suc (suc k)))))) line
+  after_value k far = after_name2 (suc (suc k)) (past k v (omega (arith, far, lv)))
 
   column : (k : ℕ) → IsBlankAt k line → is_blank (unwrap_or (slice_get (without_trailing is_blank line) k) 32) ≡ true
   column k h = blank_column k (without_trailing is_blank line) (blank_trimmed k line h)
@@ -73,16 +73,16 @@ module _ (K A B v : List ℕ) (lK : length K ≡ 2) (lA : length A ≡ 8) (lB : 
   gaps_blank : gaps_are_blank (without_trailing is_blank line) ≡ true
   gaps_blank =
       and_from _ _ (column 0 refl)
-      (and_from _ _ (column 3 (behind_kind 0 refl))
-      (and_from _ _ (column 12 (behind_name1 0 refl))
-      (and_from _ _ (column 13 (behind_name1 1 refl))
-      (and_from _ _ (column 22 (behind_name2 0 refl))
-      (and_from _ _ (column 23 (behind_name2 1 refl))
-      (and_from _ _ (column 36 (behind_value 12 (lit≤ tt)))
-      (and_from _ _ (column 37 (behind_value 13 (lit≤ tt)))
-      (and_from _ _ (column 38 (behind_value 14 (lit≤ tt)))
-      (and_from _ _ (column 47 (behind_value 23 (lit≤ tt)))
-      (and_from _ _ (column 48 (behind_value 24 (lit≤ tt))) refl))))))))))
+      (and_from _ _ (column 3 (after_kind 0 refl))
+      (and_from _ _ (column 12 (after_name1 0 refl))
+      (and_from _ _ (column 13 (after_name1 1 refl))
+      (and_from _ _ (column 22 (after_name2 0 refl))
+      (and_from _ _ (column 23 (after_name2 1 refl))
+      (and_from _ _ (column 36 (after_value 12 (lit≤ tt)))
+      (and_from _ _ (column 37 (after_value 13 (lit≤ tt)))
+      (and_from _ _ (column 38 (after_value 14 (lit≤ tt)))
+      (and_from _ _ (column 47 (after_value 23 (lit≤ tt)))
+      (and_from _ _ (column 48 (after_value 24 (lit≤ tt))) refl))))))))))
 
 pub reassoc : (a K b A c B d v : List ℕ) → a ++ K ++ b ++ A ++ c ++ B ++ d ++ v ≡ a ++ (K ++ (b ++ (A ++ (c ++ (B ++ (d ++ v))))))
 reassoc a K b A c B d v = simp append_assoc
@@ -133,17 +133,17 @@ unfolding data_card reading_of
 written-card kind name1 name2 value fk lead f1 f2 fv some = record {
   reads = read;
   spaced = ap gaps_are_blank card_is ∙ gaps_blank (padded 2 kind) (padded 8 name1) (padded 8 name2) value (length-padded 2 kind fk.short) (length-padded 8 name1 f1.short) (length-padded 8 name2 f2.short) fv.short;
-  data_card = ap is_section_card card_is ∙ no_section behind;
-  there = ap is_skipped card_is ∙ not_skipped behind (ap is_empty (sym card_is) ∙ present (is_empty name1) (is_empty name2) some refl refl);
+  data_card = ap is_section_card card_is ∙ no_section after;
+  there = ap is_skipped card_is ∙ not_skipped after (ap is_empty (sym card_is) ∙ present (is_empty name1) (is_empty name2) some refl refl);
 }
   where
-    behind : List ℕ
-    behind = padded 2 kind ++ 32 ∷ (padded 8 name1 ++ 32 ∷ 32 ∷ (padded 8 name2 ++ 32 ∷ 32 ∷ value))
+    after : List ℕ
+    after = padded 2 kind ++ 32 ∷ (padded 8 name1 ++ 32 ∷ 32 ∷ (padded 8 name2 ++ 32 ∷ 32 ∷ value))
 
     card : List ℕ
     card = without_trailing is_blank (codes " " ++ padded 2 kind ++ codes " " ++ padded 8 name1 ++ codes "  " ++ padded 8 name2 ++ codes "  " ++ value)
 
-    card_is : card ≡ without_trailing is_blank (32 ∷ behind)
+    card_is : card ≡ without_trailing is_blank (32 ∷ after)
     card_is = ap (without_trailing is_blank) (reassoc (codes " ") (padded 2 kind) (codes " ") (padded 8 name1) (codes "  ") (padded 8 name2) (codes "  ") value)
 
     read : reading_of Fixed card ≡ fields kind name1 name2 value

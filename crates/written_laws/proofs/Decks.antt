@@ -17,7 +17,7 @@ use Rattle.deck_definitions.specs.Sections.{is_section, section_words, section_w
 use Rattle.deck_definitions.specs.Decks.{parts_ended_by, decks_of, name_of_deck}
 use Rattle.deck_definitions.specs.Written.{bound_kind_text, bound_text, data_card, row_card, entry_cards, column_cards, bound_cards, set_section, written}
 use Rattle.written_laws.proofs.Cards.{no_section, reassoc}
-use Rattle.written_laws.proofs.Whole.{name_card, behind_word, name_card-is, begun_by, header-is}
+use Rattle.written_laws.proofs.Whole.{name_card, after_word, name_card-is, begun_by, header-is}
 
 -- whether a text begins this section
 abbrev starts : Section → List ℕ → Bool
@@ -90,7 +90,7 @@ module _ (q : Problem Name) where
       let S1 = set_section (codes "RHS") entry_cards q.rhs in
       let S2 = set_section (codes "RANGES") entry_cards q.ranges in
       let S3 = set_section (codes "BOUNDS") bound_cards q.bounds in
-      let more = without_trailing is_blank (behind_word q.name) in (
+      let more = without_trailing is_blank (after_word q.name) in (
         ap (starts Endata) (name_card-is q.name) ∙ ap (λ o. unwrap_or (option_map (is_section Endata) o) false) (begun_by (is_empty more) more),
         (
           refl,
@@ -122,7 +122,7 @@ module _ (q : Problem Name) where
   called : (n : ℕ) → IsName q.name → name_of_deck (numbered_from n (written q)) ≡ Some q.name
   unfolding written
   called n is =
-      let more = without_trailing is_blank (behind_word q.name) in
+      let more = without_trailing is_blank (after_word q.name) in
       ap (λ b. cond b (Some (header_name (name_card q.name))) None) (ap (starts Header) (name_card-is q.name) ∙ ap (λ o. unwrap_or (option_map (is_section Header) o) false) (begun_by (is_empty more) more))
       ∙ ap Some (header-is q.name is)
 

@@ -7,11 +7,11 @@ use Rattle.problem_definitions.specs.Problem.{Row, Entry, Bound, Group, Problem,
 use Rattle.problem_definitions.specs.Numbering.{entry_by, bound_by, group_by, problem_by, numbered, by_names}
 use Rattle.problem_definitions.specs.Valid.{IsNumberOf, AreEntries, AreBounds, IsProblem}
 use Rattle.problem_definitions.proofs.Groups.{map-map}
-use Rattle.problem_definitions.proofs.Each.{each-change}
+use Rattle.problem_definitions.proofs.Each.{each-change, all-each}
 use Rattle.problem_definitions.proofs.PlainRows.{row_names-by, rows-again}
 use Rattle.problem_definitions.proofs.Lawful.{names-by}
 use Rattle.problem_definitions.proofs.Again.{map-kept, groups-again}
-use Rattle.revise_laws.proofs.Places.{all-each, number_in-name_at}
+use Rattle.revise_laws.proofs.Places.{number_in-name_at}
 
 module _ (names : List Name) (distinct : IsDistinct same names) (count : ℕ) (counted : count ≡ length names) where
   again : (number : ℕ) → IsNumberOf count number → number_in names (name_at names number) ≡ number

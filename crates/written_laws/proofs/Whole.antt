@@ -13,6 +13,7 @@ use Rattle.problem_definitions.specs.Problem.{Row, Entry, Bound, Group, Problem,
 use Rattle.problem_definitions.specs.Numbering.{entry_by, group_by, numbered, by_names}
 use Rattle.problem_definitions.specs.Valid.{IsName, IsProblem}
 use Rattle.problem_definitions.proofs.Lawful.{IsLabel, IsLawful}
+use Rattle.problem_definitions.proofs.Each.{all-each}
 use Rattle.deck_definitions.specs.declared.DeckFault.{DeckFault}
 use Rattle.deck_definitions.specs.declared.DeckFaultKind.TheVariants.{NoEndata}
 use Rattle.deck_definitions.specs.declared.Section.{Section}
@@ -21,7 +22,6 @@ use Rattle.deck_definitions.specs.Sections.{may_follow, is_section, section_begu
 use Rattle.deck_definitions.specs.Described.{described}
 use Rattle.deck_definitions.specs.Conversion.{section_card_fault, card_fault, first_faulty, deck_fault, deck_name, conversion}
 use Rattle.deck_definitions.specs.Written.{data_card, row_card, entry_cards, bound_cards, column_cards, set_section, written}
-use Rattle.revise_laws.proofs.Places.{all-each}
 use Rattle.revise_laws.proofs.ByNames.{named-lawful}
 use Rattle.written_laws.proofs.Accepts.{Stands, Accepts, accepts-none, accepts-then, accepts-section}
 use Rattle.written_laws.proofs.Facts.{from-map}
@@ -48,16 +48,16 @@ name_card name = without_trailing is_blank (codes "NAME          " ++ name)
 abbrev pub name_word : Bool → List ℕ → List ℕ
 name_word nothing more = 78 ∷ 65 ∷ 77 ∷ 69 ∷ cond (nothing && true) [] (32 ∷ more)
 
-abbrev pub behind_word : Name → List ℕ
-behind_word name = codes "         " ++ name
+abbrev pub after_word : Name → List ℕ
+after_word name = codes "         " ++ name
 
-pub name_card-is : (name : Name) → name_card name ≡ name_word (is_empty (without_trailing is_blank (behind_word name))) (without_trailing is_blank (behind_word name))
+pub name_card-is : (name : Name) → name_card name ≡ name_word (is_empty (without_trailing is_blank (after_word name))) (without_trailing is_blank (after_word name))
 name_card-is name =
     kept 78 (codes "AME          " ++ name) refl
     ∙ ap (λ w. 78 ∷ w) (kept 65 (codes "ME          " ++ name) refl
     ∙ ap (λ w. 65 ∷ w) (kept 77 (codes "E          " ++ name) refl
     ∙ ap (λ w. 77 ∷ w) (kept 69 (codes "          " ++ name) refl
-    ∙ ap (λ w. 69 ∷ w) (without_trailing-cons is_blank 32 (behind_word name)))))
+    ∙ ap (λ w. 69 ∷ w) (without_trailing-cons is_blank 32 (after_word name)))))
 
 pub begun_by : (nothing : Bool) (more : List ℕ) → section_begun (name_word nothing more) ≡ Some Header
 begun_by true more = refl
@@ -69,8 +69,8 @@ fine_first false more = refl
 
 name-accepted : (name : Name) (problem : Problem Name) → Accepts None problem (name_card name ∷ []) (Some Header) problem
 name-accepted name problem =
-    let nothing = is_empty (without_trailing is_blank (behind_word name)) in
-    let more = without_trailing is_blank (behind_word name) in
+    let nothing = is_empty (without_trailing is_blank (after_word name)) in
+    let more = without_trailing is_blank (after_word name) in
     subst (λ card. Accepts None problem (card ∷ []) (Some Header) problem) (sym (name_card-is name))
     (accepts-section None Header problem (name_word nothing more) refl (begun_by nothing more) refl (fine_first nothing more))
 
@@ -88,26 +88,26 @@ optional from section word cards put [] opens body = accepts-none from (put [])
 optional from section word cards put (set ∷ sets) opens body = accepts-then (word ∷ []) (flat_map cards (set ∷ sets)) opens body
 
 -- the section after the columns, the right-hand sides, the ranges and the bounds, where some may be left out
-abbrev behind_rhs : Bool → Option Section
-behind_rhs b = cond b (Some Columns) (Some Rhs)
+abbrev after_rhs : Bool → Option Section
+after_rhs b = cond b (Some Columns) (Some Rhs)
 
-abbrev behind_ranges : Bool → Bool → Option Section
-behind_ranges b c = cond c (behind_rhs b) (Some Ranges)
+abbrev after_ranges : Bool → Bool → Option Section
+after_ranges b c = cond c (after_rhs b) (Some Ranges)
 
-abbrev behind_bounds : Bool → Bool → Bool → Option Section
-behind_bounds b c d = cond d (behind_ranges b c) (Some Bounds)
+abbrev after_bounds : Bool → Bool → Bool → Option Section
+after_bounds b c d = cond d (after_ranges b c) (Some Bounds)
 
-ranges-follow : (b : Bool) → section_card_fault may_follow (behind_rhs b) (codes "RANGES") ≡ None
+ranges-follow : (b : Bool) → section_card_fault may_follow (after_rhs b) (codes "RANGES") ≡ None
 ranges-follow true = refl
 ranges-follow false = refl
 
-bounds-follow : (b c : Bool) → section_card_fault may_follow (behind_ranges b c) (codes "BOUNDS") ≡ None
+bounds-follow : (b c : Bool) → section_card_fault may_follow (after_ranges b c) (codes "BOUNDS") ≡ None
 bounds-follow true true = refl
 bounds-follow false true = refl
 bounds-follow true false = refl
 bounds-follow false false = refl
 
-endata-follows : (b c d : Bool) → section_card_fault may_follow (behind_bounds b c d) (codes "ENDATA") ≡ None
+endata-follows : (b c d : Bool) → section_card_fault may_follow (after_bounds b c d) (codes "ENDATA") ≡ None
 endata-follows b c false = refl
 endata-follows b false true = refl
 endata-follows true true true = refl
@@ -135,11 +135,11 @@ module _ (q : Problem Name) (lawful : IsLawful q) (some : AllByRecursion (λ (co
       (accepts-then columns_text rhs_text
       (subst (λ texts. Accepts (Some Columns) (with_columns []) texts (Some Columns) (with_columns q.columns)) (sym (column-cards q.rows q.columns some)) (columns-accepted q.rows lawful.row_labels q.columns lawful.columns some lawful.few_columns lawful.few_entries))
       (optional (Some Columns) Rhs (codes "RHS") entry_cards with_rhs q.rhs (accepts-section (Some Columns) Rhs (with_rhs []) (codes "RHS") refl refl refl refl) (rhs-accepted q.rows lawful.row_labels q.columns q.rhs lawful.rhs)))
-      (optional (behind_rhs no_rhs) Ranges (codes "RANGES") entry_cards with_ranges q.ranges (accepts-section (behind_rhs no_rhs) Ranges (with_ranges []) (codes "RANGES") refl refl refl (ranges-follow no_rhs))
+      (optional (after_rhs no_rhs) Ranges (codes "RANGES") entry_cards with_ranges q.ranges (accepts-section (after_rhs no_rhs) Ranges (with_ranges []) (codes "RANGES") refl refl refl (ranges-follow no_rhs))
       (ranges-accepted q.rows lawful.row_labels q.columns q.rhs q.ranges lawful.ranges)))
-      (optional (behind_ranges no_rhs no_ranges) Bounds (codes "BOUNDS") bound_cards with_bounds q.bounds (accepts-section (behind_ranges no_rhs no_ranges) Bounds (with_bounds []) (codes "BOUNDS") refl refl refl (bounds-follow no_rhs no_ranges))
+      (optional (after_ranges no_rhs no_ranges) Bounds (codes "BOUNDS") bound_cards with_bounds q.bounds (accepts-section (after_ranges no_rhs no_ranges) Bounds (with_bounds []) (codes "BOUNDS") refl refl refl (bounds-follow no_rhs no_ranges))
       (bounds-accepted q.rows q.columns q.rhs q.ranges lawful.columns.names q.bounds lawful.bounds)))
-      (accepts-section (behind_bounds no_rhs no_ranges no_bounds) Endata unnamed (codes "ENDATA") refl refl refl (endata-follows no_rhs no_ranges no_bounds))
+      (accepts-section (after_bounds no_rhs no_ranges no_bounds) Endata unnamed (codes "ENDATA") refl refl refl (endata-follows no_rhs no_ranges no_bounds))
     where
       columns_text : List (List ℕ)
       columns_text = flat_map (column_cards q.rows) q.columns
@@ -182,11 +182,11 @@ module _ (q : Problem Name) (lawful : IsLawful q) (some : AllByRecursion (λ (co
   unfolding written
   deck-accepted =
       let with_rows : Problem Name = record { name = []; rows = q.rows; columns = []; rhs = []; ranges = []; bounds = [] } in
-      let behind_columns : List (List ℕ) = flat_map (column_cards q.rows) q.columns ++ set_section (codes "RHS") entry_cards q.rhs ++ set_section (codes "RANGES") entry_cards q.ranges ++ set_section (codes "BOUNDS") bound_cards q.bounds ++ codes "ENDATA" ∷ [] in
-      accepts-then (name_card q.name ∷ []) (codes "ROWS" ∷ (map row_card q.rows ++ codes "COLUMNS" ∷ behind_columns)) (name-accepted q.name nothing)
-      (accepts-then (codes "ROWS" ∷ []) (map row_card q.rows ++ codes "COLUMNS" ∷ behind_columns) (accepts-section (Some Header) Rows nothing (codes "ROWS") refl refl refl refl)
-      (accepts-then (map row_card q.rows) (codes "COLUMNS" ∷ behind_columns) (rows-accepted [] [] [] [] [] q.rows lawful.plain_rows (from-map IsLabel (λ (row : Row Name). row.name) q.rows lawful.row_labels) lawful.rows_distinct lawful.few_rows)
-      (accepts-then (codes "COLUMNS" ∷ []) behind_columns (accepts-section (Some Rows) Columns with_rows (codes "COLUMNS") refl refl refl refl) sections-accepted)))
+      let after_columns : List (List ℕ) = flat_map (column_cards q.rows) q.columns ++ set_section (codes "RHS") entry_cards q.rhs ++ set_section (codes "RANGES") entry_cards q.ranges ++ set_section (codes "BOUNDS") bound_cards q.bounds ++ codes "ENDATA" ∷ [] in
+      accepts-then (name_card q.name ∷ []) (codes "ROWS" ∷ (map row_card q.rows ++ codes "COLUMNS" ∷ after_columns)) (name-accepted q.name nothing)
+      (accepts-then (codes "ROWS" ∷ []) (map row_card q.rows ++ codes "COLUMNS" ∷ after_columns) (accepts-section (Some Header) Rows nothing (codes "ROWS") refl refl refl refl)
+      (accepts-then (map row_card q.rows) (codes "COLUMNS" ∷ after_columns) (rows-accepted [] [] [] [] [] q.rows lawful.plain_rows (from-map IsLabel (λ (row : Row Name). row.name) q.rows lawful.row_labels) lawful.rows_distinct lawful.few_rows)
+      (accepts-then (codes "COLUMNS" ∷ []) after_columns (accepts-section (Some Rows) Columns with_rows (codes "COLUMNS") refl refl refl refl) sections-accepted)))
 
   start : Stands [] None nothing
   unfolding described

@@ -1,12 +1,9 @@
 -- The first card that isn't skipped, and what comes after a skipped one.
 use Rattle.std.proofs.Common.{◌≡◌, ℕ, ◌+◌, ◌-◌, true, false, ap, ◌∙◌, arith, rules}
 use Rattle.std.specs.Prelude.{slice_get}
-use Rattle.control_compiler.proofs.Live.{live_next, skipped_next}
+use Rattle.control_compiler.proofs.Live.{live_next, skipped_next, same_place}
 use Rattle.card_definitions.specs.Cards.{is_skipped}
 use Rattle.control_compiler.proofs.reading.first_live.Goals as goal
-
-same_place : (number : ℕ) → number ≡ number + 1 - 1
-same_place number = omega arith
 
 pub returns-then-not-is_skipped : goal.returns-then-not-is_skipped
 returns-then-not-is_skipped c =

@@ -1,10 +1,10 @@
 -- All cards up to the number are skipped.
 use Rattle.std.proofs.Common.{◌≡◌, ◌-◌, length}
-use Rattle.control_compiler.specs.Jobs.{live_cards, live_behind}
+use Rattle.control_compiler.specs.Jobs.{live_cards, live_after}
 use Rattle.control_compiler.proofs.reading.first_live.Given as goal
 
 abbrev pub invariant-loop-number : goal.invariant-loop-number
-invariant-loop-number l = live_cards l.cards ≡ live_behind l.number l.cards
+invariant-loop-number l = live_cards l.cards ≡ live_after l.number l.cards
 
 abbrev pub decreases-loop-number : goal.decreases-loop-number
 decreases-loop-number l = length l.cards - l.number

@@ -25,11 +25,11 @@ loop-deck-preserved c =
     let from_one : 1 ≤ deck.first = omega (arith, within.0) in
     let first = first_of_deck deck.first deck.last cards c.card.result.bytes.now from_one within.1 c.card.ensures in
     let unwanted : is_wanted c.args.wanted (cards_between deck.first deck.last cards) ≡ false = ap (is_wanted c.args.wanted) first ∙ sym (c.is_wanted.ensures deck.first _) ∙ c.if-is_wanted.false in
-    let behind : deck.last ≡ deck.last + 1 - 1 = omega arith in
+    let after : deck.last ≡ deck.last + 1 - 1 = omega arith in
     record {
       taken = c.loop-deck.invariant.taken ∙ ap (deck_taken c.args.wanted) c.in-Some.ensures.deck
           ∙ pass_first c.args.wanted (cards_between deck.first deck.last cards) (decks_of (drop deck.last (numbered_cards cards))) unwanted
-          ∙ ap (λ n. deck_taken c.args.wanted (decks_of (drop n (numbered_cards cards)))) behind;
+          ∙ ap (λ n. deck_taken c.args.wanted (decks_of (drop n (numbered_cards cards)))) after;
       later = omega (arith, within.0, within.1, c.loop-deck.invariant.later);
       within = omega (arith, within.2);
     }

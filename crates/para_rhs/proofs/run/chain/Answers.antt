@@ -10,7 +10,8 @@ use Rattle.para_rhs.specs.Refusals.{RunRefused}
 use Rattle.lp_model.proofs.Stops.{IfOverflow-map}
 use Rattle.bounded_primal.specs.declared.moves.PrimalStop.TheVariants.{NoMemory}
 use Rattle.run_calls.specs.Calls.{part_of}
-use Rattle.para_rhs.proofs.ChainWalk.{Begins, before_max, point_stops_interval, motion_stops_interval, progress, parts_begin, parts_more, ends_at_max, ends_past, opens_first_any, opens_second_any, first_stops, later_stops, stops_any, stood_any, follows_any, opens_more, stood_past, faces_stop_any, faces_follow_any}
+use Rattle.run_calls.proofs.Chains.{before_max}
+use Rattle.para_rhs.proofs.ChainWalk.{Begins, point_stops_interval, motion_stops_interval, progress, parts_begin, parts_more, ends_at_max, ends_past, opens_first_any, opens_second_any, first_stops, later_stops, stops_any, stood_any, follows_any, opens_more, stood_past, faces_stop_any, faces_follow_any}
 use Rattle.para_rhs.proofs.run.chain.Goals as goal
 
 pub returns-in_err-fill_value-clause-stops : goal.returns-in_err-fill_value-clause-stops
