@@ -27,7 +27,7 @@ type RunEngine = ProductForm;
 const MAX_EXECUTED: u32 = 100_000;
 
 // The number of the first card after the program; where the job has none, it is one more than that of its last card.
-fn first_behind(program: &Program, cards: &Cards) -> u32
+fn first_after(program: &Program, cards: &Cards) -> u32
     ensures first { 1 ≤ result }
     ensures last { result ≤ length cards.now + 1 }
     ensures same { drop (result - 1) (numbered_cards cards.now) ≡ drop (program.now.decks_from - 1)
@@ -49,7 +49,7 @@ fn run<E: Engine, P: Sink, U: Sink>(
         punch.old punch.new
         result }
 {
-    let mut machine = Machine::<Setup<E>>::new(alloc, first_behind(program, cards));
+    let mut machine = Machine::<Setup<E>>::new(alloc, first_after(program, cards));
     let mut position = 1;
     let mut executed = 0;
     while position <= program.count() {

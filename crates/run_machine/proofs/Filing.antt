@@ -89,16 +89,16 @@ module _ (card : ℕ) (cards : List (List ℕ)) (machine : Machine) (wanted : Op
       gives_found card DeckNotFound (deck_taken state.cells.xdata state.decks) _ (deck, rest) _ (deck_shown ∙ taken) (gives_problem card (gives deck) _ problem _ ok refl)
 
 -- the decks after a card are those from the next card on
-pub filed_behind : (verb : DeckVerb) (card : ℕ) (cards : List (List ℕ)) (machine : Machine) (problem : Problem ℕ) (last from_card : ℕ) → last ≤ length cards → from_card ≡ last + 1 →
+pub filed_after : (verb : DeckVerb) (card : ℕ) (cards : List (List ℕ)) (machine : Machine) (problem : Problem ℕ) (last from_card : ℕ) → last ≤ length cards → from_card ≡ last + 1 →
     ((position executed : ℕ) (state : State) → Stands cards machine position executed state →
     Gives linear_programming card (verb_move (verb_of verb) card state) (next (Prints (report_of verb (size_of problem))) (with_problem problem (decks_of (drop last (numbered_cards cards))) state))) →
     IsDescribed linear_programming verb card cards machine problem from_card
-filed_behind verb card cards machine problem last from_card within is given =
-    let behind : last ≡ from_card - 1 = omega (arith, is) in
+filed_after verb card cards machine problem last from_card within is given =
+    let one_before : last ≡ from_card - 1 = omega (arith, is) in
     record {
       files = λ position executed state s.
           subst (λ (n : ℕ). Gives linear_programming card (verb_move (verb_of verb) card state) (next (Prints (report_of verb (size_of problem))) (with_problem problem (decks_of (drop n (numbered_cards cards))) state)))
-          behind (given position executed state s);
+          one_before (given position executed state s);
       first = omega (arith, is);
       last = omega (arith, is, within);
     }
@@ -116,7 +116,7 @@ module _ (card : ℕ) (cards : List (List ℕ)) (machine : Machine) (wanted : Op
       last ≤ length cards → from_card ≡ last + 1 → Describes linear_programming Convert card cards machine (described_as given from_card)
   unfolding linear_programming verb_move
   finds_a_deck (Ok problem) deck last from_card taken ok err within is =
-      filed_behind Convert card cards machine problem last from_card within is
+      filed_after Convert card cards machine problem last from_card within is
       (λ position executed state s.
       takes_problem card cards machine wanted same_name s (λ deck. conversion deck state.cells.xpbname) reports.Converted deck (decks_of (drop last (numbered_cards cards))) problem taken
       (ap (λ (c : Cells). conversion deck c.xpbname) s.cells ∙ ok))

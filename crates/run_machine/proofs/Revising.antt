@@ -23,7 +23,7 @@ use Rattle.answer_definitions.specs.Real.{linear_programming}
 use Rattle.run_machine.specs.Standing.{filed, Stands}
 use Rattle.run_machine.specs.Describing.{decks_from, Describes, described_as}
 use Rattle.run_machine.proofs.Giving.{problem_shown, gives_fault, gives_found}
-use Rattle.run_machine.proofs.Filing.{takes, takes_nothing, takes_refused, takes_problem, filed_behind}
+use Rattle.run_machine.proofs.Filing.{takes, takes_nothing, takes_refused, takes_problem, filed_after}
 
 module _ (card : ℕ) (cards : List (List ℕ)) (machine : Machine) where
   pub finds_no_problem : filed machine.cells.xoldname machine.file ≡ None → Describes linear_programming Revise card cards machine (Ok (described.Ends (Verb NoProblem card)))
@@ -49,7 +49,7 @@ module _ (card : ℕ) (cards : List (List ℕ)) (machine : Machine) where
         last ≤ length cards → from_card ≡ last + 1 → Describes linear_programming Revise card cards machine (described_as given from_card)
     unfolding linear_programming verb_move
     finds_a_revision (Ok problem) deck last from_card taken ok err within is =
-        filed_behind Revise card cards machine problem last from_card within is
+        filed_after Revise card cards machine problem last from_card within is
         (λ position executed state s.
         gives_revised s _
         (takes_problem card cards machine wanted same_name s (λ deck. revision old deck state.cells.xpbname) reports.Revised deck (decks_of (drop last (numbered_cards cards))) problem taken
