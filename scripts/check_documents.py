@@ -1,6 +1,7 @@
 #!/usr/bin/env python3
 """Checks what documents say of the repository: no text cites a paper by number; each path that a document names is there; each definition
-of docs/DEFINITIONS.md stands where it says; each call and each clause of docs/CLAIMS.md is there. scripts/check.sh runs it.
+of docs/DEFINITIONS.md stands where it says, and in its tables from rules to code in the very file, and each function there has a
+contract; each call and each clause of docs/CLAIMS.md is there. scripts/check.sh runs it.
 
 usage: check_documents.py      ends with 1 where something isn't so"""
 import pathlib, re, sys
@@ -103,6 +104,30 @@ def check_definitions():
                 told(page, number, f"{name} isn't defined in {', '.join(sorted(crates))}")
 
 
+def defined_in(name, path):
+    "whether a file defines this name, and a function of this name with a clause that it ensures"
+    text = path.read_text(encoding="utf-8")
+    if path.suffix == ".antt":
+        return re.search(rf"^\s*(?:(?:abbrev|unfoldable) )?(?:pub )?(?:record |data )?{re.escape(name)}(?: :| \(|\s*$)", text, re.M)
+    return re.search(rf"\bfn {re.escape(name)}\b[^{{}}]*?(?:requires[^{{}}]*{{.*?)?\bensures\b", text, re.S)
+
+
+def check_rules():
+    page = TOP / "docs/DEFINITIONS.md"
+    for number, heading, (rule, names, places) in rows(page):
+        if not heading.startswith("### ") or rule == "Rule":
+            continue
+        groups, files = names.split(";"), places.split(";")
+        if (len(groups), len(files)) != (3, 3):
+            told(page, number, f"{rule}: a definition, a contract and code are to stand here, each with its file")
+            continue
+        for group, place in zip(groups, files):
+            paths = [path for name in quoted(place) for end in (".antt", ".rt") if (path := CRATES / (name + end)).exists()]
+            for name in quoted(group):
+                if not any(defined_in(name, path) for path in paths):
+                    told(page, number, f"{name} isn't defined in {place.strip()}, or ensures nothing")
+
+
 def check_claims():
     page = TOP / "docs/CLAIMS.md"
     everywhere = {folder.name: sources(folder.name, "src", (".rt",)) for folder in sorted(CRATES.iterdir()) if folder.is_dir()}
@@ -132,6 +157,7 @@ def main():
     check_citations()
     check_paths()
     check_definitions()
+    check_rules()
     check_claims()
     return 1 if wrong else 0
 

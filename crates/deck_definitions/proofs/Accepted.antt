@@ -21,7 +21,7 @@ use Rattle.deck_definitions.specs.Sections.{is_section}
 use Rattle.deck_definitions.specs.DataCards.{Pair, pairs_of, entry_of}
 use Rattle.deck_definitions.specs.Tests.{pair_row_fault, pair_fault, pairs_fault, value_fault, number_fault_from}
 use Rattle.deck_definitions.proofs.Pairs.{pairs_fault-cons}
-use Rattle.deck_definitions.proofs.CardTexts.{decimal-lawful}
+use Rattle.deck_definitions.proofs.CardTexts.{text_is_decimal}
 
 -- a count that a limit doesn't stop
 pub not_full : (limit count : ℕ) → nat_le limit count ≡ false → count + 1 ≤ limit
@@ -97,7 +97,7 @@ module _ (seen : Problem Name) (section : Section) where
       let pass = pairs-pass taken count pair pairs fine in
       subst (AreLawfulEntries seen.rows) (append_assoc taken (entry_of pair ∷ []) (map entry_of pairs))
       (pairs-lawful (taken ++ entry_of pair ∷ []) (count + 1) pairs short.1
-      (entry-added taken (entry_of pair) lawful pass.first.there pass.first.new (decimal-lawful pair.value short.0 pass.first.value))
+      (entry-added taken (entry_of pair) lawful pass.first.there pass.first.new (text_is_decimal pair.value short.0 pass.first.value))
       pass.others)
 
   -- no range stands on a free row

@@ -51,8 +51,8 @@ pub reading-lawful : (form : Form) (card : List ℕ) → list_all is_printable c
 reading-lawful Fixed card printable formed = fixed-lawful card printable
 
 -- a field of a number in which no fault was found
-pub decimal-lawful : (field : List ℕ) → length field ≤ 12 → number_fault field ≡ None → IsDecimal (decimal_of field)
-decimal-lawful field short fine = record { short = omega (arith, length-field field, short); value = number_of-trimmed field fine }
+pub text_is_decimal : (field : List ℕ) → length field ≤ 12 → number_fault field ≡ None → IsDecimal (decimal_of field)
+text_is_decimal field short fine = record { short = omega (arith, length-field field, short); value = number_of-trimmed field fine }
 
 -- the pairs of a card have short fields of numbers
 pub pairs-short : (card : Reading) → IsReading card → AllByRecursion (λ (pair : Pair). length pair.value ≤ 12) (pairs_of card)

@@ -28,7 +28,7 @@ use Rattle.deck_definitions.specs.DataCards.{pairs_of, entries_of, row_kinds, bo
 use Rattle.deck_definitions.specs.Tests.{kind_filled, filled_from_3, filled_from_5, marks, all_but_last, combination_kinds, pairs_fault, rows_fault, columns_fault, set_fault, bounds_fault, bound_fault, value_fault, bound_value_fault, is_bound_already}
 use Rattle.deck_definitions.specs.Conversion.{section_fault}
 use Rattle.deck_definitions.proofs.Steps.{with_card, with_group}
-use Rattle.deck_definitions.proofs.CardTexts.{IsReading, pairs-short, decimal-lawful}
+use Rattle.deck_definitions.proofs.CardTexts.{IsReading, pairs-short, text_is_decimal}
 use Rattle.deck_definitions.proofs.Accepted.{pairs-lawful, pairs-limited, pairs-few, pairs-unmarked, added_some, not_full, no_value_fault}
 
 -- ---- ROWS
@@ -267,7 +267,7 @@ module _ (p : Problem Name) (lawful : IsLawful p) where
 
         valued : (b : Bool) → cond b (value_fault card.value1_column card.value1) None ≡ None
             → (is_some (cond b (Some (decimal_of card.value1)) None) ≡ b) × IfSome (cond b (Some (decimal_of card.value1)) None) IsDecimal
-        valued true h = (refl, decimal-lawful card.value1 reads.value1 (no_value_fault card.value1_column card.value1 h))
+        valued true h = (refl, text_is_decimal card.value1 reads.value1 (no_value_fault card.value1_column card.value1 h))
         valued false h = (refl, tt)
 
     bounds-step : bounds_fault p card ≡ None → IsLawful (record p { bounds = with_group (bound_group card) p.bounds })

@@ -7,7 +7,7 @@ use Rattle.card_definitions.specs.Cards.{is_blank}
 use Rattle.card_definitions.specs.Numbers.{Decimal, trimmed, number_fault, number_of, decimal_of, formed_length, lacks_digit, exponent_size}
 use Rattle.card_definitions.proofs.Trailing.{trimmed_twice}
 use Rattle.problem_definitions.specs.Valid.{IsDecimal}
-use Rattle.deck_definitions.proofs.CardTexts.{decimal-lawful}
+use Rattle.deck_definitions.proofs.CardTexts.{text_is_decimal}
 use Rattle.name_table.specs.Places.{text_in}
 use Rattle.name_table.specs.Places_laws.{text_in-padded}
 

@@ -300,7 +300,7 @@ fn value_in(text: &[u8]) -> Frac
 }
 
 /// The number that a field holds, or the field's first fault. The place of a bad character counts from 1 in the field.
-#[tactic(auto, unfolding(card_definitions::specs::Numbers::number_of), using(crate::proofs::Decimals::exponent_is_small, crate::proofs::Decimals::text_is_decimal))]
+#[tactic(auto, unfolding(card_definitions::specs::Numbers::number_of), using(crate::proofs::Decimals::exponent_is_small, deck_definitions::proofs::CardTexts::text_is_decimal))]
 pub fn number(text: &[u8]) -> Result<Decimal, NumberFault>
     requires { length text.now ≤ 12 }
     ensures { result ≡ number_of text.now }

@@ -19,7 +19,7 @@ use Rattle.deck_definitions.specs.declared.Section.TheVariants.{Columns, Ranges}
 use Rattle.deck_definitions.specs.Sections.{is_section}
 use Rattle.deck_definitions.specs.DataCards.{Pair, entry_of}
 use Rattle.deck_definitions.specs.Tests.{pair_row_fault, value_fault}
-use Rattle.deck_definitions.proofs.CardTexts.{decimal-lawful}
+use Rattle.deck_definitions.proofs.CardTexts.{text_is_decimal}
 use Rattle.deck_definitions.proofs.Accepted.{not_full, no_value_fault}
 use Rattle.revise_definitions.specs.Edits.{put_entry, put_entries}
 use Rattle.revise_definitions.specs.Tests.{put_fault, puts_fault}
@@ -159,7 +159,7 @@ module _ (seen : Problem Name) (section : Section) where
   puts-fit items count [] short fine = tt
   puts-fit items count (pair ∷ pairs) short fine =
       let pass = puts-pass items count pair pairs fine in (
-        record { there = pass.first.there; unfree = pass.first.unfree; value = decimal-lawful pair.value short.0 (no_value_fault pair.column pair.value pass.first.fine) },
+        record { there = pass.first.there; unfree = pass.first.unfree; value = text_is_decimal pair.value short.0 (no_value_fault pair.column pair.value pass.first.fine) },
         puts-fit (put_entry items (entry_of pair)) (count + (length (put_entry items (entry_of pair)) - length items)) pairs short.1 pass.others,
       )
 

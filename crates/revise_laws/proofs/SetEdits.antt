@@ -21,7 +21,7 @@ use Rattle.deck_definitions.specs.declared.DeckFaultKind.TheVariants.{UnknownCol
 use Rattle.deck_definitions.specs.declared.Section.TheVariants.{Rhs, Ranges}
 use Rattle.deck_definitions.specs.DataCards.{entry_of, pairs_of, entries_of, bound_kinds, bound_of}
 use Rattle.deck_definitions.specs.Tests.{kind_filled, filled_from_5, value_fault, bound_value_fault, of_bound_type}
-use Rattle.deck_definitions.proofs.CardTexts.{IsReading, pairs-short, decimal-lawful}
+use Rattle.deck_definitions.proofs.CardTexts.{IsReading, pairs-short, text_is_decimal}
 use Rattle.deck_definitions.proofs.Accepted.{no_value_fault}
 use Rattle.revise_definitions.specs.Edits.{put_entries, put_bound, without_row, without_column, delete_items}
 use Rattle.revise_definitions.specs.Tests.{puts_fault, modify_sets_fault, modify_bound_fault}
@@ -197,7 +197,7 @@ module _ (p : Problem Name) (lawful : IsLawful p) where
 
         valued : (b : Bool) → cond b (value_fault card.value1_column card.value1) None ≡ None
             → (is_some (cond b (Some (decimal_of card.value1)) None) ≡ b) × IfSome (cond b (Some (decimal_of card.value1)) None) IsDecimal
-        valued true h = (refl, decimal-lawful card.value1 reads.value1 (no_value_fault card.value1_column card.value1 h))
+        valued true h = (refl, text_is_decimal card.value1 reads.value1 (no_value_fault card.value1_column card.value1 h))
         valued false h = (refl, tt)
 
     pub bounds-modified : IsReading card → of_bound_type card (modify_bound_fault p card) ≡ None
