@@ -1,6 +1,7 @@
 -- Vectors that agree at the variables with limits: the path finds the same with each of them.
 use Rattle.std.proofs.Common.{◌≡◌, ℕ, List, Bool, true, false, refl, sym, ap, ap₂, ◌∙◌, subst, arith}
 use Rattle.std.specs.Prelude.{Option, Some, None, IsSome, IfSome, IsTrue, is_some, nat_eq, ◌||◌, ◌&&◌, option_map, unwrap_or, if◌then◌else◌}
+use Rattle.std.proofs.lemmas.Bool.{or_left, or_right}
 use Rattle.exact_values.specs.Rational.{ℚ, zero_ℚ, ◌+ℚ◌, ◌-ℚ◌, ◌*ℚ◌, ◌/ℚ◌, ◌≤ℚ◌}
 use Rattle.exact_values.specs.Tests.{lt_ℚ}
 use Rattle.lp_definitions.specs.LinearProgram.{LinearProgram, Vector, size, IsVariable, lower_of, upper_of}
@@ -21,7 +22,9 @@ use Rattle.basis_values.specs.Reach.{reach_formula, RoomRefused, SomeRoomRefused
 use Rattle.basis_values.specs.Reach as reach
 use Rattle.basis_values.proofs.Existence.{rates_exist}
 use Rattle.basis_values.proofs.RatesStops.{tableau_of, IsTableau-of}
-use Rattle.bounded_primal.specs.KeptPoints.{has_limit, AgreesAtLimits, AgreesWithPoint}
+use Rattle.bounded_primal.specs.KeptPoints.{all_kept, all_needed, has_limit, AgreesAtLimits, AgreesWithPoint}
+use Rattle.bounded_primal.specs.declared.kept.Kept.{Kept}
+use Rattle.bounded_primal.specs.declared.kept.Kept.TheVariants.{All, AllSoFar, Limited}
 use Rattle.bounded_primal.specs.Moves.{stop_at, stopper_of, return_by}
 use Rattle.bounded_primal.specs.Steps.{IsMovedAtLimits, ReturnRefused, of_distance, of_quotient}
 use Rattle.bounded_primal.specs.Turns.{least_outside}
@@ -36,9 +39,15 @@ basis_point p s basis nonsingular =
 pub point_agrees : (p : LinearProgram) (s : List Status) → IsBasis p s → IsNonsingular p.matrix (basics_of s) → (z : Vector) → IsPointOf p s z → AgreesWithPoint p s z
 point_agrees p s basis nonsingular z point w other k is limited = one_point p s z w basis.counted nonsingular point other k is
 
--- the values that a step needs are those of the point, where x is it if all are to be exact
-pub needed_same : (p : LinearProgram) (s : List Status) → IsBasis p s → IsNonsingular p.matrix (basics_of s) → (z : Vector) → IsPointOf p s z → (x : Vector) (exact : Bool) → AgreesWithPoint p s x → (IsTrue exact → IsPointOf p s x) →
-    (k : ℕ) → IsVariable p.matrix k → IsTrue (exact || has_limit p k) → x k ≡ z k
+-- what is needed is kept
+pub needed_kept : (kept : Kept) → IsTrue (all_needed kept) → IsTrue (all_kept kept)
+needed_kept All h = h
+needed_kept AllSoFar h = refl
+needed_kept Limited h = h
+
+-- the values that a step needs are those of the point, where x is it if all are needed
+pub needed_same : (p : LinearProgram) (s : List Status) → IsBasis p s → IsNonsingular p.matrix (basics_of s) → (z : Vector) → IsPointOf p s z → (x : Vector) (all : Bool) → AgreesWithPoint p s x → (IsTrue all → IsPointOf p s x) →
+    (k : ℕ) → IsVariable p.matrix k → IsTrue (all || has_limit p k) → x k ≡ z k
 needed_same p s basis nonsingular z point x true agrees is_point k is needed = one_point p s x z basis.counted nonsingular (is_point refl) point k is
 needed_same p s basis nonsingular z point x false agrees is_point k is needed = agrees z point k is needed
 
@@ -51,20 +60,12 @@ agrees_moved p next basis nonsingular z d t point x y agrees moved w other k is 
 
 -- ---- which variables have a limit
 
-one_of : (a b : Bool) → a ≡ true → (a || b) ≡ true
-one_of true b e = refl
-one_of false b e = cc
-
-other_of : (a b : Bool) → b ≡ true → (a || b) ≡ true
-other_of true b e = refl
-other_of false b e = e
-
 module _ (p : LinearProgram) (k : ℕ) where
   lower_counts : IsSome (lower_of p k) → IsTrue (has_limit p k)
-  lower_counts some = one_of (is_some (lower_of p k)) (is_some (upper_of p k)) some
+  lower_counts some = or_left (is_some (lower_of p k)) (is_some (upper_of p k)) some
 
   upper_counts : IsSome (upper_of p k) → IsTrue (has_limit p k)
-  upper_counts some = other_of (is_some (lower_of p k)) (is_some (upper_of p k)) some
+  upper_counts some = or_right (is_some (lower_of p k)) (is_some (upper_of p k)) some
 
   ahead_counts : (up down : Bool) → IsSome (if up then upper_of p k else (if down then lower_of p k else None)) → IsTrue (has_limit p k)
   ahead_counts true down some = upper_counts some

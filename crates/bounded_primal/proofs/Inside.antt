@@ -4,7 +4,7 @@ use Rattle.std.specs.Prelude.{Option, Some, None, IfSome, ◌&&◌, ◌||◌, Bo
 use Rattle.exact_values.specs.Rational.{ℚ, ◌≤ℚ◌}
 use Rattle.exact_values.specs.Tests.{lt_ℚ}
 use Rattle.exact_values.proofs.Order.{lt_not_le}
-use Rattle.exact_values.proofs.Tests_laws.{lt_from_test}
+use Rattle.exact_values.proofs.Tests_laws.{lt_from_test, lt_fails_from_le}
 use Rattle.lp_definitions.specs.LinearProgram.{LinearProgram, Matrix, Vector, IsLinearProgram, lower_of, upper_of}
 use Rattle.lp_definitions.specs.Basis.{Basics, basics_of, is_in, IsPointOf, Tableau, IsTableau}
 use Rattle.lp_definitions.specs.Solutions.{IsFeasible}
@@ -25,21 +25,13 @@ use Rattle.bounded_primal.specs.Turns.{IsUncrossed, least_outside, MovesOn}
 use Rattle.bounded_primal.specs.declared.moves.Stopper.{Stopper}
 use Rattle.bounded_primal.proofs.Agreement.{basis_point, outside_same}
 
--- what isn't less is not found less
-not_less : (x y : ℚ) → y ≤ℚ x → lt_ℚ x y ≡ false
-not_less x y h = by_test (lt_ℚ x y) refl
-  where
-    by_test : (b : Bool) → lt_ℚ x y ≡ b → lt_ℚ x y ≡ false
-    by_test true is = absurd (lt_not_le (lt_from_test x y is) h)
-    by_test false is = is
-
 not_below : (low : Option ℚ) (x : ℚ) → IfSome low (λ l. l ≤ℚ x) → on_limit (λ l. lt_ℚ x l) low ≡ false
 not_below None x h = refl
-not_below (Some l) x h = not_less x l h
+not_below (Some l) x h = lt_fails_from_le x l h
 
 not_above : (high : Option ℚ) (x : ℚ) → IfSome high (λ u. x ≤ℚ u) → on_limit (λ u. lt_ℚ u x) high ≡ false
 not_above None x h = refl
-not_above (Some u) x h = not_less u x h
+not_above (Some u) x h = lt_fails_from_le u x h
 
 neither : (a b c : Bool) → b ≡ false → c ≡ false → (a && (b || c)) ≡ false
 neither true b c first second = ap₂ (λ x y. x || y) first second

@@ -15,3 +15,4 @@ pub mod CompletePaths
 pub mod StopperFacts
 pub mod Inside
 pub mod AtOnce
+pub mod Still

@@ -38,16 +38,16 @@ path_more : (p : LinearProgram) (s : List Status) (bases : List (List Status)) (
 path_more p s [] next path step = (step, tt)
 path_more p s (b ∷ bases) next path step = (path.0, path_more p b bases next path.1 step)
 
-last_more : (s : List Status) (bases : List (List Status)) (next : List Status) → last_of s (bases ++ next ∷ []) ≡ next
+pub last_more : (s : List Status) (bases : List (List Status)) (next : List Status) → last_of s (bases ++ next ∷ []) ≡ next
 last_more s [] next = refl
 last_more s (b ∷ bases) next = last_more b bases next
 
-length_more : (bases : List (List Status)) (next : List Status) → length (bases ++ next ∷ []) ≡ length bases + 1
+pub length_more : (bases : List (List Status)) (next : List Status) → length (bases ++ next ∷ []) ≡ length bases + 1
 length_more [] next = omega arith
 length_more (b ∷ bases) next = let rest = length_more bases next in omega (arith, rest)
 
 -- the bases up to the one that is reached
-before_last : (s : List Status) (bases : List (List Status)) → (initial : List (List Status)) × (s ∷ bases ≡ initial ++ last_of s bases ∷ [])
+pub before_last : (s : List Status) (bases : List (List Status)) → (initial : List (List Status)) × (s ∷ bases ≡ initial ++ last_of s bases ∷ [])
 before_last s [] = ([], refl)
 before_last s (next ∷ bases) = let rest = before_last next bases in (s ∷ rest.0, ap (λ xs. s ∷ xs) rest.1)
 

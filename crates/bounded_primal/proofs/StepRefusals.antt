@@ -131,9 +131,9 @@ module _ (p : LinearProgram) (s : List Status) (z d : Vector) (q : ℕ) (by : St
   }
 
   -- for a vector v that has the point's values where they are needed
-  pub move_refused : (v : Vector) (exact : Bool) → ((k : ℕ) → IsVariable p.matrix k → IsTrue (exact || has_limit p k) → v k ≡ z k) → (before after : List Basics) → SomeMovedRefused p exact by d v q e → StepRefused p before s q by after e
+  pub move_refused : (v : Vector) (all : Bool) → ((k : ℕ) → IsVariable p.matrix k → IsTrue (all || has_limit p k) → v k ≡ z k) → (before after : List Basics) → SomeMovedRefused p all by d v q e → StepRefused p before s q by after e
   unfolding tableau
-  move_refused v exact same before after some =
+  move_refused v all same before after some =
       let h = of_step some.i some.is (subst (λ (x : ℚ). MovedRefused by.step (d some.i) x by.p q some.i e) (same some.i some.is some.needed) some.refused) in
       record {
         of_call = h.belongs_to;

@@ -1,8 +1,8 @@
 -- What the calls of a turn give: where it ends or moves, and the evidence where it stops.
-use Rattle.std.proofs.Common.{◌≡◌, ℕ, inl, inr, List, [], ◌∷◌, ◌++◌, map, get_or, refl, ◌∙◌, arith}
+use Rattle.std.proofs.Common.{◌≡◌, ℕ, inl, inr, List, [], ◌∷◌, ◌++◌, map, get_or, refl, arith}
 use Rattle.std.specs.Prelude.{Some, None, Bool, true, false, not, ◌&&◌, Result, Ok, Err, if◌then◌else◌}
 use Rattle.std.proofs.lemmas.List.Elements.{All-contains}
-use Rattle.lp_definitions.specs.LinearProgram.{Matrix, LinearProgram, Vector, size}
+use Rattle.lp_definitions.specs.LinearProgram.{LinearProgram, Vector, size}
 use Rattle.lp_definitions.specs.Basis.{Basics, basics_of, is_in, IsBasis, IsBasic, IsNonsingular, IsPointOf, ArePricesOf}
 use Rattle.lp_definitions.specs.Waypoints.{IsWithinOne, IsKept, KeepsWaypoints}
 use Rattle.lp_definitions.specs.declared.Evidence.{Evidence}
@@ -14,7 +14,7 @@ use Rattle.method_definitions.specs.Moves.{is_below, is_outside, entering}
 use Rattle.method_definitions.specs.Path.{Move, after, IsStep}
 use Rattle.path_laws.proofs.Numbered.{find_some}
 use Rattle.method_definitions.specs.Statements.{PathMoves}
-use Rattle.basis_values.specs.Calls.{HasRates, LieIn}
+use Rattle.basis_values.specs.Calls.{LieIn}
 use Rattle.basis_values.specs.Motions.{motion}
 use Rattle.bounded_primal.specs.Turns.{IsUncrossed, least_outside, mover_by, ReturnStops, by_column, by_return, RunStops, by_direction, by_stopper, EvidenceAt, TurnStops, TurnFound}
 use Rattle.bounded_primal.specs.declared.moves.PrimalStop.{PrimalStop}

@@ -24,7 +24,7 @@ use Rattle.path_laws.proofs.Turns.{IsFirstPhase, IsSecondPhase, bettering}
 use Rattle.path_laws.proofs.Ends.{feasible}
 use Rattle.path_laws.proofs.Endless.{IsEntering, enters}
 use Rattle.path_laws.proofs.Rays.{Breaks, breaks_lower, breaks_upper, broken_basic, broken_limit}
-use Rattle.path_laws.proofs.Steps.{rate_apart}
+use Rattle.path_laws.proofs.Steps.{rate_apart, signed_zero}
 use Rattle.method_definitions.specs.Formulas.{limit_numbered, number_of_limit}
 use Rattle.method_definitions.specs.Statements.{PathMoves, PathEnters}
 use Rattle.basis_values.specs.Motions.{may_move, motion}
@@ -35,10 +35,6 @@ use Rattle.bounded_primal.specs.declared.moves.Stopper.{Stopper}
 use Rattle.basis_values.proofs.Existence.{rates_exist}
 use Rattle.basis_values.proofs.RatesStops.{tableau_of, IsTableau-of}
 use Rattle.bounded_primal.proofs.SameChoices.{entering_same, stopper_same, listed_is}
-
-signed_zero : (up : Bool) → signed up zero_ℚ ≡ zero_ℚ
-signed_zero true = refl
-signed_zero false = by_ring1 zero_ℚ (λ z. opposite (number (pos 0)) ≐ number (pos 0)) refl
 
 -- a variable is crossed
 pub crossed_ends : (p : LinearProgram) (s : List Status) (k steps : ℕ) → IsBasis p s → IsNonsingular p.matrix (basics_of s) → Some k ≡ least p (is_crossed p) → EndsHere p s steps (Crossed k)

@@ -1,7 +1,7 @@
 -- From the evidence of a call at one basis to evidence on every path that led there.
 use Rattle.std.proofs.Common.{◌≡◌, ◌≢◌, ℕ, ◌<◌, ◌≤◌, ◌⊎◌, inl, inr, List, [], ◌∷◌, ◌++◌, map, Bool, true, false, refl, sym, ◌∙◌, ap, ap₂, subst, arith}
 use Rattle.std.specs.Prelude.{Option, Some, None, IsSome, IsTrue, not, ◌&&◌, ◌||◌, nat_eq, nat_le, eqb}
-use Rattle.std.proofs.lemmas.Bool.{leb-true, le-leb, lt-leb}
+use Rattle.std.proofs.lemmas.Bool.{leb-true, le-leb, lt-leb, and_parts, or_cases}
 use Rattle.std.proofs.lemmas.Bool.Decides.{eqb_tells}
 use Rattle.exact_values.specs.Rational.{ℚ, zero_ℚ, ◌-ℚ◌}
 use Rattle.frac128.specs.declared.Op.TheVariants.{Div}
@@ -118,22 +118,13 @@ module _ (p : LinearProgram) (s : List Status) where
 
 -- ---- the numbers of formulas
 
-both_true : (a b : Bool) → (a && b) ≡ true → (a ≡ true) × (b ≡ true)
-both_true true true e = (refl, refl)
-both_true true false e = cc
-both_true false b e = cc
-
 and_nothing : (a : Bool) → (a && false) ≡ false
 and_nothing true = refl
 and_nothing false = refl
 
-one_true : (a b : Bool) → (a || b) ≡ true → (a ≡ true) ⊎ (b ≡ true)
-one_true true b e = inl refl
-one_true false b e = inr e
-
 module _ (low high n : ℕ) where
   between : is_between low high n ≡ true → (low ≤ n) × (n ≤ high)
-  between h = let parts = both_true (nat_le low n) (nat_le n high) h in (leb-true low n parts.0, leb-true n high parts.1)
+  between h = let parts = and_parts (nat_le low n) (nat_le n high) h in (leb-true low n parts.0, leb-true n high parts.1)
 
   within : low ≤ n → n ≤ high → is_between low high n ≡ true
   within first second = ap₂ (λ a b. a && b) (le-leb low n first) (le-leb n high second)
@@ -156,7 +147,7 @@ module _ (n : ℕ) where
   primal_number h = let at = between 1 12 n h in ap (λ b. b || is_between 16 17 n) (within 1 13 n at.0 (omega (arith, at.1)))
 
   point_apart : (is_between 1 5 n || is_between 10 12 n) ≡ true → (is_between 7 9 n ≡ false) × (nat_eq n 6 ≡ false) × (nat_eq n 14 ≡ false) × (is_between 1 12 n ≡ true)
-  point_apart h = at (one_true (is_between 1 5 n) (is_between 10 12 n) h)
+  point_apart h = at (or_cases (is_between 1 5 n) (is_between 10 12 n) h)
     where
       at : ((is_between 1 5 n ≡ true) ⊎ (is_between 10 12 n ≡ true)) → (is_between 7 9 n ≡ false) × (nat_eq n 6 ≡ false) × (nat_eq n 14 ≡ false) × (is_between 1 12 n ≡ true)
       at (inl low) =

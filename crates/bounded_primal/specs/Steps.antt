@@ -30,11 +30,11 @@ pub data MovedRefused (t rate value : ℚ) (p q i : ℕ) (e : Evidence) : Type 0
   of_product : IsRefusal (step_formula 8 p q i) Mul t rate e → MovedRefused t rate value p q i e
   of_sum : IsRefusal (step_formula 9 p q i) Add value (t *ℚ rate) e → MovedRefused t rate value p q i e
 
--- that of some variable, whose rate is not 0 and whose value is needed: each, where all are to be exact, and else those with a limit
-pub record SomeMovedRefused (p : LinearProgram) (exact : Bool) (by : Stopper) (d z : Vector) (q : ℕ) (e : Evidence) : Type 0 where
+-- that of some variable, whose rate is not 0 and whose value is needed: that of each is, where all are, and else of those with a limit
+pub record SomeMovedRefused (p : LinearProgram) (all : Bool) (by : Stopper) (d z : Vector) (q : ℕ) (e : Evidence) : Type 0 where
   pub i : ℕ
   pub is : IsVariable p.matrix i
-  pub needed : IsTrue (exact || has_limit p i)
+  pub needed : IsTrue (all || has_limit p i)
   pub moves : d i ≢ zero_ℚ
   pub refused : MovedRefused by.step (d i) (z i) by.p q i e
 

@@ -8,12 +8,13 @@ ghost use Rattle.method_definitions.specs.Path.{PathEnding};
 ghost use Rattle.termination_laws.specs.Laws.{lists_of};
 ghost use Rattle.basis_values.specs.Calls.{HasRates, KeepsRates};
 ghost use Rattle.bounded_primal.specs.Calls.{CallEnds, WaypointsFollow};
-ghost use Rattle.bounded_primal.specs.KeptPoints.{AgreesWithPoint};
+ghost use Rattle.bounded_primal.specs.KeptPoints.{all_kept, AgreesWithPoint};
 ghost use Rattle.bounded_primal.specs.Complete.{EndsFreely, IsFreeEndOrMemory};
 ghost use Rattle.bounded_primal.specs.Outcomes.{IsTrueOutcome};
 ghost use Rattle.bounded_primal.specs.Stops.{primal_stop_of, FreeStops};
 ghost use Rattle.bounded_primal.specs.Turns.{IsUncrossed, least_outside, FreeTurnFound};
 
+use crate::kept::Kept;
 use crate::moves::PrimalStop;
 use crate::path::{outside_after, room};
 use crate::step::step_over;
@@ -38,14 +39,14 @@ fn unlimited(stop: PrimalStop) -> Stop
 }
 
 /// What the path does at the basis, where `broken` is the least-numbered basic outside its limits, and a step is always left. `point`
-/// and `whole` are those of `next_turn`; `row` and `direction` are room.
+/// and `kept` are those of `next_turn`; `row` and `direction` are room.
 fn free_turn<R: Rates>(
     alloc: Global,
     lp: &Lp,
     basis: &Basis,
     rates: &mut R,
     point: &[Frac],
-    whole: bool,
+    kept: Kept,
     row: &mut [Frac],
     direction: &mut [Frac],
     broken: Option<u32>,
@@ -57,7 +58,7 @@ fn free_turn<R: Rates>(
     requires row_places { length row.old ≡ size lp.now.matrix }
     requires direction_places { length direction.old ≡ size lp.now.matrix }
     requires point { AgreesWithPoint lp.now basis.now (value_at point.now) }
-    requires whole { IsTrue whole → IsPointOf lp.now basis.now (value_at point.now) }
+    requires kept { IsTrue (all_kept kept) → IsPointOf lp.now basis.now (value_at point.now) }
     requires uncrossed { IsUncrossed lp.now }
     requires broken { broken ≡ least_outside lp.now basis.now (value_at point.now) }
     ensures turn { FreeTurnFound result lp.now basis.now steps (value_at direction.new)
@@ -66,7 +67,7 @@ fn free_turn<R: Rates>(
         (R.waypoints rates.old) (R.waypoints rates.new) }
 {
     match next_turn(
-        alloc, lp, basis, rates, point, whole, row, direction, broken, steps, 1,
+        alloc, lp, basis, rates, point, kept, row, direction, broken, steps, 1,
     ) {
         Ok(turn) => Ok(turn),
         Err(stop) => Err(unlimited(stop)),
@@ -105,15 +106,15 @@ fn walk_free<R: Rates, L: Ledger>(
     let (mut book, mut share) = blank.open::<L>();
     point_of(alloc, lp, basis, rates, point)?;
     let mut broken = outside(lp, basis, point);
-    let mut whole = true;
+    let mut kept = Kept::AllSoFar;
     let mut steps: u32 = 0;
     loop {
         match free_turn(
-            alloc, lp, basis, rates, point, whole, row, direction, broken, steps,
+            alloc, lp, basis, rates, point, kept, row, direction, broken, steps,
         )? {
             Turn::Ends(outcome) => return Ok(outcome),
             Turn::Moves { q, by } => {
-                whole = step_over(lp, basis, rates, point, direction, q, &by, whole, false)?;
+                kept = step_over(lp, basis, rates, point, direction, q, &by, kept)?;
             }
         }
         broken = outside_after(lp, basis, point, broken);

@@ -4,6 +4,7 @@
 
 mod beginning;
 mod free_path;
+mod kept;
 mod moves;
 mod path;
 mod step;

@@ -12,6 +12,7 @@ ghost use Rattle.bounded_primal.specs.Stops.{PrimalStops};
 ghost use Rattle.bounded_primal.specs.Turns.{IsUncrossed, least_outside};
 ghost use Rattle.termination_laws.specs.Laws.{lists_of};
 
+use crate::kept::Kept;
 use crate::moves::PrimalStop;
 use crate::step::step_over;
 use crate::turns::{Turn, next_turn};
@@ -67,7 +68,7 @@ fn walk<R: Rates>(
 {
     point_of(alloc, lp, basis, rates, point)?;
     let mut broken = outside(lp, basis, point);
-    let mut whole = true;
+    let mut kept = Kept::AllSoFar;
     let mut steps = 0;
     loop {
         match next_turn(
@@ -76,7 +77,7 @@ fn walk<R: Rates>(
             basis,
             rates,
             point,
-            whole,
+            kept,
             row,
             direction,
             broken,
@@ -85,7 +86,7 @@ fn walk<R: Rates>(
         )? {
             Turn::Ends(outcome) => return Ok(outcome),
             Turn::Moves { q, by } => {
-                whole = step_over(lp, basis, rates, point, direction, q, &by, whole, false)?;
+                kept = step_over(lp, basis, rates, point, direction, q, &by, kept)?;
             }
         }
         broken = outside_after(lp, basis, point, broken);

@@ -9,10 +9,11 @@ ghost use Rattle.method_definitions.specs.Path.{after};
 ghost use Rattle.method_definitions.specs.Formulas.{limit_numbered, number_of_limit};
 ghost use Rattle.basis_values.specs.Calls.{HasRates};
 ghost use Rattle.lp_model.specs.RatesCalls.{IfOverflow};
-ghost use Rattle.bounded_primal.specs.KeptPoints.{has_limit as is_limited, AgreesWithPoint};
+ghost use Rattle.bounded_primal.specs.KeptPoints.{all_kept, all_needed, has_limit as is_limited, AgreesWithPoint};
 ghost use Rattle.bounded_primal.specs.Moves.{IsStepBy, StepsFromPoint, move_by, return_by, StepRefused, StepOverflow};
 ghost use Rattle.bounded_primal.specs.Steps.{IsMoved, IsMovedAtLimits, MovedRefused, SomeMovedRefused, ReturnRefused, step_formula};
 
+use crate::kept::Kept;
 use crate::moves::Stopper;
 use basis_values::{Formula, plus_product, reach};
 use frac128::Frac;
@@ -56,9 +57,6 @@ fn moved(value: Frac, step: Frac, rate: Frac, p: u32, q: u32, i: u32) -> Result<
     ensures refused { IfErr result (MovedRefused step rate value p q i) }
     ensures needed { OnErr result (rate ≢ zero_ℚ) }
 {
-    if rate.is_zero() {
-        return Ok(value);
-    }
     match plainly_moved(value, step, rate, p, q, i) {
         Ok(moved) => Ok(moved),
         Err(evidence) => match plus_product(value, step, rate) {
@@ -76,12 +74,12 @@ fn has_limit(lp: &Lp, k: u32) -> bool
     lp.lower_limit(k).is_some() || lp.upper_limit(k).is_some()
 }
 
-/// Whether a step needs the value of `k`: that of each variable where all are to be exact, and else of those with a limit.
-fn is_needed(lp: &Lp, exact: bool, k: u32) -> bool
+/// Whether a step needs the value of `k`: that of each variable where all are needed, and else of those with a limit.
+fn is_needed(lp: &Lp, kept: Kept, k: u32) -> bool
     requires { IsVariable lp.now.matrix k }
-    ensures { result ≡ (exact || is_limited lp.now k) }
+    ensures { result ≡ (all_needed kept || is_limited lp.now k) }
 {
-    exact || has_limit(lp, k)
+    kept.needs_all() || has_limit(lp, k)
 }
 
 /// The value of `i` after the step, and None where that is refused and it isn't `needed`.
@@ -106,44 +104,46 @@ fn moved_if_possible(
     }
 }
 
-/// Moves the point by the step: all its values where they are `whole`, and else those of the variables with a limit. Answers
-/// whether all values have been moved. Unless they are to be `exact`, a refused value of a variable without limits stays.
+/// Moves the values of the point that are `kept` by the step, and answers which are still kept after it: where not all are
+/// needed, a refused one of a variable without limits stays as it was. Most rates of a sparse program are 0, and what has such a
+/// rate stays as it is.
 fn move_point(
     lp: &Lp,
     direction: &[Frac],
     q: u32,
     by: &Stopper,
     point: &mut [Frac],
-    whole: bool,
-    exact: bool,
-) -> Result<bool, Evidence>
+    kept: Kept,
+) -> Result<Kept, Evidence>
     requires direction_places { length direction.now ≡ size lp.now.matrix }
     requires point_places { length point.old ≡ size lp.now.matrix }
-    requires exact { IsTrue exact → IsTrue whole }
     ensures limited { OnOk result (IsMovedAtLimits lp.now by.now.step (value_at direction.now)
         (value_at point.old) (size lp.now.matrix) (value_at point.new)) }
-    ensures moved { IfOk result (λ all. IsTrue all → IsMoved by.now.step (value_at direction.now)
-        (value_at point.old) (size lp.now.matrix) (value_at point.new)) }
-    ensures kept { IfOk result (λ all. IsTrue all → IsTrue whole) }
-    ensures exact { IfOk result (λ all. IsTrue exact → IsTrue all) }
-    ensures refused { IfErr result (SomeMovedRefused lp.now exact by.now (value_at direction.now)
-        (value_at point.old) q) }
+    ensures moved { IfOk result (λ still. IsTrue (all_kept still) → IsMoved by.now.step
+        (value_at direction.now) (value_at point.old) (size lp.now.matrix) (value_at point.new)) }
+    ensures kept { IfOk result (λ still. IsTrue (all_kept still) → IsTrue (all_kept kept)) }
+    ensures needed { IfOk result (λ still. IsTrue (all_needed kept) → IsTrue (all_kept still)) }
+    ensures refused { IfErr result (SomeMovedRefused lp.now (all_needed kept) by.now
+        (value_at direction.now) (value_at point.old) q) }
 {
-    let mut all = whole;
+    let mut still = kept;
     for k in 0..lp.number_of_variables() {
-        let needed = is_needed(lp, exact, k + 1);
-        if !all && !needed {
+        let rate = direction[k as usize];
+        if rate.is_zero() {
+            continue;
+        }
+        let needed = is_needed(lp, kept, k + 1);
+        if !needed && !still.has_all() {
             continue;
         }
         let value = point[k as usize];
-        let rate = direction[k as usize];
         let Some(next) = moved_if_possible(value, by.step, rate, by.p, q, k + 1, needed)? else {
-            all = false;
+            still = Kept::Limited;
             continue;
         };
         point[k as usize] = next;
     }
-    Ok(all)
+    Ok(still)
 }
 
 /// The limit of `k` that has this status.
@@ -197,9 +197,8 @@ pub fn returning(
     Ok(Stopper { p, step, to })
 }
 
-/// Makes the step `by` of `q` as `take_step` does, from the values of the variables that have a limit, and of all where they are
-/// `whole`. Answers whether all are had after it: unless they are to be `exact`, a refused value of a variable without limits stays
-/// as it was, since no step needs it.
+/// Makes the step `by` of `q` as `take_step` does, from the values of the point that are `kept`. Answers which are still kept
+/// after it: where not all are needed, a refused one of a variable without limits is given up.
 pub fn step_over<R: Rates>(
     lp: &Lp,
     basis: &mut Basis,
@@ -208,25 +207,23 @@ pub fn step_over<R: Rates>(
     direction: &[Frac],
     q: u32,
     by: &Stopper,
-    whole: bool,
-    exact: bool,
-) -> Result<bool, Stop>
+    kept: Kept,
+) -> Result<Kept, Stop>
     requires rates { HasRates (R.matrix rates.old) (R.basics rates.old) lp.now basis.old }
     requires point_places { length point.old ≡ size lp.now.matrix }
     requires direction_places { length direction.now ≡ size lp.now.matrix }
     requires nonbasic { IsNonbasic lp.now.matrix (basics_of basis.old) q }
     requires point { AgreesWithPoint lp.now basis.old (value_at point.old) }
-    requires whole { IsTrue whole → IsPointOf lp.now basis.old (value_at point.old) }
-    requires exact { IsTrue exact → IsTrue whole }
+    requires kept { IsTrue (all_kept kept) → IsPointOf lp.now basis.old (value_at point.old) }
     requires direction { IsDirectionOf lp.now.matrix (basics_of basis.old) q
         (value_at direction.now) }
     requires moves { value_at direction.now by.now.p ≢ zero_ℚ }
     requires step { StepsFromPoint lp.now basis.old (value_at direction.now) q by.now }
     ensures basis { OnOk result (basis.new ≡ after basis.old (move_by q by.now)) }
     ensures point { OnOk result (AgreesWithPoint lp.now basis.new (value_at point.new)) }
-    ensures whole { IfOk result (λ all. IsTrue all →
+    ensures kept { IfOk result (λ still. IsTrue (all_kept still) →
         IsPointOf lp.now basis.new (value_at point.new)) }
-    ensures exact { IfOk result (λ all. IsTrue exact → IsTrue all) }
+    ensures needed { IfOk result (λ still. IsTrue (all_needed kept) → IsTrue (all_kept still)) }
     ensures unchanged { OnErr result (basis.new ≡ basis.old) }
     ensures rates { HasRates (R.matrix rates.new) (R.basics rates.new) lp.now basis.new }
     ensures waypoints { KeepsWaypoints lp.now.matrix (basics_of basis.old) (R.waypoints rates.old)
@@ -234,17 +231,17 @@ pub fn step_over<R: Rates>(
     ensures overflow { IfErr result (λ stop. IfOverflow stop (StepRefused lp.now
         (R.waypoints rates.old) basis.old q by.now (R.waypoints rates.new))) }
 {
-    let all = match move_point(lp, direction, q, by, point, whole, exact) {
-        Ok(all) => all,
+    let still = match move_point(lp, direction, q, by, point, kept) {
+        Ok(still) => still,
         Err(evidence) => return Err(Stop::Overflow(evidence)),
     };
     if by.p == q {
         basis.flip(q, by.to);
-        return Ok(all);
+        return Ok(still);
     }
     rates.exchange(by.p, q)?;
     basis.replace(by.p, q, by.to);
-    Ok(all)
+    Ok(still)
 }
 
 /// Makes the step `by` of `q`: the basis, the rates and the point go over to the next basis. Where `q` itself stops, it changes its
@@ -277,7 +274,7 @@ pub fn take_step<R: Rates>(
     ensures overflow { StepOverflow result lp.now basis.old q by.now (R.waypoints rates.old)
         (R.waypoints rates.new) }
 {
-    match step_over(lp, basis, rates, point, direction, q, by, true, true) {
+    match step_over(lp, basis, rates, point, direction, q, by, Kept::All) {
         Ok(_) => Ok(()),
         Err(stop) => Err(stop),
     }

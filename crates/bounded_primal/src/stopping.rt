@@ -26,8 +26,8 @@ fn is_at_once(nearest: &Option<Reach>) -> bool
     }
 }
 
-/// What reaches a limit first where `q` moves up or down from within all limits, by all lengths. The search ends where a limit is
-/// reached at once, since none is reached sooner.
+/// What reaches a limit first where `q` moves up or down from within all limits, by all lengths. What stands still reaches none. The
+/// search ends where a limit is reached at once, since none is reached sooner.
 fn nearest_by_lengths(
     lp: &Lp,
     point: &[Frac],
@@ -45,6 +45,9 @@ fn nearest_by_lengths(
 {
     let mut nearest: Option<Reach> = None;
     for k in 0..lp.number_of_variables() {
+        if direction[k as usize].is_zero() {
+            continue;
+        }
         let length = length_to(lp, point, direction, up, q, k + 1)?;
         nearest = nearer(nearest, length, k + 1);
         if is_at_once(&nearest) {

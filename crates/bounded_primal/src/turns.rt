@@ -10,10 +10,11 @@ ghost use Rattle.method_definitions.specs.Moves.{signed, entering};
 ghost use Rattle.method_definitions.specs.Formulas.{limit_numbered, number_of_limit};
 ghost use Rattle.basis_values.specs.Calls.{HasRates, KeepsRates, PointRefused};
 ghost use Rattle.basis_values.specs.Motions.{may_move, motion};
-ghost use Rattle.bounded_primal.specs.KeptPoints.{AgreesWithPoint};
+ghost use Rattle.bounded_primal.specs.KeptPoints.{all_kept, AgreesWithPoint};
 ghost use Rattle.bounded_primal.specs.Moves.{return_by, stopper_of as stopper_by};
 ghost use Rattle.bounded_primal.specs.Turns.{IsUncrossed, least_outside, ray_from, mover_by, Betters, IsEndless, ReturnStops, RunStopsAtPoint, TurnFound};
 
+use crate::kept::Kept;
 use crate::moves::{PrimalStop, Stopper};
 use crate::step::returning;
 use crate::stopping::stopper_from;
@@ -275,18 +276,18 @@ fn first_phase<R: Rates>(
     Ok(Turn::Moves { q, by })
 }
 
-/// The point of the basis: a copy where `whole` says that all its values are kept, and else made anew.
+/// The point of the basis: a copy where all its values are kept, and else made anew.
 fn whole_point<R: Rates>(
     alloc: Global,
     lp: &Lp,
     basis: &Basis,
     rates: &mut R,
     point: &[Frac],
-    whole: bool,
+    kept: Kept,
 ) -> Result<Vec<Frac>, Stop>
     requires rates { HasRates (R.matrix rates.old) (R.basics rates.old) lp.now basis.now }
     requires places { length point.now ≡ size lp.now.matrix }
-    requires whole { IsTrue whole → IsPointOf lp.now basis.now (value_at point.now) }
+    requires kept { IsTrue (all_kept kept) → IsPointOf lp.now basis.now (value_at point.now) }
     ensures places { IfOk result (λ made. length made.items ≡ size lp.now.matrix) }
     ensures point { IfOk result (λ made. IsPointOf lp.now basis.now (value_at made.items)) }
     ensures rates { KeepsRates (R.matrix rates.new) (R.basics rates.new) lp.now basis.now
@@ -295,7 +296,7 @@ fn whole_point<R: Rates>(
         (PointRefused lp.now (R.waypoints rates.old) basis.now (R.waypoints rates.new))) }
 {
     let mut values = copied(alloc, point)?;
-    if whole {
+    if kept.has_all() {
         return Ok(values);
     }
     point_of(alloc, lp, basis, rates, &mut values)?;
@@ -336,7 +337,7 @@ fn endless(
     })
 }
 
-/// Moves `q` up or down until something stops it, or answers that nothing does. `point` and `whole` are those of `next_turn`;
+/// Moves `q` up or down until something stops it, or answers that nothing does. `point` and `kept` are those of `next_turn`;
 /// `direction` is room.
 fn run<R: Rates>(
     alloc: Global,
@@ -344,7 +345,7 @@ fn run<R: Rates>(
     basis: &Basis,
     rates: &mut R,
     point: &[Frac],
-    whole: bool,
+    kept: Kept,
     direction: &mut [Frac],
     moved: Mover,
     steps: u32,
@@ -354,7 +355,7 @@ fn run<R: Rates>(
     requires point_places { length point.now ≡ size lp.now.matrix }
     requires direction_places { length direction.old ≡ size lp.now.matrix }
     requires point { AgreesWithPoint lp.now basis.now (value_at point.now) }
-    requires whole { IsTrue whole → IsPointOf lp.now basis.now (value_at point.now) }
+    requires kept { IsTrue (all_kept kept) → IsPointOf lp.now basis.now (value_at point.now) }
     requires uncrossed { IsUncrossed lp.now }
     requires inside { least_outside lp.now basis.now (value_at point.now) ≡ None }
     requires moves { Betters lp.now basis.now moved }
@@ -365,7 +366,7 @@ fn run<R: Rates>(
 {
     match stopper_of(lp, basis, rates, point, direction, moved.q, moved.up)? {
         None => {
-            let point = whole_point(alloc, lp, basis, rates, point, whole)?;
+            let point = whole_point(alloc, lp, basis, rates, point, kept)?;
             Ok(Turn::Ends(endless(alloc, lp, point, direction, moved.up, steps)?))
         }
         Some(by) => {
@@ -379,14 +380,14 @@ fn run<R: Rates>(
 }
 
 /// The second phase: moves the least-numbered variable that betters the objective, or answers that none does or that nothing stops
-/// it. `point` and `whole` are those of `next_turn`; `row` and `direction` are room.
+/// it. `point` and `kept` are those of `next_turn`; `row` and `direction` are room.
 fn second_phase<R: Rates>(
     alloc: Global,
     lp: &Lp,
     basis: &Basis,
     rates: &mut R,
     point: &[Frac],
-    whole: bool,
+    kept: Kept,
     row: &mut [Frac],
     direction: &mut [Frac],
     steps: u32,
@@ -398,7 +399,7 @@ fn second_phase<R: Rates>(
     requires row_places { length row.old ≡ size lp.now.matrix }
     requires direction_places { length direction.old ≡ size lp.now.matrix }
     requires point { AgreesWithPoint lp.now basis.now (value_at point.now) }
-    requires whole { IsTrue whole → IsPointOf lp.now basis.now (value_at point.now) }
+    requires kept { IsTrue (all_kept kept) → IsPointOf lp.now basis.now (value_at point.now) }
     requires uncrossed { IsUncrossed lp.now }
     requires inside { least_outside lp.now basis.now (value_at point.now) ≡ None }
     ensures turn { TurnFound result lp.now basis.now steps left
@@ -409,24 +410,24 @@ fn second_phase<R: Rates>(
     fill_prices(lp, basis, rates, direction, row)?;
     match bettering(lp, basis, row) {
         None => {
-            let point = whole_point(alloc, lp, basis, rates, point, whole)?;
+            let point = whole_point(alloc, lp, basis, rates, point, kept)?;
             Ok(Turn::Ends(best(alloc, point, row, steps)?))
         }
         Some(moved) => run(
-            alloc, lp, basis, rates, point, whole, direction, moved, steps, left,
+            alloc, lp, basis, rates, point, kept, direction, moved, steps, left,
         ),
     }
 }
 
-/// What the path does at the basis, where `broken` is the least-numbered basic outside its limits. Of `point` the values of variables
-/// with limits are those of the basis, and all where it is `whole`. `row` and `direction` are room.
+/// What the path does at the basis, where `broken` is the least-numbered basic outside its limits. The values of `point` that are
+/// `kept` are those of the basis, and so are those of the variables with a limit in any case. `row` and `direction` are room.
 pub fn next_turn<R: Rates>(
     alloc: Global,
     lp: &Lp,
     basis: &Basis,
     rates: &mut R,
     point: &[Frac],
-    whole: bool,
+    kept: Kept,
     row: &mut [Frac],
     direction: &mut [Frac],
     broken: Option<u32>,
@@ -439,7 +440,7 @@ pub fn next_turn<R: Rates>(
     requires row_places { length row.old ≡ size lp.now.matrix }
     requires direction_places { length direction.old ≡ size lp.now.matrix }
     requires point { AgreesWithPoint lp.now basis.now (value_at point.now) }
-    requires whole { IsTrue whole → IsPointOf lp.now basis.now (value_at point.now) }
+    requires kept { IsTrue (all_kept kept) → IsPointOf lp.now basis.now (value_at point.now) }
     requires uncrossed { IsUncrossed lp.now }
     requires broken { broken ≡ least_outside lp.now basis.now (value_at point.now) }
     ensures turn { TurnFound result lp.now basis.now steps left
@@ -452,7 +453,7 @@ pub fn next_turn<R: Rates>(
             alloc, lp, basis, rates, point, row, direction, r, steps, left,
         ),
         None => second_phase(
-            alloc, lp, basis, rates, point, whole, row, direction, steps, left,
+            alloc, lp, basis, rates, point, kept, row, direction, steps, left,
         ),
     }
 }

@@ -19,8 +19,9 @@ use Rattle.lp_definitions.specs.declared.Status.{Status}
 use Rattle.lp_laws.proofs.Values.{clash}
 use Rattle.method_definitions.specs.Moves.{may_rise, may_fall}
 use Rattle.ranging.specs.RowEnds.{sides_of, RatesStayTo}
-use Rattle.ranging.proofs.RateBounds.{for_min_zero, up_to_next}
+use Rattle.ranging.proofs.RateBounds.{for_min_zero}
 use Rattle.para_objective.specs.Reach.{zero_at, meets, IsLeast, IsWithRate, IsReachOf, IsReachAbove}
+use Rattle.bounded_primal.proofs.Still.{and_next}
 
 pub at_zero : (price rate : ℚ) → rate ≢ zero_ℚ → price +ℚ zero_at price rate *ℚ rate ≡ zero_ℚ
 at_zero price rate apart =
@@ -195,7 +196,7 @@ module _ (p : LinearProgram) (s : List Status) (prices change : Vector) (max : �
         to le =
             let two = (with from (last from all) x forward).0 le in
             let one = (before from (first n from all) x forward).0 two.0 in
-            (one.0, up_to_next (λ k. SidesHold (sides_of p s (prices k) (change k) k) x) n one.1 ((own x).0 two.1))
+            (one.0, and_next (λ k. SidesHold (sides_of p s (prices k) (change k) k) x) n one.1 ((own x).0 two.1))
 
         back : (x ≤ℚ max) × RatesStayTo p s prices change (n + 1) x → x ≤ℚ now
         back h = (with from (last from all) x forward).1 ((before from (first n from all) x forward).1 (h.0, first n x h.1), last x h.1)

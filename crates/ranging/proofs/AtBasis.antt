@@ -29,8 +29,8 @@ use Rattle.method_definitions.specs.Ranges.{stands_at_limit}
 use Rattle.ranging.specs.RowEnds.{sides_of, RatesStayTo, IsRateEnd, AreEnds, AreRowEnds}
 use Rattle.ranging.specs.LimitEnds.{no_ends, ends_at, IsKeptOr, IsLimitEnd, IsMet, AreMet}
 use Rattle.ranging.specs.Tables.{IsBasicsEnd, AreLimitEnds, AllMet, IsRowEnd, AreEndsOfRow, AllFound}
-use Rattle.ranging.proofs.RateBounds.{up_to_next}
 use Rattle.ranging.proofs.Distances.{ends_written, ends_unwritten}
+use Rattle.bounded_primal.proofs.Still.{and_next}
 
 -- a basic has no conditions
 pub no_sides : (rises falls : Bool) (a b : ℚ) (x : ℚ) → rises ≡ false → falls ≡ false → SidesHold (sign_sides rises falls a b) x
@@ -162,7 +162,7 @@ module _ (p : LinearProgram) (s : List Status) (lawful : IsLinearProgram p) (no_
               to b =
                   let both = (step.exact x).0 b in
                   let earlier = (old.exact rate are x).0 both.0 in
-                  λ j low high. up_to_next (λ j. is_in (basics_of s) j ≡ true → SidesHold (limit_sides p z (λ j. rate j k) j) x) n earlier
+                  λ j low high. and_next (λ j. is_in (basics_of s) j ≡ true → SidesHold (limit_sides p z (λ j. rate j k) j) x) n earlier
                   (subst (λ j. is_in (basics_of s) j ≡ true → SidesHold (limit_sides p z (λ j. rate j k) j) x) is_next
                   (λ _. subst (λ v. SidesHold (value_sides (lower_of p i) (upper_of p i) (z i) v) x) (row_is rate are) both.1))
                   j low (omega (arith, high, is_next))
@@ -195,7 +195,7 @@ module _ (p : LinearProgram) (s : List Status) (lawful : IsLinearProgram p) (no_
   pub met_skipped : (n i : ℕ) → i ≡ n + 1 → is_in (basics_of s) i ≡ false → (ends : List Ends) → AllMet p s z n ends → AllMet p s z i ends
   met_skipped n i is_next out ends h k is stands = record {
     exact = λ rate are x. (
-      λ b j low high basic. up_to_next (λ j. is_in (basics_of s) j ≡ true → SidesHold (limit_sides p z (λ j. rate j k) j) x) n (((h k is stands).exact rate are x).0 b)
+      λ b j low high basic. and_next (λ j. is_in (basics_of s) j ≡ true → SidesHold (limit_sides p z (λ j. rate j k) j) x) n (((h k is stands).exact rate are x).0 b)
           (λ e. absurd (clash (sym e ∙ ap (is_in (basics_of s)) (sym is_next) ∙ out))) j low (omega (arith, high, is_next)) basic,
       λ all. ((h k is stands).exact rate are x).1 (λ j low high basic. all j low (omega (arith, high, is_next)) basic),
     );
@@ -212,7 +212,7 @@ module _ (p : LinearProgram) (s : List Status) (lawful : IsLinearProgram p) (no_
   pub met_free : (n i : ℕ) → i ≡ n + 1 → lower_of p i ≡ None → upper_of p i ≡ None → (ends : List Ends) → AllMet p s z n ends → AllMet p s z i ends
   met_free n i is_next no_lower no_upper ends h k is stands = record {
     exact = λ rate are x. (
-      λ b j low high basic. up_to_next (λ j. is_in (basics_of s) j ≡ true → SidesHold (limit_sides p z (λ j. rate j k) j) x) n (((h k is stands).exact rate are x).0 b)
+      λ b j low high basic. and_next (λ j. is_in (basics_of s) j ≡ true → SidesHold (limit_sides p z (λ j. rate j k) j) x) n (((h k is stands).exact rate are x).0 b)
           (λ _. subst (λ j. SidesHold (limit_sides p z (λ j. rate j k) j) x) is_next (nothing rate x)) j low (omega (arith, high, is_next)) basic,
       λ all. ((h k is stands).exact rate are x).1 (λ j low high basic. all j low (omega (arith, high, is_next)) basic),
     );
@@ -231,7 +231,7 @@ module _ (p : LinearProgram) (s : List Status) where
   -- i has no ends of its own
   pub found_skipped : (n i : ℕ) → i ≡ n + 1 → (is_in (basics_of s) i ≡ true → i ≢ p.objective → ⊥) → (found : List Ends) → AllFound p s n found → AllFound p s i found
   found_skipped n i is_next none found h j low high =
-      up_to_next (λ j. is_in (basics_of s) j ≡ true → j ≢ p.objective → AreEndsOfRow p s j (ends_at found j)) n h
+      and_next (λ j. is_in (basics_of s) j ≡ true → j ≢ p.objective → AreEndsOfRow p s j (ends_at found j)) n h
       (subst (λ j. is_in (basics_of s) j ≡ true → j ≢ p.objective → AreEndsOfRow p s j (ends_at found j)) is_next (λ basic other. absurd (none basic other)))
       j low (omega (arith, high, is_next))
 

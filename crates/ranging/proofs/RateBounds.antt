@@ -18,6 +18,7 @@ use Rattle.lp_definitions.specs.declared.Status.{Status}
 use Rattle.lp_laws.proofs.Values.{clash}
 use Rattle.method_definitions.specs.Moves.{may_rise, may_fall}
 use Rattle.ranging.specs.RowEnds.{rate_bound, sides_of, RatesStayTo, IsTightenedIf, IsEitherRate, IsWithRate, IsRateEnd, AreRowEnds}
+use Rattle.bounded_primal.proofs.Still.{and_next}
 
 -- the conditions of a price from which y times a rate is taken, as bounds on y
 below_is : (price rate y : ℚ) → (y *ℚ rate ≤ℚ price) ↔ (zero_ℚ ≤ℚ price +ℚ neg_ℚ y *ℚ rate)
@@ -108,14 +109,6 @@ module _ (p : LinearProgram) (s : List Status) (price rate : ℚ) (j : ℕ) wher
 
 -- ---- one variable more
 
--- what holds of the first n, and of the next
-pub up_to_next : (P : ℕ → Type 0) (n : ℕ) → ((k : ℕ) → 1 ≤ k → k ≤ n → P k) → P (n + 1) → (k : ℕ) → 1 ≤ k → k ≤ n + 1 → P k
-up_to_next P n before next k low high = at (eqb_tells k (n + 1))
-  where
-    at : (((eqb k (n + 1) ≡ true) × (k ≡ n + 1)) ⊎ ((eqb k (n + 1) ≡ false) × (k ≢ n + 1))) → P k
-    at (inl same) = subst P (sym same.1) next
-    at (inr apart) = let other = apart.1 in before k low (omega (arith, high, other))
-
 module _ (p : LinearProgram) (s : List Status) (prices row : Vector) where
   pub no_ends : AreRowEnds p s prices row 0 (record { low = None; high = None })
   no_ends = record {
@@ -149,7 +142,7 @@ module _ (p : LinearProgram) (s : List Status) (prices row : Vector) where
       to : (y : ℚ) → IsBetweenEnds now y → RatesStayTo p s prices row (n + 1) (neg_ℚ y)
       to y h =
           let both = (with.exact y).0 h in
-          up_to_next (λ k. SidesHold (sides_of p s (prices k) (row k) k) (neg_ℚ y)) n ((before.exact y).0 both.0) ((own y).0 both.1)
+          and_next (λ k. SidesHold (sides_of p s (prices k) (row k) k) (neg_ℚ y)) n ((before.exact y).0 both.0) ((own y).0 both.1)
 
       back : (y : ℚ) → RatesStayTo p s prices row (n + 1) (neg_ℚ y) → IsBetweenEnds now y
       back y h = (with.exact y).1 ((before.exact y).1 (λ k low high. h k low (omega (arith, high))), (own y).1 (h (n + 1) (omega arith) (omega arith)))

@@ -16,22 +16,11 @@ use Rattle.method_definitions.specs.Evidence.{EvidenceHolds}
 use Rattle.basis_values.specs.Calls.{LieIn}
 use Rattle.bounded_primal.specs.declared.moves.PrimalStop.{PrimalStop}
 use Rattle.bounded_primal.specs.declared.moves.PrimalStop.TheVariants.{Limit, Overflow, NoMemory}
+use Rattle.bounded_primal.proofs.PathWalk.{last_more, length_more, before_last}
 use Rattle.run_calls.specs.Calls.{StandsThere, WaypointsFollowRun, RunOverflows, RunStops}
 use Rattle.run_calls.specs.Walks.{HasRun, MayOpen, EvidenceHere, FaceStops, IntervalStops}
 
 -- ---- lists of bases
-
-last_more : (s : List Status) (bases : List (List Status)) (next : List Status) → last_of s (bases ++ next ∷ []) ≡ next
-last_more s [] next = refl
-last_more s (b ∷ bases) next = last_more b bases next
-
-length_more : (bases : List (List Status)) (next : List Status) → length (bases ++ next ∷ []) ≡ length bases + 1
-length_more [] next = omega arith
-length_more (b ∷ bases) next = let rest = length_more bases next in omega (arith, rest)
-
-before_last : (s : List Status) (bases : List (List Status)) → (initial : List (List Status)) × (s ∷ bases ≡ initial ++ last_of s bases ∷ [])
-before_last s [] = ([], refl)
-before_last s (next ∷ bases) = let rest = before_last next bases in (s ∷ rest.0, ap (λ xs. s ∷ xs) rest.1)
 
 module _ (a : Matrix) where
   within_prefix : (w : Basics) (xs ys : List (List Status)) → IsWithinOne a w (map basics_of xs) → IsWithinOne a w (map basics_of (xs ++ ys))

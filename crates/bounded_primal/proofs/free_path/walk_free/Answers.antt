@@ -28,7 +28,7 @@ loop-share-init g c = record {
   counted = rw c.open-book.ensures.total refl;
   rates = c.in_ok-point_of.ensures.rates.0;
   point = point_agrees c.args.lp.now c.args.basis.now c.in_ok-point_of.ensures.rates.0.is_basis c.in_ok-point_of.ensures.rates.0.nonsingular (value_at c.point_of.new.out) c.in_ok-point_of.ensures.point;
-  whole = λ _. c.in_ok-point_of.ensures.point;
+  kept = λ _. c.in_ok-point_of.ensures.point;
   broken = c.outside-broken.ensures;
   reached = rw c.open-book.ensures.total (begins_at c.args.lp.now c.args.basis.now (g.R.Rates.waypoints c.args.rates.now) (g.R.Rates.waypoints c.point_of.new.rates) c.in_ok-point_of.ensures.rates.1);
 }
@@ -59,31 +59,31 @@ step_over-requires-clause-step g c =
     let moves = rw c.in-Moves.is at c.in_ok-outcome.ensures.turn in
     moves.step
 
-pub returns-in_err-whole-in-Moves-clause-stops : goal.returns-in_err-whole-in-Moves-clause-stops
-returns-in_err-whole-in-Moves-clause-stops g c =
-    let p = err_from_is_err_and c.from_residual-in_err-whole-in-Moves.result c.from_residual-in_err-whole-in-Moves.ensures.1 in
+pub returns-in_err-kept-in-Moves-clause-stops : goal.returns-in_err-kept-in-Moves-clause-stops
+returns-in_err-kept-in-Moves-clause-stops g c =
+    let p = err_from_is_err_and c.from_residual-in_err-kept-in-Moves.result c.from_residual-in_err-kept-in-Moves.ensures.1 in
     let moves = rw c.in-Moves.is at c.in_ok-outcome.ensures.turn in
-    rw (p.1, p.2, c.in_err-whole-in-Moves.ensures.unchanged) (free_stops c.args.lp.now c.requires.lawful (g.R.Rates.matrix c.args.rates.now) (g.R.Rates.basics c.args.rates.now) c.args.basis.now c.requires.rates (g.R.Rates.waypoints c.args.rates.now) c.loop-share.basis (g.R.Rates.waypoints c.loop-share.rates) c.loop-share.book.total c.loop-share.invariant.reached (g.R.Rates.waypoints c.step_over.new.rates) c.in_err-whole-in-Moves.field-0.0
-    (step_stops c.args.lp.now c.loop-share.basis (value_at c.free_turn.new.direction) c.in-Moves.q c.in-Moves.by 1 moves (g.R.Rates.waypoints c.loop-share.rates) (g.R.Rates.waypoints c.free_turn.new.rates) (g.R.Rates.waypoints c.step_over.new.rates) c.in_err-whole-in-Moves.field-0.0 c.in_ok-outcome.ensures.rates.1 c.in_err-whole-in-Moves.ensures.overflow))
+    rw (p.1, p.2, c.in_err-kept-in-Moves.ensures.unchanged) (free_stops c.args.lp.now c.requires.lawful (g.R.Rates.matrix c.args.rates.now) (g.R.Rates.basics c.args.rates.now) c.args.basis.now c.requires.rates (g.R.Rates.waypoints c.args.rates.now) c.loop-share.basis (g.R.Rates.waypoints c.loop-share.rates) c.loop-share.book.total c.loop-share.invariant.reached (g.R.Rates.waypoints c.step_over.new.rates) c.in_err-kept-in-Moves.field-0.0
+    (step_stops c.args.lp.now c.loop-share.basis (value_at c.free_turn.new.direction) c.in-Moves.q c.in-Moves.by 1 moves (g.R.Rates.waypoints c.loop-share.rates) (g.R.Rates.waypoints c.free_turn.new.rates) (g.R.Rates.waypoints c.step_over.new.rates) c.in_err-kept-in-Moves.field-0.0 c.in_ok-outcome.ensures.rates.1 c.in_err-kept-in-Moves.ensures.overflow))
 
-pub returns-in_err-whole-in-Moves-clause-waypoints : goal.returns-in_err-whole-in-Moves-clause-waypoints
-returns-in_err-whole-in-Moves-clause-waypoints g c =
-    rw c.in_err-whole-in-Moves.ensures.unchanged (follows_later c.args.lp.now c.args.basis.now (g.R.Rates.waypoints c.args.rates.now) c.loop-share.basis (g.R.Rates.waypoints c.loop-share.rates) c.loop-share.book.total c.loop-share.invariant.reached
+pub returns-in_err-kept-in-Moves-clause-waypoints : goal.returns-in_err-kept-in-Moves-clause-waypoints
+returns-in_err-kept-in-Moves-clause-waypoints g c =
+    rw c.in_err-kept-in-Moves.ensures.unchanged (follows_later c.args.lp.now c.args.basis.now (g.R.Rates.waypoints c.args.rates.now) c.loop-share.basis (g.R.Rates.waypoints c.loop-share.rates) c.loop-share.book.total c.loop-share.invariant.reached
     (g.R.Rates.waypoints c.step_over.new.rates)
     (keeps_then c.args.lp.now.matrix (basics_of c.loop-share.basis) (g.R.Rates.waypoints c.loop-share.rates) (basics_of c.loop-share.basis) (g.R.Rates.waypoints c.free_turn.new.rates) (g.R.Rates.waypoints c.step_over.new.rates)
-    c.in_ok-outcome.ensures.rates.1 (rw (c.in_err-whole-in-Moves.ensures.unchanged) at c.in_err-whole-in-Moves.ensures.waypoints)))
+    c.in_ok-outcome.ensures.rates.1 (rw (c.in_err-kept-in-Moves.ensures.unchanged) at c.in_err-kept-in-Moves.ensures.waypoints)))
 
 pub outside_after-broken-requires-clause-stays : goal.outside_after-broken-requires-clause-stays
 outside_after-broken-requires-clause-stays g c none =
     let moves = rw c.in-Moves.is at c.in_ok-outcome.ensures.turn in
     stays_inside c.args.lp.now (g.R.Rates.matrix c.loop-share.rates) (g.R.Rates.basics c.loop-share.rates) c.loop-share.basis c.loop-share.invariant.rates (value_at c.loop-share.point) c.loop-share.invariant.point c.requires.uncrossed (sym c.loop-share.invariant.broken ∙ none)
-    c.requires.lawful (value_at c.free_turn.new.direction) c.in-Moves.q c.in-Moves.by 1 moves c.step_over.new.basis c.in_ok-whole-in-Moves.ensures.basis (value_at c.step_over.new.point) c.in_ok-whole-in-Moves.ensures.point
+    c.requires.lawful (value_at c.free_turn.new.direction) c.in-Moves.q c.in-Moves.by 1 moves c.step_over.new.basis c.in_ok-kept-in-Moves.ensures.basis (value_at c.step_over.new.point) c.in_ok-kept-in-Moves.ensures.point
 
 pub loop-share-smaller : goal.loop-share-smaller
 loop-share-smaller g c =
     let moves = rw c.in-Moves.is at c.in_ok-outcome.ensures.turn in
     let few = reached_short c.args.lp.now c.requires.lawful (g.R.Rates.matrix c.args.rates.now) (g.R.Rates.basics c.args.rates.now) c.args.basis.now c.requires.rates (g.R.Rates.waypoints c.args.rates.now) c.step_over.new.basis (g.R.Rates.waypoints c.step_over.new.rates) (c.loop-share.book.total + 1)
-    (walk_more c.args.lp.now c.loop-share.basis (value_at c.free_turn.new.direction) c.in-Moves.q c.in-Moves.by 1 moves c.args.basis.now (g.R.Rates.waypoints c.args.rates.now) (g.R.Rates.waypoints c.loop-share.rates) c.loop-share.book.total c.loop-share.invariant.reached c.step_over.new.basis (g.R.Rates.waypoints c.free_turn.new.rates) (g.R.Rates.waypoints c.step_over.new.rates) c.in_ok-whole-in-Moves.ensures.basis c.in_ok-outcome.ensures.rates.1 c.in_ok-whole-in-Moves.ensures.waypoints) in
+    (walk_more c.args.lp.now c.loop-share.basis (value_at c.free_turn.new.direction) c.in-Moves.q c.in-Moves.by 1 moves c.args.basis.now (g.R.Rates.waypoints c.args.rates.now) (g.R.Rates.waypoints c.loop-share.rates) c.loop-share.book.total c.loop-share.invariant.reached c.step_over.new.basis (g.R.Rates.waypoints c.free_turn.new.rates) (g.R.Rates.waypoints c.step_over.new.rates) c.in_ok-kept-in-Moves.ensures.basis c.in_ok-outcome.ensures.rates.1 c.in_ok-kept-in-Moves.ensures.waypoints) in
     one_less (lists_of c.args.lp.now) c.loop-share.book.total c.add.new.self.total c.add.ensures.total few
 
 pub loop-share-preserved : goal.loop-share-preserved
@@ -92,9 +92,9 @@ loop-share-preserved g c =
     record {
       some = omega (arith, c.add.ensures.parts, c.loop-share.invariant.some);
       counted = c.saturating_add-steps.ensures ∙ counted_more c.loop-share.steps c.loop-share.book.total c.loop-share.invariant.counted ∙ ap counted_steps (sym c.add.ensures.total);
-      rates = c.in_ok-whole-in-Moves.ensures.rates;
-      point = c.in_ok-whole-in-Moves.ensures.point;
-      whole = c.in_ok-whole-in-Moves.ensures.whole;
+      rates = c.in_ok-kept-in-Moves.ensures.rates;
+      point = c.in_ok-kept-in-Moves.ensures.point;
+      kept = c.in_ok-kept-in-Moves.ensures.kept;
       broken = c.outside_after-broken.ensures;
-      reached = rw c.add.ensures.total (walk_more c.args.lp.now c.loop-share.basis (value_at c.free_turn.new.direction) c.in-Moves.q c.in-Moves.by 1 moves c.args.basis.now (g.R.Rates.waypoints c.args.rates.now) (g.R.Rates.waypoints c.loop-share.rates) c.loop-share.book.total c.loop-share.invariant.reached c.step_over.new.basis (g.R.Rates.waypoints c.free_turn.new.rates) (g.R.Rates.waypoints c.step_over.new.rates) c.in_ok-whole-in-Moves.ensures.basis c.in_ok-outcome.ensures.rates.1 c.in_ok-whole-in-Moves.ensures.waypoints);
+      reached = rw c.add.ensures.total (walk_more c.args.lp.now c.loop-share.basis (value_at c.free_turn.new.direction) c.in-Moves.q c.in-Moves.by 1 moves c.args.basis.now (g.R.Rates.waypoints c.args.rates.now) (g.R.Rates.waypoints c.loop-share.rates) c.loop-share.book.total c.loop-share.invariant.reached c.step_over.new.basis (g.R.Rates.waypoints c.free_turn.new.rates) (g.R.Rates.waypoints c.step_over.new.rates) c.in_ok-kept-in-Moves.ensures.basis c.in_ok-outcome.ensures.rates.1 c.in_ok-kept-in-Moves.ensures.waypoints);
     }

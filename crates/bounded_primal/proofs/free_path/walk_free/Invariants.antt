@@ -5,7 +5,7 @@ use Rattle.lp_definitions.specs.Basis.{IsPointOf}
 use Rattle.method_definitions.specs.Counts.{counted_steps}
 use Rattle.termination_laws.specs.Laws.{lists_of}
 use Rattle.basis_values.specs.Calls.{HasRates}
-use Rattle.bounded_primal.specs.KeptPoints.{AgreesWithPoint}
+use Rattle.bounded_primal.specs.KeptPoints.{all_kept, AgreesWithPoint}
 use Rattle.bounded_primal.specs.Turns.{least_outside}
 use Rattle.bounded_primal.proofs.PathWalk.{HasReached}
 use Rattle.bounded_primal.proofs.free_path.walk_free.Given as goal
@@ -20,7 +20,7 @@ invariant-loop-share g l = record {
   counted : l.steps ≡ counted_steps l.book.total;
   rates : HasRates (g.R.Rates.matrix l.rates) (g.R.Rates.basics l.rates) l.lp l.basis;
   point : AgreesWithPoint l.lp l.basis (value_at l.point);
-  whole : IsTrue l.whole → IsPointOf l.lp l.basis (value_at l.point);
+  kept : IsTrue (all_kept l.kept) → IsPointOf l.lp l.basis (value_at l.point);
   broken : l.broken ≡ least_outside l.lp l.basis (value_at l.point);
   reached : HasReached l.lp l.fn.basis (g.R.Rates.waypoints l.fn.rates) l.basis (g.R.Rates.waypoints l.rates) l.book.total;
 }

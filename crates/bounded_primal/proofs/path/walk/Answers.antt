@@ -19,7 +19,7 @@ pub loop-outcome-init : goal.loop-outcome-init
 loop-outcome-init g c = record {
   rates = c.in_ok-point_of.ensures.rates.0;
   point = point_agrees c.args.lp.now c.args.basis.now c.in_ok-point_of.ensures.rates.0.is_basis c.in_ok-point_of.ensures.rates.0.nonsingular (value_at c.point_of.new.out) c.in_ok-point_of.ensures.point;
-  whole = λ _. c.in_ok-point_of.ensures.point;
+  kept = λ _. c.in_ok-point_of.ensures.point;
   broken = c.outside-broken.ensures;
   within = omega arith;
   reached = begins_at c.args.lp.now c.args.basis.now (g.R.Rates.waypoints c.args.rates.now) (g.R.Rates.waypoints c.point_of.new.rates) c.in_ok-point_of.ensures.rates.1;
@@ -35,28 +35,28 @@ step_over-requires-clause-step g c =
     let moves = rw c.in-Moves.is at c.in_ok-outcome.ensures.turn in
     moves.step
 
-pub returns-in_err-whole-in-Moves-clause-stops : goal.returns-in_err-whole-in-Moves-clause-stops
-returns-in_err-whole-in-Moves-clause-stops g c =
-    let p = err_from_is_err_and c.from_residual-in_err-whole-in-Moves.result c.from_residual-in_err-whole-in-Moves.ensures.1 in
+pub returns-in_err-kept-in-Moves-clause-stops : goal.returns-in_err-kept-in-Moves-clause-stops
+returns-in_err-kept-in-Moves-clause-stops g c =
+    let p = err_from_is_err_and c.from_residual-in_err-kept-in-Moves.result c.from_residual-in_err-kept-in-Moves.ensures.1 in
     let moves = rw c.in-Moves.is at c.in_ok-outcome.ensures.turn in
-    rw (p.1, p.2, c.in_err-whole-in-Moves.ensures.unchanged) (walk_stops c.args.lp.now c.loop-outcome.basis (value_at c.next_turn.new.direction) c.in-Moves.q c.in-Moves.by (c.args.limit - c.loop-outcome.steps) moves c.args.basis.now (g.R.Rates.waypoints c.args.rates.now) (g.R.Rates.waypoints c.loop-outcome.rates) c.loop-outcome.steps c.loop-outcome.invariant.reached (g.R.Rates.waypoints c.next_turn.new.rates) (g.R.Rates.waypoints c.step_over.new.rates) c.in_err-whole-in-Moves.field-0.0 c.args.limit c.loop-outcome.invariant.within refl c.in_ok-outcome.ensures.rates.1 c.in_err-whole-in-Moves.ensures.overflow)
+    rw (p.1, p.2, c.in_err-kept-in-Moves.ensures.unchanged) (walk_stops c.args.lp.now c.loop-outcome.basis (value_at c.next_turn.new.direction) c.in-Moves.q c.in-Moves.by (c.args.limit - c.loop-outcome.steps) moves c.args.basis.now (g.R.Rates.waypoints c.args.rates.now) (g.R.Rates.waypoints c.loop-outcome.rates) c.loop-outcome.steps c.loop-outcome.invariant.reached (g.R.Rates.waypoints c.next_turn.new.rates) (g.R.Rates.waypoints c.step_over.new.rates) c.in_err-kept-in-Moves.field-0.0 c.args.limit c.loop-outcome.invariant.within refl c.in_ok-outcome.ensures.rates.1 c.in_err-kept-in-Moves.ensures.overflow)
 
 pub outside_after-broken-requires-clause-stays : goal.outside_after-broken-requires-clause-stays
 outside_after-broken-requires-clause-stays g c none =
     let moves = rw c.in-Moves.is at c.in_ok-outcome.ensures.turn in
     stays_inside c.args.lp.now (g.R.Rates.matrix c.loop-outcome.rates) (g.R.Rates.basics c.loop-outcome.rates) c.loop-outcome.basis c.loop-outcome.invariant.rates (value_at c.loop-outcome.point) c.loop-outcome.invariant.point c.requires.uncrossed (sym c.loop-outcome.invariant.broken ∙ none)
-    c.requires.lawful (value_at c.next_turn.new.direction) c.in-Moves.q c.in-Moves.by (c.args.limit - c.loop-outcome.steps) moves c.step_over.new.basis c.in_ok-whole-in-Moves.ensures.basis (value_at c.step_over.new.point) c.in_ok-whole-in-Moves.ensures.point
+    c.requires.lawful (value_at c.next_turn.new.direction) c.in-Moves.q c.in-Moves.by (c.args.limit - c.loop-outcome.steps) moves c.step_over.new.basis c.in_ok-kept-in-Moves.ensures.basis (value_at c.step_over.new.point) c.in_ok-kept-in-Moves.ensures.point
 
 pub loop-outcome-preserved : goal.loop-outcome-preserved
 loop-outcome-preserved g c =
     let moves = rw c.in-Moves.is at c.in_ok-outcome.ensures.turn in
     record {
-      rates = c.in_ok-whole-in-Moves.ensures.rates;
-      point = c.in_ok-whole-in-Moves.ensures.point;
-      whole = c.in_ok-whole-in-Moves.ensures.whole;
+      rates = c.in_ok-kept-in-Moves.ensures.rates;
+      point = c.in_ok-kept-in-Moves.ensures.point;
+      kept = c.in_ok-kept-in-Moves.ensures.kept;
       broken = c.outside_after-broken.ensures;
       within = omega (arith, moves.was_left);
-      reached = walk_more c.args.lp.now c.loop-outcome.basis (value_at c.next_turn.new.direction) c.in-Moves.q c.in-Moves.by (c.args.limit - c.loop-outcome.steps) moves c.args.basis.now (g.R.Rates.waypoints c.args.rates.now) (g.R.Rates.waypoints c.loop-outcome.rates) c.loop-outcome.steps c.loop-outcome.invariant.reached c.step_over.new.basis (g.R.Rates.waypoints c.next_turn.new.rates) (g.R.Rates.waypoints c.step_over.new.rates) c.in_ok-whole-in-Moves.ensures.basis c.in_ok-outcome.ensures.rates.1 c.in_ok-whole-in-Moves.ensures.waypoints;
+      reached = walk_more c.args.lp.now c.loop-outcome.basis (value_at c.next_turn.new.direction) c.in-Moves.q c.in-Moves.by (c.args.limit - c.loop-outcome.steps) moves c.args.basis.now (g.R.Rates.waypoints c.args.rates.now) (g.R.Rates.waypoints c.loop-outcome.rates) c.loop-outcome.steps c.loop-outcome.invariant.reached c.step_over.new.basis (g.R.Rates.waypoints c.next_turn.new.rates) (g.R.Rates.waypoints c.step_over.new.rates) c.in_ok-kept-in-Moves.ensures.basis c.in_ok-outcome.ensures.rates.1 c.in_ok-kept-in-Moves.ensures.waypoints;
     }
 
 pub returns-in_err-point_of-clause-waypoints : goal.returns-in_err-point_of-clause-waypoints
@@ -74,12 +74,12 @@ returns-in-Ends-clause-waypoints g c =
     follows_later c.args.lp.now c.args.basis.now (g.R.Rates.waypoints c.args.rates.now) c.loop-outcome.basis (g.R.Rates.waypoints c.loop-outcome.rates) c.loop-outcome.steps c.loop-outcome.invariant.reached
     (g.R.Rates.waypoints c.next_turn.new.rates) c.in_ok-outcome.ensures.rates.1
 
-pub returns-in_err-whole-in-Moves-clause-waypoints : goal.returns-in_err-whole-in-Moves-clause-waypoints
-returns-in_err-whole-in-Moves-clause-waypoints g c =
-    rw c.in_err-whole-in-Moves.ensures.unchanged (follows_later c.args.lp.now c.args.basis.now (g.R.Rates.waypoints c.args.rates.now) c.loop-outcome.basis (g.R.Rates.waypoints c.loop-outcome.rates) c.loop-outcome.steps c.loop-outcome.invariant.reached
+pub returns-in_err-kept-in-Moves-clause-waypoints : goal.returns-in_err-kept-in-Moves-clause-waypoints
+returns-in_err-kept-in-Moves-clause-waypoints g c =
+    rw c.in_err-kept-in-Moves.ensures.unchanged (follows_later c.args.lp.now c.args.basis.now (g.R.Rates.waypoints c.args.rates.now) c.loop-outcome.basis (g.R.Rates.waypoints c.loop-outcome.rates) c.loop-outcome.steps c.loop-outcome.invariant.reached
     (g.R.Rates.waypoints c.step_over.new.rates)
     (keeps_then c.args.lp.now.matrix (basics_of c.loop-outcome.basis) (g.R.Rates.waypoints c.loop-outcome.rates) (basics_of c.loop-outcome.basis) (g.R.Rates.waypoints c.next_turn.new.rates) (g.R.Rates.waypoints c.step_over.new.rates)
-    c.in_ok-outcome.ensures.rates.1 (rw (c.in_err-whole-in-Moves.ensures.unchanged) at c.in_err-whole-in-Moves.ensures.waypoints)))
+    c.in_ok-outcome.ensures.rates.1 (rw (c.in_err-kept-in-Moves.ensures.unchanged) at c.in_err-kept-in-Moves.ensures.waypoints)))
 
 pub returns-in-Ends-clause-ends : goal.returns-in-Ends-clause-ends
 returns-in-Ends-clause-ends g c =

@@ -2,7 +2,8 @@ use Rattle.std.proofs.Common.{◌≡◌, Err, rules, sym, ◌∙◌, ap, subst}
 use Rattle.lp_definitions.specs.LinearProgram.{value_at}
 use Rattle.lp_definitions.specs.Basis.{Basics, basics_of, exchanged}
 use Rattle.lp_definitions.specs.Waypoints.{KeepsWaypoints}
-use Rattle.bounded_primal.proofs.Agreement.{needed_same}
+use Rattle.bounded_primal.specs.KeptPoints.{all_needed}
+use Rattle.bounded_primal.proofs.Agreement.{needed_kept, needed_same}
 use Rattle.bounded_primal.proofs.StepFacts.{reaches, leaver_basic, leaver_status, basics_replaced, has_replaced, replaced_agrees, replaced_exact, basics_flipped, has_flipped, flipped_agrees, flipped_exact, flip_is}
 use Rattle.bounded_primal.proofs.StepRefusals.{move_refused, exchange_refused, keeps_to}
 use Rattle.bounded_primal.proofs.step.step_over.Goals as goal
@@ -13,7 +14,7 @@ returns-in-Err-clause-waypoints g c = keeps_same c.args.lp.now.matrix (basics_of
 
 pub returns-in-Err-clause-overflow : goal.returns-in-Err-clause-overflow
 returns-in-Err-clause-overflow g c =
-    move_refused c.args.lp.now c.args.basis.now c.requires.step.point (value_at c.args.direction.now) c.args.q c.args.by.now c.requires.rates.is_basis c.requires.rates.nonsingular c.requires.nonbasic c.requires.direction c.requires.moves c.requires.step.is_step c.requires.step.is_point c.in-Err.evidence (value_at c.args.point.now) c.args.exact (needed_same c.args.lp.now c.args.basis.now c.requires.rates.is_basis c.requires.rates.nonsingular c.requires.step.point c.requires.step.is_point (value_at c.args.point.now) c.args.exact c.requires.point (λ is. c.requires.whole (c.requires.exact is))) (g.R.Rates.waypoints c.args.rates.now) (g.R.Rates.waypoints c.args.rates.now) c.in-Err.ensures.refused
+    move_refused c.args.lp.now c.args.basis.now c.requires.step.point (value_at c.args.direction.now) c.args.q c.args.by.now c.requires.rates.is_basis c.requires.rates.nonsingular c.requires.nonbasic c.requires.direction c.requires.moves c.requires.step.is_step c.requires.step.is_point c.in-Err.evidence (value_at c.args.point.now) (all_needed c.args.kept) (needed_same c.args.lp.now c.args.basis.now c.requires.rates.is_basis c.requires.rates.nonsingular c.requires.step.point c.requires.step.is_point (value_at c.args.point.now) (all_needed c.args.kept) c.requires.point (λ is. c.requires.kept (needed_kept c.args.kept is))) (g.R.Rates.waypoints c.args.rates.now) (g.R.Rates.waypoints c.args.rates.now) c.in-Err.ensures.refused
 
 pub returns-then-by-q-clause-basis : goal.returns-then-by-q-clause-basis
 returns-then-by-q-clause-basis g c = c.flip.ensures ∙ flip_is c.args.lp.now c.args.basis.now c.requires.step.point (value_at c.args.direction.now) c.args.q c.args.by.now c.requires.rates.is_basis c.requires.rates.nonsingular c.requires.nonbasic c.requires.direction c.requires.moves c.requires.step.is_step c.if-by-q.true
@@ -21,8 +22,8 @@ returns-then-by-q-clause-basis g c = c.flip.ensures ∙ flip_is c.args.lp.now c.
 pub returns-then-by-q-clause-point : goal.returns-then-by-q-clause-point
 returns-then-by-q-clause-point g c = rw c.flip.ensures (flipped_agrees c.args.lp.now c.args.basis.now c.requires.step.point (value_at c.args.direction.now) c.args.q c.args.by.now c.requires.rates.is_basis c.requires.rates.nonsingular c.requires.nonbasic c.requires.direction c.requires.moves c.requires.step.is_step c.requires.step.is_point (value_at c.args.point.now) (value_at c.move_point.new.point) c.if-by-q.true c.requires.point c.in-Ok.ensures.limited)
 
-pub returns-then-by-q-clause-whole : goal.returns-then-by-q-clause-whole
-returns-then-by-q-clause-whole g c all = rw c.flip.ensures (flipped_exact c.args.lp.now c.args.basis.now c.requires.step.point (value_at c.args.direction.now) c.args.q c.args.by.now c.requires.rates.is_basis c.requires.rates.nonsingular c.requires.nonbasic c.requires.direction c.requires.moves c.requires.step.is_step c.requires.step.is_point (value_at c.args.point.now) (value_at c.move_point.new.point) c.if-by-q.true (c.requires.whole (c.in-Ok.ensures.kept all)) (c.in-Ok.ensures.moved all))
+pub returns-then-by-q-clause-kept : goal.returns-then-by-q-clause-kept
+returns-then-by-q-clause-kept g c all = rw c.flip.ensures (flipped_exact c.args.lp.now c.args.basis.now c.requires.step.point (value_at c.args.direction.now) c.args.q c.args.by.now c.requires.rates.is_basis c.requires.rates.nonsingular c.requires.nonbasic c.requires.direction c.requires.moves c.requires.step.is_step c.requires.step.is_point (value_at c.args.point.now) (value_at c.move_point.new.point) c.if-by-q.true (c.requires.kept (c.in-Ok.ensures.kept all)) (c.in-Ok.ensures.moved all))
 
 pub returns-then-by-q-clause-rates : goal.returns-then-by-q-clause-rates
 returns-then-by-q-clause-rates g c =
@@ -55,8 +56,8 @@ replace-requires-clause-leaves g c = leaver_status c.args.lp.now c.args.basis.no
 pub returns-clause-point : goal.returns-clause-point
 returns-clause-point g c = rw c.replace.ensures (replaced_agrees c.args.lp.now c.args.basis.now c.requires.step.point (value_at c.args.direction.now) c.args.q c.args.by.now c.requires.rates.is_basis c.requires.rates.nonsingular c.requires.nonbasic c.requires.direction c.requires.moves c.requires.step.is_step c.requires.step.is_point (value_at c.args.point.now) (value_at c.move_point.new.point) c.if-by-q.false c.requires.point c.in-Ok.ensures.limited)
 
-pub returns-clause-whole : goal.returns-clause-whole
-returns-clause-whole g c all = rw c.replace.ensures (replaced_exact c.args.lp.now c.args.basis.now c.requires.step.point (value_at c.args.direction.now) c.args.q c.args.by.now c.requires.rates.is_basis c.requires.rates.nonsingular c.requires.nonbasic c.requires.direction c.requires.moves c.requires.step.is_step c.requires.step.is_point (value_at c.args.point.now) (value_at c.move_point.new.point) c.if-by-q.false (c.requires.whole (c.in-Ok.ensures.kept all)) (c.in-Ok.ensures.moved all))
+pub returns-clause-kept : goal.returns-clause-kept
+returns-clause-kept g c all = rw c.replace.ensures (replaced_exact c.args.lp.now c.args.basis.now c.requires.step.point (value_at c.args.direction.now) c.args.q c.args.by.now c.requires.rates.is_basis c.requires.rates.nonsingular c.requires.nonbasic c.requires.direction c.requires.moves c.requires.step.is_step c.requires.step.is_point (value_at c.args.point.now) (value_at c.move_point.new.point) c.if-by-q.false (c.requires.kept (c.in-Ok.ensures.kept all)) (c.in-Ok.ensures.moved all))
 
 pub returns-clause-rates : goal.returns-clause-rates
 returns-clause-rates g c =

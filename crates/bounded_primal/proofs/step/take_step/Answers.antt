@@ -10,4 +10,4 @@ pub step_over-requires-clause-step : goal.step_over-requires-clause-step
 step_over-requires-clause-step g c = record { point = value_at c.args.point.now; is_point = c.requires.point; is_step = c.requires.step }
 
 pub returns-in-Ok-clause-point : goal.returns-in-Ok-clause-point
-returns-in-Ok-clause-point g c = c.in-Ok.ensures.whole (c.in-Ok.ensures.exact refl)
+returns-in-Ok-clause-point g c = c.in-Ok.ensures.kept (c.in-Ok.ensures.needed refl)

@@ -5,5 +5,5 @@ use Rattle.lp_laws.proofs.WaypointLaws.{keeps_same}
 pub returns-in_err-values-clause-rates : goal.returns-in_err-values-clause-rates
 returns-in_err-values-clause-rates g c = (c.requires.rates, keeps_same c.args.lp.now.matrix (basics_of c.args.basis.now) (g.R.Rates.waypoints c.args.rates.now))
 
-pub returns-then-whole-clause-rates : goal.returns-then-whole-clause-rates
-returns-then-whole-clause-rates g c = (c.requires.rates, keeps_same c.args.lp.now.matrix (basics_of c.args.basis.now) (g.R.Rates.waypoints c.args.rates.now))
+pub returns-then-has_all-clause-rates : goal.returns-then-has_all-clause-rates
+returns-then-has_all-clause-rates g c = (c.requires.rates, keeps_same c.args.lp.now.matrix (basics_of c.args.basis.now) (g.R.Rates.waypoints c.args.rates.now))
