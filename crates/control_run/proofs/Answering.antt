@@ -15,13 +15,14 @@ use Rattle.listing_definitions.specs.Listing.{listing, ending_text}
 use Rattle.question_definitions.specs.Solving.{Solving}
 use Rattle.run_definitions.specs.Answer.{Job, Failures, bytes_of, IsProgramOf, run, MayEnd, by_itself as ends_by_itself, memory_in_run, memory_at_punch, punch_fails, IsCutShort, IsAnswered}
 use Rattle.run_definitions.specs.Answer as answers
-use Rattle.control_run.specs.declared.act.Halt.{Halt}
-use Rattle.control_run.specs.declared.act.Halt.TheVariants as halt
-use Rattle.control_run.specs.declared.end.End.{End}
-use Rattle.control_run.specs.declared.end.End.TheVariants.{Done, Infeasible, Unbounded, Verb, Deck, Limit, Statements, Overflow, Memory}
+use Rattle.run_machine.specs.declared.act.Halt.{Halt}
+use Rattle.run_machine.specs.declared.act.Halt.TheVariants as halt
+use Rattle.run_machine.specs.declared.end.End.{End}
+use Rattle.run_machine.specs.declared.end.End.TheVariants.{Done, Infeasible, Unbounded, Verb, Deck, Limit, Statements, Overflow, Memory}
 use Rattle.control_run.specs.declared.status.Status.{Status}
 use Rattle.control_run.specs.declared.status.Status.TheVariants.{PrintFault, PunchFault}
-use Rattle.control_run.specs.Ends.{end_shown, code_of}
+use Rattle.run_machine.specs.Ends.{end_shown}
+use Rattle.control_run.specs.Statuses.{code_of}
 use Rattle.control_run.specs.Finishing.{cut_status, Finishes, FinishesHalted, printed, cut_off}
 use Rattle.control_run.proofs.Gains.{front_gained}
 use Rattle.control_run.specs.Running.{CanEnd, by_itself, for_memory, for_memory_of_punch, for_punch_fault, RunsTo, IsRunCut, Runs, IsRunAnswer, whole, print_fails, print_wants_memory}

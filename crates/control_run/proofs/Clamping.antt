@@ -16,5 +16,5 @@ clamped xs d r e = by (cases_lt (length xs + 1) d)
     by (inr within) = let same : r - 1 ≡ d - 1 = omega arith in ap (λ n. drop n xs) same
 
 -- the cards from a number that is kept from 1 to one more than the last
-pub same_behind : (cards : List (List ℕ)) (d r : ℕ) → r ≡ min (max d 1) (length cards + 1) → drop (r - 1) (numbered_cards cards) ≡ drop (d - 1) (numbered_cards cards)
-same_behind cards d r e = let counted : length (numbered_cards cards) ≡ length cards = length-numbered 1 cards in clamped (numbered_cards cards) d r (rw counted e)
+pub same_after : (cards : List (List ℕ)) (d r : ℕ) → r ≡ min (max d 1) (length cards + 1) → drop (r - 1) (numbered_cards cards) ≡ drop (d - 1) (numbered_cards cards)
+same_after cards d r e = let counted : length (numbered_cards cards) ≡ length cards = length-numbered 1 cards in clamped (numbered_cards cards) d r (rw counted e)

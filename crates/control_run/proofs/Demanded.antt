@@ -9,14 +9,14 @@ use Rattle.listing_definitions.specs.Ending as endings
 use Rattle.run_definitions.specs.State.{State}
 use Rattle.run_definitions.specs.Moves.{Prints, Ends as EndsRun, Move, Gives}
 use Rattle.run_definitions.specs.Verbs.{by_verdict, demanded}
-use Rattle.control_run.specs.declared.end.End.{End}
-use Rattle.control_run.specs.declared.end.End.TheVariants as end
-use Rattle.control_run.specs.declared.finding.Finding.TheVariants.{Ended}
-use Rattle.control_run.specs.Machines.{Machine}
-use Rattle.control_run.specs.Ends.{end_shown}
-use Rattle.control_run.specs.Standing.{AreDemands, Stands}
-use Rattle.control_run.specs.Statements.{Follows}
-use Rattle.control_run.specs.Findings.{demanded_act, act_of}
+use Rattle.run_machine.specs.declared.end.End.{End}
+use Rattle.run_machine.specs.declared.end.End.TheVariants as end
+use Rattle.run_machine.specs.declared.finding.Finding.TheVariants.{Ended}
+use Rattle.run_machine.specs.Machines.{Machine}
+use Rattle.run_machine.specs.Ends.{end_shown}
+use Rattle.run_machine.specs.Standing.{AreDemands, Stands}
+use Rattle.run_machine.specs.Statements.{Follows}
+use Rattle.run_machine.specs.Findings.{demanded_act, act_of}
 
 module _ (card : ℕ) (cards : List (List ℕ)) (machine : Machine) (position executed : ℕ) (move : Move) (report : Report) (then : State) (t : Stands cards machine position executed then) where
   demanded_comes : (set : Option ℕ) → IfSome set (λ to. 1 ≤ to) → (end : End) (code : ℕ) → endings.Ended code ≡ end_shown end → Gives linear_programming card move (demanded set code report then) →

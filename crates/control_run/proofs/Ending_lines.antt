@@ -5,7 +5,7 @@ use Rattle.job_devices.specs.Text.{Writes}
 use Rattle.listing_definitions.specs.Ending.{Ending, status_of}
 use Rattle.listing_definitions.specs.Listing.{ending_text}
 use Rattle.control_run.specs.declared.status.Status.{Status}
-use Rattle.control_run.specs.Ends.{code_of}
+use Rattle.control_run.specs.Statuses.{code_of}
 use Rattle.control_run.specs.Finishing.{cut_status, Finishes, printed, cut_off}
 
 module _ {P : Type 0} (written : P → Option (List ℕ)) (faults refusals : P → ℕ) {old new : P} (shown ending : Ending) (same : shown ≡ ending) where

@@ -10,7 +10,7 @@ use Rattle.listing_definitions.specs.Text.{report_text}
 use Rattle.listing_definitions.specs.Listing.{reports_text}
 use Rattle.run_definitions.specs.Moves.{Gain, Nothing, Prints, Punches, printed_by}
 use Rattle.run_definitions.specs.Answer.{Gains}
-use Rattle.control_run.specs.Statements.{gain_text}
+use Rattle.run_machine.specs.Statements.{gain_text}
 use Rattle.control_run.specs.Running.{GainsBy}
 
 pub printed_text : (gain : Gain) → reports_text (printed_by gain) ≡ gain_text gain

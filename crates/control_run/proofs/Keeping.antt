@@ -3,12 +3,12 @@ use Rattle.std.proofs.Common.{◌≡◌, ℕ, List, Option, None, Some, IfSome, 
 use Rattle.problem_file.specs.Filed.{Filed}
 use Rattle.listing_definitions.specs.declared.Mark.{Mark}
 use Rattle.control_definitions.specs.Cells.{Cells}
-use Rattle.control_run.specs.declared.finding.Finding.{Finding}
-use Rattle.control_run.specs.declared.finding.Finding.TheVariants.{Refused, Overflow, Limit, Ended, Shown, Swept}
-use Rattle.control_run.specs.Machines.{Machine}
-use Rattle.control_run.specs.Kept.{Setup}
-use Rattle.control_run.specs.Standing.{AreDemands, IsReady, IsSolved, IsSound}
-use Rattle.control_run.specs.Findings.{IfEnded, mark_left}
+use Rattle.run_machine.specs.declared.finding.Finding.{Finding}
+use Rattle.run_machine.specs.declared.finding.Finding.TheVariants.{Refused, Overflow, Limit, Ended, Shown, Swept}
+use Rattle.run_machine.specs.Machines.{Machine}
+use Rattle.run_machine.specs.Kept.{Setup}
+use Rattle.run_machine.specs.Standing.{AreDemands, IsReady, IsSolved, IsSound}
+use Rattle.run_machine.specs.Findings.{IfEnded, mark_left}
 use Rattle.control_run.specs.Sweeping.{cells_left}
 
 pub ready_of : (file : Filed) (kept : Option Setup) (setup : Setup) → kept ≡ Some setup → IfSome kept (IsReady file) → IsReady file setup

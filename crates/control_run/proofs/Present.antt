@@ -20,9 +20,9 @@ use Rattle.report_text.specs.Verdicts.{verdict_shown, check_shown}
 use Rattle.present_answers.specs.declared.path.PathReport.{PathReport}
 use Rattle.present_answers.specs.Reports.{sheet_shown, IsReached}
 use Rattle.run_definitions.specs.State.{Present, gone_through}
-use Rattle.control_run.specs.Kept.{Setup}
-use Rattle.control_run.specs.Standing.{IsPresent}
-use Rattle.control_run.specs.Findings.{PathReaches}
+use Rattle.run_machine.specs.Kept.{Setup}
+use Rattle.run_machine.specs.Standing.{IsPresent}
+use Rattle.control_run.specs.Found.{PathReaches}
 
 -- ---- lists of bases
 

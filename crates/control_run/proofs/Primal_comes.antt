@@ -19,21 +19,22 @@ use Rattle.answer_definitions.specs.Evidence.{OverflowsOnPath}
 use Rattle.run_definitions.specs.State.{Present, present_basis, path_of, State, choice_of, gone_through}
 use Rattle.run_definitions.specs.Moves.{Gain, punched_by, Outcome, stops, Move, MayStop, Asks, Gives, or_fault, InSelection, InAnswer, SelectionOverflows}
 use Rattle.run_definitions.specs.Verbs.{mark_of, or_selection_fault, after_path, verb_move}
-use Rattle.control_run.specs.declared.act.Act.{Act}
-use Rattle.control_run.specs.declared.act.Halt.{Halt}
-use Rattle.control_run.specs.declared.finding.Finding.{Finding}
-use Rattle.control_run.specs.declared.finding.Finding.TheVariants.{Ended}
-use Rattle.control_run.specs.Machines.{Machine}
-use Rattle.control_run.specs.Kept.{Setup}
-use Rattle.control_run.specs.declared.selecting.Refusal.TheVariants.{Fault}
-use Rattle.control_run.specs.Choosing.{HasSelectionFault, HasSelectionOverflow, refused_act}
-use Rattle.control_run.specs.Ends.{end_shown, place_shown}
+use Rattle.run_machine.specs.declared.act.Act.{Act}
+use Rattle.run_machine.specs.declared.act.Halt.{Halt}
+use Rattle.run_machine.specs.declared.finding.Finding.{Finding}
+use Rattle.run_machine.specs.declared.finding.Finding.TheVariants.{Ended}
+use Rattle.run_machine.specs.Machines.{Machine}
+use Rattle.run_machine.specs.Kept.{Setup}
+use Rattle.run_machine.specs.declared.selecting.Refusal.TheVariants.{Fault}
+use Rattle.run_machine.specs.Choosing.{HasSelectionFault, HasSelectionOverflow, refused_act}
+use Rattle.run_machine.specs.Ends.{end_shown, place_shown}
 use Rattle.answer_definitions.specs.Real.{linear_programming}
-use Rattle.control_run.specs.Standing.{AreDemands, IsReady, ShowsSetup, Stands}
-use Rattle.control_run.specs.Statements.{Comes, Executes}
-use Rattle.control_run.specs.Findings.{PathReaches, PathOverflows, reached, at_limit, overflows, Finds, unselected, too_large, solved, TellsFinding, act_of, mark_left}
-use Rattle.control_run.proofs.Selected.{same_matrix}
-use Rattle.control_run.proofs.Giving.{gives_fault, gives_found, gives_unselected, gives_selected, quietly}
+use Rattle.run_machine.specs.Standing.{AreDemands, IsReady, ShowsSetup, Stands}
+use Rattle.run_machine.specs.Statements.{Comes, Executes}
+use Rattle.run_machine.specs.Findings.{TellsFinding, act_of, mark_left}
+use Rattle.control_run.specs.Found.{PathReaches, PathOverflows, reached, at_limit, overflows, Finds, unselected, too_large, solved}
+use Rattle.run_machine.proofs.Selected.{same_matrix}
+use Rattle.run_machine.proofs.Giving.{gives_fault, gives_found, gives_unselected, gives_selected, quietly}
 use Rattle.control_run.proofs.Telling.{told_executes, cut_executes}
 use Rattle.control_run.proofs.Demanded.{verdict_comes}
 use Rattle.control_run.proofs.Present.{present_with, IsPresentOf, present_at, lie_up_to, goes_through}

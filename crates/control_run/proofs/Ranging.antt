@@ -31,23 +31,24 @@ use Rattle.present_answers.specs.Stops.{RangesRefused}
 use Rattle.run_definitions.specs.State.{Present, State, choice_of, present_basis, path_of}
 use Rattle.run_definitions.specs.Moves.{Gain, Nothing, Prints, punched_by, Outcome, next, stops, InAnswer, Move, MayStop, Asks, Gives, or_fault}
 use Rattle.run_definitions.specs.Verbs.{if_optimal, or_selection_fault, verb_move}
-use Rattle.control_run.specs.declared.act.Act.{Act}
-use Rattle.control_run.specs.declared.act.Halt.{Halt}
-use Rattle.control_run.specs.declared.act.Halt.TheVariants as halt
-use Rattle.control_run.specs.declared.end.Place.{Place as OwnPlace}
-use Rattle.control_run.specs.declared.finding.Finding.{Finding}
-use Rattle.control_run.specs.declared.finding.Finding.TheVariants.{Overflow, Shown}
-use Rattle.control_run.specs.Machines.{Machine}
-use Rattle.control_run.specs.Kept.{Setup}
-use Rattle.control_run.specs.declared.selecting.Refusal.TheVariants.{Fault}
-use Rattle.control_run.specs.Ends.{place_shown}
+use Rattle.run_machine.specs.declared.act.Act.{Act}
+use Rattle.run_machine.specs.declared.act.Halt.{Halt}
+use Rattle.run_machine.specs.declared.act.Halt.TheVariants as halt
+use Rattle.run_machine.specs.declared.end.Place.{Place as OwnPlace}
+use Rattle.run_machine.specs.declared.finding.Finding.{Finding}
+use Rattle.run_machine.specs.declared.finding.Finding.TheVariants.{Overflow, Shown}
+use Rattle.run_machine.specs.Machines.{Machine}
+use Rattle.run_machine.specs.Kept.{Setup}
+use Rattle.run_machine.specs.declared.selecting.Refusal.TheVariants.{Fault}
+use Rattle.run_machine.specs.Ends.{place_shown}
 use Rattle.answer_definitions.specs.Real.{linear_programming}
-use Rattle.control_run.specs.Standing.{ShowsSetup, Stands}
-use Rattle.control_run.specs.Statements.{Comes, Executes}
-use Rattle.control_run.specs.Choosing.{refused_act}
-use Rattle.control_run.specs.Findings.{RangesFound, ranged, stopped, ShowsRanges, range_fault, TellsFinding, act_of}
-use Rattle.control_run.proofs.Selected.{same_matrix}
-use Rattle.control_run.proofs.Giving.{gives_fault, gives_found, gives_selected, quietly}
+use Rattle.run_machine.specs.Standing.{ShowsSetup, Stands}
+use Rattle.run_machine.specs.Statements.{Comes, Executes}
+use Rattle.run_machine.specs.Choosing.{refused_act}
+use Rattle.run_machine.specs.Findings.{TellsFinding, act_of}
+use Rattle.control_run.specs.Found.{RangesFound, ranged, stopped, ShowsRanges, range_fault}
+use Rattle.run_machine.proofs.Selected.{same_matrix}
+use Rattle.run_machine.proofs.Giving.{gives_fault, gives_found, gives_selected, quietly}
 use Rattle.control_run.proofs.Telling.{told_executes, cut_executes}
 use Rattle.control_run.proofs.Present.{present_with, IsPresentOf, present_at, one_problem, lie_up_to}
 use Rattle.control_run.proofs.Showing.{IsSameSetup, still_stands}

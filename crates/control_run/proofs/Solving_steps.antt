@@ -30,20 +30,21 @@ use Rattle.present_answers.specs.Reports.{sheet_shown, OverflowsThere, PassesLim
 use Rattle.run_definitions.specs.State.{choice_of}
 use Rattle.run_definitions.specs.Moves.{Gain, Nothing, Prints}
 use Rattle.run_definitions.specs.Verbs.{mark_of}
-use Rattle.control_run.specs.declared.act.Halt.{Halt}
-use Rattle.control_run.specs.declared.act.Halt.TheVariants as halt
-use Rattle.control_run.specs.declared.end.Place.{Place as OwnPlace}
-use Rattle.control_run.specs.declared.finding.Finding.{Finding}
-use Rattle.control_run.specs.declared.finding.Finding.TheVariants.{Ended, Overflow}
-use Rattle.control_run.specs.Kept.{Setup}
-use Rattle.control_run.specs.declared.selecting.Refusal.{Refusal}
-use Rattle.control_run.specs.declared.selecting.Refusal.TheVariants.{Fault, NoMemory}
-use Rattle.control_run.specs.declared.selecting.Refusal.TheVariants as refusals
-use Rattle.control_run.specs.Choosing.{IsUnselected}
-use Rattle.control_run.specs.Ends.{place_shown}
-use Rattle.control_run.specs.Standing.{IsReady, IsSelected}
-use Rattle.control_run.specs.Findings.{PathReaches, PathFinds, reached, at_limit, overflows, Finds, unselected, too_large, solved, TellsFinding, refused_finding, IfEnded}
-use Rattle.control_run.proofs.Selected.{same_matrix, no_change, rates_carry}
+use Rattle.run_machine.specs.declared.act.Halt.{Halt}
+use Rattle.run_machine.specs.declared.act.Halt.TheVariants as halt
+use Rattle.run_machine.specs.declared.end.Place.{Place as OwnPlace}
+use Rattle.run_machine.specs.declared.finding.Finding.{Finding}
+use Rattle.run_machine.specs.declared.finding.Finding.TheVariants.{Ended, Overflow}
+use Rattle.run_machine.specs.Kept.{Setup}
+use Rattle.run_machine.specs.declared.selecting.Refusal.{Refusal}
+use Rattle.run_machine.specs.declared.selecting.Refusal.TheVariants.{Fault, NoMemory}
+use Rattle.run_machine.specs.declared.selecting.Refusal.TheVariants as refusals
+use Rattle.run_machine.specs.Choosing.{IsUnselected}
+use Rattle.run_machine.specs.Ends.{place_shown}
+use Rattle.run_machine.specs.Standing.{IsReady, IsSelected}
+use Rattle.run_machine.specs.Findings.{TellsFinding, refused_finding, IfEnded}
+use Rattle.control_run.specs.Found.{PathReaches, PathFinds, reached, at_limit, overflows, Finds, unselected, too_large, solved}
+use Rattle.run_machine.proofs.Selected.{same_matrix, no_change, rates_carry}
 use Rattle.control_run.proofs.Telling.{tells_more, tells_quietly}
 use Rattle.control_run.proofs.Present.{one_problem}
 

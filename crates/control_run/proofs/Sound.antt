@@ -5,7 +5,7 @@ use Rattle.std.proofs.lemmas.Option.{slice_get_within, unwrap_or-slice_get}
 use Rattle.control_definitions.specs.declared.TheConstants.{MAX_STEPS}
 use Rattle.control_definitions.specs.Program.{Verb, Statement, Program, MoveLimit, Mvadr, Goto, label_argument}
 use Rattle.control_compiler.specs.Valid.{moved_limit, IsPosition, IsProgram}
-use Rattle.control_run.specs.Statements.{IsSoundVerb}
+use Rattle.run_machine.specs.Statements.{IsSoundVerb}
 
 each_at : {X : Type 0} (P : X → Type 0) (xs : List X) (k : ℕ) (x : X) → slice_get xs k ≡ Some x → All P xs → P x
 each_at P xs k x e all = subst P (sym (unwrap_or-slice_get xs k x) ∙ ap (λ o. unwrap_or o x) e) (all k x (slice_get_within xs k x e))

@@ -6,17 +6,17 @@ use Rattle.run_definitions.specs.State.{State}
 use Rattle.run_definitions.specs.Moves.{Gain, Punches, Outcome, Goes as GoesOn, Gives}
 use Rattle.run_definitions.specs.Verbs.{verb_move}
 use Rattle.run_definitions.specs.Run.{counted, Step}
-use Rattle.control_run.specs.declared.act.Act.{Act}
-use Rattle.control_run.specs.declared.act.Act.TheVariants as act
-use Rattle.control_run.specs.declared.act.Halt.{Halt}
-use Rattle.control_run.specs.declared.act.Halt.TheVariants as halt
-use Rattle.control_run.specs.declared.act.AfterStatement.{AfterStatement}
-use Rattle.control_run.specs.Machines.{Machine}
-use Rattle.control_run.specs.Standing.{Stands}
-use Rattle.control_run.specs.Statements.{Comes}
-use Rattle.control_run.specs.Punching.{Performs}
+use Rattle.run_machine.specs.declared.act.Act.{Act}
+use Rattle.run_machine.specs.declared.act.Act.TheVariants as act
+use Rattle.run_machine.specs.declared.act.Halt.{Halt}
+use Rattle.run_machine.specs.declared.act.Halt.TheVariants as halt
+use Rattle.run_machine.specs.declared.act.AfterStatement.{AfterStatement}
+use Rattle.run_machine.specs.Machines.{Machine}
+use Rattle.run_machine.specs.Standing.{Stands}
+use Rattle.run_machine.specs.Statements.{Comes}
+use Rattle.run_machine.specs.Punching.{Performs}
 use Rattle.control_run.specs.Running.{Leads, Steps}
-use Rattle.control_run.specs.Turning.{turn_of}
+use Rattle.run_machine.specs.Turning.{turn_of}
 
 -- the state with one more statement counted
 counted_stands : {cards : List (List ℕ)} {machine : Machine} {position executed : ℕ} {state : State} → Stands cards machine position executed state → Stands cards machine position (executed + 1) (counted state)

@@ -19,22 +19,22 @@ use Rattle.answer_definitions.specs.Evidence.{OverflowsAt}
 use Rattle.run_definitions.specs.State.{Present, State, choice_of, gone_through}
 use Rattle.run_definitions.specs.Moves.{Gain, punched_by, Outcome, stops, Move, MayStop, Gives, or_fault, InSelection, SelectionOverflows}
 use Rattle.run_definitions.specs.Verbs.{mark_of, last_value, not_less, or_selection_fault, asks, after_sweep, verb_move}
-use Rattle.control_run.specs.declared.act.Act.{Act}
-use Rattle.control_run.specs.declared.act.Halt.{Halt}
-use Rattle.control_run.specs.declared.finding.Finding.{Finding}
-use Rattle.control_run.specs.Machines.{Machine}
-use Rattle.control_run.specs.Kept.{Setup}
-use Rattle.control_run.specs.declared.selecting.Refusal.TheVariants.{Fault}
+use Rattle.run_machine.specs.declared.act.Act.{Act}
+use Rattle.run_machine.specs.declared.act.Halt.{Halt}
+use Rattle.run_machine.specs.declared.finding.Finding.{Finding}
+use Rattle.run_machine.specs.Machines.{Machine}
+use Rattle.run_machine.specs.Kept.{Setup}
+use Rattle.run_machine.specs.declared.selecting.Refusal.TheVariants.{Fault}
 use Rattle.control_run.specs.declared.sweep.SweepVerb.{SweepVerb}
 use Rattle.control_run.specs.declared.sweep.SweepVerb.TheVariants.{Paraobj, Pararhs}
-use Rattle.control_run.specs.Choosing.{HasSelectionFault, HasSelectionOverflow, refused_act}
-use Rattle.control_run.specs.Ends.{place_shown}
-use Rattle.control_run.specs.Standing.{AreDemands, IsReady, ShowsSetup, Stands}
-use Rattle.control_run.specs.Statements.{Comes, Executes}
-use Rattle.control_run.specs.Findings.{TellsFinding, act_of}
+use Rattle.run_machine.specs.Choosing.{HasSelectionFault, HasSelectionOverflow, refused_act}
+use Rattle.run_machine.specs.Ends.{place_shown}
+use Rattle.run_machine.specs.Standing.{AreDemands, IsReady, ShowsSetup, Stands}
+use Rattle.run_machine.specs.Statements.{Comes, Executes}
+use Rattle.run_machine.specs.Findings.{TellsFinding, act_of}
 use Rattle.control_run.specs.Sweeping.{verb_of, name_moved, change_of, change_fault, IsAsked, no_last, below, IsAskFault, no_change, no_value, SweepReaches, SweepOverflows, opened, chained, at_limit, overflows, Sweeps, unselected, too_large, not_asked, swept, cells_left}
-use Rattle.control_run.proofs.Selected.{same_matrix}
-use Rattle.control_run.proofs.Giving.{gives_fault, gives_found, gives_unselected, gives_selected, quietly}
+use Rattle.run_machine.proofs.Selected.{same_matrix}
+use Rattle.run_machine.proofs.Giving.{gives_fault, gives_found, gives_unselected, gives_selected, quietly}
 use Rattle.control_run.proofs.Telling.{told_executes, cut_executes}
 use Rattle.control_run.proofs.Present.{present_with, IsPresentOf, present_at, lie_up_to, goes_through}
 use Rattle.control_run.proofs.Demanded.{verdict_comes}

@@ -39,21 +39,21 @@ use Rattle.present_answers.specs.RunReports.{IsAnswered, RunOverflowsThere, Limi
 use Rattle.run_definitions.specs.State.{choice_of}
 use Rattle.run_definitions.specs.Moves.{Gain, Nothing, Prints}
 use Rattle.run_definitions.specs.Verbs.{mark_of, last_value}
-use Rattle.control_run.specs.declared.act.Halt.{Halt}
-use Rattle.control_run.specs.declared.act.Halt.TheVariants as halt
-use Rattle.control_run.specs.declared.end.Place.{Place as OwnPlace}
-use Rattle.control_run.specs.declared.finding.Finding.{Finding}
-use Rattle.control_run.specs.declared.finding.Finding.TheVariants.{Ended, Overflow, Swept}
-use Rattle.control_run.specs.Kept.{Setup}
-use Rattle.control_run.specs.declared.selecting.Refusal.{Refusal}
-use Rattle.control_run.specs.declared.selecting.Refusal.TheVariants.{Fault, NoMemory}
-use Rattle.control_run.specs.declared.selecting.Refusal.TheVariants as refusal
+use Rattle.run_machine.specs.declared.act.Halt.{Halt}
+use Rattle.run_machine.specs.declared.act.Halt.TheVariants as halt
+use Rattle.run_machine.specs.declared.end.Place.{Place as OwnPlace}
+use Rattle.run_machine.specs.declared.finding.Finding.{Finding}
+use Rattle.run_machine.specs.declared.finding.Finding.TheVariants.{Ended, Overflow, Swept}
+use Rattle.run_machine.specs.Kept.{Setup}
+use Rattle.run_machine.specs.declared.selecting.Refusal.{Refusal}
+use Rattle.run_machine.specs.declared.selecting.Refusal.TheVariants.{Fault, NoMemory}
+use Rattle.run_machine.specs.declared.selecting.Refusal.TheVariants as refusal
 use Rattle.control_run.specs.declared.sweep.Sweep.{Sweep as OwnSweep}
 use Rattle.control_run.specs.declared.sweep.Sweep.TheVariants as own
 use Rattle.control_run.specs.declared.sweep.SweepVerb.{SweepVerb}
-use Rattle.control_run.specs.Choosing.{IsUnselected}
-use Rattle.control_run.specs.Ends.{place_shown}
-use Rattle.control_run.specs.Findings.{IsOverflowAt, TellsFinding, refused_finding}
+use Rattle.run_machine.specs.Choosing.{IsUnselected}
+use Rattle.run_machine.specs.Ends.{place_shown}
+use Rattle.run_machine.specs.Findings.{IsOverflowAt, TellsFinding, refused_finding}
 use Rattle.control_run.specs.Sweeping.{IsNotAsked, IsAsked, sweep_shown, IsOf, Serves, value_left, IsRunOverflow, SweepReaches, SweepFinds, opened, chained, overflows, Sweeps, unselected, too_large, not_asked, swept}
 use Rattle.control_run.proofs.Telling.{tells_more, tells_quietly, overflow_tells}
 use Rattle.control_run.proofs.Present.{one_problem}

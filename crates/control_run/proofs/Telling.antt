@@ -11,19 +11,19 @@ use Rattle.question_definitions.specs.Answers.{Basis}
 use Rattle.run_definitions.specs.State.{State}
 use Rattle.run_definitions.specs.Moves.{Gain, Nothing, punched_by, Outcome, Ends as EndsRun, next, jump, Move, Gives}
 use Rattle.run_definitions.specs.Verbs.{verb_move}
-use Rattle.control_run.specs.declared.act.Act.{Act}
-use Rattle.control_run.specs.declared.act.Act.TheVariants as act
-use Rattle.control_run.specs.declared.act.Halt.{Halt}
-use Rattle.control_run.specs.declared.act.Halt.TheVariants as halt
-use Rattle.control_run.specs.declared.end.Place.{Place as OwnPlace}
-use Rattle.control_run.specs.declared.finding.Finding.{Finding}
-use Rattle.control_run.specs.declared.finding.Finding.TheVariants.{Overflow}
-use Rattle.control_run.specs.Machines.{Machine}
-use Rattle.control_run.specs.Ends.{end_shown, place_shown}
+use Rattle.run_machine.specs.declared.act.Act.{Act}
+use Rattle.run_machine.specs.declared.act.Act.TheVariants as act
+use Rattle.run_machine.specs.declared.act.Halt.{Halt}
+use Rattle.run_machine.specs.declared.act.Halt.TheVariants as halt
+use Rattle.run_machine.specs.declared.end.Place.{Place as OwnPlace}
+use Rattle.run_machine.specs.declared.finding.Finding.{Finding}
+use Rattle.run_machine.specs.declared.finding.Finding.TheVariants.{Overflow}
+use Rattle.run_machine.specs.Machines.{Machine}
+use Rattle.run_machine.specs.Ends.{end_shown, place_shown}
 use Rattle.answer_definitions.specs.Real.{linear_programming}
-use Rattle.control_run.specs.Standing.{Stands}
-use Rattle.control_run.specs.Statements.{Comes, Executes, Follows, gain_of, gain_text}
-use Rattle.control_run.specs.Findings.{IsOverflowAt, told, no_memory, TellsFinding}
+use Rattle.run_machine.specs.Standing.{Stands}
+use Rattle.run_machine.specs.Statements.{Comes, Executes, Follows, gain_of, gain_text}
+use Rattle.run_machine.specs.Findings.{IsOverflowAt, told, no_memory, TellsFinding}
 
 module _ {P : Type 0} (written : P → Option (List ℕ)) (faults refusals : P → ℕ) where
   pub tells_more : (F G : Gain → Finding → Type 0) (print_old print_new : P) → ((gain : Gain) (finding : Finding) → F gain finding → G gain finding) → (result : Result Finding Halt) →

@@ -15,17 +15,17 @@ use Rattle.question_definitions.specs.Solving.{Solving}
 use Rattle.run_definitions.specs.State.{State, start}
 use Rattle.run_definitions.specs.Moves.{Gain, printed_by, punched_by, Outcome, Goes as GoesOn, Ends as EndsRun}
 use Rattle.run_definitions.specs.Run.{Step, Reaches, begun, stepped, is_over, is_ended, at_end, at_limit}
-use Rattle.control_run.specs.declared.act.Halt.{Halt}
-use Rattle.control_run.specs.declared.act.Halt.TheVariants as halt
-use Rattle.control_run.specs.declared.act.AfterStatement.{AfterStatement}
-use Rattle.control_run.specs.declared.act.AfterStatement.TheVariants.{Goes, Ends}
-use Rattle.control_run.specs.declared.end.End.{End}
-use Rattle.control_run.specs.Machines.{Machine}
-use Rattle.control_run.specs.Ends.{end_shown}
-use Rattle.control_run.specs.Standing.{IsSound, Stands}
-use Rattle.control_run.specs.Statements.{gain_text, gain_of}
-use Rattle.control_run.specs.Punching.{gain_cards}
-use Rattle.control_run.specs.Running.{decks_behind, by_itself, for_memory, for_memory_of_punch, for_punch_fault, Turns, IsStepCut, IsDeckCut, Steps, RunsTo, IsRunCut, Runs}
+use Rattle.run_machine.specs.declared.act.Halt.{Halt}
+use Rattle.run_machine.specs.declared.act.Halt.TheVariants as halt
+use Rattle.run_machine.specs.declared.act.AfterStatement.{AfterStatement}
+use Rattle.run_machine.specs.declared.act.AfterStatement.TheVariants.{Goes, Ends}
+use Rattle.run_machine.specs.declared.end.End.{End}
+use Rattle.run_machine.specs.Machines.{Machine}
+use Rattle.run_machine.specs.Ends.{end_shown}
+use Rattle.run_machine.specs.Standing.{IsSound, Stands}
+use Rattle.run_machine.specs.Statements.{gain_text, gain_of}
+use Rattle.run_machine.specs.Punching.{gain_cards}
+use Rattle.control_run.specs.Running.{decks_after, by_itself, for_memory, for_memory_of_punch, for_punch_fault, Turns, IsStepCut, IsDeckCut, Steps, RunsTo, IsRunCut, Runs}
 use Rattle.control_run.proofs.Gains.{reports_text_more, card_text_more, gains_whole, front_of_whole, gains_front_at_fault, gains_front_for_memory}
 
 module _ (S : Solving) (program : Program) (cards : List (List ℕ)) {P U : Type 0} (written : P → Option (List ℕ)) (faults refusals : P → ℕ)
@@ -39,7 +39,7 @@ module _ (S : Solving) (program : Program) (cards : List (List ℕ)) {P U : Type
     pub stands : Stands cards machine position executed state
     pub reports : List Report
     pub punched : List (List ℕ)
-    pub reaches : Reaches S program (decks_behind program cards) reports punched state
+    pub reaches : Reaches S program (decks_after program cards) reports punched state
     pub prints : Writes {T = Unit {0}} written faults refusals print_old print_now (Ok tt) (reports_text reports)
     pub punches : Writes {T = Unit {0}} punch_written punch_faults punch_refusals punch_old punch_now (Ok tt) (card_text punched)
 
@@ -51,7 +51,7 @@ module _ (S : Solving) (program : Program) (cards : List (List ℕ)) {P U : Type
     sound = sound;
     first = omega arith;
     within = omega arith;
-    state = start (decks_behind program cards);
+    state = start (decks_after program cards);
     stands = subst (λ d. Stands cards machine 1 0 (start (decks_of d))) same stands;
     reports = [];
     punched = [];
@@ -63,7 +63,7 @@ module _ (S : Solving) (program : Program) (cards : List (List ℕ)) {P U : Type
   module _ {old now : P} {punch_old punch_now : U} {machine : Machine} {position executed : ℕ} (u : IsUnderway old now punch_old punch_now machine position executed) where
     -- the run with one more statement, which goes on
     reaches_more : {after : State} (gain : Gain) → Step S program u.state (GoesOn gain after) →
-        Reaches S program (decks_behind program cards) (u.reports ++ printed_by gain) (u.punched ++ punched_by gain) after
+        Reaches S program (decks_after program cards) (u.reports ++ printed_by gain) (u.punched ++ punched_by gain) after
     reaches_more {after = after} gain step = stepped gain after u.reaches step
 
     punches_more : {punch_later : U} (gain : Gain) → Writes {T = Unit {0}} punch_written punch_faults punch_refusals punch_now punch_later (Ok tt) (gain_cards gain) →

@@ -1,13 +1,5 @@
-pub mod Kept
-pub mod Machines
-pub mod Ends
-pub mod Standing
-pub mod Statements
-pub mod Punching
-pub mod Turning
-pub mod Describing
-pub mod Choosing
-pub mod Findings
+pub mod Statuses
+pub mod Found
 pub mod Finishing
 pub mod Running
 pub mod Sweeping

@@ -22,20 +22,20 @@ use Rattle.run_definitions.specs.State.{State}
 use Rattle.run_definitions.specs.Moves.{Gain, Outcome, Goes as GoesOn, Ends as EndsRun}
 use Rattle.run_definitions.specs.Run.{max_executed, Step, Reaches, IsRun}
 use Rattle.run_definitions.specs.Answer.{Gains, IsPunching}
-use Rattle.control_run.specs.declared.act.Halt.{Halt}
-use Rattle.control_run.specs.declared.act.Halt.TheVariants as halt
-use Rattle.control_run.specs.declared.act.AfterStatement.{AfterStatement}
-use Rattle.control_run.specs.declared.act.AfterStatement.TheVariants.{Goes, Ends}
-use Rattle.control_run.specs.declared.end.End.{End}
-use Rattle.control_run.specs.Machines.{Machine}
-use Rattle.control_run.specs.Ends.{end_shown}
-use Rattle.control_run.specs.Standing.{Stands}
-use Rattle.control_run.specs.Statements.{gain_text, gain_of}
-use Rattle.control_run.specs.Punching.{gain_cards}
+use Rattle.run_machine.specs.declared.act.Halt.{Halt}
+use Rattle.run_machine.specs.declared.act.Halt.TheVariants as halt
+use Rattle.run_machine.specs.declared.act.AfterStatement.{AfterStatement}
+use Rattle.run_machine.specs.declared.act.AfterStatement.TheVariants.{Goes, Ends}
+use Rattle.run_machine.specs.declared.end.End.{End}
+use Rattle.run_machine.specs.Machines.{Machine}
+use Rattle.run_machine.specs.Ends.{end_shown}
+use Rattle.run_machine.specs.Standing.{Stands}
+use Rattle.run_machine.specs.Statements.{gain_text, gain_of}
+use Rattle.run_machine.specs.Punching.{gain_cards}
 
 -- the decks of the cards after a program
-abbrev pub decks_behind : Program → List (List ℕ) → List (List Card)
-decks_behind program cards = decks_of (drop (program.decks_from - 1) (numbered_cards cards))
+abbrev pub decks_after : Program → List (List ℕ) → List (List Card)
+decks_after program cards = decks_of (drop (program.decks_from - 1) (numbered_cards cards))
 
 -- known bytes grow by what the punch gains of a text by this end: all of it, or a front where its deck may be broken off
 abbrev pub GainsBy : Ending → Option (List ℕ) → Option (List ℕ) → List ℕ → Type 0
@@ -52,13 +52,13 @@ module _ (S : Solving) (program : Program) (cards : List (List ℕ)) where
     -- the punch wants memory itself, or has failed. Then that deck is the last of the cards.
     pub data CanEnd : List Report → List (List ℕ) → Ending → Type 0 where
       by_itself : {reports : List Report} {punched : List (List ℕ)} {ending : Ending} →
-          IsRun S program (decks_behind program cards) reports punched ending → CanEnd reports punched ending
+          IsRun S program (decks_after program cards) reports punched ending → CanEnd reports punched ending
       for_memory : {reports : List Report} {punched : List (List ℕ)} {state : State} →
-          Reaches S program (decks_behind program cards) reports punched state → CanEnd reports punched Memory
+          Reaches S program (decks_after program cards) reports punched state → CanEnd reports punched Memory
       for_memory_of_punch : {reports : List Report} {punched : List (List ℕ)} {state : State} (deck : List (List ℕ)) → punch_wanted →
-          Reaches S program (decks_behind program cards) reports punched state → IsPunching S program state deck → CanEnd reports (punched ++ deck) Memory
+          Reaches S program (decks_after program cards) reports punched state → IsPunching S program state deck → CanEnd reports (punched ++ deck) Memory
       for_punch_fault : {reports : List Report} {punched : List (List ℕ)} {state : State} (deck : List (List ℕ)) → punch_failed →
-          Reaches S program (decks_behind program cards) reports punched state → IsPunching S program state deck → CanEnd reports (punched ++ deck) PunchFault
+          Reaches S program (decks_after program cards) reports punched state → IsPunching S program state deck → CanEnd reports (punched ++ deck) PunchFault
 
   -- What a run may be answered: the status of an end, with the whole listing, and with all that is punched by then, or a front of it
   -- where the deck in hand isn't whole; or the print has failed, or wanted memory itself, and print and punch have gained fronts of

@@ -37,21 +37,21 @@ use Rattle.present_answers.specs.RightHandSide as right_hand_side
 use Rattle.run_definitions.specs.State.{choice_of}
 use Rattle.run_definitions.specs.Moves.{Gain, Nothing, Prints}
 use Rattle.run_definitions.specs.Verbs.{change_row, change_set, not_less, mark_of, last_value}
-use Rattle.control_run.specs.declared.act.Halt.{Halt}
-use Rattle.control_run.specs.declared.end.Place.{Place as OwnPlace}
-use Rattle.control_run.specs.declared.finding.Finding.{Finding}
-use Rattle.control_run.specs.declared.finding.Finding.TheVariants.{Refused, Overflow, Limit, Ended, Swept}
-use Rattle.control_run.specs.Kept.{Setup}
-use Rattle.control_run.specs.declared.selecting.Refusal.{Refusal}
-use Rattle.control_run.specs.declared.selecting.Refusal.TheVariants.{Fault, NoMemory}
-use Rattle.control_run.specs.declared.selecting.Refusal.TheVariants as refusals
+use Rattle.run_machine.specs.declared.act.Halt.{Halt}
+use Rattle.run_machine.specs.declared.end.Place.{Place as OwnPlace}
+use Rattle.run_machine.specs.declared.finding.Finding.{Finding}
+use Rattle.run_machine.specs.declared.finding.Finding.TheVariants.{Refused, Overflow, Limit, Ended, Swept}
+use Rattle.run_machine.specs.Kept.{Setup}
+use Rattle.run_machine.specs.declared.selecting.Refusal.{Refusal}
+use Rattle.run_machine.specs.declared.selecting.Refusal.TheVariants.{Fault, NoMemory}
+use Rattle.run_machine.specs.declared.selecting.Refusal.TheVariants as refusals
 use Rattle.control_run.specs.declared.sweep.SweepVerb.{SweepVerb}
 use Rattle.control_run.specs.declared.sweep.SweepVerb.TheVariants.{Paraobj, Pararhs}
 use Rattle.control_run.specs.declared.sweep.Sweep.{Sweep as OwnSweep}
 use Rattle.control_run.specs.declared.sweep.Sweep.TheVariants as own
-use Rattle.control_run.specs.Choosing.{HasSelectionFault, HasSelectionOverflow}
-use Rattle.control_run.specs.Ends.{place_shown}
-use Rattle.control_run.specs.Findings.{IsOverflowAt}
+use Rattle.run_machine.specs.Choosing.{HasSelectionFault, HasSelectionOverflow}
+use Rattle.run_machine.specs.Ends.{place_shown}
+use Rattle.run_machine.specs.Findings.{IsOverflowAt}
 
 -- ---- what a verb asks for
 

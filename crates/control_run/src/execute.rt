@@ -3,23 +3,20 @@ ghost use Rattle.std.specs.Prelude.{◌≡◌, ◌≤◌, length};
 ghost use Rattle.control_verbs.specs.Shown.{shown};
 ghost use Rattle.control_compiler.specs.Valid.{IsProgram};
 ghost use Rattle.answer_definitions.specs.Real.{linear_programming};
-ghost use Rattle.control_run.specs.Standing.{IsSound};
-ghost use Rattle.control_run.specs.Statements.{IsSoundVerb};
-ghost use Rattle.control_run.specs.Punching.{Performs};
+ghost use Rattle.run_machine.specs.Standing.{IsSound};
+ghost use Rattle.run_machine.specs.Statements.{IsSoundVerb};
+ghost use Rattle.run_machine.specs.Punching.{Performs};
 ghost use Rattle.control_run.specs.Running.{Steps};
 
-use crate::act::{Act, AfterStatement, Halt};
-use crate::machine::{Machine, Setup};
 use crate::parametric::{sweep_objective, sweep_rhs};
 use crate::primal::solve;
 use crate::ranges::show_ranges;
-use crate::setup::set_up;
 use crate::solution::show_solution;
-use crate::title::print_title;
 use card_reader::Cards;
 use control_compiler::{Program, Verb};
 use job_devices::Sink;
 use lp_model::Engine;
+use run_machine::{Act, AfterStatement, Halt, Machine, Setup, print_title, set_up};
 use std::alloc::Global;
 
 /// Does what the statement of a verb on a card says.

@@ -14,16 +14,12 @@ ghost use Rattle.report_text.specs.Parametric.{IsParametric};
 ghost use Rattle.answer_definitions.specs.Real.{linear_programming};
 ghost use Rattle.present_answers.specs.Reports.{sheet_shown};
 ghost use Rattle.present_answers.specs.RunReports.{IsAnswered, IsPrintable};
-ghost use Rattle.control_run.specs.Standing.{AreDemands, IsReady, IsSound};
-ghost use Rattle.control_run.specs.Statements.{Executes};
-ghost use Rattle.control_run.specs.Findings.{TellsFinding};
+ghost use Rattle.run_machine.specs.Standing.{AreDemands, IsReady, IsSound};
+ghost use Rattle.run_machine.specs.Statements.{Executes};
+ghost use Rattle.run_machine.specs.Findings.{TellsFinding};
 ghost use Rattle.control_run.specs.Sweeping.{verb_of, sweep_shown, Serves, StopsSweep, SweepFinds, Sweeps, IsRunOverflow, value_left, cells_left};
 
-use crate::act::{Act, Halt};
-use crate::finding::{Finding, act_of, overflow_at, refused};
-use crate::machine::{Machine, Setup};
 use crate::primal::mark_of;
-use crate::selecting::{Refusal, select_present};
 use crate::sweep::{Sweep, SweepVerb, asked};
 use bounded_primal::PrimalStop;
 use frac128::{Frac, Refused};
@@ -36,6 +32,9 @@ use present_answers::{RunReport, objective_run_of, rhs_run_of};
 use problem_file::ProblemFile;
 use report_text::{Report, text_of};
 use run_cells::{Cells, NumberCell};
+use run_machine::{
+    Act, Finding, Halt, Machine, Refusal, Setup, act_of, overflow_at, refused, select_present,
+};
 use std::alloc::Global;
 
 // The number of the formula of a row's limit at a value of the parameter.

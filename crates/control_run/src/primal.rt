@@ -13,14 +13,11 @@ ghost use Rattle.report_text.specs.Verdicts.{IsOutcome, verdict_shown, check_sho
 ghost use Rattle.present_answers.specs.Reports.{sheet_shown};
 ghost use Rattle.run_definitions.specs.Verbs.{mark_of};
 ghost use Rattle.answer_definitions.specs.Real.{linear_programming};
-ghost use Rattle.control_run.specs.Standing.{AreDemands, IsReady, IsSolved, IsSound};
-ghost use Rattle.control_run.specs.Statements.{Executes};
-ghost use Rattle.control_run.specs.Findings.{PathReaches, PathFinds, Finds, TellsFinding, IfEnded};
+ghost use Rattle.run_machine.specs.Standing.{AreDemands, IsReady, IsSolved, IsSound};
+ghost use Rattle.run_machine.specs.Statements.{Executes};
+ghost use Rattle.run_machine.specs.Findings.{TellsFinding, IfEnded};
+ghost use Rattle.control_run.specs.Found.{PathReaches, PathFinds, Finds};
 
-use crate::act::{Act, Halt};
-use crate::finding::{Finding, act_of, mark_left, overflow_at, refused};
-use crate::machine::{Machine, Setup};
-use crate::selecting::{Refusal, select_present};
 use bounded_primal::PrimalStop;
 use job_devices::Sink;
 use listing_definitions::{Mark, Solver, VerbFault};
@@ -30,6 +27,10 @@ use present_answers::{PathReport, path_from};
 use problem_file::ProblemFile;
 use report_text::{Report, text_of};
 use run_cells::Cells;
+use run_machine::{
+    Act, Finding, Halt, Machine, Refusal, Setup, act_of, mark_left, overflow_at, refused,
+    select_present,
+};
 use std::alloc::Global;
 
 /// The mark of the verdict of an outcome.

@@ -11,14 +11,11 @@ ghost use Rattle.basis_values.specs.Calls.{HasRates, KeepsRates};
 ghost use Rattle.answer_definitions.specs.Sections.{IsRanged};
 ghost use Rattle.present_answers.specs.Answers.{sheet_shown, AreRanged};
 ghost use Rattle.answer_definitions.specs.Real.{linear_programming};
-ghost use Rattle.control_run.specs.Standing.{IsReady, IsSolved, IsSound};
-ghost use Rattle.control_run.specs.Statements.{Executes};
-ghost use Rattle.control_run.specs.Findings.{TellsFinding, RangesFound, ShowsRanges, range_fault};
+ghost use Rattle.run_machine.specs.Standing.{IsReady, IsSolved, IsSound};
+ghost use Rattle.run_machine.specs.Statements.{Executes};
+ghost use Rattle.run_machine.specs.Findings.{TellsFinding};
+ghost use Rattle.control_run.specs.Found.{RangesFound, ShowsRanges, range_fault};
 
-use crate::act::{Act, Halt};
-use crate::finding::{Finding, act_of, overflow_at};
-use crate::machine::{Machine, Setup};
-use crate::selecting::Refusal;
 use job_devices::Sink;
 use listing_definitions::{Mark, VerbFault};
 use listing_tables::Sheet;
@@ -26,6 +23,7 @@ use lp_model::{Basis, Engine, Rates, Stop};
 use present_answers::{Ranged, ranges_of};
 use problem_file::ProblemFile;
 use report_text::{Report, text_of};
+use run_machine::{Act, Finding, Halt, Machine, Refusal, Setup, act_of, overflow_at};
 use std::alloc::Global;
 
 // Prints the intervals of a basis.

@@ -5,21 +5,19 @@ ghost use Rattle.std.specs.Io.KnownBytes.{Appends};
 ghost use Rattle.job_devices.specs.Causes.{Rose};
 ghost use Rattle.run_definitions.specs.Answer.{Job, bytes_of, IsProgramOf, IsAnswered};
 ghost use Rattle.answer_definitions.specs.Real.{linear_programming};
-ghost use Rattle.control_run.specs.Ends.{code_of, IsStatusOfRun};
+ghost use Rattle.control_run.specs.Statuses.{code_of, IsStatusOfRun};
 ghost use Rattle.control_run.specs.Finishing.{failures_in_run};
 ghost use Rattle.control_run.specs.Running.{Runs, IsRunAnswer};
 
-use crate::act::{AfterStatement, Halt};
-use crate::end::End;
 use crate::execute::step;
 use crate::finish::{finish, finish_halted};
-use crate::machine::{Machine, Setup};
 use crate::status::Status;
 use card_reader::Cards;
 use control_compiler::Program;
 use job_devices::Sink;
 use lp_model::Engine;
 use reinversion::ProductForm;
+use run_machine::{AfterStatement, End, Halt, Machine, Setup};
 use std::alloc::Global;
 
 /// What keeps the rates of a run.
@@ -29,7 +27,7 @@ type RunEngine = ProductForm;
 const MAX_EXECUTED: u32 = 100_000;
 
 // The number of the first card after the program; where the job has none, it is one more than that of its last card.
-fn first_behind(program: &Program, cards: &Cards) -> u32
+fn first_after(program: &Program, cards: &Cards) -> u32
     ensures first { 1 ≤ result }
     ensures last { result ≤ length cards.now + 1 }
     ensures same { drop (result - 1) (numbered_cards cards.now) ≡ drop (program.now.decks_from - 1)
@@ -51,7 +49,7 @@ fn run<E: Engine, P: Sink, U: Sink>(
         punch.old punch.new
         result }
 {
-    let mut machine = Machine::<Setup<E>>::new(alloc, first_behind(program, cards));
+    let mut machine = Machine::<Setup<E>>::new(alloc, first_after(program, cards));
     let mut position = 1;
     let mut executed = 0;
     while position <= program.count() {

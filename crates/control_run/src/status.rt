@@ -37,7 +37,7 @@ pub enum Status {
 }
 
 impl Status {
-    ghost use Rattle.control_run.specs.Ends.{code_of};
+    ghost use Rattle.control_run.specs.Statuses.{code_of};
 
     /// The exit code.
     pub fn code(self) -> u8

@@ -2,7 +2,6 @@
 ghost use Rattle.std.specs.Prelude.{IfOk, IfErr};
 ghost use Rattle.control_run.specs.Sweeping.{IsAsked, IsNotAsked, IsLastValue, IsLastFault, sweep_shown, IsOf};
 
-use crate::selecting::Refusal;
 use frac128::Frac;
 use listing_definitions::{Solver, VerbFault};
 use lp_setup::{free_row, set_values};
@@ -11,6 +10,7 @@ use para_objective::ParaObj;
 use para_rhs::ParaRhs;
 use problem_file::Problem;
 use run_cells::{Cells, NameCell};
+use run_machine::Refusal;
 use std::alloc::Global;
 
 /// A verb that makes a parametric run.

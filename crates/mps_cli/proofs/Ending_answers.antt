@@ -12,7 +12,7 @@ use Rattle.listing_definitions.specs.Listing.{listing, ending_text}
 use Rattle.question_definitions.specs.Solving.{Solving}
 use Rattle.run_definitions.specs.Answer.{Job, Failures, Gains, MayEnd, IsCutShort, IsAnswered, whole, print_fails, print_wants_memory}
 use Rattle.control_run.specs.declared.status.Status.{Status}
-use Rattle.control_run.specs.Ends.{code_of}
+use Rattle.control_run.specs.Statuses.{code_of}
 use Rattle.control_run.specs.Finishing.{cut_status}
 use Rattle.mps_cli.specs.declared.stop.EarlyStop.{EarlyStop}
 use Rattle.mps_cli.specs.declared.stop.EarlyStop.TheVariants.{Words, ReadFault, Card, Control, Memory}

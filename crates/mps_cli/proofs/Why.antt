@@ -10,7 +10,7 @@ use Rattle.job_devices.specs.declared.device.WriteStop.TheVariants.{Failed, NoMe
 use Rattle.listing_definitions.specs.Listing.{ending_text}
 use Rattle.control_run.specs.declared.status.Status.{Status}
 use Rattle.control_run.specs.declared.status.Status.TheVariants as status
-use Rattle.control_run.specs.Ends.{IsStatusOfRun}
+use Rattle.control_run.specs.Statuses.{IsStatusOfRun}
 use Rattle.control_run.specs.Finishing.{cut_status}
 use Rattle.command_line.specs.declared.request.Request.{Request}
 use Rattle.command_line.specs.declared.request.Request.TheVariants as request

@@ -9,7 +9,7 @@ use Rattle.listing_definitions.specs.Ending.{Ending, WordsRefused}
 use Rattle.listing_definitions.specs.Ending as endings
 use Rattle.listing_definitions.specs.Listing.{ending_text}
 use Rattle.run_definitions.specs.Answer.{IsProgramOf}
-use Rattle.control_run.specs.Ends.{IsStatusOfRun}
+use Rattle.control_run.specs.Statuses.{IsStatusOfRun}
 use Rattle.control_run.specs.declared.status.Status.{Status}
 use Rattle.control_run.specs.declared.status.Status.TheVariants.{Words, ReadFault, PrintFault, PunchFault, Memory}
 use Rattle.command_line.specs.declared.request.Request.{Request}

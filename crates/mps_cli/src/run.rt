@@ -14,7 +14,7 @@ ghost use Rattle.stop_laws.specs.Stands.{StandsAfter};
 ghost use Rattle.command_line.specs.Sizes.{max_size};
 ghost use Rattle.command_line.specs.Requests.{HasSize};
 ghost use Rattle.command_line.specs.Requests as requests;
-ghost use Rattle.control_run.specs.Ends.{code_of};
+ghost use Rattle.control_run.specs.Statuses.{code_of};
 ghost use Rattle.control_run.specs.Finishing.{failures_in_run};
 ghost use Rattle.mps_cli.specs.Asked.{IsAsked, IsGiven};
 ghost use Rattle.mps_cli.specs.Causes.{HasCause, IsPunched};

@@ -2,8 +2,8 @@
 use Rattle.std.proofs.Common.{Ok}
 use Rattle.control_definitions.specs.Program as program
 use Rattle.answer_definitions.specs.Real.{linear_programming}
-use Rattle.control_run.proofs.Giving.{quietly}
-use Rattle.control_run.proofs.Punching.{punches_nothing}
+use Rattle.run_machine.proofs.Giving.{quietly}
+use Rattle.run_machine.proofs.Punching.{punches_nothing}
 use Rattle.control_run.proofs.execute.execute.Goals as goal
 
 pub returns-in-Initialz-clause-acts : goal.returns-in-Initialz-clause-acts

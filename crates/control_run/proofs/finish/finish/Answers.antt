@@ -1,4 +1,4 @@
-use Rattle.control_run.specs.Ends.{end_shown}
+use Rattle.run_machine.specs.Ends.{end_shown}
 use Rattle.report_text.specs.Shown.{ending_shown}
 use Rattle.control_run.proofs.Ending_lines.{lines_cut}
 use Rattle.control_run.proofs.finish.finish.Goals as goal

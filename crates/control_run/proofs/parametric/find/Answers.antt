@@ -2,9 +2,9 @@
 use Rattle.std.proofs.Common.{Ok, Err, refl, sym, subst}
 use Rattle.std.proofs.lemmas.Result.{err_from_is_err_and}
 use Rattle.run_definitions.specs.State.{choice_of}
-use Rattle.control_run.specs.Standing.{IsReady}
+use Rattle.run_machine.specs.Standing.{IsReady}
 use Rattle.control_run.specs.Sweeping.{sweep_shown}
-use Rattle.control_run.proofs.Selected.{no_change}
+use Rattle.run_machine.proofs.Selected.{no_change}
 use Rattle.control_run.proofs.Solving_steps.{as_many_rows, as_many_columns, ready_rates, ready_again, ready_solved}
 use Rattle.control_run.proofs.Sweep_steps.{unselected_told, unasked_told, run_told, serves}
 use Rattle.control_run.proofs.parametric.find.Goals as goal

@@ -1,7 +1,7 @@
 -- Each answer of the run.
 use Rattle.std.proofs.Common.{Ok, subst}
 use Rattle.present_answers.specs.Reports.{sheet_shown}
-use Rattle.control_run.specs.declared.finding.Finding.TheVariants.{Limit}
+use Rattle.run_machine.specs.declared.finding.Finding.TheVariants.{Limit}
 use Rattle.control_run.specs.Sweeping.{sweep_shown, StopsSweep, SweepFinds, at_limit}
 use Rattle.control_run.proofs.Telling.{tells_quietly}
 use Rattle.control_run.proofs.Sweep_steps.{is_way, run_overflow_tells}

@@ -4,9 +4,9 @@ use Rattle.std.proofs.lemmas.Result.{err_from_is_err_and}
 use Rattle.lp_definitions.specs.LinearProgram.{IsLinearProgram}
 use Rattle.question_definitions.specs.Answers.{Sheet}
 use Rattle.run_definitions.specs.State.{choice_of}
-use Rattle.control_run.specs.Kept.{Setup}
-use Rattle.control_run.specs.Standing.{IsReady, IsSolved}
-use Rattle.control_run.proofs.Selected.{no_change}
+use Rattle.run_machine.specs.Kept.{Setup}
+use Rattle.run_machine.specs.Standing.{IsReady, IsSolved}
+use Rattle.run_machine.proofs.Selected.{no_change}
 use Rattle.control_run.proofs.Solving_steps.{as_many_rows, as_many_columns, ready_rates, ready_again, ready_solved, now_selected, refusal_told, refusal_ends, solved_ends, path_told}
 use Rattle.control_run.proofs.primal.find.Goals as goal
 

@@ -1,8 +1,8 @@
 -- Each answer of the path.
 use Rattle.std.proofs.Common.{Ok, subst}
 use Rattle.present_answers.specs.Reports.{sheet_shown, PathStops}
-use Rattle.control_run.specs.declared.finding.Finding.TheVariants.{Limit}
-use Rattle.control_run.specs.Findings.{PathFinds, at_limit}
+use Rattle.run_machine.specs.declared.finding.Finding.TheVariants.{Limit}
+use Rattle.control_run.specs.Found.{PathFinds, at_limit}
 use Rattle.control_run.proofs.Telling.{tells_quietly, overflow_tells}
 use Rattle.control_run.proofs.Present.{path_reached}
 use Rattle.control_run.proofs.Solving_steps.{limit_passed, path_overflows}

@@ -3,7 +3,8 @@ use Rattle.lp_model.specs.RatesCalls.{IfOverflow}
 use Rattle.present_answers.specs.Answers.{sheet_shown}
 use Rattle.present_answers.specs.Stops.{RangesRefused}
 use Rattle.lp_definitions.specs.declared.Evidence.{Evidence}
-use Rattle.control_run.specs.Findings.{IsOverflowAt, RangesFound}
+use Rattle.run_machine.specs.Findings.{IsOverflowAt}
+use Rattle.control_run.specs.Found.{RangesFound}
 use Rattle.control_run.proofs.Telling.{overflow_tells}
 use Rattle.control_run.proofs.Ranging.{ranges_overflow}
 use Rattle.control_run.proofs.ranges.range_basis.Goals as goal

@@ -1,5 +1,5 @@
 use Rattle.std.proofs.Common.{sym, subst}
-use Rattle.control_run.specs.Standing.{IsReady}
+use Rattle.run_machine.specs.Standing.{IsReady}
 use Rattle.control_run.proofs.Solving_steps.{ready_rows, ready_columns, ready_unchanged}
 use Rattle.control_run.proofs.Ranging.{ranges_at}
 use Rattle.control_run.proofs.ranges.range_setup.Goals as goal

@@ -6,8 +6,8 @@ use Rattle.control_run.proofs.run.run.Goals as goal
 
 pub loop-position-init : goal.loop-position-init
 loop-position-init g c =
-    underway_first linear_programming c.args.program.now c.args.cards.now g.P.Sink.written g.P.Sink.faults g.P.Sink.refusals g.U.Sink.written g.U.Sink.faults g.U.Sink.refusals c.args.print.now c.args.punch.now c.new-machine.result c.first_behind.result c.first_behind.ensures.same
-    (c.new-machine.ensures.sound c.args.cards.now c.first_behind.ensures.first c.first_behind.ensures.last) (c.new-machine.ensures.start c.args.cards.now)
+    underway_first linear_programming c.args.program.now c.args.cards.now g.P.Sink.written g.P.Sink.faults g.P.Sink.refusals g.U.Sink.written g.U.Sink.faults g.U.Sink.refusals c.args.print.now c.args.punch.now c.new-machine.result c.first_after.result c.first_after.ensures.same
+    (c.new-machine.ensures.sound c.args.cards.now c.first_after.ensures.first c.first_after.ensures.last) (c.new-machine.ensures.start c.args.cards.now)
 
 pub returns-then-executed-ge-MAX_EXECUTED : goal.returns-then-executed-ge-MAX_EXECUTED
 returns-then-executed-ge-MAX_EXECUTED g c =

@@ -3,7 +3,8 @@ use Rattle.lp_model.specs.RatesCalls.{IfOverflow}
 use Rattle.present_answers.specs.Answers.{sheet_shown}
 use Rattle.present_answers.specs.Stops.{SolutionRefused}
 use Rattle.lp_definitions.specs.declared.Evidence.{Evidence}
-use Rattle.control_run.specs.Findings.{IsOverflowAt, LinesFound}
+use Rattle.run_machine.specs.Findings.{IsOverflowAt}
+use Rattle.control_run.specs.Found.{LinesFound}
 use Rattle.control_run.proofs.Telling.{overflow_tells}
 use Rattle.control_run.proofs.Showing.{lines_overflow}
 use Rattle.control_run.proofs.solution.show_basis.Goals as goal

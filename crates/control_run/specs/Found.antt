@@ -1,0 +1,126 @@
+-- What PRIMAL, SOLUTION and RANGE find.
+--     PathFinds gain finding       the path from a basis ends so, or is stopped so
+--     Finds gain finding           PRIMAL finds this with a setup, and has this to print
+--     LinesFound gain finding      the lines of a basis are made, or their making is stopped so
+--     Shows gain finding           SOLUTION finds this with a setup, and has this to print
+--     RangesFound gain finding     the intervals of a basis are made, or their making is stopped so
+--     ShowsRanges gain finding     RANGE finds this with a setup, and has this to print
+--     range_fault mark             why RANGE is refused with this mark
+use Rattle.std.specs.Prelude.{◌≡◌, ℕ, List, [], ◌∷◌, ◌++◌, Option, Some, None, Ok, option_map}
+use Rattle.lp_definitions.specs.LinearProgram.{LinearProgram}
+use Rattle.lp_definitions.specs.Basis.{Basics}
+use Rattle.lp_definitions.specs.declared.Evidence.{Evidence}
+use Rattle.method_definitions.specs.Path.{last_of}
+use Rattle.method_definitions.specs.Statements.{Solution as SolutionStatement, Range as RangeStatement}
+use Rattle.problem_definitions.specs.Problem.{Problem}
+use Rattle.selection_definitions.specs.Selection.{selected}
+use Rattle.listing_definitions.specs.declared.Mark.{Mark}
+use Rattle.listing_definitions.specs.declared.Mark.TheVariants.{Optimal, Infeasible, Unbounded}
+use Rattle.listing_definitions.specs.declared.VerbFault.{VerbFault}
+use Rattle.listing_definitions.specs.declared.VerbFault.TheVariants.{NotSolved, NotOptimal}
+use Rattle.listing_definitions.specs.declared.Solver.TheVariants.{Primal as ByPrimal}
+use Rattle.listing_definitions.specs.Report.{PathVerdict, Check, Solved, Solution, SolutionLines, Ranges, RangeLines}
+use Rattle.listing_definitions.specs.Ending.{Place}
+use Rattle.control_definitions.specs.Cells.{Cells}
+use Rattle.question_definitions.specs.Answers.{Basis, Sheet, PathLimit}
+use Rattle.answer_definitions.specs.Verdicts.{ReachesVerdict, IsSolved}
+use Rattle.answer_definitions.specs.Sections.{IsShown, IsRanged}
+use Rattle.answer_definitions.specs.Evidence.{IsEvidence, OverflowsOnPath}
+use Rattle.basis_values.specs.Calls.{LieIn}
+use Rattle.run_definitions.specs.State.{choice_of}
+use Rattle.run_definitions.specs.Moves.{Gain, Nothing, Prints}
+use Rattle.run_definitions.specs.Verbs.{mark_of}
+use Rattle.run_machine.specs.declared.end.Place.{Place as OwnPlace}
+use Rattle.run_machine.specs.declared.finding.Finding.{Finding}
+use Rattle.run_machine.specs.declared.finding.Finding.TheVariants.{Refused, Overflow, Limit, Ended, Shown}
+use Rattle.run_machine.specs.Kept.{Setup}
+use Rattle.run_machine.specs.Choosing.{HasSelectionFault, HasSelectionOverflow}
+use Rattle.run_machine.specs.Ends.{place_shown}
+
+-- ---- the path
+
+module _ (sheet : Sheet) (s now : Basis) (limit : Option ℕ) (before after : List Basics) where
+  -- The path from s goes over these bases to now, and ends there with this verdict. For every list of bases that ends with s, in which
+  -- the waypoints lay before, they lie after in that list followed by these bases.
+  pub record PathReaches (bases : List Basis) (verdict : PathVerdict) (check : Check) : Type 0 where
+    pub reaches : ReachesVerdict sheet s limit bases verdict check
+    pub leads : last_of s bases ≡ now
+    pub lie : (earlier : List Basis) → LieIn sheet.lp.matrix before (earlier ++ s ∷ []) →
+        LieIn sheet.lp.matrix after (earlier ++ s ∷ bases)
+
+  -- for every list of bases that ends with s, in which the waypoints lay before, the path from there may stop with this evidence
+  abbrev pub PathOverflows : Evidence → Option Place → Type 0
+  PathOverflows e place = (earlier : List Basis) →
+      LieIn sheet.lp.matrix before (earlier ++ s ∷ []) →
+      OverflowsOnPath sheet (earlier ++ s ∷ []) limit e place
+
+  -- its verdict is printed; or it goes on past the limit; or an operation is refused
+  pub data PathFinds : Gain → Finding → Type 0 where
+    reached : {bases : List Basis} {verdict : PathVerdict} {check : Check} →
+        PathReaches bases verdict check →
+        PathFinds (Prints (Solved ByPrimal verdict check)) (Ended (mark_of verdict))
+    at_limit : IsSolved sheet s limit PathLimit → PathFinds Nothing Limit
+    overflows : {e : Evidence} {place : Option OwnPlace} →
+        PathOverflows e (option_map place_shown place) → PathFinds Nothing (Overflow e place)
+
+-- With these cells the selection of a setup's problem is refused; or its path is followed from the present basis, and the setup keeps
+-- where it has come to.
+pub data Finds (problem : Problem ℕ) (cells : Cells) (setup new : Setup) : Gain → Finding → Type 0 where
+  unselected : {fault : VerbFault} →
+      HasSelectionFault problem (choice_of cells setup.options) fault →
+      Finds problem cells setup new Nothing (Refused fault)
+  too_large : {e : Evidence} → HasSelectionOverflow problem (choice_of cells setup.options) e →
+      Finds problem cells setup new Nothing (Overflow e None)
+  solved : {lp : LinearProgram} {gain : Gain} {finding : Finding} →
+      selected problem (choice_of cells setup.options) ≡ Ok lp →
+      new.name ≡ setup.name → new.options ≡ setup.options →
+      PathFinds (record { problem = problem; lp = lp }) setup.basis new.basis cells.xiterlim
+      setup.engine.waypoints new.engine.waypoints gain finding →
+      Finds problem cells setup new gain finding
+
+-- ---- the lines of a basis
+
+module _ (sheet : Sheet) (s : Basis) (before : List Basics) where
+  -- for every list of bases that ends with s, in which the waypoints lay before, SOLUTION may stop with this evidence
+  abbrev pub LinesOverflow : Evidence → Option Place → Type 0
+  LinesOverflow e place = (earlier : List Basis) →
+      LieIn sheet.lp.matrix before (earlier ++ s ∷ []) →
+      IsEvidence (SolutionStatement sheet.lp) None 0 (earlier ++ s ∷ []) [] e place
+
+  -- its lines are printed with the mark; or an operation is refused
+  pub data LinesFound (mark : Mark) : Gain → Finding → Type 0 where
+    shown : {lines : SolutionLines} → IsShown sheet s lines →
+        LinesFound mark (Prints (Solution mark lines)) Shown
+    overflows : {e : Evidence} {place : Option OwnPlace} →
+        LinesOverflow e (option_map place_shown place) → LinesFound mark Nothing (Overflow e place)
+
+-- those of a setup's present basis, in the linear program that it keeps
+abbrev pub Shows : Problem ℕ → Setup → Mark → Gain → Finding → Type 0
+Shows problem setup mark = LinesFound (record { problem = problem; lp = setup.lp }) setup.basis
+    setup.engine.waypoints mark
+
+-- ---- the intervals of a basis
+
+module _ (sheet : Sheet) (s : Basis) (before : List Basics) where
+  -- for every list of bases that ends with s, in which the waypoints lay before, RANGE may stop with this evidence
+  abbrev pub RangesOverflow : Evidence → Option Place → Type 0
+  RangesOverflow e place = (earlier : List Basis) →
+      LieIn sheet.lp.matrix before (earlier ++ s ∷ []) →
+      IsEvidence (RangeStatement sheet.lp) None 0 (earlier ++ s ∷ []) [] e place
+
+  -- its intervals are printed; or an operation is refused
+  pub data RangesFound : Gain → Finding → Type 0 where
+    ranged : {lines : RangeLines} → IsRanged sheet s lines → RangesFound (Prints (Ranges lines)) Shown
+    stopped : {e : Evidence} {place : Option OwnPlace} →
+        RangesOverflow e (option_map place_shown place) → RangesFound Nothing (Overflow e place)
+
+-- those of a setup's present basis, in the linear program that it keeps
+abbrev pub ShowsRanges : Problem ℕ → Setup → Gain → Finding → Type 0
+ShowsRanges problem setup = RangesFound (record { problem = problem; lp = setup.lp }) setup.basis setup.engine.waypoints
+
+-- it needs a mark, and no other than OPTIMAL
+abbrev pub range_fault : Option Mark → Option VerbFault
+range_fault None = Some NotSolved
+range_fault (Some Optimal) = None
+range_fault (Some Infeasible) = Some NotOptimal
+range_fault (Some Unbounded) = Some NotOptimal

@@ -1,0 +1,8 @@
+pub mod Giving
+pub mod Selected
+pub mod Punching
+mod Deciding
+mod Filing
+mod Revising
+mod Setting
+mod Titling

@@ -1,0 +1,98 @@
+-- What the verbs that ask of linear programming find, and what follows.
+--     IsOverflowAt result          an operation is refused at a basis, or there is no memory
+--     refused_finding refusal      what a refusal comes to
+--     TellsFinding result          what is found is told, with its report printed; or it is cut off
+--     act_of cells card finding    what follows
+--     mark_left finding            the mark that it leaves
+use Rattle.std.specs.Prelude.{◌≡◌, ℕ, List, Option, Some, None, Result, Ok, Err}
+use Rattle.job_devices.specs.declared.device.WriteStop.{WriteStop}
+use Rattle.job_devices.specs.Text.{Writes}
+use Rattle.lp_definitions.specs.Basis.{Basics, basics_of}
+use Rattle.lp_definitions.specs.Waypoints.{waypoint}
+use Rattle.lp_definitions.specs.declared.Evidence.{Evidence}
+use Rattle.listing_definitions.specs.declared.Mark.{Mark}
+use Rattle.listing_definitions.specs.declared.Mark.TheVariants.{Optimal, Infeasible, Unbounded}
+use Rattle.control_definitions.specs.Cells.{Cells, steps_allowed}
+use Rattle.question_definitions.specs.Answers.{Basis}
+use Rattle.run_definitions.specs.Moves.{Gain}
+use Rattle.run_machine.specs.declared.act.Act.{Act}
+use Rattle.run_machine.specs.declared.act.Act.TheVariants.{Next, Jump, Ends}
+use Rattle.run_machine.specs.declared.act.Halt.{Halt}
+use Rattle.run_machine.specs.declared.act.Halt.TheVariants as halt
+use Rattle.run_machine.specs.declared.end.End.{End}
+use Rattle.run_machine.specs.declared.end.End.TheVariants as end
+use Rattle.run_machine.specs.declared.end.Place.{Place as OwnPlace}
+use Rattle.run_machine.specs.declared.finding.Finding.{Finding}
+use Rattle.run_machine.specs.declared.finding.Finding.TheVariants.{Refused, Overflow, Limit, Ended, Shown, Swept}
+use Rattle.run_machine.specs.declared.selecting.Refusal.{Refusal}
+use Rattle.run_machine.specs.declared.selecting.Refusal.TheVariants.{Fault, NoMemory}
+use Rattle.run_machine.specs.declared.selecting.Refusal.TheVariants as refusals
+use Rattle.run_machine.specs.Ends.{place_shown}
+use Rattle.run_machine.specs.Statements.{gain_text}
+
+-- ---- what stops a call
+
+-- an operation is refused, at this basis and this waypoint; or there is no memory
+pub data IsOverflowAt (s : Basis) (after : List Basics) (e : Evidence) : Result Finding Halt → Type 0 where
+  told : (place : OwnPlace) →
+      place_shown place ≡ record { basis = s; way = waypoint (basics_of s) after e.way } →
+      IsOverflowAt s after e (Ok (Overflow e (Some place)))
+  no_memory : IsOverflowAt s after e (Err halt.NoMemory)
+
+-- a refusal is found, or there is no memory
+abbrev pub refused_finding : Refusal → Result Finding Halt
+refused_finding (Fault fault) = Ok (Refused fault)
+refused_finding (refusals.Overflow e) = Ok (Overflow e None)
+refused_finding NoMemory = Err halt.NoMemory
+
+-- ---- with what is printed
+
+module _ (Holds : Gain → Finding → Type 0) {P : Type 0} (written : P → Option (List ℕ)) (faults refusals : P → ℕ) (print_old print_new : P) where
+  -- this is found, with some gain, which is printed
+  pub record IsTold (finding : Finding) : Type 0 where
+    pub gain : Gain
+    pub holds : Holds gain finding
+    pub writes : Writes {T = Unit {0}} written faults refusals print_old print_new (Ok tt) (gain_text gain)
+
+  -- something is found, and the print stops before all that it gains is printed
+  pub record IsTellingCut (stop : WriteStop) : Type 0 where
+    pub gain : Gain
+    pub finding : Finding
+    pub holds : Holds gain finding
+    pub writes : Writes {T = Unit {0}} written faults refusals print_old print_new (Err stop) (gain_text gain)
+
+  -- where there is no memory, nothing is printed
+  abbrev pub TellsFinding : Result Finding Halt → Type 0
+  TellsFinding (Ok finding) = IsTold finding
+  TellsFinding (Err (halt.Print stop)) = IsTellingCut stop
+  TellsFinding (Err (halt.Punch stop)) = ⊥
+  TellsFinding (Err halt.NoMemory) = print_new ≡ print_old
+
+-- ---- what follows
+
+-- the position of the demand, or the end where it isn't set
+abbrev pub demanded_act : Option ℕ → End → Act
+demanded_act (Some position) end = Jump position
+demanded_act None end = Ends end
+
+-- an optimal verdict, the lines of a basis and the intervals of a run go on with the next statement; any other verdict goes by its
+-- demand, and what is none of these ends the run
+abbrev pub act_of : Cells → ℕ → Finding → Act
+act_of cells card (Refused fault) = Ends (end.Verb fault card)
+act_of cells card (Overflow e place) = Ends (end.Overflow e place card)
+act_of cells card Limit = Ends (end.Limit (steps_allowed cells) card)
+act_of cells card (Ended Optimal) = Next
+act_of cells card (Ended Infeasible) = demanded_act cells.xdonfs end.Infeasible
+act_of cells card (Ended Unbounded) = demanded_act cells.xdounb end.Unbounded
+act_of cells card Shown = Next
+act_of cells card (Swept value) = Next
+
+-- a verdict leaves its mark, and what ends the run leaves none
+abbrev pub mark_left : Finding → Option Mark
+mark_left (Ended mark) = Some mark
+mark_left _ = None
+
+-- this holds of the mark of a verdict
+abbrev pub IfEnded : Finding → (Mark → Type 0) → Type 0
+IfEnded (Ended mark) Fact = Fact mark
+IfEnded _ Fact = Unit {0}

@@ -1,0 +1,10 @@
+pub mod Kept
+pub mod Machines
+pub mod Ends
+pub mod Standing
+pub mod Statements
+pub mod Punching
+pub mod Turning
+pub mod Describing
+pub mod Choosing
+pub mod Findings

@@ -1,0 +1,48 @@
+// BCDOUT.
+ghost use Rattle.std.specs.Prelude.{◌≡◌, ℕ, List};
+ghost use Rattle.control_definitions.specs.Program as program;
+ghost use Rattle.answer_definitions.specs.Real.{linear_programming};
+ghost use Rattle.run_machine.specs.Punching.{Performs};
+
+use crate::act::{Act, Halt};
+use crate::end::End;
+use crate::machine::{Machine, Setup};
+use bcd_out::deck_of;
+use control_definitions::NameCell;
+use job_devices::Sink;
+use listing_definitions::VerbFault;
+use lp_model::Engine;
+use report_text::{Report, text_of};
+
+impl<E: Engine> Machine<Setup<E>> {
+    /// BCDOUT: punches the deck of the problem that XPBNAME names, or else of the one filed last, and prints the number of its
+    /// cards.
+    pub fn punch_problem<P: Sink, U: Sink>(
+        &self,
+        print: &mut P,
+        punch: &mut U,
+        card: u32,
+    ) -> Result<Act, Halt>
+        ensures { (cards : List (List ℕ)) →
+            Performs linear_programming program.Bcdout card P.written P.faults P.refusals print.old
+            print.new U.written U.faults U.refusals punch.old punch.new cards self.now self.now
+            result }
+    {
+        let Some(problem) = self.problem_in(NameCell::Xpbname) else {
+            return Ok(Act::Ends(End::Verb {
+                fault: VerbFault::NoProblem,
+                card,
+            }));
+        };
+        let count = match deck_of(problem, punch) {
+            Ok(count) => count,
+            Err(stop) => return Err(Halt::Punch(stop)),
+        };
+        let report = Report::Punched {
+            name: problem.name(),
+            cards: count,
+        };
+        text_of(&report, print)?;
+        Ok(Act::Next)
+    }
+}

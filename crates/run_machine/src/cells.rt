@@ -1,0 +1,104 @@
+// The statements that set cells and demands, and those that choose the next statement.
+ghost use Rattle.std.specs.Prelude.{◌≡◌, ◌≤◌, ℕ, List, IfSome};
+ghost use Rattle.control_definitions.specs.Program as program;
+ghost use Rattle.run_definitions.specs.Verbs.{mark_after};
+ghost use Rattle.answer_definitions.specs.Real.{linear_programming};
+ghost use Rattle.run_machine.specs.Standing.{IsSound};
+ghost use Rattle.run_machine.specs.Statements.{Decides};
+
+use crate::act::Act;
+use crate::end::End;
+use crate::machine::{Machine, Setup};
+use control_definitions::{Demand, NameCell, NumberCell};
+use frac128::Frac;
+use listing_definitions::Mark;
+use lp_model::Engine;
+use name_table::Name;
+use run_cells::Cells;
+
+// The mark after a name is moved to a cell.
+fn mark_after(cell: NameCell, mark: Option<Mark>) -> Option<Mark>
+    ensures { result ≡ mark_after cell mark }
+{
+    match cell {
+        NameCell::Xobj | NameCell::Xrhs => None,
+        NameCell::Xdata
+        | NameCell::Xpbname
+        | NameCell::Xoldname
+        | NameCell::Xchrow
+        | NameCell::Xchcol => mark,
+    }
+}
+
+impl<E: Engine> Machine<Setup<E>> {
+    /// INITIALZ: the cells and demands become what they were at the start of the run, and the mark is cleared.
+    pub fn initialize(&mut self) -> Act
+        ensures acts { (card : ℕ) → Decides linear_programming program.Initialz card self.old
+            self.new result }
+        ensures sound { (cards : List (List ℕ)) → IsSound cards self.old → IsSound cards self.new }
+    {
+        self.cells = Cells::new();
+        self.mark = None;
+        Act::Next
+    }
+
+    /// MOVE of a name. Another objective or right-hand side clears the mark.
+    pub fn move_name(&mut self, cell: NameCell, name: Name) -> Act
+        ensures acts { (card : ℕ) → Decides linear_programming (program.MoveName cell name) card
+            self.old self.new result }
+        ensures sound { (cards : List (List ℕ)) → IsSound cards self.old → IsSound cards self.new }
+    {
+        self.cells.move_name(cell, name);
+        self.mark = mark_after(cell, self.mark);
+        Act::Next
+    }
+
+    /// MOVE of a number.
+    pub fn move_number(&mut self, cell: NumberCell, value: Frac) -> Act
+        ensures acts { (card : ℕ) → Decides linear_programming (program.MoveNumber cell value) card
+            self.old self.new result }
+        ensures sound { (cards : List (List ℕ)) → IsSound cards self.old → IsSound cards self.new }
+    {
+        self.cells.move_number(cell, value);
+        Act::Next
+    }
+
+    /// MOVE of the number of steps that a verb may take, or of no limit on them.
+    pub fn move_limit(&mut self, limit: Option<u32>) -> Act
+        requires { IfSome limit (λ steps. steps ≤ 1000000) }
+        ensures acts { (card : ℕ) → Decides linear_programming (program.MoveLimit limit) card
+            self.old self.new result }
+        ensures sound { (cards : List (List ℕ)) → IsSound cards self.old → IsSound cards self.new }
+    {
+        self.cells.move_limit(limit);
+        Act::Next
+    }
+
+    /// MVADR: sets a demand to a position.
+    pub fn set_demand(&mut self, demand: Demand, position: u32) -> Act
+        requires { 1 ≤ position }
+        ensures acts { (card : ℕ) → Decides linear_programming (program.Mvadr demand position) card
+            self.old self.new result }
+        ensures sound { (cards : List (List ℕ)) → IsSound cards self.old → IsSound cards self.new }
+    {
+        self.cells.set_demand(demand, position);
+        Act::Next
+    }
+
+    /// GOTO: the statement at a position follows.
+    pub fn jump(&self, position: u32) -> Act
+        requires { 1 ≤ position }
+        ensures { (card : ℕ) → Decides linear_programming (program.Goto position) card self.now
+            self.now result }
+    {
+        Act::Jump(position)
+    }
+
+    /// EXIT: the run ends.
+    pub fn exit(&self) -> Act
+        ensures { (card : ℕ) → Decides linear_programming program.Exit card self.now self.now
+            result }
+    {
+        Act::Ends(End::Done)
+    }
+}

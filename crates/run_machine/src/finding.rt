@@ -1,0 +1,146 @@
+// What the verbs that ask of linear programming find, and what follows.
+ghost use Rattle.std.specs.Prelude.{◌≡◌, ◌≤◌, length, IfOk};
+ghost use Rattle.lp_definitions.specs.Basis.{basics_of};
+ghost use Rattle.lp_definitions.specs.Waypoints.{waypoint};
+ghost use Rattle.basis_values.specs.Calls.{HasRates};
+ghost use Rattle.run_machine.specs.Ends.{place_shown};
+ghost use Rattle.run_machine.specs.Findings.{IsOverflowAt, refused_finding, demanded_act, act_of, mark_left};
+
+use crate::act::{Act, Halt};
+use crate::end::{End, Place};
+use crate::selecting::Refusal;
+use control_definitions::Demand;
+use frac128::Frac;
+use listing_definitions::{Mark, VerbFault};
+use lp_definitions::Evidence;
+use lp_model::{Basis, Lp, NoMemory, Rates};
+use run_cells::Cells;
+use std::alloc::Global;
+
+/// What the verbs that ask of linear programming find.
+#[derive(Drop)]
+pub enum Finding {
+    /// The statement is refused.
+    Refused(VerbFault),
+    /// An operation is refused. One of a selection has no place.
+    Overflow {
+        evidence: Evidence,
+        place: Option<Place>,
+    },
+    /// The path goes on past the limit.
+    Limit,
+    /// The path has ended, and its verdict leaves this mark.
+    Ended(Mark),
+    /// The lines of the basis are printed.
+    Shown,
+    /// The parametric run has gone on to this value.
+    Swept(Frac),
+}
+
+// The place of an evidence at a basis, with the set that has this number among the waypoints.
+fn place_at<R: Rates>(
+    alloc: Global,
+    lp: &Lp,
+    basis: &Basis,
+    rates: &R,
+    way: u32,
+) -> Result<Place, NoMemory>
+    requires rates { HasRates (R.matrix rates.now) (R.basics rates.now) lp.now basis.now }
+    requires way { way ≤ length (R.waypoints rates.now) }
+    ensures { IfOk result (λ place. place_shown place ≡
+        record {
+          basis = basis.now;
+          way = waypoint (basics_of basis.now)
+              (R.waypoints rates.now) way;
+        }) }
+{
+    let size = lp.number_of_variables() as usize;
+    let mut marks = vec![in alloc; false; size].map_err(|_| NoMemory)?;
+    rates.way_basics(way, &mut marks);
+    Ok(Place {
+        basis: basis.copy(alloc)?,
+        way: marks,
+    })
+}
+
+/// What a refusal comes to.
+pub fn refused(refusal: Refusal) -> Result<Finding, Halt>
+    ensures { result ≡ refused_finding refusal }
+{
+    match refusal {
+        Refusal::Fault(fault) => Ok(Finding::Refused(fault)),
+        Refusal::Overflow(evidence) => Ok(Finding::Overflow {
+            evidence,
+            place: None,
+        }),
+        Refusal::NoMemory => Err(Halt::NoMemory),
+    }
+}
+
+/// An operation is refused at a basis.
+pub fn overflow_at<R: Rates>(
+    alloc: Global,
+    lp: &Lp,
+    basis: &Basis,
+    rates: &R,
+    evidence: Evidence,
+) -> Result<Finding, Halt>
+    requires rates { HasRates (R.matrix rates.now) (R.basics rates.now) lp.now basis.now }
+    requires way { evidence.way ≤ length (R.waypoints rates.now) }
+    ensures { IsOverflowAt basis.now (R.waypoints rates.now) evidence result }
+{
+    match place_at(alloc, lp, basis, rates, evidence.way) {
+        Ok(place) => Ok(Finding::Overflow {
+            evidence,
+            place: Some(place),
+        }),
+        Err(NoMemory) => Err(Halt::NoMemory),
+    }
+}
+
+// The position of a demand, or the end where it isn't set.
+fn demanded(position: Option<u32>, end: End) -> Act
+    ensures { result ≡ demanded_act position end }
+{
+    match position {
+        Some(position) => Act::Jump(position),
+        None => Act::Ends(end),
+    }
+}
+
+/// What follows what was found by the statement of a card.
+pub fn act_of(cells: &Cells, card: u32, finding: Finding) -> Act
+    ensures { result ≡ act_of cells.now card finding }
+{
+    match finding {
+        Finding::Refused(fault) => Act::Ends(End::Verb { fault, card }),
+        Finding::Overflow { evidence, place } => Act::Ends(End::Overflow {
+            evidence,
+            place,
+            card,
+        }),
+        Finding::Limit => Act::Ends(End::Limit {
+            limit: cells.steps_allowed(),
+            card,
+        }),
+        Finding::Ended(Mark::Optimal) | Finding::Shown | Finding::Swept(_) => Act::Next,
+        Finding::Ended(Mark::Infeasible) => {
+            demanded(cells.demand(Demand::Xdonfs), End::Infeasible)
+        }
+        Finding::Ended(Mark::Unbounded) => demanded(cells.demand(Demand::Xdounb), End::Unbounded),
+    }
+}
+
+/// The mark that a finding leaves.
+pub fn mark_left(finding: &Finding) -> Option<Mark>
+    ensures { result ≡ mark_left finding.now }
+{
+    match finding {
+        Finding::Ended(left) => Some(*left),
+        Finding::Refused(_)
+        | Finding::Overflow { .. }
+        | Finding::Limit
+        | Finding::Shown
+        | Finding::Swept(_) => None,
+    }
+}

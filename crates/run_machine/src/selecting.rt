@@ -1,0 +1,91 @@
+// What the present cells select of a problem.
+ghost use Rattle.std.specs.Prelude.{◌≡◌, Ok, IfOk, IfErr};
+ghost use Rattle.selection_definitions.specs.Selection.{selected};
+ghost use Rattle.lp_setup.specs.Stops.{fault_of, IsOverflowOf};
+ghost use Rattle.run_definitions.specs.State.{choice_of};
+ghost use Rattle.run_machine.specs.Choosing.{refusal_of, IsUnselected};
+
+use crate::act::{Act, Halt};
+use crate::end::End;
+use listing_definitions::VerbFault;
+use lp_definitions::Evidence;
+use lp_model::Lp;
+use lp_setup::{Choice, SelectStop, SetupChoice, select};
+use problem_file::Problem;
+use run_cells::{Cells, NameCell};
+use std::alloc::Global;
+
+/// Why a statement does nothing.
+#[derive(Clone, Copy)]
+pub enum Refusal {
+    /// It is refused.
+    Fault(VerbFault),
+    /// An operation of the selection is refused.
+    Overflow(Evidence),
+    /// There is no memory.
+    NoMemory,
+}
+
+impl Refusal {
+    ghost use Rattle.std.specs.Prelude.{◌≡◌};
+    ghost use Rattle.run_machine.specs.Choosing.{refused_act};
+
+    /// What the statement of this card comes to.
+    pub fn act(self, card: u32) -> Result<Act, Halt>
+        ensures { result ≡ refused_act card self }
+    {
+        match self {
+            Refusal::Fault(fault) => Ok(Act::Ends(End::Verb { fault, card })),
+            Refusal::Overflow(evidence) => Ok(Act::Ends(End::Overflow {
+                evidence,
+                place: None,
+                card,
+            })),
+            Refusal::NoMemory => Err(Halt::NoMemory),
+        }
+    }
+}
+
+// Why nothing is selected.
+fn refusal_of(stop: SelectStop) -> Refusal
+    ensures { result ≡ refusal_of stop }
+{
+    match stop {
+        SelectStop::NoObjective => Refusal::Fault(VerbFault::NoObjective),
+        SelectStop::ObjectiveNotFree => Refusal::Fault(VerbFault::ObjectiveNotFree),
+        SelectStop::NoRhsSet => Refusal::Fault(VerbFault::NoRhsSet),
+        SelectStop::NoRangeSet => Refusal::Fault(VerbFault::NoRangeSet),
+        SelectStop::NoBoundSet => Refusal::Fault(VerbFault::NoBoundSet),
+        SelectStop::Overflow(evidence) => Refusal::Overflow(evidence),
+        SelectStop::NoMemory => Refusal::NoMemory,
+    }
+}
+
+// What the present cells choose with these options.
+fn present_choice(cells: &Cells, options: SetupChoice) -> Choice
+    ensures { result ≡ choice_of cells.now options }
+{
+    Choice {
+        objective: cells.name(NameCell::Xobj),
+        rhs: cells.name(NameCell::Xrhs),
+        options,
+    }
+}
+
+/// The linear program that the present cells select of a problem, with these options.
+pub fn select_present(
+    alloc: Global,
+    problem: &Problem,
+    cells: &Cells,
+    options: SetupChoice,
+) -> Result<Lp, Refusal>
+    ensures selected { IfOk result
+        (λ lp. selected problem.now (choice_of cells.now options) ≡ Ok lp) }
+    ensures refused { IfErr result (IsUnselected problem.now (choice_of cells.now options)) }
+{
+    let choice = present_choice(cells, options);
+    match select(alloc, problem, &choice) {
+        Ok(lp) => Ok(lp),
+        Err(stop) => Err(refusal_of(stop)),
+    }
+}
