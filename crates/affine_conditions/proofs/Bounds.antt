@@ -1,12 +1,12 @@
 -- Bounds and the ends that they make.
-use Rattle.std.proofs.Common.{◌≡◌, ◌≢◌, pos, refl, sym, subst, subst₂, ◌∙◌, ◌⊎◌, inl, inr, Bool, true, false, Option, Some, None}
+use Rattle.std.proofs.Common.{◌≡◌, ◌≢◌, refl, sym, subst, subst₂, ◌⊎◌, inl, inr, Bool, true, false, Option, Some, None, ◌∙◌}
 use Rattle.std.specs.Prelude.{◌↔◌, not, cond}
 use Rattle.std.proofs.lemmas.Bool.{both_ways}
 use Rattle.exact_values.specs.Rational.{ℚ, zero_ℚ, neg_ℚ, ◌*ℚ◌, ◌/ℚ◌, ◌≤ℚ◌, ◌<ℚ◌}
 use Rattle.exact_values.specs.Tests.{lt_ℚ}
 use Rattle.exact_values.proofs.Inverse.{div-mul_cancel}
-use Rattle.exact_values.proofs.Order.{le_trans, lt_from_le, lt_or_le, le_by_one, le_of_lt, le_of_mul-le-mul_left, mul-le-mul_left, neg-lt-neg}
-use Rattle.exact_values.proofs.Ring.{by_ring1, by_ring3, number, opposite, ◌⊕◌, ◌⊖◌, ◌⊗◌, ◌≐◌}
+use Rattle.exact_values.proofs.Order.{le_trans, lt_from_le, lt_or_le, le_by_one, le_of_lt, le_of_mul-le-mul_left, mul-le-mul_left}
+use Rattle.exact_values.proofs.Ring.{by_ring3, number, opposite, ◌⊕◌, ◌⊖◌, ◌⊗◌, ◌≐◌}
 use Rattle.exact_values.proofs.Ring_laws.{mul_comm}
 use Rattle.exact_values.proofs.Tests_laws.{lt_from_test, le_from_lt_fails}
 use Rattle.exact_values.proofs.Signs.{neg_above}

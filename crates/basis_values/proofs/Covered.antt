@@ -1,7 +1,6 @@
 -- Evidence with waypoints in some sets is evidence with waypoints in sets that these lie in.
 use Rattle.std.proofs.Common.{◌≡◌, List, ◌∷◌, inl, refl, sym, subst}
 use Rattle.std.specs.Prelude.{Option, Some, None}
-use Rattle.std.proofs.lemmas.List.Elements.{Contains-get_or}
 use Rattle.exact_values.specs.Rational.{ℚ}
 use Rattle.lp_definitions.specs.LinearProgram.{Matrix, LinearProgram}
 use Rattle.lp_definitions.specs.Basis.{Basics, basics_of, exchanged}

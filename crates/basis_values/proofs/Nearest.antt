@@ -1,15 +1,14 @@
 -- How the search for what stops a motion goes on by one variable, and what it has found at the end.
-use Rattle.std.proofs.Common.{◌≡◌, ◌≢◌, ℕ, suc, ◌≤◌, ◌⊎◌, inl, inr, Bool, true, false, cond, refl, sym, ◌∙◌, ap, subst, arith}
-use Rattle.std.specs.Prelude.{Option, Some, None, eqb, not}
+use Rattle.std.proofs.Common.{◌≡◌, ◌≢◌, ℕ, suc, ◌≤◌, ◌⊎◌, inl, inr, Bool, true, false, cond, refl, sym, subst, arith}
+use Rattle.std.specs.Prelude.{Option, Some, None, eqb}
 use Rattle.std.proofs.lemmas.Bool.Decides.{eqb_tells}
 use Rattle.exact_values.specs.Rational.{ℚ, ◌≤ℚ◌, ◌<ℚ◌}
-use Rattle.exact_values.specs.Tests.{lt_ℚ, le_ℚ}
+use Rattle.exact_values.specs.Tests.{le_ℚ}
 use Rattle.exact_values.proofs.Order.{le_refl, le_of_lt, lt_of_lt_of_le}
-use Rattle.exact_values.proofs.Tests_laws.{le_fails_from_lt, lt_from_le_fails, lt_from_test, test_from_lt, le_from_test, test_from_le}
+use Rattle.exact_values.proofs.Tests_laws.{le_fails_from_lt, lt_from_le_fails, le_from_test, test_from_le}
 use Rattle.lp_definitions.specs.LinearProgram.{LinearProgram, Vector, size}
 use Rattle.method_definitions.specs.Moves.{is_no_later, room, stopper}
 use Rattle.path_laws.proofs.Searches.{stopper_is, stopper_nothing}
-use Rattle.lp_laws.proofs.Values.{clash}
 use Rattle.basis_values.specs.Reach.{reach_of, sooner, IsFirst, IsNearest}
 use Rattle.basis_values.specs.declared.reach.Reach.{Reach}
 

@@ -3,12 +3,9 @@ use Rattle.std.proofs.Common.{◌≡◌, ◌≢◌, ℕ, ◌+◌, ◌-◌, ◌<�
 use Rattle.std.specs.Prelude.{eqb, Option, Some, None, IfSome}
 use Rattle.std.specs.Option.{SomeIff}
 use Rattle.std.proofs.lemmas.Bool.Decides.{eqb_tells}
-use Rattle.exact_values.specs.Rational.{ℚ, zero_ℚ, one_ℚ, neg_ℚ, ◌+ℚ◌, ◌-ℚ◌, ◌*ℚ◌, ◌/ℚ◌, inverse_ℚ}
-use Rattle.exact_values.proofs.Ring_laws.{zero-add, add-zero, zero-mul, mul-zero, one-mul, mul-one}
-use Rattle.exact_values.proofs.Inverse.{div_is, one_apart}
-use Rattle.lp_laws.proofs.Values.{sub-zero}
+use Rattle.exact_values.specs.Rational.{ℚ, zero_ℚ, ◌+ℚ◌, ◌*ℚ◌}
+use Rattle.exact_values.proofs.Ring_laws.{add-zero, mul-zero}
 use Rattle.lp_laws.proofs.Places.{value_next}
-use Rattle.std.proofs.lemmas.List.{get_or_default}
 use Rattle.lp_definitions.specs.LinearProgram.{LinearProgram, size, value_at}
 use Rattle.lp_definitions.specs.declared.Status.{Status}
 use Rattle.method_definitions.specs.Moves.{least, lowers, signed}

@@ -3,9 +3,9 @@ use Rattle.std.proofs.Common.{◌≡◌, ℕ, ◌≤◌, Bool, true, false, refl
 use Rattle.std.specs.Prelude.{Option, Some, None, IfSome, option_map, if◌then◌else◌}
 use Rattle.exact_values.specs.Rational.{ℚ, zero_ℚ, neg_ℚ, ◌-ℚ◌, ◌/ℚ◌, ◌≤ℚ◌, ◌<ℚ◌}
 use Rattle.exact_values.specs.Tests.{lt_ℚ}
-use Rattle.exact_values.proofs.Ring.{by_ring1, by_ring2, ◌⊖◌, ◌⊗◌, ◌⊕◌, ◌≐◌, number, opposite}
+use Rattle.exact_values.proofs.Ring.{by_ring1, by_ring2, ◌⊖◌, ◌⊗◌, ◌≐◌, number, opposite}
 use Rattle.exact_values.proofs.Inverse.{same_quotients}
-use Rattle.exact_values.proofs.Order.{le_by_one, le-div, apart_from_above, apart_from_below}
+use Rattle.exact_values.proofs.Order.{le-div, apart_from_above, apart_from_below}
 use Rattle.exact_values.proofs.Tests_laws.{lt_from_test, test_from_le}
 use Rattle.exact_values.proofs.Signs.{neg_above}
 use Rattle.lp_definitions.specs.LinearProgram.{LinearProgram, Vector, size, lower_of, upper_of}
@@ -13,12 +13,10 @@ use Rattle.lp_definitions.specs.Solutions.{IsWithinLimits}
 use Rattle.method_definitions.specs.Moves.{is_no_later, room}
 use Rattle.basis_values.specs.Reach.{length_of, IsNearest}
 use Rattle.basis_values.specs.declared.reach.Reach.{Reach}
+use Rattle.path_laws.proofs.Motions.{difference_above}
 
 some_value : {a b : ℚ} → Some a ≡ Some b → a ≡ b
 some_value e = cc
-
-difference_above : (x y : ℚ) → x ≤ℚ y → zero_ℚ ≤ℚ y -ℚ x
-difference_above x y h = le_by_one h (by_ring2 x y (λ x y. y ⊖ x ≐ number (pos 0) ⊕ (y ⊖ x)) refl)
 
 -- the length until what lies within its limits reaches the one ahead
 forward : (low high : Option ℚ) (z v x : ℚ) → IfSome low (λ l. l ≤ℚ z) × IfSome high (λ u. z ≤ℚ u) →

@@ -6,25 +6,12 @@ use Rattle.exact_values.specs.Tests.{lt_ℚ}
 use Rattle.lp_definitions.specs.LinearProgram.{Matrix, LinearProgram, Vector, size, numbers_from, IsVariable, lower_of, upper_of, value_at}
 use Rattle.lp_definitions.specs.Basis.{is_in, basics_of, status_of, is_basic, IsBasis, IsNonbasic}
 use Rattle.lp_definitions.specs.declared.Status.{Status}
-use Rattle.lp_definitions.specs.declared.Status.TheVariants.{Bs, Ll, Ul, Fr}
 use Rattle.lp_laws.proofs.Uniqueness.{is_in-basics_of}
 use Rattle.method_definitions.specs.Moves.{is_fixed, rises_from, falls_from, lowers, entering, room, is_no_later, reaches_first, stopper}
 use Rattle.method_definitions.specs.Path.{listed}
 use Rattle.path_laws.proofs.Numbered.{find_same, list_all_same, get_or-listed}
+use Rattle.path_laws.proofs.OneTurn.{idle_basic}
 use Rattle.std.proofs.lemmas.List.{ext_get_or}
-
--- a basic variable lowers nothing
-idle : (a b c : Bool) → ((a && (false && c)) || (b && (false && c))) ≡ false
-idle true true c = refl
-idle true false c = refl
-idle false true c = refl
-idle false false c = refl
-
-idle_basic : (st : Status) (a b c : Bool) → is_basic st ≡ true → ((a && (rises_from st && c)) || (b && (falls_from st && c))) ≡ false
-idle_basic Bs a b c e = idle a b c
-idle_basic Ll a b c e = cc
-idle_basic Ul a b c e = cc
-idle_basic Fr a b c e = cc
 
 -- quantities with the same rates at the nonbasics are lowered by the same variable
 pub entering_same : (p : LinearProgram) (s : List Status) → IsBasis p s → (f g : Vector) → ((k : ℕ) → IsNonbasic p.matrix (basics_of s) k → f k ≡ g k) → entering p s f ≡ entering p s g

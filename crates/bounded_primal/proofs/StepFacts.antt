@@ -20,6 +20,7 @@ use Rattle.lp_laws.proofs.Uniqueness.{one_point}
 use Rattle.lp_laws.proofs.Points.{IsPointOf-replaced, IsPointOf-flipped}
 use Rattle.method_definitions.specs.Moves.{signed, limit_ahead, room, stopper}
 use Rattle.path_laws.proofs.Stoppers.{stopper_some, reaches_limit}
+use Rattle.path_laws.proofs.Steps.{ahead_some}
 use Rattle.method_definitions.specs.Formulas.{limit_numbered, number_of_limit}
 use Rattle.basis_values.specs.Calls.{HasRates}
 use Rattle.basis_values.specs.Motions.{motion}
@@ -41,10 +42,6 @@ ahead_numbered : (p : LinearProgram) (k : ℕ) (l : ℚ) (up down : Bool) → (i
 ahead_numbered p k l true down e = e
 ahead_numbered p k l false true e = e
 ahead_numbered p k l false false e = cc
-
-ahead_some : (o : Option ℚ) (z v x : ℚ) → option_map (λ l. (l -ℚ z) /ℚ v) o ≡ Some x → (l : ℚ) × (o ≡ Some l)
-ahead_some None z v x e = cc
-ahead_some (Some l) z v x e = (l, refl)
 
 signed_twice : (up : Bool) (x : ℚ) → signed up (signed up x) ≡ x
 signed_twice true x = refl

@@ -1,7 +1,7 @@
 -- From the evidence of a call at one basis to evidence on every path that led there.
 use Rattle.std.proofs.Common.{◌≡◌, ◌≢◌, ℕ, ◌<◌, ◌≤◌, ◌⊎◌, inl, inr, List, [], ◌∷◌, ◌++◌, map, Bool, true, false, refl, sym, ◌∙◌, ap, ap₂, subst, arith}
 use Rattle.std.specs.Prelude.{Option, Some, None, IsSome, IsTrue, not, ◌&&◌, ◌||◌, nat_eq, nat_le, eqb}
-use Rattle.std.proofs.lemmas.Bool.{leb-true, le-leb, lt-leb, and_parts, or_cases}
+use Rattle.std.proofs.lemmas.Bool.{leb-true, le-leb, lt-leb, and_parts, or_cases, and_right}
 use Rattle.std.proofs.lemmas.Bool.Decides.{eqb_tells}
 use Rattle.exact_values.specs.Rational.{ℚ, zero_ℚ, ◌-ℚ◌}
 use Rattle.frac128.specs.declared.Op.TheVariants.{Div}
@@ -118,10 +118,6 @@ module _ (p : LinearProgram) (s : List Status) where
 
 -- ---- the numbers of formulas
 
-and_nothing : (a : Bool) → (a && false) ≡ false
-and_nothing true = refl
-and_nothing false = refl
-
 module _ (low high n : ℕ) where
   between : is_between low high n ≡ true → (low ≤ n) × (n ≤ high)
   between h = let parts = and_parts (nat_le low n) (nat_le n high) h in (leb-true low n parts.0, leb-true n high parts.1)
@@ -133,7 +129,7 @@ module _ (low high n : ℕ) where
   below h = ap (λ a. a && nat_le n high) (lt-leb low n h)
 
   above : high < n → is_between low high n ≡ false
-  above h = ap (λ b. nat_le low n && b) (lt-leb n high h) ∙ and_nothing (nat_le low n)
+  above h = ap (λ b. nat_le low n && b) (lt-leb n high h) ∙ and_right (nat_le low n) false refl
 
 apart : (n k : ℕ) → n ≢ k → nat_eq n k ≡ false
 apart n k other = at (eqb_tells n k)

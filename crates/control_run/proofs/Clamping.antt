@@ -1,12 +1,9 @@
 -- Cards are numbered no further than the last.
-use Rattle.std.proofs.Common.{◌≡◌, ℕ, ◌+◌, ◌-◌, ◌≤◌, ◌<◌, ◌⊎◌, inl, inr, min, max, List, [], ◌∷◌, suc, length, drop, refl, ap, sym, ◌∙◌, arith}
+use Rattle.std.proofs.Common.{◌≡◌, ℕ, ◌+◌, ◌-◌, ◌≤◌, ◌<◌, ◌⊎◌, inl, inr, min, max, List, length, drop, ap, sym, ◌∙◌, arith}
 use Rattle.std.proofs.lemmas.Bool.{cases_lt}
 use Rattle.std.proofs.Math.ListN.{drop_of_length-le}
-use Rattle.card_definitions.specs.Cards.{Card, numbered_from, numbered_cards}
-
-length-numbered : (number : ℕ) (cards : List (List ℕ)) → length (numbered_from number cards) ≡ length cards
-length-numbered number [] = refl
-length-numbered number (card ∷ cards) = ap (λ n. suc n) (length-numbered (number + 1) cards)
+use Rattle.card_definitions.specs.Cards.{Card, numbered_cards}
+use Rattle.job_decks.proofs.Places.{length-numbered}
 
 clamped : (xs : List Card) (d r : ℕ) → r ≡ min (max d 1) (length xs + 1) → drop (r - 1) xs ≡ drop (d - 1) xs
 clamped xs d r e = by (cases_lt (length xs + 1) d)

@@ -2,6 +2,7 @@
 use Rattle.std.proofs.Common.{◌≡◌, ℕ, List, [], ◌∷◌, ◌++◌, Option, Some, map, get_or, inl, inr, refl, sym, ap, subst, ◌∙◌}
 use Rattle.std.proofs.lemmas.List.{append_assoc}
 use Rattle.std.proofs.lemmas.List.Elements.{All-contains}
+use Rattle.std.proofs.lemmas.Option.{same_Some}
 use Rattle.lp_definitions.specs.LinearProgram.{Matrix, LinearProgram, IsLinearProgram}
 use Rattle.lp_definitions.specs.Basis.{Basics, basics_of}
 use Rattle.lp_definitions.specs.Waypoints.{IsWithinOne, IsKept, KeepsWaypoints}
@@ -23,6 +24,7 @@ use Rattle.run_definitions.specs.State.{Present, gone_through}
 use Rattle.run_machine.specs.Kept.{Setup}
 use Rattle.run_machine.specs.Standing.{IsPresent}
 use Rattle.control_run.specs.Found.{PathReaches}
+use Rattle.sweep_laws.proofs.Runs.{last_of-append}
 
 -- ---- lists of bases
 
@@ -30,10 +32,6 @@ use Rattle.control_run.specs.Found.{PathReaches}
 before_last : (s : Basis) (bases : List Basis) → (initial : List Basis) × (s ∷ bases ≡ initial ++ last_of s bases ∷ [])
 before_last s [] = ([], refl)
 before_last s (next ∷ bases) = let rest = before_last next bases in (s ∷ rest.0, ap (λ xs. s ∷ xs) rest.1)
-
-last_then : (s : Basis) (steps bases : List Basis) → last_of s (steps ++ bases) ≡ last_of (last_of s steps) bases
-last_then s [] bases = refl
-last_then s (next ∷ steps) bases = last_then next steps bases
 
 -- ---- the setup of the state, with the problem that is on file
 
@@ -49,11 +47,8 @@ pub record IsPresentOf (problem : Problem ℕ) (setup : Setup) (shown : Option P
   pub initial : List Basis
   pub ends : opening ∷ steps ≡ initial ++ setup.basis ∷ []
 
-same_some : {X : Type 0} (a b : X) → Some a ≡ Some b → a ≡ b
-same_some a b e = cc
-
 pub one_problem : (file : Filed) (setup : Setup) (a b : Problem ℕ) → filed_under setup.name file ≡ Some a → filed_under setup.name file ≡ Some b → a ≡ b
-one_problem file setup a b first second = same_some a b (sym first ∙ second)
+one_problem file setup a b first second = same_Some a b (sym first ∙ second)
 
 pub present_at : (file : Filed) (setup : Setup) (shown : Option Present) (problem : Problem ℕ) → filed_under setup.name file ≡ Some problem → IsPresent file setup shown → IsPresentOf problem setup shown
 present_at file setup shown problem on_file p =
@@ -84,7 +79,7 @@ module _ (problem : Problem ℕ) (setup : Setup) (shown : Option Present) (p : I
     opening = p.opening;
     steps = p.steps ++ bases;
     is_shown = ap (λ (o : SetupOptions). Some (present_with problem o p.opening (p.steps ++ bases))) (sym same_options);
-    reached = last_then p.opening p.steps bases ∙ ap (λ s. last_of s bases) p.reached ∙ leads;
+    reached = last_of-append p.opening p.steps bases ∙ ap (λ s. last_of s bases) p.reached ∙ leads;
     lie = subst (λ (a : Matrix). LieIn a new.engine.waypoints (p.opening ∷ p.steps ++ bases)) (sym same)
         (subst (λ (bs : List Basis). LieIn lp.matrix new.engine.waypoints bs) (sym (append_assoc p.initial (setup.basis ∷ []) bases) ∙ ap (λ bs. bs ++ bases) (sym p.ends)) lie);
   }

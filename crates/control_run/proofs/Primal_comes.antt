@@ -22,12 +22,11 @@ use Rattle.run_definitions.specs.Verbs.{mark_of, or_selection_fault, after_path,
 use Rattle.run_machine.specs.declared.act.Act.{Act}
 use Rattle.run_machine.specs.declared.act.Halt.{Halt}
 use Rattle.run_machine.specs.declared.finding.Finding.{Finding}
-use Rattle.run_machine.specs.declared.finding.Finding.TheVariants.{Ended}
 use Rattle.run_machine.specs.Machines.{Machine}
 use Rattle.run_machine.specs.Kept.{Setup}
 use Rattle.run_machine.specs.declared.selecting.Refusal.TheVariants.{Fault}
 use Rattle.run_machine.specs.Choosing.{HasSelectionFault, HasSelectionOverflow, refused_act}
-use Rattle.run_machine.specs.Ends.{end_shown, place_shown}
+use Rattle.run_machine.specs.Ends.{place_shown}
 use Rattle.answer_definitions.specs.Real.{linear_programming}
 use Rattle.run_machine.specs.Standing.{AreDemands, IsReady, ShowsSetup, Stands}
 use Rattle.run_machine.specs.Statements.{Comes, Executes}

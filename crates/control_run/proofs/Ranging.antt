@@ -1,5 +1,6 @@
 -- What RANGE comes to.
 use Rattle.std.proofs.Common.{◌≡◌, ℕ, List, [], ◌∷◌, ◌++◌, Option, None, Some, Result, Ok, Err, option_map, refl, sym, ap, subst, inl, inr, ◌∙◌}
+use Rattle.std.proofs.lemmas.Option.{same_Some}
 use Rattle.job_devices.specs.declared.device.WriteStop.{WriteStop}
 use Rattle.job_devices.specs.Text.{Writes}
 use Rattle.lp_model.specs.declared.reports.RangeReport.{RangeReport}
@@ -89,9 +90,6 @@ module _ {P : Type 0} (written : P → Option (List ℕ)) (faults refusals : P �
       (subst (λ (q : Problem ℕ). TellsFinding (ShowsRanges q setup) written faults refusals print_old print_new result)
       (one_problem file setup there problem is_there (ap (λ (s : Setup). filed_under s.name file) is_old ∙ on_file)) t)
 
-same_some : {X : Type 0} (a b : X) → Some a ≡ Some b → a ≡ b
-same_some a b e = cc
-
 -- without a fault the mark is OPTIMAL
 pub without_fault : (mark : Option Mark) → range_fault mark ≡ None → mark ≡ Some Optimal
 without_fault None e = absurd (cc e)
@@ -137,15 +135,15 @@ module _ (card : ℕ) (state : State) where
   -- the mark is refused
   gives_refused : (present : Present) (mark : Option Mark) (fault : VerbFault) → state.mark ≡ mark → range_fault mark ≡ Some fault → Gives linear_programming card (go_set_up present) (stops (endings.VerbStop (record { fault = fault; card = card })))
   gives_refused present None fault is e =
-      subst (λ (f : VerbFault). Gives linear_programming card (go_set_up present) (stops (endings.VerbStop (record { fault = f; card = card })))) (same_some verb_fault.NotSolved fault e)
+      subst (λ (f : VerbFault). Gives linear_programming card (go_set_up present) (stops (endings.VerbStop (record { fault = f; card = card })))) (same_Some verb_fault.NotSolved fault e)
       (gives_fault card verb_fault.NotSolved state.mark (go_marked present) is)
   gives_refused present (Some Optimal) fault is e = absurd (cc e)
   gives_refused present (Some Infeasible) fault is e =
-      subst (λ (f : VerbFault). Gives linear_programming card (go_set_up present) (stops (endings.VerbStop (record { fault = f; card = card })))) (same_some verb_fault.NotOptimal fault e)
+      subst (λ (f : VerbFault). Gives linear_programming card (go_set_up present) (stops (endings.VerbStop (record { fault = f; card = card })))) (same_Some verb_fault.NotOptimal fault e)
       (gives_found card verb_fault.NotSolved state.mark (go_marked present) Infeasible (stops (endings.VerbStop (record { fault = verb_fault.NotOptimal; card = card }))) is
       (gives_fault card verb_fault.NotOptimal (if_optimal Infeasible) (go_optimal present) refl))
   gives_refused present (Some Unbounded) fault is e =
-      subst (λ (f : VerbFault). Gives linear_programming card (go_set_up present) (stops (endings.VerbStop (record { fault = f; card = card })))) (same_some verb_fault.NotOptimal fault e)
+      subst (λ (f : VerbFault). Gives linear_programming card (go_set_up present) (stops (endings.VerbStop (record { fault = f; card = card })))) (same_Some verb_fault.NotOptimal fault e)
       (gives_found card verb_fault.NotSolved state.mark (go_marked present) Unbounded (stops (endings.VerbStop (record { fault = verb_fault.NotOptimal; card = card }))) is
       (gives_fault card verb_fault.NotOptimal (if_optimal Unbounded) (go_optimal present) refl))
 

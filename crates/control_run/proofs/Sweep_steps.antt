@@ -53,8 +53,8 @@ use Rattle.control_run.specs.declared.sweep.Sweep.TheVariants as own
 use Rattle.control_run.specs.declared.sweep.SweepVerb.{SweepVerb}
 use Rattle.run_machine.specs.Choosing.{IsUnselected}
 use Rattle.run_machine.specs.Ends.{place_shown}
-use Rattle.run_machine.specs.Findings.{IsOverflowAt, TellsFinding, refused_finding}
-use Rattle.control_run.specs.Sweeping.{IsNotAsked, IsAsked, sweep_shown, IsOf, Serves, value_left, IsRunOverflow, SweepReaches, SweepFinds, opened, chained, overflows, Sweeps, unselected, too_large, not_asked, swept}
+use Rattle.run_machine.specs.Findings.{TellsFinding, refused_finding}
+use Rattle.control_run.specs.Sweeping.{IsNotAsked, IsAsked, IsOf, Serves, value_left, IsRunOverflow, SweepFinds, opened, chained, overflows, Sweeps, unselected, too_large, not_asked, swept, SweepReaches, sweep_shown}
 use Rattle.control_run.proofs.Telling.{tells_more, tells_quietly, overflow_tells}
 use Rattle.control_run.proofs.Present.{one_problem}
 use Rattle.control_run.proofs.Solving_steps.{as_many_rows}

@@ -7,7 +7,6 @@ use Rattle.card_definitions.specs.Cards.{is_blank}
 use Rattle.card_definitions.specs.Numbers.{Decimal, trimmed, number_fault, number_of, decimal_of, formed_length, lacks_digit, exponent_size}
 use Rattle.card_definitions.proofs.Trailing.{trimmed_twice}
 use Rattle.problem_definitions.specs.Valid.{IsDecimal}
-use Rattle.deck_definitions.proofs.CardTexts.{text_is_decimal}
 use Rattle.name_table.specs.Places.{text_in}
 use Rattle.name_table.specs.Places_laws.{text_in-padded}
 
@@ -28,7 +27,7 @@ exponent_is_small field e =
     grind (arith, nat_tests)
 
 -- a value that is given is the one that there is
-unless-Ok : {A F : Type 0} (fault : Option F) (given value : A) → unless fault given ≡ Ok value → given ≡ value
+pub unless-Ok : {A F : Type 0} (fault : Option F) (given value : A) → unless fault given ≡ Ok value → given ≡ value
 unless-Ok None given value e = cc e
 unless-Ok (Some fault) given value e = cc e
 

@@ -1,10 +1,9 @@
 -- The second pair of a card, after a first without a fault.
-use Rattle.std.proofs.Common.{◌≡◌, ℕ, ◌+◌, List, [], ◌∷◌, ◌++◌, Option, Some, None, refl, ap, sym, ◌∙◌}
+use Rattle.std.proofs.Common.{◌≡◌, ℕ, ◌+◌, List, [], ◌∷◌, ◌++◌, None, ap, sym, ◌∙◌}
 use Rattle.std.specs.Option.{option_or}
 use Rattle.problem_definitions.specs.Names.{Name}
 use Rattle.problem_definitions.specs.Problem.{Problem, Entry}
 use Rattle.deck_definitions.specs.declared.Section.{Section}
-use Rattle.deck_definitions.specs.declared.DeckFaultKind.{DeckFaultKind}
 use Rattle.deck_definitions.specs.DataCards.{Pair, entry_of}
 use Rattle.deck_definitions.specs.Tests.{pair_fault, pairs_fault}
 use Rattle.deck_definitions.proofs.Pairs.{pairs_fault-cons}

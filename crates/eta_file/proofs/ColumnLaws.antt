@@ -4,7 +4,7 @@ use Rattle.std.proofs.lemmas.List.Elements.{Contains-get_or, All-append}
 use Rattle.std.proofs.lemmas.List.{get_or-set_same, get_or-set_other}
 use Rattle.exact_values.specs.Rational.{ℚ, zero_ℚ}
 use Rattle.lp_definitions.specs.LinearProgram.{Matrix, size, IsVariable, value_at}
-use Rattle.lp_definitions.specs.Basis.{Basics, is_in, IsNonsingular, IsDirectionOf, AreRates, exchanged, row_basics}
+use Rattle.lp_definitions.specs.Basis.{is_in, IsNonsingular, IsDirectionOf, AreRates, exchanged, row_basics}
 use Rattle.lp_definitions.specs.RatesEvidence.{RowRefused}
 use Rattle.lp_model.specs.declared.Stop.{Stop}
 use Rattle.lp_model.specs.declared.Stop.TheVariants.{Overflow, NoMemory}

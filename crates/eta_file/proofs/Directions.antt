@@ -2,7 +2,7 @@
 use Rattle.std.proofs.Common.{◌≡◌, ◌≢◌, ℕ, suc, ◌+◌, ◌-◌, ◌<◌, ◌≤◌, ◌⊎◌, inl, inr, List, [], ◌∷◌, length, refl, sym, ◌∙◌, ap, ap₂, true, false, cond, Bool, arith, All}
 use Rattle.std.specs.Prelude.{nat_eq, nat_le, eqb}
 use Rattle.std.proofs.lemmas.Bool.Decides.{eqb_tells}
-use Rattle.exact_values.specs.Rational.{ℚ, zero_ℚ, one_ℚ, neg_ℚ, inverse_ℚ, ◌-ℚ◌, ◌*ℚ◌, ◌/ℚ◌}
+use Rattle.exact_values.specs.Rational.{ℚ, zero_ℚ, one_ℚ, neg_ℚ, ◌-ℚ◌, ◌*ℚ◌, ◌/ℚ◌}
 use Rattle.exact_values.proofs.Ring_laws.{mul-one, zero-mul, zero-add}
 use Rattle.exact_values.proofs.Inverse.{div-mul_cancel}
 use Rattle.lp_definitions.specs.LinearProgram.{Matrix, Vector, size, IsVariable, IsRow, column, on_row, value_at}
@@ -11,26 +11,16 @@ use Rattle.lp_definitions.specs.declared.Entry.{Entry}
 use Rattle.lp_laws.specs.Vectors.{unit}
 use Rattle.lp_laws.specs.Rates.{opening_rate}
 use Rattle.lp_laws.proofs.Values.{sub-self, sub-zero, clash}
-use Rattle.lp_laws.proofs.Equations.{KeepsEquations-same}
 use Rattle.lp_laws.proofs.Uniqueness.{one_direction}
 use Rattle.lp_laws.proofs.Exchange.{leaver_direction, other_direction}
 use Rattle.lp_laws.proofs.Opening.{AreRates-opening}
+use Rattle.lp_laws.proofs.Alike.{direction_same}
+use Rattle.lp_laws.proofs.Idle.{zero_over}
 use Rattle.eta_file.specs.declared.eta.StoredEta.{StoredEta}
 use Rattle.eta_file.specs.Entries.{sum_rate}
 use Rattle.eta_file.specs.Crossings.{IsCrossed, untouched, changed, IsLeaving, IsColumnFilled}
 use Rattle.eta_file.specs.Prefixes.{IsEta}
 use Rattle.eta_file.proofs.RateEntries.{sum_rate_entries}
-
--- a vector with the same values is a direction too
-pub direction_same : (a : Matrix) (b : Basics) (j : ℕ) (d e : Vector) → IsVariable a j → ((k : ℕ) → IsVariable a k → e k ≡ d k) → IsDirectionOf a b j d → IsDirectionOf a b j e
-direction_same a b j d e var same is = record {
-  keeps = KeepsEquations-same a d e (λ k is_var. sym (same k is_var)) is.keeps;
-  own = same j var ∙ is.own;
-  others = λ k out differs. same k out.0 ∙ is.others k out differs;
-}
-
-div_zero : (x y : ℚ) → x ≡ zero_ℚ → x /ℚ y ≡ zero_ℚ
-div_zero x y none = ap (λ v. v *ℚ inverse_ℚ y) none ∙ zero-mul (inverse_ℚ y)
 
 module _ (a : Matrix) (w : Basics) (one : IsNonsingular a w) (e : StoredEta) (is : IsEta a w e) where
   pub leaver_is_not_enterer : e.p ≢ e.q
@@ -76,7 +66,7 @@ module _ (a : Matrix) (w : Basics) (one : IsNonsingular a w) (e : StoredEta) (is
           same : IsCrossed e old new → (i : ℕ) → IsVariable a i → value_at new i ≡ made i
           same (untouched none is_old) i var =
               ap (λ xs. value_at xs i) is_old ∙ old_is i var
-              ∙ sym (ap (λ x. is.rate i j -ℚ x *ℚ is.rate i e.q) (div_zero (is.rate e.p j) (is.rate e.p e.q) (sym (old_is e.p is.leaves.0) ∙ none))
+              ∙ sym (ap (λ x. is.rate i j -ℚ x *ℚ is.rate i e.q) (zero_over (is.rate e.p j) (is.rate e.p e.q) (sym (old_is e.p is.leaves.0) ∙ none))
               ∙ ap (λ x. is.rate i j -ℚ x) (zero-mul (is.rate i e.q)) ∙ sub-zero (is.rate i j))
           same (changed at_p at_q elsewhere) i var = split (eqb_tells i e.p) (eqb_tells i e.q)
             where

@@ -7,5 +7,4 @@ pub mod RefusedLaws
 pub mod FileLaws
 pub mod Marks
 pub mod Counts
-pub mod Lists
 pub mod ColumnLaws

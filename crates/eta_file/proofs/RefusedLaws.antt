@@ -7,9 +7,10 @@ use Rattle.frac128.specs.declared.Op.TheVariants.{Sub, Mul, Div}
 use Rattle.lp_definitions.specs.LinearProgram.{Matrix, size, IsVariable, value_at}
 use Rattle.lp_definitions.specs.Basis.{Basics, IsBasic, IsNonbasic, IsNonsingular, IsDirectionOf, exchanged}
 use Rattle.lp_definitions.specs.Waypoints.{waypoint, IsWaypoint, IsWithinOne}
-use Rattle.lp_definitions.specs.RatesEvidence.{Refuses, IsExchange, ExchangeFormula, f1, f2, f3, f4, f5, IsAtWay, ExchangeRefused}
+use Rattle.lp_definitions.specs.RatesEvidence.{IsExchange, ExchangeFormula, f1, f2, f3, f4, f5, IsAtWay, ExchangeRefused}
 use Rattle.lp_definitions.specs.declared.Evidence.{Evidence}
 use Rattle.lp_laws.proofs.Values.{sub-zero}
+use Rattle.lp_laws.proofs.Refusals.{refuses_at}
 use Rattle.eta_file.specs.declared.eta.EtaEntry.{EtaEntry}
 use Rattle.eta_file.specs.declared.eta.StoredEta.{StoredEta}
 use Rattle.eta_file.specs.Entries.{sum_rate}
@@ -18,10 +19,6 @@ use Rattle.eta_file.specs.Prefixes.{IsEta, Passed, after, prefixes}
 use Rattle.eta_file.proofs.RateEntries.{IsOne, rate_entry, rate_entries_apart}
 use Rattle.eta_file.proofs.PrefixLaws.{after-take_next, length-prefixes, prefixes-at, eta_at, Passed-take, eta_nonsingular, nonsingular_after, prefix_within}
 use Rattle.eta_file.proofs.Directions.{old_is, ratio_is}
-
--- the operation, on other names of its operands
-refuses_at : (e : Evidence) (op : Op) (left right x y : ℚ) → left ≡ x → right ≡ y → Refuses e op left right → Refuses e op x y
-refuses_at e op left right x y at_left at_right h = subst (λ u. Refuses e op u y) at_left (subst (λ v. Refuses e op left v) at_right h)
 
 module _ (a : Matrix) (r : Basics) (one : IsNonsingular a r) (etas : List StoredEta) (passed : Passed a r etas) (k : ℕ) (d : StoredEta) (below : k < length etas) (e : Evidence) where
   abbrev b : Basics

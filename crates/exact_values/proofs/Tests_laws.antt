@@ -1,5 +1,5 @@
 -- What the tests tell, and the sign.
-use Rattle.std.proofs.Common.{◌≡◌, ◌≢◌, Bool, true, false, not, refl, sym, ap, ◌⊎◌, inl, inr, pos, negsuc, Less, Equal, Greater, arith}
+use Rattle.std.proofs.Common.{◌≡◌, ◌≢◌, true, false, not, refl, sym, ap, ◌⊎◌, inl, inr, pos, negsuc, Less, Equal, Greater, arith}
 use Rattle.std.proofs.lemmas.Int.{ints}
 use Rattle.std.specs.Prelude.{◌<ℤ◌, ◌≤ℤ◌}
 use Rattle.std.specs.Ordering.{is_lt}

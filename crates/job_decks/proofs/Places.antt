@@ -13,7 +13,7 @@ use Rattle.problem_definitions.specs.Names.{Name}
 use Rattle.job_decks.specs.Positions.{cards_from, IsLiveAt}
 use Rattle.job_decks.proofs.Cuts.{decks_after_skipped, no_decks, first_deck}
 
-length-numbered : (number : ℕ) (cards : List (List ℕ)) → length (numbered_from number cards) ≡ length cards
+pub length-numbered : (number : ℕ) (cards : List (List ℕ)) → length (numbered_from number cards) ≡ length cards
 length-numbered number [] = refl
 length-numbered number (card ∷ cards) = ap (λ n. suc n) (length-numbered (number + 1) cards)
 

@@ -34,3 +34,6 @@ over_once x y e = sym (ap (λ u. x /ℚ u) e ∙ div_is x one_ℚ x one_apart (s
 
 pub left_nothing_over : (x y : ℚ) → x ≡ zero_ℚ → x ≡ x /ℚ y
 left_nothing_over x y e = left_nothing x (inverse_ℚ y) e
+
+pub zero_over : (x y : ℚ) → x ≡ zero_ℚ → x /ℚ y ≡ zero_ℚ
+zero_over x y zero = ap (λ v. v *ℚ inverse_ℚ y) zero ∙ zero-mul (inverse_ℚ y)

@@ -16,3 +16,6 @@ pub mod Rays
 pub mod Entries
 pub mod Ordered
 pub mod Examples
+pub mod Alike
+pub mod Marks
+pub mod Refusals

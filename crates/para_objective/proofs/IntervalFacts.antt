@@ -1,6 +1,5 @@
 -- The interval of a basis: its point stands still, and its prices move with the rates of the change row.
-use Rattle.std.proofs.Common.{◌≡◌, ℕ, zero, suc, Bool, true, false, List, None, length, replicate, cond, refl, ap, ap₂, ◌∙◌, pos}
-use Rattle.std.specs.Prelude.{slice_index_or}
+use Rattle.std.proofs.Common.{◌≡◌, ℕ, Bool, true, false, List, None, length, replicate, cond, refl, ap, ap₂, ◌∙◌, pos}
 use Rattle.std.proofs.lemmas.List.{length-replicate}
 use Rattle.exact_values.specs.Rational.{ℚ, zero_ℚ, ◌+ℚ◌, ◌*ℚ◌}
 use Rattle.exact_values.proofs.Ring.{by_ring2, by_ring1, ◌⊕◌, ◌⊗◌, ◌≐◌, number}

@@ -10,8 +10,6 @@ use Rattle.exact_values.proofs.Ring.{same_by_one, by_ring4, by_ring5, ◌⊕◌,
 use Rattle.exact_values.proofs.Tests_laws.{lt_fails_from_le}
 use Rattle.lp_definitions.specs.LinearProgram.{LinearProgram, IsRow, IsVariable, IsLinearProgram, lower_of, upper_of, for_min}
 use Rattle.lp_definitions.specs.Basis.{is_in, basics_of, status_of, with_status, is_basic, exchanged, IsBasic, IsNonbasic, AreRates, IsOptimalBasis, Tableau, IsTableau, objective_rate}
-use Rattle.lp_definitions.specs.declared.Sense.{Sense}
-use Rattle.lp_definitions.specs.declared.Sense.TheVariants.{Min, Max}
 use Rattle.lp_definitions.specs.declared.Status.{Status}
 use Rattle.lp_definitions.specs.declared.Status.TheVariants.{Bs, Ll, Ul}
 use Rattle.lp_laws.specs.Rates.{exchanged_rate}

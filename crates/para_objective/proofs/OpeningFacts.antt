@@ -9,7 +9,7 @@ use Rattle.lp_definitions.specs.Waypoints.{waypoint}
 use Rattle.lp_definitions.specs.declared.Evidence.{Evidence}
 use Rattle.lp_definitions.specs.declared.Status.{Status}
 use Rattle.lp_model.specs.declared.reports.Outcome.{Outcome}
-use Rattle.lp_model.specs.declared.reports.Outcome.TheVariants.{Optimal, Crossed, Infeasible, Unbounded}
+use Rattle.lp_model.specs.declared.reports.Outcome.TheVariants.{Optimal}
 use Rattle.lp_model.specs.declared.reports.ParaReport.TheVariants.{Opening, Run}
 use Rattle.lp_model.specs.declared.reports.ParaRun.{ParaRun}
 use Rattle.method_definitions.specs.Counts.{last_count, counted_steps}

@@ -5,8 +5,8 @@ use Rattle.std.proofs.lemmas.Bool.{not-true}
 use Rattle.exact_values.specs.Rational.{ℚ, zero_ℚ, one_ℚ, neg_ℚ, ◌+ℚ◌, ◌-ℚ◌, ◌*ℚ◌, ◌/ℚ◌, ◌≤ℚ◌, ◌<ℚ◌}
 use Rattle.exact_values.specs.Tests.{lt_ℚ}
 use Rattle.exact_values.proofs.Inverse.{div-mul_cancel}
-use Rattle.exact_values.proofs.Order.{le_by_one, lt_by_one, le_of_lt, le_trans, le_refl, lt_from_le}
-use Rattle.exact_values.proofs.Ring.{by_ring1, by_ring3, same_by_one, number, opposite, ◌⊕◌, ◌⊖◌, ◌⊗◌, ◌≐◌}
+use Rattle.exact_values.proofs.Order.{le_by_one, le_of_lt, le_trans, le_refl, lt_from_le}
+use Rattle.exact_values.proofs.Ring.{by_ring3, same_by_one, number, opposite, ◌⊕◌, ◌⊖◌, ◌⊗◌, ◌≐◌}
 use Rattle.exact_values.proofs.Tests_laws.{lt_from_test, test_from_lt, le_from_lt_fails, lt_fails_from_le}
 use Rattle.exact_values.proofs.Signs.{neg_below, neg_not_below}
 use Rattle.affine_conditions.specs.Conditions.{Holds}

@@ -1,10 +1,9 @@
 -- By the prices of a basis and a row, the ratio test is that of its tableau at each value of the parameter.
-use Rattle.std.proofs.Common.{◌≡◌, ℕ, Bool, true, false, List, cond, refl, sym, ap, ap₂, ◌∙◌, pos, arith}
-use Rattle.std.specs.Prelude.{Option, Some, None, not, ◌&&◌, ◌||◌}
+use Rattle.std.proofs.Common.{◌≡◌, ℕ, Bool, true, false, List, cond, refl, sym, ap, ap₂, ◌∙◌, arith}
+use Rattle.std.specs.Prelude.{Option, None, not, ◌&&◌, ◌||◌}
 use Rattle.std.specs.List.{list_all}
-use Rattle.exact_values.specs.Rational.{ℚ, zero_ℚ, one_ℚ, ◌+ℚ◌, ◌*ℚ◌, ◌/ℚ◌}
+use Rattle.exact_values.specs.Rational.{ℚ, zero_ℚ, ◌/ℚ◌}
 use Rattle.exact_values.specs.Tests.{eq_ℚ, le_ℚ, lt_ℚ, magnitude}
-use Rattle.exact_values.proofs.Ring.{by_ring4, same_by_one, number, ◌⊕◌, ◌⊖◌, ◌⊗◌, ◌≐◌}
 use Rattle.lp_definitions.specs.Basis.{is_in, basics_of, status_of, IsNonbasic, ArePricesOf, Tableau, objective_rate}
 use Rattle.lp_definitions.specs.LinearProgram.{LinearProgram, Vector, size, variables, IsVariable, IsLinearProgram, with_change_row, lower_of, upper_of}
 use Rattle.lp_definitions.specs.declared.Change.{Change}
@@ -17,9 +16,8 @@ use Rattle.path_laws.proofs.Numbered.{find_same, list_all_same}
 use Rattle.path_laws.specs.Laws.{IsNonsingularBasis}
 use Rattle.method_definitions.specs.RhsRun.{shift_of, rhs_family}
 use Rattle.sweep_laws.proofs.Alike.{lowers_idle}
-use Rattle.changed_programs.proofs.MovedLimits.{moved, lower_is, upper_is, moved_tests}
+use Rattle.changed_programs.proofs.MovedLimits.{lower_is, upper_is, moved_tests}
 use Rattle.para_rhs.specs.Cheapest.{brings, ratio_of, cheapest_by}
-use Rattle.para_rhs.proofs.Leavers.{same_tests}
 
 module _ (p : LinearProgram) (shift : List ℚ) (theta : ℚ) (s : List Status) where
   pub lowers_family : (f : Vector) (k : ℕ) → IsVariable p.matrix k → lowers (rhs_family p shift theta) s f k ≡ lowers p s f k

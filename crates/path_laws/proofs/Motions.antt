@@ -28,7 +28,7 @@ use Rattle.path_laws.proofs.Stoppers.{stopper_some, reaches_limit}
 turned_quotient : (a v : ℚ) → v <ℚ zero_ℚ → a /ℚ v ≡ neg_ℚ a /ℚ neg_ℚ v
 turned_quotient a v h = same_quotients a v (neg_ℚ a) (neg_ℚ v) (apart_from_below h) (apart_from_above (neg_above v h)) (by_ring2 a v (λ a v. a ⊗ opposite v ≐ opposite a ⊗ v) refl)
 
-difference_above : (x y : ℚ) → x ≤ℚ y → zero_ℚ ≤ℚ y -ℚ x
+pub difference_above : (x y : ℚ) → x ≤ℚ y → zero_ℚ ≤ℚ y -ℚ x
 difference_above x y h = le_by_one h (by_ring2 x y (λ x y. y ⊖ x ≐ number (pos 0) ⊕ (y ⊖ x)) refl)
 
 -- a motion of the length x at the speed v, from z

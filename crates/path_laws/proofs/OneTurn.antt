@@ -19,13 +19,13 @@ pub record SameTableau (p : LinearProgram) (s : List Status) (t u : Tableau) : T
   pub rates : (i j : ℕ) → IsVariable p.matrix i → IsNonbasic p.matrix (basics_of s) j → t.rate i j ≡ u.rate i j
 
 -- a basic variable lowers nothing
-idle : (a b c : Bool) → ((a && (false && c)) || (b && (false && c))) ≡ false
+pub idle : (a b c : Bool) → ((a && (false && c)) || (b && (false && c))) ≡ false
 idle true true c = refl
 idle true false c = refl
 idle false true c = refl
 idle false false c = refl
 
-idle_basic : (st : Status) (a b c : Bool) → is_basic st ≡ true → ((a && (rises_from st && c)) || (b && (falls_from st && c))) ≡ false
+pub idle_basic : (st : Status) (a b c : Bool) → is_basic st ≡ true → ((a && (rises_from st && c)) || (b && (falls_from st && c))) ≡ false
 idle_basic Bs a b c e = idle a b c
 idle_basic Ll a b c e = cc
 idle_basic Ul a b c e = cc

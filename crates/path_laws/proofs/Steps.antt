@@ -104,7 +104,7 @@ is_ahead low high v l false true up_is down_is e = record {
 }
 is_ahead low high v l false false up_is down_is e = cc
 
-ahead_some : (o : Option ℚ) (z v x : ℚ) → option_map (λ l. (l -ℚ z) /ℚ v) o ≡ Some x → (l : ℚ) × (o ≡ Some l)
+pub ahead_some : (o : Option ℚ) (z v x : ℚ) → option_map (λ l. (l -ℚ z) /ℚ v) o ≡ Some x → (l : ℚ) × (o ≡ Some l)
 ahead_some None z v x e = cc
 ahead_some (Some l) z v x e = (l, refl)
 

@@ -1,5 +1,4 @@
 pub mod PathStopLaws
-pub mod Calls
 pub mod Refused
 pub mod SolutionLines
 pub mod RangeLines

@@ -9,7 +9,6 @@ use Rattle.method_definitions.specs.Path.{IsPath, last_of}
 use Rattle.method_definitions.specs.Statements.{Primal}
 use Rattle.method_definitions.specs.Evidence.{EvidenceHolds}
 use Rattle.question_definitions.specs.Answers.{Basis}
-use Rattle.answer_definitions.specs.Evidence.{last_basis}
 use Rattle.listing_tables.specs.declared.sheet.Sheet.{Sheet}
 use Rattle.basis_values.specs.Calls.{job_of}
 use Rattle.bounded_primal.specs.Calls.{PathGoesOn, StopsOnPath}

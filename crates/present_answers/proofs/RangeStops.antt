@@ -1,6 +1,6 @@
 -- From the evidence of a point and of a report of intervals to evidence of RANGE on every path that led to the basis.
-use Rattle.std.proofs.Common.{◌≡◌, ℕ, List, [], ◌∷◌, ◌++◌, map, true, refl, subst, arith}
-use Rattle.std.specs.Prelude.{Option, None, IsTrue, not, ◌&&◌, ◌||◌, nat_eq, Contains}
+use Rattle.std.proofs.Common.{◌≡◌, ℕ, List, [], ◌∷◌, ◌++◌, map, refl, subst}
+use Rattle.std.specs.Prelude.{Option, None, IsTrue, Contains}
 use Rattle.exact_values.specs.Rational.{ℚ}
 use Rattle.lp_definitions.specs.LinearProgram.{LinearProgram}
 use Rattle.lp_definitions.specs.Basis.{Basics, basics_of, exchanged, Tableau}
@@ -12,7 +12,7 @@ use Rattle.lp_laws.proofs.WaypointLaws.{Covers, Covers-all, covered, kept_within
 use Rattle.lp_model.specs.RatesCalls.{IfOverflow}
 use Rattle.lp_model.specs.declared.Stop.{Stop}
 use Rattle.lp_model.proofs.Stops.{IfOverflow-map}
-use Rattle.method_definitions.specs.Statements.{Primal, Range, is_between, belongs, thetas_of}
+use Rattle.method_definitions.specs.Statements.{Primal, Range, belongs, thetas_of}
 use Rattle.method_definitions.specs.Evidence.{Formula, by_exchange, by_entry, by_carried, by_point, by_slack, by_move, by_ratio, by_range, by_objective, by_slope, ShowsRefusal}
 use Rattle.basis_values.specs.Calls.{job_of, is_of_point, StopsAt, PointRefused, RangeRefused}
 use Rattle.present_answers.specs.Stops.{RangesRefused}

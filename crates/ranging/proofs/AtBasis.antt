@@ -18,7 +18,7 @@ use Rattle.lp_definitions.specs.LinearProgram.{LinearProgram, Vector, size, IsRo
 use Rattle.lp_definitions.specs.Basis.{basics_of, is_in, is_basic, status_of, IsBasic, IsNonbasic, AreRates, IsPointOf, ArePricesOf, IsOptimalBasis, Tableau, IsTableau, objective_rate}
 use Rattle.lp_definitions.specs.declared.Change.{Change}
 use Rattle.lp_definitions.specs.declared.Status.{Status}
-use Rattle.lp_definitions.specs.declared.Status.TheVariants.{Bs, Ll, Ul, Fr}
+use Rattle.lp_definitions.specs.declared.Status.TheVariants.{Bs}
 use Rattle.lp_laws.proofs.Values.{clash}
 use Rattle.lp_laws.proofs.Statuses.{status_of_basic}
 use Rattle.lp_laws.proofs.Uniqueness.{one_table, is_in-basics_of}

@@ -10,15 +10,7 @@ use Rattle.rates_dense.specs.declared.line.Line.{Line}
 use Rattle.rates_dense.specs.Lines.{AreNumbers, HasPlaces, basics_of, HaveRatesAt, IsTakenOver}
 use Rattle.rates_dense.specs.Table.{IsTableOf}
 use Rattle.rates_dense.proofs.LineSteps.{some_line}
-use Rattle.lp_laws.proofs.Equations.{KeepsEquations-same}
-
--- a vector with the same values is a direction too
-pub direction_same : (a : Matrix) (b : Basics) (j : ℕ) (d e : Vector) → IsVariable a j → ((k : ℕ) → IsVariable a k → e k ≡ d k) → IsDirectionOf a b j d → IsDirectionOf a b j e
-direction_same a b j d e var same is = record {
-  keeps = KeepsEquations-same a d e (λ k is_var. sym (same k is_var)) is.keeps;
-  own = same j var ∙ is.own;
-  others = λ k out differs. same k out.0 ∙ is.others k out differs;
-}
+use Rattle.lp_laws.proofs.Alike.{direction_same}
 
 module _ (a : Matrix) (b : Basics) (slots : List ℕ) (lines : List Line) (quotients : List ℚ) (table : IsTableOf a b slots lines quotients) where
   pub basics_are : AreNumbers (size a) (basics_of lines)

@@ -1,23 +1,15 @@
 -- The table where all rows are basic.
-use Rattle.std.proofs.Common.{◌≡◌, ℕ, ◌+◌, ◌-◌, ◌<◌, ◌≤◌, ◌^◌, List, [], ◌∷◌, ◌++◌, length, map, get_or, refl, sym, ◌∙◌, ap, ap₂, Bool, true, false, cond, leb, ltb, subst, arith}
-use Rattle.std.proofs.lemmas.List.{map-append}
+use Rattle.std.proofs.Common.{◌≡◌, ℕ, ◌+◌, ◌-◌, ◌<◌, ◌≤◌, ◌^◌, List, length, get_or, refl, sym, ◌∙◌, ap, Bool, true, false, cond, leb, subst, arith}
 use Rattle.exact_values.specs.Rational.{ℚ, zero_ℚ}
-use Rattle.lp_definitions.specs.LinearProgram.{Matrix, size, numbers_from, IsVariable}
+use Rattle.lp_definitions.specs.LinearProgram.{Matrix, size, IsVariable}
 use Rattle.lp_definitions.specs.Basis.{is_in, IsBasic, row_basics}
 use Rattle.lp_laws.specs.Rates.{opening_rate}
-use Rattle.lp_laws.proofs.Opening.{numbers_from-append, IsNonsingular-row_basics, AreRates-opening, is_in-row_basics}
+use Rattle.lp_laws.proofs.Opening.{IsNonsingular-row_basics, AreRates-opening, is_in-row_basics}
 use Rattle.lp_laws.proofs.Values.{clash}
 use Rattle.rates_dense.specs.declared.line.Line.{Line}
 use Rattle.rates_dense.specs.Opening.{opening_entry, IsOpeningLine, AreOpeningLines, AreInOrder}
 use Rattle.rates_dense.specs.Table.{IsLine, IsTableOf}
 use Rattle.rates_dense.proofs.Fills.{filled_at}
-
--- one mark more
-pub marked_more : (rows k : ℕ) (marks : List Bool) → marks ≡ map (λ n. leb n rows) (numbers_from 1 k) → marks ++ (ltb k rows ∷ []) ≡ map (λ n. leb n rows) (numbers_from 1 (k + 1))
-marked_more rows k marks so_far =
-    let row : ℕ → Bool = λ n. leb n rows in
-    let same : ltb k rows ≡ leb (1 + k) rows = grind arith in
-    ap₂ (λ xs v. xs ++ (v ∷ [])) so_far same ∙ sym (map-append row (numbers_from 1 k) ((1 + k) ∷ [])) ∙ ap (map row) (sym (numbers_from-append 1 k 1))
 
 module _ (a : Matrix) (small : size a < 2 ^ 32) (slots : List ℕ) (lines : List Line) (room : List ℚ) (in_order : AreInOrder (size a) slots) (are : AreOpeningLines a a.rows lines) (counted : length room ≡ size a) where
   -- a row's line, at its slot

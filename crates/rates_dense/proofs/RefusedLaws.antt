@@ -8,7 +8,7 @@ use Rattle.frac128.specs.declared.Op.TheVariants.{Sub, Mul, Div}
 use Rattle.lp_definitions.specs.LinearProgram.{Matrix, Vector, size, IsVariable, value_at}
 use Rattle.lp_definitions.specs.Basis.{Basics, is_in, IsBasic, IsNonbasic, exchanged}
 use Rattle.lp_definitions.specs.Waypoints.{waypoint, IsWaypoint}
-use Rattle.lp_definitions.specs.RatesEvidence.{Refuses, IsExchange, ExchangeFormula, f1, f2, f3, f4, f5, IsAtWay, ExchangeRefused}
+use Rattle.lp_definitions.specs.RatesEvidence.{IsExchange, ExchangeFormula, f1, f2, f3, f4, f5, IsAtWay, ExchangeRefused}
 use Rattle.lp_definitions.specs.declared.Evidence.{Evidence}
 use Rattle.lp_model.specs.RatesCalls.{HasPivot}
 use Rattle.rates_dense.specs.declared.line.Line.{Line}
@@ -18,10 +18,7 @@ use Rattle.rates_dense.specs.Refusals.{IsRefusal, QuotientRefused, of_rate, of_o
 use Rattle.rates_dense.proofs.LineSteps.{some_line}
 use Rattle.rates_dense.proofs.NewLines.{line_entry, quotient_at_basic, quotient_at_nonbasic, quotient_at_leaver}
 use Rattle.rates_dense.proofs.Exchanges.{slot, slot_within, rate_apart, leaver_entry, leaver_at_enterer, nonsingular_then, are_quotients}
-
--- the operation, on other names of its operands
-refuses_at : (e : Evidence) (op : Op) (left right x y : ℚ) → left ≡ x → right ≡ y → Refuses e op left right → Refuses e op x y
-refuses_at e op left right x y at_left at_right h = subst (λ u. Refuses e op u y) at_left (subst (λ v. Refuses e op left v) at_right h)
+use Rattle.lp_laws.proofs.Refusals.{refuses_at}
 
 -- an entry that is not 0 is no basic's
 entry_out : (b : Basics) (rate : ℕ → ℕ → ℚ) (i k : ℕ) → line_entry b rate i k ≢ zero_ℚ → is_in b k ≡ false

@@ -9,9 +9,6 @@ use Rattle.exact_values.proofs.Ring.{by_ring1, ◌≐◌, ◌⊗◌, number, opp
 use Rattle.lp_laws.proofs.Values.{no_divisors}
 use Rattle.exact_values.proofs.Ring_laws.{mul_comm, zero-add, zero-mul, add-zero, add-neg}
 
-pub zero_quotient : (x y : ℚ) → x ≡ zero_ℚ → x /ℚ y ≡ zero_ℚ
-zero_quotient x y zero = ap (λ v. v *ℚ inverse_ℚ y) zero ∙ zero-mul (inverse_ℚ y)
-
 pub neg_zero : neg_ℚ zero_ℚ ≡ zero_ℚ
 neg_zero = sym (zero-add (neg_ℚ zero_ℚ)) ∙ add-neg zero_ℚ
 

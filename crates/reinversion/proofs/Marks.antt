@@ -1,5 +1,5 @@
 -- Sets of basics of one size, of which one lies in the other.
-use Rattle.std.proofs.Common.{◌≡◌, ℕ, zero, suc, ◌+◌, ◌<◌, ◌≤◌, [], ◌∷◌, length, drop, set, get_or, refl, sym, ◌∙◌, ap, true, false, arith}
+use Rattle.std.proofs.Common.{◌≡◌, ℕ, zero, suc, ◌<◌, ◌≤◌, [], ◌∷◌, length, drop, set, get_or, refl, sym, ◌∙◌, ap, true, false, arith}
 use Rattle.lp_definitions.specs.Basis.{Basics}
 use Rattle.lp_laws.proofs.Exchange.{marked, marked-set_true}
 use Rattle.lp_laws.proofs.Values.{clash}

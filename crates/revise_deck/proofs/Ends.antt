@@ -1,11 +1,8 @@
 -- The revision by a whole deck, by its parts: the first faulty card, its end and its name.
-use Rattle.std.proofs.Common.{◌≡◌, ℕ, ◌-◌, ◌≤◌, ◌<◌, Bool, true, false, not, List, [], ◌∷◌, Option, Some, None, Result, Ok, Err, length, map, get_or, refl, ap, sym, subst, ◌∙◌, unwrap_or, arith}
-use Rattle.std.specs.List.{last_or}
+use Rattle.std.proofs.Common.{◌≡◌, ℕ, ◌-◌, Bool, true, false, not, List, [], Option, None, Result, Ok, Err, refl, ap, sym, subst, ◌∙◌, unwrap_or}
 use Rattle.std.specs.Option.{option_or}
-use Rattle.std.proofs.lemmas.Option.{slice_get-get_or}
-use Rattle.std.proofs.lemmas.List.{map-append}
 use Rattle.card_definitions.specs.Words.{unless, ◌⟹◌}
-use Rattle.card_definitions.specs.Cards.{Card, live, cards_between, last_number}
+use Rattle.card_definitions.specs.Cards.{Card, live, last_number}
 use Rattle.problem_definitions.specs.Names.{Name}
 use Rattle.problem_definitions.specs.Problem.{Problem}
 use Rattle.problem_definitions.specs.Numbering.{numbered, by_names}
@@ -17,7 +14,6 @@ use Rattle.deck_definitions.specs.declared.Section.TheVariants.{Endata}
 use Rattle.deck_definitions.specs.Sections.{is_section_after}
 use Rattle.deck_definitions.specs.Conversion.{first_faulty, deck_name}
 use Rattle.deck_definitions.proofs.Converted.{ArePrintable, printable_live}
-use Rattle.deck_definitions.proofs.Steps.{last_or-push}
 use Rattle.deck_fields.specs.declared.stop.DeckStop.{DeckStop}
 use Rattle.deck_fields.specs.declared.stop.DeckStop.TheVariants.{Fault, NoMemory}
 use Rattle.revise_definitions.specs.Revision.{revised, revise_card_fault, revise_fault, revision}
@@ -26,8 +22,6 @@ use Rattle.revise_laws.proofs.Revisions.{revised-lawful, renamed}
 use Rattle.revise_parts.specs.Summary.{under_of}
 use Rattle.revise_deck.specs.State.{State, state_of, Stops}
 use Rattle.revise_deck.specs.Revision.{Refuses}
-use Rattle.revise_deck.proofs.Loop.{cards_up_to}
-use Rattle.mps_convert.proofs.Loop.{cards_more}
 
 module _ (old : Problem ℕ) (deck : List Card) (name : Option Name) where
   made : Problem ℕ

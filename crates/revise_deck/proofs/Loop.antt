@@ -1,16 +1,12 @@
 -- The cards of a deck, cut where a reader stands.
-use Rattle.std.proofs.Common.{◌≡◌, ℕ, zero, suc, ◌+◌, ◌-◌, ◌≤◌, Bool, true, false, cond, not, List, [], ◌∷◌, ◌++◌, Option, Some, None, take, drop, slice_get, refl, ap, sym, subst, ◌∙◌, arith}
-use Rattle.std.specs.List.{list_all}
+use Rattle.std.proofs.Common.{◌≡◌, ℕ, zero, suc, ◌+◌, ◌-◌, ◌≤◌, Bool, true, false, cond, not, List, [], ◌∷◌, ◌++◌, Option, Some, None, take, drop, slice_get, refl, ap, sym, ◌∙◌, arith}
 use Rattle.std.specs.Option.{option_or, option_map}
-use Rattle.std.proofs.lemmas.List.Elements.{filter-append}
 use Rattle.std.proofs.lemmas.List.{append_assoc, append-nil}
-use Rattle.card_definitions.specs.Cards.{Card, live, numbered_from, numbered_cards, cards_between, is_skipped, is_printable}
+use Rattle.card_definitions.specs.Cards.{Card, live, numbered_cards, cards_between, is_skipped}
 use Rattle.card_definitions.proofs.Numbered.{live-append}
-use Rattle.problem_definitions.proofs.Each.{each-push}
 use Rattle.deck_definitions.specs.declared.DeckFault.{DeckFault}
 use Rattle.deck_definitions.specs.declared.DeckFaultKind.{DeckFaultKind}
 use Rattle.deck_definitions.specs.Conversion.{first_faulty}
-use Rattle.deck_definitions.proofs.Converted.{ArePrintable}
 use Rattle.deck_definitions.proofs.Steps.{first_faulty-append}
 use Rattle.problem_definitions.specs.Names.{Name}
 use Rattle.problem_definitions.specs.Problem.{Problem}
@@ -19,7 +15,7 @@ use Rattle.revise_deck.proofs.CardStep.{fault-state, state-step}
 use Rattle.deck_fields.specs.declared.stop.DeckStop.{DeckStop}
 use Rattle.deck_fields.specs.declared.stop.DeckStop.TheVariants.{Fault, NoMemory}
 use Rattle.revise_deck.specs.State.{State, state_of, state_with, state_after, fault_at, live_fault, Stops, StopsAt}
-use Rattle.mps_convert.proofs.Loop.{numbered_at, cards_more, cards_split}
+use Rattle.mps_convert.proofs.Loop.{cards_more, cards_split}
 
 -- the first fault of one card after others
 alone : (old : Problem Name) (before : List Card) (card : Card) → first_faulty (revise_card_fault old) before (card ∷ []) ≡ option_map (λ kind. record { card = card.number; kind = kind }) (fault_at (state_of old before) card.bytes)

@@ -1,6 +1,6 @@
 -- The names at the places of a list without two alike.
 use Rattle.std.proofs.Common.{◌≡◌, ℕ, zero, suc, ◌-◌, ◌<◌, Bool, true, false, ◌&&◌, ◌||◌, List, [], ◌∷◌, length, map, refl, ap, sym, ◌∙◌, arith, unwrap_or, nat_eq}
-use Rattle.std.specs.List.{All, AllByRecursion, IsDistinct, position_or_len, slice_get}
+use Rattle.std.specs.List.{AllByRecursion, IsDistinct, position_or_len, slice_get}
 use Rattle.std.specs.Option.{option_map}
 use Rattle.std.proofs.lemmas.Bool.{eq-eqb}
 use Rattle.problem_definitions.specs.Names.{Name, same, has_name, number_in, name_at}

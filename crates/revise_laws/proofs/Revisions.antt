@@ -1,10 +1,10 @@
 -- What a REVISE deck makes of a lawful problem is lawful.
-use Rattle.std.proofs.Common.{◌≡◌, ℕ, Bool, true, false, cond, not, List, [], ◌∷◌, ◌++◌, Option, Some, None, Result, Ok, Err, refl, ap, sym, subst, unwrap_or, lit≤}
+use Rattle.std.proofs.Common.{◌≡◌, ℕ, Bool, true, false, cond, not, List, [], ◌∷◌, ◌++◌, Option, Some, None, Result, Ok, Err, refl, ap, sym, subst, unwrap_or}
 use Rattle.std.specs.List.{list_all}
 use Rattle.std.specs.Option.{option_map, option_or, IfSome}
 use Rattle.std.proofs.lemmas.List.{append_assoc, append-nil}
 use Rattle.card_definitions.specs.Words.{is_empty, unless, ◌⟹◌}
-use Rattle.card_definitions.specs.Cards.{Card, is_printable, is_skipped, live, last_number}
+use Rattle.card_definitions.specs.Cards.{Card, is_printable, live, last_number}
 use Rattle.card_definitions.specs.Fields.{Reading, reading_of}
 use Rattle.card_definitions.proofs.FirstFaults.{no_first, no_second, passes}
 use Rattle.problem_definitions.specs.Names.{Name}
@@ -20,7 +20,7 @@ use Rattle.deck_definitions.specs.declared.Section.TheVariants.{Header, Rows, Co
 use Rattle.deck_definitions.specs.Sections.{is_section_card, section_after, is_section_after}
 use Rattle.deck_definitions.specs.DataCards.{Style, style_of, form_on}
 use Rattle.deck_definitions.specs.Conversion.{section_card_fault, form_fault, first_faulty, deck_name}
-use Rattle.deck_definitions.proofs.CardTexts.{IsReading, columns-name, reading-lawful}
+use Rattle.deck_definitions.proofs.CardTexts.{IsReading, reading-lawful}
 use Rattle.deck_definitions.proofs.Converted.{ArePrintable, printable_live, deck_name-name}
 use Rattle.revise_definitions.specs.declared.Action.{Action}
 use Rattle.revise_definitions.specs.declared.Action.TheVariants.{Modify, Delete, Before, After}

@@ -1,6 +1,6 @@
 -- Evidence of a call on a linear program without a change row is evidence of another statement, whose program at the value that the
 -- evidence names differs in the change row alone.
-use Rattle.std.proofs.Common.{arith, ◌≡◌, ℕ, ◌≤◌, inl, inr, List, [], ◌∷◌, ◌++◌, map, true, false, refl, sym, ◌∙◌, ap, subst, Bool, not, ◌&&◌, ◌||◌}
+use Rattle.std.proofs.Common.{arith, ◌≡◌, ℕ, ◌≤◌, inl, inr, List, [], ◌∷◌, ◌++◌, map, true, false, refl, sym, ◌∙◌, ap, subst, not, ◌&&◌, ◌||◌}
 use Rattle.std.specs.Prelude.{nat_eq, Option, Some, None, IsTrue, Contains}
 use Rattle.exact_values.specs.Rational.{ℚ}
 use Rattle.lp_definitions.specs.LinearProgram.{Matrix, LinearProgram}

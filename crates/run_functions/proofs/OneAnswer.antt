@@ -10,10 +10,10 @@ use Rattle.path_laws.specs.Laws.{IsNonsingularBasis}
 use Rattle.path_laws.proofs.Numbered.{map_same}
 use Rattle.path_laws.proofs.Endless.{objective_value-same}
 use Rattle.path_laws.proofs.OnePath.{one_path, not_both}
-use Rattle.listing_definitions.specs.Report.{Value, Code, Number, limit_value, Line, SolutionLines, PathVerdict, Check, Checked, Unchecked}
+use Rattle.listing_definitions.specs.Report.{Value, Code, Number, limit_value, Line, SolutionLines, PathVerdict, Check}
 use Rattle.question_definitions.specs.Answers.{Basis, Sheet, PathEnd, Reached, PathLimit}
 use Rattle.answer_definitions.specs.Lines.{at_of, name_of}
-use Rattle.answer_definitions.specs.Verdicts.{verdict_of, check_of, found, IsVerdict, IsSolved}
+use Rattle.answer_definitions.specs.Verdicts.{verdict_of, check_of, IsVerdict, IsSolved}
 use Rattle.answer_definitions.specs.Sections.{solution_lines, IsShown}
 use Rattle.run_laws.proofs.OneEnd.{one_check}
 

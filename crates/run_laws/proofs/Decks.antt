@@ -1,5 +1,5 @@
 -- The decks of a job whose cards have no fault hold printable cards, and so does each deck that is taken.
-use Rattle.std.proofs.Common.{◌≡◌, ℕ, zero, suc, ◌-◌, Bool, true, false, cond, not, List, [], ◌∷◌, Option, Some, None, length, map, ltb, drop, filter, refl, subst}
+use Rattle.std.proofs.Common.{◌≡◌, ℕ, zero, suc, ◌-◌, Bool, true, false, cond, not, List, [], ◌∷◌, Option, Some, None, length, map, ltb, drop, filter, subst}
 use Rattle.std.specs.List.{AllByRecursion, list_all, onto_first, prefix_len}
 use Rattle.std.proofs.lemmas.Option.{same_Some}
 use Rattle.std.proofs.lemmas.Bool.{not-false}

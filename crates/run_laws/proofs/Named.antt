@@ -1,13 +1,11 @@
 -- A program that cards compile to moves names alone to the cells of names.
-use Rattle.std.proofs.Common.{◌≡◌, ℕ, zero, suc, ◌≤◌, Bool, true, false, cond, ◌&&◌, List, [], ◌∷◌, Option, Some, None, Ok, length, refl, subst, arith, leb}
-use Rattle.std.specs.List.{AllByRecursion, cons_option, filter_map, slice_get, find, list_all}
+use Rattle.std.proofs.Common.{◌≡◌, ℕ, zero, suc, Bool, true, false, cond, List, [], ◌∷◌, Option, Some, None, Ok, refl, subst}
+use Rattle.std.specs.List.{AllByRecursion, cons_option, filter_map, slice_get, find}
 use Rattle.std.specs.Option.{IfSome, option_map, option_and_then}
 use Rattle.std.specs.Prelude.{bytes_eq}
 use Rattle.std.proofs.lemmas.Option.{same_Some}
-use Rattle.std.proofs.lemmas.Bool.Decides.{nat_tests}
-use Rattle.std.proofs.lemmas.Slice.Eq.{bytes_eq-Decides}
-use Rattle.card_definitions.specs.Words.{named, unless, without_trailing}
-use Rattle.card_definitions.specs.Cards.{Card, is_blank, is_printable, live, numbered_cards}
+use Rattle.card_definitions.specs.Words.{named, unless}
+use Rattle.card_definitions.specs.Cards.{Card, live, numbered_cards}
 use Rattle.problem_definitions.specs.Valid.{IsName}
 use Rattle.control_definitions.specs.declared.ControlFault.{ControlFault}
 use Rattle.control_definitions.specs.declared.NameCell.{NameCell}
@@ -16,7 +14,7 @@ use Rattle.control_definitions.specs.Statements.{statement_of, verb_word, Argume
 use Rattle.control_definitions.specs.Arguments.{if_passes, is_name, quotation, quoted_name, title_argument, number_argument, limit_argument, label_text, setup_arguments}
 use Rattle.control_definitions.specs.Verbs.{Cell, OfName, OfNumber, OfLimit, cell_words, demand_words, moved, VerbWord, Alone, TakesTitle, TakesCell, TakesDemand, TakesLabel, TakesOptions, EndsProgram, verb_words, verb_with, verb_of}
 use Rattle.control_definitions.specs.Compiled.{positioned, statement_on, program_of, control_fault, cards_to_pend, compiled}
-use Rattle.control_definitions.proofs.Names.{all_three, at_most_eight, passes_name}
+use Rattle.control_definitions.proofs.Names.{passes_name}
 
 -- what a verb moves to a cell of names is a name
 abbrev pub MovesName : {L : Type 0} → Verb L → Type 0

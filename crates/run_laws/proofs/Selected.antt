@@ -8,8 +8,8 @@ use Rattle.lp_setup.proofs.FreeRows.{is_chosen}
 use Rattle.problem_definitions.specs.Problem.{Problem}
 use Rattle.problem_definitions.specs.Valid.{IsProblem}
 use Rattle.selection_definitions.specs.declared.SelectionFault.{SelectionFault}
-use Rattle.selection_definitions.specs.Choice.{Choice, selection_fault}
-use Rattle.selection_definitions.specs.Selection.{program_of_choice, selected}
+use Rattle.selection_definitions.specs.Choice.{Choice}
+use Rattle.selection_definitions.specs.Selection.{selected}
 use Rattle.run_laws.proofs.Ends.{HasNoChange}
 
 faultless : (fault : Option SelectionFault) (value lp : LinearProgram) → unless fault value ≡ Ok lp → (fault ≡ None) × (value ≡ lp)

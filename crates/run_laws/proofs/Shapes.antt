@@ -1,15 +1,13 @@
 -- What the present cells select of a problem has always the same matrix and the same limits but for their values, so that a basis of the one
 -- is a basis of the other.
 use Rattle.std.proofs.Common.{◌≡◌, ℕ, zero, suc, ◌-◌, List, [], ◌∷◌, ◌++◌, map, refl, sym, subst}
-use Rattle.std.specs.Prelude.{Option, Some, None, IsSome, is_some, length, count_by, Ok, slice_index_or}
+use Rattle.std.specs.Prelude.{Option, Some, None, is_some, length, count_by, Ok, slice_index_or}
 use Rattle.std.specs.List.{enumerate_from}
 use Rattle.exact_values.specs.Rational.{ℚ}
 use Rattle.frac128.specs.declared.Op.{Op}
 use Rattle.frac128.specs.declared.Op.TheVariants.{Add, Sub, Mul, Div}
 use Rattle.lp_definitions.specs.LinearProgram.{Matrix, LinearProgram, size, IsRow, IsVariable, lower_of, upper_of}
-use Rattle.lp_definitions.specs.Basis.{basics_of, status_of, is_basic, IsNonsingular, IsAllowed}
-use Rattle.lp_definitions.specs.declared.Status.{Status}
-use Rattle.lp_definitions.specs.declared.Status.TheVariants.{Bs, Ll, Ul, Fr}
+use Rattle.lp_definitions.specs.Basis.{basics_of, status_of, is_basic, IsNonsingular}
 use Rattle.problem_definitions.specs.declared.RowKind.{RowKind}
 use Rattle.problem_definitions.specs.declared.RowKind.TheVariants.{N, G, L, E}
 use Rattle.problem_definitions.specs.Names.{Name}
@@ -20,6 +18,7 @@ use Rattle.selection_definitions.specs.Limits.{Limits, row_limits, with_range}
 use Rattle.selection_definitions.specs.Selection.{program_of_choice, selected}
 use Rattle.question_definitions.specs.Answers.{Basis}
 use Rattle.lp_setup.proofs.FreeRows.{is_chosen}
+use Rattle.lp_laws.proofs.Alike.{allowed_like}
 
 -- the same limits are there
 record AlikeLimits (a b : Limits) : Type 0 where
@@ -61,22 +60,6 @@ record SameShape (p q : LinearProgram) : Type 0 where
   lower : (k : ℕ) → is_some (lower_of p k) ≡ is_some (lower_of q k)
   upper : (k : ℕ) → is_some (upper_of p k) ≡ is_some (upper_of q k)
 
-some_there : (a b : Option ℚ) → is_some a ≡ is_some b → IsSome a → IsSome b
-some_there a (Some u) e h = refl
-some_there (Some l) None e h = cc
-some_there None None e h = h
-
-none_there : (a b : Option ℚ) → is_some a ≡ is_some b → a ≡ None → b ≡ None
-none_there a None e h = refl
-none_there None (Some u) e h = cc
-none_there (Some l) (Some u) e h = cc
-
-allowed_there : (st : Status) (low high low' high' : Option ℚ) → is_some low ≡ is_some low' → is_some high ≡ is_some high' → IsAllowed st low high → IsAllowed st low' high'
-allowed_there Bs low high low' high' d e h = tt
-allowed_there Ll low high low' high' d e h = some_there low low' d h
-allowed_there Ul low high low' high' d e h = some_there high high' e h
-allowed_there Fr low high low' high' d e h = (none_there low low' d h.0, none_there high high' e h.1)
-
 basis_of_shape : (p q : LinearProgram) (s : Basis) → SameShape p q → IsNonsingularBasis p s → IsNonsingularBasis q s
 basis_of_shape p q s same at = record {
   is_basis = record {
@@ -84,7 +67,7 @@ basis_of_shape p q s same at = record {
     m_basics = subst (λ (a : Matrix). count_by is_basic s ≡ a.rows) same.matrix at.is_basis.m_basics;
     free_rows = λ i row none. at.is_basis.free_rows i (subst (λ (a : Matrix). IsRow a i) (sym same.matrix) row)
         (none_there (lower_of q i) (lower_of p i) (sym (same.lower i)) none.0, none_there (upper_of q i) (upper_of p i) (sym (same.upper i)) none.1);
-    allowed = λ k is. allowed_there (status_of s k) (lower_of p k) (upper_of p k) (lower_of q k) (upper_of q k) (same.lower k) (same.upper k)
+    allowed = λ k is. allowed_like (status_of s k) (lower_of p k) (upper_of p k) (lower_of q k) (upper_of q k) (same.lower k) (same.upper k)
         (at.is_basis.allowed k (subst (λ (a : Matrix). IsVariable a k) (sym same.matrix) is));
   };
   nonsingular = subst (λ (a : Matrix). IsNonsingular a (basics_of s)) same.matrix at.nonsingular;

@@ -1,5 +1,5 @@
 -- Each verb keeps what a run knows, and what it reports holds.
-use Rattle.std.proofs.Common.{◌≡◌, ℕ, List, [], ◌∷◌, ◌++◌, refl, sym, ap, subst, ◌∙◌}
+use Rattle.std.proofs.Common.{◌≡◌, ℕ, List, [], refl, sym, ap, subst, ◌∙◌}
 use Rattle.std.specs.Prelude.{Option, Some, None, Ok, option_and_then}
 use Rattle.exact_values.specs.Rational.{ℚ}
 use Rattle.lp_definitions.specs.LinearProgram.{LinearProgram}
@@ -44,12 +44,9 @@ use Rattle.run_laws.proofs.ChangeRow.{changes_freely, row_named, set_named, last
 use Rattle.run_laws.proofs.Ends.{IsProvedBest, shown_is_best, path_is_true}
 use Rattle.run_laws.proofs.Selected.{selected_is_lawful, selected_has_no_change}
 use Rattle.run_laws.proofs.Moves.{HasProblem, EndsOptimally, KnowsMark, Knows, Keeps, IsKept, unmarked, HasBases, KnowsBases, without_setup, with_basis, does, may_stop, answered, unless_fault, unless_deck_fault, unless_selection_fault, selecting}
+use Rattle.sweep_laws.proofs.Runs.{last_of-append}
 
 -- ---- PRIMAL
-
-last_of-append : (s : Basis) (first second : List Basis) → last_of s (first ++ second) ≡ last_of (last_of s first) second
-last_of-append s [] second = refl
-last_of-append s (next ∷ first) second = last_of-append next first second
 
 -- a path that leaves the mark OPTIMAL has ended optimal at the basis that it reached
 marks : (present : Present) (lp : LinearProgram) (objective rhs : Option Name) (bases : List Basis) (verdict : PathVerdict) (steps : ℕ) (ending : PathEnding) →

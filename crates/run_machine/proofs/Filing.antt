@@ -1,8 +1,7 @@
 -- What CONVERT and REVISE come to.
 use Rattle.std.proofs.Common.{◌≡◌, ℕ, ◌+◌, ◌-◌, ◌≤◌, length, arith, Bool, true, List, ◌∷◌, Option, None, Some, Result, Ok, Err, IfOk, if◌then◌else◌, drop, refl, sym, ap, subst, ◌∙◌}
-use Rattle.std.specs.Prelude.{IfErr, option_and_then, bytes_eq}
+use Rattle.std.specs.Prelude.{IfErr, option_and_then}
 use Rattle.std.proofs.lemmas.Slice.Eq.{bytes_eq-Decides}
-use Rattle.std.proofs.lemmas.Bool.Decides.{same_from_decides}
 use Rattle.job_devices.specs.declared.device.WriteStop.{WriteStop}
 use Rattle.job_devices.specs.Text.{Writes}
 use Rattle.card_definitions.specs.Cards.{Card, numbered_cards}
@@ -14,6 +13,7 @@ use Rattle.deck_fields.specs.declared.stop.DeckStop.TheVariants.{Fault, NoMemory
 use Rattle.mps_convert.specs.Conversion.{Refuses}
 use Rattle.problem_definitions.specs.Names.{Name, same}
 use Rattle.problem_definitions.specs.Problem.{Problem}
+use Rattle.problem_definitions.proofs.Names.{same_sym}
 use Rattle.problem_file.specs.Filed.{Filed, filed_under}
 use Rattle.control_definitions.specs.Cells.{Cells}
 use Rattle.listing_definitions.specs.declared.VerbFault.TheVariants.{DeckNotFound}
@@ -36,9 +36,6 @@ use Rattle.run_machine.specs.Statements.{Comes, Executes}
 use Rattle.run_machine.specs.Describing.{verb_of, report_of, decks_from, with_problem, IsDescribed, Describes, described_as}
 use Rattle.run_machine.proofs.Giving.{gives_fault, gives_found, loudly, cut_off}
 
-same_either_way : (a b : Name) → same a b ≡ same b a
-same_either_way a b = same_from_decides (bytes_eq a b) (bytes_eq b a) (bytes_eq-Decides a b) (λ e. sym ((bytes_eq-Decides b a).0 e), λ e. (bytes_eq-Decides b a).1 (sym e))
-
 -- the problem put last stands in front of those that are on file
 pub put_in_front : (old new : Filed) (problem : Problem ℕ) (problems : List (Problem ℕ)) → ((wanted : Option Name) → problem_of wanted problems ≡ filed wanted old) →
     ((name : Name) → filed_under name new ≡ (if same problem.name name then Some problem else filed_under name old)) → new.last ≡ Some problem.name →
@@ -50,7 +47,7 @@ put_in_front old new problem problems held put last None =
 put_in_front old new problem problems held put last (Some name) =
     let by_test : Bool → Option (Problem ℕ) = λ b. if b then Some problem else problem_of (Some name) problems in
     let by_rest : Option (Problem ℕ) → Option (Problem ℕ) = λ rest. if same problem.name name then Some problem else rest in
-    ap by_test (same_either_way name problem.name) ∙ ap by_rest (held (Some name)) ∙ sym (put name)
+    ap by_test (same_sym name problem.name) ∙ ap by_rest (held (Some name)) ∙ sym (put name)
 
 -- a deck fault
 gives_deck_fault : (card : ℕ) (found : Result (Problem ℕ) DeckFault) (go : Problem ℕ → Move) (fault : DeckFault) → found ≡ Err fault → Gives linear_programming card (or_deck_fault found go) (stops (deck_stop fault))

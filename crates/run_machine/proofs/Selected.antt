@@ -1,14 +1,13 @@
 -- What is selected of a problem, and what it has in common with other selections by the same options.
 use Rattle.std.proofs.Common.{◌≡◌, ℕ, zero, suc, ◌-◌, Bool, true, false, List, [], ◌∷◌, ◌++◌, Option, Some, None, map, get_or, refl, sym, ap, subst, ◌∙◌, if◌then◌else◌, is_some}
-use Rattle.std.specs.Prelude.{Ok, Err, IsSome}
+use Rattle.std.specs.Prelude.{Ok, Err}
 use Rattle.std.specs.List.{enumerate_from}
 use Rattle.exact_values.specs.Rational.{ℚ, zero_ℚ}
 use Rattle.exact_values.specs.Tests.{lt_ℚ, magnitude}
 use Rattle.frac128.specs.declared.Op.TheVariants.{Add, Sub}
 use Rattle.lp_definitions.specs.LinearProgram.{Matrix, LinearProgram, lower_of, upper_of}
-use Rattle.lp_definitions.specs.Basis.{Basics, basics_of, IsAllowed, IsNonsingular}
+use Rattle.lp_definitions.specs.Basis.{Basics, basics_of, IsNonsingular}
 use Rattle.lp_definitions.specs.declared.Status.{Status}
-use Rattle.lp_definitions.specs.declared.Status.TheVariants.{Bs, Ll, Ul, Fr}
 use Rattle.basis_values.specs.Calls.{HasRates}
 use Rattle.card_definitions.specs.Words.{unless}
 use Rattle.problem_definitions.specs.declared.RowKind.{RowKind}
@@ -24,16 +23,14 @@ use Rattle.lp_setup.specs.declared.stop.SelectStop.TheVariants as stops
 use Rattle.lp_setup.specs.Stops.{fault_of, IsOverflowOf}
 use Rattle.run_machine.specs.declared.selecting.Refusal.{Refusal}
 use Rattle.run_machine.specs.Choosing.{refusal_of, IsUnselected}
+use Rattle.deck_fields.proofs.Decimals.{unless-Ok}
+use Rattle.lp_laws.proofs.Alike.{allowed_like, none_like}
 
 -- ---- what is selected is the program of the choice
 
-unless_ok : {A F : Type 0} (fault : Option F) (a b : A) → unless fault a ≡ Ok b → a ≡ b
-unless_ok None a b e = cc
-unless_ok (Some fault) a b e = cc
-
 is_program : (problem : Problem ℕ) (choice : Choice) (p : LinearProgram) → selected problem choice ≡ Ok p → program_of_choice problem choice ≡ p
 unfolding selected
-is_program problem choice p e = unless_ok (selection_fault problem choice) (program_of_choice problem choice) p e
+is_program problem choice p e = unless-Ok (selection_fault problem choice) (program_of_choice problem choice) p e
 
 pub same_matrix : (problem : Problem ℕ) (choice : Choice) (p : LinearProgram) → selected problem choice ≡ Ok p → matrix_of problem ≡ p.matrix
 same_matrix problem choice p e = ap (λ (q : LinearProgram). q.matrix) (is_program problem choice p e)
@@ -140,20 +137,6 @@ limits_alike problem c d same =
 
 -- ---- the bases are those of every selection by these options
 
-none_like : (a b : Option ℚ) → is_some a ≡ is_some b → b ≡ None → a ≡ None
-none_like None b e none = refl
-none_like (Some x) None e none = cc
-none_like (Some x) (Some y) e none = cc
-
-some_like : (a b : Option ℚ) → is_some a ≡ is_some b → IsSome a → IsSome b
-some_like a b e h = sym e ∙ h
-
-allowed_like : (st : Status) (a b c d : Option ℚ) → is_some a ≡ is_some c → is_some b ≡ is_some d → IsAllowed st a b → IsAllowed st c d
-allowed_like Bs a b c d low high h = tt
-allowed_like Ll a b c d low high h = some_like a c low h
-allowed_like Ul a b c d low high h = some_like b d high h
-allowed_like Fr a b c d low high h = (none_like c a (sym low) h.0, none_like d b (sym high) h.1)
-
 module _ (problem : Problem ℕ) (c d : Choice) (p q : LinearProgram) (same : c.options ≡ d.options) (first : selected problem c ≡ Ok p) (second : selected problem d ≡ Ok q) where
   pub matrix_carries : p.matrix ≡ q.matrix
   matrix_carries = sym (same_matrix problem c p first) ∙ same_matrix problem d q second
@@ -176,7 +159,7 @@ module _ (problem : Problem ℕ) (c d : Choice) (p q : LinearProgram) (same : c.
         is_basis = record {
           counted = rw (← rows, ← cols) has.is_basis.counted;
           m_basics = has.is_basis.m_basics ∙ rows;
-          free_rows = λ i is free. has.is_basis.free_rows i (rw rows is) (none_like (lower_of p i) (lower_of q i) (lowers i) free.0, none_like (upper_of p i) (upper_of q i) (uppers i) free.1);
+          free_rows = λ i is free. has.is_basis.free_rows i (rw rows is) (none_like (lower_of q i) (lower_of p i) (sym (lowers i)) free.0, none_like (upper_of q i) (upper_of p i) (sym (uppers i)) free.1);
           allowed = λ k is. allowed_like _ (lower_of p k) (upper_of p k) (lower_of q k) (upper_of q k) (lowers k) (uppers k) (has.is_basis.allowed k (rw (rows, cols) is));
         };
         nonsingular = subst (λ (m : Matrix). IsNonsingular m (basics_of s)) matrix_carries has.nonsingular;

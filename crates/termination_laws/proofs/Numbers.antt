@@ -1,13 +1,13 @@
 -- Searches over the numbers, and the signs of products and sums.
-use Rattle.std.proofs.Common.{◌≡◌, ◌≢◌, ℕ, zero, suc, ◌<◌, ◌≤◌, ◌⊎◌, inl, inr, Bool, true, false, pos, refl, sym, ap, subst, ◌∙◌, arith, cond}
+use Rattle.std.proofs.Common.{◌≡◌, ◌≢◌, ℕ, zero, suc, ◌<◌, ◌≤◌, ◌⊎◌, inl, inr, Bool, true, false, pos, refl, sym, ap, ◌∙◌, arith, cond}
 use Rattle.std.specs.Prelude.{Some, find, eqb}
 use Rattle.std.proofs.lemmas.Bool.Decides.{eqb_tells}
 use Rattle.exact_values.specs.Rational.{ℚ, zero_ℚ, neg_ℚ, ◌*ℚ◌, ◌≤ℚ◌, ◌<ℚ◌}
-use Rattle.exact_values.specs.Sums.{sum_to, without}
+use Rattle.exact_values.specs.Sums.{sum_to}
 use Rattle.exact_values.proofs.Ring.{by_ring2, ◌⊕◌, ◌⊖◌, ◌⊗◌, ◌≐◌, number, opposite}
 use Rattle.exact_values.proofs.Ring_laws.{zero-mul, mul-zero}
-use Rattle.exact_values.proofs.Order.{le_of_eq, le_total, lt_from_le, lt_by_two, le_by_product, same_or_not}
-use Rattle.exact_values.proofs.Sums.{sum_to-same, sum_to-neg, sum_to-without, sum_to-nonnegative, without_other, without_same}
+use Rattle.exact_values.proofs.Order.{le_of_eq, le_total, lt_from_le, le_by_product, same_or_not}
+use Rattle.exact_values.proofs.Sums.{sum_to-same, sum_to-neg}
 use Rattle.lp_definitions.specs.LinearProgram.{numbers_from, for_min}
 use Rattle.lp_definitions.specs.declared.Sense.{Sense}
 use Rattle.lp_definitions.specs.declared.Sense.TheVariants.{Min, Max}

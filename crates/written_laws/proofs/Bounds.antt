@@ -2,7 +2,7 @@
 use Rattle.std.proofs.Common.{◌≡◌, ℕ, Bool, true, false, cond, not, ◌&&◌, ◌||◌, List, [], ◌∷◌, ◌++◌, Option, Some, None, map, is_some, refl, ap, ap₂, sym, ◌∙◌, subst, lit≤}
 use Rattle.std.specs.List.{AllByRecursion, IsDistinct, flat_map}
 use Rattle.std.specs.Option.{IfSome, option_map}
-use Rattle.card_definitions.specs.Words.{named, is_empty, without_leading, ◌⟹◌}
+use Rattle.card_definitions.specs.Words.{is_empty, without_leading, ◌⟹◌}
 use Rattle.card_definitions.specs.Cards.{is_blank}
 use Rattle.card_definitions.specs.Fields.{Reading}
 use Rattle.card_definitions.specs.Numbers.{Decimal, decimal_of}
@@ -18,7 +18,7 @@ use Rattle.problem_definitions.proofs.Groups.{has_group-names}
 use Rattle.problem_definitions.proofs.Lawful.{IsLabel, AreGroups, AreLawfulBounds, AreBoundSets, clash_by_name}
 use Rattle.deck_definitions.specs.declared.DeckFaultKind.TheVariants.{UnknownColumn, BoundTwice, EmptyName}
 use Rattle.deck_definitions.specs.declared.Section.TheVariants.{Bounds}
-use Rattle.deck_definitions.specs.DataCards.{bound_kinds, bound_of}
+use Rattle.deck_definitions.specs.DataCards.{bound_of}
 use Rattle.deck_definitions.specs.Tests.{bounds_fault, bound_fault, is_bound_already, bound_value_fault, value_fault, number_fault_from, filled_from_5}
 use Rattle.deck_definitions.specs.Written.{data_card, bound_kind_text, bound_text}
 use Rattle.deck_definitions.proofs.Steps.{with_card, with_group}

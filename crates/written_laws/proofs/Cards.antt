@@ -1,8 +1,8 @@
 -- A written data card has its fields, blanks between them, and is neither a section card nor skipped.
-use Rattle.std.proofs.Common.{◌≡◌, ℕ, zero, suc, ◌+◌, ◌-◌, ◌≤◌, Bool, true, false, cond, ◌&&◌, List, [], ◌∷◌, ◌++◌, length, take, drop, replicate, refl, ap, sym, ◌∙◌, subst, arith, unwrap_or, lit≤}
+use Rattle.std.proofs.Common.{◌≡◌, ℕ, zero, suc, ◌+◌, ◌-◌, ◌≤◌, Bool, true, false, cond, ◌&&◌, List, [], ◌∷◌, ◌++◌, length, take, drop, refl, ap, sym, ◌∙◌, subst, arith, unwrap_or, lit≤}
 use Rattle.std.specs.List.{list_all, slice_get}
 use Rattle.std.specs.Prelude.{codes}
-use Rattle.std.proofs.lemmas.List.{append_assoc, length-append, length-replicate}
+use Rattle.std.proofs.lemmas.List.{append_assoc}
 use Rattle.std.proofs.Math.ListN.{drop_of_length-le}
 use Rattle.std.proofs.lemmas.Bool.{and_from}
 use Rattle.card_definitions.specs.Words.{without_trailing, without_leading, padded, is_empty}

@@ -1,16 +1,15 @@
 -- Names in place of numbers and numbers in place of names: the problem again.
-use Rattle.std.proofs.Common.{◌≡◌, ℕ, List, [], ◌∷◌, length, map, refl, ap, ap₂, sym, ◌∙◌, subst, true, is_none}
+use Rattle.std.proofs.Common.{◌≡◌, ℕ, List, length, map, ap, sym, ◌∙◌, subst, true, is_none}
 use Rattle.std.specs.List.{AllByRecursion, IsDistinct}
 use Rattle.std.proofs.lemmas.List.{length-map}
 use Rattle.problem_definitions.specs.Names.{Name, same, number_in, name_at}
 use Rattle.problem_definitions.specs.Problem.{Row, Entry, Bound, Group, Problem, row_names, group_names}
 use Rattle.problem_definitions.specs.Numbering.{entry_by, bound_by, group_by, problem_by, numbered, by_names}
 use Rattle.problem_definitions.specs.Valid.{IsNumberOf, AreEntries, AreBounds, IsProblem}
-use Rattle.problem_definitions.proofs.Groups.{map-map}
 use Rattle.problem_definitions.proofs.Each.{each-change, all-each}
 use Rattle.problem_definitions.proofs.PlainRows.{row_names-by, rows-again}
 use Rattle.problem_definitions.proofs.Lawful.{names-by}
-use Rattle.problem_definitions.proofs.Again.{map-kept, groups-again}
+use Rattle.problem_definitions.proofs.Again.{groups-again}
 use Rattle.revise_laws.proofs.Places.{number_in-name_at}
 
 module _ (names : List Name) (distinct : IsDistinct same names) (count : ℕ) (counted : count ≡ length names) where

@@ -1,7 +1,8 @@
 -- PROGRAM's label has the first position; or the card is faulty.
-use Rattle.std.proofs.Common.{◌≡◌, ℕ, ◌-◌, Bool, true, false, ◌&&◌, List, [], ◌∷◌, Option, Some, None, map, refl, ap, sym, subst, ◌∙◌, rules}
+use Rattle.std.proofs.Common.{◌≡◌, ℕ, ◌-◌, false, List, [], ◌∷◌, Option, Some, None, map, refl, ap, sym, subst, ◌∙◌, rules}
 use Rattle.std.specs.Prelude.{slice_get, option_map}
 use Rattle.std.specs.List.{cons_option}
+use Rattle.std.proofs.lemmas.Bool.{and_right}
 use Rattle.control_definitions.specs.Program.{Verb}
 use Rattle.control_definitions.specs.Arguments.{label_text}
 use Rattle.control_definitions.specs.Compiled.{head_fault, has_label, fault_at}
@@ -11,10 +12,6 @@ use Rattle.control_compiler.proofs.Live.{head_is_faulty}
 use Rattle.control_compiler.proofs.Places.{next_positions}
 use Rattle.control_compiler.proofs.Taking.{said_on, program_is_no_statement}
 use Rattle.control_compiler.proofs.reading.begin.Goals as goal
-
-no_other : (b : Bool) → (b && false) ≡ false
-no_other true = refl
-no_other false = refl
 
 -- the first card's bytes are those that were read
 first_card : (job : List (List ℕ)) (number : ℕ) (bytes read : List ℕ) → slice_get job (number - 1) ≡ Some bytes → slice_get job (number - 1) ≡ Some read
@@ -38,7 +35,7 @@ returns c =
       lawful = lawful;
       after = record {
         labels = next_positions c.new-labels.result c.place_label.new.labels [] (record { number = c.args.number; bytes = c.bytes-card.result.now }) c.label_in.result 1
-            (c.label_in.ensures.label ∙ ap label_text c.label.ensures.label) facts.0 (no_other (has_label c.bytes-card.result.now)) refl c.in_ok-place_label.ensures.ok (λ label some. c.new-labels.ensures label);
+            (c.label_in.ensures.label ∙ ap label_text c.label.ensures.label) facts.0 (and_right (has_label c.bytes-card.result.now) false refl) refl c.in_ok-place_label.ensures.ok (λ label some. c.new-labels.ensures label);
         statements = ap (map statement_shown) c.new.ensures.items ∙ sym (ap (λ (verb : Option (Verb (List ℕ))). cons_option (option_map (said_on c.args.number) verb) []) facts.1);
         lawful = rw c.new.ensures.items (search rules);
       };

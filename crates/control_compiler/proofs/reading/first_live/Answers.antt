@@ -1,5 +1,5 @@
 -- The first card that isn't skipped, and what comes after a skipped one.
-use Rattle.std.proofs.Common.{◌≡◌, ℕ, ◌+◌, ◌-◌, true, false, ap, ◌∙◌, arith, rules}
+use Rattle.std.proofs.Common.{◌≡◌, ℕ, ◌-◌, true, false, ap, ◌∙◌, arith, rules}
 use Rattle.std.specs.Prelude.{slice_get}
 use Rattle.control_compiler.proofs.Live.{live_next, skipped_next, same_place}
 use Rattle.card_definitions.specs.Cards.{is_skipped}

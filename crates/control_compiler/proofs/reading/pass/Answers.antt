@@ -1,5 +1,5 @@
 -- A card is skipped, or the draft takes it.
-use Rattle.std.proofs.Common.{◌≡◌, ℕ, ◌+◌, ◌-◌, Some, ap, sym, ◌∙◌, arith}
+use Rattle.std.proofs.Common.{ℕ, ◌-◌, Some, ap, sym, ◌∙◌}
 use Rattle.std.specs.Prelude.{slice_get}
 use Rattle.card_definitions.specs.Cards.{is_skipped}
 use Rattle.control_compiler.proofs.Passing.{passed_over, passed}

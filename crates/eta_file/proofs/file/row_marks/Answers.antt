@@ -1,6 +1,6 @@
 use Rattle.std.proofs.Common.{rules, ◌≡◌, ◌++◌, ◌∷◌, [], ◌∙◌, ltb}
-use Rattle.eta_file.proofs.Marks.{marked_more}
 use Rattle.eta_file.proofs.file.row_marks.Goals as goal
+use Rattle.lp_laws.proofs.Marks.{marked_more}
 
 pub loop-k-preserved : goal.loop-k-preserved
 loop-k-preserved c =

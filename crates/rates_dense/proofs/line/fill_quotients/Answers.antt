@@ -4,10 +4,10 @@ use Rattle.lp_definitions.specs.LinearProgram.{value_at}
 use Rattle.rates_dense.specs.Lines.{quotient_at}
 use Rattle.rates_dense.proofs.Fills.{filled_more, quotient_own, quotient_other, rate_refused, read_at}
 use Rattle.rates_dense.proofs.Changes.{listed_zero, listed_more, listed_to_end}
-use Rattle.rates_dense.proofs.Values.{zero_quotient}
 use Rattle.rates_dense.proofs.line.fill_quotients.Goals.{then-j-p-2+in_ok-reciprocal, else-j-p-2+in_ok-quotients}
 use Rattle.rates_dense.proofs.line.fill_quotients.Goals as goal
 use Rattle.lp_laws.proofs.Places.{value_at_place}
+use Rattle.lp_laws.proofs.Idle.{zero_over}
 
 pub returns-in_err-quotients-clause-refused : goal.returns-in_err-quotients-clause-refused
 returns-in_err-quotients-clause-refused c =
@@ -27,7 +27,7 @@ loop-k-preserved-then-is_zero c =
     let none : c.index-rates-k.result ≡ zero_ℚ = c.is_zero.ensures.0 c.if-is_zero.true in
     let zero : zero_ℚ ≡ f j =
     quotient_other c.args.p c.args.q c.args.rates.now j zero_ℚ c.index-rates-k.result (value_at c.args.rates.now c.args.q) c.if-j-p.true here refl
-    (sym (zero_quotient c.index-rates-k.result (value_at c.args.rates.now c.args.q) none)) in
+    (sym (zero_over c.index-rates-k.result (value_at c.args.rates.now c.args.q) none)) in
     record {
       filled = filled_more c.loop-k.quotients c.loop-k.k c.index-rates-k.result f (omega (arith, within, c.requires.room, c.loop-k.auto.quotients)) c.loop-k.invariant.filled (none ∙ zero);
       within = omega (arith, c.loop-k.invariant.within);
