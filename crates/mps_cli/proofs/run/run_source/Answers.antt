@@ -1,5 +1,4 @@
 use Rattle.std.proofs.Common.{refl, Some}
-use Rattle.control_run.specs.Finishing.{failures_in_run}
 use Rattle.answer_definitions.specs.Real.{linear_programming}
 use Rattle.command_line.specs.declared.request.Request.TheVariants.{Read}
 use Rattle.mps_cli.proofs.Ending_answers.{ending_answer}
