@@ -18,7 +18,7 @@ use Rattle.selection_definitions.specs.Limits.{Limits, row_limits, with_range}
 use Rattle.selection_definitions.specs.Selection.{program_of_choice, selected}
 use Rattle.question_definitions.specs.Answers.{Basis}
 use Rattle.lp_setup.proofs.FreeRows.{is_chosen}
-use Rattle.lp_laws.proofs.Alike.{allowed_like}
+use Rattle.lp_laws.proofs.Alike.{allowed_like, none_like}
 
 -- the same limits are there
 record AlikeLimits (a b : Limits) : Type 0 where
@@ -66,7 +66,7 @@ basis_of_shape p q s same at = record {
     counted = subst (λ (a : Matrix). length s ≡ size a) same.matrix at.is_basis.counted;
     m_basics = subst (λ (a : Matrix). count_by is_basic s ≡ a.rows) same.matrix at.is_basis.m_basics;
     free_rows = λ i row none. at.is_basis.free_rows i (subst (λ (a : Matrix). IsRow a i) (sym same.matrix) row)
-        (none_there (lower_of q i) (lower_of p i) (sym (same.lower i)) none.0, none_there (upper_of q i) (upper_of p i) (sym (same.upper i)) none.1);
+        (none_like (lower_of q i) (lower_of p i) (sym (same.lower i)) none.0, none_like (upper_of q i) (upper_of p i) (sym (same.upper i)) none.1);
     allowed = λ k is. allowed_like (status_of s k) (lower_of p k) (upper_of p k) (lower_of q k) (upper_of q k) (same.lower k) (same.upper k)
         (at.is_basis.allowed k (subst (λ (a : Matrix). IsVariable a k) (sym same.matrix) is));
   };
