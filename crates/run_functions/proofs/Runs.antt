@@ -1,5 +1,5 @@
 -- Two runs of one job that don't stop with an overflow are the same.
-use Rattle.std.proofs.Common.{◌≡◌, ◌⊎◌, inl, inr, ℕ, ◌-◌, ◌≤◌, ◌<◌, List, [], ◌++◌, refl, sym, ap, ap₂, subst, ◌∙◌, arith, Option, None, Bool}
+use Rattle.std.proofs.Common.{◌≡◌, ◌⊎◌, inl, inr, ℕ, ◌-◌, ◌≤◌, ◌<◌, List, [], ◌++◌, refl, sym, ap, ap₂, subst, ◌∙◌, arith, Option, None}
 use Rattle.std.proofs.Math.Nat.{eq-or-lt_of_le, le_of_lt}
 use Rattle.std.proofs.lemmas.Bool.{cases_lt}
 use Rattle.std.proofs.lemmas.List.{append-nil, append_assoc}

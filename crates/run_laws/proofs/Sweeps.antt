@@ -1,6 +1,4 @@
 -- What PARAOBJ or PARARHS prints of a nonsingular basis leads to one, and is true.
-use Rattle.std.proofs.Common.{ℕ, List}
-use Rattle.exact_values.specs.Rational.{ℚ}
 use Rattle.lp_definitions.specs.LinearProgram.{IsLinearProgram}
 use Rattle.method_definitions.specs.Path.{last_of}
 use Rattle.method_definitions.specs.Chain.{FailedOpening, Chain}

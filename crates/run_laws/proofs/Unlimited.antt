@@ -11,13 +11,13 @@ use Rattle.listing_definitions.specs.declared.Mark.TheVariants.{Optimal, Infeasi
 use Rattle.listing_definitions.specs.declared.Solver.TheVariants.{Primal as ByPrimal}
 use Rattle.listing_definitions.specs.declared.VerbFault.{VerbFault}
 use Rattle.listing_definitions.specs.declared.VerbFault.TheVariants.{NoSetup}
-use Rattle.listing_definitions.specs.Report.{Report, PathVerdict, Check, Solved}
-use Rattle.question_definitions.specs.Answers.{Sheet, OfPath, PathEnd, Reached, PathLimit}
+use Rattle.listing_definitions.specs.Report.{Report, Solved}
+use Rattle.question_definitions.specs.Answers.{Sheet, PathEnd, Reached, PathLimit}
 use Rattle.question_definitions.specs.Solving.{Solving}
 use Rattle.answer_definitions.specs.Verdicts.{IsSolved}
 use Rattle.answer_definitions.specs.Real.{linear_programming}
 use Rattle.run_definitions.specs.State.{Present, present_basis, gone_through, State, choice_of}
-use Rattle.run_definitions.specs.Moves.{Outcome, Refusals, Move, Does, MayStop, Asks, Gives, or_fault}
+use Rattle.run_definitions.specs.Moves.{Outcome, Refusals, Move, Does, MayStop, Gives, or_fault}
 use Rattle.run_definitions.specs.Verbs.{or_selection_fault, selects, mark_of, demanded, by_verdict, after_path, solves, verb_move}
 use Rattle.run_laws.specs.Laws.{IsNoLimitStop, EndsUnlimited}
 

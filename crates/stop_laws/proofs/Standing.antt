@@ -1,9 +1,9 @@
 -- What stands of a job that is answered.
-use Rattle.std.proofs.Common.{◌≡◌, ℕ, ◌≤◌, List, [], ◌++◌, Some, refl, sym, ap, subst}
+use Rattle.std.proofs.Common.{◌≡◌, ℕ, List, [], Some, sym, subst}
 use Rattle.deck_definitions.specs.Written.{card_text}
 use Rattle.listing_definitions.specs.Report.{Report}
 use Rattle.listing_definitions.specs.Ending.{Ending, Ended, WordsRefused, ControlStop, VerbStop, DeckStop, CardStop, LimitStop, StatementLimit, OverflowStop, ReadFault, PrintFault, PunchFault, Memory, status_of}
-use Rattle.listing_definitions.specs.Listing.{listing, reports_text, ending_text}
+use Rattle.listing_definitions.specs.Listing.{listing}
 use Rattle.question_definitions.specs.Solving.{Solving}
 use Rattle.job_devices.specs.Text.{IsFront}
 use Rattle.run_definitions.specs.Answer as run
