@@ -1,5 +1,5 @@
 #!/usr/bin/env bash
-# Proves every crate below the program, and builds it. The first time that takes about 20 minutes on four processors; what is
+# Proves every crate below the program, and builds it. The first time that takes some 25 minutes on four processors; what is
 # proved stays so, and later runs prove only what changed.
 # usage: scripts/build.sh      a line for each crate, and in the end the program's path; ends with 70 where it can't be built
 set -eu
