@@ -20,33 +20,45 @@ command -v rt >/dev/null || {
     exit 70
 }
 
+room=$(mktemp -d)
+trap 'rm -rf "$room"' EXIT
+
 # the crates below the program, itself included, by crates.txt
-count=$(awk '{ sub(/#.*/, "") }
-    index($0, ":") { name = $1; sub(/:$/, "", name); sub(/^[^:]*:/, ""); below[name] = $0 }
+awk '{ sub(/#.*/, "") }
+    index($0, ":") { line[++lines] = $0; name = $1; sub(/:$/, "", name); named[lines] = name; sub(/^[^:]*:/, ""); below[name] = $0 }
     END {
         wanted[1] = "mps360"; last = 1
         for (at = 1; at <= last; at++) {
             if (!(wanted[at] in below) || (wanted[at] in seen)) continue
-            seen[wanted[at]] = 1; found++
+            seen[wanted[at]] = 1
             parts = split(below[wanted[at]], part, " ")
             for (k = 1; k <= parts; k++) wanted[++last] = part[k]
         }
-        print found
-    }' "$top/crates.txt")
+        for (k = 1; k <= lines; k++) if (named[k] in seen) print line[k]
+    }' "$top/crates.txt" >"$room/crates.txt"
+count=$(wc -l <"$room/crates.txt")
 echo "the program and the crates below it: $count. What is proved already is passed over."
 
-log=$(mktemp)
-trap 'rm -f "$log"' EXIT
+# The gate's own command, over a copy that has these crates alone, without must-fail edits: it proves as many at once as there are
+# processors, and keeps what it has proved.
+cp "$top/HANDLES" "$room/"
+sed 's/:.*//' "$room/crates.txt" | while read -r crate; do
+    mkdir -p "$room/crates/$crate"
+    for part in "$top/crates/$crate"/*; do
+        case ${part##*/} in out | must-fail) ;; *) cp -r "$part" "$room/crates/$crate/" ;; esac
+    done
+done
 begun=$SECONDS
-status=0
-(cd "$top/crates/mps360" && rt run </dev/null 2>&1 >/dev/null) | tee "$log" |
-    awk -v count="$count" '/^crate [a-z0-9_]+:/ { name = $2; sub(/:$/, "", name); if (!(name in seen)) { seen[name] = 1; k++
-        printf "crate %d of %d: %s\n", k, count, name; fflush() } }' || status=$?
-# rt runs the program only where it is proved over the sources as they stand, also where it had nothing to build anew
-if grep -q '^rt: running out/mps360' "$log"; then touch "$top/crates/mps360/out/mps360"; fi
-program=$("$top/scripts/program.sh" --fresh) || {
-    tail -n 8 "$log" >&2
+(cd "$room" && rt ci </dev/null 2>&1) | tee "$room/log" |
+    awk -v count="$count" '/^rt: [a-z0-9_]+ (proved|is kept)/ { name = $2; if (!(name in seen)) { seen[name] = 1; k++
+        printf "crate %d of %d: %s\n", k, count, name; fflush() } }' || true
+if ! tail -n 1 "$room/log" | grep -q ', 0 failed$'; then
+    tail -n 8 "$room/log" >&2
     echo "build.sh: not built; the last lines of rt stand above" >&2
     exit 70
-}
+fi
+program=$top/crates/mps360/out/mps360
+mkdir -p "${program%/*}"
+cp "$room/crates/mps360/out/mps360" "$program"
+chmod 755 "$program"
 echo "built in $(((SECONDS - begun) / 60)) minutes $(((SECONDS - begun) % 60)) seconds: $program"

@@ -19,7 +19,7 @@ end() {
 [[ $# -eq 1 && $1 != "" && $1 != -* ]] || end 64 "usage: scripts/install.sh PREFIX"
 scripts=$(cd "$(dirname "$0")" && pwd)
 program=$("$scripts/program.sh" --fresh) ||
-    end 70 "install.sh: no proved program is there; scripts/build.sh proves and builds it, in about 20 minutes"
+    end 70 "install.sh: no proved program is there; scripts/build.sh proves and builds it, in some 25 minutes"
 prefix=$1
 home=$prefix/libexec/mps360
 mkdir -p "$home/faults" "$prefix"/{bin,share/man/man1,share/bash-completion/completions} || end 73 "install.sh: can't write to $prefix"
