@@ -45,7 +45,7 @@ cp "$top/HANDLES" "$room/"
 sed 's/:.*//' "$room/crates.txt" | while read -r crate; do
     mkdir -p "$room/crates/$crate"
     for part in "$top/crates/$crate"/*; do
-        case ${part##*/} in out | must-fail) ;; *) cp -r "$part" "$room/crates/$crate/" ;; esac
+        case ${part##*/} in out | must-fail | '*') ;; *) cp -r "$part" "$room/crates/$crate/" ;; esac
     done
 done
 begun=$SECONDS
