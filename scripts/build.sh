@@ -61,4 +61,6 @@ program=$top/crates/mps360/out/mps360
 mkdir -p "${program%/*}"
 cp "$room/crates/mps360/out/mps360" "$program"
 chmod 755 "$program"
+# as old as the copy, so that it isn't fresh where a source was changed while it was proved
+touch -r "$room/crates.txt" "$program"
 echo "built in $(((SECONDS - begun) / 60)) minutes $(((SECONDS - begun) % 60)) seconds: $program"
