@@ -10,8 +10,9 @@ use Rattle.lp_definitions.specs.declared.Evidence.{Evidence}
 use Rattle.lp_definitions.specs.declared.Status.{Status}
 use Rattle.lp_model.specs.declared.reports.Outcome.{Outcome}
 use Rattle.lp_model.specs.declared.reports.Outcome.TheVariants.{Optimal, Crossed, Infeasible, Unbounded}
-use Rattle.method_definitions.specs.Path.{PathEnding, EndsOptimal, EndsCrossed, EndsInfeasible, EndsUnbounded, IsPath, PathEnds, GoesOnFor, last_of}
+use Rattle.method_definitions.specs.Path.{PathEnding, EndsOptimal, EndsCrossed, EndsInfeasible, EndsUnbounded, Rule, turn, RulePath, RulePathEnds, RuleGoesOn, last_of}
 use Rattle.method_definitions.specs.Counts.{counted_steps}
+use Rattle.method_definitions.specs.Statements.{SolvingStatement}
 use Rattle.method_definitions.specs.Evidence.{EvidenceHolds}
 use Rattle.basis_values.specs.Calls.{LieIn, job_of}
 
@@ -23,34 +24,48 @@ outcome_of steps (EndsInfeasible w) = Infeasible steps w
 outcome_of steps (EndsUnbounded z d) = Unbounded steps z d
 
 -- the path from s to now has ended within the limit, and the outcome has the count of its steps
-pub record CallEnds (p : LinearProgram) (s now : List Status) (limit : ℕ) (outcome : Outcome) : Type 0 where
+pub record RuleCallEnds (rule : Rule) (p : LinearProgram) (s now : List Status) (limit : ℕ) (outcome : Outcome) : Type 0 where
   pub bases : List (List Status)
   pub ending : PathEnding
-  pub ends : PathEnds p s bases ending
+  pub ends : RulePathEnds rule p s bases ending
   pub reaches : last_of s bases ≡ now
   pub within : length bases ≤ limit
   pub is_outcome : outcome ≡ outcome_of (counted_steps (length bases)) ending
 
 -- after as many steps as the limit, there is one more
-pub record PathGoesOn (p : LinearProgram) (s now : List Status) (limit : ℕ) : Type 0 where
-  pub goes_on : GoesOnFor p s limit
+pub record RuleCallGoesOn (rule : Rule) (p : LinearProgram) (s now : List Status) (limit : ℕ) : Type 0 where
+  pub goes_on : RuleGoesOn rule p s limit
   pub reaches : last_of s goes_on.bases ≡ now
 
 -- the path from s to now; and for every list of bases that ends with s, in which the waypoints lay before, they lie after in that
 -- list followed by this path
-pub record WaypointsFollow (p : LinearProgram) (s now : List Status) (before after : List Basics) : Type 0 where
+pub record RuleWaypointsFollow (rule : Rule) (p : LinearProgram) (s now : List Status) (before after : List Basics) : Type 0 where
   pub bases : List (List Status)
-  pub is_path : IsPath p s bases
+  pub is_path : RulePath rule p s bases
   pub reaches : last_of s bases ≡ now
   pub lie : (earlier : List (List Status)) → LieIn p.matrix before (earlier ++ s ∷ []) → LieIn p.matrix after (earlier ++ s ∷ bases)
 
 -- the path from s to now, within the limit; and for every list of bases that ends with s, in which the waypoints lay before the
 -- call, the evidence holds on that list followed by this path
-pub record StopsOnPath (p : LinearProgram) (s now : List Status) (limit : ℕ) (before after : List Basics) (e : Evidence) : Type 0 where
+pub record RuleStopsOnPath (rule : Rule) (statement : SolvingStatement) (p : LinearProgram) (s now : List Status) (limit : ℕ) (before after : List Basics) (e : Evidence) : Type 0 where
   pub bases : List (List Status)
-  pub is_path : IsPath p s bases
+  pub is_path : RulePath rule p s bases
   pub reaches : last_of s bases ≡ now
   pub within : length bases ≤ limit
   pub is_way : e.way ≤ length after
   pub shows : (earlier : List (List Status)) → LieIn p.matrix before (earlier ++ s ∷ []) →
-      EvidenceHolds (job_of p p.change) None (limit - length bases) (earlier ++ s ∷ bases) [] now (waypoint (basics_of now) after e.way) e
+      EvidenceHolds statement None (limit - length bases) (earlier ++ s ∷ bases) [] now (waypoint (basics_of now) after e.way) e
+
+-- ---- those of the simplex method
+
+abbrev pub CallEnds : LinearProgram → List Status → List Status → ℕ → Outcome → Type 0
+CallEnds = RuleCallEnds turn
+
+abbrev pub PathGoesOn : LinearProgram → List Status → List Status → ℕ → Type 0
+PathGoesOn = RuleCallGoesOn turn
+
+abbrev pub WaypointsFollow : LinearProgram → List Status → List Status → List Basics → List Basics → Type 0
+WaypointsFollow = RuleWaypointsFollow turn
+
+abbrev pub StopsOnPath : LinearProgram → List Status → List Status → ℕ → List Basics → List Basics → Evidence → Type 0
+StopsOnPath p = RuleStopsOnPath turn (job_of p p.change) p

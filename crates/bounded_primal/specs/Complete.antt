@@ -13,23 +13,31 @@ use Rattle.lp_definitions.specs.declared.Status.{Status}
 use Rattle.lp_model.specs.declared.Stop.{Stop}
 use Rattle.lp_model.specs.declared.Stop.TheVariants as stop
 use Rattle.lp_model.specs.declared.reports.Outcome.{Outcome}
-use Rattle.method_definitions.specs.Path.{PathEnding, PathEnds, last_of}
+use Rattle.method_definitions.specs.Path.{PathEnding, Rule, turn, PathEnds, RulePathEnds, last_of}
+use Rattle.method_definitions.specs.Statements.{SolvingStatement}
 use Rattle.method_definitions.specs.Counts.{counted_steps}
 use Rattle.termination_laws.specs.Laws.{lists_of}
-use Rattle.bounded_primal.specs.Calls.{outcome_of, StopsOnPath}
+use Rattle.basis_values.specs.Calls.{job_of}
+use Rattle.bounded_primal.specs.Calls.{outcome_of, RuleStopsOnPath}
 use Rattle.bounded_primal.specs.declared.moves.PrimalStop.{PrimalStop}
 use Rattle.bounded_primal.specs.declared.moves.PrimalStop.TheVariants.{NoMemory}
 
 -- for every basis that the path from s reaches within the limit, and for all waypoints there
-abbrev pub HasNoEvidence : LinearProgram → List Status → ℕ → List Basics → Type 0
-HasNoEvidence p s limit before =
-    (at : List Status) (ways : List Basics) (e : Evidence) → StopsOnPath p s at limit before ways e → ⊥
+abbrev pub RuleNoEvidence : Rule → SolvingStatement → LinearProgram → List Status → ℕ → List Basics → Type 0
+RuleNoEvidence rule statement p s limit before =
+    (at : List Status) (ways : List Basics) (e : Evidence) → RuleStopsOnPath rule statement p s at limit before ways e → ⊥
 
-pub record EndsUnhindered (p : LinearProgram) (s : List Status) (limit : ℕ) (before : List Basics)
+abbrev pub HasNoEvidence : LinearProgram → List Status → ℕ → List Basics → Type 0
+HasNoEvidence p = RuleNoEvidence turn (job_of p p.change) p
+
+pub record RuleEndsUnhindered (rule : Rule) (statement : SolvingStatement) (p : LinearProgram) (s : List Status) (limit : ℕ) (before : List Basics)
     (bases : List (List Status)) (ending : PathEnding) : Type 0 where
-  pub ends : PathEnds p s bases ending
+  pub ends : RulePathEnds rule p s bases ending
   pub within : length bases ≤ limit
-  pub no_evidence : HasNoEvidence p s limit before
+  pub no_evidence : RuleNoEvidence rule statement p s limit before
+
+abbrev pub EndsUnhindered : LinearProgram → List Status → ℕ → List Basics → List (List Status) → PathEnding → Type 0
+EndsUnhindered p = RuleEndsUnhindered turn (job_of p p.change) p
 
 -- no path has as many steps as there are status lists, so that is no limit
 pub record EndsFreely (p : LinearProgram) (s : List Status) (before : List Basics)

@@ -53,10 +53,14 @@ bound_cards set = map (λ bound. data_card (bound_kind_text bound.kind) set.name
 abbrev pub set_section : {X : Type 0} → List ℕ → (Group X → List (List ℕ)) → List (Group X) → List (List ℕ)
 set_section word cards sets = if is_empty sets then [] else word ∷ flat_map cards sets
 
+-- the card that a deck begins with
+abbrev pub name_card : Name → List ℕ
+name_card name = without_trailing is_blank (codes "NAME          " ++ name)
+
 -- The cards written for a problem: one per row, one per entry and one per item of a set, each under its section's card.
 unfoldable pub written : Problem Name → List (List ℕ)
 written problem =
-    without_trailing is_blank (codes "NAME          " ++ problem.name) ∷
+    name_card problem.name ∷
     codes "ROWS" ∷ (map row_card problem.rows ++
     codes "COLUMNS" ∷ (flat_map (column_cards problem.rows) problem.columns ++
     set_section (codes "RHS") entry_cards problem.rhs ++

@@ -85,6 +85,15 @@ pub enum DeckFaultKind {
     /// What is to be modified isn't there.
     #[error("what is to be modified isn't there")]
     ModifyMissing,
+    /// Field 1 of a card of a basis deck is no code.
+    #[error("a code is unknown")]
+    BadBasisCode,
+    /// A card of a basis deck before names the column or the row.
+    #[error("a variable is named twice")]
+    NamedTwice,
+    /// The variable hasn't the limit at which it is to stand.
+    #[error("there is no such limit")]
+    NoSuchLimit,
 }
 
 /// A refused card, by its number in the job, from 1.

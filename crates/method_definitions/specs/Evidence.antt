@@ -13,7 +13,7 @@ use Rattle.lp_definitions.specs.declared.Evidence.{Evidence}
 use Rattle.lp_definitions.specs.declared.Status.{Status}
 use Rattle.method_definitions.specs.Path.{Move, after}
 use Rattle.method_definitions.specs.Formulas.{PointFormula, SlackFormula, MoveFormula, RatioFormula, RangeFormula, ObjectiveFormula, ShiftFormula, SlopeFormula}
-use Rattle.method_definitions.specs.Statements.{SolvingStatement, Primal, Range, is_between, belongs, program_at, change_row, shift_at, thetas_of, MovesAt, EntersAt, BringsAt}
+use Rattle.method_definitions.specs.Statements.{SolvingStatement, Primal, Dual, Range, is_between, belongs, program_at, change_row, shift_at, thetas_of, MovesAt, EntersAt, BringsAt}
 
 -- the formula tells of an exchange at a waypoint
 abbrev pub names_waypoint : ℕ → Bool
@@ -65,6 +65,7 @@ GoesTo statement break s e to = IsLeaver statement break s e to
 -- PRIMAL takes a step at s
 abbrev pub TakesStep : SolvingStatement → Option ℚ → List Status → Type 0
 TakesStep (Primal p) break s = (m : Move) × MovesAt (Primal p) break s m
+TakesStep (Dual p) break s = (m : Move) × MovesAt (Dual p) break s m
 TakesStep _ break s = Unit {0}
 
 -- in formulas 7 to 9, q is what is moved at s; in 14, i is what is brought back, and j may bring it; and 6 belongs to a basis at

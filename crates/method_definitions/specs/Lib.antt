@@ -2,6 +2,7 @@ pub mod Moves
 pub mod Path
 pub mod Counts
 pub mod DualRatio
+pub mod DualPath
 pub mod Ranges
 pub mod Chain
 pub mod ObjectiveRun

@@ -102,34 +102,57 @@ module _ (p : LinearProgram) (s : List Status) (t : Tableau) where
   unfoldable pub turn : Turn
   turn = turn_for crossed outside
 
-pub record IsStep (p : LinearProgram) (s next : List Status) : Type 0 where
-  pub tableau : Tableau
-  pub is_tableau : IsTableau p s tableau
-  pub move : Move
-  pub turns : turn p s tableau ≡ Moves move
-  pub is_next : next ≡ after s move
+-- ---- steps and paths by a rule, which says what is done at a basis with its point and its rates
 
-pub record EndsAt (p : LinearProgram) (s : List Status) (ending : PathEnding) : Type 0 where
-  pub tableau : Tableau
-  pub is_tableau : IsTableau p s tableau
-  pub turns : turn p s tableau ≡ Ends ending
-
-abbrev pub IsPath : LinearProgram → List Status → List (List Status) → Type 0
-IsPath p s [] = Unit {0}
-IsPath p s (next ∷ bases) = IsStep p s next × IsPath p next bases
+abbrev pub Rule : Type 0
+Rule = LinearProgram → List Status → Tableau → Turn
 
 abbrev pub last_of : List Status → List (List Status) → List Status
 last_of s [] = s
 last_of s (next ∷ bases) = last_of next bases
 
-pub record PathEnds (p : LinearProgram) (s : List Status) (bases : List (List Status)) (ending : PathEnding) : Type 0 where
-  pub is_path : IsPath p s bases
-  pub ends : EndsAt p (last_of s bases) ending
+module _ (rule : Rule) (p : LinearProgram) where
+  pub record RuleStep (s next : List Status) : Type 0 where
+    pub tableau : Tableau
+    pub is_tableau : IsTableau p s tableau
+    pub move : Move
+    pub turns : rule p s tableau ≡ Moves move
+    pub is_next : next ≡ after s move
 
--- after these steps there is one more
-pub record GoesOnFor (p : LinearProgram) (s : List Status) (steps : ℕ) : Type 0 where
-  pub bases : List (List Status)
-  pub is_path : IsPath p s bases
-  pub taken : length bases ≡ steps
-  pub next : List Status
-  pub is_step : IsStep p (last_of s bases) next
+  pub record RuleEnd (s : List Status) (ending : PathEnding) : Type 0 where
+    pub tableau : Tableau
+    pub is_tableau : IsTableau p s tableau
+    pub turns : rule p s tableau ≡ Ends ending
+
+  abbrev pub RulePath : List Status → List (List Status) → Type 0
+  RulePath s [] = Unit {0}
+  RulePath s (next ∷ bases) = RuleStep s next × RulePath next bases
+
+  pub record RulePathEnds (s : List Status) (bases : List (List Status)) (ending : PathEnding) : Type 0 where
+    pub is_path : RulePath s bases
+    pub ends : RuleEnd (last_of s bases) ending
+
+  -- after these steps there is one more
+  pub record RuleGoesOn (s : List Status) (steps : ℕ) : Type 0 where
+    pub bases : List (List Status)
+    pub is_path : RulePath s bases
+    pub taken : length bases ≡ steps
+    pub next : List Status
+    pub is_step : RuleStep (last_of s bases) next
+
+-- ---- those of the simplex method
+
+abbrev pub IsStep : LinearProgram → List Status → List Status → Type 0
+IsStep = RuleStep turn
+
+abbrev pub EndsAt : LinearProgram → List Status → PathEnding → Type 0
+EndsAt = RuleEnd turn
+
+abbrev pub IsPath : LinearProgram → List Status → List (List Status) → Type 0
+IsPath = RulePath turn
+
+abbrev pub PathEnds : LinearProgram → List Status → List (List Status) → PathEnding → Type 0
+PathEnds = RulePathEnds turn
+
+abbrev pub GoesOnFor : LinearProgram → List Status → ℕ → Type 0
+GoesOnFor = RuleGoesOn turn

@@ -11,7 +11,9 @@ use Rattle.lp_definitions.specs.LinearProgram.{LinearProgram, Vector}
 use Rattle.lp_definitions.specs.Basis.{Tableau, IsTableau}
 use Rattle.lp_definitions.specs.declared.Evidence.{Evidence}
 use Rattle.lp_definitions.specs.declared.Status.{Status}
-use Rattle.method_definitions.specs.Path.{Move, Moves, turn, crossed, outside, mover}
+use Rattle.method_definitions.specs.Moves.{is_below}
+use Rattle.method_definitions.specs.Path.{Move, Moves, Rule, turn, crossed, outside, mover}
+use Rattle.method_definitions.specs.DualPath.{dual_turn}
 use Rattle.method_definitions.specs.Chain.{FaceMoves}
 use Rattle.method_definitions.specs.ObjectiveRun.{objective_family, face_mover, IsObjectiveFace}
 use Rattle.method_definitions.specs.DualRatio.{brings_back}
@@ -19,6 +21,7 @@ use Rattle.method_definitions.specs.RhsRun.{rhs_family, shift_of, IsRhsFace, IsS
 
 pub data SolvingStatement : Type 0 where
   Primal : LinearProgram → SolvingStatement
+  Dual : LinearProgram → SolvingStatement
   Solution : LinearProgram → SolvingStatement
   Range : LinearProgram → SolvingStatement
   Paraobj : LinearProgram → ℕ → ℚ → SolvingStatement
@@ -30,6 +33,7 @@ is_between low high n = nat_le low n && nat_le n high
 -- the formulas 1 to 5, 11 and 12 are those of an inverse; 13 is that of a limit
 abbrev pub has_formula : SolvingStatement → ℕ → Bool
 has_formula (Primal p) f = is_between 1 12 f
+has_formula (Dual p) f = is_between 1 14 f
 has_formula (Solution p) f = is_between 1 6 f || is_between 10 12 f
 has_formula (Range p) f = is_between 1 12 f || is_between 14 15 f
 has_formula (Paraobj p h from) f = is_between 1 13 f || is_between 16 17 f
@@ -46,6 +50,7 @@ belongs statement e = has_formula statement e.formula && (not (nat_eq e.formula 
 -- the linear program at a value of the parameter
 abbrev pub program_at : SolvingStatement → ℚ → LinearProgram
 program_at (Primal p) theta = p
+program_at (Dual p) theta = p
 program_at (Solution p) theta = p
 program_at (Range p) theta = p
 program_at (Paraobj p h from) theta = objective_family p h theta
@@ -67,9 +72,12 @@ thetas_of (Paraobj p h from) ends = zero_ℚ ∷ from ∷ ends
 thetas_of (Pararhs p shift from) ends = zero_ℚ ∷ from ∷ ends
 thetas_of _ ends = zero_ℚ ∷ []
 
--- the path makes this move at s
+-- the path by a rule makes this move at s
+abbrev pub RuleMoves : Rule → LinearProgram → List Status → Move → Type 0
+RuleMoves rule p s m = (t : Tableau) × IsTableau p s t × (rule p s t ≡ Moves m)
+
 abbrev pub PathMoves : LinearProgram → List Status → Move → Type 0
-PathMoves p s m = (t : Tableau) × IsTableau p s t × (turn p s t ≡ Moves m)
+PathMoves = RuleMoves turn
 
 -- the path moves q at s, be it stopped or not; where a variable is crossed, nothing is moved
 abbrev pub PathEnters : LinearProgram → List Status → ℕ → Type 0
@@ -78,6 +86,7 @@ PathEnters p s q = (t : Tableau) × IsTableau p s t × (crossed p s t ≡ None) 
 -- break is the value at which a parametric run takes face steps, if it is at one
 abbrev pub MovesAt : SolvingStatement → Option ℚ → List Status → Move → Type 0
 MovesAt (Primal p) break s m = PathMoves p s m
+MovesAt (Dual p) break s m = RuleMoves dual_turn p s m
 MovesAt (Paraobj p h from) None s m = PathMoves (objective_family p h from) s m
 MovesAt (Paraobj p h from) (Some theta) s m = IsObjectiveFace p h theta s (FaceMoves m)
 MovesAt (Pararhs p shift from) None s m = PathMoves (rhs_family p shift from) s m
@@ -87,6 +96,7 @@ MovesAt _ break s m = ⊥
 -- a report of intervals asks for every variable
 abbrev pub EntersAt : SolvingStatement → Option ℚ → List Status → ℕ → Type 0
 EntersAt (Primal p) break s q = PathEnters p s q
+EntersAt (Dual p) break s q = (m : Move) × RuleMoves dual_turn p s m × (m.enters ≡ q)
 EntersAt (Range p) break s q = Unit {0}
 EntersAt (Paraobj p h from) None s q = PathEnters (objective_family p h from) s q
 EntersAt (Paraobj p h from) (Some theta) s q =
@@ -98,6 +108,8 @@ EntersAt (Solution p) break s q = ⊥
 
 abbrev pub BringsAt : SolvingStatement → Option ℚ → List Status → ℕ → ℕ → Type 0
 BringsAt (Range p) break s i j = Unit {0}
+BringsAt (Dual p) break s i j =
+    (t : Tableau) × IsTableau p s t × (crossed p s t ≡ None) × (outside p s t ≡ Some i) × IsTrue (brings_back p s t i (is_below p t.point i) j)
 BringsAt (Pararhs p shift from) (Some theta) s i j =
     let at_theta : LinearProgram = rhs_family p shift theta in
     (t : Tableau) × (v : Vector) × IsTableau at_theta s t × IsSlope at_theta s shift v × (leaving at_theta shift theta s t v ≡ Some i)

@@ -46,7 +46,7 @@ module _ (p : LinearProgram) (s : List Status) (basis : IsBasis p s) where
           ap (λ v. (lt_ℚ v zero_ℚ && (rises_from (status_of s k) && not (is_fixed p k))) || (lt_ℚ zero_ℚ v && (falls_from (status_of s k) && not (is_fixed p k)))) (same (is, mark))
 
   -- quantities with the same rates at the nonbasics are lowered by the same variable
-  entering_same : (f g : Vector) → ((k : ℕ) → IsNonbasic p.matrix (basics_of s) k → f k ≡ g k) → entering p s f ≡ entering p s g
+  pub entering_same : (f g : Vector) → ((k : ℕ) → IsNonbasic p.matrix (basics_of s) k → f k ≡ g k) → entering p s f ≡ entering p s g
   entering_same f g same = find_same (lowers p s f) (lowers p s g) (size p.matrix) 1 (λ k low high. lowers_same f g k (low, omega (arith, high)) (same k))
 
 pub listed_same : (a : Matrix) (v w : Vector) → ((k : ℕ) → IsVariable a k → v k ≡ w k) → listed a v ≡ listed a w
@@ -70,15 +70,15 @@ stopper_same p z y v w first second =
     rooms k is = room_same p z y v w k (first k is) (second k is)
 
 module _ (p : LinearProgram) (s : List Status) (t u : Tableau) (lawful : IsLinearProgram p) (basis : IsBasis p s) (same : SameTableau p s t u) where
-  outside_same : outside p s t ≡ outside p s u
+  pub outside_same : outside p s t ≡ outside p s u
   outside_same =
       find_same (λ k. is_in (basics_of s) k && is_outside p t.point k) (λ k. is_in (basics_of s) k && is_outside p u.point k) (size p.matrix) 1 (λ k low high.
       ap (λ v. is_in (basics_of s) k && (on_limit (λ l. lt_ℚ v l) (lower_of p k) || on_limit (λ h. lt_ℚ h v) (upper_of p k))) (same.points k (low, omega (arith, high))))
 
-  below_same : (r : ℕ) → IsVariable p.matrix r → is_below p t.point r ≡ is_below p u.point r
+  pub below_same : (r : ℕ) → IsVariable p.matrix r → is_below p t.point r ≡ is_below p u.point r
   below_same r is = ap (λ v. on_limit (λ l. lt_ℚ v l) (lower_of p r)) (same.points r is)
 
-  worth_same : (q : ℕ) → IsNonbasic p.matrix (basics_of s) q → worth_rate p s t q ≡ worth_rate p s u q
+  pub worth_same : (q : ℕ) → IsNonbasic p.matrix (basics_of s) q → worth_rate p s t q ≡ worth_rate p s u q
   worth_same q out = ap (for_min p.sense) (objective_value-same p (λ i. t.rate i q) (λ i. u.rate i q) lawful (λ i is. same.rates i q is out))
 
   prices_same : (k : ℕ) → IsVariable p.matrix k → price_at p (basics_of s) t.rate k ≡ price_at p (basics_of s) u.rate k
@@ -97,7 +97,7 @@ module _ (p : LinearProgram) (s : List Status) (t u : Tableau) (lawful : IsLinea
       at false true e = refl
       at false false e = ap (signed below) (same.rates r k found (is, e))
 
-  back_same : (r : ℕ) → IsVariable p.matrix r → (o : Option ℕ) → bring_back p s t r o ≡ bring_back p s u r o
+  pub back_same : (r : ℕ) → IsVariable p.matrix r → (o : Option ℕ) → bring_back p s t r o ≡ bring_back p s u r o
   back_same r is (Some q) = ap (λ b. Moves (record { enters = q; leaves = r; to = if b then Ll else Ul })) (below_same r is)
   back_same r is None =
       ap (λ b. Ends (EndsInfeasible (listed p.matrix (ray_of (basics_of s) t.rate r b)))) (below_same r is)
@@ -110,14 +110,14 @@ module _ (p : LinearProgram) (s : List Status) (t u : Tableau) (lawful : IsLinea
   speeds_same : (q : ℕ) → IsNonbasic p.matrix (basics_of s) q → (k : ℕ) → IsVariable p.matrix k → speeds t.rate (goes_up (worth_rate p s t) q) q k ≡ speeds u.rate (goes_up (worth_rate p s u) q) q k
   speeds_same q out k is = ap₂ (λ r v. signed (lt_ℚ r zero_ℚ) v) (worth_same q out) (same.rates k q is out)
 
-  better_same : (o : Option ℕ) → ((q : ℕ) → o ≡ Some q → IsNonbasic p.matrix (basics_of s) q) → better p s t o ≡ better p s u o
+  pub better_same : (o : Option ℕ) → ((q : ℕ) → o ≡ Some q → IsNonbasic p.matrix (basics_of s) q) → better p s t o ≡ better p s u o
   better_same (Some q) out =
       let h = speeds_same q (out q refl) in
       ap (run_until p s t q (speeds t.rate (goes_up (worth_rate p s t) q) q)) (stopper_same p t.point u.point _ _ same.points h)
       ∙ run_same q _ _ h (stopper p u.point (speeds u.rate (goes_up (worth_rate p s u) q) q)) (λ k e. let f = find_some _ (size p.matrix) 1 k e in (f.low, omega (arith, f.high)))
   better_same None out = ap₂ (λ xs ys. Ends (EndsOptimal xs ys)) (listed_same p.matrix t.point u.point same.points) (listed_same p.matrix _ _ prices_same)
 
-  excess_same : (r : ℕ) → IsVariable p.matrix r → (q : ℕ) → IsNonbasic p.matrix (basics_of s) q → excess_rate t.rate r (is_below p t.point r) q ≡ excess_rate u.rate r (is_below p u.point r) q
+  pub excess_same : (r : ℕ) → IsVariable p.matrix r → (q : ℕ) → IsNonbasic p.matrix (basics_of s) q → excess_rate t.rate r (is_below p t.point r) q ≡ excess_rate u.rate r (is_below p u.point r) q
   excess_same r is q out = ap₂ (λ b v. signed (not b) v) (below_same r is) (same.rates r q is out)
 
   turns_same : (c o : Option ℕ) → ((r : ℕ) → o ≡ Some r → IsVariable p.matrix r) → turn_for p s t c o ≡ turn_for p s u c o

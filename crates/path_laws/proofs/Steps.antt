@@ -21,7 +21,7 @@ use Rattle.method_definitions.specs.Moves.{is_below, signed, goes_up, limit_ahea
 use Rattle.method_definitions.specs.Path.{Move, Moves, after, speeds, IsStep, excess_rate, worth_rate}
 use Rattle.path_laws.specs.Laws.{IsNonsingularBasis}
 use Rattle.path_laws.proofs.Stoppers.{stopper_some, reaches_limit}
-use Rattle.path_laws.proofs.Turns.{IsBroughtTurn, IsStoppedTurn, MovingRule, brings, stops, moving_turn, bettering, rule_of}
+use Rattle.path_laws.proofs.Turns.{IsFirstPhase, IsBroughtTurn, IsStoppedTurn, MovingRule, brings, stops, moving_turn, bettering, rule_of}
 use Rattle.path_laws.proofs.Endless.{IsEntering, enters}
 use Rattle.path_laws.proofs.Rays.{Breaks, breaks_lower, breaks_upper, broken_basic, broken_limit}
 
@@ -147,25 +147,27 @@ module _ (p : LinearProgram) (s : List Status) (t : Tableau) (basis : IsBasis p 
   motion_leads = by_number (eqb_tells k q)
 
 module _ (p : LinearProgram) (s : List Status) (t : Tableau) (basis : IsBasis p s) (one : IsNonsingular p.matrix (basics_of s)) (tab : IsTableau p s t) where
+  -- what lowers the excess of a basic outside its limits may take its place
+  pub returned_leads : (r q : ℕ) → IsFirstPhase p s t r → IsEntering p s (excess_rate t.rate r (is_below p t.point r)) q →
+      LeadsTo p (after s (record { enters = q; leaves = r; to = if is_below p t.point r then Ll else Ul }))
+  returned_leads r q phase entered = exchange_leads p s t basis one tab r q (if is_below p t.point r then Ll else Ul) (broken_basic p s t r phase) entered.nonbasic stands pivot
+    where
+      pivot : t.rate r q ≢ zero_ℚ
+      pivot zero = rate_apart p s (excess_rate t.rate r (is_below p t.point r)) q entered (ap (signed (not (is_below p t.point r))) zero ∙ signed_zero (not (is_below p t.point r)))
+
+      stands : MayStand p r (if is_below p t.point r then Ll else Ul)
+      stands = by_limit (broken_limit p s t r phase)
+        where
+          by_limit : Breaks (lower_of p r) (upper_of p r) (t.point r) (is_below p t.point r) → MayStand p r (if is_below p t.point r then Ll else Ul)
+          by_limit (breaks_lower l is limit broken) = rw is (record { nonbasic = lower_apart.0; limited = lower_apart.1; allowed = rw limit refl })
+          by_limit (breaks_upper u is limit broken) = rw is (record { nonbasic = upper_apart.0; limited = upper_apart.1; allowed = rw limit refl })
+
   -- first phase
   brought_leads : (m : Move) (r q : ℕ) → IsBroughtTurn p s t (Moves m) r q → LeadsTo p (after s m)
   brought_leads m r q h =
       let e = h.gives in
       let is : m ≡ record { enters = q; leaves = r; to = if is_below p t.point r then Ll else Ul } = cc in
-      subst (λ m. LeadsTo p (after s m)) (sym is) (exchange_leads p s t basis one tab r q (if is_below p t.point r then Ll else Ul) (broken_basic p s t r h.phase) entered.nonbasic stands pivot)
-    where
-      entered : IsEntering p s (excess_rate t.rate r (is_below p t.point r)) q
-      entered = enters p s (excess_rate t.rate r (is_below p t.point r)) q basis h.moves
-
-      pivot : t.rate r q ≢ zero_ℚ
-      pivot zero = rate_apart p s (excess_rate t.rate r (is_below p t.point r)) q entered (ap (signed (not (is_below p t.point r))) zero ∙ signed_zero (not (is_below p t.point r)))
-
-      stands : MayStand p r (if is_below p t.point r then Ll else Ul)
-      stands = by_limit (broken_limit p s t r h.phase)
-        where
-          by_limit : Breaks (lower_of p r) (upper_of p r) (t.point r) (is_below p t.point r) → MayStand p r (if is_below p t.point r then Ll else Ul)
-          by_limit (breaks_lower l is limit broken) = rw is (record { nonbasic = lower_apart.0; limited = lower_apart.1; allowed = rw limit refl })
-          by_limit (breaks_upper u is limit broken) = rw is (record { nonbasic = upper_apart.0; limited = upper_apart.1; allowed = rw limit refl })
+      subst (λ m. LeadsTo p (after s m)) (sym is) (returned_leads r q h.phase (enters p s (excess_rate t.rate r (is_below p t.point r)) q basis h.moves))
 
   -- second phase
   stopped_leads : (m : Move) (q k : ℕ) → IsStoppedTurn p s t (Moves m) q k → LeadsTo p (after s m)

@@ -11,7 +11,7 @@ use Rattle.lp_definitions.specs.Solutions.{IsFeasible, IsBest, AreProvingPrices,
 use Rattle.lp_definitions.specs.Basis.{basics_of, IsBasis, IsNonsingular, IsOptimalBasis, IsPointOf, ArePricesOf, Tableau, IsTableau, opening_statuses}
 use Rattle.lp_definitions.specs.declared.Status.{Status}
 use Rattle.method_definitions.specs.Moves.{least, is_no_later, room, stopper}
-use Rattle.method_definitions.specs.Path.{PathEnding, EndsOptimal, EndsCrossed, EndsInfeasible, EndsUnbounded, IsStep, EndsAt, IsPath, last_of, PathEnds, GoesOnFor}
+use Rattle.method_definitions.specs.Path.{PathEnding, EndsOptimal, EndsCrossed, EndsInfeasible, EndsUnbounded, turn, Rule, RulePathEnds, IsStep, EndsAt, IsPath, last_of, PathEnds, GoesOnFor}
 
 pub record IsNonsingularBasis (p : LinearProgram) (s : List Status) : Type 0 where
   pub is_basis : IsBasis p s
@@ -36,12 +36,15 @@ pub record HasTableau (p : LinearProgram) (s : List Status) : Type 0 where
   pub tableau : Tableau
   pub is_tableau : IsTableau p s tableau
 
--- the path from s ends after at most so many steps
-pub record EndsWithin (p : LinearProgram) (s : List Status) (steps : ℕ) : Type 0 where
+-- the path from s by a rule ends after at most so many steps
+pub record RuleEndsWithin (rule : Rule) (p : LinearProgram) (s : List Status) (steps : ℕ) : Type 0 where
   pub bases : List (List Status)
   pub ending : PathEnding
-  pub ends : PathEnds p s bases ending
+  pub ends : RulePathEnds rule p s bases ending
   pub within : length bases ≤ steps
+
+abbrev pub EndsWithin : LinearProgram → List Status → ℕ → Type 0
+EndsWithin = RuleEndsWithin turn
 
 -- the two paths go over the same bases and end alike
 pub record SameEnds (bases others : List (List Status)) (ending other : PathEnding) : Type 0 where

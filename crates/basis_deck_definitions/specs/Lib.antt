@@ -1,0 +1,4 @@
+pub mod Placings
+pub mod Reading
+pub mod Writing
+pub mod Dependencies

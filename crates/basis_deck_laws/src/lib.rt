@@ -1,0 +1,9 @@
+//! What is proved of basis decks.
+//! The functions here do nothing. Each promises laws, so that the check proves them.
+#![tactic(auto)]
+
+ghost use Rattle.basis_deck_laws.specs.Laws.{DependencyLaws};
+
+pub fn dependency_laws()
+    ensures { DependencyLaws }
+{}

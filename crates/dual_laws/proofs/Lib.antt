@@ -1,0 +1,9 @@
+pub mod Magnitudes
+pub mod Booleans
+pub mod Alike
+pub mod Movers
+pub mod Cheapest
+pub mod DualStep
+pub mod OneRatio
+pub mod DualTurns
+pub mod OneDualPath
