@@ -85,6 +85,18 @@ pub enum DeckFaultKind {
     /// What is to be modified isn't there.
     #[error("what is to be modified isn't there")]
     ModifyMissing,
+    /// A card of a free deck has a number of words that its section doesn't take.
+    #[error("a card has too few or too many words")]
+    WordCount,
+    /// A word for a name has more than 8 letters.
+    #[error("a name has more than 8 letters")]
+    LongName,
+    /// A word for a number has more than 12 characters.
+    #[error("a number has more than 12 characters")]
+    LongNumber,
+    /// An entry of a column stands on a combination of rows.
+    #[error("an entry stands on a combination")]
+    EntryOnCombination,
     /// Field 1 of a card of a basis deck is no code.
     #[error("a code is unknown")]
     BadBasisCode,

@@ -1,5 +1,5 @@
 -- One text after another, and where a stop comes between.
-use Rattle.std.proofs.Common.{◌≡◌, ℕ, List, [], ◌++◌, take, drop, Option, Some, None, Result, Ok, Err, sym, ◌∙◌, ap, append_assoc, length, get_or, suc, ◌-◌, ◌<◌, arith, subst}
+use Rattle.std.proofs.Common.{◌≡◌, ℕ, List, [], ◌++◌, take, drop, Option, Some, None, Result, Ok, Err, refl, sym, ◌∙◌, ap, append_assoc, length, get_or, suc, ◌-◌, ◌<◌, arith, subst}
 use Rattle.std.proofs.Math.Seq.{drop-cons}
 use Rattle.std.proofs.lemmas.List.Concat.{flat_map-append, flat_map-cons}
 use Rattle.std.proofs.lemmas.List.{append-nil, take-append-drop, take_all, length-drop}
@@ -53,13 +53,30 @@ moves_on front rest piece n e =
 
 -- a call that writes a text, and then one that writes the next
 pub writes_then : {P T U : Type 0} {written : P → Option (List ℕ)} {faults refusals : P → ℕ} {a b c : P} {r : Result T WriteStop} {done : U} {x y : List ℕ} → Writes written faults refusals a b (Ok done) x → Writes written faults refusals b c r y → Writes written faults refusals a c r (x ++ y)
-writes_then {written = written} {faults = faults} {refusals = refusals} {a = a} {b = b} {c = c} {r = r} {x = x} {y = y} p q = record {
-  bytes = Puts-then (written a) (written b) (written c) r x y p.bytes q.bytes;
+writes_then {written = written} {faults = faults} {refusals = refusals} {a = a} {b = b} {c = c} {r = Ok v} {x = x} {y = y} p q = record {
+  bytes = Puts-then {E = WriteStop} (written a) (written b) (written c) (Ok v) x y p.bytes q.bytes;
   cause = record {
     later = omega arith;
     later_refusals = omega arith;
     failed = λ h. let rose : Rose (faults b) (faults c) = q.cause.failed h in omega arith;
     no_memory = λ h. let rose : Rose (refusals b) (refusals c) = q.cause.no_memory h in omega arith;
+    no_fault = q.cause.no_fault ∙ p.cause.no_fault;
+    no_refusal = q.cause.no_refusal ∙ p.cause.no_refusal;
+    failed_alone = λ h. q.cause.failed_alone h ∙ p.cause.no_refusal;
+    wanted_alone = λ h. q.cause.wanted_alone h ∙ p.cause.no_fault;
+  };
+}
+writes_then {T = T} {written = written} {faults = faults} {refusals = refusals} {a = a} {b = b} {c = c} {r = Err e} {x = x} {y = y} p q = record {
+  bytes = Puts-then {T = T} (written a) (written b) (written c) (Err e) x y p.bytes q.bytes;
+  cause = record {
+    later = omega arith;
+    later_refusals = omega arith;
+    failed = λ h. let rose : Rose (faults b) (faults c) = q.cause.failed h in omega arith;
+    no_memory = λ h. let rose : Rose (refusals b) (refusals c) = q.cause.no_memory h in omega arith;
+    no_fault = tt;
+    no_refusal = tt;
+    failed_alone = λ h. q.cause.failed_alone h ∙ p.cause.no_refusal;
+    wanted_alone = λ h. q.cause.wanted_alone h ∙ p.cause.no_fault;
   };
 }
 
@@ -78,7 +95,7 @@ writes_same {written = written} {faults = faults} {refusals = refusals} {a = a} 
 pub writes_nothing : {P T : Type 0} (written : P → Option (List ℕ)) (faults refusals : P → ℕ) (a : P) (done : T) → Writes written faults refusals a a (Ok done) []
 writes_nothing written faults refusals a done = record {
   bytes = nothing (written a);
-  cause = record { later = omega arith; later_refusals = omega arith; failed = λ h. (cc); no_memory = λ h. (cc) };
+  cause = record { later = omega arith; later_refusals = omega arith; failed = λ h. (cc); no_memory = λ h. (cc); no_fault = refl; no_refusal = refl; failed_alone = λ h. refl; wanted_alone = λ h. refl };
 }
   where
     nothing : (known : Option (List ℕ)) → Appends known known []

@@ -9,7 +9,7 @@ use Rattle.problem_definitions.specs.Problem.{Problem, has_free_row, has_group, 
 use Rattle.problem_definitions.specs.Numbering.{by_names}
 use Rattle.deck_definitions.specs.declared.DeckFault.{DeckFault}
 use Rattle.deck_definitions.specs.declared.DeckFaultKind.{DeckFaultKind}
-use Rattle.deck_definitions.specs.declared.DeckFaultKind.TheVariants.{SectionOrder, UnknownSection, BadRowType, DuplicateRow, ColumnSplit, UnknownRow, DuplicateEntry, Number, RangeOnFree, BadBoundType, UnknownColumn, BoundTwice, NoEndata, Marker, EmptyName, TooManyRows, TooManyColumns, TooManyEntries, CombinationRow, ExtraField, UnknownAction, NoAnchor, DeleteMissing, ModifyMissing}
+use Rattle.deck_definitions.specs.declared.DeckFaultKind.TheVariants.{SectionOrder, UnknownSection, BadRowType, DuplicateRow, ColumnSplit, UnknownRow, DuplicateEntry, Number, RangeOnFree, BadBoundType, UnknownColumn, BoundTwice, NoEndata, Marker, EmptyName, TooManyRows, TooManyColumns, TooManyEntries, CombinationRow, ExtraField, UnknownAction, NoAnchor, DeleteMissing, ModifyMissing, WordCount, LongName, LongNumber, EntryOnCombination, BadBasisCode, NamedTwice, NoSuchLimit}
 use Rattle.deck_definitions.specs.Conversion.{conversion}
 use Rattle.deck_definitions.specs.Written.{written}
 use Rattle.deck_definitions.specs.Decks.{deck_taken}
@@ -63,6 +63,13 @@ deck_fault_number UnknownAction = 21
 deck_fault_number NoAnchor = 22
 deck_fault_number DeleteMissing = 23
 deck_fault_number ModifyMissing = 24
+deck_fault_number WordCount = 25
+deck_fault_number LongName = 26
+deck_fault_number LongNumber = 27
+deck_fault_number EntryOnCombination = 28
+deck_fault_number BadBasisCode = 30
+deck_fault_number NamedTwice = 31
+deck_fault_number NoSuchLimit = 32
 
 -- the number of a number's fault, and the column of a bad character
 abbrev pub number_fault_of : DeckFaultKind → Option ℕ

@@ -66,6 +66,13 @@ fn deck_fault_number(kind: DeckFaultKind) -> u8
         DeckFaultKind::NoAnchor => 22,
         DeckFaultKind::DeleteMissing => 23,
         DeckFaultKind::ModifyMissing => 24,
+        DeckFaultKind::WordCount => 25,
+        DeckFaultKind::LongName => 26,
+        DeckFaultKind::LongNumber => 27,
+        DeckFaultKind::EntryOnCombination => 28,
+        DeckFaultKind::BadBasisCode => 30,
+        DeckFaultKind::NamedTwice => 31,
+        DeckFaultKind::NoSuchLimit => 32,
     }
 }
 
