@@ -42,7 +42,9 @@ lines=$(wc -l <README.md)
 edits=$(find crates -path '*/must-fail/*.edit' | wc -l)
 long=$(find crates -name out -prune -o -name '*.rt' -print0 | LC_ALL=C.UTF-8 xargs -0 grep -hE '^ *(requires|ensures|invariant) ' |
     LC_ALL=C.UTF-8 grep -cE '^.{101}')
-echo "check: $edits must-fail edits; $long lines of clauses have over 100 columns"
+crates_with_edits=$(find crates -path '*/must-fail/*.edit' | cut -d/ -f2 | sort -u | wc -l)
+tests=$(find crates -name out -prune -o -name '*.rt' -print0 | xargs -0 grep -hE '^ *#\[test\]' | wc -l)
+echo "check: $edits must-fail edits in $crates_with_edits crates; $tests test functions; $long lines of clauses have over 100 columns"
 [ "$edits" -le "$most_edits" ] || fail "there are $edits must-fail edits, more than $most_edits"
 
 if command -v python3 >/dev/null; then
