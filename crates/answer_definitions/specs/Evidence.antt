@@ -3,13 +3,18 @@
 --                                                  bases of the path up to the statement
 use Rattle.std.specs.Prelude.{◌≡◌, ℕ, ◌+◌, Bool, List, [], ◌∷◌, ◌++◌, length, Option, Some, None, IfSome}
 use Rattle.exact_values.specs.Rational.{ℚ}
+use Rattle.lp_definitions.specs.Basis.{basics_of}
 use Rattle.lp_definitions.specs.declared.Evidence.{Evidence}
-use Rattle.method_definitions.specs.Path.{IsPath, last_of}
+use Rattle.method_definitions.specs.Path.{Rule, turn, RulePath, last_of}
+use Rattle.method_definitions.specs.DualPath.{dual_turn}
 use Rattle.method_definitions.specs.Chain.{RunPlace, break_of, Reaches}
-use Rattle.method_definitions.specs.Statements.{SolvingStatement, Primal, Solution, Range, Paraobj, Pararhs}
+use Rattle.method_definitions.specs.Statements.{SolvingStatement, Primal, Dual, Solution, Range, Paraobj, Pararhs}
 use Rattle.method_definitions.specs.Evidence.{EvidenceHolds, ShiftHolds}
+use Rattle.basis_deck_definitions.specs.Dependencies.{InstallRefused}
+use Rattle.listing_definitions.specs.declared.Solver.{Solver}
+use Rattle.listing_definitions.specs.declared.Solver.TheVariants.{Primal as ByPrimal, Dual as ByDual, Paraobj as ByParaobj, Pararhs as ByPararhs}
 use Rattle.listing_definitions.specs.Ending.{Place}
-use Rattle.question_definitions.specs.Answers.{Basis, Sheet, Changing, Row, Set, Sweep, Question, OfPath, OfSolution, OfRanges, OfSweep}
+use Rattle.question_definitions.specs.Answers.{Basis, Sheet, Changing, Row, Set, Sweep, Question, OfPath, OfSolution, OfRanges, OfSweep, OfPunch, OfInstall}
 use Rattle.answer_definitions.specs.Sweeps.{row_of, shifts_of, family_of, IsFace}
 
 -- the basis that a path has reached
@@ -24,13 +29,32 @@ pub record IsEvidence (statement : SolvingStatement) (break : Option ℚ) (left 
   pub holds : EvidenceHolds statement break left bases ends basis way e
   pub is_place : place ≡ Some (record { basis = basis; way = way })
 
--- PRIMAL has gone over these bases in this statement, and has so many steps left; without a limit any number is left
-pub record OverflowsOnPath (sheet : Sheet) (bases : List Basis) (limit : Option ℕ) (e : Evidence) (place : Option Place) : Type 0 where
+-- a solving verb has gone over these bases in this statement, by its rule, and has so many steps left; without a limit any number is
+-- left
+pub record RuleOverflowsOnPath (rule : Rule) (statement : SolvingStatement) (sheet : Sheet) (bases : List Basis) (limit : Option ℕ) (e : Evidence) (place : Option Place) : Type 0 where
   pub steps : List Basis
-  pub is_path : IsPath sheet.lp (last_basis bases) steps
+  pub is_path : RulePath rule sheet.lp (last_basis bases) steps
   pub left : ℕ
   pub is_left : IfSome limit (λ most. length steps + left ≡ most)
-  pub is_evidence : IsEvidence (Primal sheet.lp) None left (bases ++ steps) [] e place
+  pub is_evidence : IsEvidence statement None left (bases ++ steps) [] e place
+
+-- PRIMAL on its path
+abbrev pub OverflowsOnPath : Sheet → List Basis → Option ℕ → Evidence → Option Place → Type 0
+OverflowsOnPath sheet = RuleOverflowsOnPath turn (Primal sheet.lp) sheet
+
+-- a path is that of PRIMAL or of DUAL; the parametric verbs ask for none alone
+abbrev pub OverflowsBy : Solver → Sheet → List Basis → Option ℕ → Evidence → Option Place → Type 0
+OverflowsBy ByPrimal = OverflowsOnPath
+OverflowsBy ByDual = λ sheet. RuleOverflowsOnPath dual_turn (Dual sheet.lp) sheet
+OverflowsBy ByParaobj = λ sheet bases limit e place. ⊥
+OverflowsBy ByPararhs = λ sheet bases limit e place. ⊥
+
+-- INSERT has met an exchange that is refused, on the way to the basis t; it prints the basis before the statement, and the set of
+-- basics at which the exchange was to be made
+pub record OverflowsOnInstall (sheet : Sheet) (t : Basis) (bases : List Basis) (e : Evidence) (place : Option Place) : Type 0 where
+  pub way : List Bool
+  pub is_refused : InstallRefused sheet.lp.matrix (basics_of t) way e
+  pub is_place : place ≡ Some (record { basis = last_basis bases; way = way })
 
 -- the statement of a parametric run
 abbrev pub sweep_statement : Sheet → Changing → ℚ → SolvingStatement
@@ -54,7 +78,9 @@ pub data OverflowsOnSweep (sheet : Sheet) (bases : List Basis) (sweep : Sweep) (
       ShiftHolds (sweep_statement sheet sweep.changing sweep.from) now.ends e → place ≡ None → OverflowsOnSweep sheet bases sweep e place
 
 abbrev pub OverflowsAt : Question → Sheet → List Basis → Evidence → Option Place → Type 0
-OverflowsAt (OfPath solver limit) sheet bases e place = OverflowsOnPath sheet bases limit e place
+OverflowsAt (OfPath solver limit) sheet bases e place = OverflowsBy solver sheet bases limit e place
 OverflowsAt (OfSolution mark) sheet bases e place = IsEvidence (Solution sheet.lp) None 0 bases [] e place
 OverflowsAt OfRanges sheet bases e place = IsEvidence (Range sheet.lp) None 0 bases [] e place
 OverflowsAt (OfSweep sweep) sheet bases e place = OverflowsOnSweep sheet bases sweep e place
+OverflowsAt OfPunch sheet bases e place = ⊥
+OverflowsAt (OfInstall t) sheet bases e place = OverflowsOnInstall sheet t bases e place

@@ -2,6 +2,7 @@
 use Rattle.question_definitions.specs.Solving.{Solving}
 use Rattle.answer_definitions.specs.Verdicts.{IsSolvedBy}
 use Rattle.answer_definitions.specs.Sections.{IsShown, IsRanged}
+use Rattle.answer_definitions.specs.Bases.{ArePunched, IsInstalled}
 use Rattle.answer_definitions.specs.Sweeps.{IsSwept}
 use Rattle.answer_definitions.specs.Evidence.{OverflowsAt}
 
@@ -11,5 +12,7 @@ linear_programming = record {
   Sweeps = IsSwept;
   Shows = IsShown;
   Ranges = IsRanged;
+  Punches = ArePunched;
+  Installs = IsInstalled;
   Overflows = OverflowsAt;
 }

@@ -26,7 +26,7 @@ pub data Verb (L : Type 0) : Type 0 where
   Goto : L → Verb L
   Convert : Verb L
   Setup : SetupOptions → Verb L
-  Primal Revise Ranging Paraobj Pararhs Solution Bcdout Exit : Verb L
+  Primal Dual Revise Ranging Paraobj Pararhs Solution Bcdout Punch Insert Exit : Verb L
 
 pub record Statement (L : Type 0) : Type 0 where
   pub card : ℕ
@@ -56,10 +56,13 @@ verb_by f (Goto label) = Goto (f label)
 verb_by f Convert = Convert
 verb_by f (Setup options) = Setup options
 verb_by f Primal = Primal
+verb_by f Dual = Dual
 verb_by f Revise = Revise
 verb_by f Ranging = Ranging
 verb_by f Paraobj = Paraobj
 verb_by f Pararhs = Pararhs
 verb_by f Solution = Solution
 verb_by f Bcdout = Bcdout
+verb_by f Punch = Punch
+verb_by f Insert = Insert
 verb_by f Exit = Exit

@@ -9,7 +9,7 @@ use Rattle.control_definitions.specs.declared.NumberCell.{NumberCell}
 use Rattle.control_definitions.specs.declared.NumberCell.TheVariants.{Xparam, Xparmax}
 use Rattle.control_definitions.specs.declared.Demand.{Demand}
 use Rattle.control_definitions.specs.declared.Demand.TheVariants.{Xdonfs, Xdounb}
-use Rattle.control_definitions.specs.Program.{Verb, Initialz, Title, MoveName, MoveNumber, MoveLimit, Mvadr, Goto, Convert, Setup, Primal, Revise, Ranging, Paraobj, Pararhs, Solution, Bcdout, Exit}
+use Rattle.control_definitions.specs.Program.{Verb, Initialz, Title, MoveName, MoveNumber, MoveLimit, Mvadr, Goto, Convert, Setup, Primal, Dual, Revise, Ranging, Paraobj, Pararhs, Solution, Bcdout, Punch, Insert, Exit}
 use Rattle.control_definitions.specs.Statements.{statement_of, verb_word, Arguments, Without, With, arguments_of}
 use Rattle.control_definitions.specs.Arguments.{title_argument, quoted_name, number_argument, limit_argument, label_text, options_of, setup_arguments}
 
@@ -41,9 +41,9 @@ pub data VerbWord : Type 0 where
 
 abbrev pub verb_words : List (List ℕ × VerbWord)
 verb_words =
-    (codes "INITIALZ", Alone Initialz) ∷ (codes "CONVERT", Alone Convert) ∷ (codes "PRIMAL", Alone Primal) ∷ (codes "REVISE", Alone Revise) ∷
+    (codes "INITIALZ", Alone Initialz) ∷ (codes "CONVERT", Alone Convert) ∷ (codes "PRIMAL", Alone Primal) ∷ (codes "DUAL", Alone Dual) ∷ (codes "REVISE", Alone Revise) ∷
     (codes "RANGE", Alone Ranging) ∷ (codes "PARAOBJ", Alone Paraobj) ∷ (codes "PARARHS", Alone Pararhs) ∷ (codes "SOLUTION", Alone Solution) ∷
-    (codes "BCDOUT", Alone Bcdout) ∷ (codes "EXIT", Alone Exit) ∷ (codes "TITLE", TakesTitle) ∷ (codes "MOVE", TakesCell) ∷
+    (codes "BCDOUT", Alone Bcdout) ∷ (codes "PUNCH", Alone Punch) ∷ (codes "INSERT", Alone Insert) ∷ (codes "EXIT", Alone Exit) ∷ (codes "TITLE", TakesTitle) ∷ (codes "MOVE", TakesCell) ∷
     (codes "MVADR", TakesDemand) ∷ (codes "GOTO", TakesLabel) ∷ (codes "SETUP", TakesOptions) ∷ (codes "PEND", EndsProgram) ∷ []
 
 -- the verb of a word with its arguments, where these have its form; PEND is no statement

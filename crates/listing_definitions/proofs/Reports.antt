@@ -9,7 +9,7 @@ use Rattle.listing_definitions.specs.declared.Mark.TheVariants.{Optimal, Infeasi
 use Rattle.listing_definitions.specs.declared.Solver.TheVariants.{Primal, Paraobj, Pararhs}
 use Rattle.listing_definitions.specs.declared.At.TheVariants.{Basic, Outside, Equal, Lower, Upper, Free}
 use Rattle.listing_definitions.specs.Numbers.{digits}
-use Rattle.listing_definitions.specs.Report.{Value, Code, Number, Absent, Dash, Line, OptimalAt, CrossedAt, InfeasibleBy, UnboundedBy, Checked, Unchecked, EndsAt, UnboundedPast, InfeasiblePast, Titled, Converted, Revised, SetUp, Punched, Solved, Solution, Ranges, Parametric}
+use Rattle.listing_definitions.specs.Report.{Value, Code, Number, Absent, Dash, Line, OptimalAt, CrossedAt, InfeasibleBy, UnboundedBy, Checked, Unchecked, EndsAt, UnboundedPast, InfeasiblePast, Titled, Converted, Revised, SetUp, BcdOut, Solved, Solution, Ranges, Parametric}
 use Rattle.listing_definitions.specs.Ending.{Ended}
 use Rattle.listing_definitions.specs.Text.{report_text, line_text}
 use Rattle.listing_definitions.specs.Listing.{listing, reports_text}
@@ -156,7 +156,7 @@ range_two = refl
 short_reports : reports_text
     (Titled (codes "FIRST RUN") ∷ Titled [] ∷
     Revised (record { name = codes "NEW"; rows = 2; columns = 1; entries = 2 }) ∷
-    SetUp [] Min ∷ SetUp (codes "TESTPROB") Max ∷ Punched (codes "ONE") 10 ∷ [])
+    SetUp [] Min ∷ SetUp (codes "TESTPROB") Max ∷ BcdOut (codes "ONE") 10 ∷ [])
     ≡ codes "TITLE FIRST RUN\nTITLE \nREVISE  NEW      ROWS 2 COLUMNS 1 ENTRIES 2\nSETUP            MIN\nSETUP   TESTPROB MAX\nBCDOUT  ONE      CARDS 10\n"
 unfolding digits
 short_reports = refl

@@ -5,6 +5,7 @@ use Rattle.lp_definitions.specs.declared.Status.{Status}
 use Rattle.card_definitions.specs.declared.CardFault.{CardFault}
 use Rattle.control_definitions.specs.declared.ControlFault.{ControlFault}
 use Rattle.listing_definitions.specs.declared.VerbFault.{VerbFault}
+use Rattle.listing_definitions.specs.Report.{Line}
 use Rattle.listing_definitions.specs.declared.VerbFault.TheVariants.{DeckNotFound, NoProblem, NoSetup, NotSolved, NotOptimal, NoChangeRow, NoChangeSet, NoParmax, ParmaxBelow, NoObjective, ObjectiveNotFree, NoRhsSet, NoRangeSet, NoBoundSet, Singular, WrongPrices}
 
 -- a statement that was refused, by its card
@@ -18,6 +19,16 @@ pub record DeckCardFault : Type 0 where
   pub card : ℕ
   pub number : Option ℕ
   pub column : Option ℕ
+
+-- INSERT on a card met a basis that is singular: these lines have the coefficients of a dependency of its columns
+pub record SingularBasis : Type 0 where
+  pub card : ℕ
+  pub lines : List Line
+
+-- DUAL on a card met prices that aren't those of an optimal basis: the first of them is that of this variable
+pub record WrongPrice : Type 0 where
+  pub card : ℕ
+  pub variable : ℕ
 
 -- the limit on steps that the statement of a card has reached
 pub record LimitReached : Type 0 where
@@ -36,12 +47,14 @@ pub record Overflow : Type 0 where
   pub card : ℕ
 
 -- A run ends by itself, with 0, 1 or 2; or the words, the cards, the control program, a statement or a deck are refused; or a
--- limit is reached; or a number doesn't fit; or a device or memory fails.
+-- deck gives a singular basis, or prices are wrong; or a limit is reached; or a number doesn't fit; or a device or memory fails.
 pub data Ending : Type 0 where
   Ended : ℕ → Ending
   WordsRefused : Ending
   ControlStop : ControlFault → Ending
   VerbStop : StatementFault → Ending
+  SingularStop : SingularBasis → Ending
+  PriceStop : WrongPrice → Ending
   DeckStop : DeckCardFault → Ending
   CardStop : CardFault → Ending
   LimitStop : LimitReached → Ending
@@ -74,6 +87,8 @@ status_of (Ended code) = code
 status_of WordsRefused = 4
 status_of (ControlStop fault) = 8
 status_of (VerbStop fault) = 10
+status_of (SingularStop basis) = 10
+status_of (PriceStop price) = 10
 status_of (DeckStop fault) = 12
 status_of (CardStop fault) = 13
 status_of (LimitStop reached) = 16

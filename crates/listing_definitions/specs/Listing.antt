@@ -10,8 +10,9 @@ use Rattle.card_definitions.specs.declared.CardFault.{CardFault}
 use Rattle.card_definitions.specs.declared.CardFault.TheVariants.{TooLong, NotPrintable, CardTooLong}
 use Rattle.listing_definitions.specs.Numbers.{digits, rational_text}
 use Rattle.listing_definitions.specs.Report.{Report}
-use Rattle.listing_definitions.specs.Ending.{DeckCardFault, Place, Overflow, Ending, Ended, WordsRefused, ControlStop, VerbStop, DeckStop, CardStop, LimitStop, StatementLimit, OverflowStop, ReadFault, PrintFault, PunchFault, Memory, verb_fault_number}
-use Rattle.listing_definitions.specs.Text.{refused_text, report_text}
+use Rattle.listing_definitions.specs.Ending.{DeckCardFault, Place, Overflow, Ending, Ended, WordsRefused, ControlStop, VerbStop, SingularStop, PriceStop, DeckStop, CardStop, LimitStop, StatementLimit, OverflowStop, ReadFault, PrintFault, PunchFault, Memory, verb_fault_number}
+use Rattle.listing_definitions.specs.declared.VerbFault.TheVariants.{Singular, WrongPrices}
+use Rattle.listing_definitions.specs.Text.{table_text, refused_text, report_text}
 
 -- the number of a fault and the card on which it stands
 abbrev pub fault_text : ℕ → ℕ → List ℕ
@@ -70,6 +71,8 @@ ending_text (Ended code) = concat (codes "END " ∷ digits code ∷ codes "\n" �
 ending_text WordsRefused = codes "STOP 4 WORDS\n"
 ending_text (ControlStop fault) = concat (codes "STOP 8 CONTROL " ∷ fault_text fault.number fault.card ∷ codes "\n" ∷ [])
 ending_text (VerbStop fault) = concat (codes "STOP 10 VERB " ∷ fault_text (verb_fault_number fault.fault) fault.card ∷ codes "\n" ∷ [])
+ending_text (SingularStop basis) = concat (codes "STOP 10 VERB " ∷ fault_text (verb_fault_number Singular) basis.card ∷ codes "\n" ∷ table_text basis.lines ∷ [])
+ending_text (PriceStop price) = concat (codes "STOP 10 VERB " ∷ fault_text (verb_fault_number WrongPrices) price.card ∷ codes " VARIABLE " ∷ digits price.variable ∷ codes "\n" ∷ [])
 ending_text (DeckStop fault) = deck_stop_text fault
 ending_text (CardStop fault) = card_stop_text fault
 ending_text (LimitStop reached) = concat (codes "STOP 16 ITERATION LIMIT " ∷ digits reached.limit ∷ codes " CARD " ∷ digits reached.card ∷ codes "\n" ∷ [])

@@ -76,12 +76,15 @@ pub record Chain : Type 0 where
   pub intervals : List Interval
   pub end : ChainEnd
 
--- What a statement prints. Of a punched deck only its problem and the number of its cards are printed.
+-- What a statement prints. Of a deck that is punched, by BCDOUT or by PUNCH, only its problem and the number of its cards are printed;
+-- of a basis that INSERT takes, the deck's name and the number of the basic columns.
 pub data Report : Type 0 where
   Titled : List ℕ → Report
   Converted Revised : Filed → Report
   SetUp : Name → Sense → Report
-  Punched : Name → ℕ → Report
+  BcdOut : Name → ℕ → Report
+  BasisOut : Name → ℕ → Report
+  Inserted : Name → ℕ → Report
   Solved : Solver → PathVerdict → Check → Report
   Solution : Mark → SolutionLines → Report
   Ranges : RangeLines → Report

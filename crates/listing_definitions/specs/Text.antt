@@ -11,11 +11,11 @@ use Rattle.problem_definitions.specs.Names.{Name}
 use Rattle.listing_definitions.specs.declared.Mark.{Mark}
 use Rattle.listing_definitions.specs.declared.Mark.TheVariants.{Optimal, Infeasible, Unbounded}
 use Rattle.listing_definitions.specs.declared.Solver.{Solver}
-use Rattle.listing_definitions.specs.declared.Solver.TheVariants.{Primal, Paraobj, Pararhs}
+use Rattle.listing_definitions.specs.declared.Solver.TheVariants.{Primal, Dual, Paraobj, Pararhs}
 use Rattle.listing_definitions.specs.declared.At.{At}
 use Rattle.listing_definitions.specs.declared.At.TheVariants.{Basic, Outside, Equal, Lower, Upper, Free}
 use Rattle.listing_definitions.specs.Numbers.{digits, rational_text}
-use Rattle.listing_definitions.specs.Report.{Value, Code, Number, Absent, Dash, Line, Filed, PathVerdict, OptimalAt, CrossedAt, InfeasibleBy, UnboundedBy, Check, Checked, Unchecked, SolutionLines, RangeLines, Interval, ChainEnd, EndsAt, UnboundedPast, InfeasiblePast, Chain, Report, Titled, Converted, Revised, SetUp, Punched, Solved, Solution, Ranges, Parametric}
+use Rattle.listing_definitions.specs.Report.{Value, Code, Number, Absent, Dash, Line, Filed, PathVerdict, OptimalAt, CrossedAt, InfeasibleBy, UnboundedBy, Check, Checked, Unchecked, SolutionLines, RangeLines, Interval, ChainEnd, EndsAt, UnboundedPast, InfeasiblePast, Chain, Report, Titled, Converted, Revised, SetUp, BcdOut, BasisOut, Inserted, Solved, Solution, Ranges, Parametric}
 
 -- ---- table lines
 
@@ -70,6 +70,7 @@ check_text (Unchecked refused) = codes "UNCHECKED " ++ refused_text refused
 
 abbrev pub solver_text : Solver → List ℕ
 solver_text Primal = codes "PRIMAL"
+solver_text Dual = codes "DUAL"
 solver_text Paraobj = codes "PARAOBJ"
 solver_text Pararhs = codes "PARARHS"
 
@@ -140,7 +141,9 @@ report_text (Titled text) = concat (codes "TITLE " ∷ text ∷ codes "\n" ∷ [
 report_text (Converted filed) = filed_text (codes "CONVERT") filed
 report_text (Revised filed) = filed_text (codes "REVISE ") filed
 report_text (SetUp name sense) = concat (codes "SETUP   " ∷ name8 name ∷ codes " " ∷ sense_text sense ∷ codes "\n" ∷ [])
-report_text (Punched name cards) = concat (codes "BCDOUT  " ∷ name8 name ∷ codes " CARDS " ∷ digits cards ∷ codes "\n" ∷ [])
+report_text (BcdOut name cards) = concat (codes "BCDOUT  " ∷ name8 name ∷ codes " CARDS " ∷ digits cards ∷ codes "\n" ∷ [])
+report_text (BasisOut name cards) = concat (codes "PUNCH   " ∷ name8 name ∷ codes " CARDS " ∷ digits cards ∷ codes "\n" ∷ [])
+report_text (Inserted name basic) = concat (codes "INSERT  " ∷ name8 name ∷ codes " BASIC " ∷ digits basic ∷ codes "\n" ∷ [])
 report_text (Solved solver verdict check) = verdict_text solver verdict check
 report_text (Solution mark lines) = solution_text mark lines
 report_text (Ranges lines) = ranges_text lines

@@ -16,6 +16,7 @@ pub enum Mark {
 #[derive(Clone, Copy, Debug, PartialEq, Eq)]
 pub enum Solver {
     Primal,
+    Dual,
     Paraobj,
     Pararhs,
 }

@@ -1,6 +1,7 @@
 -- What a statement asks of linear programming, and the answers to it.
 --     Sheet                 a problem, which has the names, and the linear program that is selected from it
 --     PathEnd, SweepEnd     where a path or a parametric run ends
+--     InstallEnd            what comes of a basis that a deck gives
 --     Question, Answer      what a statement asks, and what an answer to it is
 use Rattle.std.specs.Prelude.{ℕ, List, Option}
 use Rattle.exact_values.specs.Rational.{ℚ}
@@ -11,7 +12,7 @@ use Rattle.problem_definitions.specs.Problem.{Problem}
 use Rattle.listing_definitions.specs.declared.Mark.{Mark}
 use Rattle.listing_definitions.specs.declared.Solver.{Solver}
 use Rattle.listing_definitions.specs.declared.Solver.TheVariants.{Paraobj, Pararhs}
-use Rattle.listing_definitions.specs.Report.{SolutionLines, RangeLines, PathVerdict, Check, Interval, ChainEnd}
+use Rattle.listing_definitions.specs.Report.{Line, SolutionLines, RangeLines, PathVerdict, Check, Interval, ChainEnd}
 
 -- a basis says where each variable stands
 abbrev pub Basis : Type 0
@@ -42,10 +43,11 @@ pub record Sweep : Type 0 where
   pub limit : ℕ
 
 -- Where a path ends: it went through these bases, one a step, and its verdict and the check of it are these; or it hasn't ended
--- within its limit.
+-- within its limit; or it doesn't begin, since the price of this variable is wrong.
 pub data PathEnd : Type 0 where
   Reached : List Basis → PathVerdict → Check → PathEnd
   PathLimit : PathEnd
+  PricesWrong : ℕ → PathEnd
 
 -- Where a parametric run ends: its opening path isn't optimal; or it went on, through all these bases, with these intervals; or it
 -- hasn't ended within its limit.
@@ -54,16 +56,26 @@ pub data SweepEnd : Type 0 where
   Chained : List Basis → List Interval → ChainEnd → SweepEnd
   SweepLimit : SweepEnd
 
+-- What comes of a basis that a deck gives: its inverse is there; or it is singular, and these lines show a dependency of its columns.
+pub data InstallEnd : Type 0 where
+  Installed : InstallEnd
+  DependsBy : List Line → InstallEnd
+
 -- A statement asks for the path of a solving verb in at most so many steps, or in any number of them; for the lines of SOLUTION after a
--- verdict with this mark, or of RANGE; or for a parametric run.
+-- verdict with this mark, or of RANGE; for a parametric run; for the cards of the basis deck that PUNCH writes; or for what comes of the
+-- basis that INSERT has read.
 pub data Question : Type 0 where
   OfPath : Solver → Option ℕ → Question
   OfSolution : Mark → Question
   OfRanges : Question
   OfSweep : Sweep → Question
+  OfPunch : Question
+  OfInstall : Basis → Question
 
 abbrev pub Answer : Question → Type 0
 Answer (OfPath solver limit) = PathEnd
 Answer (OfSolution mark) = SolutionLines
 Answer OfRanges = RangeLines
 Answer (OfSweep sweep) = SweepEnd
+Answer OfPunch = List (List ℕ)
+Answer (OfInstall basis) = InstallEnd

@@ -1,13 +1,14 @@
 -- What a run needs to know of linear programming: a record of relations, each of which has one answer at most.
 --
 -- The real ones are those of the linear program alone: Solves and Sweeps follow the path and the chain of bases, Shows and Ranges
--- read off the point, the prices and the intervals of a basis, and Overflows is the evidence that holds.
+-- read off the point, the prices and the intervals of a basis, Punches its deck, Installs says whether a set of columns is a basis, and
+-- Overflows is the evidence that holds.
 use Rattle.std.specs.Prelude.{ℕ, List, Option}
 use Rattle.lp_definitions.specs.declared.Evidence.{Evidence}
 use Rattle.listing_definitions.specs.declared.Solver.{Solver}
 use Rattle.listing_definitions.specs.Report.{SolutionLines, RangeLines}
 use Rattle.listing_definitions.specs.Ending.{Place}
-use Rattle.question_definitions.specs.Answers.{Basis, Sheet, Sweep, Question, OfPath, OfSolution, OfRanges, OfSweep, Answer, PathEnd, SweepEnd}
+use Rattle.question_definitions.specs.Answers.{Basis, Sheet, Sweep, Question, OfPath, OfSolution, OfRanges, OfSweep, OfPunch, OfInstall, Answer, PathEnd, SweepEnd, InstallEnd}
 
 pub record Solving : Type 1 where
   -- the path of a solving verb from a basis ends so, where it may take so many steps, or any number of them
@@ -18,6 +19,10 @@ pub record Solving : Type 1 where
   pub Shows : Sheet → Basis → SolutionLines → Type 0
   -- RANGE prints these lines of a basis
   pub Ranges : Sheet → Basis → RangeLines → Type 0
+  -- PUNCH punches these cards of a basis
+  pub Punches : Sheet → Basis → List (List ℕ) → Type 0
+  -- this comes of the basis that INSERT has read
+  pub Installs : Sheet → Basis → InstallEnd → Type 0
   -- a statement that asks this may stop with this evidence, where the path in hand went through these bases up to now
   pub Overflows : Question → Sheet → List Basis → Evidence → Option Place → Type 0
 
@@ -27,3 +32,5 @@ IsRight S (OfPath solver limit) sheet s = S.Solves solver sheet s limit
 IsRight S (OfSolution mark) sheet s = S.Shows sheet s
 IsRight S OfRanges sheet s = S.Ranges sheet s
 IsRight S (OfSweep sweep) sheet s = S.Sweeps sheet s sweep
+IsRight S OfPunch sheet s = S.Punches sheet s
+IsRight S (OfInstall basis) sheet s = S.Installs sheet basis

@@ -21,7 +21,7 @@ use Rattle.report_text.specs.Ranges.{AreRanges}
 use Rattle.report_text.specs.Solutions.{IsSolution}
 use Rattle.report_text.specs.Verdicts.{IsOutcome, verdict_shown, check_shown}
 use Rattle.report_text.specs.declared.report.Report.{Report}
-use Rattle.report_text.specs.declared.report.Report.TheVariants.{Title, Converted, Revised, SetUp, Punched, Solved, Solution, Ranges, Parametric, End}
+use Rattle.report_text.specs.declared.report.Report.TheVariants.{Title, Converted, Revised, SetUp, BcdOut, Solved, Solution, Ranges, Parametric, End}
 use Rattle.report_text.specs.declared.report.Ending.{Ending}
 use Rattle.report_text.specs.declared.report.Ending.TheVariants.{Code, Words, Control, Verb, Deck, CardFault as CardStop, Limit, Statements, Overflow, ReadFault, PunchFault, Memory}
 
@@ -110,7 +110,7 @@ text_shown (Title text) = report_text (reports.Titled text.now)
 text_shown (Converted name rows columns entries) = report_text (reports.Converted (record { name = name; rows = rows; columns = columns; entries = entries }))
 text_shown (Revised name rows columns entries) = report_text (reports.Revised (record { name = name; rows = rows; columns = columns; entries = entries }))
 text_shown (SetUp name sense) = report_text (reports.SetUp name sense)
-text_shown (Punched name cards) = report_text (reports.Punched name cards)
+text_shown (BcdOut name cards) = report_text (reports.BcdOut name cards)
 text_shown (Solved by sheet outcome refused) = report_text (reports.Solved by (verdict_shown sheet outcome.now) (check_shown refused))
 text_shown (Solution mark sheet basis point prices slack) = report_text (reports.Solution mark (solution_lines sheet.problem.now sheet.lp.now basis.now point.now prices.now slack.now))
 text_shown (Ranges sheet basis point report) = report_text (reports.Ranges (range_lines sheet.lp.now basis.now point.now report.now sheet.problem.now))

@@ -108,9 +108,9 @@ pub fn put_setup<P: Sink>(print: &mut P, name: Name, sense: Sense) -> Result<(),
     )
 }
 
-pub fn put_punched<P: Sink>(print: &mut P, name: Name, cards: u32) -> Result<(), WriteStop>
+pub fn put_bcd_out<P: Sink>(print: &mut P, name: Name, cards: u32) -> Result<(), WriteStop>
     ensures { Writes P.written P.faults P.refusals print.old print.new result
-        (report_text (reports.Punched name cards)) }
+        (report_text (reports.BcdOut name cards)) }
 {
     let mut card_digits = Buffer::new();
     let letters = name.bytes();

@@ -4,7 +4,7 @@ ghost use Rattle.report_text.specs.Shown.{IsReport, text_shown};
 
 use crate::ending::put_ending;
 use crate::parametric::put_parametric;
-use crate::plain::{put_converted, put_punched, put_revised, put_setup, put_title};
+use crate::plain::{put_converted, put_bcd_out, put_revised, put_setup, put_title};
 use crate::ranges::put_ranges;
 use crate::solution::put_solution;
 use crate::verdict::put_verdict;
@@ -43,7 +43,7 @@ pub enum Report<'a> {
         sense: Sense,
     },
     /// A problem that was punched, with the number of its cards.
-    Punched {
+    BcdOut {
         name: Name,
         cards: u32,
     },
@@ -157,7 +157,7 @@ pub fn text_of<P: Sink>(report: &Report<'_>, print: &mut P) -> Result<(), WriteS
             entries,
         } => put_revised(print, name, rows, columns, entries),
         Report::SetUp { name, sense } => put_setup(print, name, sense),
-        Report::Punched { name, cards } => put_punched(print, name, cards),
+        Report::BcdOut { name, cards } => put_bcd_out(print, name, cards),
         Report::Solved {
             by,
             sheet,

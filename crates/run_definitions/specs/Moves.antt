@@ -16,7 +16,7 @@ use Rattle.listing_definitions.specs.Report.{Report}
 use Rattle.listing_definitions.specs.Ending.{Place, Ending, VerbStop, OverflowStop}
 use Rattle.run_definitions.specs.State.{State}
 
--- A statement prints nothing, or a report; BCDOUT also punches the cards of a deck.
+-- A statement prints nothing, or a report; BCDOUT and PUNCH also punch the cards of a deck.
 pub data Gain : Type 0 where
   Nothing : Gain
   Prints : Report → Gain
@@ -48,7 +48,8 @@ jump gain position state = Goes gain (record state { position = position })
 abbrev pub stops : Ending → Outcome
 stops ending = Ends Nothing ending
 
--- An operation may be refused in a selection; or in an answer to a question about a linear program, after these bases since SETUP.
+-- An operation may be refused in a selection; or in an answer to a question about a linear program, after these bases since SETUP or
+-- INSERT.
 pub data Refusals : Type 0 where
   InSelection : Problem ℕ → Choice → Refusals
   InAnswer : Question → Sheet → List Basis → Refusals

@@ -1,5 +1,5 @@
 -- The state of a run.
---     Present               the setup, with the path of bases since then
+--     Present               the setup, with the basis that SETUP or INSERT gave it and the path of bases since then
 --     State, start          all that a statement may see and change
 --     problem_of            the filed problem that a verb works on
 use Rattle.std.specs.Prelude.{ℕ, List, [], ◌∷◌, ◌++◌, Option, Some, None, find}
@@ -13,7 +13,7 @@ use Rattle.method_definitions.specs.Path.{last_of}
 use Rattle.question_definitions.specs.Answers.{Basis}
 use Rattle.control_definitions.specs.Cells.{Cells, default_cells}
 
--- the problem and options that SETUP kept, the basis with which it opened, and the bases since then, one a step
+-- the problem and options that SETUP kept, the basis with which SETUP or the last INSERT opened, and the bases since then, one a step
 pub record Present : Type 0 where
   pub problem : Problem ℕ
   pub options : SetupOptions
@@ -24,7 +24,7 @@ pub record Present : Type 0 where
 abbrev pub present_basis : Present → Basis
 present_basis present = last_of present.opening present.steps
 
--- all bases since the last SETUP, in order
+-- all bases since the last SETUP or INSERT, in order
 abbrev pub path_of : Present → List Basis
 path_of present = present.opening ∷ present.steps
 

@@ -3,34 +3,36 @@ use Rattle.std.specs.Prelude.{ℕ, ◌≡◌, Bool, true, false, min, List, [], 
 use Rattle.exact_values.specs.Rational.{ℚ}
 use Rattle.exact_values.specs.Tests.{lt_ℚ}
 use Rattle.card_definitions.specs.declared.NumberFault.TheVariants.{Empty, BadCharacter, NoDigit, ExponentRange}
-use Rattle.card_definitions.specs.Cards.{Card}
+use Rattle.card_definitions.specs.Cards.{Card, live}
 use Rattle.problem_definitions.specs.Names.{Name}
 use Rattle.problem_definitions.specs.Problem.{Problem, has_free_row, has_group, entry_count}
 use Rattle.problem_definitions.specs.Numbering.{by_names}
 use Rattle.deck_definitions.specs.declared.DeckFault.{DeckFault}
 use Rattle.deck_definitions.specs.declared.DeckFaultKind.{DeckFaultKind}
 use Rattle.deck_definitions.specs.declared.DeckFaultKind.TheVariants.{SectionOrder, UnknownSection, BadRowType, DuplicateRow, ColumnSplit, UnknownRow, DuplicateEntry, Number, RangeOnFree, BadBoundType, UnknownColumn, BoundTwice, NoEndata, Marker, EmptyName, TooManyRows, TooManyColumns, TooManyEntries, CombinationRow, ExtraField, UnknownAction, NoAnchor, DeleteMissing, ModifyMissing, WordCount, LongName, LongNumber, EntryOnCombination, BadBasisCode, NamedTwice, NoSuchLimit}
-use Rattle.deck_definitions.specs.Conversion.{conversion}
+use Rattle.deck_definitions.specs.Conversion.{conversion, deck_name}
 use Rattle.deck_definitions.specs.Written.{written}
 use Rattle.deck_definitions.specs.Decks.{deck_taken}
+use Rattle.basis_deck_definitions.specs.Reading.{basis_reading}
+use Rattle.basis_deck_definitions.specs.Writing.{basic_columns}
 use Rattle.revise_definitions.specs.Revision.{revision}
 use Rattle.lp_definitions.specs.LinearProgram.{LinearProgram}
 use Rattle.lp_definitions.specs.Basis.{opening_statuses}
 use Rattle.control_definitions.specs.declared.NameCell.{NameCell}
 use Rattle.control_definitions.specs.declared.NameCell.TheVariants.{Xobj, Xrhs}
-use Rattle.control_definitions.specs.Program.{SetupOptions, Verb, Initialz, Title, MoveName, MoveNumber, MoveLimit, Mvadr, Goto, Convert, Setup, Primal, Revise, Ranging, Paraobj, Pararhs, Solution as SolutionVerb, Bcdout, Exit}
+use Rattle.control_definitions.specs.Program.{SetupOptions, Verb, Initialz, Title, MoveName, MoveNumber, MoveLimit, Mvadr, Goto, Convert, Setup, Primal, Dual, Revise, Ranging, Paraobj, Pararhs, Solution as SolutionVerb, Bcdout, Punch, Insert, Exit}
 use Rattle.selection_definitions.specs.declared.SelectionFault.{SelectionFault}
 use Rattle.selection_definitions.specs.Choice.{Choice}
 use Rattle.selection_definitions.specs.Selection.{selected}
 use Rattle.listing_definitions.specs.declared.Mark.{Mark}
 use Rattle.listing_definitions.specs.declared.Mark.TheVariants.{Optimal, Infeasible, Unbounded}
 use Rattle.listing_definitions.specs.declared.Solver.{Solver}
-use Rattle.listing_definitions.specs.declared.Solver.TheVariants.{Primal as ByPrimal}
+use Rattle.listing_definitions.specs.declared.Solver.TheVariants.{Primal as ByPrimal, Dual as ByDual}
 use Rattle.listing_definitions.specs.declared.VerbFault.{VerbFault}
 use Rattle.listing_definitions.specs.declared.VerbFault.TheVariants.{DeckNotFound, NoProblem, NoSetup, NotSolved, NotOptimal, NoChangeRow, NoChangeSet, NoParmax, ParmaxBelow, NoObjective, ObjectiveNotFree, NoRhsSet, NoRangeSet, NoBoundSet}
-use Rattle.listing_definitions.specs.Report.{SolutionLines, RangeLines, PathVerdict, OptimalAt, CrossedAt, InfeasibleBy, UnboundedBy, Report, Titled, Filed, Converted, Revised, SetUp, Punched, Solved, Solution, Ranges, Parametric, ChainEnd, EndsAt, UnboundedPast, InfeasiblePast}
-use Rattle.listing_definitions.specs.Ending.{Place, Ending, Ended, VerbStop, DeckStop, LimitStop}
-use Rattle.question_definitions.specs.Answers.{Basis, Sheet, Changing, Row, Set, changing_name, sweeper, Sweep, Question, Answer, OfPath, OfSolution, OfRanges, OfSweep, PathEnd, Reached, PathLimit, SweepEnd, Opening, Chained, SweepLimit}
+use Rattle.listing_definitions.specs.Report.{SolutionLines, RangeLines, PathVerdict, OptimalAt, CrossedAt, InfeasibleBy, UnboundedBy, Report, Titled, Filed, Converted, Revised, SetUp, BcdOut, BasisOut, Inserted, Solved, Solution, Ranges, Parametric, ChainEnd, EndsAt, UnboundedPast, InfeasiblePast}
+use Rattle.listing_definitions.specs.Ending.{Place, Ending, Ended, VerbStop, SingularStop, PriceStop, DeckStop, LimitStop}
+use Rattle.question_definitions.specs.Answers.{Basis, Sheet, Changing, Row, Set, changing_name, sweeper, Sweep, Question, Answer, OfPath, OfSolution, OfRanges, OfSweep, OfPunch, OfInstall, PathEnd, Reached, PathLimit, PricesWrong, SweepEnd, Opening, Chained, SweepLimit, InstallEnd, Installed, DependsBy}
 use Rattle.control_definitions.specs.Cells.{default_cells, move_name, move_number, move_limit, steps_allowed, set_demand}
 use Rattle.run_definitions.specs.State.{Present, present_basis, path_of, gone_through, State, problem_of, choice_of}
 use Rattle.run_definitions.specs.Moves.{Nothing, Prints, Punches, Outcome, Ends, next, jump, stops, InSelection, InAnswer, Move, Does, MayStop, Asks, or_fault}
@@ -122,7 +124,7 @@ abbrev pub punches : ℕ → State → Move
 punches card state =
     or_fault card NoProblem (problem_of state.cells.xpbname state.file) (λ problem.
     let cards = written (by_names problem) in
-    Does (next (Punches (Punched problem.name (min (length cards) max_counted)) cards) state))
+    Does (next (Punches (BcdOut problem.name (min (length cards) max_counted)) cards) state))
 
 -- ---- selections
 
@@ -210,14 +212,15 @@ abbrev pub after_path : Solver → ℕ → Present → State → PathEnd → Out
 after_path solver card present state (Reached bases verdict check) =
     by_verdict (mark_of verdict) (Solved solver verdict check) (record state { setup = Some (gone_through bases present); mark = Some (mark_of verdict) })
 after_path solver card present state PathLimit = limit_stop card state
+after_path solver card present state (PricesWrong j) = stops (PriceStop (record { card = card; variable = j }))
 
--- A solving verb needs a setup; it selects, and follows its path from the present basis.
-abbrev pub solves : Solver → ℕ → State → Move
-solves solver card state =
+-- A solving verb needs a setup; it selects, and follows its path from the present basis, within its limit if it has one.
+abbrev pub solves : Solver → Option ℕ → ℕ → State → Move
+solves solver limit card state =
     or_fault card NoSetup state.setup (λ present.
     selects_present card state present (λ lp.
     let sheet : Sheet = record { problem = present.problem; lp = lp } in
-    asks (OfPath solver state.cells.xiterlim) sheet present (after_path solver card present state)))
+    asks (OfPath solver limit) sheet present (after_path solver card present state)))
 
 -- SOLUTION and RANGE speak of the linear program that PRIMAL solved: since then the mark stands, so that the present cells select
 -- it again, without a fault.
@@ -269,7 +272,37 @@ sweeps card fault change moved state =
     let sweep : Sweep = record { changing = changing; from = state.cells.xparam; to = to; limit = steps_allowed state.cells } in
     asks (OfSweep sweep) sheet present (after_sweep card sweep present state))))))
 
--- What the statement of a verb on a card does.
+-- ---- bases that go out and come in
+
+-- PUNCH needs a setup; it selects, punches the deck of the present basis, and prints the number of its cards.
+abbrev pub punches_basis : ℕ → State → Move
+punches_basis card state =
+    or_fault card NoSetup state.setup (λ present.
+    selects_present card state present (λ lp.
+    let sheet : Sheet = record { problem = present.problem; lp = lp } in
+    Asks OfPunch sheet (present_basis present) (λ cards.
+    next (Punches (BasisOut present.problem.name (min (length cards) max_counted)) cards) state)))
+
+-- the basis that was read becomes the present one, with which the path in hand begins anew, and the mark is cleared; a singular one ends
+-- the run
+abbrev pub after_install : ℕ → LinearProgram → Basis → List Card × List (List Card) → Present → State → InstallEnd → Outcome
+after_install card lp s taken present state Installed =
+    next (Prints (Inserted (deck_name (live taken.0)) (length (basic_columns lp s))))
+    (record state { decks = taken.1; setup = Some (record present { opening = s; steps = [] }); mark = None })
+after_install card lp s taken present state (DependsBy lines) = stops (SingularStop (record { card = card; lines = lines }))
+
+-- INSERT needs a setup; it selects, takes a deck, and reads the basis that the deck stands for. That is one if its columns don't depend
+-- on each other.
+abbrev pub inserts : ℕ → State → Move
+inserts card state =
+    or_fault card NoSetup state.setup (λ present.
+    selects_present card state present (λ lp.
+    or_fault card DeckNotFound (deck_taken state.cells.xdata state.decks) (λ taken.
+    or_deck_fault (basis_reading present.problem lp taken.0) (λ s.
+    let sheet : Sheet = record { problem = present.problem; lp = lp } in
+    asks (OfInstall s) sheet present (after_install card lp s taken present state)))))
+
+-- What the statement of a verb on a card does. PRIMAL alone may have no limit on its steps.
 unfoldable pub verb_move : Verb ℕ → ℕ → State → Move
 verb_move Initialz card state = Does (next Nothing (record state { cells = default_cells; mark = None }))
 verb_move (Title text) card state = Does (next (Prints (Titled text)) state)
@@ -281,10 +314,13 @@ verb_move (Goto position) card state = Does (jump Nothing position state)
 verb_move Convert card state = converts card state
 verb_move Revise card state = revises card state
 verb_move (Setup options) card state = sets_up card options state
-verb_move Primal card state = solves ByPrimal card state
+verb_move Primal card state = solves ByPrimal state.cells.xiterlim card state
+verb_move Dual card state = solves ByDual (Some (steps_allowed state.cells)) card state
 verb_move SolutionVerb card state = shows card state
 verb_move Ranging card state = ranges card state
 verb_move Paraobj card state = sweeps card NoChangeRow change_row state.cells.xchrow state
 verb_move Pararhs card state = sweeps card NoChangeSet change_set state.cells.xchcol state
 verb_move Bcdout card state = punches card state
+verb_move Punch card state = punches_basis card state
+verb_move Insert card state = inserts card state
 verb_move Exit card state = Does (stops (Ended 0))

@@ -6,7 +6,7 @@ use Rattle.control_definitions.specs.Program.{Program}
 use Rattle.listing_definitions.specs.declared.Mark.TheVariants.{Optimal, Infeasible, Unbounded}
 use Rattle.listing_definitions.specs.declared.Solver.{Solver}
 use Rattle.listing_definitions.specs.declared.Solver.TheVariants.{Primal as ByPrimal, Paraobj as ByParaobj, Pararhs as ByPararhs}
-use Rattle.listing_definitions.specs.Report.{PathVerdict, Check, Report, Titled, Converted, Revised, SetUp, Punched, Solved, Solution, Ranges, Parametric}
+use Rattle.listing_definitions.specs.Report.{PathVerdict, Check, Report, Titled, Converted, Revised, SetUp, BcdOut, Solved, Solution, Ranges, Parametric}
 use Rattle.listing_definitions.specs.Ending.{Ending}
 use Rattle.question_definitions.specs.Answers.{Basis, Sheet, Reached}
 use Rattle.question_definitions.specs.Solving.{Solving}
@@ -29,7 +29,7 @@ uncounted state (Titled text) holds = tt
 uncounted state (Converted filed) holds = tt
 uncounted state (Revised filed) holds = tt
 uncounted state (SetUp name sense) holds = tt
-uncounted state (Punched name cards) holds = tt
+uncounted state (BcdOut name cards) holds = tt
 uncounted state (Solved ByPrimal verdict check) holds = holds
 uncounted state (Solved ByParaobj verdict check) holds = holds
 uncounted state (Solved ByPararhs verdict check) holds = holds

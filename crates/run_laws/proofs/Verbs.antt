@@ -23,7 +23,7 @@ use Rattle.listing_definitions.specs.declared.Mark.{Mark}
 use Rattle.listing_definitions.specs.declared.Mark.TheVariants.{Optimal, Infeasible, Unbounded}
 use Rattle.listing_definitions.specs.declared.Solver.TheVariants.{Primal as ByPrimal}
 use Rattle.listing_definitions.specs.declared.VerbFault.{VerbFault}
-use Rattle.listing_definitions.specs.Report.{SolutionLines, RangeLines, PathVerdict, Check, Filed, Report, Converted, Revised, SetUp, Punched, Solved, Solution, Ranges}
+use Rattle.listing_definitions.specs.Report.{SolutionLines, RangeLines, PathVerdict, Check, Filed, Report, Converted, Revised, SetUp, BcdOut, Solved, Solution, Ranges}
 use Rattle.question_definitions.specs.Answers.{Basis, Sheet, Changing, Row, Set, changing_name, sweeper, Sweep, Question, Answer, OfPath, OfSolution, OfRanges, OfSweep, PathEnd, Reached, PathLimit, SweepEnd, Opening, Chained, SweepLimit}
 use Rattle.question_definitions.specs.Solving.{Solving, IsRight}
 use Rattle.answer_definitions.specs.Verdicts.{verdict_of}
@@ -320,7 +320,7 @@ module _ (S : Solving) (solving : KnowsSolving S) where
       unless_fault S state card VerbFault.NoProblem (problem_of state.cells.xpbname state.file) _ (λ problem e.
       selecting S state card problem (choice_of state.cells options) _ (λ lp is. opened card options state problem lp is))
 
-  punched : (card : ℕ) (state : State) (name : Name) (count : ℕ) (cards : List (List ℕ)) → Knows state → IsKept S state card (Does (next (Punches (Punched name count) cards) state))
+  punched : (card : ℕ) (state : State) (name : Name) (count : ℕ) (cards : List (List ℕ)) → Knows state → IsKept S state card (Does (next (Punches (BcdOut name count) cards) state))
   punched card state name count cards knows = does S state card _ (tt, record { marked = knows.marked; bases = knows.bases })
 
   punches_kept : (card : ℕ) (state : State) → Knows state → IsKept S state card (punches card state)

@@ -12,7 +12,7 @@ use Rattle.deck_definitions.specs.Written.{written as deck_cards, card_text}
 use Rattle.control_definitions.specs.Program.{Verb, Bcdout}
 use Rattle.control_definitions.specs.Cells.{Cells}
 use Rattle.listing_definitions.specs.declared.VerbFault.TheVariants.{NoProblem}
-use Rattle.listing_definitions.specs.Report.{Punched}
+use Rattle.listing_definitions.specs.Report.{BcdOut}
 use Rattle.listing_definitions.specs.Text.{report_text}
 use Rattle.question_definitions.specs.Solving.{Solving}
 use Rattle.run_definitions.specs.State.{State, problem_of}
@@ -78,7 +78,7 @@ abbrev cards_of : Problem ℕ → List (List ℕ)
 cards_of problem = deck_cards (by_names problem)
 
 abbrev punches_it : State → Problem ℕ → Outcome
-punches_it state problem = next (Punches (Punched problem.name (min (length (cards_of problem)) max_counted)) (cards_of problem)) state
+punches_it state problem = next (Punches (BcdOut problem.name (min (length (cards_of problem)) max_counted)) (cards_of problem)) state
 
 punch_gives : (card : ℕ) (state : State) (problem : Problem ℕ) → problem_of state.cells.xpbname state.file ≡ Some problem → Gives linear_programming card (verb_move Bcdout card state) (punches_it state problem)
 unfolding linear_programming verb_move
@@ -101,7 +101,7 @@ module _ (card : ℕ) {P U : Type 0} (written : P → Option (List ℕ)) (faults
     pub deck_cut : (print : P) {punch_old punch_new : U} {T : Type 0} (stop : WriteStop) → Writes {T = T} punch_written punch_faults punch_refusals punch_old punch_new (Err stop) (card_text (cards_of problem)) →
         Performs linear_programming Bcdout card written faults refusals print print punch_written punch_faults punch_refusals punch_old punch_new cards machine machine (Err (halt.Punch stop))
     deck_cut print stop punches = λ position executed state s. record {
-      report = Punched problem.name (min (length (cards_of problem)) max_counted);
+      report = BcdOut problem.name (min (length (cards_of problem)) max_counted);
       deck = cards_of problem;
       after = record state { position = state.position + 1 };
       gives = gives_at s;
@@ -112,21 +112,21 @@ module _ (card : ℕ) {P U : Type 0} (written : P → Option (List ℕ)) (faults
     module _ {print_old print_new : P} {punch_old punch_new : U} (name : Name) (is_name : name ≡ problem.name) (count : ℕ) (is_count : count ≡ min (length (cards_of problem)) max_counted)
         (punches : Writes {T = ℕ} punch_written punch_faults punch_refusals punch_old punch_new (Ok count) (card_text (cards_of problem))) where
       -- the line is that of the report
-      own_line : (result : Result (Unit {0}) WriteStop) → Writes {T = Unit {0}} written faults refusals print_old print_new result (report_text (Punched name count)) →
-          Writes {T = Unit {0}} written faults refusals print_old print_new result (report_text (Punched problem.name (min (length (cards_of problem)) max_counted)))
-      own_line result prints = writes_same (ap (λ (n : Name). report_text (Punched n count)) is_name ∙ ap (λ (k : ℕ). report_text (Punched problem.name k)) is_count) prints
+      own_line : (result : Result (Unit {0}) WriteStop) → Writes {T = Unit {0}} written faults refusals print_old print_new result (report_text (BcdOut name count)) →
+          Writes {T = Unit {0}} written faults refusals print_old print_new result (report_text (BcdOut problem.name (min (length (cards_of problem)) max_counted)))
+      own_line result prints = writes_same (ap (λ (n : Name). report_text (BcdOut n count)) is_name ∙ ap (λ (k : ℕ). report_text (BcdOut problem.name k)) is_count) prints
 
-      pub deck_punched : Writes {T = Unit {0}} written faults refusals print_old print_new (Ok tt) (report_text (Punched name count)) →
+      pub deck_punched : Writes {T = Unit {0}} written faults refusals print_old print_new (Ok tt) (report_text (BcdOut name count)) →
           Performs linear_programming Bcdout card written faults refusals print_old print_new punch_written punch_faults punch_refusals punch_old punch_new cards machine machine (Ok Next)
       deck_punched prints = λ position executed state s. record {
-        gain = Punches (Punched problem.name (min (length (cards_of problem)) max_counted)) (cards_of problem);
+        gain = Punches (BcdOut problem.name (min (length (cards_of problem)) max_counted)) (cards_of problem);
         comes = (state, gives_at s, s);
         prints = own_line (Ok tt) prints;
         punches = wrote punch_written punch_faults punch_refusals count (card_text (cards_of problem)) punches;
       }
 
       -- the deck is punched, and the print stops in its line
-      pub deck_line_cut : (stop : WriteStop) → Writes {T = Unit {0}} written faults refusals print_old print_new (Err stop) (report_text (Punched name count)) →
+      pub deck_line_cut : (stop : WriteStop) → Writes {T = Unit {0}} written faults refusals print_old print_new (Err stop) (report_text (BcdOut name count)) →
           Performs linear_programming Bcdout card written faults refusals print_old print_new punch_written punch_faults punch_refusals punch_old punch_new cards machine machine (Err (halt.Print stop))
       deck_line_cut stop prints = λ position executed state s. record {
         outcome = punches_it state problem;

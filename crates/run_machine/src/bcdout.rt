@@ -38,7 +38,7 @@ impl<E: Engine> Machine<Setup<E>> {
             Ok(count) => count,
             Err(stop) => return Err(Halt::Punch(stop)),
         };
-        let report = Report::Punched {
+        let report = Report::BcdOut {
             name: problem.name(),
             cards: count,
         };

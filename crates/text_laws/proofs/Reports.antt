@@ -8,7 +8,7 @@ use Rattle.listing_definitions.specs.declared.Mark.{Mark}
 use Rattle.listing_definitions.specs.declared.Solver.{Solver}
 use Rattle.listing_definitions.specs.declared.Solver.TheVariants.{Primal, Paraobj, Pararhs}
 use Rattle.listing_definitions.specs.Numbers.{digits, rational_text}
-use Rattle.listing_definitions.specs.Report.{Line, Filed, PathVerdict, OptimalAt, CrossedAt, InfeasibleBy, UnboundedBy, Check, SolutionLines, RangeLines, Interval, ChainEnd, EndsAt, UnboundedPast, InfeasiblePast, Chain, Report, Titled, Converted, Revised, SetUp, Punched, Solved, Solution, Ranges, Parametric}
+use Rattle.listing_definitions.specs.Report.{Line, Filed, PathVerdict, OptimalAt, CrossedAt, InfeasibleBy, UnboundedBy, Check, SolutionLines, RangeLines, Interval, ChainEnd, EndsAt, UnboundedPast, InfeasiblePast, Chain, Report, Titled, Converted, Revised, SetUp, BcdOut, Solved, Solution, Ranges, Parametric}
 use Rattle.listing_definitions.specs.Text.{name8, table_text, check_text, solver_text, verdict_head, verdict_lines, interval_text, chain_end_text, solution_text, ranges_text, report_text}
 use Rattle.text_laws.specs.Told.{begins_line, AreNamed, IsEndNamed, IsNamed}
 use Rattle.text_laws.proofs.Cutting.{differ}
@@ -258,10 +258,10 @@ report_tells (SetUp a s) (SetUp b t) x_named y_named e =
     let name = name_tells a b _ _ x_named y_named (append_cancel_left (codes "SETUP   ") _ _ e) in
     let sense = sense_then s t [] [] (append_cancel_left (codes " ") _ _ name.1) in
     ap₂ SetUp name.0 sense.0
-report_tells (Punched a m) (Punched b n) x_named y_named e =
+report_tells (BcdOut a m) (BcdOut b n) x_named y_named e =
     let name = name_tells a b _ _ x_named y_named (append_cancel_left (codes "BCDOUT  ") _ _ e) in
     let cards = number_then (codes "\n") m n [] [] refl (append_cancel_left (codes " CARDS ") _ _ name.1) in
-    ap₂ Punched name.0 cards.0
+    ap₂ BcdOut name.0 cards.0
 report_tells (Solved s v c) (Solved t w d) x_named y_named e =
     let solver = solver_then s t (shown v c) (shown w d) e in
     let verdict = verdict_tells v w c d x_named y_named solver.1 in
@@ -279,44 +279,44 @@ report_tells (Parametric s x) (Solved t w d) x_named y_named e = absurd (no_run 
 report_tells (Titled a) (Converted b) x_named y_named e = absurd (begin_otherwise 2 _ _ refl e)
 report_tells (Titled a) (Revised b) x_named y_named e = absurd (begin_otherwise 2 _ _ refl e)
 report_tells (Titled a) (SetUp b t) x_named y_named e = absurd (begin_otherwise 2 _ _ refl e)
-report_tells (Titled a) (Punched b n) x_named y_named e = absurd (begin_otherwise 2 _ _ refl e)
+report_tells (Titled a) (BcdOut b n) x_named y_named e = absurd (begin_otherwise 2 _ _ refl e)
 report_tells (Titled a) (Solution n y) x_named y_named e = absurd (begin_otherwise 2 _ _ refl e)
 report_tells (Titled a) (Ranges y) x_named y_named e = absurd (begin_otherwise 2 _ _ refl e)
 report_tells (Converted a) (Titled b) x_named y_named e = absurd (begin_otherwise 2 _ _ refl e)
 report_tells (Converted a) (Revised b) x_named y_named e = absurd (begin_otherwise 2 _ _ refl e)
 report_tells (Converted a) (SetUp b t) x_named y_named e = absurd (begin_otherwise 2 _ _ refl e)
-report_tells (Converted a) (Punched b n) x_named y_named e = absurd (begin_otherwise 2 _ _ refl e)
+report_tells (Converted a) (BcdOut b n) x_named y_named e = absurd (begin_otherwise 2 _ _ refl e)
 report_tells (Converted a) (Solution n y) x_named y_named e = absurd (begin_otherwise 2 _ _ refl e)
 report_tells (Converted a) (Ranges y) x_named y_named e = absurd (begin_otherwise 2 _ _ refl e)
 report_tells (Revised a) (Titled b) x_named y_named e = absurd (begin_otherwise 2 _ _ refl e)
 report_tells (Revised a) (Converted b) x_named y_named e = absurd (begin_otherwise 2 _ _ refl e)
 report_tells (Revised a) (SetUp b t) x_named y_named e = absurd (begin_otherwise 2 _ _ refl e)
-report_tells (Revised a) (Punched b n) x_named y_named e = absurd (begin_otherwise 2 _ _ refl e)
+report_tells (Revised a) (BcdOut b n) x_named y_named e = absurd (begin_otherwise 2 _ _ refl e)
 report_tells (Revised a) (Solution n y) x_named y_named e = absurd (begin_otherwise 2 _ _ refl e)
 report_tells (Revised a) (Ranges y) x_named y_named e = absurd (begin_otherwise 2 _ _ refl e)
 report_tells (SetUp a s) (Titled b) x_named y_named e = absurd (begin_otherwise 2 _ _ refl e)
 report_tells (SetUp a s) (Converted b) x_named y_named e = absurd (begin_otherwise 2 _ _ refl e)
 report_tells (SetUp a s) (Revised b) x_named y_named e = absurd (begin_otherwise 2 _ _ refl e)
-report_tells (SetUp a s) (Punched b n) x_named y_named e = absurd (begin_otherwise 2 _ _ refl e)
+report_tells (SetUp a s) (BcdOut b n) x_named y_named e = absurd (begin_otherwise 2 _ _ refl e)
 report_tells (SetUp a s) (Solution n y) x_named y_named e = absurd (begin_otherwise 2 _ _ refl e)
 report_tells (SetUp a s) (Ranges y) x_named y_named e = absurd (begin_otherwise 2 _ _ refl e)
-report_tells (Punched a m) (Titled b) x_named y_named e = absurd (begin_otherwise 2 _ _ refl e)
-report_tells (Punched a m) (Converted b) x_named y_named e = absurd (begin_otherwise 2 _ _ refl e)
-report_tells (Punched a m) (Revised b) x_named y_named e = absurd (begin_otherwise 2 _ _ refl e)
-report_tells (Punched a m) (SetUp b t) x_named y_named e = absurd (begin_otherwise 2 _ _ refl e)
-report_tells (Punched a m) (Solution n y) x_named y_named e = absurd (begin_otherwise 2 _ _ refl e)
-report_tells (Punched a m) (Ranges y) x_named y_named e = absurd (begin_otherwise 2 _ _ refl e)
+report_tells (BcdOut a m) (Titled b) x_named y_named e = absurd (begin_otherwise 2 _ _ refl e)
+report_tells (BcdOut a m) (Converted b) x_named y_named e = absurd (begin_otherwise 2 _ _ refl e)
+report_tells (BcdOut a m) (Revised b) x_named y_named e = absurd (begin_otherwise 2 _ _ refl e)
+report_tells (BcdOut a m) (SetUp b t) x_named y_named e = absurd (begin_otherwise 2 _ _ refl e)
+report_tells (BcdOut a m) (Solution n y) x_named y_named e = absurd (begin_otherwise 2 _ _ refl e)
+report_tells (BcdOut a m) (Ranges y) x_named y_named e = absurd (begin_otherwise 2 _ _ refl e)
 report_tells (Solution m x) (Titled b) x_named y_named e = absurd (begin_otherwise 2 _ _ refl e)
 report_tells (Solution m x) (Converted b) x_named y_named e = absurd (begin_otherwise 2 _ _ refl e)
 report_tells (Solution m x) (Revised b) x_named y_named e = absurd (begin_otherwise 2 _ _ refl e)
 report_tells (Solution m x) (SetUp b t) x_named y_named e = absurd (begin_otherwise 2 _ _ refl e)
-report_tells (Solution m x) (Punched b n) x_named y_named e = absurd (begin_otherwise 2 _ _ refl e)
+report_tells (Solution m x) (BcdOut b n) x_named y_named e = absurd (begin_otherwise 2 _ _ refl e)
 report_tells (Solution m x) (Ranges y) x_named y_named e = absurd (begin_otherwise 2 _ _ refl e)
 report_tells (Ranges x) (Titled b) x_named y_named e = absurd (begin_otherwise 2 _ _ refl e)
 report_tells (Ranges x) (Converted b) x_named y_named e = absurd (begin_otherwise 2 _ _ refl e)
 report_tells (Ranges x) (Revised b) x_named y_named e = absurd (begin_otherwise 2 _ _ refl e)
 report_tells (Ranges x) (SetUp b t) x_named y_named e = absurd (begin_otherwise 2 _ _ refl e)
-report_tells (Ranges x) (Punched b n) x_named y_named e = absurd (begin_otherwise 2 _ _ refl e)
+report_tells (Ranges x) (BcdOut b n) x_named y_named e = absurd (begin_otherwise 2 _ _ refl e)
 report_tells (Ranges x) (Solution n y) x_named y_named e = absurd (begin_otherwise 2 _ _ refl e)
 report_tells (Titled a) (Solved t w d) x_named y_named e = absurd (differ (codes "T") (codes "P") refl (ap (take 1) e ∙ solver_first t _))
 report_tells (Solved s v c) (Titled b) x_named y_named e = absurd (differ (codes "T") (codes "P") refl (ap (take 1) (sym e) ∙ solver_first s _))
@@ -334,10 +334,10 @@ report_tells (SetUp a sense) (Solved t w d) x_named y_named e = absurd (differ (
 report_tells (Solved s v c) (SetUp b sense) x_named y_named e = absurd (differ (codes "S") (codes "P") refl (ap (take 1) (sym e) ∙ solver_first s _))
 report_tells (SetUp a sense) (Parametric t y) x_named y_named e = absurd (differ (codes "S") (codes "P") refl (ap (take 1) e ∙ solver_first t _))
 report_tells (Parametric s x) (SetUp b sense) x_named y_named e = absurd (differ (codes "S") (codes "P") refl (ap (take 1) (sym e) ∙ solver_first s _))
-report_tells (Punched a m) (Solved t w d) x_named y_named e = absurd (differ (codes "B") (codes "P") refl (ap (take 1) e ∙ solver_first t _))
-report_tells (Solved s v c) (Punched b n) x_named y_named e = absurd (differ (codes "B") (codes "P") refl (ap (take 1) (sym e) ∙ solver_first s _))
-report_tells (Punched a m) (Parametric t y) x_named y_named e = absurd (differ (codes "B") (codes "P") refl (ap (take 1) e ∙ solver_first t _))
-report_tells (Parametric s x) (Punched b n) x_named y_named e = absurd (differ (codes "B") (codes "P") refl (ap (take 1) (sym e) ∙ solver_first s _))
+report_tells (BcdOut a m) (Solved t w d) x_named y_named e = absurd (differ (codes "B") (codes "P") refl (ap (take 1) e ∙ solver_first t _))
+report_tells (Solved s v c) (BcdOut b n) x_named y_named e = absurd (differ (codes "B") (codes "P") refl (ap (take 1) (sym e) ∙ solver_first s _))
+report_tells (BcdOut a m) (Parametric t y) x_named y_named e = absurd (differ (codes "B") (codes "P") refl (ap (take 1) e ∙ solver_first t _))
+report_tells (Parametric s x) (BcdOut b n) x_named y_named e = absurd (differ (codes "B") (codes "P") refl (ap (take 1) (sym e) ∙ solver_first s _))
 report_tells (Solution m lines) (Solved t w d) x_named y_named e = absurd (differ (codes "S") (codes "P") refl (ap (take 1) e ∙ solver_first t _))
 report_tells (Solved s v c) (Solution n lines) x_named y_named e = absurd (differ (codes "S") (codes "P") refl (ap (take 1) (sym e) ∙ solver_first s _))
 report_tells (Solution m lines) (Parametric t y) x_named y_named e = absurd (differ (codes "S") (codes "P") refl (ap (take 1) e ∙ solver_first t _))
