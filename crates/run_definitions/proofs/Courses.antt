@@ -23,6 +23,8 @@ silent = record {
   Sweeps = λ sheet basis sweep end. ⊥;
   Shows = λ sheet basis lines. ⊥;
   Ranges = λ sheet basis lines. ⊥;
+  Punches = λ sheet basis cards. ⊥;
+  Installs = λ sheet basis end. ⊥;
   Overflows = λ question sheet bases evidence place. ⊥;
 }
 

@@ -24,7 +24,7 @@ use Rattle.run_definitions.specs.State.{Present, present_basis, State}
 use Rattle.run_definitions.specs.Moves.{Gain, Nothing, Prints, Punches, Outcome, Goes, Ends, Refusals, Move, Does, MayStop, Asks, Gives, or_fault}
 use Rattle.run_definitions.specs.Verbs.{or_deck_fault, or_selection_fault, selects}
 use Rattle.path_laws.specs.Laws.{IsNonsingularBasis}
-use Rattle.run_laws.specs.Truth.{Holds}
+use Rattle.run_laws.specs.Truth.{Holds, HoldsAtEnd}
 use Rattle.run_laws.proofs.Shapes.{basis_of_either}
 
 pub record EndsOptimally (setup : Option Present) (objective rhs : Option Name) : Type 0 where
@@ -80,7 +80,7 @@ HoldsGain at (Punches report cards) = Holds at report
 
 abbrev pub Keeps : State → Outcome → Type 0
 Keeps at (Goes gain after) = HoldsGain at gain × Knows after
-Keeps at (Ends gain ending) = HoldsGain at gain
+Keeps at (Ends gain ending) = HoldsGain at gain × HoldsAtEnd at ending
 
 pub record IsKept (S : Solving) (at : State) (card : ℕ) (move : Move) : Type 0 where
   pub by : (outcome : Outcome) → Gives S card move outcome → Keeps at outcome
@@ -93,23 +93,23 @@ may_stop S at card refusals move kept = record { by = gives_so }
   where
     gives_so : (given : Outcome) → Gives S card (MayStop refusals move) given → Keeps at given
     gives_so given (inl gives) = kept.by given gives
-    gives_so given (inr stop) = subst (Keeps at) (sym stop.3) tt
+    gives_so given (inr stop) = subst (Keeps at) (sym stop.3) (tt, tt)
 
 pub answered : (S : Solving) (at : State) (card : ℕ) (question : Question) (sheet : Sheet) (s : Basis) (go : Answer question → Outcome) →
     ((answer : Answer question) → IsRight S question sheet s answer → Keeps at (go answer)) → IsKept S at card (Asks question sheet s go)
 answered S at card question sheet s go kept = record { by = λ given a. subst (Keeps at) (sym a.2) (kept a.0 a.1) }
 
 pub unless_fault : {X : Type 0} (S : Solving) (at : State) (card : ℕ) (fault : VerbFault) (o : Option X) (go : X → Move) → ((x : X) → o ≡ Some x → IsKept S at card (go x)) → IsKept S at card (or_fault card fault o go)
-unless_fault S at card fault None go kept = does S at card _ tt
+unless_fault S at card fault None go kept = does S at card _ (tt, tt)
 unless_fault S at card fault (Some x) go kept = kept x refl
 
-pub unless_deck_fault : (S : Solving) (at : State) (card : ℕ) (r : Result (Problem ℕ) DeckFault) (go : Problem ℕ → Move) → ((problem : Problem ℕ) → IsKept S at card (go problem)) → IsKept S at card (or_deck_fault r go)
-unless_deck_fault S at card (Err fault) go kept = does S at card _ tt
-unless_deck_fault S at card (Ok problem) go kept = kept problem
+pub unless_deck_fault : {X : Type 0} (S : Solving) (at : State) (card : ℕ) (r : Result X DeckFault) (go : X → Move) → ((x : X) → r ≡ Ok x → IsKept S at card (go x)) → IsKept S at card (or_deck_fault r go)
+unless_deck_fault S at card (Err fault) go kept = does S at card _ (tt, tt)
+unless_deck_fault S at card (Ok x) go kept = kept x refl
 
 pub unless_selection_fault : (S : Solving) (at : State) (card : ℕ) (r : Result LinearProgram SelectionFault) (go : LinearProgram → Move) → ((lp : LinearProgram) → r ≡ Ok lp → IsKept S at card (go lp)) →
     IsKept S at card (or_selection_fault card r go)
-unless_selection_fault S at card (Err fault) go kept = does S at card _ tt
+unless_selection_fault S at card (Err fault) go kept = does S at card _ (tt, tt)
 unless_selection_fault S at card (Ok lp) go kept = kept lp refl
 
 pub selecting : (S : Solving) (at : State) (card : ℕ) (problem : Problem ℕ) (choice : Choice) (go : LinearProgram → Move) → ((lp : LinearProgram) → selected problem choice ≡ Ok lp → IsKept S at card (go lp)) →

@@ -1,6 +1,6 @@
--- The headline of a job: its answer is that of a run, and each report of this run holds of the state in
--- which it was made.
---     HoldSoFar, HoldInRun ..      each report of a run holds of the state in which it was made
+-- The headline of a job: its answer is that of a run, and each report of this run, and its end, holds of
+-- the state in which it was made.
+--     HoldSoFar, HoldInRun ..      each report of a run, and its end, holds of the state in which it was made
 --     HoldInEnd may_end            so does each report of a job, however it ends
 --     HoldInAnswer answer          and so of an answer to a job
 --     IsTrueAnswer job ..          the headline
@@ -14,7 +14,7 @@ use Rattle.run_definitions.specs.State.{State}
 use Rattle.run_definitions.specs.Moves.{printed_by}
 use Rattle.run_definitions.specs.Run.{Reaches, begun, stepped, IsRun, is_over, is_ended}
 use Rattle.run_definitions.specs.Answer.{Job, Failures, Answer, IsJobRun, run, MayEnd, by_itself, memory_in_run, memory_at_punch, punch_fails, IsAnswer, whole, print_fails, print_wants_memory}
-use Rattle.run_laws.specs.Truth.{Holds}
+use Rattle.run_laws.specs.Truth.{Holds, HoldsAtEnd}
 
 module _ (S : Solving) where
   module _ (program : Program) (decks : List (List Card)) where
@@ -29,8 +29,8 @@ module _ (S : Solving) where
     abbrev pub HoldInRun : {reports : List Report} {cards : List (List ℕ)} {ending : Ending} →
         IsRun S program decks reports cards ending → Type 0
     HoldInRun (is_over before over) = HoldSoFar before
-    HoldInRun (is_ended {reports} {cards} {state} gain before step) =
-        HoldSoFar before × All (Holds state) (printed_by gain)
+    HoldInRun {ending = ending} (is_ended {reports} {cards} {state} gain before step) =
+        HoldSoFar before × All (Holds state) (printed_by gain) × HoldsAtEnd state ending
 
   -- of a job where nothing fails: a fault of its cards or a control fault comes without a report
   abbrev pub HoldInJob : {bytes : List ℕ} {reports : List Report} {cards : List (List ℕ)} {ending : Ending} →
