@@ -16,6 +16,7 @@ use Rattle.problem_definitions.proofs.Each.{each-all}
 use Rattle.deck_definitions.specs.declared.DeckFault.{DeckFault}
 use Rattle.deck_definitions.specs.Conversion.{conversion}
 use Rattle.deck_definitions.specs.Decks.{deck_taken}
+use Rattle.basis_deck_definitions.specs.Reading.{basis_reading}
 use Rattle.deck_definitions.proofs.Converted.{ArePrintable, conversion-problem}
 use Rattle.control_definitions.specs.declared.NameCell.{NameCell}
 use Rattle.control_definitions.specs.declared.NameCell.TheVariants.{Xdata, Xpbname, Xobj, Xrhs, Xoldname, Xchrow, Xchcol}
@@ -23,22 +24,22 @@ use Rattle.control_definitions.specs.declared.NumberCell.{NumberCell}
 use Rattle.control_definitions.specs.declared.NumberCell.TheVariants.{Xparam, Xparmax}
 use Rattle.control_definitions.specs.declared.Demand.{Demand}
 use Rattle.control_definitions.specs.declared.Demand.TheVariants.{Xdonfs, Xdounb}
-use Rattle.control_definitions.specs.Program.{SetupOptions, Verb, Initialz, Title, MoveName, MoveNumber, MoveLimit, Mvadr, Goto, Convert, Setup, Primal, Revise, Ranging, Paraobj, Pararhs, Solution as SolutionVerb, Bcdout, Exit, Program}
+use Rattle.control_definitions.specs.Program.{SetupOptions, Verb, Initialz, Title, MoveName, MoveNumber, MoveLimit, Mvadr, Goto, Convert, Setup, Primal, Dual, Revise, Ranging, Paraobj, Pararhs, Solution as SolutionVerb, Bcdout, Punch, Insert, Exit, Program}
 use Rattle.selection_definitions.specs.declared.SelectionFault.{SelectionFault}
 use Rattle.selection_definitions.specs.Choice.{Choice}
 use Rattle.selection_definitions.specs.Selection.{selected}
 use Rattle.listing_definitions.specs.declared.Mark.{Mark}
 use Rattle.listing_definitions.specs.declared.Mark.TheVariants.{Optimal, Infeasible, Unbounded}
 use Rattle.listing_definitions.specs.declared.Solver.{Solver}
-use Rattle.listing_definitions.specs.declared.Solver.TheVariants.{Primal as ByPrimal}
+use Rattle.listing_definitions.specs.declared.Solver.TheVariants.{Primal as ByPrimal, Dual as ByDual}
 use Rattle.listing_definitions.specs.declared.VerbFault.{VerbFault}
 use Rattle.listing_definitions.specs.Report.{Report, Converted, Revised, Solution, Ranges}
-use Rattle.question_definitions.specs.Answers.{Basis, Sheet, Changing, Sweep, Question, Answer, OfPath, OfSolution, OfRanges, OfSweep, PathEnd, Reached, PathLimit, SweepEnd, Opening, Chained, SweepLimit}
+use Rattle.question_definitions.specs.Answers.{Basis, Sheet, Changing, Sweep, Question, Answer, OfPath, OfSolution, OfRanges, OfSweep, OfPunch, OfInstall, PathEnd, Reached, PathLimit, PricesWrong, SweepEnd, Opening, Chained, SweepLimit, InstallEnd, Installed, DependsBy}
 use Rattle.question_definitions.specs.Solving.{Solving}
 use Rattle.control_definitions.specs.Cells.{Cells, move_name, move_number, steps_allowed, set_demand}
 use Rattle.run_definitions.specs.State.{Present, gone_through, State, problem_of, choice_of}
 use Rattle.run_definitions.specs.Moves.{Outcome, Goes, Ends, Refusals, Move, Does, MayStop, Asks, Gives, or_fault}
-use Rattle.run_definitions.specs.Verbs.{revises, or_deck_fault, or_selection_fault, files, selects, not_less, change_row, change_set, asks, demanded, by_verdict, if_optimal, after_path, after_sweep, shows_present, solves, shows, ranges, sweeps, converts, sets_up, punches, verb_move}
+use Rattle.run_definitions.specs.Verbs.{revises, or_deck_fault, or_selection_fault, files, selects, not_less, change_row, change_set, asks, demanded, by_verdict, if_optimal, after_path, after_sweep, after_install, shows_present, solves, shows, ranges, sweeps, converts, sets_up, punches, punches_basis, inserts, verb_move}
 use Rattle.run_definitions.specs.Run.{counted, Step, Reaches, begun, stepped}
 use Rattle.run_definitions.specs.Answer.{IsSoFar}
 use Rattle.run_laws.specs.Laws.{FilesProblems}
@@ -86,9 +87,9 @@ unless_fault : {X : Type 0} (S : Solving) (card : ℕ) (fault : VerbFault) (o : 
 unless_fault S card fault None go led = does S card _ tt
 unless_fault S card fault (Some x) go led = led x refl
 
-unless_deck_fault : (S : Solving) (card : ℕ) (r : Result (Problem ℕ) DeckFault) (go : Problem ℕ → Move) → ((problem : Problem ℕ) → r ≡ Ok problem → IsLed S card (go problem)) → IsLed S card (or_deck_fault r go)
+unless_deck_fault : {X : Type 0} (S : Solving) (card : ℕ) (r : Result X DeckFault) (go : X → Move) → ((x : X) → r ≡ Ok x → IsLed S card (go x)) → IsLed S card (or_deck_fault r go)
 unless_deck_fault S card (Err fault) go led = does S card _ tt
-unless_deck_fault S card (Ok problem) go led = led problem refl
+unless_deck_fault S card (Ok x) go led = led x refl
 
 unless_selection_fault : (S : Solving) (card : ℕ) (r : Result LinearProgram SelectionFault) (go : LinearProgram → Move) → ((lp : LinearProgram) → IsLed S card (go lp)) → IsLed S card (or_selection_fault card r go)
 unless_selection_fault S card (Err fault) go led = does S card _ tt
@@ -193,6 +194,13 @@ module _ (S : Solving) where
   pathed solver card present state lawful is (Reached bases verdict check) =
       by_verdict_leads _ _ _ (record { file = lawful.file; setup = with_setup (gone_through bases present) is; decks = lawful.decks; name = lawful.name })
   pathed solver card present state lawful is PathLimit = tt
+  pathed solver card present state lawful is (PricesWrong j) = tt
+
+  installed : (card : ℕ) (lp : LinearProgram) (s : Basis) (taken : List Card × List (List Card)) (present : Present) (state : State) → AreLawful state → AllByRecursion ArePrintable taken.1 →
+      IsProblem present.problem → (end : InstallEnd) → Leads (after_install card lp s taken present state end)
+  installed card lp s taken present state lawful printable is Installed =
+      record { file = lawful.file; setup = with_setup (record present { opening = s; steps = [] }) is; decks = printable; name = lawful.name }
+  installed card lp s taken present state lawful printable is (DependsBy lines) = tt
 
   swept : (card : ℕ) (sweep : Sweep) (present : Present) (state : State) → AreLawful state → IsProblem present.problem → (end : SweepEnd) → Leads (after_sweep card sweep present state end)
   swept card sweep present state lawful is (Opening bases verdict check) =
@@ -201,11 +209,11 @@ module _ (S : Solving) where
       record { file = lawful.file; setup = with_setup (gone_through bases present) is; decks = lawful.decks; name = lawful.name }
   swept card sweep present state lawful is SweepLimit = tt
 
-  solves_led : (solver : Solver) (card : ℕ) (state : State) → AreLawful state → IsLed S card (solves solver card state)
-  solves_led solver card state lawful =
+  solves_led : (solver : Solver) (limit : Option ℕ) (card : ℕ) (state : State) → AreLawful state → IsLed S card (solves solver limit card state)
+  solves_led solver limit card state lawful =
       unless_fault S card VerbFault.NoSetup state.setup _ (λ present e.
       selecting S card present.problem _ _ (λ lp.
-      may_stop S card _ _ (answered S card (OfPath solver state.cells.xiterlim) _ _ _ (pathed solver card present state lawful (lawful.setup present e)))))
+      may_stop S card _ _ (answered S card (OfPath solver limit) _ _ _ (pathed solver card present state lawful (lawful.setup present e)))))
 
   showing_led : (card : ℕ) (state : State) (present : Present) (question : Question) (report : Answer question → Report) → AreLawful state →
       IsLed S card (shows_present card state present question report)
@@ -239,6 +247,21 @@ module _ (S : Solving) where
       unless_fault {X = ℚ} S card VerbFault.ParmaxBelow (not_less state.cells.xparam last) _ (λ to t.
       asked_led card present state lp (record { changing = changing; from = state.cells.xparam; to = to; limit = steps_allowed state.cells }) lawful (lawful.setup present e))))))
 
+  punches_basis_led : (card : ℕ) (state : State) → AreLawful state → IsLed S card (punches_basis card state)
+  punches_basis_led card state lawful =
+      unless_fault S card VerbFault.NoSetup state.setup _ (λ present e.
+      selecting S card present.problem _ _ (λ lp.
+      answered S card OfPunch _ _ _ (λ cards. record { file = lawful.file; setup = lawful.setup; decks = lawful.decks; name = lawful.name })))
+
+  inserts_led : (card : ℕ) (state : State) → AreLawful state → IsLed S card (inserts card state)
+  inserts_led card state lawful =
+      unless_fault S card VerbFault.NoSetup state.setup _ (λ present e.
+      selecting S card present.problem _ _ (λ lp.
+      unless_fault {X = List Card × List (List Card)} S card VerbFault.DeckNotFound (deck_taken state.cells.xdata state.decks) _ (λ taken t.
+      unless_deck_fault S card (basis_reading present.problem lp taken.0) _ (λ s read.
+      may_stop S card _ _ (answered S card (OfInstall s) _ _ _
+      (installed card lp s taken present state lawful (taken_printable state.cells.xdata state.decks taken lawful.decks t).1 (lawful.setup present e)))))))
+
   verb_led : (verb : Verb ℕ) (card : ℕ) (state : State) → MovesName verb → AreLawful state → IsLed S card (verb_move verb card state)
   unfolding verb_move
   verb_led Initialz card state names lawful = does S card _ (record { file = lawful.file; setup = lawful.setup; decks = lawful.decks; name = tt })
@@ -251,12 +274,15 @@ module _ (S : Solving) where
   verb_led Convert card state names lawful = converts_led S card state lawful
   verb_led Revise card state names lawful = revises_led S card state lawful
   verb_led (Setup options) card state names lawful = sets_up_led S card options state lawful
-  verb_led Primal card state names lawful = solves_led ByPrimal card state lawful
+  verb_led Primal card state names lawful = solves_led ByPrimal state.cells.xiterlim card state lawful
+  verb_led Dual card state names lawful = solves_led ByDual (Some (steps_allowed state.cells)) card state lawful
   verb_led SolutionVerb card state names lawful = shows_led card state lawful
   verb_led Ranging card state names lawful = ranges_led card state lawful
   verb_led Paraobj card state names lawful = sweeps_led card VerbFault.NoChangeRow change_row state.cells.xchrow state lawful
   verb_led Pararhs card state names lawful = sweeps_led card VerbFault.NoChangeSet change_set state.cells.xchcol state lawful
   verb_led Bcdout card state names lawful = punches_led S card state lawful
+  verb_led Punch card state names lawful = punches_basis_led card state lawful
+  verb_led Insert card state names lawful = inserts_led card state lawful
   verb_led Exit card state names lawful = does S card _ tt
 
   -- ---- runs

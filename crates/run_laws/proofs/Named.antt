@@ -9,7 +9,7 @@ use Rattle.card_definitions.specs.Cards.{Card, live, numbered_cards}
 use Rattle.problem_definitions.specs.Valid.{IsName}
 use Rattle.control_definitions.specs.declared.ControlFault.{ControlFault}
 use Rattle.control_definitions.specs.declared.NameCell.{NameCell}
-use Rattle.control_definitions.specs.Program.{Verb, Initialz, Title, MoveName, MoveNumber, MoveLimit, Mvadr, Goto, Convert, Setup, Primal, Revise, Ranging, Paraobj, Pararhs, Solution, Bcdout, Exit, Statement, Program, verb_by}
+use Rattle.control_definitions.specs.Program.{Verb, Initialz, Title, MoveName, MoveNumber, MoveLimit, Mvadr, Goto, Convert, Setup, Primal, Dual, Revise, Ranging, Paraobj, Pararhs, Solution, Bcdout, Punch, Insert, Exit, Statement, Program, verb_by}
 use Rattle.control_definitions.specs.Statements.{statement_of, verb_word, Arguments, Without, With, Malformed, arguments_of}
 use Rattle.control_definitions.specs.Arguments.{if_passes, is_name, quotation, quoted_name, title_argument, number_argument, limit_argument, label_text, setup_arguments}
 use Rattle.control_definitions.specs.Verbs.{Cell, OfName, OfNumber, OfLimit, cell_words, demand_words, moved, VerbWord, Alone, TakesTitle, TakesCell, TakesDemand, TakesLabel, TakesOptions, EndsProgram, verb_words, verb_with, verb_of}
@@ -138,12 +138,15 @@ by_named f (Goto label) holds = tt
 by_named f Convert holds = tt
 by_named f (Setup options) holds = tt
 by_named f Primal holds = tt
+by_named f Dual holds = tt
 by_named f Revise holds = tt
 by_named f Ranging holds = tt
 by_named f Paraobj holds = tt
 by_named f Pararhs holds = tt
 by_named f Solution holds = tt
 by_named f Bcdout holds = tt
+by_named f Punch holds = tt
+by_named f Insert holds = tt
 by_named f Exit holds = tt
 
 statement_named : (cards : List Card) (card : Card) → IfSome (statement_on cards card) (λ (statement : Statement ℕ). MovesName statement.verb)

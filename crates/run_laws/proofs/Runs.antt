@@ -4,19 +4,16 @@ use Rattle.std.specs.Prelude.{All, Option}
 use Rattle.std.proofs.lemmas.List.Elements.{All-nil, All-cons}
 use Rattle.control_definitions.specs.Program.{Program}
 use Rattle.listing_definitions.specs.declared.Mark.TheVariants.{Optimal, Infeasible, Unbounded}
-use Rattle.listing_definitions.specs.declared.Solver.{Solver}
-use Rattle.listing_definitions.specs.declared.Solver.TheVariants.{Primal as ByPrimal, Paraobj as ByParaobj, Pararhs as ByPararhs}
-use Rattle.listing_definitions.specs.Report.{PathVerdict, Check, Report, Titled, Converted, Revised, SetUp, BcdOut, Solved, Solution, Ranges, Parametric}
-use Rattle.listing_definitions.specs.Ending.{Ending}
-use Rattle.question_definitions.specs.Answers.{Basis, Sheet, Reached}
+use Rattle.listing_definitions.specs.declared.Solver.TheVariants.{Primal as ByPrimal, Dual as ByDual, Paraobj as ByParaobj, Pararhs as ByPararhs}
+use Rattle.listing_definitions.specs.Report.{Report, Titled, Converted, Revised, SetUp, BcdOut, BasisOut, Inserted, Solved, Solution, Ranges, Parametric}
+use Rattle.listing_definitions.specs.Ending.{Ending, Ended, WordsRefused, ControlStop, VerbStop, SingularStop, PriceStop, DeckStop, CardStop, LimitStop, StatementLimit, OverflowStop, ReadFault, PrintFault, PunchFault, Memory}
 use Rattle.question_definitions.specs.Solving.{Solving}
-use Rattle.answer_definitions.specs.Verdicts.{ReachesVerdict, IsSolvedBy}
 use Rattle.answer_definitions.specs.Real.{linear_programming}
 use Rattle.run_definitions.specs.State.{State}
 use Rattle.run_definitions.specs.Moves.{Gain, Nothing, Prints, Punches, printed_by, Outcome, Goes, Ends}
 use Rattle.run_definitions.specs.Run.{counted, Step, Reaches, begun, stepped, IsRun, is_over, is_ended}
 use Rattle.run_definitions.specs.Answer.{Job, Failures, Answer, IsProgramOf, job_decks, IsJobRun, card_fault, control_fault, run, MayEnd, words_refused, read_fails, by_itself, memory_at_start, memory_in_run, memory_at_punch, punch_fails, IsAnswer, whole, print_fails, print_wants_memory}
-use Rattle.run_laws.specs.Truth.{Holds}
+use Rattle.run_laws.specs.Truth.{Holds, HoldsAtEnd}
 use Rattle.run_laws.specs.Headline.{HoldSoFar, HoldInRun, HoldInJob, HoldInEnd, HoldInAnswer}
 use Rattle.run_laws.specs.Laws.{KnowsSolving, reports_of, TellsTruth}
 use Rattle.run_laws.proofs.Moves.{HasProblem, Knows, HoldsGain, Keeps, unmarked, without_setup}
@@ -30,7 +27,10 @@ uncounted state (Converted filed) holds = tt
 uncounted state (Revised filed) holds = tt
 uncounted state (SetUp name sense) holds = tt
 uncounted state (BcdOut name cards) holds = tt
+uncounted state (BasisOut name cards) holds = holds
+uncounted state (Inserted name basic) holds = holds
 uncounted state (Solved ByPrimal verdict check) holds = holds
+uncounted state (Solved ByDual verdict check) holds = holds
 uncounted state (Solved ByParaobj verdict check) holds = holds
 uncounted state (Solved ByPararhs verdict check) holds = holds
 uncounted state (Solution Optimal lines) holds = holds
@@ -38,6 +38,24 @@ uncounted state (Solution Infeasible lines) holds = tt
 uncounted state (Solution Unbounded lines) holds = tt
 uncounted state (Ranges lines) holds = holds
 uncounted state (Parametric solver chain) holds = holds
+
+-- and nothing of which an end speaks
+uncounted_end : (state : State) (ending : Ending) → HoldsAtEnd (counted state) ending → HoldsAtEnd state ending
+uncounted_end state (Ended code) holds = tt
+uncounted_end state WordsRefused holds = tt
+uncounted_end state (ControlStop fault) holds = tt
+uncounted_end state (VerbStop fault) holds = tt
+uncounted_end state (SingularStop basis) holds = holds
+uncounted_end state (PriceStop price) holds = holds
+uncounted_end state (DeckStop fault) holds = tt
+uncounted_end state (CardStop fault) holds = tt
+uncounted_end state (LimitStop reached) holds = tt
+uncounted_end state StatementLimit holds = tt
+uncounted_end state (OverflowStop overflow) holds = tt
+uncounted_end state ReadFault holds = tt
+uncounted_end state PrintFault holds = tt
+uncounted_end state PunchFault holds = tt
+uncounted_end state Memory holds = tt
 
 -- the report of a gain
 printed_holds : (state : State) (gain : Gain) → HoldsGain (counted state) gain → All (Holds state) (printed_by gain)
@@ -47,7 +65,7 @@ printed_holds state (Punches report cards) holds = All-cons (Holds state) report
 
 outcome_holds : (state : State) (outcome : Outcome) → Keeps (counted state) outcome → All (Holds state) (reports_of outcome)
 outcome_holds state (Goes gain after) keeps = printed_holds state gain keeps.0
-outcome_holds state (Ends gain ending) keeps = printed_holds state gain keeps
+outcome_holds state (Ends gain ending) keeps = printed_holds state gain keeps.0
 
 module _ (S : Solving) (solving : KnowsSolving S) where
   step_keeps : (program : Program) (state : State) (outcome : Outcome) → HasProblem state.setup → Knows state → Step S program state outcome → Keeps (counted state) outcome
@@ -68,6 +86,11 @@ module _ (S : Solving) (solving : KnowsSolving S) where
     step_holds reports cards state outcome reaches step =
         outcome_holds state outcome (step_keeps program state outcome (has_problem reports cards state reaches) (known reports cards state reaches) step)
 
+    end_of_step_holds : (reports : List Report) (cards : List (List ℕ)) (state : State) (gain : Gain) (ending : Ending) → Reaches S program (job_decks program bytes) reports cards state →
+        Step S program state (Ends gain ending) → HoldsAtEnd state ending
+    end_of_step_holds reports cards state gain ending reaches step =
+        uncounted_end state ending (step_keeps program state (Ends gain ending) (has_problem reports cards state reaches) (known reports cards state reaches) step).1
+
     so_far_holds : (reports : List Report) (cards : List (List ℕ)) (state : State) (reaches : Reaches S program (job_decks program bytes) reports cards state) → HoldSoFar S program (job_decks program bytes) reaches
     so_far_holds _ _ _ begun = tt
     so_far_holds _ _ _ (stepped {reports} {cards} {state} gain after before step) =
@@ -76,7 +99,7 @@ module _ (S : Solving) (solving : KnowsSolving S) where
     run_holds : (reports : List Report) (cards : List (List ℕ)) (ending : Ending) (runs : IsRun S program (job_decks program bytes) reports cards ending) → HoldInRun S program (job_decks program bytes) runs
     run_holds _ _ _ (is_over {reports} {cards} {state} before over) = so_far_holds reports cards state before
     run_holds _ _ ending (is_ended {reports} {cards} {state} gain before step) =
-        (so_far_holds reports cards state before, step_holds reports cards state (Ends gain ending) before step)
+        (so_far_holds reports cards state before, step_holds reports cards state (Ends gain ending) before step, end_of_step_holds reports cards state gain ending before step)
 
   job_holds : (bytes : List ℕ) (reports : List Report) (cards : List (List ℕ)) (ending : Ending) (runs : IsJobRun S bytes reports cards ending) → HoldInJob S runs
   job_holds bytes _ _ _ (card_fault fault is) = tt
@@ -101,21 +124,17 @@ module _ (S : Solving) (solving : KnowsSolving S) where
   pub tells_truth : TellsTruth S
   tells_truth = record {
     step = λ bytes program reports cards state outcome so_far step. step_holds bytes program so_far.is_program reports cards state outcome so_far.reaches step;
+    stop = λ bytes program reports cards state gain ending so_far step. end_of_step_holds bytes program so_far.is_program reports cards state gain ending so_far.reaches step;
     job = job_holds;
   }
-
--- PRIMAL alone asks for a path
-reached_by : (solver : Solver) (sheet : Sheet) (s : Basis) (limit : Option ℕ) (bases : List Basis) (verdict : PathVerdict) (check : Check) →
-    IsSolvedBy solver sheet s limit (Reached bases verdict check) → ReachesVerdict sheet s limit bases verdict check
-reached_by ByPrimal sheet s limit bases verdict check solved = solved
-reached_by ByParaobj sheet s limit bases verdict check solved = absurd solved
-reached_by ByPararhs sheet s limit bases verdict check solved = absurd solved
 
 pub knows_linear_programming : KnowsSolving linear_programming
 unfolding linear_programming
 knows_linear_programming = record {
-  solves = reached_by;
+  solves = λ solver sheet s limit end solved. solved;
   shows = λ sheet s lines shown. shown;
   ranges = λ sheet s lines ranged. ranged;
   sweeps = λ sheet s sweep end ran. ran;
+  punches = λ sheet s cards punched. punched;
+  installs = λ sheet t end installed. installed;
 }

@@ -10,6 +10,7 @@ use Rattle.problem_definitions.specs.Valid.{IsProblem}
 use Rattle.selection_definitions.specs.declared.SelectionFault.{SelectionFault}
 use Rattle.selection_definitions.specs.Choice.{Choice}
 use Rattle.selection_definitions.specs.Selection.{selected}
+use Rattle.basis_deck_definitions.specs.Placings.{HasNames}
 use Rattle.run_laws.proofs.Ends.{HasNoChange}
 
 faultless : (fault : Option SelectionFault) (value lp : LinearProgram) → unless fault value ≡ Ok lp → (fault ≡ None) × (value ≡ lp)
@@ -18,6 +19,13 @@ faultless (Some fault) value lp e = absurd (cc e)
 
 pub selected_is_lawful : (problem : Problem ℕ) (choice : Choice) (lp : LinearProgram) → IsProblem problem → selected problem choice ≡ Ok lp → IsLinearProgram lp
 selected_is_lawful problem choice lp is e = let h = is_chosen problem choice lp e in subst IsLinearProgram h.1 (program_is_lawful problem choice is h.0)
+
+-- its variables are the problem's rows and columns
+pub selected_has_names : (problem : Problem ℕ) (choice : Choice) (lp : LinearProgram) → selected problem choice ≡ Ok lp → HasNames problem lp
+selected_has_names problem choice lp e = subst (HasNames problem) (is_chosen problem choice lp e).1 (record { rows = refl; columns = refl })
+
+pub selected_without_change : (problem : Problem ℕ) (choice : Choice) (lp : LinearProgram) → selected problem choice ≡ Ok lp → lp.change ≡ None
+selected_without_change problem choice lp e = subst (λ (p : LinearProgram). p.change ≡ None) (is_chosen problem choice lp e).1 refl
 
 pub selected_has_no_change : (problem : Problem ℕ) (choice : Choice) (lp : LinearProgram) → selected problem choice ≡ Ok lp → HasNoChange lp
 selected_has_no_change problem choice lp e = subst HasNoChange (is_chosen problem choice lp e).1 (λ z. refl)

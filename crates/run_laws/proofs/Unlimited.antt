@@ -12,7 +12,7 @@ use Rattle.listing_definitions.specs.declared.Solver.TheVariants.{Primal as ByPr
 use Rattle.listing_definitions.specs.declared.VerbFault.{VerbFault}
 use Rattle.listing_definitions.specs.declared.VerbFault.TheVariants.{NoSetup}
 use Rattle.listing_definitions.specs.Report.{Report, Solved}
-use Rattle.question_definitions.specs.Answers.{Sheet, PathEnd, Reached, PathLimit}
+use Rattle.question_definitions.specs.Answers.{Sheet, PathEnd, Reached, PathLimit, PricesWrong}
 use Rattle.question_definitions.specs.Solving.{Solving}
 use Rattle.answer_definitions.specs.Verdicts.{IsSolved}
 use Rattle.answer_definitions.specs.Real.{linear_programming}
@@ -62,8 +62,9 @@ module _ (card : ℕ) (state : State) where
       verdict_other (mark_of verdict) (Solved ByPrimal verdict check) (record state { setup = Some (gone_through bases present); mark = Some (mark_of verdict) })
   path_other present sheet None none PathLimit solved = absurd solved
   path_other present sheet (Some most) none PathLimit solved = absurd (cc none)
+  path_other present sheet limit none (PricesWrong j) solved = absurd solved
 
-  solves_other : state.cells.xiterlim ≡ None → NeverLimited linear_programming card (solves ByPrimal card state)
+  solves_other : state.cells.xiterlim ≡ None → NeverLimited linear_programming card (solves ByPrimal state.cells.xiterlim card state)
   unfolding linear_programming
   solves_other none =
       unless_fault linear_programming card NoSetup state.setup _ (λ present.

@@ -1,12 +1,14 @@
 -- Each verb keeps what a run knows, and what it reports holds.
 use Rattle.std.proofs.Common.{◌≡◌, ℕ, List, [], refl, sym, ap, subst, ◌∙◌}
-use Rattle.std.specs.Prelude.{Option, Some, None, Ok, option_and_then}
+use Rattle.std.specs.Prelude.{Option, Some, None, Ok, option_and_then, min, length}
 use Rattle.exact_values.specs.Rational.{ℚ}
 use Rattle.lp_definitions.specs.LinearProgram.{LinearProgram}
 use Rattle.lp_definitions.specs.Basis.{opening_statuses}
 use Rattle.card_definitions.specs.Cards.{Card}
 use Rattle.deck_definitions.specs.Conversion.{conversion}
 use Rattle.deck_definitions.specs.Decks.{deck_taken}
+use Rattle.basis_deck_definitions.specs.Reading.{basis_reading}
+use Rattle.basis_deck_laws.proofs.Lawful.{lawful}
 use Rattle.revise_definitions.specs.Revision.{revision}
 use Rattle.problem_definitions.specs.Names.{Name}
 use Rattle.problem_definitions.specs.Problem.{Problem}
@@ -16,37 +18,41 @@ use Rattle.control_definitions.specs.declared.NumberCell.{NumberCell}
 use Rattle.control_definitions.specs.declared.NumberCell.TheVariants.{Xparam, Xparmax}
 use Rattle.control_definitions.specs.declared.Demand.{Demand}
 use Rattle.control_definitions.specs.declared.Demand.TheVariants.{Xdonfs, Xdounb}
-use Rattle.control_definitions.specs.Program.{SetupOptions, Verb, Initialz, Title, MoveName, MoveNumber, MoveLimit, Mvadr, Goto, Convert, Setup, Primal, Revise, Ranging, Paraobj, Pararhs, Solution as SolutionVerb, Bcdout, Exit}
+use Rattle.control_definitions.specs.Program.{SetupOptions, Verb, Initialz, Title, MoveName, MoveNumber, MoveLimit, Mvadr, Goto, Convert, Setup, Primal, Dual, Revise, Ranging, Paraobj, Pararhs, Solution as SolutionVerb, Bcdout, Punch, Insert, Exit}
 use Rattle.method_definitions.specs.Path.{PathEnding, EndsOptimal, EndsCrossed, EndsInfeasible, EndsUnbounded, EndsAt, last_of}
+use Rattle.method_definitions.specs.DualPath.{DualEndsAt}
+use Rattle.dual_laws.proofs.DualTurns.{dual_end, never_unbounded}
+use Rattle.dual_laws.proofs.OneDualPath.{dual_path_leads, path_right}
 use Rattle.selection_definitions.specs.Selection.{selected}
 use Rattle.listing_definitions.specs.declared.Mark.{Mark}
 use Rattle.listing_definitions.specs.declared.Mark.TheVariants.{Optimal, Infeasible, Unbounded}
-use Rattle.listing_definitions.specs.declared.Solver.TheVariants.{Primal as ByPrimal}
+use Rattle.listing_definitions.specs.declared.Solver.{Solver}
+use Rattle.listing_definitions.specs.declared.Solver.TheVariants.{Primal as ByPrimal, Dual as ByDual}
 use Rattle.listing_definitions.specs.declared.VerbFault.{VerbFault}
-use Rattle.listing_definitions.specs.Report.{SolutionLines, RangeLines, PathVerdict, Check, Filed, Report, Converted, Revised, SetUp, BcdOut, Solved, Solution, Ranges}
-use Rattle.question_definitions.specs.Answers.{Basis, Sheet, Changing, Row, Set, changing_name, sweeper, Sweep, Question, Answer, OfPath, OfSolution, OfRanges, OfSweep, PathEnd, Reached, PathLimit, SweepEnd, Opening, Chained, SweepLimit}
+use Rattle.listing_definitions.specs.Report.{SolutionLines, RangeLines, PathVerdict, Check, Filed, Report, Converted, Revised, SetUp, BcdOut, BasisOut, Inserted, Solved, Solution, Ranges}
+use Rattle.question_definitions.specs.Answers.{Basis, Sheet, Changing, Row, Set, changing_name, sweeper, Sweep, Question, Answer, OfPath, OfSolution, OfRanges, OfSweep, OfPunch, OfInstall, PathEnd, Reached, PathLimit, PricesWrong, SweepEnd, Opening, Chained, SweepLimit, InstallEnd, Installed, DependsBy}
 use Rattle.question_definitions.specs.Solving.{Solving, IsRight}
 use Rattle.answer_definitions.specs.Verdicts.{verdict_of}
 use Rattle.answer_definitions.specs.Sections.{IsShown, IsRanged}
 use Rattle.control_definitions.specs.Cells.{Cells, move_name, move_number, steps_allowed, set_demand}
 use Rattle.run_definitions.specs.State.{Present, present_basis, gone_through, State, problem_of, choice_of}
 use Rattle.run_definitions.specs.Moves.{Prints, Punches, next, Does}
-use Rattle.run_definitions.specs.Verbs.{size_of, files, not_less, change_row, change_set, asks, mark_of, mark_after, demanded, by_verdict, after_path, after_sweep, if_optimal, shows_present, solves, shows, ranges, sweeps, converts, revises, sets_up, punches, verb_move}
+use Rattle.run_definitions.specs.Verbs.{size_of, files, not_less, change_row, change_set, asks, max_counted, mark_of, mark_after, demanded, by_verdict, after_path, after_sweep, after_install, if_optimal, shows_present, solves, shows, ranges, sweeps, converts, revises, sets_up, punches, punches_basis, inserts, verb_move}
 use Rattle.path_laws.specs.Laws.{IsNonsingularBasis}
 use Rattle.path_laws.proofs.Ends.{optimal_end}
 use Rattle.path_laws.proofs.Steps.{opening_is}
 use Rattle.path_laws.proofs.OnePath.{path_leads}
-use Rattle.run_laws.specs.Truth.{PresentProgram, ShowsBest, ShowsRanges, IsOfProblem, named_by, TellsOfRun, ShowsOpening, ShowsChain, Holds}
+use Rattle.run_laws.specs.Truth.{PresentProgram, IsTrueOf, IsNotUnbounded, GivesBasis, ShowsBest, ShowsRanges, IsOfProblem, named_by, TellsOfRun, ShowsOpening, ShowsChain, Holds}
 use Rattle.run_laws.specs.Sweeps.{gone_over, IsTrueSweep}
 use Rattle.run_laws.proofs.Sweeps.{swept_leads, swept_true}
 use Rattle.run_laws.specs.Laws.{KnowsSolving}
 use Rattle.run_laws.proofs.ChangeRow.{changes_freely, row_named, set_named, last_is}
-use Rattle.run_laws.proofs.Ends.{IsProvedBest, shown_is_best, path_is_true}
-use Rattle.run_laws.proofs.Selected.{selected_is_lawful, selected_has_no_change}
+use Rattle.run_laws.proofs.Ends.{IsProvedBest, shown_is_best, end_is_true, path_is_true}
+use Rattle.run_laws.proofs.Selected.{selected_is_lawful, selected_has_names, selected_without_change, selected_has_no_change}
 use Rattle.run_laws.proofs.Moves.{HasProblem, EndsOptimally, KnowsMark, Knows, Keeps, IsKept, unmarked, HasBases, KnowsBases, without_setup, with_basis, does, may_stop, answered, unless_fault, unless_deck_fault, unless_selection_fault, selecting}
 use Rattle.sweep_laws.proofs.Runs.{last_of-append}
 
--- ---- PRIMAL
+-- ---- PRIMAL and DUAL
 
 -- a path that leaves the mark OPTIMAL has ended optimal at the basis that it reached
 marks : (present : Present) (lp : LinearProgram) (objective rhs : Option Name) (bases : List Basis) (verdict : PathVerdict) (steps : ℕ) (ending : PathEnding) →
@@ -77,7 +83,7 @@ goes_to present objective rhs lp bases is at =
 module _ (at : State) where
   demanded_keeps : (position : Option ℕ) (code : ℕ) (report : Report) (state : State) → Holds at report → Knows state → Keeps at (demanded position code report state)
   demanded_keeps (Some position) code report state holds knows = (holds, record { marked = knows.marked; bases = knows.bases })
-  demanded_keeps None code report state holds knows = holds
+  demanded_keeps None code report state holds knows = (holds, tt)
 
   by_verdict_keeps : (mark : Mark) (report : Report) (state : State) → Holds at report → Knows state → Keeps at (by_verdict mark report state)
   by_verdict_keeps Optimal report state holds knows = (holds, record { marked = knows.marked; bases = knows.bases })
@@ -204,11 +210,18 @@ told_of state present lp sweep lawful set is asked Tells tells = record {
   tells = tells;
 }
 
+-- no end of a dual path is unbounded
+bounded_verdict : (sheet : Sheet) (s : Basis) (steps : ℕ) (ending : PathEnding) → DualEndsAt sheet.lp s ending → IsNotUnbounded (verdict_of sheet steps ending)
+bounded_verdict sheet s steps (EndsOptimal z y) ends = tt
+bounded_verdict sheet s steps (EndsCrossed k) ends = tt
+bounded_verdict sheet s steps (EndsInfeasible w) ends = tt
+bounded_verdict sheet s steps (EndsUnbounded z d) ends = absurd (never_unbounded sheet.lp s z d ends)
+
 module _ (S : Solving) (solving : KnowsSolving S) where
   pathed : (card : ℕ) (present : Present) (state : State) (lp : LinearProgram) → HasProblem state.setup → selected present.problem (choice_of state.cells present.options) ≡ Ok lp → state.setup ≡ Some present → HasBases present →
       (end : PathEnd) → S.Solves ByPrimal (record { problem = present.problem; lp = lp }) (present_basis present) state.cells.xiterlim end → Keeps state (after_path ByPrimal card present state end)
   pathed card present state lp lawful is set has (Reached bases verdict check) solved =
-      let reaches = solving.solves ByPrimal (record { problem = present.problem; lp = lp }) (present_basis present) state.cells.xiterlim bases verdict check solved in
+      let reaches = solving.solves ByPrimal (record { problem = present.problem; lp = lp }) (present_basis present) state.cells.xiterlim (Reached bases verdict check) solved in
       let at = has.in_each state.cells.xobj state.cells.xrhs lp is in
       let program = present_program state.setup state.cells present lp lawful set is in
       let plain = selected_has_no_change present.problem (choice_of state.cells present.options) lp is in
@@ -218,9 +231,97 @@ module _ (S : Solving) (solving : KnowsSolving S) where
         marked = marks present lp state.cells.xobj state.cells.xrhs bases verdict _ reaches.ending is reaches.ends.ends reaches.is_verdict.is_verdict;
         bases = goes_to present state.cells.xobj state.cells.xrhs lp bases is (path_leads lp (present_basis present) bases at reaches.ends.is_path);
       })
-  pathed card present state lp lawful is set has PathLimit solved = tt
+  pathed card present state lp lawful is set has PathLimit solved = (tt, tt)
+  pathed card present state lp lawful is set has (PricesWrong j) solved = absurd (solving.solves ByPrimal (record { problem = present.problem; lp = lp }) (present_basis present) state.cells.xiterlim (PricesWrong j) solved)
 
-  solving_kept : (card : ℕ) (state : State) → HasProblem state.setup → Knows state → IsKept S state card (solves ByPrimal card state)
+  -- an end of the dual path is one of the simplex path, since prices stay right
+  dual_pathed : (limit : Option ℕ) (card : ℕ) (present : Present) (state : State) (lp : LinearProgram) → HasProblem state.setup → selected present.problem (choice_of state.cells present.options) ≡ Ok lp → state.setup ≡ Some present → HasBases present →
+      (end : PathEnd) → S.Solves ByDual (record { problem = present.problem; lp = lp }) (present_basis present) limit end → Keeps state (after_path ByDual card present state end)
+  dual_pathed limit card present state lp lawful is set has (Reached bases verdict check) solved =
+      let sheet : Sheet = record { problem = present.problem; lp = lp } in
+      let found = solving.solves ByDual sheet (present_basis present) limit (Reached bases verdict check) solved in
+      let reaches = found.1 in
+      let at = has.in_each state.cells.xobj state.cells.xrhs lp is in
+      let program = present_program state.setup state.cells present lp lawful set is in
+      let plain = selected_has_no_change present.problem (choice_of state.cells present.options) lp is in
+      let still = selected_without_change present.problem (choice_of state.cells present.options) lp is in
+      let there = dual_path_leads lp (present_basis present) bases at reaches.ends.is_path in
+      let right = path_right lp program.is_linear_program still (present_basis present) bases at found.0 reaches.ends.is_path in
+      let ends = dual_end lp (last_of (present_basis present) bases) reaches.ending program.is_linear_program there right reaches.ends.ends in
+      let holds = subst (IsTrueOf sheet) (sym reaches.is_verdict.is_verdict) (end_is_true sheet (last_of (present_basis present) bases) _ program.is_linear_program plain there reaches.ending ends) in
+      let bounded = subst IsNotUnbounded (sym reaches.is_verdict.is_verdict) (bounded_verdict sheet (last_of (present_basis present) bases) _ reaches.ending reaches.ends.ends) in
+      by_verdict_keeps state (mark_of verdict) (Solved ByDual verdict check) _ (program, holds, bounded)
+      (record {
+        marked = marks present lp state.cells.xobj state.cells.xrhs bases verdict _ reaches.ending is ends reaches.is_verdict.is_verdict;
+        bases = goes_to present state.cells.xobj state.cells.xrhs lp bases is there;
+      })
+  dual_pathed limit card present state lp lawful is set has PathLimit solved = (tt, tt)
+  dual_pathed limit card present state lp lawful is set has (PricesWrong j) solved = (tt, record {
+    program = present_program state.setup state.cells present lp lawful set is;
+    is_wrong = solving.solves ByDual (record { problem = present.problem; lp = lp }) (present_basis present) limit (PricesWrong j) solved;
+  })
+
+  dual_kept : (limit : Option ℕ) (card : ℕ) (state : State) → HasProblem state.setup → Knows state → IsKept S state card (solves ByDual limit card state)
+  dual_kept limit card state lawful knows =
+      unless_fault S state card VerbFault.NoSetup state.setup _ (λ present e.
+      selecting S state card present.problem _ _ (λ lp is.
+      may_stop S state card _ _ (answered S state card (OfPath ByDual limit) _ _ _ (dual_pathed limit card present state lp lawful is e (knows.bases present e)))))
+
+  -- ---- PUNCH and INSERT
+
+  punches_basis_kept : (card : ℕ) (state : State) → HasProblem state.setup → Knows state → IsKept S state card (punches_basis card state)
+  punches_basis_kept card state lawful knows =
+      unless_fault S state card VerbFault.NoSetup state.setup _ (λ present e.
+      selecting S state card present.problem _ _ (λ lp is.
+      answered S state card OfPunch _ _ _ (λ cards punched. (record {
+        program = present_program state.setup state.cells present lp lawful e is;
+        is_basis = (knows.bases present e).in_each state.cells.xobj state.cells.xrhs lp is;
+        is_name = refl;
+        is_count = ap (λ (deck : List (List ℕ)). min (length deck) max_counted) (solving.punches (record { problem = present.problem; lp = lp }) (present_basis present) cards punched);
+      }, record { marked = knows.marked; bases = knows.bases }))))
+
+  installed : (card : ℕ) (lp : LinearProgram) (s : Basis) (taken : List Card × List (List Card)) (present : Present) (state : State) → HasProblem state.setup → state.setup ≡ Some present →
+      selected present.problem (choice_of state.cells present.options) ≡ Ok lp → deck_taken state.cells.xdata state.decks ≡ Some taken → basis_reading present.problem lp taken.0 ≡ Ok s →
+      (end : InstallEnd) → S.Installs (record { problem = present.problem; lp = lp }) s end → Keeps state (after_install card lp s taken present state end)
+  installed card lp s taken present state held set is took read Installed installs =
+      let gives : GivesBasis state.setup state.cells state.decks = record {
+        program = present_program state.setup state.cells present lp held set is;
+        taken = taken;
+        is_taken = took;
+        basis = s;
+        is_read = read;
+      } in
+      let at : IsNonsingularBasis lp s = record {
+        is_basis = lawful present.problem lp taken.0 s (selected_has_names present.problem (choice_of state.cells present.options) lp is) read;
+        nonsingular = solving.installs (record { problem = present.problem; lp = lp }) s Installed installs;
+      } in (
+        record { gives = gives; is_basis = at; is_name = refl; is_count = refl },
+        record { marked = unmarked _ _ _; bases = with_basis (record present { opening = s; steps = [] }) state.cells.xobj state.cells.xrhs lp is at },
+      )
+  installed card lp s taken present state held set is took read (DependsBy lines) installs =
+      let depends = solving.installs (record { problem = present.problem; lp = lp }) s (DependsBy lines) installs in (tt, record {
+        gives = record {
+          program = present_program state.setup state.cells present lp held set is;
+          taken = taken;
+          is_taken = took;
+          basis = s;
+          is_read = read;
+        };
+        column = depends.0;
+        coefficients = depends.1;
+        is_dependency = depends.2;
+        are_lines = depends.3;
+      })
+
+  inserts_kept : (card : ℕ) (state : State) → HasProblem state.setup → Knows state → IsKept S state card (inserts card state)
+  inserts_kept card state held knows =
+      unless_fault S state card VerbFault.NoSetup state.setup _ (λ present e.
+      selecting S state card present.problem _ _ (λ lp is.
+      unless_fault {X = List Card × List (List Card)} S state card VerbFault.DeckNotFound (deck_taken state.cells.xdata state.decks) _ (λ taken t.
+      unless_deck_fault S state card (basis_reading present.problem lp taken.0) _ (λ s read.
+      may_stop S state card _ _ (answered S state card (OfInstall s) _ _ _ (installed card lp s taken present state held e is t read))))))
+
+  solving_kept : (card : ℕ) (state : State) → HasProblem state.setup → Knows state → IsKept S state card (solves ByPrimal state.cells.xiterlim card state)
   solving_kept card state lawful knows =
       unless_fault S state card VerbFault.NoSetup state.setup _ (λ present e.
       selecting S state card present.problem _ _ (λ lp is.
@@ -265,7 +366,7 @@ module _ (S : Solving) (solving : KnowsSolving S) where
     told_of state present lp sweep lawful set is asked (ShowsChain (record { from = sweep.from; change = changing_name sweep.changing; intervals = intervals; end = end })) (record { is_from = refl; is_change = refl; is_true = truth }),
     record { marked = unmarked _ _ _; bases = goes_to present state.cells.xobj state.cells.xrhs lp bases is at },
   )
-  swept card sweep present state lp lawful set is asked SweepLimit at truth = tt
+  swept card sweep present state lp lawful set is asked SweepLimit at truth = (tt, tt)
 
   asked_kept : (card : ℕ) (present : Present) (state : State) (lp : LinearProgram) (sweep : Sweep) → HasProblem state.setup → HasBases present → state.setup ≡ Some present →
       selected present.problem (choice_of state.cells present.options) ≡ Ok lp → IsAskedFor state present sweep →
@@ -297,13 +398,13 @@ module _ (S : Solving) (solving : KnowsSolving S) where
   converts_kept : (card : ℕ) (state : State) → IsKept S state card (converts card state)
   converts_kept card state =
       unless_fault {X = List Card × List (List Card)} S state card VerbFault.DeckNotFound (deck_taken state.cells.xdata state.decks) _ (λ taken e.
-      unless_deck_fault S state card (conversion taken.0 state.cells.xpbname) (files Converted taken.1 state) (files_kept card Converted taken.1 state (λ filed. tt)))
+      unless_deck_fault S state card (conversion taken.0 state.cells.xpbname) (files Converted taken.1 state) (λ problem is. files_kept card Converted taken.1 state (λ filed. tt) problem))
 
   revises_kept : (card : ℕ) (state : State) → IsKept S state card (revises card state)
   revises_kept card state =
       unless_fault S state card VerbFault.NoProblem (problem_of state.cells.xoldname state.file) _ (λ old e.
       unless_fault {X = List Card × List (List Card)} S state card VerbFault.DeckNotFound (deck_taken state.cells.xdata state.decks) _ (λ taken f.
-      unless_deck_fault S state card (revision old taken.0 state.cells.xpbname) (files Revised taken.1 state) (files_kept card Revised taken.1 state (λ filed. tt))))
+      unless_deck_fault S state card (revision old taken.0 state.cells.xpbname) (files Revised taken.1 state) (λ problem is. files_kept card Revised taken.1 state (λ filed. tt) problem)))
 
   opened : (card : ℕ) (options : SetupOptions) (state : State) (problem : Problem ℕ) (lp : LinearProgram) → selected problem (choice_of state.cells options) ≡ Ok lp →
       IsKept S state card (Does (next (Prints (SetUp problem.name options.sense)) (record state { setup = Some (record { problem = problem; options = options; opening = opening_statuses lp; steps = [] }); mark = None })))
@@ -339,9 +440,12 @@ module _ (S : Solving) (solving : KnowsSolving S) where
   verb_kept Revise card state lawful knows = revises_kept card state
   verb_kept (Setup options) card state lawful knows = sets_up_kept card options state
   verb_kept Primal card state lawful knows = solving_kept card state lawful knows
+  verb_kept Dual card state lawful knows = dual_kept (Some (steps_allowed state.cells)) card state lawful knows
   verb_kept SolutionVerb card state lawful knows = shows_kept card state lawful knows
   verb_kept Ranging card state lawful knows = ranges_kept card state lawful knows
   verb_kept Paraobj card state lawful knows = sweeps_kept card VerbFault.NoChangeRow change_row state.cells.xchrow state (row_named state.cells) lawful knows
   verb_kept Pararhs card state lawful knows = sweeps_kept card VerbFault.NoChangeSet change_set state.cells.xchcol state (set_named state.cells) lawful knows
   verb_kept Bcdout card state lawful knows = punches_kept card state knows
-  verb_kept Exit card state lawful knows = does S state card _ tt
+  verb_kept Punch card state lawful knows = punches_basis_kept card state lawful knows
+  verb_kept Insert card state lawful knows = inserts_kept card state lawful knows
+  verb_kept Exit card state lawful knows = does S state card _ (tt, tt)
