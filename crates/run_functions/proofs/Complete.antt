@@ -2,7 +2,7 @@
 use Rattle.std.proofs.Common.{◌≡◌, ◌⊎◌, ℕ, List, Some, inl, inr, sym, ap, subst, ◌∙◌}
 use Rattle.deck_definitions.specs.Written.{card_text}
 use Rattle.listing_definitions.specs.Report.{Report}
-use Rattle.listing_definitions.specs.Ending.{Ending, Ended, WordsRefused, ControlStop, VerbStop, DeckStop, CardStop, LimitStop, StatementLimit, OverflowStop, ReadFault, PrintFault, PunchFault, Memory, status_of}
+use Rattle.listing_definitions.specs.Ending.{Ending, Ended, WordsRefused, ControlStop, VerbStop, SingularStop, PriceStop, DeckStop, CardStop, LimitStop, StatementLimit, OverflowStop, ReadFault, PrintFault, PunchFault, Memory, status_of}
 use Rattle.listing_definitions.specs.Listing.{listing}
 use Rattle.question_definitions.specs.Solving.{Solving}
 use Rattle.run_definitions.specs.Answer.{Job, bytes_of, Failures, Gains, IsJobRun, MayEnd, words_refused, read_fails, by_itself, memory_at_start, memory_in_run, memory_at_punch, punch_fails, IsAnswer, whole, print_fails, print_wants_memory}
@@ -16,6 +16,8 @@ all_gained (Ended code) punched text own gains = gains
 all_gained WordsRefused punched text own gains = gains
 all_gained (ControlStop fault) punched text own gains = gains
 all_gained (VerbStop fault) punched text own gains = gains
+all_gained (SingularStop basis) punched text own gains = gains
+all_gained (PriceStop price) punched text own gains = gains
 all_gained (DeckStop fault) punched text own gains = gains
 all_gained (CardStop fault) punched text own gains = gains
 all_gained (LimitStop reached) punched text own gains = gains

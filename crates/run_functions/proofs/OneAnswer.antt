@@ -2,18 +2,22 @@
 use Rattle.std.proofs.Common.{◌≡◌, ℕ, ◌+◌, ◌-◌, List, [], ◌∷◌, ◌++◌, length, refl, sym, ap, ap₂, ◌∙◌, arith, Bool, true, false}
 use Rattle.std.specs.Prelude.{Option, None, Some, if◌then◌else◌}
 use Rattle.exact_values.specs.Rational.{ℚ, zero_ℚ, ◌-ℚ◌}
-use Rattle.lp_definitions.specs.LinearProgram.{IsVariable, IsLinearProgram, value_at, cost, lower_of, upper_of}
+use Rattle.lp_definitions.specs.LinearProgram.{size, IsVariable, IsLinearProgram, value_at, cost, lower_of, upper_of}
 use Rattle.lp_definitions.specs.Basis.{is_in, basics_of, Tableau, IsTableau, objective_rate, price_at}
 use Rattle.lp_laws.proofs.Uniqueness.{one_point, one_table}
-use Rattle.method_definitions.specs.Path.{PathEnding}
+use Rattle.method_definitions.specs.Path.{PathEnding, listed}
 use Rattle.path_laws.specs.Laws.{IsNonsingularBasis}
 use Rattle.path_laws.proofs.Numbered.{map_same}
 use Rattle.path_laws.proofs.Endless.{objective_value-same}
 use Rattle.path_laws.proofs.OnePath.{one_path, not_both}
+use Rattle.dual_laws.proofs.DualTurns.{not_both_prices, one_wrong}
+use Rattle.dual_laws.proofs.OneDualPath.{one_path as one_dual_path, not_both as dual_not_both}
+use Rattle.basis_deck_laws.proofs.Dependencies.{one_dependency, dependency_singular}
 use Rattle.listing_definitions.specs.Report.{Value, Code, Number, limit_value, Line, SolutionLines, PathVerdict, Check}
-use Rattle.question_definitions.specs.Answers.{Basis, Sheet, PathEnd, Reached, PathLimit}
-use Rattle.answer_definitions.specs.Lines.{at_of, name_of}
-use Rattle.answer_definitions.specs.Verdicts.{verdict_of, check_of, IsVerdict, IsSolved}
+use Rattle.question_definitions.specs.Answers.{Basis, Sheet, PathEnd, Reached, PathLimit, PricesWrong, InstallEnd, Installed, DependsBy}
+use Rattle.answer_definitions.specs.Lines.{at_of, name_of, ray_lines}
+use Rattle.answer_definitions.specs.Bases.{IsInstalled}
+use Rattle.answer_definitions.specs.Verdicts.{verdict_of, check_of, IsVerdict, IsSolved, IsDualSolved}
 use Rattle.answer_definitions.specs.Sections.{solution_lines, IsShown}
 use Rattle.run_laws.proofs.OneEnd.{one_check}
 
@@ -36,10 +40,45 @@ module _ (sheet : Sheet) where
     path_once None (Reached bases v c) PathLimit first second = absurd second
     path_once (Some most) (Reached bases v c) PathLimit first second =
         absurd (not_both sheet.lp lawful most s at (record { bases = bases; ending = first.ending; ends = first.ends; within = first.within_limit }) second)
+    path_once limit (Reached bases v c) (PricesWrong j) first second = absurd second
     path_once None PathLimit (Reached bases v c) first second = absurd first
     path_once (Some most) PathLimit (Reached bases v c) first second =
         absurd (not_both sheet.lp lawful most s at (record { bases = bases; ending = second.ending; ends = second.ends; within = second.within_limit }) first)
     path_once limit PathLimit PathLimit first second = refl
+    path_once limit PathLimit (PricesWrong j) first second = absurd second
+    path_once limit (PricesWrong j) end first second = absurd first
+
+    pub dual_path_once : (limit : Option ℕ) (a b : PathEnd) → IsDualSolved sheet s limit a → IsDualSolved sheet s limit b → a ≡ b
+    dual_path_once limit (Reached bases v c) (Reached others w d) first second =
+        let one = one_dual_path sheet.lp lawful s bases others first.1.ending second.1.ending at first.1.ends second.1.ends in
+        reached_same bases others first.1.ending second.1.ending v w c d one.same_bases one.same_ending first.1.is_verdict second.1.is_verdict
+    dual_path_once None (Reached bases v c) PathLimit first second = absurd second
+    dual_path_once (Some most) (Reached bases v c) PathLimit first second =
+        absurd (dual_not_both sheet.lp lawful most s at (record { bases = bases; ending = first.1.ending; ends = first.1.ends; within = first.1.within_limit }) second.1)
+    dual_path_once limit (Reached bases v c) (PricesWrong j) first second = absurd (not_both_prices sheet.lp s j lawful at first.0 second)
+    dual_path_once None PathLimit (Reached bases v c) first second = absurd first
+    dual_path_once (Some most) PathLimit (Reached bases v c) first second =
+        absurd (dual_not_both sheet.lp lawful most s at (record { bases = bases; ending = second.1.ending; ends = second.1.ends; within = second.1.within_limit }) first.1)
+    dual_path_once limit PathLimit PathLimit first second = refl
+    dual_path_once None PathLimit (PricesWrong j) first second = absurd first
+    dual_path_once (Some most) PathLimit (PricesWrong j) first second = absurd (not_both_prices sheet.lp s j lawful at first.0 second)
+    dual_path_once limit (PricesWrong j) (Reached bases v c) first second = absurd (not_both_prices sheet.lp s j lawful at second.0 first)
+    dual_path_once None (PricesWrong j) PathLimit first second = absurd second
+    dual_path_once (Some most) (PricesWrong j) PathLimit first second = absurd (not_both_prices sheet.lp s j lawful at second.0 first)
+    dual_path_once limit (PricesWrong j) (PricesWrong k) first second = ap PricesWrong (one_wrong sheet.lp s j k lawful at first second)
+
+-- ---- what comes of a basis that is read
+
+-- the first dependency of a set of columns is one, and so its lines are
+pub installed_once : (sheet : Sheet) (t : Basis) (a b : InstallEnd) → IsInstalled sheet t a → IsInstalled sheet t b → a ≡ b
+installed_once sheet t Installed Installed first second = refl
+installed_once sheet t Installed (DependsBy lines) first second = absurd (dependency_singular sheet.lp.matrix (basics_of t) second.0 second.1 second.2 first)
+installed_once sheet t (DependsBy lines) Installed first second = absurd (dependency_singular sheet.lp.matrix (basics_of t) first.0 first.1 first.2 second)
+installed_once sheet t (DependsBy lines) (DependsBy others) first second =
+    let one = one_dependency sheet.lp.matrix (basics_of t) first.0 second.0 first.1 second.1 first.2 second.2 in
+    let alike : listed sheet.lp.matrix first.1 ≡ listed sheet.lp.matrix second.1 =
+        map_same first.1 second.1 (size sheet.lp.matrix) 1 (λ k low high. one.1 k (low, omega (arith, high))) in
+    ap DependsBy (first.3 ∙ ap (ray_lines sheet) alike ∙ sym second.3)
 
 -- ---- the lines of SOLUTION
 

@@ -6,9 +6,9 @@ use Rattle.std.proofs.lemmas.List.{append-nil, append_assoc}
 use Rattle.std.proofs.lemmas.Option.{slice_get_within}
 use Rattle.control_definitions.specs.Program.{Program}
 use Rattle.listing_definitions.specs.declared.Solver.{Solver}
-use Rattle.listing_definitions.specs.declared.Solver.TheVariants.{Primal, Paraobj, Pararhs}
+use Rattle.listing_definitions.specs.declared.Solver.TheVariants.{Primal, Dual, Paraobj, Pararhs}
 use Rattle.listing_definitions.specs.Report.{Report}
-use Rattle.listing_definitions.specs.Ending.{Ending, Ended, WordsRefused, ControlStop, VerbStop, DeckStop, CardStop, LimitStop, StatementLimit, OverflowStop, ReadFault, PrintFault, PunchFault, Memory}
+use Rattle.listing_definitions.specs.Ending.{Ending, Ended, WordsRefused, ControlStop, VerbStop, SingularStop, PriceStop, DeckStop, CardStop, LimitStop, StatementLimit, OverflowStop, ReadFault, PrintFault, PunchFault, Memory}
 use Rattle.question_definitions.specs.Answers.{Basis, Sheet, Question, OfPath, OfSolution, OfRanges, PathEnd}
 use Rattle.question_definitions.specs.Solving.{Solving}
 use Rattle.answer_definitions.specs.Verdicts.{IsSolvedBy}
@@ -25,7 +25,7 @@ use Rattle.run_functions.specs.Laws.{IsAsked, MeetsNoEvidence, AnswersOnce, IsOv
 use Rattle.run_functions.proofs.Stops.{statement_evidence}
 use Rattle.run_functions.proofs.OneRange.{ranged_once}
 use Rattle.run_functions.proofs.Swept.{swept_once}
-use Rattle.run_functions.proofs.OneAnswer.{path_once, shown_once}
+use Rattle.run_functions.proofs.OneAnswer.{path_once, dual_path_once, installed_once, shown_once}
 use Rattle.run_functions.proofs.Steps.{Comes, two_outcomes, steps, GoesOn, same_so_far, goes_on, continues}
 use Rattle.lp_setup.proofs.FreeRows.{is_chosen}
 
@@ -64,6 +64,8 @@ overflow_or_not (Ended code) = inr (λ h. let e = h.1 in cc e)
 overflow_or_not WordsRefused = inr (λ h. let e = h.1 in cc e)
 overflow_or_not (ControlStop fault) = inr (λ h. let e = h.1 in cc e)
 overflow_or_not (VerbStop fault) = inr (λ h. let e = h.1 in cc e)
+overflow_or_not (SingularStop basis) = inr (λ h. let e = h.1 in cc e)
+overflow_or_not (PriceStop price) = inr (λ h. let e = h.1 in cc e)
 overflow_or_not (DeckStop fault) = inr (λ h. let e = h.1 in cc e)
 overflow_or_not (CardStop fault) = inr (λ h. let e = h.1 in cc e)
 overflow_or_not (LimitStop reached) = inr (λ h. let e = h.1 in cc e)
@@ -324,9 +326,10 @@ lawful_of question sheet s asked = selected_is_lawful sheet.problem asked.choice
 no_change : (question : Question) (sheet : Sheet) (s : Basis) → IsAsked question sheet s → sheet.lp.change ≡ None
 no_change question sheet s asked = subst (λ (p : LinearProgram). p.change ≡ None) (is_chosen sheet.problem asked.choice sheet.lp asked.is_selected).1 refl
 
--- PRIMAL alone asks for a path
+-- PRIMAL and DUAL alone ask for a path
 path_once_by : (solver : Solver) (limit : Option ℕ) (sheet : Sheet) (s : Basis) (a b : PathEnd) → IsAsked (OfPath solver limit) sheet s → IsSolvedBy solver sheet s limit a → IsSolvedBy solver sheet s limit b → a ≡ b
 path_once_by Primal limit sheet s a b asked first second = path_once sheet s (lawful_of (OfPath Primal limit) sheet s asked) asked.is_basis limit a b first second
+path_once_by Dual limit sheet s a b asked first second = dual_path_once sheet s (lawful_of (OfPath Dual limit) sheet s asked) asked.is_basis limit a b first second
 path_once_by Paraobj limit sheet s a b asked first second = absurd first
 path_once_by Pararhs limit sheet s a b asked first second = absurd first
 
@@ -338,4 +341,6 @@ answers_once = record {
   solutions = λ mark sheet s a b asked first second. shown_once sheet s a b (lawful_of (OfSolution mark) sheet s asked) asked.is_basis first second;
   ranges = λ sheet s a b asked first second. ranged_once sheet s a b (lawful_of OfRanges sheet s asked) (no_change OfRanges sheet s asked) asked.suits first second;
   sweeps = swept_once;
+  punches = λ sheet s a b asked first second. first ∙ sym second;
+  installs = λ t sheet s a b asked first second. installed_once sheet t a b first second;
 }

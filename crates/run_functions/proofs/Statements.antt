@@ -9,28 +9,30 @@ use Rattle.problem_definitions.specs.Problem.{Problem}
 use Rattle.deck_definitions.specs.declared.DeckFault.{DeckFault}
 use Rattle.deck_definitions.specs.Conversion.{conversion}
 use Rattle.deck_definitions.specs.Decks.{deck_taken}
+use Rattle.basis_deck_definitions.specs.Reading.{basis_reading}
+use Rattle.basis_deck_laws.proofs.Lawful.{lawful as lawful_basis}
 use Rattle.revise_definitions.specs.Revision.{revision}
 use Rattle.control_definitions.specs.Cells.{steps_allowed}
-use Rattle.control_definitions.specs.Program.{SetupOptions, Verb, Initialz, Title, MoveName, MoveNumber, MoveLimit, Mvadr, Goto, Convert, Setup, Primal, Revise, Ranging, Paraobj, Pararhs, Solution as SolutionVerb, Bcdout, Exit}
+use Rattle.control_definitions.specs.Program.{SetupOptions, Verb, Initialz, Title, MoveName, MoveNumber, MoveLimit, Mvadr, Goto, Convert, Setup, Primal, Dual, Revise, Ranging, Paraobj, Pararhs, Solution as SolutionVerb, Bcdout, Punch, Insert, Exit}
 use Rattle.selection_definitions.specs.declared.SelectionFault.{SelectionFault}
 use Rattle.selection_definitions.specs.Choice.{Choice}
 use Rattle.selection_definitions.specs.Selection.{selected}
 use Rattle.listing_definitions.specs.declared.Mark.{Mark}
 use Rattle.listing_definitions.specs.declared.VerbFault.{VerbFault}
 use Rattle.listing_definitions.specs.Report.{Report, Converted, Revised, Solution, Ranges}
-use Rattle.question_definitions.specs.Answers.{Changing, Sweep, Question, Answer, OfPath, OfSolution, OfRanges, OfSweep}
+use Rattle.question_definitions.specs.Answers.{Basis, Changing, Sweep, Question, Answer, OfPath, OfSolution, OfRanges, OfSweep, OfPunch, OfInstall}
 use Rattle.question_definitions.specs.Solving.{Solving}
 use Rattle.run_definitions.specs.State.{Present, present_basis, State, problem_of, choice_of}
 use Rattle.run_definitions.specs.Moves.{Outcome, Refusals, Move, Does, MayStop, or_fault}
-use Rattle.run_definitions.specs.Verbs.{or_deck_fault, or_selection_fault, files, selects, not_less, change_row, change_set, asks, if_optimal, shows_present, solves, shows, ranges, sweeps, converts, revises, sets_up, punches, verb_move}
+use Rattle.run_definitions.specs.Verbs.{or_deck_fault, or_selection_fault, files, selects, not_less, change_row, change_set, asks, if_optimal, shows_present, solves, shows, ranges, sweeps, converts, revises, sets_up, punches, punches_basis, inserts, verb_move}
 use Rattle.method_definitions.specs.Path.{EndsOptimal, EndsAt}
 use Rattle.path_laws.proofs.Ends.{optimal_end}
 use Rattle.std.proofs.lemmas.Option.{same_Some}
 use Rattle.lp_definitions.specs.Basis.{IsOptimalBasis}
 use Rattle.listing_definitions.specs.declared.Solver.{Solver}
-use Rattle.listing_definitions.specs.declared.Solver.TheVariants.{Primal as ByPrimal}
+use Rattle.listing_definitions.specs.declared.Solver.TheVariants.{Primal as ByPrimal, Dual as ByDual}
 use Rattle.listing_definitions.specs.declared.Mark.TheVariants.{Optimal}
-use Rattle.run_laws.proofs.Selected.{selected_is_lawful}
+use Rattle.run_laws.proofs.Selected.{selected_is_lawful, selected_has_names}
 use Rattle.run_laws.proofs.Moves.{HasProblem, EndsOptimally, Knows}
 use Rattle.run_laws.specs.Truth.{IsOfProblem}
 use Rattle.run_laws.proofs.ChangeRow.{row_of_problem, set_of_problem, changes_part, last_no_less}
@@ -51,9 +53,9 @@ module _ (S : Solving) where
   unless_fault card fault None go is = does _
   unless_fault card fault (Some x) go is = is x refl
 
-  unless_deck_fault : (r : Result (Problem ℕ) DeckFault) (go : Problem ℕ → Move) → ((problem : Problem ℕ) → IsOnce S (go problem)) → IsOnce S (or_deck_fault r go)
+  unless_deck_fault : {X : Type 0} (r : Result X DeckFault) (go : X → Move) → ((x : X) → r ≡ Ok x → IsOnce S (go x)) → IsOnce S (or_deck_fault r go)
   unless_deck_fault (Err fault) go is = does _
-  unless_deck_fault (Ok problem) go is = is problem
+  unless_deck_fault (Ok x) go is = is x refl
 
   unless_selection_fault : (card : ℕ) (r : Result LinearProgram SelectionFault) (go : LinearProgram → Move) → ((lp : LinearProgram) → r ≡ Ok lp → IsOnce S (go lp)) → IsOnce S (or_selection_fault card r go)
   unless_selection_fault card (Err fault) go is = does _
@@ -67,13 +69,13 @@ module _ (S : Solving) where
   converts_once : (card : ℕ) (state : State) → IsOnce S (converts card state)
   converts_once card state =
       unless_fault {X = List Card × List (List Card)} card VerbFault.DeckNotFound (deck_taken state.cells.xdata state.decks) _ (λ taken e.
-      unless_deck_fault (conversion taken.0 state.cells.xpbname) (files Converted taken.1 state) (λ problem. does _))
+      unless_deck_fault (conversion taken.0 state.cells.xpbname) (files Converted taken.1 state) (λ problem is. does _))
 
   revises_once : (card : ℕ) (state : State) → IsOnce S (revises card state)
   revises_once card state =
       unless_fault card VerbFault.NoProblem (problem_of state.cells.xoldname state.file) _ (λ old o.
       unless_fault {X = List Card × List (List Card)} card VerbFault.DeckNotFound (deck_taken state.cells.xdata state.decks) _ (λ taken e.
-      unless_deck_fault (revision old taken.0 state.cells.xpbname) (files Revised taken.1 state) (λ problem. does _)))
+      unless_deck_fault (revision old taken.0 state.cells.xpbname) (files Revised taken.1 state) (λ problem is. does _)))
 
   sets_up_once : (card : ℕ) (options : SetupOptions) (state : State) → IsOnce S (sets_up card options state)
   sets_up_once card options state =
@@ -100,11 +102,26 @@ module _ (S : Solving) where
   }
 
   module _ (card : ℕ) (state : State) (lawful : HasProblem state.setup) (knows : Knows state) where
-    solves_once : (solver : Solver) → HasOneAnswer S (OfPath solver state.cells.xiterlim) → IsOnce S (solves solver card state)
-    solves_once solver one =
+    solves_once : (solver : Solver) (limit : Option ℕ) → HasOneAnswer S (OfPath solver limit) → IsOnce S (solves solver limit card state)
+    solves_once solver limit one =
         unless_fault card VerbFault.NoSetup state.setup _ (λ present e.
         selecting card present.problem (choice_of state.cells present.options) _ (λ lp is.
-        asked (OfPath solver state.cells.xiterlim) present state lp _ one lawful knows e is tt))
+        asked (OfPath solver limit) present state lp _ one lawful knows e is tt))
+
+    punches_basis_once : HasOneAnswer S OfPunch → IsOnce S (punches_basis card state)
+    punches_basis_once one =
+        unless_fault card VerbFault.NoSetup state.setup _ (λ present e.
+        selecting card present.problem (choice_of state.cells present.options) _ (λ lp is.
+        record { once = (asked OfPunch present state lp _ one lawful knows e is tt).once }))
+
+    inserts_once : ((t : Basis) → HasOneAnswer S (OfInstall t)) → IsOnce S (inserts card state)
+    inserts_once one =
+        unless_fault card VerbFault.NoSetup state.setup _ (λ present e.
+        selecting card present.problem (choice_of state.cells present.options) _ (λ lp is.
+        unless_fault {X = List Card × List (List Card)} card VerbFault.DeckNotFound (deck_taken state.cells.xdata state.decks) _ (λ taken t.
+        unless_deck_fault (basis_reading present.problem lp taken.0) _ (λ s read.
+        asked (OfInstall s) present state lp _ (one s) lawful knows e is
+        (lawful_basis present.problem lp taken.0 s (selected_has_names present.problem (choice_of state.cells present.options) lp is) read)))))
 
     showing_once : (present : Present) (question : Question) (report : Answer question → Report) → HasOneAnswer S question → state.setup ≡ Some present →
         ((lp : LinearProgram) → selected present.problem (choice_of state.cells present.options) ≡ Ok lp → Suits question (record { problem = present.problem; lp = lp }) (present_basis present)) →
@@ -176,7 +193,8 @@ module _ (S : Solving) where
     verb_once Convert card state lawful knows = converts_once card state
     verb_once Revise card state lawful knows = revises_once card state
     verb_once (Setup options) card state lawful knows = sets_up_once card options state
-    verb_once Primal card state lawful knows = solves_once card state lawful knows ByPrimal (answers.paths ByPrimal state.cells.xiterlim)
+    verb_once Primal card state lawful knows = solves_once card state lawful knows ByPrimal state.cells.xiterlim (answers.paths ByPrimal state.cells.xiterlim)
+    verb_once Dual card state lawful knows = solves_once card state lawful knows ByDual (Some (steps_allowed state.cells)) (answers.paths ByDual (Some (steps_allowed state.cells)))
     verb_once SolutionVerb card state lawful knows = shows_once card state lawful knows answers.solutions
     verb_once Ranging card state lawful knows = ranges_once card state lawful knows answers.ranges
     verb_once Paraobj card state lawful knows =
@@ -184,4 +202,6 @@ module _ (S : Solving) where
     verb_once Pararhs card state lawful knows =
         sweeps_once card state lawful knows VerbFault.NoChangeSet change_set state.cells.xchcol set_of_problem answers.sweeps
     verb_once Bcdout card state lawful knows = punches_once card state
+    verb_once Punch card state lawful knows = punches_basis_once card state lawful knows answers.punches
+    verb_once Insert card state lawful knows = inserts_once card state lawful knows answers.installs
     verb_once Exit card state lawful knows = does _

@@ -10,23 +10,25 @@ use Rattle.problem_definitions.specs.Problem.{Problem}
 use Rattle.deck_definitions.specs.declared.DeckFault.{DeckFault}
 use Rattle.deck_definitions.specs.Conversion.{conversion}
 use Rattle.deck_definitions.specs.Decks.{deck_taken}
+use Rattle.basis_deck_definitions.specs.Reading.{basis_reading}
 use Rattle.revise_definitions.specs.Revision.{revision}
 use Rattle.control_definitions.specs.Cells.{steps_allowed}
-use Rattle.control_definitions.specs.Program.{Program, SetupOptions, Verb, Initialz, Title, MoveName, MoveNumber, MoveLimit, Mvadr, Goto, Convert, Setup, Primal, Revise, Ranging, Paraobj, Pararhs, Solution as SolutionVerb, Bcdout, Exit}
+use Rattle.control_definitions.specs.Program.{Program, SetupOptions, Verb, Initialz, Title, MoveName, MoveNumber, MoveLimit, Mvadr, Goto, Convert, Setup, Primal, Dual, Revise, Ranging, Paraobj, Pararhs, Solution as SolutionVerb, Bcdout, Punch, Insert, Exit}
 use Rattle.selection_definitions.specs.declared.SelectionFault.{SelectionFault}
 use Rattle.selection_definitions.specs.Choice.{Choice}
 use Rattle.selection_definitions.specs.Selection.{selected}
 use Rattle.listing_definitions.specs.declared.Mark.{Mark}
 use Rattle.listing_definitions.specs.declared.Mark.TheVariants.{Optimal, Infeasible, Unbounded}
-use Rattle.listing_definitions.specs.declared.Solver.TheVariants.{Primal as ByPrimal}
+use Rattle.listing_definitions.specs.declared.Solver.{Solver}
+use Rattle.listing_definitions.specs.declared.Solver.TheVariants.{Primal as ByPrimal, Dual as ByDual}
 use Rattle.listing_definitions.specs.declared.VerbFault.{VerbFault}
 use Rattle.listing_definitions.specs.Report.{Report, Converted, Revised, Solved, Solution, Ranges}
-use Rattle.listing_definitions.specs.Ending.{Overflow, Ending, Ended, WordsRefused, ControlStop, VerbStop, DeckStop, CardStop, LimitStop, StatementLimit, OverflowStop, ReadFault, PrintFault, PunchFault, Memory}
-use Rattle.question_definitions.specs.Answers.{Changing, sweeper, Sweep, Question, Answer, OfSolution, OfRanges, PathEnd, Reached, PathLimit, SweepEnd, Opening, Chained, SweepLimit}
+use Rattle.listing_definitions.specs.Ending.{Overflow, Ending, Ended, WordsRefused, ControlStop, VerbStop, SingularStop, PriceStop, DeckStop, CardStop, LimitStop, StatementLimit, OverflowStop, ReadFault, PrintFault, PunchFault, Memory}
+use Rattle.question_definitions.specs.Answers.{Basis, Changing, sweeper, Sweep, Question, Answer, OfSolution, OfRanges, PathEnd, Reached, PathLimit, PricesWrong, SweepEnd, Opening, Chained, SweepLimit, InstallEnd, Installed, DependsBy}
 use Rattle.question_definitions.specs.Solving.{Solving}
 use Rattle.run_definitions.specs.State.{Present, gone_through, State, problem_of, choice_of}
 use Rattle.run_definitions.specs.Moves.{Gain, Outcome, Goes, Ends, Refusals, Move, Does, MayStop, Asks, Gives, or_fault}
-use Rattle.run_definitions.specs.Verbs.{or_deck_fault, or_selection_fault, files, selects, not_less, change_row, change_set, demanded, by_verdict, mark_of, if_optimal, after_path, after_sweep, shows_present, solves, shows, ranges, sweeps, converts, revises, sets_up, punches, verb_move}
+use Rattle.run_definitions.specs.Verbs.{or_deck_fault, or_selection_fault, files, selects, not_less, change_row, change_set, demanded, by_verdict, mark_of, if_optimal, after_path, after_sweep, after_install, shows_present, solves, shows, ranges, sweeps, converts, revises, sets_up, punches, punches_basis, inserts, verb_move}
 use Rattle.run_definitions.specs.Run.{counted, at_end, at_limit, IsRun, is_over, is_ended}
 use Rattle.run_definitions.specs.Answer.{IsJobRun, card_fault, control_fault, run}
 use Rattle.run_functions.specs.Laws.{HasEvidence}
@@ -44,6 +46,8 @@ IsOfItself _ = Unit {0}
 abbrev pub IsEndOfRun : Ending → Type 0
 IsEndOfRun (Ended code) = code ≤ 2
 IsEndOfRun (VerbStop fault) = Unit {0}
+IsEndOfRun (SingularStop basis) = Unit {0}
+IsEndOfRun (PriceStop price) = Unit {0}
 IsEndOfRun (DeckStop fault) = Unit {0}
 IsEndOfRun (LimitStop reached) = Unit {0}
 IsEndOfRun StatementLimit = Unit {0}
@@ -78,9 +82,9 @@ unless_fault : {X : Type 0} (card : ℕ) (fault : VerbFault) (o : Option X) (go 
 unless_fault card fault None go never = does _ tt
 unless_fault card fault (Some x) go never = never x
 
-unless_deck_fault : (r : Result (Problem ℕ) DeckFault) (go : Problem ℕ → Move) → ((problem : Problem ℕ) → NeverStops (go problem)) → NeverStops (or_deck_fault r go)
+unless_deck_fault : {X : Type 0} (r : Result X DeckFault) (go : X → Move) → ((x : X) → NeverStops (go x)) → NeverStops (or_deck_fault r go)
 unless_deck_fault (Err fault) go never = does _ tt
-unless_deck_fault (Ok problem) go never = never problem
+unless_deck_fault (Ok x) go never = never x
 
 unless_selection_fault : (card : ℕ) (r : Result LinearProgram SelectionFault) (go : LinearProgram → Move) → ((lp : LinearProgram) → NeverStops (go lp)) → NeverStops (or_selection_fault card r go)
 unless_selection_fault card (Err fault) go never = does _ tt
@@ -119,10 +123,15 @@ by_verdict_other Optimal report state = tt
 by_verdict_other Infeasible report state = demanded_other state.cells.xdonfs 1 report state (lit≤ tt)
 by_verdict_other Unbounded report state = demanded_other state.cells.xdounb 2 report state (lit≤ tt)
 
-after_path_other : (card : ℕ) (present : Present) (state : State) (end : PathEnd) → IsOther (after_path ByPrimal card present state end)
-after_path_other card present state (Reached bases verdict check) =
-    by_verdict_other (mark_of verdict) (Solved ByPrimal verdict check) (record state { setup = Some (gone_through bases present); mark = Some (mark_of verdict) })
-after_path_other card present state PathLimit = tt
+after_path_other : (solver : Solver) (card : ℕ) (present : Present) (state : State) (end : PathEnd) → IsOther (after_path solver card present state end)
+after_path_other solver card present state (Reached bases verdict check) =
+    by_verdict_other (mark_of verdict) (Solved solver verdict check) (record state { setup = Some (gone_through bases present); mark = Some (mark_of verdict) })
+after_path_other solver card present state PathLimit = tt
+after_path_other solver card present state (PricesWrong j) = tt
+
+after_install_other : (card : ℕ) (lp : LinearProgram) (s : Basis) (taken : List Card × List (List Card)) (present : Present) (state : State) (end : InstallEnd) → IsOther (after_install card lp s taken present state end)
+after_install_other card lp s taken present state Installed = tt
+after_install_other card lp s taken present state (DependsBy lines) = tt
 
 after_sweep_other : (card : ℕ) (sweep : Sweep) (present : Present) (state : State) (end : SweepEnd) → IsOther (after_sweep card sweep present state end)
 after_sweep_other card sweep present state (Opening bases verdict check) =
@@ -131,11 +140,24 @@ after_sweep_other card sweep present state (Chained bases intervals end) = tt
 after_sweep_other card sweep present state SweepLimit = tt
 
 module _ (card : ℕ) (state : State) where
-  solves_never : NeverStops (solves ByPrimal card state)
-  solves_never =
+  solves_never : (solver : Solver) (limit : Option ℕ) → NeverStops (solves solver limit card state)
+  solves_never solver limit =
       unless_fault card VerbFault.NoSetup state.setup _ (λ present.
       selecting card present.problem (choice_of state.cells present.options) _ (λ lp.
-      record { other = after_path_other card present state }))
+      record { other = after_path_other solver card present state }))
+
+  punches_basis_never : NeverStops (punches_basis card state)
+  punches_basis_never =
+      unless_fault card VerbFault.NoSetup state.setup _ (λ present.
+      selecting card present.problem (choice_of state.cells present.options) _ (λ lp. record { other = λ cards. tt }))
+
+  inserts_never : NeverStops (inserts card state)
+  inserts_never =
+      unless_fault card VerbFault.NoSetup state.setup _ (λ present.
+      selecting card present.problem (choice_of state.cells present.options) _ (λ lp.
+      unless_fault {X = List Card × List (List Card)} card VerbFault.DeckNotFound (deck_taken state.cells.xdata state.decks) _ (λ taken.
+      unless_deck_fault (basis_reading present.problem lp taken.0) _ (λ s.
+      record { other = after_install_other card lp s taken present state }))))
 
   showing_never : (present : Present) (question : Question) (report : Answer question → Report) → NeverStops (shows_present card state present question report)
   showing_never present question report = unless_selection_fault card (selected present.problem (choice_of state.cells present.options)) _ (λ lp. record { other = λ lines. tt })
@@ -174,12 +196,15 @@ verb_never (Goto position) card state = does _ tt
 verb_never Convert card state = converts_never card state
 verb_never Revise card state = revises_never card state
 verb_never (Setup options) card state = sets_up_never card options state
-verb_never Primal card state = solves_never card state
+verb_never Primal card state = solves_never card state ByPrimal state.cells.xiterlim
+verb_never Dual card state = solves_never card state ByDual (Some (steps_allowed state.cells))
 verb_never SolutionVerb card state = shows_never card state
 verb_never Ranging card state = ranges_never card state
 verb_never Paraobj card state = sweeps_never card state VerbFault.NoChangeRow change_row state.cells.xchrow
 verb_never Pararhs card state = sweeps_never card state VerbFault.NoChangeSet change_set state.cells.xchcol
 verb_never Bcdout card state = punches_never card state
+verb_never Punch card state = punches_basis_never card state
+verb_never Insert card state = inserts_never card state
 verb_never Exit card state = does _ (lit≤ tt)
 
 -- ---- so an overflow has evidence
@@ -201,6 +226,8 @@ other_end (Ended code) other = other
 other_end WordsRefused other = other
 other_end (ControlStop fault) other = other
 other_end (VerbStop fault) other = other
+other_end (SingularStop basis) other = other
+other_end (PriceStop price) other = other
 other_end (DeckStop fault) other = other
 other_end (CardStop fault) other = other
 other_end (LimitStop reached) other = other
@@ -234,6 +261,8 @@ of_itself (Ended code) own = tt
 of_itself WordsRefused own = tt
 of_itself (ControlStop fault) own = tt
 of_itself (VerbStop fault) own = tt
+of_itself (SingularStop basis) own = tt
+of_itself (PriceStop price) own = tt
 of_itself (DeckStop fault) own = tt
 of_itself (CardStop fault) own = tt
 of_itself (LimitStop reached) own = tt

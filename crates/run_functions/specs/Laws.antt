@@ -13,7 +13,7 @@ use Rattle.std.specs.Prelude.{◌≡◌, ◌⊎◌, ℕ, ◌-◌, ◌<◌, false
 use Rattle.exact_values.specs.Tests.{lt_ℚ}
 use Rattle.lp_definitions.specs.declared.Evidence.{Evidence}
 use Rattle.lp_definitions.specs.LinearProgram.{IsLinearProgram}
-use Rattle.lp_definitions.specs.Basis.{IsOptimalBasis}
+use Rattle.lp_definitions.specs.Basis.{IsBasis, IsOptimalBasis}
 use Rattle.path_laws.specs.Laws.{IsNonsingularBasis}
 use Rattle.problem_definitions.specs.Valid.{IsProblem}
 use Rattle.selection_definitions.specs.Choice.{Choice}
@@ -23,9 +23,9 @@ use Rattle.listing_definitions.specs.declared.Mark.{Mark}
 use Rattle.listing_definitions.specs.declared.Solver.{Solver}
 use Rattle.listing_definitions.specs.Report.{SolutionLines, RangeLines, Report}
 use Rattle.listing_definitions.specs.Ending.{Place, Overflow, Ending, OverflowStop}
-use Rattle.question_definitions.specs.Answers.{Basis, Sheet, Sweep, Question, Answer, OfPath, OfSolution, OfRanges, OfSweep, PathEnd}
+use Rattle.question_definitions.specs.Answers.{Basis, Sheet, Sweep, Question, Answer, OfPath, OfSolution, OfRanges, OfSweep, OfPunch, OfInstall, PathEnd}
 use Rattle.question_definitions.specs.Solving.{Solving, IsRight}
-use Rattle.answer_definitions.specs.Verdicts.{IsSolved}
+use Rattle.answer_definitions.specs.Verdicts.{IsSolved, IsDualSolved}
 use Rattle.answer_definitions.specs.Sections.{IsShown, IsRanged}
 use Rattle.answer_definitions.specs.Real.{linear_programming}
 use Rattle.run_definitions.specs.State.{State}
@@ -36,13 +36,16 @@ use Rattle.run_definitions.specs.Answer.{IsJobRun, IsSoFar}
 use Rattle.run_laws.specs.Truth.{IsOfProblem}
 
 -- RANGE asks at an optimal basis; a parametric run changes something of the problem, and its last
--- value isn't less than its first.
+-- value isn't less than its first; and what INSERT has read is a status list of a basis, but that its
+-- columns may depend on each other.
 abbrev pub Suits : Question → Sheet → Basis → Type 0
 Suits (OfPath solver limit) sheet s = Unit {0}
 Suits (OfSolution mark) sheet s = Unit {0}
 Suits OfRanges sheet s = IsOptimalBasis sheet.lp s
 Suits (OfSweep sweep) sheet s =
     IsOfProblem sweep.changing sheet.problem × (lt_ℚ sweep.to sweep.from ≡ false)
+Suits OfPunch sheet s = Unit {0}
+Suits (OfInstall t) sheet s = IsBasis sheet.lp t
 
 -- How a statement of a run asks a question: about a linear program that is selected of a lawful
 -- problem, at a nonsingular basis of it.
@@ -58,12 +61,14 @@ abbrev pub HasOneAnswer : Solving → Question → Type 0
 HasOneAnswer S question = (sheet : Sheet) (s : Basis) (a b : Answer question) →
     IsAsked question sheet s → IsRight S question sheet s a → IsRight S question sheet s b → a ≡ b
 
--- So it is with each question that PRIMAL, SOLUTION, RANGE, PARAOBJ and PARARHS ask.
+-- So it is with each question that PRIMAL, DUAL, SOLUTION, RANGE, PARAOBJ, PARARHS, PUNCH and INSERT ask.
 pub record AnswersOnce (S : Solving) : Type 0 where
   pub paths : (solver : Solver) (limit : Option ℕ) → HasOneAnswer S (OfPath solver limit)
   pub solutions : (mark : Mark) → HasOneAnswer S (OfSolution mark)
   pub ranges : HasOneAnswer S OfRanges
   pub sweeps : (sweep : Sweep) → HasOneAnswer S (OfSweep sweep)
+  pub punches : HasOneAnswer S OfPunch
+  pub installs : (t : Basis) → HasOneAnswer S (OfInstall t)
 
 -- If a move asks a question, this has one right answer at most, about the linear program and at the
 -- basis at which it is asked.
@@ -143,12 +148,14 @@ pub record IsFunction (S : Solving) : Type 0 where
       IsJobRun S bytes others other_cards other →
       AreSame reports others cards other_cards ending other
 
--- At a nonsingular basis of a lawful linear program a path has one end, be there a limit or not, with one
--- verdict and one check of it, and SOLUTION prints one list of lines; and so does RANGE at an
+-- At a nonsingular basis of a lawful linear program a path has one end, be it the simplex or the dual
+-- path and be there a limit or not, with one verdict and one check of it, and SOLUTION prints one list of lines; and so does RANGE at an
 -- optimal basis of a linear program without a change row.
 pub record AnswerLaws : Type 0 where
   pub path : (sheet : Sheet) (s : Basis) (limit : Option ℕ) (a b : PathEnd) → IsLinearProgram sheet.lp →
       IsNonsingularBasis sheet.lp s → IsSolved sheet s limit a → IsSolved sheet s limit b → a ≡ b
+  pub dual_path : (sheet : Sheet) (s : Basis) (limit : Option ℕ) (a b : PathEnd) → IsLinearProgram sheet.lp →
+      IsNonsingularBasis sheet.lp s → IsDualSolved sheet s limit a → IsDualSolved sheet s limit b → a ≡ b
   pub solution : (sheet : Sheet) (s : Basis) (a b : SolutionLines) → IsLinearProgram sheet.lp →
       IsNonsingularBasis sheet.lp s → IsShown sheet s a → IsShown sheet s b → a ≡ b
   pub ranges : (sheet : Sheet) (s : Basis) (a b : RangeLines) → IsLinearProgram sheet.lp →

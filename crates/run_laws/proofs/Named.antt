@@ -81,7 +81,7 @@ AloneNamed (Alone verb) = MovesName verb
 AloneNamed _ = Unit {0}
 
 words_named : (word : List ℕ) → IfSome (named verb_words word) AloneNamed
-words_named word = line_holds AloneNamed verb_words word (tt, (tt, (tt, (tt, (tt, (tt, (tt, (tt, (tt, (tt, (tt, (tt, (tt, (tt, (tt, (tt, tt))))))))))))))))
+words_named word = line_holds AloneNamed verb_words word (tt, (tt, (tt, (tt, (tt, (tt, (tt, (tt, (tt, (tt, (tt, (tt, (tt, (tt, (tt, (tt, (tt, (tt, (tt, tt)))))))))))))))))))
 
 with_named : (word : VerbWord) (arguments : Arguments) → AloneNamed word → IfSome (verb_with word arguments) MovesName
 with_named (Alone verb) Without alone = alone

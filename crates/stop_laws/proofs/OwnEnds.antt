@@ -1,7 +1,7 @@
 -- How a job ends where no device and no memory fails.
 use Rattle.std.proofs.Common.{ℕ, List, refl}
 use Rattle.listing_definitions.specs.Report.{Report}
-use Rattle.listing_definitions.specs.Ending.{Ending, Ended, WordsRefused, ControlStop, VerbStop, DeckStop, CardStop, LimitStop, StatementLimit, OverflowStop, ReadFault, PrintFault, PunchFault, Memory}
+use Rattle.listing_definitions.specs.Ending.{Ending, Ended, WordsRefused, ControlStop, VerbStop, SingularStop, PriceStop, DeckStop, CardStop, LimitStop, StatementLimit, OverflowStop, ReadFault, PrintFault, PunchFault, Memory}
 use Rattle.question_definitions.specs.Solving.{Solving}
 use Rattle.run_definitions.specs.Answer.{IsJobRun, card_fault, control_fault, run}
 use Rattle.run_functions.proofs.Stops.{IsEndOfRun, end_of_run}
@@ -12,6 +12,8 @@ end_of_job reports cards (Ended code) own = own
 end_of_job reports cards WordsRefused own = own
 end_of_job reports cards (ControlStop fault) own = absurd own
 end_of_job reports cards (VerbStop fault) own = own
+end_of_job reports cards (SingularStop basis) own = own
+end_of_job reports cards (PriceStop price) own = own
 end_of_job reports cards (DeckStop fault) own = own
 end_of_job reports cards (CardStop fault) own = absurd own
 end_of_job reports cards (LimitStop reached) own = own

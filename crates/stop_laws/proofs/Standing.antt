@@ -2,7 +2,7 @@
 use Rattle.std.proofs.Common.{◌≡◌, ℕ, List, [], Some, sym, subst}
 use Rattle.deck_definitions.specs.Written.{card_text}
 use Rattle.listing_definitions.specs.Report.{Report}
-use Rattle.listing_definitions.specs.Ending.{Ending, Ended, WordsRefused, ControlStop, VerbStop, DeckStop, CardStop, LimitStop, StatementLimit, OverflowStop, ReadFault, PrintFault, PunchFault, Memory, status_of}
+use Rattle.listing_definitions.specs.Ending.{Ending, Ended, WordsRefused, ControlStop, VerbStop, SingularStop, PriceStop, DeckStop, CardStop, LimitStop, StatementLimit, OverflowStop, ReadFault, PrintFault, PunchFault, Memory, status_of}
 use Rattle.listing_definitions.specs.Listing.{listing}
 use Rattle.question_definitions.specs.Solving.{Solving}
 use Rattle.job_devices.specs.Text.{IsFront}
@@ -42,6 +42,8 @@ module _ (S : Solving) (job : Job) (failures : Failures) (status : ℕ) (PrintGa
     by_itself WordsRefused own runs is text gains = absurd own
     by_itself (ControlStop fault) own runs is text gains = stands.control_refused fault is (all_stands (ControlStop fault) runs text gains) (alone (ControlStop fault) text gains own)
     by_itself (VerbStop fault) own runs is text gains = stands.statement_refused fault is (all_stands (VerbStop fault) runs text gains)
+    by_itself (SingularStop basis) own runs is text gains = stands.basis_singular basis is (all_stands (SingularStop basis) runs text gains)
+    by_itself (PriceStop price) own runs is text gains = stands.prices_wrong price is (all_stands (PriceStop price) runs text gains)
     by_itself (DeckStop fault) own runs is text gains = stands.deck_refused fault is (all_stands (DeckStop fault) runs text gains)
     by_itself (CardStop fault) own runs is text gains = stands.cards_refused fault is (all_stands (CardStop fault) runs text gains) (alone (CardStop fault) text gains own)
     by_itself (LimitStop reached) own runs is text gains = stands.iteration_limit reached is (all_stands (LimitStop reached) runs text gains)

@@ -9,20 +9,22 @@ use Rattle.card_definitions.specs.declared.CardFault.{CardFault}
 use Rattle.deck_definitions.specs.Written.{card_text}
 use Rattle.control_definitions.specs.declared.ControlFault.{ControlFault}
 use Rattle.listing_definitions.specs.Report.{Report}
-use Rattle.listing_definitions.specs.Ending.{StatementFault, DeckCardFault, LimitReached, Overflow, Ending, Ended, WordsRefused, ControlStop, VerbStop, DeckStop, CardStop, LimitStop, StatementLimit, OverflowStop, ReadFault, PunchFault, Memory}
+use Rattle.listing_definitions.specs.Ending.{StatementFault, SingularBasis, WrongPrice, DeckCardFault, LimitReached, Overflow, Ending, Ended, WordsRefused, ControlStop, VerbStop, SingularStop, PriceStop, DeckStop, CardStop, LimitStop, StatementLimit, OverflowStop, ReadFault, PunchFault, Memory}
 use Rattle.listing_definitions.specs.Listing.{ending_text, reports_text}
 use Rattle.job_devices.specs.Text.{IsFront}
 use Rattle.question_definitions.specs.Solving.{Solving}
 use Rattle.answer_definitions.specs.Real.{linear_programming}
 use Rattle.run_definitions.specs.Answer.{Job, WithoutBytes, Read, bytes_of, Failures, IsJobRun, MayEnd, IsCutShort}
 
--- Where nothing fails a job ends with 0, 1 or 2, at a statement or a deck that is refused, at a limit,
--- or with an overflow; or its cards or its control program are refused, before anything is reported.
+-- Where nothing fails a job ends with 0, 1 or 2, at a statement or a deck that is refused, at a singular
+-- basis or wrong prices, at a limit, or with an overflow; or its cards or its control program are refused, before anything is reported.
 abbrev pub IsOwnEnd : List Report → List (List ℕ) → Ending → Type 0
 IsOwnEnd reports cards (Ended code) = code ≤ 2
 IsOwnEnd reports cards (ControlStop fault) = (reports ≡ []) × (cards ≡ [])
 IsOwnEnd reports cards (CardStop fault) = (reports ≡ []) × (cards ≡ [])
 IsOwnEnd reports cards (VerbStop fault) = Unit {0}
+IsOwnEnd reports cards (SingularStop basis) = Unit {0}
+IsOwnEnd reports cards (PriceStop price) = Unit {0}
 IsOwnEnd reports cards (DeckStop fault) = Unit {0}
 IsOwnEnd reports cards (LimitStop reached) = Unit {0}
 IsOwnEnd reports cards StatementLimit = Unit {0}
@@ -76,6 +78,10 @@ module _ (S : Solving) (job : Job) (failures : Failures) (PrintGains PunchGains 
     control_refused : (fault : ControlFault) → status ≡ 8 → StandsWhole (ControlStop fault) →
         StandsAlone (ControlStop fault) → StandsAfter status
     statement_refused : (fault : StatementFault) → status ≡ 10 → StandsWhole (VerbStop fault) →
+        StandsAfter status
+    basis_singular : (basis : SingularBasis) → status ≡ 10 → StandsWhole (SingularStop basis) →
+        StandsAfter status
+    prices_wrong : (price : WrongPrice) → status ≡ 10 → StandsWhole (PriceStop price) →
         StandsAfter status
     deck_refused : (fault : DeckCardFault) → status ≡ 12 → StandsWhole (DeckStop fault) →
         StandsAfter status
