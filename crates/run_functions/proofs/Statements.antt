@@ -37,7 +37,7 @@ use Rattle.run_laws.proofs.Moves.{HasProblem, EndsOptimally, Knows}
 use Rattle.run_laws.specs.Truth.{IsOfProblem}
 use Rattle.run_laws.proofs.ChangeRow.{row_of_problem, set_of_problem, changes_part, last_no_less}
 use Rattle.run_laws.proofs.Verbs.{optimal_alone}
-use Rattle.run_functions.specs.Laws.{Suits, HasOneAnswer, AnswersOnce, AsksOnce}
+use Rattle.run_functions.specs.Laws.{Suits, IsAsked, HasOneAnswer, AnswersOnce, AsksOnce}
 
 pub record IsOnce (S : Solving) (move : Move) : Type 0 where
   pub once : AsksOnce S move
@@ -87,18 +87,23 @@ module _ (S : Solving) where
 
   -- ---- verbs that ask
 
+  asked_here : (question : Question) (present : Present) (state : State) (lp : LinearProgram) → HasProblem state.setup → Knows state → state.setup ≡ Some present →
+      selected present.problem (choice_of state.cells present.options) ≡ Ok lp → Suits question (record { problem = present.problem; lp = lp }) (present_basis present) →
+      IsAsked question (record { problem = present.problem; lp = lp }) (present_basis present)
+  asked_here question present state lp lawful knows e is suits = record {
+    is_problem = lawful present e;
+    choice = choice_of state.cells present.options;
+    is_selected = is;
+    is_basis = (knows.bases present e).in_each state.cells.xobj state.cells.xrhs lp is;
+    suits = suits;
+  }
+
   -- a question at the present basis of what is selected of the setup
   asked : (question : Question) (present : Present) (state : State) (lp : LinearProgram) (go : Answer question → Outcome) → HasOneAnswer S question → HasProblem state.setup → Knows state →
       state.setup ≡ Some present → selected present.problem (choice_of state.cells present.options) ≡ Ok lp → Suits question (record { problem = present.problem; lp = lp }) (present_basis present) →
       IsOnce S (asks question (record { problem = present.problem; lp = lp }) present go)
   asked question present state lp go one lawful knows e is suits = record {
-    once = λ a b first second. one (record { problem = present.problem; lp = lp }) (present_basis present) a b (record {
-      is_problem = lawful present e;
-      choice = choice_of state.cells present.options;
-      is_selected = is;
-      is_basis = (knows.bases present e).in_each state.cells.xobj state.cells.xrhs lp is;
-      suits = suits;
-    }) first second;
+    once = λ a b first second. one (record { problem = present.problem; lp = lp }) (present_basis present) a b (asked_here question present state lp lawful knows e is suits) first second;
   }
 
   module _ (card : ℕ) (state : State) (lawful : HasProblem state.setup) (knows : Knows state) where
@@ -112,7 +117,7 @@ module _ (S : Solving) where
     punches_basis_once one =
         unless_fault card VerbFault.NoSetup state.setup _ (λ present e.
         selecting card present.problem (choice_of state.cells present.options) _ (λ lp is.
-        record { once = (asked OfPunch present state lp _ one lawful knows e is tt).once }))
+        record { once = λ a b first second. one (record { problem = present.problem; lp = lp }) (present_basis present) a b (asked_here OfPunch present state lp lawful knows e is tt) first second }))
 
     inserts_once : ((t : Basis) → HasOneAnswer S (OfInstall t)) → IsOnce S (inserts card state)
     inserts_once one =

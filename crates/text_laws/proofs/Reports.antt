@@ -1,14 +1,15 @@
 -- What the texts of reports tell.
-use Rattle.std.proofs.Common.{◌≡◌, ℕ, suc, ◌+◌, false, List, [], ◌∷◌, ◌++◌, codes, take, All, refl, ap, ap₂, sym, ◌∙◌, arith}
+use Rattle.std.proofs.Common.{◌≡◌, ℕ, suc, ◌+◌, Bool, true, false, List, [], ◌∷◌, ◌++◌, codes, take, All, refl, ap, ap₂, sym, ◌∙◌, arith}
+use Rattle.std.specs.Prelude.{nat_eq, ◌&&◌, ◌||◌}
 use Rattle.std.specs.List.{flat_map, enumerate_from}
 use Rattle.std.proofs.lemmas.List.{append_cancel_left, append_cancel_right, append-nil, append_assoc}
 use Rattle.exact_values.specs.Rational.{ℚ}
 use Rattle.problem_definitions.specs.Valid.{IsName}
 use Rattle.listing_definitions.specs.declared.Mark.{Mark}
 use Rattle.listing_definitions.specs.declared.Solver.{Solver}
-use Rattle.listing_definitions.specs.declared.Solver.TheVariants.{Primal, Paraobj, Pararhs}
+use Rattle.listing_definitions.specs.declared.Solver.TheVariants.{Primal, Dual, Paraobj, Pararhs}
 use Rattle.listing_definitions.specs.Numbers.{digits, rational_text}
-use Rattle.listing_definitions.specs.Report.{Line, Filed, PathVerdict, OptimalAt, CrossedAt, InfeasibleBy, UnboundedBy, Check, SolutionLines, RangeLines, Interval, ChainEnd, EndsAt, UnboundedPast, InfeasiblePast, Chain, Report, Titled, Converted, Revised, SetUp, BcdOut, Solved, Solution, Ranges, Parametric}
+use Rattle.listing_definitions.specs.Report.{Line, Filed, PathVerdict, OptimalAt, CrossedAt, InfeasibleBy, UnboundedBy, Check, SolutionLines, RangeLines, Interval, ChainEnd, EndsAt, UnboundedPast, InfeasiblePast, Chain, Report, Titled, Converted, Revised, SetUp, BcdOut, BasisOut, Inserted, Solved, Solution, Ranges, Parametric}
 use Rattle.listing_definitions.specs.Text.{name8, table_text, check_text, solver_text, verdict_head, verdict_lines, interval_text, chain_end_text, solution_text, ranges_text, report_text}
 use Rattle.text_laws.specs.Told.{begins_line, AreNamed, IsEndNamed, IsNamed}
 use Rattle.text_laws.proofs.Cutting.{differ}
@@ -179,13 +180,23 @@ end_tells : (solver : Solver) (a b : ChainEnd) → IsEndNamed a → IsEndNamed b
 end_tells solver a b a_named b_named e =
     rest_tells a b a_named b_named (append_cancel_left (solver_text solver) (end_rest a) (end_rest b) (sym (whole_end solver a) ∙ e ∙ whole_end solver b))
 
-solver_first : (solver : Solver) (rest : List ℕ) → take 1 (solver_text solver ++ rest) ≡ codes "P"
-solver_first Primal rest = refl
-solver_first Paraobj rest = refl
-solver_first Pararhs rest = refl
+-- whether a text begins as the word of a solving verb does: with PR, PA or DU
+abbrev begins_solver : List ℕ → Bool
+begins_solver (a ∷ (b ∷ rest)) = (nat_eq a 80 && (nat_eq b 82 || nat_eq b 65)) || (nat_eq a 68 && nat_eq b 85)
+begins_solver _ = false
+
+solver_begins : (solver : Solver) (rest : List ℕ) → begins_solver (solver_text solver ++ rest) ≡ true
+solver_begins Primal rest = refl
+solver_begins Dual rest = refl
+solver_begins Paraobj rest = refl
+solver_begins Pararhs rest = refl
+
+no_solver : (solver : Solver) (text rest : List ℕ) → begins_solver text ≡ false → text ≡ solver_text solver ++ rest → ⊥
+no_solver solver text rest other e = let h : false ≡ true = sym other ∙ ap begins_solver e ∙ solver_begins solver rest in cc
 
 solver_is_no_line : (solver : Solver) (rest : List ℕ) → begins_line (solver_text solver ++ rest) ≡ false
 solver_is_no_line Primal rest = refl
+solver_is_no_line Dual rest = refl
 solver_is_no_line Paraobj rest = refl
 solver_is_no_line Pararhs rest = refl
 
@@ -207,7 +218,7 @@ module _ (solver : Solver) where
 
   -- an interval is no end
   no_end : (k : ℕ) (y : Interval) (ys : List Interval) (a b : ChainEnd) → run_text k [] a ≡ run_text k (y ∷ ys) b → ⊥
-  no_end k y ys a b e = differ (codes "P") (codes "I") refl (sym (ap (take 1) (whole_end solver a) ∙ solver_first solver (end_rest a)) ∙ ap (take 1) e)
+  no_end k y ys a b e = no_solver solver (run_text k (y ∷ ys) b) (end_rest a) refl (sym e ∙ whole_end solver a)
 
   run_tells : (k : ℕ) (xs ys : List Interval) (a b : ChainEnd) → All (λ (x : Interval). AreNamed x.lines) xs → All (λ (x : Interval). AreNamed x.lines) ys → IsEndNamed a → IsEndNamed b
       → run_text k xs a ≡ run_text k ys b → (xs ≡ ys) × (a ≡ b)
@@ -262,6 +273,14 @@ report_tells (BcdOut a m) (BcdOut b n) x_named y_named e =
     let name = name_tells a b _ _ x_named y_named (append_cancel_left (codes "BCDOUT  ") _ _ e) in
     let cards = number_then (codes "\n") m n [] [] refl (append_cancel_left (codes " CARDS ") _ _ name.1) in
     ap₂ BcdOut name.0 cards.0
+report_tells (BasisOut a m) (BasisOut b n) x_named y_named e =
+    let name = name_tells a b _ _ x_named y_named (append_cancel_left (codes "PUNCH   ") _ _ e) in
+    let cards = number_then (codes "\n") m n [] [] refl (append_cancel_left (codes " CARDS ") _ _ name.1) in
+    ap₂ BasisOut name.0 cards.0
+report_tells (Inserted a m) (Inserted b n) x_named y_named e =
+    let name = name_tells a b _ _ x_named y_named (append_cancel_left (codes "INSERT  ") _ _ e) in
+    let basic = number_then (codes "\n") m n [] [] refl (append_cancel_left (codes " BASIC ") _ _ name.1) in
+    ap₂ Inserted name.0 basic.0
 report_tells (Solved s v c) (Solved t w d) x_named y_named e =
     let solver = solver_then s t (shown v c) (shown w d) e in
     let verdict = verdict_tells v w c d x_named y_named solver.1 in
@@ -318,31 +337,69 @@ report_tells (Ranges x) (Revised b) x_named y_named e = absurd (begin_otherwise 
 report_tells (Ranges x) (SetUp b t) x_named y_named e = absurd (begin_otherwise 2 _ _ refl e)
 report_tells (Ranges x) (BcdOut b n) x_named y_named e = absurd (begin_otherwise 2 _ _ refl e)
 report_tells (Ranges x) (Solution n y) x_named y_named e = absurd (begin_otherwise 2 _ _ refl e)
-report_tells (Titled a) (Solved t w d) x_named y_named e = absurd (differ (codes "T") (codes "P") refl (ap (take 1) e ∙ solver_first t _))
-report_tells (Solved s v c) (Titled b) x_named y_named e = absurd (differ (codes "T") (codes "P") refl (ap (take 1) (sym e) ∙ solver_first s _))
-report_tells (Titled a) (Parametric t y) x_named y_named e = absurd (differ (codes "T") (codes "P") refl (ap (take 1) e ∙ solver_first t _))
-report_tells (Parametric s x) (Titled b) x_named y_named e = absurd (differ (codes "T") (codes "P") refl (ap (take 1) (sym e) ∙ solver_first s _))
-report_tells (Converted a) (Solved t w d) x_named y_named e = absurd (differ (codes "C") (codes "P") refl (ap (take 1) e ∙ solver_first t _))
-report_tells (Solved s v c) (Converted b) x_named y_named e = absurd (differ (codes "C") (codes "P") refl (ap (take 1) (sym e) ∙ solver_first s _))
-report_tells (Converted a) (Parametric t y) x_named y_named e = absurd (differ (codes "C") (codes "P") refl (ap (take 1) e ∙ solver_first t _))
-report_tells (Parametric s x) (Converted b) x_named y_named e = absurd (differ (codes "C") (codes "P") refl (ap (take 1) (sym e) ∙ solver_first s _))
-report_tells (Revised a) (Solved t w d) x_named y_named e = absurd (differ (codes "R") (codes "P") refl (ap (take 1) e ∙ solver_first t _))
-report_tells (Solved s v c) (Revised b) x_named y_named e = absurd (differ (codes "R") (codes "P") refl (ap (take 1) (sym e) ∙ solver_first s _))
-report_tells (Revised a) (Parametric t y) x_named y_named e = absurd (differ (codes "R") (codes "P") refl (ap (take 1) e ∙ solver_first t _))
-report_tells (Parametric s x) (Revised b) x_named y_named e = absurd (differ (codes "R") (codes "P") refl (ap (take 1) (sym e) ∙ solver_first s _))
-report_tells (SetUp a sense) (Solved t w d) x_named y_named e = absurd (differ (codes "S") (codes "P") refl (ap (take 1) e ∙ solver_first t _))
-report_tells (Solved s v c) (SetUp b sense) x_named y_named e = absurd (differ (codes "S") (codes "P") refl (ap (take 1) (sym e) ∙ solver_first s _))
-report_tells (SetUp a sense) (Parametric t y) x_named y_named e = absurd (differ (codes "S") (codes "P") refl (ap (take 1) e ∙ solver_first t _))
-report_tells (Parametric s x) (SetUp b sense) x_named y_named e = absurd (differ (codes "S") (codes "P") refl (ap (take 1) (sym e) ∙ solver_first s _))
-report_tells (BcdOut a m) (Solved t w d) x_named y_named e = absurd (differ (codes "B") (codes "P") refl (ap (take 1) e ∙ solver_first t _))
-report_tells (Solved s v c) (BcdOut b n) x_named y_named e = absurd (differ (codes "B") (codes "P") refl (ap (take 1) (sym e) ∙ solver_first s _))
-report_tells (BcdOut a m) (Parametric t y) x_named y_named e = absurd (differ (codes "B") (codes "P") refl (ap (take 1) e ∙ solver_first t _))
-report_tells (Parametric s x) (BcdOut b n) x_named y_named e = absurd (differ (codes "B") (codes "P") refl (ap (take 1) (sym e) ∙ solver_first s _))
-report_tells (Solution m lines) (Solved t w d) x_named y_named e = absurd (differ (codes "S") (codes "P") refl (ap (take 1) e ∙ solver_first t _))
-report_tells (Solved s v c) (Solution n lines) x_named y_named e = absurd (differ (codes "S") (codes "P") refl (ap (take 1) (sym e) ∙ solver_first s _))
-report_tells (Solution m lines) (Parametric t y) x_named y_named e = absurd (differ (codes "S") (codes "P") refl (ap (take 1) e ∙ solver_first t _))
-report_tells (Parametric s x) (Solution n lines) x_named y_named e = absurd (differ (codes "S") (codes "P") refl (ap (take 1) (sym e) ∙ solver_first s _))
-report_tells (Ranges lines) (Solved t w d) x_named y_named e = absurd (differ (codes "R") (codes "P") refl (ap (take 1) e ∙ solver_first t _))
-report_tells (Solved s v c) (Ranges lines) x_named y_named e = absurd (differ (codes "R") (codes "P") refl (ap (take 1) (sym e) ∙ solver_first s _))
-report_tells (Ranges lines) (Parametric t y) x_named y_named e = absurd (differ (codes "R") (codes "P") refl (ap (take 1) e ∙ solver_first t _))
-report_tells (Parametric s x) (Ranges lines) x_named y_named e = absurd (differ (codes "R") (codes "P") refl (ap (take 1) (sym e) ∙ solver_first s _))
+report_tells (Titled a) (Solved t w d) x_named y_named e = absurd (no_solver t _ _ refl e)
+report_tells (Solved s v c) (Titled b) x_named y_named e = absurd (no_solver s _ _ refl (sym e))
+report_tells (Titled a) (Parametric t y) x_named y_named e = absurd (no_solver t _ _ refl e)
+report_tells (Parametric s x) (Titled b) x_named y_named e = absurd (no_solver s _ _ refl (sym e))
+report_tells (Converted a) (Solved t w d) x_named y_named e = absurd (no_solver t _ _ refl e)
+report_tells (Solved s v c) (Converted b) x_named y_named e = absurd (no_solver s _ _ refl (sym e))
+report_tells (Converted a) (Parametric t y) x_named y_named e = absurd (no_solver t _ _ refl e)
+report_tells (Parametric s x) (Converted b) x_named y_named e = absurd (no_solver s _ _ refl (sym e))
+report_tells (Revised a) (Solved t w d) x_named y_named e = absurd (no_solver t _ _ refl e)
+report_tells (Solved s v c) (Revised b) x_named y_named e = absurd (no_solver s _ _ refl (sym e))
+report_tells (Revised a) (Parametric t y) x_named y_named e = absurd (no_solver t _ _ refl e)
+report_tells (Parametric s x) (Revised b) x_named y_named e = absurd (no_solver s _ _ refl (sym e))
+report_tells (SetUp a sense) (Solved t w d) x_named y_named e = absurd (no_solver t _ _ refl e)
+report_tells (Solved s v c) (SetUp b sense) x_named y_named e = absurd (no_solver s _ _ refl (sym e))
+report_tells (SetUp a sense) (Parametric t y) x_named y_named e = absurd (no_solver t _ _ refl e)
+report_tells (Parametric s x) (SetUp b sense) x_named y_named e = absurd (no_solver s _ _ refl (sym e))
+report_tells (BcdOut a m) (Solved t w d) x_named y_named e = absurd (no_solver t _ _ refl e)
+report_tells (Solved s v c) (BcdOut b n) x_named y_named e = absurd (no_solver s _ _ refl (sym e))
+report_tells (BcdOut a m) (Parametric t y) x_named y_named e = absurd (no_solver t _ _ refl e)
+report_tells (Parametric s x) (BcdOut b n) x_named y_named e = absurd (no_solver s _ _ refl (sym e))
+report_tells (Solution m lines) (Solved t w d) x_named y_named e = absurd (no_solver t _ _ refl e)
+report_tells (Solved s v c) (Solution n lines) x_named y_named e = absurd (no_solver s _ _ refl (sym e))
+report_tells (Solution m lines) (Parametric t y) x_named y_named e = absurd (no_solver t _ _ refl e)
+report_tells (Parametric s x) (Solution n lines) x_named y_named e = absurd (no_solver s _ _ refl (sym e))
+report_tells (Ranges lines) (Solved t w d) x_named y_named e = absurd (no_solver t _ _ refl e)
+report_tells (Solved s v c) (Ranges lines) x_named y_named e = absurd (no_solver s _ _ refl (sym e))
+report_tells (Ranges lines) (Parametric t y) x_named y_named e = absurd (no_solver t _ _ refl e)
+report_tells (Parametric s x) (Ranges lines) x_named y_named e = absurd (no_solver s _ _ refl (sym e))
+report_tells (Titled a) (BasisOut b n) x_named y_named e = absurd (begin_otherwise 2 _ _ refl e)
+report_tells (BasisOut a m) (Titled b) x_named y_named e = absurd (begin_otherwise 2 _ _ refl e)
+report_tells (Titled a) (Inserted b n) x_named y_named e = absurd (begin_otherwise 2 _ _ refl e)
+report_tells (Inserted a m) (Titled b) x_named y_named e = absurd (begin_otherwise 2 _ _ refl e)
+report_tells (Converted a) (BasisOut b n) x_named y_named e = absurd (begin_otherwise 2 _ _ refl e)
+report_tells (BasisOut a m) (Converted b) x_named y_named e = absurd (begin_otherwise 2 _ _ refl e)
+report_tells (Converted a) (Inserted b n) x_named y_named e = absurd (begin_otherwise 2 _ _ refl e)
+report_tells (Inserted a m) (Converted b) x_named y_named e = absurd (begin_otherwise 2 _ _ refl e)
+report_tells (Revised a) (BasisOut b n) x_named y_named e = absurd (begin_otherwise 2 _ _ refl e)
+report_tells (BasisOut a m) (Revised b) x_named y_named e = absurd (begin_otherwise 2 _ _ refl e)
+report_tells (Revised a) (Inserted b n) x_named y_named e = absurd (begin_otherwise 2 _ _ refl e)
+report_tells (Inserted a m) (Revised b) x_named y_named e = absurd (begin_otherwise 2 _ _ refl e)
+report_tells (SetUp a m) (BasisOut b n) x_named y_named e = absurd (begin_otherwise 2 _ _ refl e)
+report_tells (BasisOut a m) (SetUp b n) x_named y_named e = absurd (begin_otherwise 2 _ _ refl e)
+report_tells (SetUp a m) (Inserted b n) x_named y_named e = absurd (begin_otherwise 2 _ _ refl e)
+report_tells (Inserted a m) (SetUp b n) x_named y_named e = absurd (begin_otherwise 2 _ _ refl e)
+report_tells (BcdOut a m) (BasisOut b n) x_named y_named e = absurd (begin_otherwise 2 _ _ refl e)
+report_tells (BasisOut a m) (BcdOut b n) x_named y_named e = absurd (begin_otherwise 2 _ _ refl e)
+report_tells (BcdOut a m) (Inserted b n) x_named y_named e = absurd (begin_otherwise 2 _ _ refl e)
+report_tells (Inserted a m) (BcdOut b n) x_named y_named e = absurd (begin_otherwise 2 _ _ refl e)
+report_tells (BasisOut a m) (Inserted b n) x_named y_named e = absurd (begin_otherwise 2 _ _ refl e)
+report_tells (Inserted a m) (BasisOut b n) x_named y_named e = absurd (begin_otherwise 2 _ _ refl e)
+report_tells (Solution a m) (BasisOut b n) x_named y_named e = absurd (begin_otherwise 2 _ _ refl e)
+report_tells (BasisOut a m) (Solution b n) x_named y_named e = absurd (begin_otherwise 2 _ _ refl e)
+report_tells (Solution a m) (Inserted b n) x_named y_named e = absurd (begin_otherwise 2 _ _ refl e)
+report_tells (Inserted a m) (Solution b n) x_named y_named e = absurd (begin_otherwise 2 _ _ refl e)
+report_tells (Ranges a) (BasisOut b n) x_named y_named e = absurd (begin_otherwise 2 _ _ refl e)
+report_tells (BasisOut a m) (Ranges b) x_named y_named e = absurd (begin_otherwise 2 _ _ refl e)
+report_tells (Ranges a) (Inserted b n) x_named y_named e = absurd (begin_otherwise 2 _ _ refl e)
+report_tells (Inserted a m) (Ranges b) x_named y_named e = absurd (begin_otherwise 2 _ _ refl e)
+report_tells (BasisOut a m) (Solved t w d) x_named y_named e = absurd (no_solver t _ _ refl e)
+report_tells (Solved s v c) (BasisOut b n) x_named y_named e = absurd (no_solver s _ _ refl (sym e))
+report_tells (BasisOut a m) (Parametric t y) x_named y_named e = absurd (no_solver t _ _ refl e)
+report_tells (Parametric s x) (BasisOut b n) x_named y_named e = absurd (no_solver s _ _ refl (sym e))
+report_tells (Inserted a m) (Solved t w d) x_named y_named e = absurd (no_solver t _ _ refl e)
+report_tells (Solved s v c) (Inserted b n) x_named y_named e = absurd (no_solver s _ _ refl (sym e))
+report_tells (Inserted a m) (Parametric t y) x_named y_named e = absurd (no_solver t _ _ refl e)
+report_tells (Parametric s x) (Inserted b n) x_named y_named e = absurd (no_solver s _ _ refl (sym e))

@@ -17,7 +17,7 @@ use Rattle.problem_definitions.specs.Valid.{IsName}
 use Rattle.listing_definitions.specs.declared.Mark.{Mark}
 use Rattle.listing_definitions.specs.declared.Mark.TheVariants.{Optimal, Infeasible, Unbounded}
 use Rattle.listing_definitions.specs.declared.Solver.{Solver}
-use Rattle.listing_definitions.specs.declared.Solver.TheVariants.{Primal, Paraobj, Pararhs}
+use Rattle.listing_definitions.specs.declared.Solver.TheVariants.{Primal, Dual, Paraobj, Pararhs}
 use Rattle.listing_definitions.specs.Numbers.{digits, rational_text}
 use Rattle.listing_definitions.specs.Report.{Check, Checked, Unchecked}
 use Rattle.listing_definitions.specs.Text.{operation_text, solver_text, mark_text, sense_text, refused_text, check_text}
@@ -65,17 +65,25 @@ name_then x y r s x_named y_named e =
 
 solver_tells : (x y : Solver) → solver_text x ≡ solver_text y → x ≡ y
 solver_tells Primal Primal e = refl
+solver_tells Primal Dual e = absurd (differ (codes "PRIMAL") (codes "DUAL") refl e)
 solver_tells Primal Paraobj e = absurd (differ (codes "PRIMAL") (codes "PARAOBJ") refl e)
 solver_tells Primal Pararhs e = absurd (differ (codes "PRIMAL") (codes "PARARHS") refl e)
+solver_tells Dual Primal e = absurd (differ (codes "DUAL") (codes "PRIMAL") refl e)
+solver_tells Dual Dual e = refl
+solver_tells Dual Paraobj e = absurd (differ (codes "DUAL") (codes "PARAOBJ") refl e)
+solver_tells Dual Pararhs e = absurd (differ (codes "DUAL") (codes "PARARHS") refl e)
 solver_tells Paraobj Primal e = absurd (differ (codes "PARAOBJ") (codes "PRIMAL") refl e)
+solver_tells Paraobj Dual e = absurd (differ (codes "PARAOBJ") (codes "DUAL") refl e)
 solver_tells Paraobj Paraobj e = refl
 solver_tells Paraobj Pararhs e = absurd (differ (codes "PARAOBJ") (codes "PARARHS") refl e)
 solver_tells Pararhs Primal e = absurd (differ (codes "PARARHS") (codes "PRIMAL") refl e)
+solver_tells Pararhs Dual e = absurd (differ (codes "PARARHS") (codes "DUAL") refl e)
 solver_tells Pararhs Paraobj e = absurd (differ (codes "PARARHS") (codes "PARAOBJ") refl e)
 solver_tells Pararhs Pararhs e = refl
 
 solver_in_word : (x : Solver) → list_all is_in_word (solver_text x) ≡ true
 solver_in_word Primal = refl
+solver_in_word Dual = refl
 solver_in_word Paraobj = refl
 solver_in_word Pararhs = refl
 

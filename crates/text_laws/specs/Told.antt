@@ -2,7 +2,7 @@
 use Rattle.std.specs.Prelude.{◌≡◌, ℕ, Bool, false, ◌||◌, List, [], ◌∷◌, ◌++◌, ◌==◌, All}
 use Rattle.card_definitions.specs.Numbers.{is_digit}
 use Rattle.problem_definitions.specs.Valid.{IsName}
-use Rattle.listing_definitions.specs.Report.{Value, Line, Interval, ChainEnd, EndsAt, UnboundedPast, InfeasiblePast, Report, Titled, Converted, Revised, SetUp, BcdOut, Solved, Solution, Ranges, Parametric}
+use Rattle.listing_definitions.specs.Report.{Value, Line, Interval, ChainEnd, EndsAt, UnboundedPast, InfeasiblePast, Report, Titled, Converted, Revised, SetUp, BcdOut, BasisOut, Inserted, Solved, Solution, Ranges, Parametric}
 use Rattle.listing_definitions.specs.Text.{value_text, line_text, table_text, verdict_lines, report_text}
 
 -- two values with equal texts are one
@@ -40,6 +40,8 @@ IsNamed (Converted filed) = IsName filed.name
 IsNamed (Revised filed) = IsName filed.name
 IsNamed (SetUp name sense) = IsName name
 IsNamed (BcdOut name cards) = IsName name
+IsNamed (BasisOut name cards) = IsName name
+IsNamed (Inserted name basic) = IsName name
 IsNamed (Solved solver verdict check) = AreNamed (verdict_lines verdict)
 IsNamed (Solution mark lines) = AreNamed lines.rows × AreNamed lines.columns
 IsNamed (Ranges lines) = AreNamed lines.rows_at_limit × AreNamed lines.columns_at_limit × AreNamed lines.rows_between × AreNamed lines.columns_between
