@@ -61,12 +61,15 @@ fn settled_verb(labels: &Labels, verb: Verb<Name>) -> Verb<u32>
         Verb::Convert => Verb::Convert,
         Verb::Setup(options) => Verb::Setup(options),
         Verb::Primal => Verb::Primal,
+        Verb::Dual => Verb::Dual,
         Verb::Revise => Verb::Revise,
         Verb::Ranging => Verb::Ranging,
         Verb::Paraobj => Verb::Paraobj,
         Verb::Pararhs => Verb::Pararhs,
         Verb::Solution => Verb::Solution,
         Verb::Bcdout => Verb::Bcdout,
+        Verb::Punch => Verb::Punch,
+        Verb::Insert => Verb::Insert,
         Verb::Exit => Verb::Exit,
     }
 }

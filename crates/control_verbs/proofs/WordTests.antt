@@ -19,4 +19,4 @@ named_cut {X} (suc n) (line ∷ lines) word = by (bytes_eq line.0 word) (named_c
     by false rest = rest
 
 pub words_in_two_tables : (word : List ℕ) → named verb_words word ≡ option_or (named alone_words word) (named argument_words word)
-words_in_two_tables word = named_cut 10 verb_words word
+words_in_two_tables word = named_cut 13 verb_words word

@@ -6,7 +6,7 @@ use Rattle.control_definitions.specs.Program as program
 use Rattle.control_definitions.specs.Verbs as table
 use Rattle.control_verbs.specs.declared.verb.SetupOptions.{SetupOptions}
 use Rattle.control_verbs.specs.declared.verb.Verb.{Verb}
-use Rattle.control_verbs.specs.declared.verb.Verb.TheVariants.{Initialz, Title, MoveName, MoveNumber, MoveLimit, Mvadr, Goto, Convert, Setup, Primal, Revise, Ranging, Paraobj, Pararhs, Solution, Bcdout, Exit}
+use Rattle.control_verbs.specs.declared.verb.Verb.TheVariants.{Initialz, Title, MoveName, MoveNumber, MoveLimit, Mvadr, Goto, Convert, Setup, Primal, Dual, Revise, Ranging, Paraobj, Pararhs, Solution, Bcdout, Punch, Insert, Exit}
 use Rattle.control_verbs.specs.declared.verb.Statement.{Statement}
 use Rattle.control_verbs.specs.declared.tables.Cell.{Cell}
 use Rattle.control_verbs.specs.declared.tables.Cell.TheVariants.{OfName, OfNumber, OfLimit}
@@ -29,12 +29,15 @@ shown (Goto label) = program.Goto label
 shown Convert = program.Convert
 shown (Setup options) = program.Setup (options_shown options)
 shown Primal = program.Primal
+shown Dual = program.Dual
 shown Revise = program.Revise
 shown Ranging = program.Ranging
 shown Paraobj = program.Paraobj
 shown Pararhs = program.Pararhs
 shown Solution = program.Solution
 shown Bcdout = program.Bcdout
+shown Punch = program.Punch
+shown Insert = program.Insert
 shown Exit = program.Exit
 
 -- a limit that a verb moves, if it is a number, is at most 1,000,000, and the label that it names isn't empty
@@ -58,12 +61,15 @@ abbrev pub plain_shown : {L : Type 0} → Plain → program.Verb L
 plain_shown plain.Initialz = program.Initialz
 plain_shown plain.Convert = program.Convert
 plain_shown plain.Primal = program.Primal
+plain_shown plain.Dual = program.Dual
 plain_shown plain.Revise = program.Revise
 plain_shown plain.Ranging = program.Ranging
 plain_shown plain.Paraobj = program.Paraobj
 plain_shown plain.Pararhs = program.Pararhs
 plain_shown plain.Solution = program.Solution
 plain_shown plain.Bcdout = program.Bcdout
+plain_shown plain.Punch = program.Punch
+plain_shown plain.Insert = program.Insert
 plain_shown plain.Exit = program.Exit
 
 abbrev pub word_shown : VerbWord → table.VerbWord
@@ -80,7 +86,7 @@ alone_shown verb = table.Alone (plain_shown verb)
 
 -- the table of verbs begins with the words of those that stand alone
 abbrev pub alone_words : List (List ℕ × table.VerbWord)
-alone_words = take 10 table.verb_words
+alone_words = take 13 table.verb_words
 
 abbrev pub argument_words : List (List ℕ × table.VerbWord)
-argument_words = drop 10 table.verb_words
+argument_words = drop 13 table.verb_words

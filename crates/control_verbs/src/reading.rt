@@ -25,12 +25,15 @@ impl Plain {
             Plain::Initialz => Verb::Initialz,
             Plain::Convert => Verb::Convert,
             Plain::Primal => Verb::Primal,
+            Plain::Dual => Verb::Dual,
             Plain::Revise => Verb::Revise,
             Plain::Ranging => Verb::Ranging,
             Plain::Paraobj => Verb::Paraobj,
             Plain::Pararhs => Verb::Pararhs,
             Plain::Solution => Verb::Solution,
             Plain::Bcdout => Verb::Bcdout,
+            Plain::Punch => Verb::Punch,
+            Plain::Insert => Verb::Insert,
             Plain::Exit => Verb::Exit,
         }
     }

@@ -32,12 +32,15 @@ pub enum Plain {
     Initialz,
     Convert,
     Primal,
+    Dual,
     Revise,
     Ranging,
     Paraobj,
     Pararhs,
     Solution,
     Bcdout,
+    Punch,
+    Insert,
     Exit,
 }
 
@@ -98,6 +101,8 @@ fn plain_of(word: &[u8]) -> Option<Plain>
         Some(Plain::Convert)
     } else if is_word(word, b"PRIMAL") {
         Some(Plain::Primal)
+    } else if is_word(word, b"DUAL") {
+        Some(Plain::Dual)
     } else if is_word(word, b"REVISE") {
         Some(Plain::Revise)
     } else if is_word(word, b"RANGE") {
@@ -110,6 +115,10 @@ fn plain_of(word: &[u8]) -> Option<Plain>
         Some(Plain::Solution)
     } else if is_word(word, b"BCDOUT") {
         Some(Plain::Bcdout)
+    } else if is_word(word, b"PUNCH") {
+        Some(Plain::Punch)
+    } else if is_word(word, b"INSERT") {
+        Some(Plain::Insert)
     } else if is_word(word, b"EXIT") {
         Some(Plain::Exit)
     } else {

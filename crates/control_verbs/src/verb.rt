@@ -29,12 +29,15 @@ pub enum Verb<L> {
     Convert,
     Setup(SetupOptions),
     Primal,
+    Dual,
     Revise,
     Ranging,
     Paraobj,
     Pararhs,
     Solution,
     Bcdout,
+    Punch,
+    Insert,
     Exit,
 }
 

@@ -87,6 +87,7 @@ pub fn solver_word(solver: Solver) -> &'static [u8]
 {
     match solver {
         Solver::Primal => b"PRIMAL",
+        Solver::Dual => b"DUAL",
         Solver::Paraobj => b"PARAOBJ",
         Solver::Pararhs => b"PARARHS",
     }

@@ -15,15 +15,16 @@ use Rattle.listing_definitions.specs.Report as reports
 use Rattle.listing_definitions.specs.Ending as endings
 use Rattle.listing_definitions.specs.Text.{report_text}
 use Rattle.listing_definitions.specs.Listing.{status_letter, basic_letter, ending_text}
-use Rattle.listing_tables.specs.Lines.{solution_lines, range_lines}
+use Rattle.listing_tables.specs.Lines.{ray_lines, solution_lines, range_lines}
+use Rattle.listing_tables.specs.Sheets.{IsSheet}
 use Rattle.report_text.specs.Parametric.{IsParametric, chain_shown}
 use Rattle.report_text.specs.Ranges.{AreRanges}
 use Rattle.report_text.specs.Solutions.{IsSolution}
-use Rattle.report_text.specs.Verdicts.{IsOutcome, verdict_shown, check_shown}
+use Rattle.report_text.specs.Verdicts.{IsFull, IsOutcome, verdict_shown, check_shown}
 use Rattle.report_text.specs.declared.report.Report.{Report}
-use Rattle.report_text.specs.declared.report.Report.TheVariants.{Title, Converted, Revised, SetUp, BcdOut, Solved, Solution, Ranges, Parametric, End}
+use Rattle.report_text.specs.declared.report.Report.TheVariants.{Title, Converted, Revised, SetUp, BcdOut, BasisOut, Inserted, Solved, Solution, Ranges, Parametric, End}
 use Rattle.report_text.specs.declared.report.Ending.{Ending}
-use Rattle.report_text.specs.declared.report.Ending.TheVariants.{Code, Words, Control, Verb, Deck, CardFault as CardStop, Limit, Statements, Overflow, ReadFault, PunchFault, Memory}
+use Rattle.report_text.specs.declared.report.Ending.TheVariants.{Code, Words, Control, Verb, Singular as SingularBasis, WrongPrices as PricesWrong, Deck, CardFault as CardStop, Limit, Statements, Overflow, ReadFault, PunchFault, Memory}
 
 -- ---- ends
 
@@ -47,10 +48,11 @@ abbrev pub IsCardFault : ℕ → Option ℕ → Type 0
 IsCardFault fault None = fault ≡ 2
 IsCardFault fault (Some card) = (fault ≡ 3) ⊎ (fault ≡ 4)
 
--- the faults have the numbers that there are
+-- the faults have the numbers that there are; a dependency has a coefficient for each variable
 abbrev pub IsEnding : Ending → Type 0
 IsEnding (Verb fault card) = IsVerbFault fault
 IsEnding (CardStop fault card) = IsCardFault fault card
+IsEnding (SingularBasis card sheet dependency) = IsSheet sheet × IsFull sheet dependency.now
 IsEnding _ = Unit {0}
 
 -- the present basis and the set that the evidence speaks of, where there is a basis
@@ -63,6 +65,8 @@ ending_shown (Code code) = endings.Ended code
 ending_shown Words = endings.WordsRefused
 ending_shown (Control fault card) = endings.ControlStop (record { number = fault; card = card })
 ending_shown (Verb fault card) = endings.VerbStop (record { fault = verb_fault fault; card = card })
+ending_shown (SingularBasis card sheet dependency) = endings.SingularStop (record { card = card; lines = ray_lines sheet.problem.now sheet.lp.now dependency.now })
+ending_shown (PricesWrong card variable) = endings.PriceStop (record { card = card; variable = variable })
 ending_shown (Deck fault card number column) = endings.DeckStop (record { fault = fault; card = card; number = number; column = column })
 ending_shown (CardStop fault card) = endings.CardStop (card_fault fault card)
 ending_shown (Limit limit card) = endings.LimitStop (record { limit = limit; card = card })
@@ -111,6 +115,8 @@ text_shown (Converted name rows columns entries) = report_text (reports.Converte
 text_shown (Revised name rows columns entries) = report_text (reports.Revised (record { name = name; rows = rows; columns = columns; entries = entries }))
 text_shown (SetUp name sense) = report_text (reports.SetUp name sense)
 text_shown (BcdOut name cards) = report_text (reports.BcdOut name cards)
+text_shown (BasisOut name cards) = report_text (reports.BasisOut name cards)
+text_shown (Inserted name basic) = report_text (reports.Inserted name basic)
 text_shown (Solved by sheet outcome refused) = report_text (reports.Solved by (verdict_shown sheet outcome.now) (check_shown refused))
 text_shown (Solution mark sheet basis point prices slack) = report_text (reports.Solution mark (solution_lines sheet.problem.now sheet.lp.now basis.now point.now prices.now slack.now))
 text_shown (Ranges sheet basis point report) = report_text (reports.Ranges (range_lines sheet.lp.now basis.now point.now report.now sheet.problem.now))

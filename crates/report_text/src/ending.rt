@@ -5,6 +5,9 @@ ghost use Rattle.listing_definitions.specs.Numbers.{digits};
 ghost use Rattle.job_devices.specs.Text.{Writes};
 ghost use Rattle.listing_definitions.specs.Ending as endings;
 ghost use Rattle.listing_definitions.specs.Listing.{ending_text, fault_text, labelled, deck_stop_text};
+ghost use Rattle.listing_tables.specs.Lines.{ray_lines};
+ghost use Rattle.listing_tables.specs.Sheets.{IsSheet};
+ghost use Rattle.report_text.specs.Verdicts.{IsFull};
 ghost use Rattle.report_text.specs.Shown.{IsEnding, IsVerbFault, IsCardFault, verb_fault, card_fault, ending_shown};
 
 use crate::overflow::put_overflow;
@@ -12,7 +15,13 @@ use crate::report::Ending;
 use arrayvec::ArrayString;
 use itoa::Buffer;
 use job_devices::{Sink, WriteStop, put_all, put_each};
-use listing_tables::decimal;
+use listing_tables::{Sheet, Table, decimal, put_table};
+use lp_model::Direction;
+
+// The number of the verb fault of a singular basis, and that of wrong prices.
+const SINGULAR: u8 = 15;
+
+const WRONG_PRICES: u8 = 16;
 
 // The code of a run that ends by itself.
 fn put_code<P: Sink>(print: &mut P, code: u8) -> Result<(), WriteStop>
@@ -62,6 +71,70 @@ fn put_verb_fault<P: Sink>(print: &mut P, fault: u8, card: u32) -> Result<(), Wr
         (ending_text (endings.VerbStop (record { fault = verb_fault fault; card = card }))) }
 {
     put_fault(print, b"STOP 10 VERB ", fault, card)
+}
+
+// The basis that a deck gives is singular: the line of the fault, and the coefficients of the dependency that aren't 0.
+fn put_singular<P: Sink>(
+    print: &mut P,
+    card: u32,
+    sheet: Sheet<'_>,
+    dependency: &Direction,
+) -> Result<(), WriteStop>
+    requires sheet { IsSheet sheet }
+    requires full { IsFull sheet dependency.now }
+    ensures { Writes P.written P.stopped_at P.faults P.refusals print.old print.new result
+        (ending_text (endings.SingularStop (record {
+          card = card;
+          lines = ray_lines sheet.entry.problem.now sheet.entry.lp.now dependency.now;
+        }))) }
+{
+    put_fault(print, b"STOP 10 VERB ", SINGULAR, card)?;
+    let last = sheet.lp.number_of_variables();
+    put_table(
+        print,
+        sheet,
+        Table::Multipliers(dependency.values()),
+        0,
+        last,
+    )
+}
+
+// What is refused, the number of the fault, the card on which it stands, and the variable at which.
+fn put_fault_at<P: Sink>(
+    print: &mut P,
+    refused: &'static [u8],
+    fault: u8,
+    card: u32,
+    variable: u32,
+) -> Result<(), WriteStop>
+    ensures { Writes P.written P.stopped_at P.faults P.refusals print.old print.new result
+        (concat (refused.now ∷ fault_text fault card ∷ codes " VARIABLE " ∷ digits
+        variable ∷ codes "\n" ∷ [])) }
+{
+    let mut fault_digits = Buffer::new();
+    let mut card_digits = Buffer::new();
+    let mut variable_digits = Buffer::new();
+    put_each(
+        print,
+        &[
+            refused,
+            b"FAULT ",
+            decimal(&mut fault_digits, u32::from(fault)).as_bytes(),
+            b" CARD ",
+            decimal(&mut card_digits, card).as_bytes(),
+            b" VARIABLE ",
+            decimal(&mut variable_digits, variable).as_bytes(),
+            b"\n",
+        ],
+    )
+}
+
+// The prices are wrong: the line of the fault, with the first variable whose price is.
+fn put_wrong_prices<P: Sink>(print: &mut P, card: u32, variable: u32) -> Result<(), WriteStop>
+    ensures { Writes P.written P.stopped_at P.faults P.refusals print.old print.new result
+        (ending_text (endings.PriceStop (record { card = card; variable = variable }))) }
+{
+    put_fault_at(print, b"STOP 10 VERB ", WRONG_PRICES, card, variable)
 }
 
 // The cards of the job are refused.
@@ -161,6 +234,12 @@ pub fn put_ending<P: Sink>(print: &mut P, ending: Ending<'_>) -> Result<(), Writ
         Ending::Words => put_all(print, b"STOP 4 WORDS\n"),
         Ending::Control { fault, card } => put_fault(print, b"STOP 8 CONTROL ", fault, card),
         Ending::Verb { fault, card } => put_verb_fault(print, fault, card),
+        Ending::Singular {
+            card,
+            sheet,
+            dependency,
+        } => put_singular(print, card, sheet, dependency),
+        Ending::WrongPrices { card, variable } => put_wrong_prices(print, card, variable),
         Ending::Deck {
             fault,
             card,

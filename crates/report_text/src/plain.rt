@@ -1,8 +1,10 @@
 // The reports of one line.
-ghost use Rattle.std.specs.Prelude.{codes};
+ghost use Rattle.std.specs.Prelude.{◌∷◌, [], codes};
+ghost use Rattle.std.specs.List.{concat};
+ghost use Rattle.listing_definitions.specs.Numbers.{digits};
 ghost use Rattle.job_devices.specs.Text.{Writes};
 ghost use Rattle.listing_definitions.specs.Report as reports;
-ghost use Rattle.listing_definitions.specs.Text.{filed_text, report_text};
+ghost use Rattle.listing_definitions.specs.Text.{name8, filed_text, report_text};
 
 use itoa::Buffer;
 use job_devices::{Sink, WriteStop, put_each};
@@ -108,21 +110,49 @@ pub fn put_setup<P: Sink>(print: &mut P, name: Name, sense: Sense) -> Result<(),
     )
 }
 
-pub fn put_bcd_out<P: Sink>(print: &mut P, name: Name, cards: u32) -> Result<(), WriteStop>
+// The line of a deck, by its name or its problem's, with how many of something it has.
+fn put_counted<P: Sink>(
+    print: &mut P,
+    word: &'static [u8],
+    name: Name,
+    of: &'static [u8],
+    count: u32,
+) -> Result<(), WriteStop>
     ensures { Writes P.written P.stopped_at P.faults P.refusals print.old print.new result
-        (report_text (reports.BcdOut name cards)) }
+        (concat (word.now ∷ name8 name ∷ of.now ∷ digits count ∷ codes "\n" ∷ [])) }
 {
-    let mut card_digits = Buffer::new();
+    let mut count_digits = Buffer::new();
     let letters = name.bytes();
     put_each(
         print,
         &[
-            b"BCDOUT  ",
+            word,
             letters,
             blanks(NAME_PLACES, letters.len()),
-            b" CARDS ",
-            decimal(&mut card_digits, cards).as_bytes(),
+            of,
+            decimal(&mut count_digits, count).as_bytes(),
             b"\n",
         ],
     )
+}
+
+pub fn put_bcd_out<P: Sink>(print: &mut P, name: Name, cards: u32) -> Result<(), WriteStop>
+    ensures { Writes P.written P.stopped_at P.faults P.refusals print.old print.new result
+        (report_text (reports.BcdOut name cards)) }
+{
+    put_counted(print, b"BCDOUT  ", name, b" CARDS ", cards)
+}
+
+pub fn put_basis_out<P: Sink>(print: &mut P, name: Name, cards: u32) -> Result<(), WriteStop>
+    ensures { Writes P.written P.stopped_at P.faults P.refusals print.old print.new result
+        (report_text (reports.BasisOut name cards)) }
+{
+    put_counted(print, b"PUNCH   ", name, b" CARDS ", cards)
+}
+
+pub fn put_inserted<P: Sink>(print: &mut P, name: Name, basic: u32) -> Result<(), WriteStop>
+    ensures { Writes P.written P.stopped_at P.faults P.refusals print.old print.new result
+        (report_text (reports.Inserted name basic)) }
+{
+    put_counted(print, b"INSERT  ", name, b" BASIC ", basic)
 }

@@ -4,7 +4,9 @@ ghost use Rattle.report_text.specs.Shown.{IsReport, text_shown};
 
 use crate::ending::put_ending;
 use crate::parametric::put_parametric;
-use crate::plain::{put_converted, put_bcd_out, put_revised, put_setup, put_title};
+use crate::plain::{
+    put_basis_out, put_bcd_out, put_converted, put_inserted, put_revised, put_setup, put_title,
+};
 use crate::ranges::put_ranges;
 use crate::solution::put_solution;
 use crate::verdict::put_verdict;
@@ -13,7 +15,7 @@ use job_devices::{Sink, WriteStop};
 use listing_definitions::{Mark, Solver};
 use listing_tables::{Ranging, Sheet, Standing};
 use lp_definitions::{Evidence, Sense};
-use lp_model::{Basis, Outcome, ParaRun, Point, Prices, RangeReport};
+use lp_model::{Basis, Direction, Outcome, ParaRun, Point, Prices, RangeReport};
 use name_table::Name;
 
 /// What a statement of a run prints, or the end of the run.
@@ -46,6 +48,16 @@ pub enum Report<'a> {
     BcdOut {
         name: Name,
         cards: u32,
+    },
+    /// The deck of a basis that was punched, by the name of its problem, with the number of its cards.
+    BasisOut {
+        name: Name,
+        cards: u32,
+    },
+    /// A basis that was taken from a deck, by the name of the deck, with the number of its basic columns.
+    Inserted {
+        name: Name,
+        basic: u32,
     },
     /// How the path of a solving verb ended, with the first operation that its check was refused, if one was.
     Solved {
@@ -99,6 +111,17 @@ pub enum Ending<'a> {
     Verb {
         fault: u8,
         card: u32,
+    },
+    /// The basis that a deck gives is singular. The dependency has a coefficient for each variable.
+    Singular {
+        card: u32,
+        sheet: Sheet<'a>,
+        dependency: &'a Direction,
+    },
+    /// The prices of the present basis aren't those of an optimal one: that of this variable is the first that is wrong.
+    WrongPrices {
+        card: u32,
+        variable: u32,
     },
     /// A card of a deck is refused: a fault of a number has its number, and one of a bad character its column.
     Deck {
@@ -158,6 +181,8 @@ pub fn text_of<P: Sink>(report: &Report<'_>, print: &mut P) -> Result<(), WriteS
         } => put_revised(print, name, rows, columns, entries),
         Report::SetUp { name, sense } => put_setup(print, name, sense),
         Report::BcdOut { name, cards } => put_bcd_out(print, name, cards),
+        Report::BasisOut { name, cards } => put_basis_out(print, name, cards),
+        Report::Inserted { name, basic } => put_inserted(print, name, basic),
         Report::Solved {
             by,
             sheet,
