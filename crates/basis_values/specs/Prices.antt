@@ -1,13 +1,18 @@
--- Prices with a change row, variable by variable.
+-- Prices, variable by variable.
+--     worth_by p y                 how the objective grows with each nonbasic, by the prices
 --     AreChanged theta h o n y     y has theta times h added to o at the first n variables
 --     ChangedRefused               the product at j is refused, or the sum with it
 use Rattle.std.specs.Prelude.{◌≡◌, ◌≢◌, ℕ, ◌≤◌}
 use Rattle.exact_values.specs.Rational.{ℚ, zero_ℚ, ◌+ℚ◌, ◌*ℚ◌}
 use Rattle.frac128.specs.declared.Op.TheVariants.{Add, Mul}
-use Rattle.lp_definitions.specs.LinearProgram.{Vector}
+use Rattle.lp_definitions.specs.LinearProgram.{LinearProgram, Vector, for_min}
 use Rattle.lp_definitions.specs.declared.Evidence.{Evidence}
 use Rattle.basis_values.specs.Formulas.{IsRefusal}
 use Rattle.basis_values.specs.declared.formula.Formula.{Formula}
+
+-- how the objective, or its negative for MAX, grows with each nonbasic, by the prices
+abbrev pub worth_by : LinearProgram → Vector → Vector
+worth_by p y k = for_min p.sense (y k)
 
 -- the formula of the price of j
 abbrev pub price_formula : ℕ → ℚ → Formula

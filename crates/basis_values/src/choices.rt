@@ -1,14 +1,16 @@
 //! The least-numbered variables that the path chooses.
 
 ghost use Rattle.std.specs.Prelude.{◌≡◌, ◌&&◌, ◌≤◌, length};
+ghost use Rattle.exact_values.specs.Rational.{ℚ};
 ghost use Rattle.exact_values.specs.Tests.{lt_ℚ};
-ghost use Rattle.lp_definitions.specs.LinearProgram.{size, value_at, IsVariable};
+ghost use Rattle.lp_definitions.specs.LinearProgram.{size, value_at, for_min, IsVariable};
 ghost use Rattle.lp_definitions.specs.Basis.{basics_of, is_in};
 ghost use Rattle.method_definitions.specs.Moves.{least, is_crossed, is_fixed, is_below, is_above, is_outside, lowers, entering, signed};
 ghost use Rattle.basis_values.specs.Motions.{motion};
+ghost use Rattle.basis_values.specs.Prices.{worth_by};
 
 use frac128::Frac;
-use lp_model::{Basis, Lp, Status};
+use lp_model::{Basis, Lp, Sense, Status};
 
 /// Whether `x` is below `y`.
 pub fn is_less(x: Frac, y: Frac) -> bool
@@ -146,4 +148,23 @@ pub fn enterer(lp: &Lp, basis: &Basis, rates: &[Frac], up: bool) -> Option<u32>
         }
     }
     None
+}
+
+/// Whether a smaller objective is better.
+pub fn is_minimized(lp: &Lp) -> bool
+    ensures { (v : ℚ) → for_min lp.now.sense v ≡ signed result v }
+{
+    match lp.sense {
+        Sense::Min => true,
+        Sense::Max => false,
+    }
+}
+
+/// The least-numbered nonbasic at which the basis's price is wrong: it may move so as to better the objective.
+pub fn wrong_price(lp: &Lp, basis: &Basis, prices: &[Frac]) -> Option<u32>
+    requires counted { length basis.now ≡ size lp.now.matrix }
+    requires places { length prices.now ≡ size lp.now.matrix }
+    ensures { result ≡ entering lp.now basis.now (worth_by lp.now (value_at prices.now)) }
+{
+    enterer(lp, basis, prices, is_minimized(lp))
 }

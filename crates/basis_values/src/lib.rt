@@ -10,7 +10,8 @@ mod prices;
 pub mod reach;
 
 pub use choices::{
-    counted, crossed, enterer, is_less, lies_below, may_lower, outside, stands_basic,
+    counted, crossed, enterer, is_less, is_minimized, lies_below, may_lower, outside, stands_basic,
+    wrong_price,
 };
 pub use formula::{Formula, plus_product};
 pub use point::point_of;

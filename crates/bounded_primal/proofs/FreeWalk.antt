@@ -20,6 +20,7 @@ use Rattle.bounded_primal.specs.Stops.{primal_stop_of, PrimalStops, FreeStops}
 use Rattle.bounded_primal.specs.Turns.{EndsHere, EvidenceAt, TurnStops}
 use Rattle.bounded_primal.specs.declared.moves.PrimalStop.{PrimalStop}
 use Rattle.bounded_primal.specs.declared.moves.PrimalStop.TheVariants.{Limit, Overflow, NoMemory}
+use Rattle.method_definitions.specs.Path.{turn}
 use Rattle.bounded_primal.proofs.PathWalk.{HasReached, ends_there, stops_there}
 
 module _ (p : LinearProgram) (lawful : IsLinearProgram p) (a : Matrix) (b : Basics) (s : List Status) (has : HasRates a b p s) where
@@ -27,7 +28,7 @@ module _ (p : LinearProgram) (lawful : IsLinearProgram p) (a : Matrix) (b : Basi
   begun = record { is_basis = has.is_basis; nonsingular = has.nonsingular }
 
   -- so far there are fewer steps than status lists
-  pub reached_short : (before : List Basics) (now : List Status) (ways : List Basics) (steps : ℕ) → HasReached p s before now ways steps → steps < lists_of p
+  pub reached_short : (before : List Basics) (now : List Status) (ways : List Basics) (steps : ℕ) → HasReached turn p s before now ways steps → steps < lists_of p
   reached_short before now ways steps h = subst (λ n. n < lists_of p) h.taken (short p lawful s h.bases begun h.path.0)
 
   -- a path that goes on after as many steps as the limit allows
@@ -63,7 +64,7 @@ module _ (p : LinearProgram) (s : List Status) (before after : List Basics) wher
   stops_free left stop.NoMemory some h = tt
 
 -- what a path without a limit has reached, and where it ends or stops
-module _ (p : LinearProgram) (lawful : IsLinearProgram p) (a : Matrix) (b : Basics) (s : List Status) (has : HasRates a b p s) (before : List Basics) (now : List Status) (ways : List Basics) (steps : ℕ) (h : HasReached p s before now ways steps) where
+module _ (p : LinearProgram) (lawful : IsLinearProgram p) (a : Matrix) (b : Basics) (s : List Status) (has : HasRates a b p s) (before : List Basics) (now : List Status) (ways : List Basics) (steps : ℕ) (h : HasReached turn p s before now ways steps) where
   fewer : steps < lists_of p
   fewer = reached_short p lawful a b s has before now ways steps h
 
@@ -73,7 +74,7 @@ module _ (p : LinearProgram) (lawful : IsLinearProgram p) (a : Matrix) (b : Basi
       stops_there p s before now ways steps h (lists_of p) more (primal_stop_of why) (omega (arith, few)) (stops_free p now ways more (lists_of p - steps) why (omega (arith, few)) stops)
 
   pub free_ends : (told : ℕ) (outcome : Outcome) → told ≡ counted_steps steps → EndsHere p now told outcome → CallEnds p s now (lists_of p) outcome
-  free_ends told outcome is_told ends = let few = fewer in ends_there p s before now ways steps h (lists_of p) told outcome (omega (arith, few)) is_told ends
+  free_ends told outcome is_told ends = let few = fewer in ends_there turn p s before now ways steps h (lists_of p) told outcome (omega (arith, few)) is_told ends
 
 -- the count of steps stands still
 pub counted_more : (told steps : ℕ) → told ≡ counted_steps steps → min (told + 1) 4294967295 ≡ counted_steps (steps + 1)

@@ -3,6 +3,7 @@ pub mod Agreement
 pub mod StepFacts
 pub mod StepRefusals
 pub mod TurnEvidence
+pub mod StatementEvidence
 pub mod SameChoices
 pub mod TurnChoices
 pub mod PathWalk

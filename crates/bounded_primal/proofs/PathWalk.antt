@@ -1,4 +1,4 @@
--- From turn to turn: the bases that the path has passed, and the waypoints in them.
+-- From turn to turn: the bases that a path by a rule has passed, and the waypoints in them.
 use Rattle.std.proofs.Common.{◌≡◌, ℕ, ◌+◌, ◌-◌, ◌≤◌, inl, inr, List, [], ◌∷◌, ◌++◌, map, length, get_or, refl, sym, ◌∙◌, ap, subst, arith}
 use Rattle.std.specs.Prelude.{None}
 use Rattle.std.proofs.lemmas.List.{append_assoc}
@@ -6,16 +6,18 @@ use Rattle.std.proofs.lemmas.List.Elements.{All-contains}
 use Rattle.lp_definitions.specs.LinearProgram.{Matrix, LinearProgram}
 use Rattle.lp_definitions.specs.Basis.{Basics, basics_of}
 use Rattle.lp_definitions.specs.Waypoints.{IsWithinOne, IsKept, KeepsWaypoints, waypoint}
+use Rattle.lp_definitions.specs.declared.Evidence.{Evidence}
 use Rattle.lp_definitions.specs.declared.Status.{Status}
 use Rattle.lp_model.specs.declared.reports.Outcome.{Outcome}
 use Rattle.lp_laws.proofs.WaypointLaws.{within_itself, within_by}
-use Rattle.method_definitions.specs.Path.{IsStep, EndsAt, IsPath, last_of}
+use Rattle.method_definitions.specs.Path.{Rule, turn, RuleStep, RuleEnd, RulePath, last_of}
 use Rattle.method_definitions.specs.Counts.{counted_steps}
+use Rattle.method_definitions.specs.Statements.{SolvingStatement}
 use Rattle.method_definitions.specs.Evidence.{EvidenceHolds}
 use Rattle.basis_values.specs.Calls.{LieIn, job_of}
-use Rattle.bounded_primal.specs.Calls.{CallEnds, WaypointsFollow, outcome_of}
-use Rattle.bounded_primal.specs.Stops.{PathFrom, PrimalStops}
-use Rattle.bounded_primal.specs.Turns.{EndsHere, TurnStops}
+use Rattle.bounded_primal.specs.Calls.{RuleCallEnds, RuleCallGoesOn, RuleWaypointsFollow, RuleStopsOnPath, outcome_of}
+use Rattle.bounded_primal.specs.Stops.{PrimalStops}
+use Rattle.bounded_primal.specs.Turns.{RuleEndsHere, TurnStops}
 use Rattle.bounded_primal.specs.declared.moves.PrimalStop.{PrimalStop}
 use Rattle.bounded_primal.specs.declared.moves.PrimalStop.TheVariants.{Limit, Overflow, NoMemory}
 
@@ -34,9 +36,9 @@ module _ (a : Matrix) where
   within_reached s (next ∷ bases) = inr (within_reached next bases)
 
 -- one more step of a path
-path_more : (p : LinearProgram) (s : List Status) (bases : List (List Status)) (next : List Status) → IsPath p s bases → IsStep p (last_of s bases) next → IsPath p s (bases ++ next ∷ [])
-path_more p s [] next path step = (step, tt)
-path_more p s (b ∷ bases) next path step = (path.0, path_more p b bases next path.1 step)
+path_more : (rule : Rule) (p : LinearProgram) (s : List Status) (bases : List (List Status)) (next : List Status) → RulePath rule p s bases → RuleStep rule p (last_of s bases) next → RulePath rule p s (bases ++ next ∷ [])
+path_more rule p s [] next path step = (step, tt)
+path_more rule p s (b ∷ bases) next path step = (path.0, path_more rule p b bases next path.1 step)
 
 pub last_more : (s : List Status) (bases : List (List Status)) (next : List Status) → last_of s (bases ++ next ∷ []) ≡ next
 last_more s [] next = refl
@@ -52,17 +54,17 @@ before_last s [] = ([], refl)
 before_last s (next ∷ bases) = let rest = before_last next bases in (s ∷ rest.0, ap (λ xs. s ∷ xs) rest.1)
 
 -- the walk from s, with the waypoints before, has reached now
-pub record HasReached (p : LinearProgram) (s : List Status) (before : List Basics) (now : List Status) (ways : List Basics) (steps : ℕ) : Type 0 where
+pub record HasReached (rule : Rule) (p : LinearProgram) (s : List Status) (before : List Basics) (now : List Status) (ways : List Basics) (steps : ℕ) : Type 0 where
   pub bases : List (List Status)
-  pub path : PathFrom p s now bases
+  pub path : RulePath rule p s bases × (last_of s bases ≡ now)
   pub taken : length bases ≡ steps
   pub lie : (earlier : List (List Status)) → LieIn p.matrix before (earlier ++ s ∷ []) → LieIn p.matrix ways (earlier ++ s ∷ bases)
 
-module _ (p : LinearProgram) (s : List Status) (before : List Basics) where
-  pub begins : HasReached p s before s before 0
+module _ (rule : Rule) (p : LinearProgram) (s : List Status) (before : List Basics) where
+  pub begins : HasReached rule p s before s before 0
   begins = record { bases = []; path = (tt, refl); taken = refl; lie = λ earlier lie. lie }
 
-  pub begins_at : (ways : List Basics) → KeepsWaypoints p.matrix (basics_of s) before (basics_of s) ways → HasReached p s before s ways 0
+  pub begins_at : (ways : List Basics) → KeepsWaypoints p.matrix (basics_of s) before (basics_of s) ways → HasReached rule p s before s ways 0
   begins_at ways keeps = record {
     bases = [];
     path = (tt, refl);
@@ -79,30 +81,33 @@ module _ (p : LinearProgram) (s : List Status) (before : List Basics) where
       place earlier lie w (inr (inr within)) = within_by p.matrix w (basics_of s) (map basics_of (earlier ++ s ∷ [])) within (own earlier)
 
   -- where nothing is done
-  pub stays : WaypointsFollow p s s before before
+  pub stays : RuleWaypointsFollow rule p s s before before
   stays = record { bases = begins.bases; is_path = begins.path.0; reaches = begins.path.1; lie = begins.lie }
 
-  pub follows : (now : List Status) (ways : List Basics) (steps : ℕ) → HasReached p s before now ways steps → WaypointsFollow p s now before ways
+  pub follows : (now : List Status) (ways : List Basics) (steps : ℕ) → HasReached rule p s before now ways steps → RuleWaypointsFollow rule p s now before ways
   follows now ways steps h = record { bases = h.bases; is_path = h.path.0; reaches = h.path.1; lie = h.lie }
 
-  module _ (now : List Status) (ways : List Basics) (steps : ℕ) (h : HasReached p s before now ways steps) where
+  module _ (now : List Status) (ways : List Basics) (steps : ℕ) (h : HasReached rule p s before now ways steps) where
     reached_within : (earlier : List (List Status)) → IsWithinOne p.matrix (basics_of now) (map basics_of (earlier ++ s ∷ h.bases))
     reached_within earlier = subst (λ (x : List Status). IsWithinOne p.matrix (basics_of x) (map basics_of (earlier ++ s ∷ h.bases))) h.path.1 (within_suffix p.matrix (basics_of (last_of s h.bases)) earlier (s ∷ h.bases) (within_reached p.matrix s h.bases))
 
-    -- the waypoints, also after calls at the basis that is reached
-    pub follows_later : (more : List Basics) → KeepsWaypoints p.matrix (basics_of now) ways (basics_of now) more → WaypointsFollow p s now before more
-    follows_later more keeps = record { bases = h.bases; is_path = h.path.0; reaches = h.path.1; lie = λ earlier lie k d below. place earlier lie (get_or more k d) (keeps.each k d below) }
+    -- the same after calls at the basis that is reached
+    pub reached_later : (more : List Basics) → KeepsWaypoints p.matrix (basics_of now) ways (basics_of now) more → HasReached rule p s before now more steps
+    reached_later more keeps = record { bases = h.bases; path = h.path; taken = h.taken; lie = λ earlier lie k d below. place earlier lie (get_or more k d) (keeps.each k d below) }
       where
         place : (earlier : List (List Status)) → LieIn p.matrix before (earlier ++ s ∷ []) → (w : Basics) → IsKept p.matrix (basics_of now) ways (basics_of now) w → IsWithinOne p.matrix w (map basics_of (earlier ++ s ∷ h.bases))
         place earlier lie w (inl old) = All-contains (λ w. IsWithinOne p.matrix w (map basics_of (earlier ++ s ∷ h.bases))) ways w (h.lie earlier lie) old
         place earlier lie w (inr (inl within)) = within_by p.matrix w (basics_of now) (map basics_of (earlier ++ s ∷ h.bases)) within (reached_within earlier)
         place earlier lie w (inr (inr within)) = within_by p.matrix w (basics_of now) (map basics_of (earlier ++ s ∷ h.bases)) within (reached_within earlier)
 
+    pub follows_later : (more : List Basics) → KeepsWaypoints p.matrix (basics_of now) ways (basics_of now) more → RuleWaypointsFollow rule p s now before more
+    follows_later more keeps = follows now more steps (reached_later more keeps)
+
     -- a step more
-    pub goes_over : (next : List Status) (more : List Basics) → IsStep p now next → KeepsWaypoints p.matrix (basics_of now) ways (basics_of next) more → HasReached p s before next more (steps + 1)
+    pub goes_over : (next : List Status) (more : List Basics) → RuleStep rule p now next → KeepsWaypoints p.matrix (basics_of now) ways (basics_of next) more → HasReached rule p s before next more (steps + 1)
     goes_over next more step keeps = record {
       bases = h.bases ++ next ∷ [];
-      path = (path_more p s h.bases next h.path.0 (subst (λ (x : List Status). IsStep p x next) (sym h.path.1) step), last_more s h.bases next);
+      path = (path_more rule p s h.bases next h.path.0 (subst (λ (x : List Status). RuleStep rule p x next) (sym h.path.1) step), last_more s h.bases next);
       taken = length_more h.bases next ∙ ap (λ n. n + 1) h.taken;
       lie = λ earlier lie k d below. subst (λ (xs : List (List Status)). IsWithinOne p.matrix (get_or more k d) (map basics_of xs)) (append_assoc earlier (s ∷ h.bases) (next ∷ []))
           (place earlier lie (get_or more k d) (keeps.each k d below));
@@ -118,39 +123,43 @@ module _ (p : LinearProgram) (s : List Status) (before : List Basics) where
             (within_suffix p.matrix (basics_of next) (earlier ++ s ∷ h.bases) (next ∷ []) (inl (within_itself p.matrix (basics_of next))))
 
     -- the path ends
-    pub ends_there : (limit told : ℕ) (outcome : Outcome) → steps ≤ limit → told ≡ counted_steps steps → EndsHere p now told outcome → CallEnds p s now limit outcome
+    pub ends_there : (limit told : ℕ) (outcome : Outcome) → steps ≤ limit → told ≡ counted_steps steps → RuleEndsHere rule p now told outcome → RuleCallEnds rule p s now limit outcome
     ends_there limit told outcome within is_told e = record {
       bases = h.bases;
       ending = e.ending;
-      ends = record { is_path = h.path.0; ends = subst (λ (x : List Status). EndsAt p x e.ending) (sym h.path.1) e.ends };
+      ends = record { is_path = h.path.0; ends = subst (λ (x : List Status). RuleEnd rule p x e.ending) (sym h.path.1) e.ends };
       reaches = h.path.1;
       within = omega (arith, h.taken, within);
       is_outcome = subst (λ (n : ℕ). outcome ≡ outcome_of n e.ending) (is_told ∙ ap counted_steps (sym h.taken)) e.is_outcome;
     }
 
-    -- or stops
-    pub stops_there : (limit : ℕ) (more : List Basics) (stop : PrimalStop) → steps ≤ limit → TurnStops p now (limit - steps) ways more stop → PrimalStops p s now limit before more stop
-    stops_there limit more Limit within t = record {
+    -- or goes on, after as many steps as the limit
+    pub goes_on_there : (limit : ℕ) → steps ≡ limit → (next : List Status) → RuleStep rule p now next → RuleCallGoesOn rule p s now limit
+    goes_on_there limit taken next step = record {
       goes_on = record {
         bases = h.bases;
         is_path = h.path.0;
-        taken = omega (arith, h.taken, t.0, within);
-        next = t.1.0;
-        is_step = subst (λ (x : List Status). IsStep p x t.1.0) (sym h.path.1) t.1.1;
+        taken = h.taken ∙ taken;
+        next = next;
+        is_step = subst (λ (x : List Status). RuleStep rule p x next) (sym h.path.1) step;
       };
       reaches = h.path.1;
     }
-    stops_there limit more NoMemory within t = (h.bases, (h.path.0, h.path.1), omega (arith, h.taken, within))
-    stops_there limit more (Overflow e) within t = record {
+
+    -- or stops, by evidence at the basis that it has reached
+    pub overflows_there : (statement : SolvingStatement) (limit : ℕ) (more : List Basics) (e : Evidence) → steps ≤ limit → e.way ≤ length more →
+        ((earlier : List (List Status)) → LieIn p.matrix ways (earlier ++ now ∷ []) → EvidenceHolds statement None (limit - steps) (earlier ++ now ∷ []) [] now (waypoint (basics_of now) more e.way) e) →
+        RuleStopsOnPath rule statement p s now limit before more e
+    overflows_there statement limit more e within is_way shows = record {
       bases = h.bases;
       is_path = h.path.0;
       reaches = h.path.1;
       within = omega (arith, h.taken, within);
-      is_way = t.is_way;
+      is_way = is_way;
       shows = λ earlier lie.
-          subst (λ (n : ℕ). EvidenceHolds (job_of p p.change) None (limit - n) (earlier ++ s ∷ h.bases) [] now (waypoint (basics_of now) more e.way) e) (sym h.taken)
-          (subst (λ (xs : List (List Status)). EvidenceHolds (job_of p p.change) None (limit - steps) xs [] now (waypoint (basics_of now) more e.way) e) (sym (whole earlier))
-          (t.shows (earlier ++ initial.0) (subst (LieIn p.matrix ways) (whole earlier) (h.lie earlier lie))));
+          subst (λ (n : ℕ). EvidenceHolds statement None (limit - n) (earlier ++ s ∷ h.bases) [] now (waypoint (basics_of now) more e.way) e) (sym h.taken)
+          (subst (λ (xs : List (List Status)). EvidenceHolds statement None (limit - steps) xs [] now (waypoint (basics_of now) more e.way) e) (sym (whole earlier))
+          (shows (earlier ++ initial.0) (subst (LieIn p.matrix ways) (whole earlier) (h.lie earlier lie))));
     }
       where
         initial : (initial : List (List Status)) × (s ∷ h.bases ≡ initial ++ last_of s h.bases ∷ [])
@@ -158,3 +167,11 @@ module _ (p : LinearProgram) (s : List Status) (before : List Basics) where
 
         whole : (earlier : List (List Status)) → earlier ++ s ∷ h.bases ≡ (earlier ++ initial.0) ++ now ∷ []
         whole earlier = ap (λ xs. earlier ++ xs) (initial.1 ∙ ap (λ x. initial.0 ++ x ∷ []) h.path.1) ∙ sym (append_assoc earlier initial.0 (now ∷ []))
+
+-- ---- a stop of the simplex path
+
+module _ (p : LinearProgram) (s : List Status) (before : List Basics) (now : List Status) (ways : List Basics) (steps : ℕ) (h : HasReached turn p s before now ways steps) where
+  pub stops_there : (limit : ℕ) (more : List Basics) (stop : PrimalStop) → steps ≤ limit → TurnStops p now (limit - steps) ways more stop → PrimalStops p s now limit before more stop
+  stops_there limit more Limit within t = goes_on_there turn p s before now ways steps h limit (omega (arith, t.0, within)) t.1.0 t.1.1
+  stops_there limit more NoMemory within t = (h.bases, (h.path.0, h.path.1), omega (arith, h.taken, within))
+  stops_there limit more (Overflow e) within t = overflows_there turn p s before now ways steps h (job_of p p.change) limit more e within t.is_way t.shows

@@ -1,16 +1,19 @@
 -- The path's choices depend on rates at the nonbasics and on speeds at the variables alone.
 use Rattle.std.proofs.Common.{◌≡◌, ℕ, zero, suc, ◌+◌, ◌-◌, ◌<◌, Bool, true, false, List, length, get_or, map, refl, sym, ap, ap₂, ◌∙◌, arith}
-use Rattle.std.specs.Prelude.{None, not, ◌&&◌, ◌||◌, option_map, if◌then◌else◌}
-use Rattle.exact_values.specs.Rational.{ℚ, zero_ℚ, ◌-ℚ◌, ◌/ℚ◌}
+use Rattle.std.specs.Prelude.{None, not, ◌&&◌, ◌||◌, nat_eq, option_map, if◌then◌else◌}
+use Rattle.exact_values.specs.Rational.{ℚ, zero_ℚ, one_ℚ, neg_ℚ, ◌-ℚ◌, ◌/ℚ◌}
 use Rattle.exact_values.specs.Tests.{lt_ℚ}
 use Rattle.lp_definitions.specs.LinearProgram.{Matrix, LinearProgram, Vector, size, numbers_from, IsVariable, lower_of, upper_of, value_at}
 use Rattle.lp_definitions.specs.Basis.{is_in, basics_of, status_of, is_basic, IsBasis, IsNonbasic}
 use Rattle.lp_definitions.specs.declared.Status.{Status}
 use Rattle.lp_laws.proofs.Uniqueness.{is_in-basics_of}
-use Rattle.method_definitions.specs.Moves.{is_fixed, rises_from, falls_from, lowers, entering, room, is_no_later, reaches_first, stopper}
-use Rattle.method_definitions.specs.Path.{listed}
+use Rattle.lp_model.specs.RatesCalls.{IsRowOf}
+use Rattle.method_definitions.specs.Moves.{signed, is_fixed, rises_from, falls_from, lowers, entering, room, is_no_later, reaches_first, stopper}
+use Rattle.method_definitions.specs.Path.{listed, ray_of}
 use Rattle.path_laws.proofs.Numbered.{find_same, list_all_same, get_or-listed}
 use Rattle.path_laws.proofs.OneTurn.{idle_basic}
+use Rattle.path_laws.proofs.Steps.{signed_zero}
+use Rattle.bounded_primal.specs.Turns.{ray_from}
 use Rattle.std.proofs.lemmas.List.{ext_get_or}
 
 -- quantities with the same rates at the nonbasics are lowered by the same variable
@@ -48,3 +51,16 @@ listed_is a xs f counted h = ext_get_or zero_ℚ xs (listed a f) (counted ∙ sy
         let place : i + 1 - 1 ≡ i = omega arith in
         let next : i + 1 ≡ 1 + i = omega arith in
         ap (λ j. get_or xs j zero_ℚ) (sym place) ∙ h (i + 1) (omega arith, omega (arith, below, counted)) ∙ ap f next ∙ sym (get_or-listed f (size a) 1 i zero_ℚ (omega (arith, below, counted)))
+
+-- the multipliers that a row gives are those of its rates
+pub row_ray : (p : LinearProgram) (s : List Status) (r : ℕ) (xs : Vector) (row : IsRowOf p.matrix (basics_of s) r xs) (below : Bool) (k : ℕ) → IsVariable p.matrix k → ray_from xs r below k ≡ ray_of (basics_of s) row.rate r below k
+row_ray p s r xs row below k is = at (nat_eq k r) (is_in (basics_of s) k) refl
+  where
+    entry : (mark : Bool) → is_in (basics_of s) k ≡ mark → xs k ≡ (if mark then zero_ℚ else row.rate r k)
+    entry mark e = row.entries k is ∙ ap (λ m. if m then zero_ℚ else row.rate r k) e
+
+    at : (own mark : Bool) → is_in (basics_of s) k ≡ mark →
+        signed below (if own then neg_ℚ one_ℚ else xs k) ≡ (if own then signed below (neg_ℚ one_ℚ) else (if mark then zero_ℚ else signed below (row.rate r k)))
+    at true mark e = refl
+    at false true e = ap (signed below) (entry true e) ∙ signed_zero below
+    at false false e = ap (signed below) (entry false e)

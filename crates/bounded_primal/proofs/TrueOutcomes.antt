@@ -12,7 +12,7 @@ use Rattle.lp_laws.proofs.Duality.{infeasible_by_crossed, infeasible_by_ray, unb
 use Rattle.lp_model.specs.declared.reports.Outcome.{Outcome}
 use Rattle.lp_model.specs.declared.reports.Outcome.TheVariants.{Crossed}
 use Rattle.method_definitions.specs.Moves.{least, is_crossed, is_below}
-use Rattle.method_definitions.specs.Path.{PathEnding, EndsOptimal, EndsCrossed, EndsInfeasible, EndsUnbounded, Ends, EndsAt, listed, ray_of, last_of}
+use Rattle.method_definitions.specs.Path.{turn, PathEnding, EndsOptimal, EndsCrossed, EndsInfeasible, EndsUnbounded, Ends, EndsAt, listed, ray_of, last_of}
 use Rattle.path_laws.specs.Laws.{IsNonsingularBasis}
 use Rattle.path_laws.proofs.Turns.{bettering, rule_of, optimal_turn, stuck_turn, endless_turn}
 use Rattle.path_laws.proofs.Ends.{optimal_end}
@@ -59,7 +59,7 @@ module _ (p : LinearProgram) (s : List Status) where
       (has_places p.matrix t.point z first, has_places p.matrix (bettering p s t endless.0) d second)
 
 module _ (p : LinearProgram) (lawful : IsLinearProgram p) where
-  true_end : (s : List Status) → IsNonsingularBasis p s → (steps : ℕ) (ending : PathEnding) → EndsAt p s ending → IsTrueOutcome p (outcome_of steps ending)
+  pub true_end : (s : List Status) → IsNonsingularBasis p s → (steps : ℕ) (ending : PathEnding) → EndsAt p s ending → IsTrueOutcome p (outcome_of steps ending)
   true_end s at steps (EndsOptimal z y) ends =
       let proved = optimal_end p s z y lawful at ends in
       let places = optimal_places p s z y ends in
@@ -91,7 +91,7 @@ module _ (p : LinearProgram) (matrix : Matrix) (basics : Basics) (s : List Statu
   ended = crossed_ends p s k 0 has.is_basis has.nonsingular found
 
   pub crossed_call : (limit : ℕ) (before : List Basics) → CallEnds p s s limit (Crossed k)
-  crossed_call limit before = ends_there p s before s before 0 (begins p s before) limit 0 (Crossed k) (omega arith) refl ended
+  crossed_call limit before = ends_there turn p s before s before 0 (begins turn p s before) limit 0 (Crossed k) (omega arith) refl ended
 
   pub crossed_truth : IsTrueOutcome p (Crossed k)
   crossed_truth = record { crossed = crossing; infeasible = infeasible_by_crossed p k crossing }

@@ -27,13 +27,14 @@ use Rattle.path_laws.proofs.Steps.{rate_apart, signed_zero}
 use Rattle.method_definitions.specs.Formulas.{limit_numbered, number_of_limit}
 use Rattle.method_definitions.specs.Statements.{PathMoves, PathEnters}
 use Rattle.basis_values.specs.Motions.{may_move, motion}
-use Rattle.bounded_primal.specs.Moves.{stop_at, stopper_of, return_by, IsStepBy, is_stopper, brings, move_by}
-use Rattle.bounded_primal.specs.Turns.{IsUncrossed, least_outside, ray_from, worth_by, moved_by, mover_by, IsEndless, EndsHere, MovesOn}
+use Rattle.basis_values.specs.Prices.{worth_by}
+use Rattle.bounded_primal.specs.Moves.{stop_at, stopper_of, return_by, IsStepBy, is_stopper, brings, StepsFromPoint, move_by}
+use Rattle.bounded_primal.specs.Turns.{IsUncrossed, least_outside, ray_from, moved_by, mover_by, IsEndless, EndsHere, MovesOn}
 use Rattle.bounded_primal.specs.declared.turns.Mover.{Mover}
 use Rattle.bounded_primal.specs.declared.moves.Stopper.{Stopper}
 use Rattle.basis_values.proofs.Existence.{rates_exist}
 use Rattle.basis_values.proofs.RatesStops.{tableau_of, IsTableau-of}
-use Rattle.bounded_primal.proofs.SameChoices.{entering_same, stopper_same, listed_is}
+use Rattle.bounded_primal.proofs.SameChoices.{entering_same, stopper_same, listed_is, row_ray}
 
 -- a variable is crossed
 pub crossed_ends : (p : LinearProgram) (s : List Status) (k steps : ℕ) → IsBasis p s → IsNonsingular p.matrix (basics_of s) → Some k ≡ least p (is_crossed p) → EndsHere p s steps (Crossed k)
@@ -69,21 +70,12 @@ module _ (p : LinearProgram) (s : List Status) (z : Vector) (basis : IsBasis p s
     mover_is : mover p s t (Some r) ≡ entering p s (motion xs (not below))
     mover_is = entering_same p s basis (excess_rate row.rate r below) (motion xs (not below)) (λ k out. ap (signed (not below)) (sym (entry k out.0 false out.1)))
 
-    ray_is : (k : ℕ) → IsVariable p.matrix k → ray_from xs r below k ≡ ray_of (basics_of s) row.rate r below k
-    ray_is k is = at (nat_eq k r) (is_in (basics_of s) k) refl
-      where
-        at : (own mark : Bool) → is_in (basics_of s) k ≡ mark →
-            signed below (if own then neg_ℚ one_ℚ else xs k) ≡ (if own then signed below (neg_ℚ one_ℚ) else (if mark then zero_ℚ else signed below (row.rate r k)))
-        at true mark e = refl
-        at false true e = ap (signed below) (entry k is true e) ∙ signed_zero below
-        at false false e = ap (signed below) (entry k is false e)
-
     -- nothing brings r back
     pub stuck_ends : (ray : List ℚ) (steps : ℕ) → None ≡ entering p s (motion xs (not below)) → length ray ≡ size p.matrix → ((k : ℕ) → IsVariable p.matrix k → value_at ray k ≡ ray_from xs r below k) → EndsHere p s steps (Infeasible steps ray)
     stuck_ends ray steps none counted values = record {
       ending = EndsInfeasible (listed p.matrix (ray_of (basics_of s) row.rate r below));
       ends = record { tableau = t; is_tableau = is_t; turns = first_turn None (mover_is ∙ sym none) };
-      is_outcome = ap (Infeasible steps) (listed_is p.matrix ray (ray_of (basics_of s) row.rate r below) counted (λ k is. values k is ∙ ray_is k is));
+      is_outcome = ap (Infeasible steps) (listed_is p.matrix ray (ray_of (basics_of s) row.rate r below) counted (λ k is. values k is ∙ row_ray p s r xs row below k is));
     }
 
     -- the basic r, and its limit that is broken
@@ -104,6 +96,10 @@ module _ (p : LinearProgram) (s : List Status) (z : Vector) (basis : IsBasis p s
 
     pub limit_some : IsSome (limit_numbered p r (number_of_limit to_limit))
     limit_some = subst (λ (o : Option ℚ). IsSome o) (sym limit_there.1) refl
+
+    -- whatever brings it back, brings it to that limit
+    pub return_step : (q : ℕ) (d : Vector) → StepsFromPoint p s d q (return_by p z d r to_limit)
+    return_step q d = record { point = z; is_point = point; is_step = brings limit_there.0 returner_basic limit_there.1 (ap (λ o. (unwrap_or o zero_ℚ -ℚ z r) /ℚ d r) limit_there.1) }
 
     module _ (q : ℕ) (found : Some q ≡ entering p s (motion xs (not below))) where
       moves : mover p s t (Some r) ≡ Some q
@@ -134,7 +130,7 @@ module _ (p : LinearProgram) (s : List Status) (z : Vector) (basis : IsBasis p s
           nonbasic = returner_nonbasic;
           direction = direction;
           pivot = return_pivot;
-          step = record { point = z; is_point = point; is_step = brings limit_there.0 returner_basic limit_there.1 (ap (λ o. (unwrap_or o zero_ℚ -ℚ z r) /ℚ d r) limit_there.1) };
+          step = return_step q d;
           was_left = was_left;
         }
 
@@ -290,18 +286,12 @@ module _ (p : LinearProgram) (s : List Status) (z : Vector) (basis : IsBasis p s
           was_left = was_left;
         }
 
--- the prices count the objective as the sense does
-pub worth_signed : (p : LinearProgram) (s : List Status) (y : Vector) (min : Bool) → ((v : ℚ) → for_min p.sense v ≡ signed min v) → (motion y min) ≡ worth_by p y
-worth_signed p s y min is = λ i k. sym (is (y k)) i
-
 -- what is found to lower a quantity is a variable
 pub entering_within : (p : LinearProgram) (s : List Status) (f : Vector) (q : ℕ) → Some q ≡ entering p s f → IsVariable p.matrix q
 entering_within p s f q e = let found = find_some (lowers p s f) (size p.matrix) 1 q (sym e) in (found.low, omega (arith, found.high))
 
-abbrev mover_from : Vector → ℕ → Mover
-mover_from f q = record { q = q; up = lt_ℚ (f q) zero_ℚ }
-
-pub some_betters : (p : LinearProgram) (s : List Status) (y : Vector) (min up : Bool) (q : ℕ) → ((v : ℚ) → for_min p.sense v ≡ signed min v) → Some q ≡ entering p s (motion y min) → up ≡ lt_ℚ (motion y min q) zero_ℚ →
+-- the variable whose price is wrong, with the way in which it moves
+pub some_betters : (p : LinearProgram) (s : List Status) (y : Vector) (min up : Bool) (q : ℕ) → ((v : ℚ) → for_min p.sense v ≡ signed min v) → Some q ≡ entering p s (worth_by p y) → up ≡ lt_ℚ (signed min (y q)) zero_ℚ →
     Some (record { q = q; up = up }) ≡ mover_by p s y
 some_betters p s y min up q is found up_is =
-    ap (λ (b : Bool). Some (record { q = q; up = b })) up_is ∙ ap (option_map (mover_from (motion y min))) found ∙ ap (λ (f : Vector). option_map (mover_from f) (entering p s f)) (worth_signed p s y min is)
+    ap (λ (b : Bool). Some (record { q = q; up = b })) (up_is ∙ ap (λ x. lt_ℚ x zero_ℚ) (sym (is (y q)))) ∙ ap (option_map (moved_by p y)) found

@@ -7,7 +7,7 @@ use Rattle.lp_definitions.specs.declared.Status.{Status}
 use Rattle.lp_model.specs.RatesCalls.{IfOverflow}
 use Rattle.lp_model.specs.declared.Stop.{Stop}
 use Rattle.lp_laws.proofs.WaypointLaws.{keeps_then}
-use Rattle.method_definitions.specs.Path.{after}
+use Rattle.method_definitions.specs.Path.{turn, after}
 use Rattle.basis_values.specs.Calls.{PointRefused}
 use Rattle.bounded_primal.specs.Moves.{move_by, StepRefused}
 use Rattle.bounded_primal.specs.Stops.{primal_stop_of, PrimalStops}
@@ -20,7 +20,7 @@ use Rattle.bounded_primal.proofs.PathWalk.{HasReached, begins, goes_over, stops_
 
 -- the point of the first basis could not be made
 pub stops_at_once : (p : LinearProgram) (s : List Status) (limit : ℕ) (before now : List Basics) (why : Stop) → IfOverflow why (PointRefused p before s now) → PrimalStops p s s limit before now (primal_stop_of why)
-stops_at_once p s limit before now why h = stops_there p s before s before 0 (begins p s before) limit now (primal_stop_of why) (omega arith) (point_stops p s (limit - 0) before now why h)
+stops_at_once p s limit before now why h = stops_there p s before s before 0 (begins turn p s before) limit now (primal_stop_of why) (omega arith) (point_stops p s (limit - 0) before now why h)
 
 module _ (p : LinearProgram) (now : List Status) (d : Vector) (q : ℕ) (by : Stopper) (left : ℕ) (h : MovesOn p now d q by left) where
   reach : ReachesLimit p h.step.point d by
@@ -32,10 +32,10 @@ module _ (p : LinearProgram) (now : List Status) (d : Vector) (q : ℕ) (by : St
       (λ e x. of_step p now left ways more e q by h.enters h.moves (limit_apart p by.p by.to reach.limit reach.is_limit).0 h.was_left (step_refused_later p ways mid more now q by e keeps x)) refused
 
   -- from the first basis of the walk
-  module _ (s : List Status) (before ways : List Basics) (steps : ℕ) (reached : HasReached p s before now ways steps) where
-    pub walk_more : (next : List Status) (mid more : List Basics) → next ≡ after now (move_by q by) → KeepsWaypoints p.matrix (basics_of now) ways (basics_of now) mid → KeepsWaypoints p.matrix (basics_of now) mid (basics_of next) more → HasReached p s before next more (steps + 1)
+  module _ (s : List Status) (before ways : List Basics) (steps : ℕ) (reached : HasReached turn p s before now ways steps) where
+    pub walk_more : (next : List Status) (mid more : List Basics) → next ≡ after now (move_by q by) → KeepsWaypoints p.matrix (basics_of now) ways (basics_of now) mid → KeepsWaypoints p.matrix (basics_of now) mid (basics_of next) more → HasReached turn p s before next more (steps + 1)
     walk_more next mid more is first second =
-        goes_over p s before now ways steps reached next more (record { tableau = h.moves.0; is_tableau = h.moves.1; move = move_by q by; turns = h.moves.2; is_next = is })
+        goes_over turn p s before now ways steps reached next more (record { tableau = h.moves.0; is_tableau = h.moves.1; move = move_by q by; turns = h.moves.2; is_next = is })
         (keeps_then p.matrix (basics_of now) ways (basics_of next) mid more first second)
 
     pub walk_stops : (mid more : List Basics) (why : Stop) (limit : ℕ) → steps ≤ limit → left ≡ limit - steps → KeepsWaypoints p.matrix (basics_of now) ways (basics_of now) mid → IfOverflow why (StepRefused p mid now q by more) → PrimalStops p s now limit before more (primal_stop_of why)

@@ -2,8 +2,10 @@
 --     PathEnds, PathGoesOn         the path of a call, ended within the limit or still going on there
 --     WaypointsFollow              where the waypoints lie after the path of a call
 --     StopsOnPath                  the path of a call up to an overflow, and its evidence
-use Rattle.std.specs.Prelude.{◌≡◌, ℕ, ◌-◌, ◌≤◌, List, [], ◌∷◌, ◌++◌, length, None}
-use Rattle.lp_definitions.specs.LinearProgram.{LinearProgram}
+--     EvidenceHere                 evidence at a basis, whatever bases led there
+use Rattle.std.specs.Prelude.{◌≡◌, ℕ, ◌-◌, ◌≤◌, List, [], ◌∷◌, ◌++◌, length, Option, None}
+use Rattle.exact_values.specs.Rational.{ℚ}
+use Rattle.lp_definitions.specs.LinearProgram.{Matrix, LinearProgram}
 use Rattle.lp_definitions.specs.Basis.{Basics, basics_of}
 use Rattle.lp_definitions.specs.Waypoints.{waypoint}
 use Rattle.lp_definitions.specs.declared.Evidence.{Evidence}
@@ -55,6 +57,13 @@ pub record RuleStopsOnPath (rule : Rule) (statement : SolvingStatement) (p : Lin
   pub is_way : e.way ≤ length after
   pub shows : (earlier : List (List Status)) → LieIn p.matrix before (earlier ++ s ∷ []) →
       EvidenceHolds statement None (limit - length bases) (earlier ++ s ∷ bases) [] now (waypoint (basics_of now) after e.way) e
+
+-- for every list of bases that ends with now, and in which the waypoints lay before the call, the evidence holds on that list
+pub record EvidenceHere (statement : SolvingStatement) (a : Matrix) (break : Option ℚ) (left : ℕ) (now : List Status)
+    (before after : List Basics) (e : Evidence) : Type 0 where
+  pub is_way : e.way ≤ length after
+  pub shows : (ends : List ℚ) (earlier : List (List Status)) → LieIn a before (earlier ++ now ∷ []) →
+      EvidenceHolds statement break left (earlier ++ now ∷ []) ends now (waypoint (basics_of now) after e.way) e
 
 -- ---- those of the simplex method
 

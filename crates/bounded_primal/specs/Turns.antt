@@ -3,12 +3,13 @@
 --     least_outside p s z          the least-numbered basic outside its limits
 --     ray_from xs r below          the multipliers that show why r cannot come back, from the rates xs of r
 --     mover_by p s y               the variable that betters the objective, by the prices y, and whether it rises
+--     RuleEndsHere rule            the path by a rule ends at s, after so many steps; EndsHere: that of the simplex method
 --     EvidenceAt                   the evidence of a turn at s, whatever path led there
 --     TurnFound result             the path ends at s, or moves a variable, or the call stops
 --     FreeTurnFound result         the same where a step is always left
 use Rattle.std.specs.Prelude.{◌≡◌, ◌≢◌, ℕ, Bool, ◌≤◌, ◌&&◌, List, [], ◌∷◌, ◌++◌, length, Option, Some, None, option_map, Result, Ok, Err, nat_eq, if◌then◌else◌}
 use Rattle.exact_values.specs.Rational.{ℚ, zero_ℚ, one_ℚ, neg_ℚ}
-use Rattle.lp_definitions.specs.LinearProgram.{LinearProgram, Vector, size, value_at, IsVariable, for_min}
+use Rattle.lp_definitions.specs.LinearProgram.{LinearProgram, Vector, size, value_at, IsVariable}
 use Rattle.lp_definitions.specs.Basis.{Basics, basics_of, is_in, IsNonbasic, IsDirectionOf, IsPointOf, ArePricesOf}
 use Rattle.lp_definitions.specs.Waypoints.{waypoint}
 use Rattle.lp_definitions.specs.declared.Evidence.{Evidence}
@@ -16,7 +17,7 @@ use Rattle.lp_definitions.specs.declared.Status.{Status}
 use Rattle.lp_model.specs.declared.reports.Outcome.{Outcome}
 use Rattle.lp_model.specs.declared.reports.Outcome.TheVariants.{Unbounded}
 use Rattle.method_definitions.specs.Moves.{least, is_crossed, is_outside, signed, goes_up, entering}
-use Rattle.method_definitions.specs.Path.{PathEnding, IsStep, EndsAt}
+use Rattle.method_definitions.specs.Path.{PathEnding, Rule, turn, RuleEnd, IsStep}
 use Rattle.method_definitions.specs.Statements.{PathMoves, PathEnters}
 use Rattle.method_definitions.specs.Evidence.{EvidenceHolds}
 use Rattle.lp_model.specs.declared.Stop.{Stop}
@@ -24,6 +25,7 @@ use Rattle.bounded_primal.specs.Stops.{primal_stop_of}
 use Rattle.basis_values.specs.Calls.{LieIn, job_of, PointRefused}
 use Rattle.bounded_primal.specs.Calls.{outcome_of}
 use Rattle.basis_values.specs.Motions.{motion}
+use Rattle.basis_values.specs.Prices.{worth_by}
 use Rattle.bounded_primal.specs.Moves.{StepsFromPoint, move_by, StopperRefused}
 use Rattle.bounded_primal.specs.Steps.{ReturnRefused}
 use Rattle.bounded_primal.specs.declared.moves.PrimalStop.{PrimalStop}
@@ -41,10 +43,6 @@ least_outside p s z = least p (λ k. is_in (basics_of s) k && is_outside p z k)
 
 abbrev pub ray_from : Vector → ℕ → Bool → Vector
 ray_from xs r below k = signed below (if nat_eq k r then neg_ℚ one_ℚ else xs k)
-
--- how the objective, or its negative for MAX, grows with each nonbasic, by the prices
-abbrev pub worth_by : LinearProgram → Vector → Vector
-worth_by p y k = for_min p.sense (y k)
 
 abbrev pub moved_by : LinearProgram → Vector → ℕ → Mover
 moved_by p y q = record { q = q; up = goes_up (worth_by p y) q }
@@ -79,11 +77,14 @@ pub data RunStops (p : LinearProgram) (s : List Status) (z : Vector) (q : ℕ) (
 abbrev pub RunStopsAtPoint : LinearProgram → List Status → ℕ → Bool → List Basics → List Basics → Evidence → Type 0
 RunStopsAtPoint p s q up before after e = (z : Vector) → IsPointOf p s z → RunStops p s z q up before after e
 
--- the path ends at s, after so many steps
-pub record EndsHere (p : LinearProgram) (s : List Status) (steps : ℕ) (outcome : Outcome) : Type 0 where
+-- the path by a rule ends at s, after so many steps
+pub record RuleEndsHere (rule : Rule) (p : LinearProgram) (s : List Status) (steps : ℕ) (outcome : Outcome) : Type 0 where
   pub ending : PathEnding
-  pub ends : EndsAt p s ending
+  pub ends : RuleEnd rule p s ending
   pub is_outcome : outcome ≡ outcome_of steps ending
+
+abbrev pub EndsHere : LinearProgram → List Status → ℕ → Outcome → Type 0
+EndsHere = RuleEndsHere turn
 
 -- it moves q by what stops it, and a step is left
 pub record MovesOn (p : LinearProgram) (s : List Status) (d : Vector) (q : ℕ) (by : Stopper) (left : ℕ) : Type 0 where

@@ -18,11 +18,11 @@ use crate::kept::Kept;
 use crate::moves::{PrimalStop, Stopper};
 use crate::step::returning;
 use crate::stopping::stopper_from;
-use basis_values::{counted, enterer, fill_prices, is_less, lies_below, point_of};
-use frac128::Frac;
-use lp_model::{
-    Basis, Direction, Lp, NoMemory, Outcome, Point, Prices, Rates, Ray, Sense, Status, Stop,
+use basis_values::{
+    counted, enterer, fill_prices, is_less, is_minimized, lies_below, point_of, wrong_price,
 };
+use frac128::Frac;
+use lp_model::{Basis, Direction, Lp, NoMemory, Outcome, Point, Prices, Rates, Ray, Status, Stop};
 use std::alloc::Global;
 
 /// The multiplier of `k` in what shows that `r` can't come back, from the rates of `r`.
@@ -90,16 +90,6 @@ fn copied(alloc: Global, values: &[Frac]) -> Result<Vec<Frac>, NoMemory>
 {
     let copy = Vec::from_slice(alloc, values)?;
     Ok(copy)
-}
-
-/// Whether a smaller objective is better.
-fn is_minimized(lp: &Lp) -> bool
-    ensures { (v : ℚ) → for_min lp.now.sense v ≡ signed result v }
-{
-    match lp.sense {
-        Sense::Min => true,
-        Sense::Max => false,
-    }
 }
 
 /// The limit that was broken, as a status.
@@ -216,10 +206,9 @@ fn bettering(lp: &Lp, basis: &Basis, prices: &[Frac]) -> Option<Mover>
     requires places { length prices.now ≡ size lp.now.matrix }
     ensures { result ≡ mover_by lp.now basis.now (value_at prices.now) }
 {
-    let minimized = is_minimized(lp);
-    let q = enterer(lp, basis, prices, minimized)?;
+    let q = wrong_price(lp, basis, prices)?;
     let price = prices[q as usize - 1];
-    let up = is_less(counted(price, minimized), Frac::whole(0));
+    let up = is_less(counted(price, is_minimized(lp)), Frac::whole(0));
     Some(Mover { q, up })
 }
 
@@ -277,7 +266,7 @@ fn first_phase<R: Rates>(
 }
 
 /// The point of the basis: a copy where all its values are kept, and else made anew.
-fn whole_point<R: Rates>(
+pub fn whole_point<R: Rates>(
     alloc: Global,
     lp: &Lp,
     basis: &Basis,
@@ -304,7 +293,12 @@ fn whole_point<R: Rates>(
 }
 
 /// The optimal end.
-fn best(alloc: Global, point: Vec<Frac>, prices: &[Frac], steps: u32) -> Result<Outcome, NoMemory>
+pub fn best(
+    alloc: Global,
+    point: Vec<Frac>,
+    prices: &[Frac],
+    steps: u32,
+) -> Result<Outcome, NoMemory>
     ensures { IfOk result (λ outcome. outcome ≡ Outcome.Optimal steps point.items prices.now) }
 {
     let point = Point::new(point);

@@ -1,4 +1,3 @@
-pub mod Booleans
 pub mod Tableaus
 pub mod Signs
 pub mod Rows

@@ -23,7 +23,7 @@ use Rattle.exact_values.specs.Tests.{eq_ℚ}
 use Rattle.method_definitions.specs.Ranges.{with_limit, with_limit_at, with_lower, with_upper, stands_at_limit}
 use Rattle.changed_programs.specs.Changes.{HasRows, IsRightTableau, SidesHold, value_sides, limit_sides, sides_at, own_sides, LimitStays}
 use Rattle.changed_programs.specs.Laws.{IsPresent}
-use Rattle.changed_programs.proofs.Booleans.{fewer_ways, fixed_is}
+use Rattle.path_laws.proofs.Booleans.{fewer_ways, fixed_is}
 use Rattle.changed_programs.proofs.Tableaus.{by_tableau}
 use Rattle.changed_programs.proofs.Rows.{rows_of, feasible_now}
 

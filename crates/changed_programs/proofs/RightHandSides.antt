@@ -17,7 +17,7 @@ use Rattle.path_laws.specs.Laws.{IsNonsingularBasis}
 use Rattle.method_definitions.specs.RhsRun.{shift_of, rhs_family, IsSlope}
 use Rattle.changed_programs.specs.Changes.{HasRows, IsRightTableau, SidesHold, shift_sides, ValuesStay}
 use Rattle.changed_programs.specs.Laws.{IsDualFeasibleBasis}
-use Rattle.changed_programs.proofs.Booleans.{betters}
+use Rattle.path_laws.proofs.Booleans.{betters}
 use Rattle.changed_programs.proofs.Tableaus.{by_tableau}
 use Rattle.changed_programs.proofs.Limits.{IsWithin, sides_of_value}
 use Rattle.changed_programs.proofs.MovedLimits.{moved, lower_is, upper_is, basis_to, fixed_same, free_unshifted}

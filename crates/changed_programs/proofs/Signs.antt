@@ -10,7 +10,7 @@ use Rattle.lp_definitions.specs.declared.Sense.{Sense}
 use Rattle.lp_definitions.specs.declared.Sense.TheVariants.{Min, Max}
 use Rattle.lp_laws.proofs.Values.{clash}
 use Rattle.changed_programs.specs.Changes.{SidesHold, sign_sides, condition_if}
-use Rattle.changed_programs.proofs.Booleans.{betters, betters_not, rises_right, falls_right}
+use Rattle.path_laws.proofs.Booleans.{betters, betters_not, rises_right, falls_right}
 
 -- the opposite of a rate that isn't positive isn't negative
 below_zero : (w v x : ℚ) → w +ℚ x *ℚ v ≤ℚ zero_ℚ → zero_ℚ ≤ℚ neg_ℚ w +ℚ x *ℚ neg_ℚ v

@@ -12,7 +12,7 @@ use Rattle.method_definitions.specs.Moves.{is_fixed}
 use Rattle.method_definitions.specs.Path.{worth_rate}
 use Rattle.path_laws.proofs.Ends.{right, IsFeasible-same}
 use Rattle.changed_programs.specs.Changes.{ChangeIsRow, HasRows, IsRightTableau}
-use Rattle.changed_programs.proofs.Booleans.{right_betters_not}
+use Rattle.path_laws.proofs.Booleans.{right_betters_not}
 
 -- a row is a variable
 pub row_variable : (a : Matrix) (i : ℕ) → IsRow a i → IsVariable a i

@@ -10,7 +10,7 @@ use Rattle.exact_values.proofs.Inverse.{div-mul_cancel, zero_or_not}
 use Rattle.exact_values.proofs.Order.{le_of_lt, le_by_one, le_by_two, lt_or_le, le_by_product}
 use Rattle.exact_values.proofs.Ring.{by_ring1, by_ring2, by_ring3, ◌⊕◌, ◌⊖◌, ◌⊗◌, ◌≐◌, number, opposite}
 use Rattle.exact_values.proofs.Tests_laws.{lt_from_test, test_from_lt}
-use Rattle.dual_laws.proofs.Booleans.{betters_not, rises_right, falls_right}
+use Rattle.path_laws.proofs.Booleans.{betters_not, rises_right, falls_right}
 use Rattle.lp_definitions.specs.Basis.{is_in, basics_of, status_of, with_status, exchanged, IsBasic, IsNonbasic, AreRates, Tableau, IsTableau, objective_rate}
 use Rattle.lp_definitions.specs.LinearProgram.{LinearProgram, size, IsVariable, with_change_row, for_min}
 use Rattle.lp_definitions.specs.declared.Sense.{Sense}
@@ -25,8 +25,9 @@ use Rattle.method_definitions.specs.DualRatio.{brings_back, ratio}
 use Rattle.method_definitions.specs.Moves.{rises_from, falls_from, is_fixed, lowers, signed, may_rise, may_fall}
 use Rattle.method_definitions.specs.Path.{after, worth_rate, excess_rate}
 use Rattle.path_laws.specs.Laws.{IsNonsingularBasis}
-use Rattle.dual_laws.proofs.Alike.{lowers_idle}
-use Rattle.dual_laws.proofs.Movers.{IsMover, is_mover, signed_zero}
+use Rattle.path_laws.proofs.OneTurn.{lowers_idle}
+use Rattle.path_laws.proofs.Steps.{signed_zero}
+use Rattle.dual_laws.proofs.Movers.{IsMover, is_mover}
 use Rattle.dual_laws.proofs.Magnitudes.{ratio_times, magnitude_least, magnitude_above, magnitude_below, magnitude-neg}
 
 -- ---- numbers
@@ -268,5 +269,5 @@ module _ (p : LinearProgram) (no_change : p.change ≡ None) (s : List Status) (
           ∙ other_right k is (changed_other p s at.is_basis r k (if below then Ll else Ul) (with_status s q Bs) leaves.0 is other.1 ∙ changed_other p s at.is_basis q k Bs s enters.0 is was.1)
 
       by_mark : (mark : Bool) → is_in (basics_of next) k ≡ mark → lowers p next (λ j. for_min p.sense (objective_rate p (exchanged_rate t.rate r q) j)) k ≡ false
-      by_mark true mark = lowers_idle p next leads (λ j. for_min p.sense (objective_rate p (exchanged_rate t.rate r q) j)) k is mark
+      by_mark true mark = lowers_idle p next leads.is_basis (λ j. for_min p.sense (objective_rate p (exchanged_rate t.rate r q) j)) k is mark
       by_mark false mark = by_number (is, mark) (eqb_tells k r)

@@ -1,6 +1,4 @@
 pub mod Magnitudes
-pub mod Booleans
-pub mod Alike
 pub mod Movers
 pub mod Cheapest
 pub mod DualStep

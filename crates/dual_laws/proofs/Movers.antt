@@ -1,17 +1,13 @@
 -- A variable that lowers a quantity is nonbasic.
-use Rattle.std.proofs.Common.{◌≡◌, ◌≢◌, ℕ, Bool, true, List}
-use Rattle.std.specs.Prelude.{Some}
+use Rattle.std.proofs.Common.{◌≡◌, ◌≢◌, ℕ, true, List}
 use Rattle.exact_values.specs.Rational.{zero_ℚ}
 use Rattle.lp_definitions.specs.LinearProgram.{LinearProgram, Vector, IsVariable}
-use Rattle.lp_definitions.specs.Basis.{basics_of, IsNonbasic, Tableau, IsTableau}
+use Rattle.lp_definitions.specs.Basis.{basics_of, IsNonbasic}
 use Rattle.lp_definitions.specs.declared.Status.{Status}
-use Rattle.method_definitions.specs.Moves.{lowers, stopper}
-use Rattle.method_definitions.specs.Path.{after, speeds, stopped_by}
+use Rattle.method_definitions.specs.Moves.{lowers}
 use Rattle.path_laws.specs.Laws.{IsNonsingularBasis}
 use Rattle.path_laws.proofs.Endless.{lowering_enters}
-use Rattle.path_laws.proofs.Steps.{rate_apart, motion_leads}
-pub use Rattle.std.proofs.lemmas.Bool.{and_parts}
-pub use Rattle.path_laws.proofs.Steps.{signed_zero}
+use Rattle.path_laws.proofs.Steps.{rate_apart as entering_apart}
 
 -- a variable that lowers a quantity is nonbasic, and has a rate other than 0
 pub record IsMover (p : LinearProgram) (s : List Status) (f : Vector) (q : ℕ) : Type 0 where
@@ -19,4 +15,4 @@ pub record IsMover (p : LinearProgram) (s : List Status) (f : Vector) (q : ℕ) 
   pub rate_apart : f q ≢ zero_ℚ
 
 pub is_mover : (p : LinearProgram) (s : List Status) (f : Vector) (q : ℕ) → IsNonsingularBasis p s → IsVariable p.matrix q → lowers p s f q ≡ true → IsMover p s f q
-is_mover p s f q at is e = let entering = lowering_enters p s f q at.is_basis is e in record { nonbasic = entering.nonbasic; rate_apart = rate_apart p s f q entering }
+is_mover p s f q at is e = let entering = lowering_enters p s f q at.is_basis is e in record { nonbasic = entering.nonbasic; rate_apart = entering_apart p s f q entering }

@@ -13,18 +13,18 @@ use Rattle.path_laws.proofs.Ends.{rates_right}
 use Rattle.path_laws.proofs.Goes.{rule_ends_or_goes_on}
 use Rattle.path_laws.proofs.OnePath.{same_tableau, rule_path_leads, rule_one_step, rule_one_end, rule_step_or_end, rule_one_path, rule_not_both}
 use Rattle.path_laws.proofs.Searches.{least_none}
-use Rattle.dual_laws.proofs.Booleans.{right_betters_not}
+use Rattle.path_laws.proofs.Booleans.{right_betters_not}
 use Rattle.dual_laws.proofs.DualTurns.{dual_turn_same, dual_leads_to, keeps_right}
 
 pub dual_leads : (p : LinearProgram) (s next : List Status) → IsNonsingularBasis p s → IsDualStep p s next → IsNonsingularBasis p next
 dual_leads p s next at step = (dual_leads_to p s next at step).at
 
+pub dual_path_leads : (p : LinearProgram) (s : List Status) (bases : List (List Status)) → IsNonsingularBasis p s → IsDualPath p s bases → IsNonsingularBasis p (last_of s bases)
+dual_path_leads p = rule_path_leads dual_turn p (dual_leads p)
+
 module _ (p : LinearProgram) (lawful : IsLinearProgram p) where
   one_turn : (s : List Status) → IsNonsingularBasis p s → (t u : Tableau) → IsTableau p s t → IsTableau p s u → dual_turn p s t ≡ dual_turn p s u
   one_turn s at t u first second = dual_turn_same p s t u lawful at (same_tableau p s at t u first second)
-
-  pub path_leads : (s : List Status) (bases : List (List Status)) → IsNonsingularBasis p s → IsDualPath p s bases → IsNonsingularBasis p (last_of s bases)
-  path_leads = rule_path_leads dual_turn p one_turn (dual_leads p)
 
   pub path_right : p.change ≡ None → (s : List Status) (bases : List (List Status)) → IsNonsingularBasis p s → HasRightPrices p s → IsDualPath p s bases → HasRightPrices p (last_of s bases)
   path_right no_change s [] at right path = right
@@ -44,10 +44,6 @@ module _ (p : LinearProgram) (lawful : IsLinearProgram p) where
 
   pub not_both : (steps : ℕ) (s : List Status) → IsNonsingularBasis p s → RuleEndsWithin dual_turn p s steps → DualGoesOnFor p s steps → ⊥
   not_both = rule_not_both dual_turn p one_turn (dual_leads p)
-
-pub dual_path_leads : (p : LinearProgram) (s : List Status) (bases : List (List Status)) → IsNonsingularBasis p s → IsDualPath p s bases → IsNonsingularBasis p (last_of s bases)
-dual_path_leads p s [] at path = at
-dual_path_leads p s (next ∷ bases) at path = dual_path_leads p next bases (dual_leads p s next at path.0) path.1
 
 pub ends_or_goes_on : (p : LinearProgram) (steps : ℕ) (s : List Status) → IsNonsingularBasis p s → HasTableau p s → RuleEndsWithin dual_turn p s steps ⊎ DualGoesOnFor p s steps
 ends_or_goes_on p = rule_ends_or_goes_on dual_turn p (dual_leads_to p)

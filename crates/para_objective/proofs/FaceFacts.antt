@@ -25,7 +25,7 @@ use Rattle.bounded_primal.specs.Moves.{stop_at, stopper_of, IsStepBy, is_stopper
 use Rattle.bounded_primal.specs.declared.moves.Stopper.{Stopper}
 use Rattle.bounded_primal.proofs.SameChoices.{stopper_same, listed_is}
 use Rattle.run_calls.specs.Calls.{end_of}
-use Rattle.sweep_laws.proofs.Leads.{and_parts}
+use Rattle.std.proofs.lemmas.Bool.{and_parts}
 use Rattle.sweep_laws.proofs.Objective.{to_objective}
 use Rattle.sweep_laws.proofs.OneObjective.{lawful_objective}
 use Rattle.sweep_laws.proofs.Intervals.{point_feasible}

@@ -24,8 +24,9 @@ use Rattle.path_laws.proofs.Stoppers.{stopper_some, reaches_limit}
 use Rattle.method_definitions.specs.ObjectiveRun.{objective_family}
 use Rattle.changed_programs.specs.Changes.{HasRows, IsRightTableau}
 use Rattle.changed_programs.proofs.Tableaus.{by_tableau}
-use Rattle.sweep_laws.proofs.Alike.{lowers_idle}
-use Rattle.sweep_laws.proofs.Leads.{signed_zero, stopped_leads}
+use Rattle.path_laws.proofs.OneTurn.{lowers_idle}
+use Rattle.path_laws.proofs.Steps.{signed_zero}
+use Rattle.sweep_laws.proofs.Leads.{stopped_leads}
 use Rattle.sweep_laws.proofs.Objective.{to_objective}
 use Rattle.sweep_laws.proofs.Motions.{HasFeasiblePoint, stopped_feasible}
 
@@ -114,7 +115,7 @@ module _ (p : LinearProgram) (h : ℕ) (lawful : IsLinearProgram p) (row : IsRow
           ∙ right_now.right j is
 
       by_mark : (j : ℕ) → IsVariable p.matrix j → (mark : Bool) → is_in (basics_of next) j ≡ mark → lowers present next (λ i. for_min p.sense (objective_rate present rate i)) j ≡ false
-      by_mark j is true mark = lowers_idle present next leads (λ i. for_min p.sense (objective_rate present rate i)) j is mark
+      by_mark j is true mark = lowers_idle present next leads.is_basis (λ i. for_min p.sense (objective_rate present rate i)) j is mark
       by_mark j is false mark = by_kind j is (still j (is, mark))
 
   -- q comes to its other limit

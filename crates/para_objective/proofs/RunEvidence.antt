@@ -19,8 +19,8 @@ use Rattle.bounded_primal.specs.Moves.{StopperRefused, StepRefused, move_by}
 use Rattle.bounded_primal.specs.declared.moves.Stopper.{Stopper}
 use Rattle.bounded_primal.proofs.TurnEvidence.{step_brings_not}
 use Rattle.basis_values.proofs.Covered.{stops_covered}
-use Rattle.run_calls.specs.Walks.{EvidenceHere}
-use Rattle.run_calls.proofs.Evidence.{evidence_here, evidence_ahead, evidence_own, step_number, step_moves}
+use Rattle.bounded_primal.specs.Calls.{EvidenceHere}
+use Rattle.bounded_primal.proofs.StatementEvidence.{evidence_here, evidence_ahead, evidence_own, step_number, step_moves}
 use Rattle.para_objective.specs.Reach.{EndRefused}
 
 -- ---- the numbers of formulas

@@ -29,16 +29,17 @@ use Rattle.method_definitions.specs.RhsRun.{rhs_family, IsSlope, leaving, leaves
 use Rattle.bounded_primal.specs.Moves.{return_by, IsStepBy, brings}
 use Rattle.bounded_primal.specs.Turns.{ray_from}
 use Rattle.basis_values.proofs.Existence.{rates_exist}
-use Rattle.bounded_primal.proofs.SameChoices.{listed_is}
+use Rattle.bounded_primal.proofs.SameChoices.{listed_is, row_ray}
 use Rattle.changed_programs.proofs.MovedLimits.{lower_is, upper_is}
 use Rattle.changed_programs.proofs.RightHandSides.{points}
-use Rattle.sweep_laws.proofs.Leads.{and_parts, signed_zero}
+use Rattle.std.proofs.lemmas.Bool.{and_parts}
+use Rattle.path_laws.proofs.Steps.{signed_zero}
 use Rattle.sweep_laws.proofs.Rhs.{to_rhs, rhs_leads}
 use Rattle.para_rhs.specs.Breaks.{IsFaceLeaver}
-use Rattle.para_rhs.specs.Cheapest.{brings as may_bring, cheapest_by}
+use Rattle.dual_step.specs.Cheapest.{brings as may_bring, cheapest_by}
 use Rattle.para_rhs.specs.Limits.{is_upper}
 use Rattle.para_rhs.specs.declared.breaks.Leaver.{Leaver}
-use Rattle.para_rhs.proofs.DualStep.{enters, pivot, rates_after, right_after}
+use Rattle.dual_laws.proofs.DualStep.{enters, pivot, rates_after, right_after}
 use Rattle.para_rhs.proofs.RatioChoice.{brings_same, cheapest_same}
 
 stands_on : (y : ℚ) (o : Option ℚ) → on_limit (λ l. eq_ℚ y l) o ≡ true → o ≡ Some y
@@ -108,18 +109,6 @@ module _ (p : LinearProgram) (shift : List ℚ) (lawful : IsLinearProgram p) (no
           ∙ ap (λ b. face_exchange (rhs_family p shift theta) shift theta s t v l.r b (cheapest (rhs_family p shift theta) s t l.r b)) leaver.1
           ∙ ap (face_exchange (rhs_family p shift theta) shift theta s t v l.r (not (is_upper l.side))) (sym same ∙ is)
 
-      entry : (k : ℕ) → IsVariable p.matrix k → (mark : Bool) → is_in (basics_of s) k ≡ mark → row k ≡ (if mark then zero_ℚ else rowed.rate l.r k)
-      entry k is mark e = rowed.entries k is ∙ ap (λ m. if m then zero_ℚ else rowed.rate l.r k) e
-
-      ray_is : (k : ℕ) → IsVariable p.matrix k → ray_from row l.r below k ≡ ray_of (basics_of s) rowed.rate l.r below k
-      ray_is k is = by (nat_eq k l.r) (is_in (basics_of s) k) refl
-        where
-          by : (own mark : Bool) → is_in (basics_of s) k ≡ mark →
-              signed (not (is_upper l.side)) (if own then neg_ℚ one_ℚ else row k) ≡ (if own then signed (not (is_upper l.side)) (neg_ℚ one_ℚ) else (if mark then zero_ℚ else signed (not (is_upper l.side)) (rowed.rate l.r k)))
-          by true mark e = refl
-          by false true e = ap (signed (not (is_upper l.side))) (entry k is true e) ∙ signed_zero (not (is_upper l.side))
-          by false false e = ap (signed (not (is_upper l.side))) (entry k is false e)
-
       -- who may bring it back
       pub face_brings : (j : ℕ) → IsVariable p.matrix j → may_bring p s row below j ≡ true →
           (u : Tableau) × (w : Vector) × IsTableau (rhs_family p shift theta) s u × IsSlope (rhs_family p shift theta) s shift w × (leaving (rhs_family p shift theta) shift theta s u w ≡ Some l.r)
@@ -142,7 +131,7 @@ module _ (p : LinearProgram) (shift : List ℚ) (lawful : IsLinearProgram p) (no
         v,
         tab,
         sloped,
-        face_is None none ∙ ap (λ xs. FaceEnds (InfeasiblePast theta xs)) (sym (listed_is p.matrix ray (ray_of (basics_of s) rowed.rate l.r below) counted (λ k is. values k is ∙ ray_is k is))),
+        face_is None none ∙ ap (λ xs. FaceEnds (InfeasiblePast theta xs)) (sym (listed_is p.matrix ray (ray_of (basics_of s) rowed.rate l.r below) counted (λ k is. values k is ∙ row_ray p s l.r row rowed below k is))),
       )
 
       module _ (q : ℕ) (chosen : cheapest_by p s prices row below ≡ Some q) where

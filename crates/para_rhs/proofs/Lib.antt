@@ -8,10 +8,7 @@ pub mod SlopeStops
 pub mod Narrowing
 pub mod RhsPoints
 pub mod ReachStops
-pub mod Magnitudes
-pub mod BestRatio
 pub mod Leavers
-pub mod DualStep
 pub mod RatioChoice
 pub mod FaceFacts
 pub mod FaceWalk

@@ -1,6 +1,6 @@
 -- From the path of the opening to the run.
 use Rattle.std.proofs.Common.{◌≡◌, ℕ, ◌+◌, ◌≤◌, ◌-◌, inl, inr, true, List, [], ◌∷◌, ◌++◌, map, length, refl, sym, ap, subst, ◌∙◌, arith}
-use Rattle.std.specs.Prelude.{Option, Some, None}
+use Rattle.std.specs.Prelude.{Option, Some, None, not, ◌&&◌, ◌||◌, nat_eq}
 use Rattle.std.proofs.lemmas.List.{length-append}
 use Rattle.exact_values.specs.Rational.{ℚ}
 use Rattle.frac128.specs.declared.Op.{Op}
@@ -39,7 +39,7 @@ use Rattle.run_calls.specs.Calls.{RunStops, RunOverflows, part_of, end_of}
 use Rattle.run_calls.specs.Walks.{HasRun}
 use Rattle.run_calls.proofs.Walks.{opening_reaches, opening_run, opens_first}
 use Rattle.run_calls.proofs.Openings.{IsFailed, failure_by}
-use Rattle.run_calls.proofs.Evidence.{step_number}
+use Rattle.bounded_primal.proofs.StatementEvidence.{step_number}
 use Rattle.sweep_laws.proofs.NotBoth.{same_path}
 use Rattle.sweep_laws.proofs.OneRun.{rhs_faces}
 use Rattle.sweep_laws.proofs.Rhs.{to_rhs, from_rhs}
@@ -49,7 +49,9 @@ use Rattle.sweep_laws.proofs.Runs.{last_of-append}
 use Rattle.para_rhs.specs.Faces.{family, Face, statement}
 use Rattle.para_rhs.specs.Runs.{told_at, StandsAt, ChainEnds, OpensFrom, RhsEnds, RhsStops, RhsFollows, IsTrueRhs}
 use Rattle.para_rhs.specs.declared.parts.ParaRhs.{ParaRhs}
-use Rattle.para_rhs.proofs.FaceEvidence.{step_belongs}
+
+step_belongs : (n term : ℕ) → (is_between 1 12 n && (not (nat_eq n 6) || not (nat_eq term 3))) ≡ true → ((is_between 1 14 n || nat_eq n 18) && (not (nat_eq n 6) || not (nat_eq term 3))) ≡ true
+step_belongs n term h = grind arith
 
 -- ---- evidence of the path of the linear program at theta, told of theta
 

@@ -13,8 +13,8 @@ use Rattle.lp_definitions.specs.declared.Status.{Status}
 use Rattle.lp_laws.proofs.Values.{clash}
 use Rattle.lp_laws.proofs.WaypointLaws.{Covers, Covers-all, within_itself}
 use Rattle.basis_values.specs.Calls.{StopsAt, job_of, is_of_point, PointRefused}
-use Rattle.run_calls.specs.Walks.{EvidenceHere}
-use Rattle.run_calls.proofs.Evidence.{evidence_here}
+use Rattle.bounded_primal.specs.Calls.{EvidenceHere}
+use Rattle.bounded_primal.proofs.StatementEvidence.{evidence_here}
 use Rattle.para_rhs.specs.Refusals.{RunRefused}
 use Rattle.para_rhs.proofs.Families.{family_at_zero}
 

@@ -2,7 +2,6 @@ pub mod Limits
 pub mod Refusals
 pub mod Slopes
 pub mod Reach
-pub mod Cheapest
 pub mod Breaks
 pub mod Parts
 pub mod Faces

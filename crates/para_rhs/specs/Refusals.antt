@@ -7,7 +7,7 @@ use Rattle.lp_definitions.specs.Basis.{Basics}
 use Rattle.lp_definitions.specs.LinearProgram.{LinearProgram}
 use Rattle.lp_definitions.specs.declared.Evidence.{Evidence}
 use Rattle.lp_definitions.specs.declared.Status.{Status}
-use Rattle.run_calls.specs.Walks.{EvidenceHere}
+use Rattle.bounded_primal.specs.Calls.{EvidenceHere}
 
 -- with any number of steps left, at a break or where an interval begins; before and after are the waypoints of the call
 abbrev pub RunRefused : LinearProgram → List ℚ → List Status → List Basics → List Basics → Evidence → Type 0

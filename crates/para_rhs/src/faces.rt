@@ -2,11 +2,10 @@
 
 ghost use Rattle.std.specs.Prelude.{◌≡◌, ◌≤◌, ℕ, None, Some, not, length, OnOk, IfOk, IfErr};
 ghost use Rattle.lp_definitions.specs.LinearProgram.{size, value_at, IsLinearProgram};
-ghost use Rattle.lp_definitions.specs.Basis.{basics_of, ArePricesOf, IsBasic, IsOptimalBasis, IsPointOf};
-ghost use Rattle.lp_model.specs.RatesCalls.{IsRowOf, IfOverflow};
+ghost use Rattle.lp_definitions.specs.Basis.{basics_of, ArePricesOf, IsOptimalBasis, IsPointOf};
+ghost use Rattle.lp_model.specs.RatesCalls.{IfOverflow};
 ghost use Rattle.method_definitions.specs.RhsRun.{IsSlope};
 ghost use Rattle.basis_values.specs.Calls.{HasRates, KeepsRates};
-ghost use Rattle.basis_values.specs.Stops.{PointOverflow};
 ghost use Rattle.bounded_primal.specs.Turns.{ray_from};
 ghost use Rattle.para_rhs.specs.Faces.{family, IsStuckPast, FaceFound, FacesFound, FacesFollow};
 ghost use Rattle.para_rhs.specs.Refusals.{RunRefused};
@@ -14,9 +13,9 @@ ghost use Rattle.para_rhs.specs.Refusals.{RunRefused};
 use crate::breaks::face_leaver;
 use crate::limits::is_lower;
 use crate::parts::ParaRhs;
-use crate::ratios::cheapest;
 use crate::slopes::slope_of;
 use bounded_primal::{PrimalStop, Stopper, limit_broken, prices_of, ray_of, return_of, take_step};
+use dual_step::{cheapest, read_row};
 use frac128::Frac;
 use lp_model::{Basis, Lp, NoMemory, ParaEnd, Rates, Stop};
 use std::alloc::Global;
@@ -32,26 +31,6 @@ pub enum FaceStep {
 pub enum AfterFaces {
     Done { steps: u32 },
     Ends(ParaEnd),
-}
-
-/// Fills `out` with the rates of the basic `i`.
-fn read_row<R: Rates>(
-    lp: &Lp,
-    basis: &Basis,
-    rates: &mut R,
-    i: u32,
-    out: &mut [Frac],
-) -> Result<(), Stop>
-    requires rates { HasRates (R.matrix rates.old) (R.basics rates.old) lp.now basis.now }
-    requires basic { IsBasic lp.now.matrix (basics_of basis.now) i }
-    requires places { length out.old ≡ size lp.now.matrix }
-    ensures row { OnOk result (IsRowOf lp.now.matrix (basics_of basis.now) i (value_at out.new)) }
-    ensures rates { KeepsRates (R.matrix rates.new) (R.basics rates.new) lp.now basis.now
-        (R.waypoints rates.old) (R.waypoints rates.new) }
-    ensures overflow { PointOverflow result lp.now basis.now
-        (R.waypoints rates.old) (R.waypoints rates.new) }
-{
-    rates.row(i, out)
 }
 
 /// Fills `slope` with the basis's slope, and `prices` with its prices.

@@ -6,15 +6,14 @@ mod breaks;
 mod faces;
 mod limits;
 mod parts;
-mod ratios;
 mod reaching;
 mod run;
 mod slopes;
 
 pub use breaks::{Leaver, face_leaver};
+pub use dual_step::cheapest;
 pub use limits::{Side, program_at};
 pub use parts::ParaRhs;
-pub use ratios::cheapest;
 pub use reaching::reach;
 pub use run::para_rhs;
 pub use slopes::slope_of;

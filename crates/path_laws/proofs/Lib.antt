@@ -3,6 +3,7 @@ pub mod Stoppers
 pub mod Motions
 pub mod Turns
 pub mod Ends
+pub mod Booleans
 pub mod Endless
 pub mod OneTurn
 pub mod Rays

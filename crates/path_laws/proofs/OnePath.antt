@@ -16,15 +16,16 @@ same_tableau p s at t u first second = record {
   rates = one_table p.matrix (basics_of s) t.rate u.rate at.nonsingular first.are_rates second.are_rates;
 }
 
--- by any rule that does the same with two tableaus of a basis, and whose steps lead from bases to bases
+-- by any rule whose steps lead from bases to bases, each basis of a path is one
+pub rule_path_leads : (rule : Rule) (p : LinearProgram) → ((s next : List Status) → IsNonsingularBasis p s → RuleStep rule p s next → IsNonsingularBasis p next) →
+    (s : List Status) (bases : List (List Status)) → IsNonsingularBasis p s → RulePath rule p s bases → IsNonsingularBasis p (last_of s bases)
+rule_path_leads rule p leads s [] at path = at
+rule_path_leads rule p leads s (next ∷ bases) at path = rule_path_leads rule p leads next bases (leads s next at path.0) path.1
+
+-- and where the rule does the same with two tableaus of a basis, there is one path
 module _ (rule : Rule) (p : LinearProgram)
     (alike : (s : List Status) → IsNonsingularBasis p s → (t u : Tableau) → IsTableau p s t → IsTableau p s u → rule p s t ≡ rule p s u)
     (leads : (s next : List Status) → IsNonsingularBasis p s → RuleStep rule p s next → IsNonsingularBasis p next) where
-  -- each basis of a path is one
-  pub rule_path_leads : (s : List Status) (bases : List (List Status)) → IsNonsingularBasis p s → RulePath rule p s bases → IsNonsingularBasis p (last_of s bases)
-  rule_path_leads s [] at path = at
-  rule_path_leads s (next ∷ bases) at path = rule_path_leads next bases (leads s next at path.0) path.1
-
   pub rule_one_step : (s next other : List Status) → IsNonsingularBasis p s → RuleStep rule p s next → RuleStep rule p s other → next ≡ other
   rule_one_step s next other at first second =
       let turns = sym first.turns ∙ alike s at first.tableau second.tableau first.is_tableau second.is_tableau ∙ second.turns in
@@ -68,8 +69,7 @@ module _ (rule : Rule) (p : LinearProgram)
 -- ---- the simplex path
 
 pub path_leads : (p : LinearProgram) (s : List Status) (bases : List (List Status)) → IsNonsingularBasis p s → IsPath p s bases → IsNonsingularBasis p (last_of s bases)
-path_leads p s [] at path = at
-path_leads p s (next ∷ bases) at path = path_leads p next bases (step_leads p s next at path.0) path.1
+path_leads p = rule_path_leads turn p (step_leads p)
 
 module _ (p : LinearProgram) (lawful : IsLinearProgram p) where
   one_turn : (s : List Status) → IsNonsingularBasis p s → (t u : Tableau) → IsTableau p s t → IsTableau p s u → turn p s t ≡ turn p s u

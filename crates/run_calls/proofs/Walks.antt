@@ -18,7 +18,8 @@ use Rattle.bounded_primal.specs.declared.moves.PrimalStop.{PrimalStop}
 use Rattle.bounded_primal.specs.declared.moves.PrimalStop.TheVariants.{Limit, Overflow, NoMemory}
 use Rattle.bounded_primal.proofs.PathWalk.{last_more, length_more, before_last}
 use Rattle.run_calls.specs.Calls.{StandsThere, WaypointsFollowRun, RunOverflows, RunStops}
-use Rattle.run_calls.specs.Walks.{HasRun, MayOpen, EvidenceHere, FaceStops, IntervalStops}
+use Rattle.bounded_primal.specs.Calls.{EvidenceHere}
+use Rattle.run_calls.specs.Walks.{HasRun, MayOpen, FaceStops, IntervalStops}
 
 -- ---- lists of bases
 

@@ -1,20 +1,17 @@
 -- A run in the making, as the calls of its steps see it.
 --     HasRun place ends ways steps     a run stands at the place after so many steps, and its waypoints lie in its bases
 --     MayOpen theta now ways steps     such a run stands at the basis now, from which the next interval begins at theta
---     EvidenceHere                     evidence at the basis now, whatever bases led there
 --     FaceStops                        what holds after a call at a break that has stopped
 --     IntervalStops                    the same where an interval begins: no step is made there
 use Rattle.std.specs.Prelude.{◌≡◌, ℕ, ◌≤◌, List, [], ◌∷◌, ◌++◌, length, Option, Some}
 use Rattle.exact_values.specs.Rational.{ℚ, ◌<ℚ◌}
 use Rattle.lp_definitions.specs.LinearProgram.{Matrix, LinearProgram}
-use Rattle.lp_definitions.specs.Basis.{Basics, basics_of}
-use Rattle.lp_definitions.specs.Waypoints.{waypoint}
-use Rattle.lp_definitions.specs.declared.Evidence.{Evidence}
+use Rattle.lp_definitions.specs.Basis.{Basics}
 use Rattle.lp_definitions.specs.declared.Status.{Status}
 use Rattle.method_definitions.specs.Chain.{FaceTurn, ReachesTo, IsFaceStep, RunPlace, AtBreak, basis_of, Reaches}
 use Rattle.method_definitions.specs.Statements.{SolvingStatement}
-use Rattle.method_definitions.specs.Evidence.{EvidenceHolds}
 use Rattle.basis_values.specs.Calls.{LieIn}
+use Rattle.bounded_primal.specs.Calls.{EvidenceHere}
 use Rattle.bounded_primal.specs.declared.moves.PrimalStop.{PrimalStop}
 use Rattle.bounded_primal.specs.declared.moves.PrimalStop.TheVariants.{Limit, Overflow, NoMemory}
 
@@ -36,13 +33,6 @@ module _ (family : ℚ → LinearProgram) (Face : ℚ → List Status → FaceTu
     pub is_now : basis_of place ≡ now
     pub breaks : (to : ℚ) → ReachesTo family now theta max to → to <ℚ max →
         Reaches family Face from max s (AtBreak to now) run.path (to ∷ ends)
-
--- for every list of bases that ends with now, and in which the waypoints lay before the call, the evidence holds on that list
-pub record EvidenceHere (statement : SolvingStatement) (a : Matrix) (break : Option ℚ) (left : ℕ) (now : List Status)
-    (before after : List Basics) (e : Evidence) : Type 0 where
-  pub is_way : e.way ≤ length after
-  pub shows : (ends : List ℚ) (earlier : List (List Status)) → LieIn a before (earlier ++ now ∷ []) →
-      EvidenceHolds statement break left (earlier ++ now ∷ []) ends now (waypoint (basics_of now) after e.way) e
 
 -- with so many steps left; Limit comes where none is left and there is one more
 abbrev pub FaceStops : (ℚ → LinearProgram) → (ℚ → List Status → FaceTurn → Type 0) → SolvingStatement → Matrix → ℚ → List Status →

@@ -16,7 +16,7 @@ use Rattle.method_definitions.specs.Moves.{is_fixed, on_limits, may_rise, may_fa
 use Rattle.method_definitions.specs.Ranges.{with_lower, with_upper, with_limit, with_limit_at, with_cost, with_row, stands_at_limit, at_limits, columns_of, intermediate_rows, RangeReport, IsRangeReport}
 use Rattle.changed_programs.specs.Changes.{IsRightTableau, RatesStay, worths, slopes}
 use Rattle.changed_programs.specs.Laws.{IsPresent}
-use Rattle.changed_programs.proofs.Booleans.{betters}
+use Rattle.path_laws.proofs.Booleans.{betters}
 use Rattle.changed_programs.proofs.Tableaus.{by_tableau}
 use Rattle.changed_programs.proofs.Signs.{sides_of_rate}
 use Rattle.changed_programs.proofs.Rows.{rows_of, row}

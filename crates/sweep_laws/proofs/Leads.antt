@@ -1,25 +1,13 @@
 -- How a move leads from a nonsingular basis to a nonsingular basis, whatever quantity the variable that moves lowers.
-use Rattle.std.proofs.Common.{◌≡◌, ◌≢◌, ℕ, Bool, true, List}
+use Rattle.std.proofs.Common.{◌≡◌, ℕ, Bool, List}
 use Rattle.std.specs.Prelude.{Some}
-use Rattle.exact_values.specs.Rational.{zero_ℚ}
-use Rattle.lp_definitions.specs.LinearProgram.{LinearProgram, Vector, IsVariable}
+use Rattle.lp_definitions.specs.LinearProgram.{LinearProgram}
 use Rattle.lp_definitions.specs.Basis.{basics_of, IsNonbasic, Tableau, IsTableau}
 use Rattle.lp_definitions.specs.declared.Status.{Status}
-use Rattle.method_definitions.specs.Moves.{lowers, stopper}
+use Rattle.method_definitions.specs.Moves.{stopper}
 use Rattle.method_definitions.specs.Path.{after, speeds, stopped_by}
 use Rattle.path_laws.specs.Laws.{IsNonsingularBasis}
-use Rattle.path_laws.proofs.Endless.{lowering_enters}
-use Rattle.path_laws.proofs.Steps.{rate_apart, motion_leads}
-pub use Rattle.std.proofs.lemmas.Bool.{and_parts}
-pub use Rattle.path_laws.proofs.Steps.{signed_zero}
-
--- a variable that lowers a quantity is nonbasic, and has a rate other than 0
-pub record IsMover (p : LinearProgram) (s : List Status) (f : Vector) (q : ℕ) : Type 0 where
-  pub nonbasic : IsNonbasic p.matrix (basics_of s) q
-  pub rate_apart : f q ≢ zero_ℚ
-
-pub is_mover : (p : LinearProgram) (s : List Status) (f : Vector) (q : ℕ) → IsNonsingularBasis p s → IsVariable p.matrix q → lowers p s f q ≡ true → IsMover p s f q
-is_mover p s f q at is e = let entering = lowering_enters p s f q at.is_basis is e in record { nonbasic = entering.nonbasic; rate_apart = rate_apart p s f q entering }
+use Rattle.path_laws.proofs.Steps.{motion_leads}
 
 -- a nonbasic q rises or falls until k stops it
 pub stopped_leads : (p : LinearProgram) (s : List Status) (t : Tableau) → IsNonsingularBasis p s → IsTableau p s t → (q k : ℕ) (up : Bool) →

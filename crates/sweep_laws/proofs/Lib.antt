@@ -2,7 +2,6 @@ pub mod Leads
 pub mod Objective
 pub mod Rhs
 pub mod Runs
-pub mod Alike
 pub mod OneObjective
 pub mod OneRhs
 pub mod OneRun
@@ -15,6 +14,5 @@ pub mod Motions
 pub mod ObjectiveEnds
 pub mod RhsSlopes
 pub mod RhsGrowth
-pub mod Cheapest
 pub mod RhsEnds
 pub mod TrueRuns

@@ -13,7 +13,8 @@ use Rattle.path_laws.specs.Laws.{IsNonsingularBasis}
 use Rattle.path_laws.proofs.Searches.{found_passes}
 use Rattle.method_definitions.specs.Chain.{FaceMoves}
 use Rattle.method_definitions.specs.ObjectiveRun.{objective_family, change_rate, face_mover, face_until, face_by, objective_face, IsObjectiveFace}
-use Rattle.sweep_laws.proofs.Leads.{is_mover, stopped_leads}
+use Rattle.dual_laws.proofs.Movers.{is_mover}
+use Rattle.sweep_laws.proofs.Leads.{stopped_leads}
 
 -- the change row is added to the objective; matrix and limits are as they were
 pub to_objective : (p : LinearProgram) (h : ℕ) (theta : ℚ) (s : List Status) → IsNonsingularBasis p s → IsNonsingularBasis (objective_family p h theta) s

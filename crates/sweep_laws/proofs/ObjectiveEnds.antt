@@ -25,7 +25,7 @@ use Rattle.path_laws.proofs.Ends.{IsFeasible-same}
 use Rattle.path_laws.proofs.Searches.{found_passes}
 use Rattle.method_definitions.specs.Chain.{ChainEnd, UnboundedPast, FaceMoves, FaceEnds}
 use Rattle.method_definitions.specs.ObjectiveRun.{objective_family, change_rate, face_mover, face_until, face_by, objective_face, IsObjectiveFace}
-use Rattle.sweep_laws.proofs.Leads.{IsMover, is_mover}
+use Rattle.dual_laws.proofs.Movers.{IsMover, is_mover}
 use Rattle.sweep_laws.proofs.Objective.{to_objective}
 use Rattle.sweep_laws.proofs.OneObjective.{lawful_objective}
 use Rattle.sweep_laws.specs.Truth.{IsEndlessBy, IsTrueEnd}

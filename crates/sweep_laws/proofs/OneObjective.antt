@@ -17,7 +17,7 @@ use Rattle.path_laws.proofs.OneTurn.{SameTableau}
 use Rattle.path_laws.proofs.Searches.{found_passes}
 use Rattle.method_definitions.specs.Chain.{FaceTurn, FaceMoves, FaceEnds, UnboundedPast}
 use Rattle.method_definitions.specs.ObjectiveRun.{objective_family, change_rate, face_mover, face_until, face_by, objective_face, IsObjectiveFace}
-use Rattle.sweep_laws.proofs.Leads.{is_mover}
+use Rattle.dual_laws.proofs.Movers.{is_mover}
 use Rattle.sweep_laws.proofs.Objective.{to_objective}
 use Rattle.path_laws.proofs.OneTurn.{listed_same, lowers_idle, lowers_same, stopper_same}
 use Rattle.path_laws.proofs.OnePath.{same_tableau}

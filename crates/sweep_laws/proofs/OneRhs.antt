@@ -1,26 +1,27 @@
 -- What is done at a break of a parametric run of the right-hand side is one thing.
-use Rattle.std.proofs.Common.{◌≡◌, ℕ, Bool, true, false, List, length, refl, sym, ap, ap₂, ◌∙◌, arith}
-use Rattle.std.specs.Prelude.{Option, Some, None, not, ◌&&◌, ◌||◌}
+use Rattle.std.proofs.Common.{◌≡◌, ℕ, Bool, List, length, refl, sym, ap, ap₂, ◌∙◌, arith}
+use Rattle.std.specs.Prelude.{Option, Some, None, ◌&&◌, ◌||◌}
 use Rattle.std.proofs.lemmas.List.{length-map}
-use Rattle.exact_values.specs.Rational.{ℚ, ◌/ℚ◌}
-use Rattle.exact_values.specs.Tests.{eq_ℚ, lt_ℚ, le_ℚ, magnitude}
+use Rattle.exact_values.specs.Rational.{ℚ}
+use Rattle.exact_values.specs.Tests.{eq_ℚ, lt_ℚ}
 use Rattle.lp_definitions.specs.LinearProgram.{Matrix, LinearProgram, Vector, size, IsVariable, IsLinearProgram, ChangeIsFree, lower_of, upper_of}
-use Rattle.lp_definitions.specs.Basis.{is_in, basics_of, IsNonbasic, Tableau}
+use Rattle.lp_definitions.specs.Basis.{is_in, basics_of, Tableau}
 use Rattle.lp_definitions.specs.declared.Change.{Change}
 use Rattle.lp_definitions.specs.declared.Status.{Status}
 use Rattle.lp_laws.proofs.Opening.{length-numbers_from}
 use Rattle.lp_laws.proofs.Uniqueness.{same_from_nonbasics}
-use Rattle.method_definitions.specs.Moves.{on_limit, signed}
-use Rattle.method_definitions.specs.Path.{ray_of, excess_rate}
+use Rattle.method_definitions.specs.Moves.{on_limit}
+use Rattle.method_definitions.specs.Path.{ray_of}
 use Rattle.path_laws.specs.Laws.{IsNonsingularBasis}
-use Rattle.path_laws.proofs.Numbered.{find_same, list_all_same}
+use Rattle.path_laws.proofs.Numbered.{find_same}
 use Rattle.path_laws.proofs.OnePath.{same_tableau}
-use Rattle.path_laws.proofs.OneTurn.{SameTableau, listed_same, lowers_idle, lowers_same, ray_same}
+use Rattle.path_laws.proofs.OneTurn.{SameTableau, listed_same, ray_same}
 use Rattle.path_laws.proofs.Searches.{found_passes}
 use Rattle.method_definitions.specs.Chain.{FaceTurn, FaceEnds, InfeasiblePast}
-use Rattle.method_definitions.specs.DualRatio.{brings_back, ratio, is_cheapest, cheapest}
+use Rattle.method_definitions.specs.DualRatio.{cheapest}
 use Rattle.method_definitions.specs.RhsRun.{shift_of, shifted, rhs_family, IsSlope, leaves_below, leaves_above, leaving, face_exchange, face_at, rhs_face, IsRhsFace}
 use Rattle.changed_programs.proofs.MovedLimits.{free_to}
+use Rattle.dual_laws.proofs.OneRatio.{cheapest_same}
 use Rattle.sweep_laws.proofs.Rhs.{to_rhs}
 
 -- ---- each program of the family is one
@@ -60,56 +61,14 @@ module _ (p : LinearProgram) (shift : List ℚ) (theta : ℚ) (s : List Status) 
       (λ k low high. let is : IsVariable p.matrix k = (low, omega (arith, high)) in ap₂ (λ a b. is_in (basics_of s) k && (a || b)) (below_same k is) (above_same k is))
 
   -- the basic r, with the side on which it leaves
-  module _ (r : ℕ) (is_r : IsVariable p.matrix r) (below : Bool) where
-    brings_same : (q : ℕ) → IsVariable p.matrix q → brings_back p s t r below q ≡ brings_back p s u r below q
-    brings_same q is = lowers_same p s at.is_basis (excess_rate t.rate r below) (excess_rate u.rate r below) q is (λ out. ap (signed (not below)) (same.rates r q is_r out))
-
-    brings_idle : (t : Tableau) (v : Vector) (q : ℕ) → IsVariable p.matrix q → is_in (basics_of s) q ≡ true → brings_back p s t r below q ≡ false
-    brings_idle t v q is mark = lowers_idle p s at.is_basis (excess_rate t.rate r below) q is mark
-
-    ratio_same : (q : ℕ) → IsNonbasic p.matrix (basics_of s) q → ratio p s t r q ≡ ratio p s u r q
-    ratio_same q out =
-        ap₂ (λ a b. magnitude (a /ℚ b)) (same.rates p.objective q (lawful.objective_row.0, omega (arith, lawful.objective_row.1)) out) (same.rates r q is_r out)
-
-    abbrev no_cheaper : Tableau → Vector → ℕ → ℕ → Bool
-    no_cheaper t v q j = not (brings_back p s t r below j) || le_ℚ (ratio p s t r q) (ratio p s t r j)
-
-    no_cheaper_same : (q : ℕ) → IsNonbasic p.matrix (basics_of s) q → (j : ℕ) → IsVariable p.matrix j → no_cheaper t v q j ≡ no_cheaper u w q j
-    no_cheaper_same q out j is = by_mark (is_in (basics_of s) j) refl
-      where
-        by_mark : (mark : Bool) → is_in (basics_of s) j ≡ mark → no_cheaper t v q j ≡ no_cheaper u w q j
-        by_mark true mark =
-            ap (λ b. not b || le_ℚ (ratio p s t r q) (ratio p s t r j)) (brings_idle t v j is mark)
-            ∙ sym (ap (λ b. not b || le_ℚ (ratio p s u r q) (ratio p s u r j)) (brings_idle u w j is mark))
-        by_mark false mark =
-            ap₂ (λ b x. not b || le_ℚ (ratio p s t r q) x) (brings_same j is) (ratio_same j (is, mark))
-            ∙ ap (λ x. not (brings_back p s u r below j) || le_ℚ x (ratio p s u r j)) (ratio_same q out)
-
-    abbrev enters : Tableau → Vector → ℕ → Bool
-    enters t v q = brings_back p s t r below q && is_cheapest p s t r below q
-
-    enters_same : (q : ℕ) → IsVariable p.matrix q → enters t v q ≡ enters u w q
-    enters_same q is = by_mark (is_in (basics_of s) q) refl
-      where
-        by_mark : (mark : Bool) → is_in (basics_of s) q ≡ mark → enters t v q ≡ enters u w q
-        by_mark true mark =
-            ap (λ b. b && is_cheapest p s t r below q) (brings_idle t v q is mark)
-            ∙ sym (ap (λ b. b && is_cheapest p s u r below q) (brings_idle u w q is mark))
-        by_mark false mark =
-            ap₂ (λ a b. a && b) (brings_same q is)
-            (list_all_same (no_cheaper t v q) (no_cheaper u w q) (size p.matrix) 1 (λ j low high. no_cheaper_same q (is, mark) j (low, omega (arith, high))))
-
-    cheapest_same : cheapest p s t r below ≡ cheapest p s u r below
-    cheapest_same = find_same (enters t v) (enters u w) (size p.matrix) 1 (λ k low high. enters_same k (low, omega (arith, high)))
-
-    exchange_same : (o : Option ℕ) → face_exchange p shift theta s t v r below o ≡ face_exchange p shift theta s u w r below o
-    exchange_same (Some q) = refl
-    exchange_same None = ap (λ xs. FaceEnds (InfeasiblePast theta xs)) (listed_same p.matrix (ray_of (basics_of s) t.rate r below) (ray_of (basics_of s) u.rate r below) (ray_same p s t u lawful at.is_basis same r is_r below))
+  exchange_same : (r : ℕ) → IsVariable p.matrix r → (below : Bool) (o : Option ℕ) → face_exchange p shift theta s t v r below o ≡ face_exchange p shift theta s u w r below o
+  exchange_same r is_r below (Some q) = refl
+  exchange_same r is_r below None = ap (λ xs. FaceEnds (InfeasiblePast theta xs)) (listed_same p.matrix (ray_of (basics_of s) t.rate r below) (ray_of (basics_of s) u.rate r below) (ray_same p s t u lawful at.is_basis same r is_r below))
 
   at_same : (o : Option ℕ) → ((r : ℕ) → o ≡ Some r → IsVariable p.matrix r) → face_at p shift theta s t v o ≡ face_at p shift theta s u w o
   at_same (Some r) found =
       ap (λ b. face_exchange p shift theta s t v r b (cheapest p s t r b)) (below_same r (found r refl))
-      ∙ ap (face_exchange p shift theta s t v r (leaves_below p shift theta s u w r)) (cheapest_same r (found r refl) (leaves_below p shift theta s u w r))
+      ∙ ap (face_exchange p shift theta s t v r (leaves_below p shift theta s u w r)) (cheapest_same p s t u lawful at.is_basis same r (found r refl) (leaves_below p shift theta s u w r))
       ∙ exchange_same r (found r refl) (leaves_below p shift theta s u w r) (cheapest p s u r (leaves_below p shift theta s u w r))
   at_same None found = refl
 

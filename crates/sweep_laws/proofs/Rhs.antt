@@ -17,7 +17,7 @@ use Rattle.method_definitions.specs.DualRatio.{brings_back, is_cheapest, cheapes
 use Rattle.method_definitions.specs.RhsRun.{shift_of, rhs_family, leaves_below, leaves_above, leaving, face_exchange, face_at, rhs_face, IsRhsFace}
 use Rattle.changed_programs.proofs.MovedLimits.{basis_to, basis_from}
 use Rattle.path_laws.proofs.Steps.{MayStand, signed_zero, lower_apart, upper_apart, exchange_leads}
-use Rattle.sweep_laws.proofs.Leads.{IsMover, is_mover}
+use Rattle.dual_laws.proofs.Movers.{IsMover, is_mover}
 
 -- the programs have the same nonsingular bases
 module _ (p : LinearProgram) (shift : List ℚ) (theta : ℚ) (s : List Status) where

@@ -29,7 +29,7 @@ use Rattle.method_definitions.specs.RhsRun.{shift_of, rhs_family, IsSlope, leave
 use Rattle.changed_programs.proofs.MovedLimits.{moved, lower_is, upper_is, fixed_at, free_unshifted}
 use Rattle.sweep_laws.proofs.Rhs.{to_rhs}
 use Rattle.sweep_laws.specs.Truth.{IsRefutedBy, IsTrueEnd}
-use Rattle.sweep_laws.proofs.Cheapest.{cheapest_none}
+use Rattle.dual_laws.proofs.Cheapest.{cheapest_none}
 
 -- ---- what is done at a break
 

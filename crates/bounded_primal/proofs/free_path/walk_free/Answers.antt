@@ -5,6 +5,7 @@ use Rattle.lp_definitions.specs.Basis.{basics_of}
 use Rattle.lp_laws.proofs.WaypointLaws.{keeps_then}
 use Rattle.termination_laws.specs.Laws.{lists_of}
 use Rattle.bounded_primal.proofs.Agreement.{point_agrees}
+use Rattle.method_definitions.specs.Path.{turn}
 use Rattle.bounded_primal.proofs.PathWalk.{begins_at, follows, follows_later}
 use Rattle.bounded_primal.proofs.WalkCases.{stops_at_once, step_stops, walk_more}
 use Rattle.bounded_primal.proofs.FreeWalk.{reached_short, free_ends, free_stops, counted_more, one_less}
@@ -19,8 +20,8 @@ returns-in_err-point_of-clause-stops g c =
 
 pub returns-in_err-point_of-clause-waypoints : goal.returns-in_err-point_of-clause-waypoints
 returns-in_err-point_of-clause-waypoints g c =
-    follows c.args.lp.now c.args.basis.now (g.R.Rates.waypoints c.args.rates.now) c.args.basis.now (g.R.Rates.waypoints c.point_of.new.rates) 0
-    (begins_at c.args.lp.now c.args.basis.now (g.R.Rates.waypoints c.args.rates.now) (g.R.Rates.waypoints c.point_of.new.rates) c.in_err-point_of.ensures.rates.1)
+    follows turn c.args.lp.now c.args.basis.now (g.R.Rates.waypoints c.args.rates.now) c.args.basis.now (g.R.Rates.waypoints c.point_of.new.rates) 0
+    (begins_at turn c.args.lp.now c.args.basis.now (g.R.Rates.waypoints c.args.rates.now) (g.R.Rates.waypoints c.point_of.new.rates) c.in_err-point_of.ensures.rates.1)
 
 pub loop-share-init : goal.loop-share-init
 loop-share-init g c = record {
@@ -30,7 +31,7 @@ loop-share-init g c = record {
   point = point_agrees c.args.lp.now c.args.basis.now c.in_ok-point_of.ensures.rates.0.is_basis c.in_ok-point_of.ensures.rates.0.nonsingular (value_at c.point_of.new.out) c.in_ok-point_of.ensures.point;
   kept = λ _. c.in_ok-point_of.ensures.point;
   broken = c.outside-broken.ensures;
-  reached = rw c.open-book.ensures.total (begins_at c.args.lp.now c.args.basis.now (g.R.Rates.waypoints c.args.rates.now) (g.R.Rates.waypoints c.point_of.new.rates) c.in_ok-point_of.ensures.rates.1);
+  reached = rw c.open-book.ensures.total (begins_at turn c.args.lp.now c.args.basis.now (g.R.Rates.waypoints c.args.rates.now) (g.R.Rates.waypoints c.point_of.new.rates) c.in_ok-point_of.ensures.rates.1);
 }
 
 pub returns-in_err-outcome-clause-stops : goal.returns-in_err-outcome-clause-stops
@@ -40,7 +41,7 @@ returns-in_err-outcome-clause-stops g c =
 
 pub returns-in_err-outcome-clause-waypoints : goal.returns-in_err-outcome-clause-waypoints
 returns-in_err-outcome-clause-waypoints g c =
-    follows_later c.args.lp.now c.args.basis.now (g.R.Rates.waypoints c.args.rates.now) c.loop-share.basis (g.R.Rates.waypoints c.loop-share.rates) c.loop-share.book.total c.loop-share.invariant.reached
+    follows_later turn c.args.lp.now c.args.basis.now (g.R.Rates.waypoints c.args.rates.now) c.loop-share.basis (g.R.Rates.waypoints c.loop-share.rates) c.loop-share.book.total c.loop-share.invariant.reached
     (g.R.Rates.waypoints c.free_turn.new.rates) c.in_err-outcome.ensures.rates.1
 
 pub returns-in-Ends-clause-ends : goal.returns-in-Ends-clause-ends
@@ -51,7 +52,7 @@ returns-in-Ends-clause-ends g c =
 
 pub returns-in-Ends-clause-waypoints : goal.returns-in-Ends-clause-waypoints
 returns-in-Ends-clause-waypoints g c =
-    follows_later c.args.lp.now c.args.basis.now (g.R.Rates.waypoints c.args.rates.now) c.loop-share.basis (g.R.Rates.waypoints c.loop-share.rates) c.loop-share.book.total c.loop-share.invariant.reached
+    follows_later turn c.args.lp.now c.args.basis.now (g.R.Rates.waypoints c.args.rates.now) c.loop-share.basis (g.R.Rates.waypoints c.loop-share.rates) c.loop-share.book.total c.loop-share.invariant.reached
     (g.R.Rates.waypoints c.free_turn.new.rates) c.in_ok-outcome.ensures.rates.1
 
 pub step_over-requires-clause-step : goal.step_over-requires-clause-step
@@ -68,7 +69,7 @@ returns-in_err-kept-in-Moves-clause-stops g c =
 
 pub returns-in_err-kept-in-Moves-clause-waypoints : goal.returns-in_err-kept-in-Moves-clause-waypoints
 returns-in_err-kept-in-Moves-clause-waypoints g c =
-    rw c.in_err-kept-in-Moves.ensures.unchanged (follows_later c.args.lp.now c.args.basis.now (g.R.Rates.waypoints c.args.rates.now) c.loop-share.basis (g.R.Rates.waypoints c.loop-share.rates) c.loop-share.book.total c.loop-share.invariant.reached
+    rw c.in_err-kept-in-Moves.ensures.unchanged (follows_later turn c.args.lp.now c.args.basis.now (g.R.Rates.waypoints c.args.rates.now) c.loop-share.basis (g.R.Rates.waypoints c.loop-share.rates) c.loop-share.book.total c.loop-share.invariant.reached
     (g.R.Rates.waypoints c.step_over.new.rates)
     (keeps_then c.args.lp.now.matrix (basics_of c.loop-share.basis) (g.R.Rates.waypoints c.loop-share.rates) (basics_of c.loop-share.basis) (g.R.Rates.waypoints c.free_turn.new.rates) (g.R.Rates.waypoints c.step_over.new.rates)
     c.in_ok-outcome.ensures.rates.1 (rw (c.in_err-kept-in-Moves.ensures.unchanged) at c.in_err-kept-in-Moves.ensures.waypoints)))

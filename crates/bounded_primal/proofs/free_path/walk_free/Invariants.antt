@@ -7,6 +7,7 @@ use Rattle.termination_laws.specs.Laws.{lists_of}
 use Rattle.basis_values.specs.Calls.{HasRates}
 use Rattle.bounded_primal.specs.KeptPoints.{all_kept, AgreesWithPoint}
 use Rattle.bounded_primal.specs.Turns.{least_outside}
+use Rattle.method_definitions.specs.Path.{turn}
 use Rattle.bounded_primal.proofs.PathWalk.{HasReached}
 use Rattle.bounded_primal.proofs.free_path.walk_free.Given as goal
 
@@ -22,5 +23,5 @@ invariant-loop-share g l = record {
   point : AgreesWithPoint l.lp l.basis (value_at l.point);
   kept : IsTrue (all_kept l.kept) → IsPointOf l.lp l.basis (value_at l.point);
   broken : l.broken ≡ least_outside l.lp l.basis (value_at l.point);
-  reached : HasReached l.lp l.fn.basis (g.R.Rates.waypoints l.fn.rates) l.basis (g.R.Rates.waypoints l.rates) l.book.total;
+  reached : HasReached turn l.lp l.fn.basis (g.R.Rates.waypoints l.fn.rates) l.basis (g.R.Rates.waypoints l.rates) l.book.total;
 }

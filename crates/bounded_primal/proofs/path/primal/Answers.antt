@@ -2,6 +2,7 @@ use Rattle.std.proofs.Common.{Ok, rules}
 use Rattle.lp_definitions.specs.LinearProgram.{IsLinearProgram}
 use Rattle.lp_model.specs.declared.reports.Outcome.TheVariants.{Crossed}
 use Rattle.bounded_primal.proofs.TrueOutcomes.{true_result, crossed_call, crossed_truth}
+use Rattle.method_definitions.specs.Path.{turn}
 use Rattle.bounded_primal.proofs.PathWalk.{stays}
 use Rattle.bounded_primal.proofs.FreeWalk.{limit_below}
 use Rattle.bounded_primal.proofs.CompletePaths.{path_answered}
@@ -19,16 +20,16 @@ returns-clause-truth g c =
     true_result c.args.lp.now lawful (g.R.Rates.matrix c.args.rates.now) (g.R.Rates.basics c.args.rates.now) c.args.basis.now c.requires c.walk.new.basis c.args.limit c.walk.result c.walk.ensures.ends
 
 pub returns-in-Some-clause-waypoints : goal.returns-in-Some-clause-waypoints
-returns-in-Some-clause-waypoints g c = stays c.args.lp.now c.args.basis.now (g.R.Rates.waypoints c.args.rates.now)
+returns-in-Some-clause-waypoints g c = stays turn c.args.lp.now c.args.basis.now (g.R.Rates.waypoints c.args.rates.now)
 
 pub returns-in_err-point-clause-waypoints : goal.returns-in_err-point-clause-waypoints
-returns-in_err-point-clause-waypoints g c = stays c.args.lp.now c.args.basis.now (g.R.Rates.waypoints c.args.rates.now)
+returns-in_err-point-clause-waypoints g c = stays turn c.args.lp.now c.args.basis.now (g.R.Rates.waypoints c.args.rates.now)
 
 pub returns-in_err-row-clause-waypoints : goal.returns-in_err-row-clause-waypoints
-returns-in_err-row-clause-waypoints g c = stays c.args.lp.now c.args.basis.now (g.R.Rates.waypoints c.args.rates.now)
+returns-in_err-row-clause-waypoints g c = stays turn c.args.lp.now c.args.basis.now (g.R.Rates.waypoints c.args.rates.now)
 
 pub returns-in_err-direction-clause-waypoints : goal.returns-in_err-direction-clause-waypoints
-returns-in_err-direction-clause-waypoints g c = stays c.args.lp.now c.args.basis.now (g.R.Rates.waypoints c.args.rates.now)
+returns-in_err-direction-clause-waypoints g c = stays turn c.args.lp.now c.args.basis.now (g.R.Rates.waypoints c.args.rates.now)
 
 pub returns-clause-limited : goal.returns-clause-limited
 returns-clause-limited g c =

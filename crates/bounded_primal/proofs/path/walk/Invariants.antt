@@ -5,6 +5,7 @@ use Rattle.lp_definitions.specs.Basis.{IsPointOf}
 use Rattle.basis_values.specs.Calls.{HasRates}
 use Rattle.bounded_primal.specs.KeptPoints.{all_kept, AgreesWithPoint}
 use Rattle.bounded_primal.specs.Turns.{least_outside}
+use Rattle.method_definitions.specs.Path.{turn}
 use Rattle.bounded_primal.proofs.PathWalk.{HasReached}
 use Rattle.bounded_primal.proofs.path.walk.Given as goal
 
@@ -18,5 +19,5 @@ invariant-loop-outcome g l = record {
   kept : IsTrue (all_kept l.kept) → IsPointOf l.lp l.basis (value_at l.point);
   broken : l.broken ≡ least_outside l.lp l.basis (value_at l.point);
   within : l.steps ≤ l.limit;
-  reached : HasReached l.lp l.fn.basis (g.R.Rates.waypoints l.fn.rates) l.basis (g.R.Rates.waypoints l.rates) l.steps;
+  reached : HasReached turn l.lp l.fn.basis (g.R.Rates.waypoints l.fn.rates) l.basis (g.R.Rates.waypoints l.rates) l.steps;
 }

@@ -16,7 +16,7 @@ use Rattle.bounded_primal.specs.Moves.{IsStepBy, move_by, return_by}
 use Rattle.bounded_primal.specs.Turns.{ray_from}
 use Rattle.bounded_primal.specs.declared.moves.Stopper.{Stopper}
 use Rattle.para_rhs.specs.Breaks.{IsFaceLeaver}
-use Rattle.para_rhs.specs.Cheapest.{cheapest_by, SomeRatioRefused}
+use Rattle.dual_step.specs.Cheapest.{cheapest_by, SomeRatioRefused}
 use Rattle.para_rhs.specs.Faces.{IsStuckPast}
 use Rattle.para_rhs.specs.Limits.{is_upper}
 use Rattle.para_rhs.specs.Refusals.{RunRefused}

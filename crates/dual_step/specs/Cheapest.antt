@@ -1,4 +1,4 @@
--- The ratio test of a face step, variable by variable.
+-- The ratio test of a dual step, variable by variable.
 --     brings p s row below q       q may move so as to bring a basic back whose rates are row
 --     ratio_of prices row q        what the objective loses for each unit of it
 --     cheapest_by                  the least-numbered of those with the least ratio that may bring it back
@@ -22,7 +22,7 @@ use Rattle.basis_values.specs.Formulas.{IsRefusal}
 use Rattle.basis_values.specs.Reach.{IsNearest}
 use Rattle.basis_values.specs.declared.formula.Formula.{Formula}
 use Rattle.basis_values.specs.declared.reach.Reach.{Reach}
-use Rattle.para_rhs.specs.declared.ratios.Candidate.{Candidate}
+use Rattle.dual_step.specs.declared.ratios.Candidate.{Candidate}
 
 abbrev pub brings : LinearProgram → List Status → Vector → Bool → ℕ → Bool
 brings p s row below q = lowers p s (λ k. signed (not below) (row k)) q

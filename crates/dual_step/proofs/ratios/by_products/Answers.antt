@@ -2,8 +2,8 @@ use Rattle.std.proofs.Common.{sym, ◌∙◌, ap₂}
 use Rattle.exact_values.specs.Rational.{ℚ, ◌*ℚ◌}
 use Rattle.exact_values.specs.Tests.{le_ℚ}
 use Rattle.lp_laws.proofs.Values.{clash}
-use Rattle.para_rhs.proofs.Magnitudes.{ratios_by_products, zero_first, zero_last}
-use Rattle.para_rhs.proofs.ratios.by_products.Goals as goal
+use Rattle.dual_laws.proofs.Magnitudes.{ratios_by_products, zero_first, zero_last}
+use Rattle.dual_step.proofs.ratios.by_products.Goals as goal
 
 pub returns-then-is_zero : goal.returns-then-is_zero
 returns-then-is_zero c = zero_first c.args.best.now.price c.args.best.now.rate c.args.other.now.price c.args.other.now.rate (c.is_zero.ensures.0 c.if-is_zero.true)

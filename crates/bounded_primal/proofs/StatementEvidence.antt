@@ -17,7 +17,7 @@ use Rattle.method_definitions.specs.Formulas.{PointFormula, f6, f7, f10_product,
 use Rattle.method_definitions.specs.Statements.{SolvingStatement, Primal, is_between, belongs, program_at, change_row, shift_at, thetas_of, MovesAt}
 use Rattle.method_definitions.specs.Evidence.{Formula, by_exchange, by_entry, by_carried, by_point, by_slack, by_move, by_ratio, by_range, by_objective, by_slope, ShowsRefusal, GoesTo, IsOfMove}
 use Rattle.basis_values.specs.Calls.{StopsAt, job_of}
-use Rattle.run_calls.specs.Walks.{EvidenceHere}
+use Rattle.bounded_primal.specs.Calls.{EvidenceHere}
 
 -- ---- the numbers of formulas that a call at a step may show
 

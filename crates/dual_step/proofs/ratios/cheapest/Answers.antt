@@ -1,9 +1,9 @@
 use Rattle.std.proofs.Common.{◌≡◌, ℕ, rules, ◌∙◌, subst, arith}
 use Rattle.std.specs.Prelude.{option_map}
 use Rattle.lp_definitions.specs.LinearProgram.{size, value_at}
-use Rattle.para_rhs.specs.Cheapest.{IsBest}
-use Rattle.para_rhs.proofs.BestRatio.{best_is_cheapest}
-use Rattle.para_rhs.proofs.ratios.cheapest.Goals as goal
+use Rattle.dual_step.specs.Cheapest.{IsBest}
+use Rattle.dual_step.proofs.BestRatio.{best_is_cheapest}
+use Rattle.dual_step.proofs.ratios.cheapest.Goals as goal
 
 pub returns-clause-cheapest : goal.returns-clause-cheapest
 returns-clause-cheapest c =

@@ -1,12 +1,12 @@
-//! The ratio test of a face step: which nonbasic brings a basic back at the least loss.
+//! The ratio test of a dual step: which nonbasic brings a basic back at the least loss.
 
 ghost use Rattle.std.specs.Prelude.{◌≡◌, ◌≢◌, ◌-◌, length, IfSome, IfOk, IfErr, if◌then◌else◌};
 ghost use Rattle.exact_values.specs.Rational.{zero_ℚ};
 ghost use Rattle.exact_values.specs.Tests.{le_ℚ, magnitude};
 ghost use Rattle.lp_definitions.specs.LinearProgram.{size, value_at, IsVariable};
-ghost use Rattle.para_rhs.specs.Cheapest.{ratio_at, cheapest_by, IsBest, ratio_formula, KeptRefused, SomeRatioRefused};
+ghost use Rattle.dual_step.specs.Cheapest.{ratio_at, cheapest_by, IsBest, ratio_formula, KeptRefused, SomeRatioRefused};
 
-use bounded_primal::{Formula, counted, may_lower};
+use basis_values::{Formula, counted, may_lower};
 use frac128::Frac;
 use lp_model::{Basis, Evidence, Lp};
 

@@ -17,9 +17,9 @@ use Rattle.path_laws.proofs.Searches.{least_none}
 use Rattle.basis_values.specs.Formulas.{IsRefusal}
 use Rattle.basis_values.specs.Reach.{IsNearest, sooner}
 use Rattle.basis_values.proofs.Nearest.{next_nearest}
-use Rattle.sweep_laws.proofs.Leads.{signed_zero}
-use Rattle.para_rhs.specs.Cheapest.{brings, ratio_of, cheapest_by, ratio_if, ratio_at, reach_by, IsCandidate, IsBest, ratio_formula, KeptRefused, of_best, of_other, SomeRatioRefused}
-use Rattle.para_rhs.specs.declared.ratios.Candidate.{Candidate}
+use Rattle.path_laws.proofs.Steps.{signed_zero}
+use Rattle.dual_step.specs.Cheapest.{brings, ratio_of, cheapest_by, ratio_if, ratio_at, reach_by, IsCandidate, IsBest, ratio_formula, KeptRefused, of_best, of_other, SomeRatioRefused}
+use Rattle.dual_step.specs.declared.ratios.Candidate.{Candidate}
 
 neither : (up down : Bool) → ((lt_ℚ zero_ℚ zero_ℚ && up) || (lt_ℚ zero_ℚ zero_ℚ && down)) ≡ true → ⊥
 neither up down e = clash (sym e ∙ ap (λ b. (b && up) || (b && down)) (lt_fails_from_le zero_ℚ zero_ℚ (le_refl zero_ℚ)))

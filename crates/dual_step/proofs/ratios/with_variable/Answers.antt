@@ -3,10 +3,10 @@ use Rattle.std.specs.Prelude.{Option, not}
 use Rattle.exact_values.specs.Rational.{ℚ}
 use Rattle.lp_definitions.specs.LinearProgram.{value_at}
 use Rattle.method_definitions.specs.Moves.{lowers, signed}
-use Rattle.para_rhs.specs.Cheapest.{brings, IsBest}
-use Rattle.para_rhs.specs.declared.ratios.Candidate.{Candidate}
-use Rattle.para_rhs.proofs.BestRatio.{brings_apart, best_without, best_first, best_kept, best_refused}
-use Rattle.para_rhs.proofs.ratios.with_variable.Goals as goal
+use Rattle.dual_step.specs.Cheapest.{brings, IsBest}
+use Rattle.dual_step.specs.declared.ratios.Candidate.{Candidate}
+use Rattle.dual_step.proofs.BestRatio.{brings_apart, best_without, best_first, best_kept, best_refused}
+use Rattle.dual_step.proofs.ratios.with_variable.Goals as goal
 use Rattle.lp_laws.proofs.Places.{value_read}
 
 pub returns-then-not-may_lower-clause-best : goal.returns-then-not-may_lower-clause-best

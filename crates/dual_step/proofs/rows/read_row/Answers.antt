@@ -1,7 +1,7 @@
 use Rattle.basis_values.proofs.TermLaws.{IfErr-map}
 use Rattle.basis_values.proofs.RatesStops.{row_refused}
 use Rattle.basis_values.proofs.Kept.{kept_by}
-use Rattle.para_rhs.proofs.faces.read_row.Goals as goal
+use Rattle.dual_step.proofs.rows.read_row.Goals as goal
 
 pub row-requires-clause-basic : goal.row-requires-clause-basic
 row-requires-clause-basic g c = rw (c.requires.rates.same_matrix, c.requires.rates.same_basics) c.requires.basic

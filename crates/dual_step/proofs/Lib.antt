@@ -1,0 +1,5 @@
+pub mod BestRatio
+pub mod RatioChoice
+pub mod Taken
+pub mod StepPrices
+pub mod StepEvidence
