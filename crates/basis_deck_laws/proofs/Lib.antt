@@ -1,3 +1,2 @@
 pub mod Dependencies
 pub mod Lawful
-pub mod Stuck

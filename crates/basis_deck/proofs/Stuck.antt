@@ -3,17 +3,11 @@ use Rattle.std.proofs.Common.{◌≡◌, ℕ, ◌<◌, ◌≤◌, ◌⊎◌, inl
 use Rattle.exact_values.specs.Rational.{zero_ℚ}
 use Rattle.exact_values.proofs.Inverse.{one_apart}
 use Rattle.lp_definitions.specs.LinearProgram.{Matrix, Vector, IsVariable}
-use Rattle.lp_definitions.specs.Basis.{Basics, is_in, IsBasic, IsNonbasic, IsNonsingular, IsDirectionOf}
+use Rattle.lp_definitions.specs.Basis.{Basics, is_in, IsBasic, IsNonbasic, IsDirectionOf}
 use Rattle.lp_laws.proofs.Values.{clash}
 use Rattle.basis_deck_definitions.specs.Dependencies.{IsCombination, IsDependency}
 use Rattle.basis_deck_laws.proofs.Dependencies.{order}
-
--- w is on the way to b: its rows are those of b and others, and of the columns of b it has those before c
-pub record IsOnWay (a : Matrix) (b w : Basics) (c : ℕ) : Type 0 where
-  pub nonsingular : IsNonsingular a w
-  pub rows : (k : ℕ) → IsVariable a k → k ≤ a.rows → is_in b k ≡ true → is_in w k ≡ true
-  pub done : (k : ℕ) → IsVariable a k → a.rows < k → k < c → is_in w k ≡ is_in b k
-  pub ahead : (k : ℕ) → IsVariable a k → c ≤ k → is_in w k ≡ false
+use Rattle.basis_deck.specs.Installing.{IsOnWay}
 
 module _ (a : Matrix) (b w : Basics) (c : ℕ) (d : Vector) (way : IsOnWay a b w c) (column : a.rows < c) (basic : IsBasic a b c) (direction : IsDirectionOf a w c d)
     (none : (k : ℕ) → IsVariable a k → k ≤ a.rows → is_in b k ≡ false → is_in w k ≡ true → d k ≡ zero_ℚ) where
