@@ -89,6 +89,9 @@ fn multiplier_at(file: &EtaFile, place: u32, row: u32, out: &[Frac]) -> Result<F
     let eta = file.eta(place + 1);
     let pivot = file.pivot(place + 1);
     let sum = sum_over(eta.entries, eta.p, out[eta.q as usize - 1], out)?;
+    if sum.is_zero() {
+        return Ok(sum);
+    }
     let ratio = sum.div(pivot)?;
     Ok(ratio.neg())
 }
