@@ -123,6 +123,11 @@ impl EtaFile {
         self.rows
     }
 
+    /// Where the file has its memory from.
+    pub fn alloc(&self) -> Global {
+        self.alloc
+    }
+
     /// A file of the same matrix where all rows are basic. Both have the same columns in memory.
     pub fn at_rows(&self) -> Result<EtaFile, NoMemory>
         ensures matrix { IfOk result (λ file. file.matrix ≡ self.now.matrix) }
