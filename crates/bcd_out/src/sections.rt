@@ -65,7 +65,7 @@ fn column_name(columns: &[ColumnDecl], number: u32) -> &[u8]
 }
 
 fn put_row<P: Sink>(punch: &mut P, row: RowDecl) -> Result<(), WriteStop>
-    ensures { Writes P.written P.faults P.refusals punch.old punch.new result (row_line row) }
+    ensures { Writes P.written P.stopped_at P.faults P.refusals punch.old punch.new result (row_line row) }
 {
     let card = DataCard {
         kind: row_kind_word(row.kind),
@@ -77,7 +77,7 @@ fn put_row<P: Sink>(punch: &mut P, row: RowDecl) -> Result<(), WriteStop>
 }
 
 fn put_row_cards<P: Sink>(punch: &mut P, rows: &[RowDecl]) -> Result<(), WriteStop>
-    ensures { Writes P.written P.faults P.refusals punch.old punch.new result
+    ensures { Writes P.written P.stopped_at P.faults P.refusals punch.old punch.new result
         (flat_map row_line rows.now) }
 {
     for row in rows {
@@ -93,7 +93,7 @@ fn put_entry<P: Sink>(
     name: Name,
     entry: DeckEntry,
 ) -> Result<(), WriteStop>
-    ensures { Writes P.written P.faults P.refusals punch.old punch.new result
+    ensures { Writes P.written P.stopped_at P.faults P.refusals punch.old punch.new result
         (entry_line (map (λ row. row.name) rows.now) name entry) }
 {
     let card = DataCard {
@@ -111,7 +111,7 @@ fn put_entries<P: Sink>(
     name: Name,
     entries: &[DeckEntry],
 ) -> Result<(), WriteStop>
-    ensures { Writes P.written P.faults P.refusals punch.old punch.new result
+    ensures { Writes P.written P.stopped_at P.faults P.refusals punch.old punch.new result
         (flat_map (entry_line (map (λ row. row.name) rows.now) name) entries.now) }
 {
     for entry in entries {
@@ -122,7 +122,7 @@ fn put_entries<P: Sink>(
 
 // The number 0 of a column on the first row, if there is a row.
 fn put_zero<P: Sink>(punch: &mut P, rows: &[RowDecl], name: Name) -> Result<(), WriteStop>
-    ensures { Writes P.written P.faults P.refusals punch.old punch.new result
+    ensures { Writes P.written P.stopped_at P.faults P.refusals punch.old punch.new result
         (flat_map (zero_line name) (take 1 rows.now)) }
 {
     let Some(row) = rows.first() else {
@@ -142,7 +142,7 @@ fn put_column<P: Sink>(
     rows: &[RowDecl],
     column: &ColumnDecl,
 ) -> Result<(), WriteStop>
-    ensures { Writes P.written P.faults P.refusals punch.old punch.new result
+    ensures { Writes P.written P.stopped_at P.faults P.refusals punch.old punch.new result
         (column_lines rows.now column.now) }
 {
     if column.entries.is_empty() {
@@ -157,7 +157,7 @@ fn put_column_cards<P: Sink>(
     rows: &[RowDecl],
     columns: &[ColumnDecl],
 ) -> Result<(), WriteStop>
-    ensures { Writes P.written P.faults P.refusals punch.old punch.new result
+    ensures { Writes P.written P.stopped_at P.faults P.refusals punch.old punch.new result
         (flat_map (column_lines rows.now) columns.now) }
 {
     for column in columns {
@@ -167,7 +167,7 @@ fn put_column_cards<P: Sink>(
 }
 
 fn put_value_set<P: Sink>(punch: &mut P, rows: &[RowDecl], set: &ValueSet) -> Result<(), WriteStop>
-    ensures { Writes P.written P.faults P.refusals punch.old punch.new result
+    ensures { Writes P.written P.stopped_at P.faults P.refusals punch.old punch.new result
         (entry_lines (map (λ row. row.name) rows.now) set.now) }
 {
     put_entries(punch, rows, set.name, &set.items)
@@ -178,7 +178,7 @@ fn put_value_sets<P: Sink>(
     rows: &[RowDecl],
     sets: &[ValueSet],
 ) -> Result<(), WriteStop>
-    ensures { Writes P.written P.faults P.refusals punch.old punch.new result
+    ensures { Writes P.written P.stopped_at P.faults P.refusals punch.old punch.new result
         (flat_map (entry_lines (map (λ row. row.name) rows.now)) sets.now) }
 {
     for set in sets {
@@ -194,7 +194,7 @@ fn put_values_under<P: Sink>(
     rows: &[RowDecl],
     sets: &[ValueSet],
 ) -> Result<(), WriteStop>
-    ensures { Writes P.written P.faults P.refusals punch.old punch.new result
+    ensures { Writes P.written P.stopped_at P.faults P.refusals punch.old punch.new result
         (line word.now ++ flat_map (entry_lines (map (λ row. row.name) rows.now)) sets.now) }
 {
     put_each(punch, &[word, b"\n"])?;
@@ -207,7 +207,7 @@ fn put_bound<P: Sink>(
     name: Name,
     bound: BoundItem,
 ) -> Result<(), WriteStop>
-    ensures { Writes P.written P.faults P.refusals punch.old punch.new result
+    ensures { Writes P.written P.stopped_at P.faults P.refusals punch.old punch.new result
         (bound_line (group_names columns.now) name bound) }
 {
     let value = match &bound.value {
@@ -229,7 +229,7 @@ fn put_bounds<P: Sink>(
     name: Name,
     bounds: &[BoundItem],
 ) -> Result<(), WriteStop>
-    ensures { Writes P.written P.faults P.refusals punch.old punch.new result
+    ensures { Writes P.written P.stopped_at P.faults P.refusals punch.old punch.new result
         (flat_map (bound_line (group_names columns.now) name) bounds.now) }
 {
     for bound in bounds {
@@ -243,7 +243,7 @@ fn put_bound_set<P: Sink>(
     columns: &[ColumnDecl],
     set: &BoundSet,
 ) -> Result<(), WriteStop>
-    ensures { Writes P.written P.faults P.refusals punch.old punch.new result
+    ensures { Writes P.written P.stopped_at P.faults P.refusals punch.old punch.new result
         (bound_lines (group_names columns.now) set.now) }
 {
     put_bounds(punch, columns, set.name, &set.items)
@@ -254,7 +254,7 @@ fn put_bound_sets<P: Sink>(
     columns: &[ColumnDecl],
     sets: &[BoundSet],
 ) -> Result<(), WriteStop>
-    ensures { Writes P.written P.faults P.refusals punch.old punch.new result
+    ensures { Writes P.written P.stopped_at P.faults P.refusals punch.old punch.new result
         (flat_map (bound_lines (group_names columns.now)) sets.now) }
 {
     for set in sets {
@@ -269,7 +269,7 @@ fn put_bounds_under<P: Sink>(
     columns: &[ColumnDecl],
     sets: &[BoundSet],
 ) -> Result<(), WriteStop>
-    ensures { Writes P.written P.faults P.refusals punch.old punch.new result
+    ensures { Writes P.written P.stopped_at P.faults P.refusals punch.old punch.new result
         (line (codes "BOUNDS") ++ flat_map (bound_lines (group_names columns.now)) sets.now) }
 {
     put_all(punch, b"BOUNDS\n")?;
@@ -278,7 +278,7 @@ fn put_bounds_under<P: Sink>(
 
 /// Writes the section of the rows.
 pub fn put_rows<P: Sink>(punch: &mut P, rows: &[RowDecl]) -> Result<(), WriteStop>
-    ensures { Writes P.written P.faults P.refusals punch.old punch.new result
+    ensures { Writes P.written P.stopped_at P.faults P.refusals punch.old punch.new result
         (line (codes "ROWS") ++ flat_map row_line rows.now) }
 {
     put_all(punch, b"ROWS\n")?;
@@ -291,7 +291,7 @@ pub fn put_columns<P: Sink>(
     rows: &[RowDecl],
     columns: &[ColumnDecl],
 ) -> Result<(), WriteStop>
-    ensures { Writes P.written P.faults P.refusals punch.old punch.new result
+    ensures { Writes P.written P.stopped_at P.faults P.refusals punch.old punch.new result
         (line (codes "COLUMNS") ++ flat_map (column_lines rows.now) columns.now) }
 {
     put_all(punch, b"COLUMNS\n")?;
@@ -305,7 +305,7 @@ pub fn put_value_section<P: Sink>(
     rows: &[RowDecl],
     sets: &[ValueSet],
 ) -> Result<(), WriteStop>
-    ensures { Writes P.written P.faults P.refusals punch.old punch.new result
+    ensures { Writes P.written P.stopped_at P.faults P.refusals punch.old punch.new result
         (section_lines word.now (entry_lines (map (λ row. row.name) rows.now)) sets.now) }
 {
     if sets.is_empty() {
@@ -320,7 +320,7 @@ pub fn put_bound_section<P: Sink>(
     columns: &[ColumnDecl],
     sets: &[BoundSet],
 ) -> Result<(), WriteStop>
-    ensures { Writes P.written P.faults P.refusals punch.old punch.new result
+    ensures { Writes P.written P.stopped_at P.faults P.refusals punch.old punch.new result
         (section_lines (codes "BOUNDS") (bound_lines (group_names columns.now)) sets.now) }
 {
     if sets.is_empty() {

@@ -32,8 +32,8 @@ apart code a b first second differ = differ (sym first ∙ second)
 
 -- ---- the end is printed
 
-module _ (S : Solving) (program : Program) (cards : List (List ℕ)) {P U : Type 0} (written : P → Option (List ℕ)) (faults refusals : P → ℕ)
-    (punch_written : U → Option (List ℕ)) (punch_faults punch_refusals : U → ℕ) where
+module _ (S : Solving) (program : Program) (cards : List (List ℕ)) {P U : Type 0} (written stopped_at : P → Option (List ℕ)) (faults refusals : P → ℕ)
+    (punch_written punch_stopped_at : U → Option (List ℕ)) (punch_faults punch_refusals : U → ℕ) where
   -- the answer to a run, by what print and punch count and gain
   abbrev IsAnswerNow : P → P → U → U → Status → Type 0
   IsAnswerNow old new punch_old punch_new status =
@@ -41,8 +41,8 @@ module _ (S : Solving) (program : Program) (cards : List (List ℕ)) {P U : Type
       (code_of status) (written old) (written new) (punch_written punch_old) (punch_written punch_new)
 
   -- the end is printed after the reports
-  finished : {old now later : P} {punch_old punch_now : U} {ending : Ending} {status : Status} → RunsTo S program cards written faults refusals old now punch_written punch_faults punch_refusals punch_old punch_now ending →
-      Finishes written faults refusals now later ending status → IsAnswerNow old later punch_old punch_now status
+  finished : {old now later : P} {punch_old punch_now : U} {ending : Ending} {status : Status} → RunsTo S program cards written stopped_at faults refusals old now punch_written punch_stopped_at punch_faults punch_refusals punch_old punch_now ending →
+      Finishes written stopped_at faults refusals now later ending status → IsAnswerNow old later punch_old punch_now status
   finished r (printed e w) = whole r.can_end e (writes_then r.prints w).bytes r.gains
   finished {punch_old = punch_old} {punch_now = punch_now} {ending = ending} r (cut_off Failed e w) =
       print_fails ((writes_then r.prints w).cause.failed refl) r.can_end (ap code_of e) (writes_then r.prints w).bytes
@@ -52,15 +52,15 @@ module _ (S : Solving) (program : Program) (cards : List (List ℕ)) {P U : Type
       (front_gained ending (punch_written punch_old) (punch_written punch_now) (card_text r.punched) r.gains)
 
   -- the print stops in the reports
-  cut_short : {old new : P} {punch_old punch_now : U} (stop : WriteStop) → IsRunCut S program cards written faults refusals old new punch_written punch_faults punch_refusals punch_old punch_now stop →
+  cut_short : {old new : P} {punch_old punch_now : U} (stop : WriteStop) → IsRunCut S program cards written stopped_at faults refusals old new punch_written punch_stopped_at punch_faults punch_refusals punch_old punch_now stop →
       IsAnswerNow old new punch_old punch_now (cut_status stop)
   cut_short {old = old} {new = new} Failed r = print_fails (r.prints.cause.failed refl) r.can_end refl (AppendsFront-more (written old) (written new) _ (ending_text r.ending) r.prints.bytes) r.gains
   cut_short {old = old} {new = new} NoMemory r =
       print_wants_memory (r.prints.cause.no_memory refl) r.can_end refl (AppendsFront-more (written old) (written new) _ (ending_text r.ending) r.prints.bytes) r.gains
 
   -- how the run ends where a statement comes to nothing
-  finished_halted : {old : P} (now : P) {later : P} {punch_old punch_now : U} (status : Status) (h : Halt) → Runs S program cards written faults refusals old now punch_written punch_faults punch_refusals punch_old punch_now (Err h) →
-      FinishesHalted written faults refusals now later h status → IsAnswerNow old later punch_old punch_now status
+  finished_halted : {old : P} (now : P) {later : P} {punch_old punch_now : U} (status : Status) (h : Halt) → Runs S program cards written stopped_at faults refusals old now punch_written punch_stopped_at punch_faults punch_refusals punch_old punch_now (Err h) →
+      FinishesHalted written stopped_at faults refusals now later h status → IsAnswerNow old later punch_old punch_now status
   finished_halted {old = old} now {later = later} {punch_old = punch_old} {punch_now = punch_now} status (halt.Print stop) r f =
       subst (λ (s : Status). IsAnswerNow old later punch_old punch_now s) (sym f.0)
       (subst (λ (p : P). IsAnswerNow old p punch_old punch_now (cut_status stop)) (sym f.1) (cut_short stop r))
@@ -82,13 +82,13 @@ module _ (S : Solving) (program : Program) (cards : List (List ℕ)) {P U : Type
   no_fault (Overflow evidence place card) code low high e = omega (arith, low, high, e)
   no_fault Memory code low high e = omega (arith, low, high, e)
 
-  print_rose : {old now later : P} {punch_old punch_now : U} {ending : Ending} {status : Status} → RunsTo S program cards written faults refusals old now punch_written punch_faults punch_refusals punch_old punch_now ending →
-      Finishes written faults refusals now later ending status → (status_of ending ≡ 25 → ⊥) → status ≡ PrintFault → Rose (faults old) (faults later)
+  print_rose : {old now later : P} {punch_old punch_now : U} {ending : Ending} {status : Status} → RunsTo S program cards written stopped_at faults refusals old now punch_written punch_stopped_at punch_faults punch_refusals punch_old punch_now ending →
+      Finishes written stopped_at faults refusals now later ending status → (status_of ending ≡ 25 → ⊥) → status ≡ PrintFault → Rose (faults old) (faults later)
   print_rose r (printed e w) other is = absurd (other (sym e ∙ ap code_of is))
   print_rose r (cut_off Failed e w) other is = (writes_then r.prints w).cause.failed refl
   print_rose {status = status} r (cut_off NoMemory e w) other is = absurd (apart (code_of status) 28 25 (ap code_of e) (ap code_of is) (λ n. omega (arith, n)))
 
-  no_punch_fault : {now later : P} {ending : Ending} {status : Status} → Finishes written faults refusals now later ending status → (status_of ending ≡ 26 → ⊥) → status ≡ PunchFault → ⊥
+  no_punch_fault : {now later : P} {ending : Ending} {status : Status} → Finishes written stopped_at faults refusals now later ending status → (status_of ending ≡ 26 → ⊥) → status ≡ PunchFault → ⊥
   no_punch_fault (printed e w) other is = other (sym e ∙ ap code_of is)
   no_punch_fault {status = status} (cut_off Failed e w) other is = apart (code_of status) 25 26 (ap code_of e) (ap code_of is) (λ n. omega (arith, n))
   no_punch_fault {status = status} (cut_off NoMemory e w) other is = apart (code_of status) 28 26 (ap code_of e) (ap code_of is) (λ n. omega (arith, n))
@@ -100,16 +100,16 @@ module _ (S : Solving) (program : Program) (cards : List (List ℕ)) {P U : Type
     pub print_fault : status ≡ PrintFault → Rose (faults old) (faults later)
     pub punch_fault : status ≡ PunchFault → Rose (punch_faults punch_old) (punch_faults punch_now)
 
-  pub finished_by_end : {old now later : P} {punch_old punch_now : U} (end : End) {status : Status} → RunsTo S program cards written faults refusals old now punch_written punch_faults punch_refusals punch_old punch_now (end_shown end) →
-      Finishes written faults refusals now later (end_shown end) status → IsFinished old later punch_old punch_now status
+  pub finished_by_end : {old now later : P} {punch_old punch_now : U} (end : End) {status : Status} → RunsTo S program cards written stopped_at faults refusals old now punch_written punch_stopped_at punch_faults punch_refusals punch_old punch_now (end_shown end) →
+      Finishes written stopped_at faults refusals now later (end_shown end) status → IsFinished old later punch_old punch_now status
   finished_by_end end r f = record {
     answer = finished r f;
     print_fault = print_rose r f (no_fault end 25 (omega arith) (omega arith));
     punch_fault = λ is. absurd (no_punch_fault f (no_fault end 26 (omega arith) (omega arith)) is);
   }
 
-  pub finished_by_halt : {old : P} (now : P) {later : P} {punch_old punch_now : U} (h : Halt) {status : Status} → Runs S program cards written faults refusals old now punch_written punch_faults punch_refusals punch_old punch_now (Err h) →
-      FinishesHalted written faults refusals now later h status → IsFinished old later punch_old punch_now status
+  pub finished_by_halt : {old : P} (now : P) {later : P} {punch_old punch_now : U} (h : Halt) {status : Status} → Runs S program cards written stopped_at faults refusals old now punch_written punch_stopped_at punch_faults punch_refusals punch_old punch_now (Err h) →
+      FinishesHalted written stopped_at faults refusals now later h status → IsFinished old later punch_old punch_now status
   finished_by_halt now (halt.Print Failed) {status = status} r f = record {
     answer = finished_halted now status (halt.Print Failed) r f;
     print_fault = λ is. rw f.1 (r.prints.cause.failed refl);

@@ -67,10 +67,10 @@ primal_without : (card : ℕ) (state : State) → state.setup ≡ None → Gives
 primal_without card state none =
     primal_gives card state (stops (endings.VerbStop (record { fault = NoSetup; card = card }))) (gives_fault card NoSetup state.setup (with_setup card state) none)
 
-pub primal_no_setup : (card : ℕ) {P : Type 0} (written : P → Option (List ℕ)) (faults refusals : P → ℕ) (cards : List (List ℕ)) (machine : Machine) (print : P) → machine.setup ≡ None →
-    Executes linear_programming Primal card written faults refusals print print cards machine machine (refused_act card (Fault NoSetup))
-primal_no_setup card written faults refusals cards machine print none =
-    quietly linear_programming Primal card written faults refusals cards machine print (λ position executed state s.
+pub primal_no_setup : (card : ℕ) {P : Type 0} (written stopped_at : P → Option (List ℕ)) (faults refusals : P → ℕ) (cards : List (List ℕ)) (machine : Machine) (print : P) → machine.setup ≡ None →
+    Executes linear_programming Primal card written stopped_at faults refusals print print cards machine machine (refused_act card (Fault NoSetup))
+primal_no_setup card written stopped_at faults refusals cards machine print none =
+    quietly linear_programming Primal card written stopped_at faults refusals cards machine print (λ position executed state s.
     primal_without card state (subst (λ (kept : Option Setup). ShowsSetup machine.file kept state.setup) none s.setup))
 
 -- with a setup, whose problem is on file
@@ -160,21 +160,21 @@ module _ (card : ℕ) (cards : List (List ℕ)) (old : Machine) (setup new : Set
       subst (λ (c : Cells). Gives linear_programming card (verb_move Primal card state) (stops (endings.LimitStop (record { limit = steps_allowed c; card = card })))) s.cells (path_gives lp ok PathLimit right)
   found_comes _ _ (solved {lp = lp} ok same_name same_options (overflows {e = e} {place = place} h)) = overflow_gives lp ok e (option_map place_shown place) h
 
-module _ (card : ℕ) {P : Type 0} (written : P → Option (List ℕ)) (faults refusals : P → ℕ) (print_old print_new : P) (cards : List (List ℕ)) (old : Machine) (setup new : Setup) (is_setup : old.setup ≡ Some setup)
+module _ (card : ℕ) {P : Type 0} (written stopped_at : P → Option (List ℕ)) (faults refusals : P → ℕ) (print_old print_new : P) (cards : List (List ℕ)) (old : Machine) (setup new : Setup) (is_setup : old.setup ≡ Some setup)
     (ready : IsReady old.file setup) (demands : AreDemands old.cells) where
   pub primal_found : (finding : Finding) (mark : Option Mark) (then : Act) → mark ≡ mark_left finding → then ≡ act_of old.cells card finding →
-      TellsFinding (Finds ready.problem old.cells setup new) written faults refusals print_old print_new (Ok finding) →
-      Executes linear_programming Primal card written faults refusals print_old print_new cards old (record old { setup = Some new; mark = mark }) (Ok then)
+      TellsFinding (Finds ready.problem old.cells setup new) written stopped_at faults refusals print_old print_new (Ok finding) →
+      Executes linear_programming Primal card written stopped_at faults refusals print_old print_new cards old (record old { setup = Some new; mark = mark }) (Ok then)
   primal_found finding mark then e f t =
-      subst (λ (m : Option Mark). Executes linear_programming Primal card written faults refusals print_old print_new cards old (record old { setup = Some new; mark = m }) (Ok then)) (sym e)
-      (subst (λ (a : Act). Executes linear_programming Primal card written faults refusals print_old print_new cards old (record old { setup = Some new; mark = mark_left finding }) (Ok a)) (sym f)
-      (told_executes Primal card written faults refusals cards old (Finds ready.problem old.cells setup new) (λ found. record old { setup = Some new; mark = mark_left found }) (act_of old.cells card)
+      subst (λ (m : Option Mark). Executes linear_programming Primal card written stopped_at faults refusals print_old print_new cards old (record old { setup = Some new; mark = m }) (Ok then)) (sym e)
+      (subst (λ (a : Act). Executes linear_programming Primal card written stopped_at faults refusals print_old print_new cards old (record old { setup = Some new; mark = mark_left finding }) (Ok a)) (sym f)
+      (told_executes Primal card written stopped_at faults refusals cards old (Finds ready.problem old.cells setup new) (λ found. record old { setup = Some new; mark = mark_left found }) (act_of old.cells card)
       (no_cards_by ready.problem old.cells setup new)
       (λ gain found h position executed state s. found_comes card cards old setup new is_setup ready.problem ready.on_file demands position executed state s gain found h) print_old print_new finding t))
 
-  pub primal_cut : (any : Machine) (h : Halt) → TellsFinding (Finds ready.problem old.cells setup new) written faults refusals print_old print_new (Err h) →
-      Executes linear_programming Primal card written faults refusals print_old print_new cards old any (Err h)
+  pub primal_cut : (any : Machine) (h : Halt) → TellsFinding (Finds ready.problem old.cells setup new) written stopped_at faults refusals print_old print_new (Err h) →
+      Executes linear_programming Primal card written stopped_at faults refusals print_old print_new cards old any (Err h)
   primal_cut any h t =
-      cut_executes Primal card written faults refusals cards old (Finds ready.problem old.cells setup new) (λ found. record old { setup = Some new; mark = mark_left found }) (act_of old.cells card)
+      cut_executes Primal card written stopped_at faults refusals cards old (Finds ready.problem old.cells setup new) (λ found. record old { setup = Some new; mark = mark_left found }) (act_of old.cells card)
       (no_cards_by ready.problem old.cells setup new)
       (λ gain found h position executed state s. found_comes card cards old setup new is_setup ready.problem ready.on_file demands position executed state s gain found h) print_old print_new any h t

@@ -53,23 +53,23 @@ use Rattle.control_run.proofs.Present.{present_with, IsPresentOf, present_at, on
 -- ---- the lines of a basis
 
 -- they are printed or broken off
-module _ {P : Type 0} (written : P → Option (List ℕ)) (faults refusals : P → ℕ) {print_old print_new : P} (sheet : OwnSheet) (s : Basis) (before : List Basics) (mark : Mark) (point prices slack list : List ℚ) (same : list ≡ slack)
+module _ {P : Type 0} (written stopped_at : P → Option (List ℕ)) (faults refusals : P → ℕ) {print_old print_new : P} (sheet : OwnSheet) (s : Basis) (before : List Basics) (mark : Mark) (point prices slack list : List ℚ) (same : list ≡ slack)
     (is_shown : IsShown (sheet_shown sheet) s (solution_lines sheet.problem.now sheet.lp.now s point prices slack)) where
-  pub lines_told : Writes {T = Unit {0}} written faults refusals print_old print_new (Ok tt) (report_text (Solution mark (solution_lines sheet.problem.now sheet.lp.now s point prices list))) →
-      TellsFinding (LinesFound (sheet_shown sheet) s before mark) written faults refusals print_old print_new (Ok Shown)
+  pub lines_told : Writes {T = Unit {0}} written stopped_at faults refusals print_old print_new (Ok tt) (report_text (Solution mark (solution_lines sheet.problem.now sheet.lp.now s point prices list))) →
+      TellsFinding (LinesFound (sheet_shown sheet) s before mark) written stopped_at faults refusals print_old print_new (Ok Shown)
   lines_told writes = record {
     gain = Prints (Solution mark (solution_lines sheet.problem.now sheet.lp.now s point prices slack));
     holds = shown is_shown;
-    writes = subst (λ (xs : List ℚ). Writes {T = Unit {0}} written faults refusals print_old print_new (Ok tt) (report_text (Solution mark (solution_lines sheet.problem.now sheet.lp.now s point prices xs)))) same writes;
+    writes = subst (λ (xs : List ℚ). Writes {T = Unit {0}} written stopped_at faults refusals print_old print_new (Ok tt) (report_text (Solution mark (solution_lines sheet.problem.now sheet.lp.now s point prices xs)))) same writes;
   }
 
-  pub lines_cut : (stop : WriteStop) → Writes {T = Unit {0}} written faults refusals print_old print_new (Err stop) (report_text (Solution mark (solution_lines sheet.problem.now sheet.lp.now s point prices list))) →
-      TellsFinding (LinesFound (sheet_shown sheet) s before mark) written faults refusals print_old print_new (Err (halt.Print stop))
+  pub lines_cut : (stop : WriteStop) → Writes {T = Unit {0}} written stopped_at faults refusals print_old print_new (Err stop) (report_text (Solution mark (solution_lines sheet.problem.now sheet.lp.now s point prices list))) →
+      TellsFinding (LinesFound (sheet_shown sheet) s before mark) written stopped_at faults refusals print_old print_new (Err (halt.Print stop))
   lines_cut stop writes = record {
     gain = Prints (Solution mark (solution_lines sheet.problem.now sheet.lp.now s point prices slack));
     finding = Shown;
     holds = shown is_shown;
-    writes = subst (λ (xs : List ℚ). Writes {T = Unit {0}} written faults refusals print_old print_new (Err stop) (report_text (Solution mark (solution_lines sheet.problem.now sheet.lp.now s point prices xs)))) same writes;
+    writes = subst (λ (xs : List ℚ). Writes {T = Unit {0}} written stopped_at faults refusals print_old print_new (Err stop) (report_text (Solution mark (solution_lines sheet.problem.now sheet.lp.now s point prices xs)))) same writes;
   }
 
 pub lines_overflow : (sheet : OwnSheet) (s : Basis) (before after : List Basics) (mark : Mark) (e : Evidence) → SolutionRefused sheet.lp.now before s after e →
@@ -98,12 +98,12 @@ still_solved cells file setup new mark k h = record {
 }
 
 -- the setup that code has opened, which is the one that is spoken of
-module _ {P : Type 0} (written : P → Option (List ℕ)) (faults refusals : P → ℕ) (file : Filed) {setup old : Setup} (is_old : setup ≡ old) (mark : Mark) (there : Problem ℕ) (is_there : filed_under setup.name file ≡ Some there) where
-  pub lines_at : (print_old print_new : P) (result : Result Finding Halt) → TellsFinding (Shows there setup mark) written faults refusals print_old print_new result →
-      (problem : Problem ℕ) → filed_under old.name file ≡ Some problem → TellsFinding (Shows problem old mark) written faults refusals print_old print_new result
+module _ {P : Type 0} (written stopped_at : P → Option (List ℕ)) (faults refusals : P → ℕ) (file : Filed) {setup old : Setup} (is_old : setup ≡ old) (mark : Mark) (there : Problem ℕ) (is_there : filed_under setup.name file ≡ Some there) where
+  pub lines_at : (print_old print_new : P) (result : Result Finding Halt) → TellsFinding (Shows there setup mark) written stopped_at faults refusals print_old print_new result →
+      (problem : Problem ℕ) → filed_under old.name file ≡ Some problem → TellsFinding (Shows problem old mark) written stopped_at faults refusals print_old print_new result
   lines_at print_old print_new result t problem on_file =
-      subst (λ (s : Setup). TellsFinding (Shows problem s mark) written faults refusals print_old print_new result) is_old
-      (subst (λ (q : Problem ℕ). TellsFinding (Shows q setup mark) written faults refusals print_old print_new result)
+      subst (λ (s : Setup). TellsFinding (Shows problem s mark) written stopped_at faults refusals print_old print_new result) is_old
+      (subst (λ (q : Problem ℕ). TellsFinding (Shows q setup mark) written stopped_at faults refusals print_old print_new result)
       (one_problem file setup there problem is_there (ap (λ (s : Setup). filed_under s.name file) is_old ∙ on_file)) t)
 
 -- ---- the statement
@@ -138,10 +138,10 @@ module _ (card : ℕ) (state : State) where
   gives_set_up : (present : Present) (outcome : Outcome) → state.setup ≡ Some present → Gives linear_programming card (go_set_up present) outcome → Gives linear_programming card (verb_move SolutionVerb card state) outcome
   gives_set_up present outcome e given = solution_gives outcome (gives_found card verb_fault.NoSetup state.setup go_set_up present outcome e given)
 
-pub solution_no_setup : (card : ℕ) {P : Type 0} (written : P → Option (List ℕ)) (faults refusals : P → ℕ) (cards : List (List ℕ)) (machine : Machine) (print : P) → machine.setup ≡ None →
-    Executes linear_programming SolutionVerb card written faults refusals print print cards machine machine (refused_act card (Fault verb_fault.NoSetup))
-solution_no_setup card written faults refusals cards machine print none =
-    quietly linear_programming SolutionVerb card written faults refusals cards machine print (λ position executed state s.
+pub solution_no_setup : (card : ℕ) {P : Type 0} (written stopped_at : P → Option (List ℕ)) (faults refusals : P → ℕ) (cards : List (List ℕ)) (machine : Machine) (print : P) → machine.setup ≡ None →
+    Executes linear_programming SolutionVerb card written stopped_at faults refusals print print cards machine machine (refused_act card (Fault verb_fault.NoSetup))
+solution_no_setup card written stopped_at faults refusals cards machine print none =
+    quietly linear_programming SolutionVerb card written stopped_at faults refusals cards machine print (λ position executed state s.
     gives_no_setup card state (subst (λ (kept : Option Setup). ShowsSetup machine.file kept state.setup) none s.setup))
 
 module _ (card : ℕ) (cards : List (List ℕ)) (old : Machine) (setup : Setup) (is_setup : old.setup ≡ Some setup) (problem : Problem ℕ) (on_file : filed_under setup.name old.file ≡ Some problem) where
@@ -203,21 +203,21 @@ module _ (card : ℕ) (cards : List (List ℕ)) (old : Machine) (setup : Setup) 
             refl,
           ))
 
-  module _ {P : Type 0} (written : P → Option (List ℕ)) (faults refusals : P → ℕ) where
-    pub solution_not_solved : (print : P) (any : Machine) → old.mark ≡ None → Executes linear_programming SolutionVerb card written faults refusals print print cards old any (refused_act card (Fault verb_fault.NotSolved))
+  module _ {P : Type 0} (written stopped_at : P → Option (List ℕ)) (faults refusals : P → ℕ) where
+    pub solution_not_solved : (print : P) (any : Machine) → old.mark ≡ None → Executes linear_programming SolutionVerb card written stopped_at faults refusals print print cards old any (refused_act card (Fault verb_fault.NotSolved))
     solution_not_solved print any none =
-        quietly linear_programming SolutionVerb card written faults refusals cards old print {new = any} (λ position executed state s. not_solved position executed state s none)
+        quietly linear_programming SolutionVerb card written stopped_at faults refusals cards old print {new = any} (λ position executed state s. not_solved position executed state s none)
 
     module _ (print_old print_new : P) (new : Setup) (mark : Mark) (is_mark : old.mark ≡ Some mark) (ok : selected problem (choice_of old.cells setup.options) ≡ Ok setup.lp) (k : IsSameSetup setup new) where
-      pub solution_found : (finding : Finding) (then : Act) → then ≡ act_of old.cells card finding → TellsFinding (Shows problem setup mark) written faults refusals print_old print_new (Ok finding) →
-          Executes linear_programming SolutionVerb card written faults refusals print_old print_new cards old (record old { setup = Some new }) (Ok then)
+      pub solution_found : (finding : Finding) (then : Act) → then ≡ act_of old.cells card finding → TellsFinding (Shows problem setup mark) written stopped_at faults refusals print_old print_new (Ok finding) →
+          Executes linear_programming SolutionVerb card written stopped_at faults refusals print_old print_new cards old (record old { setup = Some new }) (Ok then)
       solution_found finding then e t =
-          subst (λ (a : Act). Executes linear_programming SolutionVerb card written faults refusals print_old print_new cards old (record old { setup = Some new }) (Ok a)) (sym e)
-          (told_executes SolutionVerb card written faults refusals cards old (Shows problem setup mark) (λ found. record old { setup = Some new }) (act_of old.cells card) (no_cards_by problem setup mark)
+          subst (λ (a : Act). Executes linear_programming SolutionVerb card written stopped_at faults refusals print_old print_new cards old (record old { setup = Some new }) (Ok a)) (sym e)
+          (told_executes SolutionVerb card written stopped_at faults refusals cards old (Shows problem setup mark) (λ found. record old { setup = Some new }) (act_of old.cells card) (no_cards_by problem setup mark)
           (λ gain found h position executed state s. shown_comes position executed state s new mark is_mark ok k gain found h) print_old print_new finding t)
 
-      pub solution_cut : (any : Machine) (h : Halt) → TellsFinding (Shows problem setup mark) written faults refusals print_old print_new (Err h) →
-          Executes linear_programming SolutionVerb card written faults refusals print_old print_new cards old any (Err h)
+      pub solution_cut : (any : Machine) (h : Halt) → TellsFinding (Shows problem setup mark) written stopped_at faults refusals print_old print_new (Err h) →
+          Executes linear_programming SolutionVerb card written stopped_at faults refusals print_old print_new cards old any (Err h)
       solution_cut any h t =
-          cut_executes SolutionVerb card written faults refusals cards old (Shows problem setup mark) (λ found. record old { setup = Some new }) (act_of old.cells card) (no_cards_by problem setup mark)
+          cut_executes SolutionVerb card written stopped_at faults refusals cards old (Shows problem setup mark) (λ found. record old { setup = Some new }) (act_of old.cells card) (no_cards_by problem setup mark)
           (λ gain found h position executed state s. shown_comes position executed state s new mark is_mark ok k gain found h) print_old print_new any h t

@@ -50,19 +50,19 @@ use Rattle.control_run.proofs.Present.{one_problem}
 
 -- ---- the path
 
-module _ {P : Type 0} (written : P → Option (List ℕ)) (faults refusals : P → ℕ) (sheet : Sheet) (s now : Basis) (limit : Option ℕ) (before after : List Basics) (bases : List Basis) (verdict : PathVerdict) (check : Check)
+module _ {P : Type 0} (written stopped_at : P → Option (List ℕ)) (faults refusals : P → ℕ) (sheet : Sheet) (s now : Basis) (limit : Option ℕ) (before after : List Basics) (bases : List Basis) (verdict : PathVerdict) (check : Check)
     (r : PathReaches sheet s now limit before after bases verdict check) where
   -- its verdict is printed or broken off
-  pub verdict_told : (mark : Mark) {print_old print_new : P} → mark ≡ mark_of verdict → Writes {T = Unit {0}} written faults refusals print_old print_new (Ok tt) (report_text (Solved ByPrimal verdict check)) →
-      TellsFinding (PathFinds sheet s now limit before after) written faults refusals print_old print_new (Ok (Ended mark))
+  pub verdict_told : (mark : Mark) {print_old print_new : P} → mark ≡ mark_of verdict → Writes {T = Unit {0}} written stopped_at faults refusals print_old print_new (Ok tt) (report_text (Solved ByPrimal verdict check)) →
+      TellsFinding (PathFinds sheet s now limit before after) written stopped_at faults refusals print_old print_new (Ok (Ended mark))
   verdict_told mark e writes = record {
     gain = Prints (Solved ByPrimal verdict check);
     holds = subst (λ (m : Mark). PathFinds sheet s now limit before after (Prints (Solved ByPrimal verdict check)) (Ended m)) (sym e) (reached r);
     writes = writes;
   }
 
-  pub verdict_cut : (stop : WriteStop) {print_old print_new : P} → Writes {T = Unit {0}} written faults refusals print_old print_new (Err stop) (report_text (Solved ByPrimal verdict check)) →
-      TellsFinding (PathFinds sheet s now limit before after) written faults refusals print_old print_new (Err (halt.Print stop))
+  pub verdict_cut : (stop : WriteStop) {print_old print_new : P} → Writes {T = Unit {0}} written stopped_at faults refusals print_old print_new (Err stop) (report_text (Solved ByPrimal verdict check)) →
+      TellsFinding (PathFinds sheet s now limit before after) written stopped_at faults refusals print_old print_new (Err (halt.Print stop))
   verdict_cut stop writes = record { gain = Prints (Solved ByPrimal verdict check); finding = Ended (mark_of verdict); holds = reached r; writes = writes }
 
 -- only a limit is passed
@@ -160,25 +160,25 @@ solved_ends sheet s now limit before after _ _ lawful at (at_limit h) Fact gives
 solved_ends sheet s now limit before after _ _ lawful at (overflows h) Fact gives = tt
 
 -- The setup that code has opened, which is the one that is spoken of, and what is left of it.
-module _ {P : Type 0} (written : P → Option (List ℕ)) (faults refusals : P → ℕ) (cells : Cells) (file : Filed) {setup old : Setup} (is_old : setup ≡ old) (new : Setup) (there : Problem ℕ) (is_there : filed_under setup.name file ≡ Some there) where
-  at_problem : (print_old print_new : P) (result : Result Finding Halt) → TellsFinding (Finds there cells setup new) written faults refusals print_old print_new result →
-      (problem : Problem ℕ) → filed_under old.name file ≡ Some problem → TellsFinding (Finds problem cells old new) written faults refusals print_old print_new result
+module _ {P : Type 0} (written stopped_at : P → Option (List ℕ)) (faults refusals : P → ℕ) (cells : Cells) (file : Filed) {setup old : Setup} (is_old : setup ≡ old) (new : Setup) (there : Problem ℕ) (is_there : filed_under setup.name file ≡ Some there) where
+  at_problem : (print_old print_new : P) (result : Result Finding Halt) → TellsFinding (Finds there cells setup new) written stopped_at faults refusals print_old print_new result →
+      (problem : Problem ℕ) → filed_under old.name file ≡ Some problem → TellsFinding (Finds problem cells old new) written stopped_at faults refusals print_old print_new result
   at_problem print_old print_new result t problem on_file =
-      subst (λ (s : Setup). TellsFinding (Finds problem cells s new) written faults refusals print_old print_new result) is_old
-      (subst (λ (q : Problem ℕ). TellsFinding (Finds q cells setup new) written faults refusals print_old print_new result)
+      subst (λ (s : Setup). TellsFinding (Finds problem cells s new) written stopped_at faults refusals print_old print_new result) is_old
+      (subst (λ (q : Problem ℕ). TellsFinding (Finds q cells setup new) written stopped_at faults refusals print_old print_new result)
       (one_problem file setup there problem is_there (ap (λ (s : Setup). filed_under s.name file) is_old ∙ on_file)) t)
 
   pub refusal_told : (print : P) (refusal : Refusal) → IsUnselected there (choice_of cells setup.options) refusal →
-      (problem : Problem ℕ) → filed_under old.name file ≡ Some problem → TellsFinding (Finds problem cells old new) written faults refusals print print (refused_finding refusal)
+      (problem : Problem ℕ) → filed_under old.name file ≡ Some problem → TellsFinding (Finds problem cells old new) written stopped_at faults refusals print print (refused_finding refusal)
   refusal_told print refusal u =
-      at_problem print print (refused_finding refusal) (tells_quietly written faults refusals (Finds there cells setup new) print (refused_finding refusal) (refusal_found there cells setup new refusal u))
+      at_problem print print (refused_finding refusal) (tells_quietly written stopped_at faults refusals (Finds there cells setup new) print (refused_finding refusal) (refusal_found there cells setup new refusal u))
 
   pub path_told : (lp : LinearProgram) (limit : Option ℕ) (print_old print_new : P) (result : Result Finding Halt) → limit ≡ cells.xiterlim → selected there (choice_of cells setup.options) ≡ Ok lp →
       new.name ≡ setup.name → new.options ≡ setup.options →
-      TellsFinding (PathFinds (record { problem = there; lp = lp }) setup.basis new.basis limit setup.engine.waypoints new.engine.waypoints) written faults refusals print_old print_new result →
-      (problem : Problem ℕ) → filed_under old.name file ≡ Some problem → TellsFinding (Finds problem cells old new) written faults refusals print_old print_new result
+      TellsFinding (PathFinds (record { problem = there; lp = lp }) setup.basis new.basis limit setup.engine.waypoints new.engine.waypoints) written stopped_at faults refusals print_old print_new result →
+      (problem : Problem ℕ) → filed_under old.name file ≡ Some problem → TellsFinding (Finds problem cells old new) written stopped_at faults refusals print_old print_new result
   path_told lp limit print_old print_new result within ok same_name same_options t =
       at_problem print_old print_new result
-      (tells_more written faults refusals (PathFinds (record { problem = there; lp = lp }) setup.basis new.basis limit setup.engine.waypoints new.engine.waypoints) (Finds there cells setup new) print_old print_new
+      (tells_more written stopped_at faults refusals (PathFinds (record { problem = there; lp = lp }) setup.basis new.basis limit setup.engine.waypoints new.engine.waypoints) (Finds there cells setup new) print_old print_new
       (λ gain finding f. solved ok same_name same_options
       (subst (λ (n : Option ℕ). PathFinds (record { problem = there; lp = lp }) setup.basis new.basis n setup.engine.waypoints new.engine.waypoints gain finding) within f)) result t)

@@ -77,13 +77,13 @@ module _ (sheet : OwnSheet) (sweep : Sweep) (s now : Basis) (before after : List
         subst (λ (b : Solver). Finds (Prints (Solved b (verdict_shown sheet outcome) (check_shown refused))) (Ended (mark_of (verdict_shown sheet outcome)))) (sym named)
         (opened {bases = a.bases} (record { reaches = a.swept; leads = a.leads; lie = a.lie }))
 
-    module _ {P : Type 0} (written : P → Option (List ℕ)) (faults refusals : P → ℕ) (print_old print_new : P) where
-      pub opening_told : (mark : Mark) → mark ≡ mark_of (verdict_shown sheet outcome) → Writes {T = Unit {0}} written faults refusals print_old print_new (Ok tt) (report_text (Solved by (verdict_shown sheet outcome) (check_shown refused))) →
-          TellsFinding Finds written faults refusals print_old print_new (Ok (Ended mark))
+    module _ {P : Type 0} (written stopped_at : P → Option (List ℕ)) (faults refusals : P → ℕ) (print_old print_new : P) where
+      pub opening_told : (mark : Mark) → mark ≡ mark_of (verdict_shown sheet outcome) → Writes {T = Unit {0}} written stopped_at faults refusals print_old print_new (Ok tt) (report_text (Solved by (verdict_shown sheet outcome) (check_shown refused))) →
+          TellsFinding Finds written stopped_at faults refusals print_old print_new (Ok (Ended mark))
       opening_told mark e writes = record { gain = verdict; holds = subst (λ (m : Mark). Finds verdict (Ended m)) (sym e) opening_found; writes = writes }
 
-      pub opening_cut : (stop : WriteStop) → Writes {T = Unit {0}} written faults refusals print_old print_new (Err stop) (report_text (Solved by (verdict_shown sheet outcome) (check_shown refused))) →
-          TellsFinding Finds written faults refusals print_old print_new (Err (halt.Print stop))
+      pub opening_cut : (stop : WriteStop) → Writes {T = Unit {0}} written stopped_at faults refusals print_old print_new (Err stop) (report_text (Solved by (verdict_shown sheet outcome) (check_shown refused))) →
+          TellsFinding Finds written stopped_at faults refusals print_old print_new (Err (halt.Print stop))
       opening_cut stop writes = record { gain = verdict; finding = Ended (mark_of (verdict_shown sheet outcome)); holds = opening_found; writes = writes }
 
   -- the intervals and their end
@@ -113,18 +113,18 @@ module _ (sheet : OwnSheet) (sweep : Sweep) (s now : Basis) (before after : List
         (subst (λ (b : Solver). Finds (Prints (Parametric b whole)) (Swept (last_value (end_of (sheet_shown sheet) sweep.to (calls.end_of run.end))))) (sym named)
         (chained {bases = a.bases} (record { reaches = a.swept; leads = a.leads; lie = a.lie }))))
 
-    module _ {P : Type 0} (written : P → Option (List ℕ)) (faults refusals : P → ℕ) (print_old print_new : P) where
-      pub chain_told : (value : ℚ) → value ≡ value_left to run.end → Writes {T = Unit {0}} written faults refusals print_old print_new (Ok tt) (report_text (Parametric by (chain_shown sheet change from to run))) →
-          TellsFinding Finds written faults refusals print_old print_new (Ok (Swept value))
+    module _ {P : Type 0} (written stopped_at : P → Option (List ℕ)) (faults refusals : P → ℕ) (print_old print_new : P) where
+      pub chain_told : (value : ℚ) → value ≡ value_left to run.end → Writes {T = Unit {0}} written stopped_at faults refusals print_old print_new (Ok tt) (report_text (Parametric by (chain_shown sheet change from to run))) →
+          TellsFinding Finds written stopped_at faults refusals print_old print_new (Ok (Swept value))
       chain_told value e writes = record { gain = intervals; holds = chain_found value e; writes = writes }
 
-      pub chain_cut : (stop : WriteStop) → Writes {T = Unit {0}} written faults refusals print_old print_new (Err stop) (report_text (Parametric by (chain_shown sheet change from to run))) →
-          TellsFinding Finds written faults refusals print_old print_new (Err (halt.Print stop))
+      pub chain_cut : (stop : WriteStop) → Writes {T = Unit {0}} written stopped_at faults refusals print_old print_new (Err stop) (report_text (Parametric by (chain_shown sheet change from to run))) →
+          TellsFinding Finds written stopped_at faults refusals print_old print_new (Err (halt.Print stop))
       chain_cut stop writes = record { gain = intervals; finding = Swept (value_left to run.end); holds = chain_found (value_left to run.end) refl; writes = writes }
 
 -- ---- where a run stops
 
-module _ {P : Type 0} (written : P → Option (List ℕ)) (faults refusals : P → ℕ) (sheet : OwnSheet) (sweep : Sweep) (s now : Basis) (before after : List Basics) (e : Evidence)
+module _ {P : Type 0} (written stopped_at : P → Option (List ℕ)) (faults refusals : P → ℕ) (sheet : OwnSheet) (sweep : Sweep) (s now : Basis) (before after : List Basics) (e : Evidence)
     (o : RunOverflowsThere sheet sweep s now before after e ⊎ LimitOverflows sheet sweep s now before after e) where
   abbrev Stops : Gain → Finding → Type 0
   Stops = SweepFinds (sheet_shown sheet) s now sweep before after
@@ -152,12 +152,12 @@ module _ {P : Type 0} (written : P → Option (List ℕ)) (faults refusals : P �
       by (inl there) = overflows (λ earlier lie. subst (λ (p : endings.Place). OverflowsAt (OfSweep sweep) (sheet_shown sheet) (earlier ++ s ∷ []) e (Some p)) (sym is) (there.overflows earlier lie))
       by (inr limit) = absurd (other (unplaced_limit (sheet_shown sheet) (s ∷ []) sweep e (limit.overflows [])))
 
-  pub run_overflow_tells : (print : P) (result : Result Finding Halt) → IsRunOverflow now after e result → TellsFinding Stops written faults refusals print print result
+  pub run_overflow_tells : (print : P) (result : Result Finding Halt) → IsRunOverflow now after e result → TellsFinding Stops written stopped_at faults refusals print print result
   run_overflow_tells print result told = by (ℕ_discrete e.formula 13)
     where
-      by : Dec (e.formula ≡ 13) → TellsFinding Stops written faults refusals print print result
-      by (yes is) = subst (λ (r : Result Finding Halt). TellsFinding Stops written faults refusals print print r) (sym (told.0 is)) (tells_quietly written faults refusals Stops print (Ok (Overflow e None)) (at_limit_formula is))
-      by (no other) = overflow_tells written faults refusals Stops print now after e result (told.1 other) (at_place other)
+      by : Dec (e.formula ≡ 13) → TellsFinding Stops written stopped_at faults refusals print print result
+      by (yes is) = subst (λ (r : Result Finding Halt). TellsFinding Stops written stopped_at faults refusals print print r) (sym (told.0 is)) (tells_quietly written stopped_at faults refusals Stops print (Ok (Overflow e None)) (at_limit_formula is))
+      by (no other) = overflow_tells written stopped_at faults refusals Stops print now after e result (told.1 other) (at_place other)
 
 -- ---- what is asked for can be run
 
@@ -172,12 +172,12 @@ module _ (problem : Problem ℕ) (choice : Choice) (lp : LinearProgram) (ok : se
 -- ---- what is found with a setup
 
 -- The setup that code has opened, which is the one that is spoken of, and what is left of it.
-module _ {P : Type 0} (written : P → Option (List ℕ)) (faults refusals : P → ℕ) (verb : SweepVerb) (cells : Cells) (file : Filed) {setup old : Setup} (is_old : setup ≡ old) (new : Setup) (there : Problem ℕ) (is_there : filed_under setup.name file ≡ Some there) where
-  at_problem : (print_old print_new : P) (result : Result Finding Halt) → TellsFinding (Sweeps there cells verb setup new) written faults refusals print_old print_new result →
-      (problem : Problem ℕ) → filed_under old.name file ≡ Some problem → TellsFinding (Sweeps problem cells verb old new) written faults refusals print_old print_new result
+module _ {P : Type 0} (written stopped_at : P → Option (List ℕ)) (faults refusals : P → ℕ) (verb : SweepVerb) (cells : Cells) (file : Filed) {setup old : Setup} (is_old : setup ≡ old) (new : Setup) (there : Problem ℕ) (is_there : filed_under setup.name file ≡ Some there) where
+  at_problem : (print_old print_new : P) (result : Result Finding Halt) → TellsFinding (Sweeps there cells verb setup new) written stopped_at faults refusals print_old print_new result →
+      (problem : Problem ℕ) → filed_under old.name file ≡ Some problem → TellsFinding (Sweeps problem cells verb old new) written stopped_at faults refusals print_old print_new result
   at_problem print_old print_new result t problem on_file =
-      subst (λ (s : Setup). TellsFinding (Sweeps problem cells verb s new) written faults refusals print_old print_new result) is_old
-      (subst (λ (q : Problem ℕ). TellsFinding (Sweeps q cells verb setup new) written faults refusals print_old print_new result)
+      subst (λ (s : Setup). TellsFinding (Sweeps problem cells verb s new) written stopped_at faults refusals print_old print_new result) is_old
+      (subst (λ (q : Problem ℕ). TellsFinding (Sweeps q cells verb setup new) written stopped_at faults refusals print_old print_new result)
       (one_problem file setup there problem is_there (ap (λ (s : Setup). filed_under s.name file) is_old ∙ on_file)) t)
 
   refusal_found : (why : Refusal) → IsUnselected there (choice_of cells setup.options) why → MatchResult (refused_finding why) (Sweeps there cells verb setup new Nothing) (λ h. h ≡ halt.NoMemory)
@@ -186,9 +186,9 @@ module _ {P : Type 0} (written : P → Option (List ℕ)) (faults refusals : P �
   refusal_found NoMemory u = refl
 
   pub unselected_told : (print : P) (why : Refusal) → IsUnselected there (choice_of cells setup.options) why →
-      (problem : Problem ℕ) → filed_under old.name file ≡ Some problem → TellsFinding (Sweeps problem cells verb old new) written faults refusals print print (refused_finding why)
+      (problem : Problem ℕ) → filed_under old.name file ≡ Some problem → TellsFinding (Sweeps problem cells verb old new) written stopped_at faults refusals print print (refused_finding why)
   unselected_told print why u =
-      at_problem print print (refused_finding why) (tells_quietly written faults refusals (Sweeps there cells verb setup new) print (refused_finding why) (refusal_found why u))
+      at_problem print print (refused_finding why) (tells_quietly written stopped_at faults refusals (Sweeps there cells verb setup new) print (refused_finding why) (refusal_found why u))
 
   module _ (lp : LinearProgram) (ok : selected there (choice_of cells setup.options) ≡ Ok lp) where
     unasked_found : (why : Refusal) → IsNotAsked verb there cells why → MatchResult (refused_finding why) (Sweeps there cells verb setup new Nothing) (λ h. h ≡ halt.NoMemory)
@@ -197,14 +197,14 @@ module _ {P : Type 0} (written : P → Option (List ℕ)) (faults refusals : P �
     unasked_found NoMemory u = refl
 
     pub unasked_told : (print : P) (why : Refusal) → IsNotAsked verb there cells why →
-        (problem : Problem ℕ) → filed_under old.name file ≡ Some problem → TellsFinding (Sweeps problem cells verb old new) written faults refusals print print (refused_finding why)
+        (problem : Problem ℕ) → filed_under old.name file ≡ Some problem → TellsFinding (Sweeps problem cells verb old new) written stopped_at faults refusals print print (refused_finding why)
     unasked_told print why u =
-        at_problem print print (refused_finding why) (tells_quietly written faults refusals (Sweeps there cells verb setup new) print (refused_finding why) (unasked_found why u))
+        at_problem print print (refused_finding why) (tells_quietly written stopped_at faults refusals (Sweeps there cells verb setup new) print (refused_finding why) (unasked_found why u))
 
     pub run_told : (sweep : Sweep) → IsAsked verb there cells sweep → (print_old print_new : P) (result : Result Finding Halt) → new.name ≡ setup.name → new.options ≡ setup.options →
-        TellsFinding (SweepFinds (record { problem = there; lp = lp }) setup.basis new.basis sweep setup.engine.waypoints new.engine.waypoints) written faults refusals print_old print_new result →
-        (problem : Problem ℕ) → filed_under old.name file ≡ Some problem → TellsFinding (Sweeps problem cells verb old new) written faults refusals print_old print_new result
+        TellsFinding (SweepFinds (record { problem = there; lp = lp }) setup.basis new.basis sweep setup.engine.waypoints new.engine.waypoints) written stopped_at faults refusals print_old print_new result →
+        (problem : Problem ℕ) → filed_under old.name file ≡ Some problem → TellsFinding (Sweeps problem cells verb old new) written stopped_at faults refusals print_old print_new result
     run_told sweep a print_old print_new result same_name same_options t =
         at_problem print_old print_new result
-        (tells_more written faults refusals (SweepFinds (record { problem = there; lp = lp }) setup.basis new.basis sweep setup.engine.waypoints new.engine.waypoints) (Sweeps there cells verb setup new) print_old print_new
+        (tells_more written stopped_at faults refusals (SweepFinds (record { problem = there; lp = lp }) setup.basis new.basis sweep setup.engine.waypoints new.engine.waypoints) (Sweeps there cells verb setup new) print_old print_new
         (λ gain finding f. swept ok a same_name same_options f) result t)

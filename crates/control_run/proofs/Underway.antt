@@ -28,8 +28,8 @@ use Rattle.run_machine.specs.Punching.{gain_cards}
 use Rattle.control_run.specs.Running.{decks_after, by_itself, for_memory, for_memory_of_punch, for_punch_fault, Turns, IsStepCut, IsDeckCut, Steps, RunsTo, IsRunCut, Runs}
 use Rattle.control_run.proofs.Gains.{reports_text_more, card_text_more, gains_whole, front_of_whole, gains_front_at_fault, gains_front_for_memory}
 
-module _ (S : Solving) (program : Program) (cards : List (List ℕ)) {P U : Type 0} (written : P → Option (List ℕ)) (faults refusals : P → ℕ)
-    (punch_written : U → Option (List ℕ)) (punch_faults punch_refusals : U → ℕ) where
+module _ (S : Solving) (program : Program) (cards : List (List ℕ)) {P U : Type 0} (written stopped_at : P → Option (List ℕ)) (faults refusals : P → ℕ)
+    (punch_written punch_stopped_at : U → Option (List ℕ)) (punch_faults punch_refusals : U → ℕ) where
   -- the run has come to a state that the machine shows, its reports so far are printed, and its decks so far are punched
   pub record IsUnderway (print_old print_now : P) (punch_old punch_now : U) (machine : Machine) (position executed : ℕ) : Type 0 where
     pub sound : IsSound cards machine
@@ -40,8 +40,8 @@ module _ (S : Solving) (program : Program) (cards : List (List ℕ)) {P U : Type
     pub reports : List Report
     pub punched : List (List ℕ)
     pub reaches : Reaches S program (decks_after program cards) reports punched state
-    pub prints : Writes {T = Unit {0}} written faults refusals print_old print_now (Ok tt) (reports_text reports)
-    pub punches : Writes {T = Unit {0}} punch_written punch_faults punch_refusals punch_old punch_now (Ok tt) (card_text punched)
+    pub prints : Writes {T = Unit {0}} written stopped_at faults refusals print_old print_now (Ok tt) (reports_text reports)
+    pub punches : Writes {T = Unit {0}} punch_written punch_stopped_at punch_faults punch_refusals punch_old punch_now (Ok tt) (card_text punched)
 
   -- a machine at the start of the run
   pub underway_first : (print : P) (punch : U) (machine : Machine) (decks_from : ℕ) → drop (decks_from - 1) (numbered_cards cards) ≡ drop (program.decks_from - 1) (numbered_cards cards) →
@@ -56,8 +56,8 @@ module _ (S : Solving) (program : Program) (cards : List (List ℕ)) {P U : Type
     reports = [];
     punched = [];
     reaches = begun;
-    prints = writes_nothing written faults refusals print tt;
-    punches = writes_nothing punch_written punch_faults punch_refusals punch tt;
+    prints = writes_nothing written stopped_at faults refusals print tt;
+    punches = writes_nothing punch_written punch_stopped_at punch_faults punch_refusals punch tt;
   }
 
   module _ {old now : P} {punch_old punch_now : U} {machine : Machine} {position executed : ℕ} (u : IsUnderway old now punch_old punch_now machine position executed) where
@@ -66,23 +66,23 @@ module _ (S : Solving) (program : Program) (cards : List (List ℕ)) {P U : Type
         Reaches S program (decks_after program cards) (u.reports ++ printed_by gain) (u.punched ++ punched_by gain) after
     reaches_more {after = after} gain step = stepped gain after u.reaches step
 
-    punches_more : {punch_later : U} (gain : Gain) → Writes {T = Unit {0}} punch_written punch_faults punch_refusals punch_now punch_later (Ok tt) (gain_cards gain) →
-        Writes {T = Unit {0}} punch_written punch_faults punch_refusals punch_old punch_later (Ok tt) (card_text (u.punched ++ punched_by gain))
+    punches_more : {punch_later : U} (gain : Gain) → Writes {T = Unit {0}} punch_written punch_stopped_at punch_faults punch_refusals punch_now punch_later (Ok tt) (gain_cards gain) →
+        Writes {T = Unit {0}} punch_written punch_stopped_at punch_faults punch_refusals punch_old punch_later (Ok tt) (card_text (u.punched ++ punched_by gain))
     punches_more gain w = writes_same (card_text_more u.punched (punched_by gain)) (writes_then u.punches w)
 
     -- the punch stops in a deck
-    punches_cut : {punch_later : U} (stop : WriteStop) (deck : List (List ℕ)) → Writes {T = Unit {0}} punch_written punch_faults punch_refusals punch_now punch_later (Err stop) (card_text deck) →
-        Writes {T = Unit {0}} punch_written punch_faults punch_refusals punch_old punch_later (Err stop) (card_text (u.punched ++ deck))
+    punches_cut : {punch_later : U} (stop : WriteStop) (deck : List (List ℕ)) → Writes {T = Unit {0}} punch_written punch_stopped_at punch_faults punch_refusals punch_now punch_later (Err stop) (card_text deck) →
+        Writes {T = Unit {0}} punch_written punch_stopped_at punch_faults punch_refusals punch_old punch_later (Err stop) (card_text (u.punched ++ deck))
     punches_cut stop deck w = writes_same (card_text_more u.punched deck) (writes_then u.punches w)
 
     -- what is printed stays as it was
-    prints_same : (later : P) → later ≡ now → Writes {T = Unit {0}} written faults refusals old later (Ok tt) (reports_text u.reports)
-    prints_same later same = subst (λ (p : P). Writes {T = Unit {0}} written faults refusals old p (Ok tt) (reports_text u.reports)) (sym same) u.prints
+    prints_same : (later : P) → later ≡ now → Writes {T = Unit {0}} written stopped_at faults refusals old later (Ok tt) (reports_text u.reports)
+    prints_same later same = subst (λ (p : P). Writes {T = Unit {0}} written stopped_at faults refusals old p (Ok tt) (reports_text u.reports)) (sym same) u.prints
 
   module _ {old now : P} (later : P) {punch_old punch_now : U} (punch_later : U) {machine : Machine} {position executed : ℕ} (u : IsUnderway old now punch_old punch_now machine position executed) where
     -- one more statement leads to another
     underway_more : {new : Machine} {to : ℕ} → executed < 100000 → IsSound cards new →
-        Turns S program cards written faults refusals now later punch_written punch_faults punch_refusals punch_now punch_later executed u.state new (Goes to) →
+        Turns S program cards written stopped_at faults refusals now later punch_written punch_stopped_at punch_faults punch_refusals punch_now punch_later executed u.state new (Goes to) →
         IsUnderway old later punch_old punch_later new to (executed + 1)
     underway_more within sound t = record {
       sound = sound;
@@ -99,8 +99,8 @@ module _ (S : Solving) (program : Program) (cards : List (List ℕ)) {P U : Type
 
     -- one more statement ends the run
     underway_ended : {new : Machine} (end : End) →
-        Turns S program cards written faults refusals now later punch_written punch_faults punch_refusals punch_now punch_later executed u.state new (Ends end) →
-        RunsTo S program cards written faults refusals old later punch_written punch_faults punch_refusals punch_old punch_later (end_shown end)
+        Turns S program cards written stopped_at faults refusals now later punch_written punch_stopped_at punch_faults punch_refusals punch_now punch_later executed u.state new (Ends end) →
+        RunsTo S program cards written stopped_at faults refusals old later punch_written punch_stopped_at punch_faults punch_refusals punch_old punch_later (end_shown end)
     underway_ended end t = record {
       reports = u.reports ++ printed_by t.gain;
       punched = u.punched ++ punched_by t.gain;
@@ -110,14 +110,14 @@ module _ (S : Solving) (program : Program) (cards : List (List ℕ)) {P U : Type
     }
 
     -- the print stops
-    underway_cut : (stop : WriteStop) → IsStepCut S program cards written faults refusals now later punch_written punch_faults punch_refusals punch_now punch_later u.state stop →
-        IsRunCut S program cards written faults refusals old later punch_written punch_faults punch_refusals punch_old punch_later stop
+    underway_cut : (stop : WriteStop) → IsStepCut S program cards written stopped_at faults refusals now later punch_written punch_stopped_at punch_faults punch_refusals punch_now punch_later u.state stop →
+        IsRunCut S program cards written stopped_at faults refusals old later punch_written punch_stopped_at punch_faults punch_refusals punch_old punch_later stop
     underway_cut stop t = by t.outcome t.step t.prints t.punches
       where
         by : (outcome : Outcome) → Step S program u.state outcome →
-            Writes {T = Unit {0}} written faults refusals now later (Err stop) (gain_text (gain_of outcome)) →
-            Writes {T = Unit {0}} punch_written punch_faults punch_refusals punch_now punch_later (Ok tt) (gain_cards (gain_of outcome)) →
-            IsRunCut S program cards written faults refusals old later punch_written punch_faults punch_refusals punch_old punch_later stop
+            Writes {T = Unit {0}} written stopped_at faults refusals now later (Err stop) (gain_text (gain_of outcome)) →
+            Writes {T = Unit {0}} punch_written punch_stopped_at punch_faults punch_refusals punch_now punch_later (Ok tt) (gain_cards (gain_of outcome)) →
+            IsRunCut S program cards written stopped_at faults refusals old later punch_written punch_stopped_at punch_faults punch_refusals punch_old punch_later stop
         by (GoesOn gain after) step prints punches = record {
           reports = u.reports ++ printed_by gain;
           punched = u.punched ++ punched_by gain;
@@ -136,8 +136,8 @@ module _ (S : Solving) (program : Program) (cards : List (List ℕ)) {P U : Type
         }
 
     -- the punch stops in a deck
-    underway_deck_cut : (stop : WriteStop) → IsDeckCut S program cards written faults refusals now later punch_written punch_faults punch_refusals punch_now punch_later u.state stop →
-        Runs S program cards written faults refusals old later punch_written punch_faults punch_refusals punch_old punch_later (Err (halt.Punch stop))
+    underway_deck_cut : (stop : WriteStop) → IsDeckCut S program cards written stopped_at faults refusals now later punch_written punch_stopped_at punch_faults punch_refusals punch_now punch_later u.state stop →
+        Runs S program cards written stopped_at faults refusals old later punch_written punch_stopped_at punch_faults punch_refusals punch_old punch_later (Err (halt.Punch stop))
     underway_deck_cut Failed t =
         let w = punches_cut u Failed t.deck t.punches in (
           record {
@@ -160,21 +160,21 @@ module _ (S : Solving) (program : Program) (cards : List (List ℕ)) {P U : Type
         }
 
     -- a statement finds no memory
-    underway_without_memory : later ≡ now → punch_later ≡ punch_now → RunsTo S program cards written faults refusals old later punch_written punch_faults punch_refusals punch_old punch_later Memory
+    underway_without_memory : later ≡ now → punch_later ≡ punch_now → RunsTo S program cards written stopped_at faults refusals old later punch_written punch_stopped_at punch_faults punch_refusals punch_old punch_later Memory
     underway_without_memory same same_punch = record {
       reports = u.reports;
       punched = u.punched;
       can_end = for_memory u.reaches;
       prints = prints_same u later same;
       gains = gains_whole Memory (punch_written punch_old) (punch_written punch_later) (card_text u.punched)
-          (subst (λ (q : U). Writes {T = Unit {0}} punch_written punch_faults punch_refusals punch_old q (Ok tt) (card_text u.punched)) (sym same_punch) u.punches).bytes;
+          (subst (λ (q : U). Writes {T = Unit {0}} punch_written punch_stopped_at punch_faults punch_refusals punch_old q (Ok tt) (card_text u.punched)) (sym same_punch) u.punches).bytes;
     }
 
   -- ---- the run is over
 
   module _ {old now : P} {punch_old punch_now : U} {machine : Machine} {position executed : ℕ} (u : IsUnderway old now punch_old punch_now machine position executed) where
     -- the program's end
-    pub underway_over : length program.statements < position → RunsTo S program cards written faults refusals old now punch_written punch_faults punch_refusals punch_old punch_now (Ended 0)
+    pub underway_over : length program.statements < position → RunsTo S program cards written stopped_at faults refusals old now punch_written punch_stopped_at punch_faults punch_refusals punch_old punch_now (Ended 0)
     underway_over over = record {
       reports = u.reports;
       punched = u.punched;
@@ -185,7 +185,7 @@ module _ (S : Solving) (program : Program) (cards : List (List ℕ)) {P U : Type
 
     -- the statement limit
     pub underway_at_limit : position ≤ length program.statements → 100000 ≤ executed →
-        RunsTo S program cards written faults refusals old now punch_written punch_faults punch_refusals punch_old punch_now StatementLimit
+        RunsTo S program cards written stopped_at faults refusals old now punch_written punch_stopped_at punch_faults punch_refusals punch_old punch_now StatementLimit
     underway_at_limit within most = record {
       reports = u.reports;
       punched = u.punched;
@@ -198,25 +198,25 @@ module _ (S : Solving) (program : Program) (cards : List (List ℕ)) {P U : Type
 
   pub underway_goes : {old now later : P} {punch_old punch_now punch_later : U} {machine new : Machine} {position executed to : ℕ} (turn : AfterStatement) → turn ≡ Goes to →
       (u : IsUnderway old now punch_old punch_now machine position executed) → executed < 100000 → IsSound cards new →
-      Steps S program cards written faults refusals now later punch_written punch_faults punch_refusals punch_now punch_later position machine new (Ok turn) →
+      Steps S program cards written stopped_at faults refusals now later punch_written punch_stopped_at punch_faults punch_refusals punch_now punch_later position machine new (Ok turn) →
       IsUnderway old later punch_old punch_later new to (executed + 1)
   underway_goes {now = now} {later = later} {punch_now = punch_now} {punch_later = punch_later} {new = new} {executed = executed} turn is u within sound steps =
       underway_more later punch_later u within sound
-      (subst (λ (t : AfterStatement). Turns S program cards written faults refusals now later punch_written punch_faults punch_refusals punch_now punch_later executed u.state new t) is (steps executed u.state within u.stands))
+      (subst (λ (t : AfterStatement). Turns S program cards written stopped_at faults refusals now later punch_written punch_stopped_at punch_faults punch_refusals punch_now punch_later executed u.state new t) is (steps executed u.state within u.stands))
 
   pub underway_ends : {old now later : P} {punch_old punch_now punch_later : U} {machine : Machine} (new : Machine) {position executed : ℕ} (turn : AfterStatement) (end : End) → turn ≡ Ends end →
       (u : IsUnderway old now punch_old punch_now machine position executed) → executed < 100000 →
-      Steps S program cards written faults refusals now later punch_written punch_faults punch_refusals punch_now punch_later position machine new (Ok turn) →
-      RunsTo S program cards written faults refusals old later punch_written punch_faults punch_refusals punch_old punch_later (end_shown end)
+      Steps S program cards written stopped_at faults refusals now later punch_written punch_stopped_at punch_faults punch_refusals punch_now punch_later position machine new (Ok turn) →
+      RunsTo S program cards written stopped_at faults refusals old later punch_written punch_stopped_at punch_faults punch_refusals punch_old punch_later (end_shown end)
   underway_ends {now = now} {later = later} {punch_now = punch_now} {punch_later = punch_later} new {executed = executed} turn end is u within steps =
       underway_ended later punch_later u {new = new} end
-      (subst (λ (t : AfterStatement). Turns S program cards written faults refusals now later punch_written punch_faults punch_refusals punch_now punch_later executed u.state new t) is (steps executed u.state within u.stands))
+      (subst (λ (t : AfterStatement). Turns S program cards written stopped_at faults refusals now later punch_written punch_stopped_at punch_faults punch_refusals punch_now punch_later executed u.state new t) is (steps executed u.state within u.stands))
 
   -- a statement comes to nothing
   pub underway_halted : {old now : P} (later : P) {punch_old punch_now : U} (punch_later : U) {machine : Machine} (new : Machine) {position executed : ℕ} (h : Halt) →
       (u : IsUnderway old now punch_old punch_now machine position executed) → executed < 100000 →
-      Steps S program cards written faults refusals now later punch_written punch_faults punch_refusals punch_now punch_later position machine new (Err h) →
-      Runs S program cards written faults refusals old later punch_written punch_faults punch_refusals punch_old punch_later (Err h)
+      Steps S program cards written stopped_at faults refusals now later punch_written punch_stopped_at punch_faults punch_refusals punch_now punch_later position machine new (Err h) →
+      Runs S program cards written stopped_at faults refusals old later punch_written punch_stopped_at punch_faults punch_refusals punch_old punch_later (Err h)
   underway_halted later punch_later new halt.NoMemory u within steps = underway_without_memory later punch_later u steps.0 steps.1
   underway_halted later punch_later new {executed = executed} (halt.Print stop) u within steps = underway_cut later punch_later u stop (steps executed u.state within u.stands)
   underway_halted later punch_later new {executed = executed} (halt.Punch stop) u within steps = underway_deck_cut later punch_later u stop (steps executed u.state within u.stands)

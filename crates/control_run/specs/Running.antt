@@ -74,26 +74,26 @@ module _ (S : Solving) (program : Program) (cards : List (List ℕ)) where
         status ≡ status_of Memory → AppendsFront old new (listing reports ending) → AppendsFront punch_old punch_new (card_text punched) →
         IsRunAnswer print_failed print_wanted punch_failed punch_wanted status old new punch_old punch_new
 
-  module _ {P U : Type 0} (written : P → Option (List ℕ)) (faults refusals : P → ℕ) (print_old print_new : P) (punch_written : U → Option (List ℕ)) (punch_faults punch_refusals : U → ℕ) (punch_old punch_new : U) where
+  module _ {P U : Type 0} (written stopped_at : P → Option (List ℕ)) (faults refusals : P → ℕ) (print_old print_new : P) (punch_written punch_stopped_at : U → Option (List ℕ)) (punch_faults punch_refusals : U → ℕ) (punch_old punch_new : U) where
     -- with some gain, which is printed and punched, the statement leads there
     pub record Turns (executed : ℕ) (state : State) (new : Machine) (turn : AfterStatement) : Type 0 where
       pub gain : Gain
       pub leads : Leads executed state new gain turn
-      pub prints : Writes {T = Unit {0}} written faults refusals print_old print_new (Ok tt) (gain_text gain)
-      pub punches : Writes {T = Unit {0}} punch_written punch_faults punch_refusals punch_old punch_new (Ok tt) (gain_cards gain)
+      pub prints : Writes {T = Unit {0}} written stopped_at faults refusals print_old print_new (Ok tt) (gain_text gain)
+      pub punches : Writes {T = Unit {0}} punch_written punch_stopped_at punch_faults punch_refusals punch_old punch_new (Ok tt) (gain_cards gain)
 
     -- the statement leads somewhere, and the print stops before all that it gains is printed
     pub record IsStepCut (state : State) (stop : WriteStop) : Type 0 where
       pub outcome : Outcome
       pub step : Step S program state outcome
-      pub prints : Writes {T = Unit {0}} written faults refusals print_old print_new (Err stop) (gain_text (gain_of outcome))
-      pub punches : Writes {T = Unit {0}} punch_written punch_faults punch_refusals punch_old punch_new (Ok tt) (gain_cards (gain_of outcome))
+      pub prints : Writes {T = Unit {0}} written stopped_at faults refusals print_old print_new (Err stop) (gain_text (gain_of outcome))
+      pub punches : Writes {T = Unit {0}} punch_written punch_stopped_at punch_faults punch_refusals punch_old punch_new (Ok tt) (gain_cards (gain_of outcome))
 
     -- the statement would punch this deck, and the punch stops before all of it is punched; nothing is printed
     pub record IsDeckCut (state : State) (stop : WriteStop) : Type 0 where
       pub deck : List (List ℕ)
       pub punching : IsPunching S program state deck
-      pub punches : Writes {T = Unit {0}} punch_written punch_faults punch_refusals punch_old punch_new (Err stop) (card_text deck)
+      pub punches : Writes {T = Unit {0}} punch_written punch_stopped_at punch_faults punch_refusals punch_old punch_new (Err stop) (card_text deck)
       pub is_quiet : print_new ≡ print_old
 
     -- What executing the statement at a position does from each state that the machine showed. Where there is no memory, nothing is
@@ -113,7 +113,7 @@ module _ (S : Solving) (program : Program) (cards : List (List ℕ)) where
       pub reports : List Report
       pub punched : List (List ℕ)
       pub can_end : CanEndNow reports punched ending
-      pub prints : Writes {T = Unit {0}} written faults refusals print_old print_new (Ok tt) (reports_text reports)
+      pub prints : Writes {T = Unit {0}} written stopped_at faults refusals print_old print_new (Ok tt) (reports_text reports)
       pub gains : GainsBy ending (punch_written punch_old) (punch_written punch_new) (card_text punched)
 
     -- the print stops before all reports are printed
@@ -122,7 +122,7 @@ module _ (S : Solving) (program : Program) (cards : List (List ℕ)) where
       pub punched : List (List ℕ)
       pub ending : Ending
       pub can_end : CanEndNow reports punched ending
-      pub prints : Writes {T = Unit {0}} written faults refusals print_old print_new (Err stop) (reports_text reports)
+      pub prints : Writes {T = Unit {0}} written stopped_at faults refusals print_old print_new (Err stop) (reports_text reports)
       pub gains : AppendsFront (punch_written punch_old) (punch_written punch_new) (card_text punched)
 
     -- The run ends; or the print stops it; or the punch has failed, and stops it; or there is no memory.

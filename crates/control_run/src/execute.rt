@@ -32,7 +32,7 @@ fn execute<E: Engine, P: Sink, U: Sink>(
     requires sound { IsSound cards.now machine.old }
     requires verb { IsSoundVerb (shown verb.now) }
     ensures acts { Performs linear_programming (shown verb.now) card
-        P.written P.faults P.refusals print.old print.new U.written U.faults U.refusals
+        P.written P.stopped_at P.faults P.refusals print.old print.new U.written U.stopped_at U.faults U.refusals
         punch.old punch.new
         cards.now machine.old machine.new result }
     ensures sound { IsSound cards.now machine.new }
@@ -73,7 +73,7 @@ pub fn step<E: Engine, P: Sink, U: Sink>(
     requires within { position ≤ length program.now.statements }
     requires sound { IsSound cards.now machine.old }
     ensures steps { Steps linear_programming program.now cards.now
-        P.written P.faults P.refusals print.old print.new U.written U.faults U.refusals
+        P.written P.stopped_at P.faults P.refusals print.old print.new U.written U.stopped_at U.faults U.refusals
         punch.old punch.new
         position machine.old machine.new result }
     ensures sound { IsSound cards.now machine.new }

@@ -44,7 +44,7 @@ fn status_of_cut(stop: WriteStop) -> Status
 
 /// Ends the listing, and answers how the run ended.
 pub fn finish<P: Sink>(print: &mut P, end: &End) -> Status
-    ensures finishes { Finishes P.written P.faults P.refusals print.old print.new
+    ensures finishes { Finishes P.written P.stopped_at P.faults P.refusals print.old print.new
         (end_shown end.now) result }
     ensures own { IsStatusOfRun result }
 {
@@ -56,7 +56,7 @@ pub fn finish<P: Sink>(print: &mut P, end: &End) -> Status
 
 // Ends the listing after a fault of the punch.
 fn finish_punch_fault<P: Sink>(print: &mut P) -> Status
-    ensures finishes { Finishes P.written P.faults P.refusals print.old print.new
+    ensures finishes { Finishes P.written P.stopped_at P.faults P.refusals print.old print.new
         PunchFault result }
     ensures own { IsStatusOfRun result }
 {
@@ -68,7 +68,7 @@ fn finish_punch_fault<P: Sink>(print: &mut P) -> Status
 
 // Ends the listing where the punch took no more of a deck.
 fn finish_punch_cut<P: Sink>(print: &mut P, stop: WriteStop) -> Status
-    ensures finishes { FinishesHalted P.written P.faults P.refusals print.old print.new
+    ensures finishes { FinishesHalted P.written P.stopped_at P.faults P.refusals print.old print.new
         (halts.Punch stop) result }
     ensures own { IsStatusOfRun result }
 {
@@ -81,7 +81,7 @@ fn finish_punch_cut<P: Sink>(print: &mut P, stop: WriteStop) -> Status
 /// Ends the listing where a statement comes to nothing, and answers how the run ended. Where the print took no more, nothing is
 /// printed.
 pub fn finish_halted<P: Sink>(print: &mut P, halt: Halt) -> Status
-    ensures finishes { FinishesHalted P.written P.faults P.refusals print.old print.new
+    ensures finishes { FinishesHalted P.written P.stopped_at P.faults P.refusals print.old print.new
         halt result }
     ensures own { IsStatusOfRun result }
 {

@@ -79,7 +79,7 @@ fn print_opening<P: Sink>(
         IsAnswered sheet.entry (sweep_shown sweep.now) s reached before after
         (record { report = para_reports.Opening outcome.now; refused = refused }) →
         TellsFinding (SweepFinds (sheet_shown sheet.entry) s reached (sweep_shown sweep.now) before after)
-        P.written P.faults P.refusals print.old print.new result }
+        P.written P.stopped_at P.faults P.refusals print.old print.new result }
 {
     let verdict = Report::Solved {
         by: sweep.solver(),
@@ -114,7 +114,7 @@ fn print_chain<P: Sink>(
         IsAnswered sheet.entry (sweep_shown sweep.now) s reached before after
         (record { report = para_reports.Run run.now; refused = refused }) →
         TellsFinding (SweepFinds (sheet_shown sheet.entry) s reached (sweep_shown sweep.now) before after)
-        P.written P.faults P.refusals print.old print.new result }
+        P.written P.stopped_at P.faults P.refusals print.old print.new result }
 {
     let to = sweep.to();
     let report = Report::Parametric {
@@ -140,7 +140,7 @@ fn print_run<P: Sink>(
     ensures { (s reached : answers.Basis) (before after : List Basics) →
         IsAnswered sheet.entry (sweep_shown sweep.now) s reached before after answer.now →
         TellsFinding (SweepFinds (sheet_shown sheet.entry) s reached (sweep_shown sweep.now) before after)
-        P.written P.faults P.refusals print.old print.new result }
+        P.written P.stopped_at P.faults P.refusals print.old print.new result }
 {
     match &answer.report {
         ParaReport::Opening(outcome) => {
@@ -186,7 +186,7 @@ fn follow<P: Sink, R: Rates>(
     requires serves { Serves sheet.problem.now sheet.lp.now sweep.now }
     ensures tells { TellsFinding (SweepFinds (sheet_shown sheet.entry) basis.old basis.new
         (sweep_shown sweep.now) (R.waypoints rates.old) (R.waypoints rates.new))
-        P.written P.faults P.refusals print.old print.new result }
+        P.written P.stopped_at P.faults P.refusals print.old print.new result }
     ensures rates { HasRates (R.matrix rates.new) (R.basics rates.new)
         sheet.entry.lp.now basis.new }
 {
@@ -211,7 +211,7 @@ fn find<E: Engine, P: Sink>(
 ) -> Result<Finding, Halt>
     requires { IsReady file.now setup.old }
     ensures tells { (problem : Problem ℕ) → filed_under setup.old.name file.now ≡ Some problem →
-        TellsFinding (Sweeps problem cells.now verb setup.old setup.new) P.written P.faults P.refusals
+        TellsFinding (Sweeps problem cells.now verb setup.old setup.new) P.written P.stopped_at P.faults P.refusals
         print.old print.new result }
     ensures ready { IsReady file.now setup.new }
 {
@@ -262,7 +262,7 @@ fn sweep<E: Engine, P: Sink>(
     requires demands { AreDemands machine.old.cells }
     requires ready { IfSome machine.old.setup (IsReady machine.old.file) }
     ensures acts { (cards : List (List ℕ)) →
-        Executes linear_programming (verb_of verb) card P.written P.faults P.refusals print.old
+        Executes linear_programming (verb_of verb) card P.written P.stopped_at P.faults P.refusals print.old
         print.new cards machine.old machine.new result }
     ensures sound { (cards : List (List ℕ)) → IsSound cards machine.old →
         IsSound cards machine.new }
@@ -292,7 +292,7 @@ pub fn sweep_objective<E: Engine, P: Sink>(
     requires demands { AreDemands machine.old.cells }
     requires ready { IfSome machine.old.setup (IsReady machine.old.file) }
     ensures acts { (cards : List (List ℕ)) →
-        Executes linear_programming program.Paraobj card P.written P.faults P.refusals print.old
+        Executes linear_programming program.Paraobj card P.written P.stopped_at P.faults P.refusals print.old
         print.new cards machine.old machine.new result }
     ensures sound { (cards : List (List ℕ)) → IsSound cards machine.old →
         IsSound cards machine.new }
@@ -310,7 +310,7 @@ pub fn sweep_rhs<E: Engine, P: Sink>(
     requires demands { AreDemands machine.old.cells }
     requires ready { IfSome machine.old.setup (IsReady machine.old.file) }
     ensures acts { (cards : List (List ℕ)) →
-        Executes linear_programming program.Pararhs card P.written P.faults P.refusals print.old
+        Executes linear_programming program.Pararhs card P.written P.stopped_at P.faults P.refusals print.old
         print.new cards machine.old machine.new result }
     ensures sound { (cards : List (List ℕ)) → IsSound cards machine.old →
         IsSound cards machine.new }

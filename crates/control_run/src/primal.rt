@@ -55,7 +55,7 @@ fn print_verdict<P: Sink>(
         (bases : List answers.Basis) →
         PathReaches (sheet_shown sheet.entry) s reached limit before after bases
         (verdict_shown sheet.entry report.now.outcome) (check_shown report.now.refused) →
-        TellsFinding (PathFinds (sheet_shown sheet.entry) s reached limit before after) P.written P.faults
+        TellsFinding (PathFinds (sheet_shown sheet.entry) s reached limit before after) P.written P.stopped_at P.faults
         P.refusals print.old print.new result }
 {
     let verdict = Report::Solved {
@@ -83,7 +83,7 @@ fn follow<P: Sink, R: Rates>(
     requires rates { HasRates (R.matrix rates.old) (R.basics rates.old) sheet.lp.now basis.old }
     ensures tells { TellsFinding (PathFinds (sheet_shown sheet.entry) basis.old basis.new limit
         (R.waypoints rates.old) (R.waypoints rates.new))
-        P.written P.faults P.refusals print.old print.new result }
+        P.written P.stopped_at P.faults P.refusals print.old print.new result }
     ensures rates { HasRates (R.matrix rates.new) (R.basics rates.new)
         sheet.entry.lp.now basis.new }
 {
@@ -107,7 +107,7 @@ fn find<E: Engine, P: Sink>(
 ) -> Result<Finding, Halt>
     requires { IsReady file.now setup.old }
     ensures tells { (problem : Problem ℕ) → filed_under setup.old.name file.now ≡ Some problem →
-        TellsFinding (Finds problem cells.now setup.old setup.new) P.written P.faults P.refusals print.old
+        TellsFinding (Finds problem cells.now setup.old setup.new) P.written P.stopped_at P.faults P.refusals print.old
         print.new result }
     ensures ready { IsReady file.now setup.new }
     ensures solved { IfOk result
@@ -148,7 +148,7 @@ pub fn solve<E: Engine, P: Sink>(
     requires demands { AreDemands machine.old.cells }
     requires ready { IfSome machine.old.setup (IsReady machine.old.file) }
     ensures acts { (cards : List (List ℕ)) →
-        Executes linear_programming program.Primal card P.written P.faults P.refusals print.old
+        Executes linear_programming program.Primal card P.written P.stopped_at P.faults P.refusals print.old
         print.new cards machine.old machine.new result }
     ensures sound { (cards : List (List ℕ)) → IsSound cards machine.old →
         IsSound cards machine.new }

@@ -45,7 +45,7 @@ fn run<E: Engine, P: Sink, U: Sink>(
     punch: &mut U,
 ) -> Result<End, Halt>
     ensures { Runs linear_programming program.now cards.now
-        P.written P.faults P.refusals print.old print.new U.written U.faults U.refusals
+        P.written P.stopped_at P.faults P.refusals print.old print.new U.written U.stopped_at U.faults U.refusals
         punch.old punch.new
         result }
 {

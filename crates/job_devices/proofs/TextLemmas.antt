@@ -52,8 +52,8 @@ moves_on front rest piece n e =
     (append_assoc front (take n rest) (drop n rest) ∙ ap (λ w. front ++ w) (take-append-drop n rest) ∙ e)
 
 -- a call that writes a text, and then one that writes the next
-pub writes_then : {P T U : Type 0} {written : P → Option (List ℕ)} {faults refusals : P → ℕ} {a b c : P} {r : Result T WriteStop} {done : U} {x y : List ℕ} → Writes written faults refusals a b (Ok done) x → Writes written faults refusals b c r y → Writes written faults refusals a c r (x ++ y)
-writes_then {written = written} {faults = faults} {refusals = refusals} {a = a} {b = b} {c = c} {r = Ok v} {x = x} {y = y} p q = record {
+pub writes_then : {P T U : Type 0} {written stopped_at : P → Option (List ℕ)} {faults refusals : P → ℕ} {a b c : P} {r : Result T WriteStop} {done : U} {x y : List ℕ} → Writes written stopped_at faults refusals a b (Ok done) x → Writes written stopped_at faults refusals b c r y → Writes written stopped_at faults refusals a c r (x ++ y)
+writes_then {written = written} {stopped_at = stopped_at} {faults = faults} {refusals = refusals} {a = a} {b = b} {c = c} {r = Ok v} {x = x} {y = y} p q = record {
   bytes = Puts-then {E = WriteStop} (written a) (written b) (written c) (Ok v) x y p.bytes q.bytes;
   cause = record {
     later = omega arith;
@@ -65,8 +65,9 @@ writes_then {written = written} {faults = faults} {refusals = refusals} {a = a} 
     failed_alone = λ h. q.cause.failed_alone h ∙ p.cause.no_refusal;
     wanted_alone = λ h. q.cause.wanted_alone h ∙ p.cause.no_fault;
   };
+  stopped = q.stopped ∙ p.stopped;
 }
-writes_then {T = T} {written = written} {faults = faults} {refusals = refusals} {a = a} {b = b} {c = c} {r = Err e} {x = x} {y = y} p q = record {
+writes_then {T = T} {written = written} {stopped_at = stopped_at} {faults = faults} {refusals = refusals} {a = a} {b = b} {c = c} {r = Err e} {x = x} {y = y} p q = record {
   bytes = Puts-then {T = T} (written a) (written b) (written c) (Err e) x y p.bytes q.bytes;
   cause = record {
     later = omega arith;
@@ -78,24 +79,27 @@ writes_then {T = T} {written = written} {faults = faults} {refusals = refusals} 
     failed_alone = λ h. q.cause.failed_alone h ∙ p.cause.no_refusal;
     wanted_alone = λ h. q.cause.wanted_alone h ∙ p.cause.no_fault;
   };
+  stopped = q.stopped;
 }
 
 -- a stop in a text is one in that text with more after it
-pub writes_more : {P T : Type 0} {written : P → Option (List ℕ)} {faults refusals : P → ℕ} {a b : P} {stop : WriteStop} {x : List ℕ} (y : List ℕ) → Writes {T = T} written faults refusals a b (Err stop) x → Writes {T = T} written faults refusals a b (Err stop) (x ++ y)
+pub writes_more : {P T : Type 0} {written stopped_at : P → Option (List ℕ)} {faults refusals : P → ℕ} {a b : P} {stop : WriteStop} {x : List ℕ} (y : List ℕ) → Writes {T = T} written stopped_at faults refusals a b (Err stop) x → Writes {T = T} written stopped_at faults refusals a b (Err stop) (x ++ y)
 writes_more {written = written} {a = a} {b = b} {x = x} y p = record {
   bytes = AppendsFront-more (written a) (written b) x y p.bytes;
   cause = p.cause;
+  stopped = p.stopped;
 }
 
 -- the same text, written down in another way
-pub writes_same : {P T : Type 0} {written : P → Option (List ℕ)} {faults refusals : P → ℕ} {a b : P} {r : Result T WriteStop} {x y : List ℕ} → x ≡ y → Writes written faults refusals a b r x → Writes written faults refusals a b r y
-writes_same {written = written} {faults = faults} {refusals = refusals} {a = a} {b = b} {r = r} e p = let Goal : List ℕ → Type 0 = λ w. Writes written faults refusals a b r w in subst Goal e p
+pub writes_same : {P T : Type 0} {written stopped_at : P → Option (List ℕ)} {faults refusals : P → ℕ} {a b : P} {r : Result T WriteStop} {x y : List ℕ} → x ≡ y → Writes written stopped_at faults refusals a b r x → Writes written stopped_at faults refusals a b r y
+writes_same {written = written} {stopped_at = stopped_at} {faults = faults} {refusals = refusals} {a = a} {b = b} {r = r} e p = let Goal : List ℕ → Type 0 = λ w. Writes written stopped_at faults refusals a b r w in subst Goal e p
 
 -- nothing is written
-pub writes_nothing : {P T : Type 0} (written : P → Option (List ℕ)) (faults refusals : P → ℕ) (a : P) (done : T) → Writes written faults refusals a a (Ok done) []
-writes_nothing written faults refusals a done = record {
+pub writes_nothing : {P T : Type 0} (written stopped_at : P → Option (List ℕ)) (faults refusals : P → ℕ) (a : P) (done : T) → Writes written stopped_at faults refusals a a (Ok done) []
+writes_nothing written stopped_at faults refusals a done = record {
   bytes = nothing (written a);
   cause = record { later = omega arith; later_refusals = omega arith; failed = λ h. (cc); no_memory = λ h. (cc); no_fault = refl; no_refusal = refl; failed_alone = λ h. refl; wanted_alone = λ h. refl };
+  stopped = refl;
 }
   where
     nothing : (known : Option (List ℕ)) → Appends known known []
@@ -112,5 +116,5 @@ flat_map_around f xs i d inside =
     ∙ ap (flat_map f) (take-append-drop i xs)
 
 -- a stop in the text of one item, after the texts of those before it
-pub writes_item : {P T U X : Type 0} {written : P → Option (List ℕ)} {faults refusals : P → ℕ} {a b c : P} {stop : WriteStop} {done : U} (f : X → List ℕ) (xs : List X) (i : ℕ) (d : X) → i < length xs → Writes written faults refusals a b (Ok done) (flat_map f (take i xs)) → Writes {T = T} written faults refusals b c (Err stop) (f (get_or xs i d)) → Writes {T = T} written faults refusals a c (Err stop) (flat_map f xs)
+pub writes_item : {P T U X : Type 0} {written stopped_at : P → Option (List ℕ)} {faults refusals : P → ℕ} {a b c : P} {stop : WriteStop} {done : U} (f : X → List ℕ) (xs : List X) (i : ℕ) (d : X) → i < length xs → Writes written stopped_at faults refusals a b (Ok done) (flat_map f (take i xs)) → Writes {T = T} written stopped_at faults refusals b c (Err stop) (f (get_or xs i d)) → Writes {T = T} written stopped_at faults refusals a c (Err stop) (flat_map f xs)
 writes_item f xs i d inside so_far stopped = writes_same (flat_map_around f xs i d inside) (writes_more (flat_map f (drop (suc i) xs)) (writes_then so_far stopped))

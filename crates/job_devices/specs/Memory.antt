@@ -1,5 +1,5 @@
 -- What callers see of the devices in memory.
-use Rattle.std.specs.Prelude.{ℕ, List, drop}
+use Rattle.std.specs.Prelude.{ℕ, List, Option, drop, take, option_map}
 use Rattle.job_devices.specs.declared.memory.MemorySource.{MemorySource}
 use Rattle.job_devices.specs.declared.memory.MemorySink.{MemorySink}
 use Rattle.job_devices.specs.declared.memory.SureSource.{SureSource}
@@ -49,6 +49,14 @@ writes_failed sink = sink.faults
 abbrev pub writes_refused : MemorySink → ℕ
 writes_refused sink = sink.refusals
 
+-- what was written when a write last stopped
+abbrev pub sink_stopped : MemorySink → Option (List ℕ)
+sink_stopped sink = option_map (λ count. take count sink.bytes.items) sink.stopped
+
 -- what was written to a sink that never fails
 abbrev pub sure_bytes : SureSink → List ℕ
 sure_bytes sink = sink.bytes.items
+
+-- what was written when a write to it last found no memory
+abbrev pub sure_stopped : SureSink → Option (List ℕ)
+sure_stopped sink = option_map (λ count. take count sink.bytes.items) sink.stopped

@@ -2,7 +2,7 @@
 ghost use Rattle.std.specs.Prelude.{◌≡◌, ◌<◌, ◌≤◌, List, ℕ, Option, [], length, IfOk, OnOk, OnErr, IsErrOf};
 ghost use Rattle.std.specs.Io.{ReadsAtMost, WritesAtMost};
 ghost use Rattle.std.specs.Io.KnownBytes.{ReadConsumes, WriteAppends};
-ghost use Rattle.job_devices.specs.Causes.{HasReadCause, HasWriteCause};
+ghost use Rattle.job_devices.specs.Causes.{HasReadCause, HasWriteCause, KeepsStop};
 ghost use Rattle.job_devices.specs.Text.{Writes, text_of_pieces};
 
 use std::alloc::AllocError;
@@ -64,6 +64,9 @@ pub trait Sink {
     /// How often a write found no memory.
     ghost refusals: { Self → ℕ };
 
+    /// What was written when a write last stopped, where one has and the sink tells it.
+    ghost stopped_at: { Self → Option (List ℕ) };
+
     /// Appends bytes from the front of the piece and says how many. 0 is only for an empty piece.
     ///
     /// A write that stops appends nothing, and the count of its cause has risen.
@@ -72,12 +75,14 @@ pub trait Sink {
         ensures some { IfOk result (λ taken. taken ≡ 0 → length piece.now ≡ 0) }
         ensures bytes { WriteAppends (written self.old) (written self.new) result piece.now }
         ensures cause { HasWriteCause (faults self.old) (faults self.new) (refusals self.old)
-            (refusals self.new) result };
+            (refusals self.new) result }
+        ensures stopped { KeepsStop (stopped_at self.old) (stopped_at self.new)
+            (written self.new) result };
 }
 
 /// Writes the whole piece, in as many writes as the sink wants. At a stop a front of it is written.
 pub fn put_all<P: Sink>(sink: &mut P, piece: &[u8]) -> Result<(), WriteStop>
-    ensures { Writes P.written P.faults P.refusals sink.old sink.new result piece.now }
+    ensures { Writes P.written P.stopped_at P.faults P.refusals sink.old sink.new result piece.now }
 {
     let mut rest = piece;
     while !rest.is_empty() {
@@ -89,7 +94,7 @@ pub fn put_all<P: Sink>(sink: &mut P, piece: &[u8]) -> Result<(), WriteStop>
 
 /// Writes some pieces, one after the other. At a stop a front of all of them is written.
 pub fn put_each<P: Sink>(sink: &mut P, pieces: &[&[u8]]) -> Result<(), WriteStop>
-    ensures { Writes P.written P.faults P.refusals sink.old sink.new result
+    ensures { Writes P.written P.stopped_at P.faults P.refusals sink.old sink.new result
         (text_of_pieces pieces.now) }
 {
     for piece in pieces {

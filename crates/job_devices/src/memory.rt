@@ -1,5 +1,6 @@
 // Sources and sinks in memory, for tests and for whoever has the whole job at hand.
 ghost use Rattle.std.specs.Prelude.{◌≡◌, ◌↔◌, ◌<◌, ◌≤◌, ◌-◌, ◌^◌, [], ◌++◌, List, Option, Some, length, take, min, if◌then◌else◌, is_err, Contains, IfOk, IsOk, OnOk, OnErr, IsErr, IsErrOf};
+ghost use Rattle.std.specs.Option.{ForSome};
 ghost use Rattle.std.specs.Io.{ReadsAtMost, WritesAtMost};
 ghost use Rattle.std.specs.Io.KnownBytes.{ReadConsumes, WriteAppends};
 
@@ -35,6 +36,8 @@ pub struct MemorySink {
     writes: u64,
     faults: u64,
     refusals: u64,
+    stopped: Option<usize>,
+    ghost written: { ForSome stopped (λ count. count ≤ length bytes.items) },
 }
 
 /// Keeps what is written, and fails only for want of memory.
@@ -42,6 +45,8 @@ pub struct MemorySink {
 pub struct SureSink {
     bytes: Vec<u8>,
     refusals: u64,
+    stopped: Option<usize>,
+    ghost written: { ForSome stopped (λ count. count ≤ length bytes.items) },
 }
 
 // Copies as much of the front as there is room for, but no more than `most` bytes, and says how much.
@@ -162,7 +167,7 @@ impl Source for SureSource {
 }
 
 impl MemorySink {
-    ghost use Rattle.job_devices.specs.Memory.{sink_bytes, failing_writes, writes_made, writes_failed};
+    ghost use Rattle.job_devices.specs.Memory.{sink_bytes, failing_writes, writes_made, writes_failed, writes_refused};
 
     /// A sink that holds nothing yet, whose writes with these numbers fail.
     pub fn new(alloc: Global, fails: &[u64]) -> Result<MemorySink, NoMemory>
@@ -170,6 +175,7 @@ impl MemorySink {
         ensures fails { IfOk result (λ sink. failing_writes sink ≡ fails.now) }
         ensures writes { IfOk result (λ sink. writes_made sink ≡ 0) }
         ensures faults { IfOk result (λ sink. writes_failed sink ≡ 0) }
+        ensures refusals { IfOk result (λ sink. writes_refused sink ≡ 0) }
     {
         Ok(MemorySink {
             bytes: Vec::new(alloc),
@@ -177,6 +183,7 @@ impl MemorySink {
             writes: 0,
             faults: 0,
             refusals: 0,
+            stopped: None,
         })
     }
 
@@ -189,14 +196,16 @@ impl MemorySink {
 }
 
 impl Sink for MemorySink {
-    ghost use Rattle.job_devices.specs.Causes.{HasWriteCause, next_count};
-    ghost use Rattle.job_devices.specs.Memory.{sink_bytes, failing_writes, writes_made, writes_failed, writes_refused};
+    ghost use Rattle.job_devices.specs.Causes.{HasWriteCause, KeepsStop, next_count};
+    ghost use Rattle.job_devices.specs.Memory.{sink_bytes, failing_writes, writes_made, writes_failed, writes_refused, sink_stopped};
 
     ghost written = { λ s. Some (sink_bytes s) };
 
     ghost faults = { λ s. writes_failed s };
 
     ghost refusals = { λ s. writes_refused s };
+
+    ghost stopped_at = { λ s. sink_stopped s };
 
     fn write(&mut self, piece: &[u8]) -> Result<usize, WriteStop>
         ensures bound { WritesAtMost result piece.now }
@@ -205,6 +214,8 @@ impl Sink for MemorySink {
             result piece.now }
         ensures cause { HasWriteCause (writes_failed self.old) (writes_failed self.new)
             (writes_refused self.old) (writes_refused self.new) result }
+        ensures stopped { KeepsStop (sink_stopped self.old) (sink_stopped self.new)
+            (Some (sink_bytes self.new)) result }
 
         // The listed writes fail, and no others.
         ensures listed { IsErrOf result WriteStop.Failed ↔ Contains (failing_writes self.old)
@@ -215,14 +226,22 @@ impl Sink for MemorySink {
             (writes_failed self.old) }
         ensures others { (IsErrOf result WriteStop.Failed → ⊥) → writes_failed self.new ≡
             writes_failed self.old }
+
+        // Where it found no memory that is counted, and else nowhere.
+        ensures refused { IsErrOf result WriteStop.NoMemory → writes_refused self.new ≡ next_count
+            (writes_refused self.old) }
+        ensures unrefused { (IsErrOf result WriteStop.NoMemory → ⊥) → writes_refused self.new ≡
+            writes_refused self.old }
     {
         self.writes = self.writes.saturating_add(1);
         if self.fails.contains(&self.writes) {
             self.faults = self.faults.saturating_add(1);
+            self.stopped = Some(self.bytes.len());
             return Err(WriteStop::Failed);
         }
         if self.bytes.extend_from_slice(piece).is_err() {
             self.refusals = self.refusals.saturating_add(1);
+            self.stopped = Some(self.bytes.len());
             return Err(WriteStop::NoMemory);
         }
         Ok(piece.len())
@@ -240,6 +259,7 @@ impl SureSink {
         Ok(SureSink {
             bytes: Vec::new(alloc),
             refusals: 0,
+            stopped: None,
         })
     }
 
@@ -252,7 +272,7 @@ impl SureSink {
 }
 
 impl Sink for SureSink {
-    ghost use Rattle.job_devices.specs.Memory.{sure_bytes};
+    ghost use Rattle.job_devices.specs.Memory.{sure_bytes, sure_stopped};
 
     ghost written = { λ s. Some (sure_bytes s) };
 
@@ -260,9 +280,12 @@ impl Sink for SureSink {
 
     ghost refusals = { λ s. s.refusals };
 
+    ghost stopped_at = { λ s. sure_stopped s };
+
     fn write(&mut self, piece: &[u8]) -> Result<usize, WriteStop> {
         if self.bytes.extend_from_slice(piece).is_err() {
             self.refusals = self.refusals.saturating_add(1);
+            self.stopped = Some(self.bytes.len());
             return Err(WriteStop::NoMemory);
         }
         Ok(piece.len())

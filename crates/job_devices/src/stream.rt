@@ -77,7 +77,7 @@ impl<W: Write> StreamSink<W> {
 }
 
 impl<W: Write> Sink for StreamSink<W> {
-    ghost use Rattle.job_devices.specs.Causes.{HasWriteCause, next_count};
+    ghost use Rattle.job_devices.specs.Causes.{HasWriteCause, KeepsStop, next_count};
     ghost use Rattle.job_devices.specs.Stream.{stream_writer, stream_write_faults};
 
     ghost written = { λ _. None };
@@ -86,12 +86,15 @@ impl<W: Write> Sink for StreamSink<W> {
 
     ghost refusals = { λ _. 0 };
 
+    ghost stopped_at = { λ _. None };
+
     fn write(&mut self, piece: &[u8]) -> Result<usize, WriteStop>
         ensures bound { WritesAtMost result piece.now }
         ensures some { IfOk result (λ taken. taken ≡ 0 → length piece.now ≡ 0) }
         ensures bytes { WriteAppends None None result piece.now }
         ensures cause { HasWriteCause (stream_write_faults self.old)
             (stream_write_faults self.new) 0 0 result }
+        ensures stopped { KeepsStop None None None result }
 
         // The writer holds the bytes that were taken. After a fault it may hold some too, where its flush failed.
         ensures writer { MatchResult result

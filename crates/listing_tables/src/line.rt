@@ -53,7 +53,7 @@ fn at_word(at: At) -> &'static [u8]
 
 // A value after a blank.
 fn put_value<P: Sink>(print: &mut P, value: Value) -> Result<(), WriteStop>
-    ensures { Writes P.written P.faults P.refusals print.old print.new result
+    ensures { Writes P.written P.stopped_at P.faults P.refusals print.old print.new result
         (value_after_blank value) }
 {
     match value {
@@ -69,7 +69,7 @@ fn put_value<P: Sink>(print: &mut P, value: Value) -> Result<(), WriteStop>
 
 // Each value after a blank.
 fn put_values<P: Sink>(print: &mut P, values: &[Value]) -> Result<(), WriteStop>
-    ensures { Writes P.written P.faults P.refusals print.old print.new result
+    ensures { Writes P.written P.stopped_at P.faults P.refusals print.old print.new result
         (flat_map value_after_blank values.now) }
 {
     for value in values {
@@ -80,7 +80,7 @@ fn put_values<P: Sink>(print: &mut P, values: &[Value]) -> Result<(), WriteStop>
 
 // The number and the name.
 fn put_line_head<P: Sink>(print: &mut P, number: u32, name: Name) -> Result<(), WriteStop>
-    ensures { Writes P.written P.faults P.refusals print.old print.new result
+    ensures { Writes P.written P.stopped_at P.faults P.refusals print.old print.new result
         (concat (number5 number ∷ codes " " ∷ name8 name ∷ [])) }
 {
     let mut buffer = Buffer::new();
@@ -105,7 +105,7 @@ pub fn put_line<P: Sink>(
     name: Name,
     values: &[Value],
 ) -> Result<(), WriteStop>
-    ensures { Writes P.written P.faults P.refusals print.old print.new result
+    ensures { Writes P.written P.stopped_at P.faults P.refusals print.old print.new result
         (line_text (record { number = number; name = name; values = map value_shown values.now })) }
 {
     put_line_head(print, number, name)?;

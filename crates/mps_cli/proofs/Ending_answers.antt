@@ -21,14 +21,14 @@ use Rattle.mps_cli.specs.Endings.{EndsWith, printed, cut_off}
 
 -- ---- the end is printed, or cut off
 
-module _ {P : Type 0} (written : P → Option (List ℕ)) (faults refusals : P → ℕ) {old new : P} (shown : Ending) (stop : EarlyStop) (same : shown ≡ stop_shown stop) where
-  pub end_printed : (status : Status) → status ≡ status_at stop → Writes {T = Unit {0}} written faults refusals old new (Ok tt) (ending_text shown) →
-      EndsWith written faults refusals old new stop status
-  end_printed status is writes = printed is (subst (λ (e : Ending). Writes {T = Unit {0}} written faults refusals old new (Ok tt) (ending_text e)) same writes)
+module _ {P : Type 0} (written stopped_at : P → Option (List ℕ)) (faults refusals : P → ℕ) {old new : P} (shown : Ending) (stop : EarlyStop) (same : shown ≡ stop_shown stop) where
+  pub end_printed : (status : Status) → status ≡ status_at stop → Writes {T = Unit {0}} written stopped_at faults refusals old new (Ok tt) (ending_text shown) →
+      EndsWith written stopped_at faults refusals old new stop status
+  end_printed status is writes = printed is (subst (λ (e : Ending). Writes {T = Unit {0}} written stopped_at faults refusals old new (Ok tt) (ending_text e)) same writes)
 
-  pub end_cut : (cause : WriteStop) (status : Status) → status ≡ cut_status cause → Writes {T = Unit {0}} written faults refusals old new (Err cause) (ending_text shown) →
-      EndsWith written faults refusals old new stop status
-  end_cut cause status is writes = cut_off cause is (subst (λ (e : Ending). Writes {T = Unit {0}} written faults refusals old new (Err cause) (ending_text e)) same writes)
+  pub end_cut : (cause : WriteStop) (status : Status) → status ≡ cut_status cause → Writes {T = Unit {0}} written stopped_at faults refusals old new (Err cause) (ending_text shown) →
+      EndsWith written stopped_at faults refusals old new stop status
+  end_cut cause status is writes = cut_off cause is (subst (λ (e : Ending). Writes {T = Unit {0}} written stopped_at faults refusals old new (Err cause) (ending_text e)) same writes)
 
 -- ---- nothing is punched
 
@@ -75,9 +75,9 @@ module _ (S : Solving) (job : Job) (failures : Failures) (stop : EarlyStop) (may
     ended_early Failed is failed wanted front = (front.0, [], front.2, keeps punch, print_fails (failed refl) (ap code_of is) (cut (code_of status) front.0 front.1.0 front.1.1))
     ended_early NoMemory is failed wanted front = (front.0, [], front.2, keeps punch, print_wants_memory (wanted refl) (ap code_of is) (cut (code_of status) front.0 front.1.0 front.1.1))
 
-  pub ending_answer : {P : Type 0} (written : P → Option (List ℕ)) (faults refusals : P → ℕ) {old new : P} (punch : Option (List ℕ)) (status : Status) →
-      (Rose (faults old) (faults new) → failures.print) → (Rose (refusals old) (refusals new) → failures.memory) → EndsWith written faults refusals old new stop status →
+  pub ending_answer : {P : Type 0} (written stopped_at : P → Option (List ℕ)) (faults refusals : P → ℕ) {old new : P} (punch : Option (List ℕ)) (status : Status) →
+      (Rose (faults old) (faults new) → failures.print) → (Rose (refusals old) (refusals new) → failures.memory) → EndsWith written stopped_at faults refusals old new stop status →
       IsAnswered S job failures (code_of status) (Appends (written old) (written new)) (Appends punch punch)
-  ending_answer written faults refusals {old} {new} punch status failed wanted (printed is writes) = ended (written old) (written new) punch status is writes.bytes
-  ending_answer written faults refusals {old} {new} punch status failed wanted (cut_off cause is writes) =
+  ending_answer written stopped_at faults refusals {old} {new} punch status failed wanted (printed is writes) = ended (written old) (written new) punch status is writes.bytes
+  ending_answer written stopped_at faults refusals {old} {new} punch status failed wanted (cut_off cause is writes) =
       ended_early (written old) (written new) punch status cause is (λ e. failed (writes.cause.failed (ap (λ s. Err s) e))) (λ e. wanted (writes.cause.no_memory (ap (λ s. Err s) e))) writes.bytes

@@ -68,22 +68,22 @@ module _ (P : Job → Type 0) (asked : Option Request) (told : Option (List ℕ)
 -- ---- the four ways in which a job goes
 
 module _ (asked : Option Request) (told : Option (List ℕ)) (status : Status) where
-  module _ {P : Type 0} (written : P → Option (List ℕ)) (faults refusals : P → ℕ) {old new : P} (read_failed punch_failed : Type 0) (punch : Option (List ℕ)) where
+  module _ {P : Type 0} (written stopped_at : P → Option (List ℕ)) (faults refusals : P → ℕ) {old new : P} (read_failed punch_failed : Type 0) (punch : Option (List ℕ)) where
     -- the words are refused
-    words_headline : asked ≡ None → EndsWith written faults refusals old new Words status → (job : Job) → IsAsked asked told job →
+    words_headline : asked ≡ None → EndsWith written stopped_at faults refusals old new Words status → (job : Job) → IsAsked asked told job →
         IsTrueAnswer linear_programming job (record { read = read_failed; print = Rose (faults old) (faults new); punch = punch_failed; memory = Rose (refusals old) (refusals new) })
         (code_of status) (Appends (written old) (written new)) (Appends punch punch)
     words_headline none ends =
-        by_words _ asked told none (true_answer (ending_answer linear_programming WithoutBytes _ Words (words_refused refl) written faults refusals punch status (λ e. e) (λ e. e) ends))
+        by_words _ asked told none (true_answer (ending_answer linear_programming WithoutBytes _ Words (words_refused refl) written stopped_at faults refusals punch status (λ e. e) (λ e. e) ends))
 
     -- memory is wanted while the words are read
-    memory_headline : EndsWith written faults refusals old new Memory status → (job : Job) → IsAsked asked told job →
+    memory_headline : EndsWith written stopped_at faults refusals old new Memory status → (job : Job) → IsAsked asked told job →
         IsTrueAnswer linear_programming job (record { read = read_failed; print = Rose (faults old) (faults new); punch = punch_failed; memory = Rose (refusals old) (refusals new) })
         (code_of status) (Appends (written old) (written new)) (Appends punch punch)
-    memory_headline ends job is = true_answer (ending_answer linear_programming job _ Memory memory_at_start written faults refusals punch status (λ e. e) (λ e. e) ends)
+    memory_headline ends job is = true_answer (ending_answer linear_programming job _ Memory memory_at_start written stopped_at faults refusals punch status (λ e. e) (λ e. e) ends)
 
     -- the words ask for nothing
-    pub stopped_headline : (stop : WordsStop) → (stop ≡ stops.Refused → asked ≡ None) → EndsWith written faults refusals old new (stop_of_words stop) status → (job : Job) → IsAsked asked told job →
+    pub stopped_headline : (stop : WordsStop) → (stop ≡ stops.Refused → asked ≡ None) → EndsWith written stopped_at faults refusals old new (stop_of_words stop) status → (job : Job) → IsAsked asked told job →
         IsTrueAnswer linear_programming job (record { read = read_failed; print = Rose (faults old) (faults new); punch = punch_failed; memory = Rose (refusals old) (refusals new) })
         (code_of status) (Appends (written old) (written new)) (Appends punch punch)
     stopped_headline stops.Refused are_refused ends = words_headline (are_refused refl) ends

@@ -51,11 +51,11 @@ module _ (asked : Option Request) (read_failed is_read : Type 0) where
   cut_cause print_failed punch_failed GainsFrontOf stop is NoMemory failed front = tt
 
   -- of a job whose listing is the end of a stop alone
-  pub ending_cause : (punch_failed : Type 0) {P : Type 0} (written : P → Option (List ℕ)) (faults refusals : P → ℕ) {old new : P} (stop : EarlyStop) (ended : Status) → IsWhy stop → EndsWith written faults refusals old new stop ended →
+  pub ending_cause : (punch_failed : Type 0) {P : Type 0} (written stopped_at : P → Option (List ℕ)) (faults refusals : P → ℕ) {old new : P} (stop : EarlyStop) (ended : Status) → IsWhy stop → EndsWith written stopped_at faults refusals old new stop ended →
       HasCause asked read_failed is_read (Rose (faults old) (faults new)) punch_failed (AppendsFront (written old) (written new)) ended
-  ending_cause punch_failed written faults refusals {old} {new} stop ended is (printed same writes) =
+  ending_cause punch_failed written stopped_at faults refusals {old} {new} stop ended is (printed same writes) =
       subst (HasCause asked read_failed is_read (Rose (faults old) (faults new)) punch_failed (AppendsFront (written old) (written new))) (sym same) (printed_cause _ _ _ stop is)
-  ending_cause punch_failed written faults refusals {old} {new} stop ended is (cut_off cause same writes) =
+  ending_cause punch_failed written stopped_at faults refusals {old} {new} stop ended is (cut_off cause same writes) =
       subst (HasCause asked read_failed is_read (Rose (faults old) (faults new)) punch_failed (AppendsFront (written old) (written new))) (sym same)
       (cut_cause _ _ _ stop is cause (λ e. writes.cause.failed (ap (λ s. Err s) e)) writes.bytes)
 

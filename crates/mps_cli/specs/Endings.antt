@@ -10,8 +10,8 @@ use Rattle.mps_cli.specs.declared.stop.EarlyStop.{EarlyStop}
 use Rattle.mps_cli.specs.Stops.{stop_shown, status_at}
 
 -- The line of the stop is printed, and the status is its own; or the print stops in it.
-pub data EndsWith {P : Type 0} (written : P → Option (List ℕ)) (faults refusals : P → ℕ) (old new : P) (stop : EarlyStop) (status : Status) : Type 0 where
-  printed : status ≡ status_at stop → Writes {T = Unit {0}} written faults refusals old new (Ok tt) (ending_text (stop_shown stop)) →
-      EndsWith written faults refusals old new stop status
+pub data EndsWith {P : Type 0} (written stopped_at : P → Option (List ℕ)) (faults refusals : P → ℕ) (old new : P) (stop : EarlyStop) (status : Status) : Type 0 where
+  printed : status ≡ status_at stop → Writes {T = Unit {0}} written stopped_at faults refusals old new (Ok tt) (ending_text (stop_shown stop)) →
+      EndsWith written stopped_at faults refusals old new stop status
   cut_off : (cause : WriteStop) → status ≡ cut_status cause →
-      Writes {T = Unit {0}} written faults refusals old new (Err cause) (ending_text (stop_shown stop)) → EndsWith written faults refusals old new stop status
+      Writes {T = Unit {0}} written stopped_at faults refusals old new (Err cause) (ending_text (stop_shown stop)) → EndsWith written stopped_at faults refusals old new stop status

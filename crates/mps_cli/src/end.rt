@@ -20,7 +20,7 @@ fn status_of_cut(stop: WriteStop) -> Status
 
 /// Prints a listing that has this end alone, and answers how the job ended. A stop of the print comes before it.
 pub fn end_job<P: Sink>(print: &mut P, stop: EarlyStop) -> Status
-    ensures { EndsWith P.written P.faults P.refusals print.old print.new stop result }
+    ensures { EndsWith P.written P.stopped_at P.faults P.refusals print.old print.new stop result }
 {
     match text_of(&Report::End(stop.ending()), print) {
         Ok(()) => stop.status(),

@@ -16,7 +16,7 @@ use listing_tables::decimal;
 
 // The code of a run that ends by itself.
 fn put_code<P: Sink>(print: &mut P, code: u8) -> Result<(), WriteStop>
-    ensures { Writes P.written P.faults P.refusals print.old print.new result
+    ensures { Writes P.written P.stopped_at P.faults P.refusals print.old print.new result
         (ending_text (endings.Ended code)) }
 {
     let mut digits = Buffer::new();
@@ -37,7 +37,7 @@ fn put_fault<P: Sink>(
     fault: u8,
     card: u32,
 ) -> Result<(), WriteStop>
-    ensures { Writes P.written P.faults P.refusals print.old print.new result
+    ensures { Writes P.written P.stopped_at P.faults P.refusals print.old print.new result
         (concat (refused.now ∷ fault_text fault card ∷ codes "\n" ∷ [])) }
 {
     let mut fault_digits = Buffer::new();
@@ -58,7 +58,7 @@ fn put_fault<P: Sink>(
 // A statement that is refused, by the number of its fault.
 fn put_verb_fault<P: Sink>(print: &mut P, fault: u8, card: u32) -> Result<(), WriteStop>
     requires { IsVerbFault fault }
-    ensures { Writes P.written P.faults P.refusals print.old print.new result
+    ensures { Writes P.written P.stopped_at P.faults P.refusals print.old print.new result
         (ending_text (endings.VerbStop (record { fault = verb_fault fault; card = card }))) }
 {
     put_fault(print, b"STOP 10 VERB ", fault, card)
@@ -67,7 +67,7 @@ fn put_verb_fault<P: Sink>(print: &mut P, fault: u8, card: u32) -> Result<(), Wr
 // The cards of the job are refused.
 fn put_card_fault<P: Sink>(print: &mut P, fault: u8, card: Option<u32>) -> Result<(), WriteStop>
     requires { IsCardFault fault card }
-    ensures { Writes P.written P.faults P.refusals print.old print.new result
+    ensures { Writes P.written P.stopped_at P.faults P.refusals print.old print.new result
         (ending_text (endings.CardStop (card_fault fault card))) }
 {
     match card {
@@ -103,7 +103,7 @@ fn put_deck_fault<P: Sink>(
     number: Option<u8>,
     column: Option<u8>,
 ) -> Result<(), WriteStop>
-    ensures { Writes P.written P.faults P.refusals print.old print.new result
+    ensures { Writes P.written P.stopped_at P.faults P.refusals print.old print.new result
         (concat (refused.now ∷ fault_text fault card ∷ labelled (codes " NUMBER ") number ∷ labelled
         (codes " COLUMN ") column ∷ codes "\n" ∷ [])) }
 {
@@ -133,7 +133,7 @@ fn put_limit<P: Sink>(
     limit: u32,
     card: u32,
 ) -> Result<(), WriteStop>
-    ensures { Writes P.written P.faults P.refusals print.old print.new result
+    ensures { Writes P.written P.stopped_at P.faults P.refusals print.old print.new result
         (concat (reached.now ∷ digits limit ∷ codes " CARD " ∷ digits card ∷ codes "\n" ∷ [])) }
 {
     let mut limit_digits = Buffer::new();
@@ -153,7 +153,7 @@ fn put_limit<P: Sink>(
 /// Writes the lines of an end.
 pub fn put_ending<P: Sink>(print: &mut P, ending: Ending<'_>) -> Result<(), WriteStop>
     requires { IsEnding ending }
-    ensures { Writes P.written P.faults P.refusals print.old print.new result
+    ensures { Writes P.written P.stopped_at P.faults P.refusals print.old print.new result
         (ending_text (ending_shown ending.entry)) }
 {
     match ending {

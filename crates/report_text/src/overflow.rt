@@ -19,7 +19,7 @@ fn put_evidence_head<P: Sink>(
     stop: &'static [u8],
     evidence: &Evidence,
 ) -> Result<(), WriteStop>
-    ensures { Writes P.written P.faults P.refusals print.old print.new result
+    ensures { Writes P.written P.stopped_at P.faults P.refusals print.old print.new result
         (concat (stop.now ∷ digits evidence.now.formula ∷ codes " " ∷ refused_text
         evidence.now.refused ∷ [])) }
 {
@@ -47,7 +47,7 @@ fn put_evidence_tail<P: Sink>(
     evidence: &Evidence,
     card: u32,
 ) -> Result<(), WriteStop>
-    ensures { Writes P.written P.faults P.refusals print.old print.new result
+    ensures { Writes P.written P.stopped_at P.faults P.refusals print.old print.new result
         (concat (evidence_tail evidence.now ∷ codes " CARD " ∷ digits card ∷ codes "\n" ∷ [])) }
 {
     let mut p_digits = Buffer::new();
@@ -112,7 +112,7 @@ impl Lettered for bool {
 
 // A letter for each variable.
 fn put_letters<T: Lettered, P: Sink>(print: &mut P, items: &[T]) -> Result<(), WriteStop>
-    ensures { Writes P.written P.faults P.refusals print.old print.new result
+    ensures { Writes P.written P.stopped_at P.faults P.refusals print.old print.new result
         (flat_map (letters_of T.letter_of) items.now) }
 {
     for item in items {
@@ -127,7 +127,7 @@ fn put_letter_line<T: Lettered, P: Sink>(
     word: &'static [u8],
     items: &[T],
 ) -> Result<(), WriteStop>
-    ensures { Writes P.written P.faults P.refusals print.old print.new result
+    ensures { Writes P.written P.stopped_at P.faults P.refusals print.old print.new result
         (letter_line word.now T.letter_of items.now) }
 {
     put_all(print, word)?;
@@ -141,7 +141,7 @@ fn put_letter_lines<P: Sink>(
     statuses: &[Status],
     way: &[bool],
 ) -> Result<(), WriteStop>
-    ensures { Writes P.written P.faults P.refusals print.old print.new result
+    ensures { Writes P.written P.stopped_at P.faults P.refusals print.old print.new result
         (letter_line (codes "BASIS ") status_letter statuses.now ++ letter_line (codes "WAY ")
         basic_letter way.now) }
 {
@@ -151,7 +151,7 @@ fn put_letter_lines<P: Sink>(
 
 // The same lines, where there is a basis.
 fn put_place<P: Sink>(print: &mut P, basis: Option<&Basis>, way: &[bool]) -> Result<(), WriteStop>
-    ensures { Writes P.written P.faults P.refusals print.old print.new result
+    ensures { Writes P.written P.stopped_at P.faults P.refusals print.old print.new result
         (place_text (place_shown basis.entry way.now)) }
 {
     match basis {
@@ -168,7 +168,7 @@ pub fn put_overflow<P: Sink>(
     way: &[bool],
     card: u32,
 ) -> Result<(), WriteStop>
-    ensures { Writes P.written P.faults P.refusals print.old print.new result
+    ensures { Writes P.written P.stopped_at P.faults P.refusals print.old print.new result
         (overflow_text (record {
           evidence = evidence.now;
           place = place_shown basis.entry way.now;

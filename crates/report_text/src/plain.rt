@@ -11,7 +11,7 @@ use lp_definitions::Sense;
 use name_table::Name;
 
 pub fn put_title<P: Sink>(print: &mut P, text: &[u8]) -> Result<(), WriteStop>
-    ensures { Writes P.written P.faults P.refusals print.old print.new result
+    ensures { Writes P.written P.stopped_at P.faults P.refusals print.old print.new result
         (report_text (reports.Titled text.now)) }
 {
     put_each(print, &[b"TITLE ", text, b"\n"])
@@ -26,7 +26,7 @@ fn put_filed<P: Sink>(
     columns: u32,
     entries: u32,
 ) -> Result<(), WriteStop>
-    ensures { Writes P.written P.faults P.refusals print.old print.new result
+    ensures { Writes P.written P.stopped_at P.faults P.refusals print.old print.new result
         (filed_text word.now (record {
           name = name;
           rows = rows;
@@ -64,7 +64,7 @@ pub fn put_converted<P: Sink>(
     columns: u32,
     entries: u32,
 ) -> Result<(), WriteStop>
-    ensures { Writes P.written P.faults P.refusals print.old print.new result
+    ensures { Writes P.written P.stopped_at P.faults P.refusals print.old print.new result
         (report_text (reports.Converted
         (record { name = name; rows = rows; columns = columns; entries = entries }))) }
 {
@@ -78,7 +78,7 @@ pub fn put_revised<P: Sink>(
     columns: u32,
     entries: u32,
 ) -> Result<(), WriteStop>
-    ensures { Writes P.written P.faults P.refusals print.old print.new result
+    ensures { Writes P.written P.stopped_at P.faults P.refusals print.old print.new result
         (report_text (reports.Revised (record {
           name = name;
           rows = rows;
@@ -91,7 +91,7 @@ pub fn put_revised<P: Sink>(
 }
 
 pub fn put_setup<P: Sink>(print: &mut P, name: Name, sense: Sense) -> Result<(), WriteStop>
-    ensures { Writes P.written P.faults P.refusals print.old print.new result
+    ensures { Writes P.written P.stopped_at P.faults P.refusals print.old print.new result
         (report_text (reports.SetUp name sense)) }
 {
     let letters = name.bytes();
@@ -109,7 +109,7 @@ pub fn put_setup<P: Sink>(print: &mut P, name: Name, sense: Sense) -> Result<(),
 }
 
 pub fn put_punched<P: Sink>(print: &mut P, name: Name, cards: u32) -> Result<(), WriteStop>
-    ensures { Writes P.written P.faults P.refusals print.old print.new result
+    ensures { Writes P.written P.stopped_at P.faults P.refusals print.old print.new result
         (report_text (reports.Punched name cards)) }
 {
     let mut card_digits = Buffer::new();

@@ -17,7 +17,7 @@ fn put_limit_rows<P: Sink>(
     ranging: Ranging<'_>,
 ) -> Result<(), WriteStop>
     requires { AreRanges sheet ranging }
-    ensures { Writes P.written P.faults P.refusals print.old print.new result (limit_rows_heading ++
+    ensures { Writes P.written P.stopped_at P.faults P.refusals print.old print.new result (limit_rows_heading ++
         table_text (ranges_shown sheet.entry ranging.entry).rows_at_limit) }
 {
     put_all(print, b"SECTION 1 - ROWS AT LIMIT LEVEL\n")?;
@@ -37,7 +37,7 @@ fn put_limit_columns<P: Sink>(
     ranging: Ranging<'_>,
 ) -> Result<(), WriteStop>
     requires { AreRanges sheet ranging }
-    ensures { Writes P.written P.faults P.refusals print.old print.new result (limit_columns_heading
+    ensures { Writes P.written P.stopped_at P.faults P.refusals print.old print.new result (limit_columns_heading
         ++ table_text (ranges_shown sheet.entry ranging.entry).columns_at_limit) }
 {
     put_all(print, b"SECTION 2 - COLUMNS AT LIMIT LEVEL\n")?;
@@ -53,7 +53,7 @@ fn put_between_rows<P: Sink>(
     ranging: Ranging<'_>,
 ) -> Result<(), WriteStop>
     requires { AreRanges sheet ranging }
-    ensures { Writes P.written P.faults P.refusals print.old print.new result (between_rows_heading
+    ensures { Writes P.written P.stopped_at P.faults P.refusals print.old print.new result (between_rows_heading
         ++ table_text (ranges_shown sheet.entry ranging.entry).rows_between) }
 {
     put_all(print, b"SECTION 3 - ROWS AT INTERMEDIATE LEVEL\n")?;
@@ -73,7 +73,7 @@ fn put_between_columns<P: Sink>(
     ranging: Ranging<'_>,
 ) -> Result<(), WriteStop>
     requires { AreRanges sheet ranging }
-    ensures { Writes P.written P.faults P.refusals print.old print.new result
+    ensures { Writes P.written P.stopped_at P.faults P.refusals print.old print.new result
         (between_columns_heading ++ table_text (ranges_shown sheet.entry
         ranging.entry).columns_between) }
 {
@@ -90,7 +90,7 @@ pub fn put_ranges<P: Sink>(
     ranging: Ranging<'_>,
 ) -> Result<(), WriteStop>
     requires { AreRanges sheet ranging }
-    ensures { Writes P.written P.faults P.refusals print.old print.new result (report_text
+    ensures { Writes P.written P.stopped_at P.faults P.refusals print.old print.new result (report_text
         (reports.Ranges (ranges_shown sheet.entry ranging.entry))) }
 {
     put_all(print, b"RANGE\n")?;

@@ -139,7 +139,7 @@ pub enum Ending<'a> {
 /// Writes the text of a report. At a stop a front of it is written.
 pub fn text_of<P: Sink>(report: &Report<'_>, print: &mut P) -> Result<(), WriteStop>
     requires { IsReport report.now }
-    ensures { Writes P.written P.faults P.refusals print.old print.new result
+    ensures { Writes P.written P.stopped_at P.faults P.refusals print.old print.new result
         (text_shown report.now) }
 {
     match *report {

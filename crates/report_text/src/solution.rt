@@ -23,7 +23,7 @@ fn mark_word(mark: Mark) -> &'static [u8]
 }
 
 fn put_mark<P: Sink>(print: &mut P, mark: Mark) -> Result<(), WriteStop>
-    ensures { Writes P.written P.faults P.refusals print.old print.new result
+    ensures { Writes P.written P.stopped_at P.faults P.refusals print.old print.new result
         (concat (codes "SOLUTION " ∷ mark_text mark ∷ codes "\n" ∷ [])) }
 {
     put_each(print, &[b"SOLUTION ", mark_word(mark), b"\n"])
@@ -36,7 +36,7 @@ fn put_rows<P: Sink>(
     standing: Standing<'_>,
 ) -> Result<(), WriteStop>
     requires { IsSolution sheet standing }
-    ensures { Writes P.written P.faults P.refusals print.old print.new result
+    ensures { Writes P.written P.stopped_at P.faults P.refusals print.old print.new result
         (rows_heading ++ table_text (lines_shown sheet.entry standing.entry).rows) }
 {
     put_all(
@@ -53,7 +53,7 @@ fn put_columns<P: Sink>(
     standing: Standing<'_>,
 ) -> Result<(), WriteStop>
     requires { IsSolution sheet standing }
-    ensures { Writes P.written P.faults P.refusals print.old print.new result
+    ensures { Writes P.written P.stopped_at P.faults P.refusals print.old print.new result
         (columns_heading ++ table_text (lines_shown sheet.entry standing.entry).columns) }
 {
     put_all(
@@ -73,7 +73,7 @@ pub fn put_solution<P: Sink>(
     standing: Standing<'_>,
 ) -> Result<(), WriteStop>
     requires { IsSolution sheet standing }
-    ensures { Writes P.written P.faults P.refusals print.old print.new result
+    ensures { Writes P.written P.stopped_at P.faults P.refusals print.old print.new result
         (report_text (reports.Solution mark (lines_shown sheet.entry standing.entry))) }
 {
     put_mark(print, mark)?;

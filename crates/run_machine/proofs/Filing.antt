@@ -124,7 +124,7 @@ module _ (card : ℕ) (cards : List (List ℕ)) (machine : Machine) (wanted : Op
 
 -- ---- the statement
 
-module _ {P : Type 0} (written : P → Option (List ℕ)) (faults refusals : P → ℕ) (verb : DeckVerb) (card : ℕ) (cards : List (List ℕ)) (machine : Machine) where
+module _ {P : Type 0} (written stopped_at : P → Option (List ℕ)) (faults refusals : P → ℕ) (verb : DeckVerb) (card : ℕ) (cards : List (List ℕ)) (machine : Machine) where
   module _ (problem : Problem ℕ) (from_card : ℕ) (file : Filed) (described : IsDescribed linear_programming verb card cards machine problem from_card)
       (put : (name : Name) → filed_under name file ≡ (if same problem.name name then Some problem else filed_under name machine.file)) (last : file.last ≡ Some problem.name) where
     comes_filed : (position executed : ℕ) (state : State) → Stands cards machine position executed state →
@@ -143,12 +143,12 @@ module _ {P : Type 0} (written : P → Option (List ℕ)) (faults refusals : P �
       },
     )
 
-    pub filed_done : {from to : P} → Writes {T = Unit {0}} written faults refusals from to (Ok tt) (report_text (report_of verb (size_of problem))) →
-        Executes linear_programming (verb_of verb) card written faults refusals from to cards machine (record machine { file = file; decks_from = from_card; setup = None; mark = None }) (Ok Next)
-    filed_done writes = loudly linear_programming (verb_of verb) card written faults refusals cards machine (report_of verb (size_of problem)) comes_filed writes
+    pub filed_done : {from to : P} → Writes {T = Unit {0}} written stopped_at faults refusals from to (Ok tt) (report_text (report_of verb (size_of problem))) →
+        Executes linear_programming (verb_of verb) card written stopped_at faults refusals from to cards machine (record machine { file = file; decks_from = from_card; setup = None; mark = None }) (Ok Next)
+    filed_done writes = loudly linear_programming (verb_of verb) card written stopped_at faults refusals cards machine (report_of verb (size_of problem)) comes_filed writes
 
-    pub filed_cut : {from to : P} (new : Machine) (stop : WriteStop) → Writes {T = Unit {0}} written faults refusals from to (Err stop) (report_text (report_of verb (size_of problem))) →
-        Executes linear_programming (verb_of verb) card written faults refusals from to cards machine new (Err (halt.Print stop))
+    pub filed_cut : {from to : P} (new : Machine) (stop : WriteStop) → Writes {T = Unit {0}} written stopped_at faults refusals from to (Err stop) (report_text (report_of verb (size_of problem))) →
+        Executes linear_programming (verb_of verb) card written stopped_at faults refusals from to cards machine new (Err (halt.Print stop))
     filed_cut new stop writes =
-        cut_off linear_programming (verb_of verb) card written faults refusals cards machine new stop (report_of verb (size_of problem))
+        cut_off linear_programming (verb_of verb) card written stopped_at faults refusals cards machine new stop (report_of verb (size_of problem))
         (λ position executed state s. let c = comes_filed position executed state s in (next (Prints (report_of verb (size_of problem))) c.0, c.1, refl)) writes

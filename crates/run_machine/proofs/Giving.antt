@@ -52,28 +52,28 @@ gives_selected card found go lp outcome ok given = subst (λ r. Gives linear_pro
 
 -- ---- with what is printed
 
-module _ (S : Solving) (verb : Verb ℕ) (card : ℕ) {P : Type 0} (written : P → Option (List ℕ)) (faults refusals : P → ℕ) (cards : List (List ℕ)) (old : Machine) where
+module _ (S : Solving) (verb : Verb ℕ) (card : ℕ) {P : Type 0} (written stopped_at : P → Option (List ℕ)) (faults refusals : P → ℕ) (cards : List (List ℕ)) (old : Machine) where
   pub quietly : (print : P) {new : Machine} {act : Act} →
       ((position executed : ℕ) (state : State) → Stands cards old position executed state → Comes S verb card cards position executed state new Nothing act) →
-      Executes S verb card written faults refusals print print cards old new (Ok act)
-  quietly print comes = λ position executed state s. record { gain = Nothing; no_cards = refl; comes = comes position executed state s; writes = writes_nothing written faults refusals print tt }
+      Executes S verb card written stopped_at faults refusals print print cards old new (Ok act)
+  quietly print comes = λ position executed state s. record { gain = Nothing; no_cards = refl; comes = comes position executed state s; writes = writes_nothing written stopped_at faults refusals print tt }
 
   pub loudly : {print_old print_new : P} {new : Machine} {act : Act} (report : Report) →
       ((position executed : ℕ) (state : State) → Stands cards old position executed state → Comes S verb card cards position executed state new (Prints report) act) →
-      Writes {T = Unit {0}} written faults refusals print_old print_new (Ok tt) (report_text report) →
-      Executes S verb card written faults refusals print_old print_new cards old new (Ok act)
+      Writes {T = Unit {0}} written stopped_at faults refusals print_old print_new (Ok tt) (report_text report) →
+      Executes S verb card written stopped_at faults refusals print_old print_new cards old new (Ok act)
   loudly report comes writes = λ position executed state s. record { gain = Prints report; no_cards = refl; comes = comes position executed state s; writes = writes }
 
   -- the report is broken off
   pub cut_off : {print_old print_new : P} (new : Machine) (stop : WriteStop) (report : Report) →
       ((position executed : ℕ) (state : State) → Stands cards old position executed state → (outcome : Outcome) × Gives S card (verb_move verb card state) outcome × (gain_of outcome ≡ Prints report)) →
-      Writes {T = Unit {0}} written faults refusals print_old print_new (Err stop) (report_text report) →
-      Executes S verb card written faults refusals print_old print_new cards old new (Err (halt.Print stop))
+      Writes {T = Unit {0}} written stopped_at faults refusals print_old print_new (Err stop) (report_text report) →
+      Executes S verb card written stopped_at faults refusals print_old print_new cards old new (Err (halt.Print stop))
   cut_off {print_old = print_old} {print_new = print_new} new stop report comes writes = λ position executed state s.
       let t = comes position executed state s in
       record {
         outcome = t.0;
         no_cards = subst (λ (g : Gain). punched_by g ≡ []) (sym t.2) refl;
         gives = t.1;
-        writes = subst (λ (g : Gain). Writes {T = Unit {0}} written faults refusals print_old print_new (Err stop) (gain_text g)) (sym t.2) writes;
+        writes = subst (λ (g : Gain). Writes {T = Unit {0}} written stopped_at faults refusals print_old print_new (Err stop) (gain_text g)) (sym t.2) writes;
       }

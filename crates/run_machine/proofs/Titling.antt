@@ -19,15 +19,15 @@ titles : (text : List ℕ) (card : ℕ) (state : State) → Gives linear_program
 unfolding linear_programming verb_move
 titles text card state = refl
 
-module _ {P : Type 0} (written : P → Option (List ℕ)) (faults refusals : P → ℕ) {print_old print_new : P} (text : List ℕ) (card : ℕ) (cards : List (List ℕ)) (machine : Machine) where
-  pub title_done : (printed : List ℕ) → printed ≡ text → Writes {T = Unit {0}} written faults refusals print_old print_new (Ok tt) (report_text (Titled printed)) →
-      Executes linear_programming (Title text) card written faults refusals print_old print_new cards machine machine (Ok Next)
+module _ {P : Type 0} (written stopped_at : P → Option (List ℕ)) (faults refusals : P → ℕ) {print_old print_new : P} (text : List ℕ) (card : ℕ) (cards : List (List ℕ)) (machine : Machine) where
+  pub title_done : (printed : List ℕ) → printed ≡ text → Writes {T = Unit {0}} written stopped_at faults refusals print_old print_new (Ok tt) (report_text (Titled printed)) →
+      Executes linear_programming (Title text) card written stopped_at faults refusals print_old print_new cards machine machine (Ok Next)
   title_done printed same writes =
-      loudly linear_programming (Title text) card written faults refusals cards machine (Titled text) (λ position executed state s. (state, titles text card state, s))
-      (subst (λ (t : List ℕ). Writes {T = Unit {0}} written faults refusals print_old print_new (Ok tt) (report_text (Titled t))) same writes)
+      loudly linear_programming (Title text) card written stopped_at faults refusals cards machine (Titled text) (λ position executed state s. (state, titles text card state, s))
+      (subst (λ (t : List ℕ). Writes {T = Unit {0}} written stopped_at faults refusals print_old print_new (Ok tt) (report_text (Titled t))) same writes)
 
-  pub title_cut : (stop : WriteStop) (printed : List ℕ) → printed ≡ text → Writes {T = Unit {0}} written faults refusals print_old print_new (Err stop) (report_text (Titled printed)) →
-      Executes linear_programming (Title text) card written faults refusals print_old print_new cards machine machine (Err (halt.Print stop))
+  pub title_cut : (stop : WriteStop) (printed : List ℕ) → printed ≡ text → Writes {T = Unit {0}} written stopped_at faults refusals print_old print_new (Err stop) (report_text (Titled printed)) →
+      Executes linear_programming (Title text) card written stopped_at faults refusals print_old print_new cards machine machine (Err (halt.Print stop))
   title_cut stop printed same writes =
-      cut_off linear_programming (Title text) card written faults refusals cards machine machine stop (Titled text) (λ position executed state s. (next (Prints (Titled text)) state, titles text card state, refl))
-      (subst (λ (t : List ℕ). Writes {T = Unit {0}} written faults refusals print_old print_new (Err stop) (report_text (Titled t))) same writes)
+      cut_off linear_programming (Title text) card written stopped_at faults refusals cards machine machine stop (Titled text) (λ position executed state s. (next (Prints (Titled text)) state, titles text card state, refl))
+      (subst (λ (t : List ℕ). Writes {T = Unit {0}} written stopped_at faults refusals print_old print_new (Err stop) (report_text (Titled t))) same writes)

@@ -21,21 +21,21 @@ use Rattle.run_machine.specs.Statements.{gain_text, gain_of, Comes}
 abbrev pub gain_cards : Gain → List ℕ
 gain_cards gain = card_text (punched_by gain)
 
-module _ (S : Solving) (verb : Verb ℕ) (card : ℕ) {P U : Type 0} (written : P → Option (List ℕ)) (faults refusals : P → ℕ) (print_old print_new : P)
-    (punch_written : U → Option (List ℕ)) (punch_faults punch_refusals : U → ℕ) (punch_old punch_new : U) where
+module _ (S : Solving) (verb : Verb ℕ) (card : ℕ) {P U : Type 0} (written stopped_at : P → Option (List ℕ)) (faults refusals : P → ℕ) (print_old print_new : P)
+    (punch_written punch_stopped_at : U → Option (List ℕ)) (punch_faults punch_refusals : U → ℕ) (punch_old punch_new : U) where
   -- with some gain, which is printed and punched, the statement comes to this act
   pub record ActsWith (cards : List (List ℕ)) (position executed : ℕ) (state : State) (new : Machine) (act : Act) : Type 0 where
     pub gain : Gain
     pub comes : Comes S verb card cards position executed state new gain act
-    pub prints : Writes {T = Unit {0}} written faults refusals print_old print_new (Ok tt) (gain_text gain)
-    pub punches : Writes {T = Unit {0}} punch_written punch_faults punch_refusals punch_old punch_new (Ok tt) (gain_cards gain)
+    pub prints : Writes {T = Unit {0}} written stopped_at faults refusals print_old print_new (Ok tt) (gain_text gain)
+    pub punches : Writes {T = Unit {0}} punch_written punch_stopped_at punch_faults punch_refusals punch_old punch_new (Ok tt) (gain_cards gain)
 
   -- the statement comes to something, and the print stops before all that it gains is printed; what it punches is punched before
   pub record IsPrintCut (state : State) (stop : WriteStop) : Type 0 where
     pub outcome : Outcome
     pub gives : Gives S card (verb_move verb card state) outcome
-    pub prints : Writes {T = Unit {0}} written faults refusals print_old print_new (Err stop) (gain_text (gain_of outcome))
-    pub punches : Writes {T = Unit {0}} punch_written punch_faults punch_refusals punch_old punch_new (Ok tt) (gain_cards (gain_of outcome))
+    pub prints : Writes {T = Unit {0}} written stopped_at faults refusals print_old print_new (Err stop) (gain_text (gain_of outcome))
+    pub punches : Writes {T = Unit {0}} punch_written punch_stopped_at punch_faults punch_refusals punch_old punch_new (Ok tt) (gain_cards (gain_of outcome))
 
   -- the statement would punch this deck and go on, and the punch stops before all of the deck is punched; nothing is printed
   pub record IsPunchCut (state : State) (stop : WriteStop) : Type 0 where
@@ -43,7 +43,7 @@ module _ (S : Solving) (verb : Verb ℕ) (card : ℕ) {P U : Type 0} (written : 
     pub deck : List (List ℕ)
     pub after : State
     pub gives : Gives S card (verb_move verb card state) (Goes (Punches report deck) after)
-    pub punches : Writes {T = Unit {0}} punch_written punch_faults punch_refusals punch_old punch_new (Err stop) (card_text deck)
+    pub punches : Writes {T = Unit {0}} punch_written punch_stopped_at punch_faults punch_refusals punch_old punch_new (Err stop) (card_text deck)
     pub is_quiet : print_new ≡ print_old
 
   -- What a statement does from each state that the machine showed. Where it finds no memory, nothing is printed and nothing is

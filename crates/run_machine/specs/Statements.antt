@@ -52,20 +52,20 @@ module _ (S : Solving) (verb : Verb ℕ) (card : ℕ) where
   Decides old new act =
       (cards : List (List ℕ)) (position executed : ℕ) (state : State) → Stands cards old position executed state → Comes cards position executed state new Nothing act
 
-  module _ {P : Type 0} (written : P → Option (List ℕ)) (faults refusals : P → ℕ) (print_old print_new : P) where
+  module _ {P : Type 0} (written stopped_at : P → Option (List ℕ)) (faults refusals : P → ℕ) (print_old print_new : P) where
     -- with some gain, which is printed, the statement comes to this act
     pub record Acts (cards : List (List ℕ)) (position executed : ℕ) (state : State) (new : Machine) (act : Act) : Type 0 where
       pub gain : Gain
       pub no_cards : punched_by gain ≡ []
       pub comes : Comes cards position executed state new gain act
-      pub writes : Writes {T = Unit {0}} written faults refusals print_old print_new (Ok tt) (gain_text gain)
+      pub writes : Writes {T = Unit {0}} written stopped_at faults refusals print_old print_new (Ok tt) (gain_text gain)
 
     -- the statement comes to something, and the print stops before all that it gains is printed
     pub record IsCutOff (state : State) (stop : WriteStop) : Type 0 where
       pub outcome : Outcome
       pub no_cards : punched_by (gain_of outcome) ≡ []
       pub gives : Gives S card (verb_move verb card state) outcome
-      pub writes : Writes {T = Unit {0}} written faults refusals print_old print_new (Err stop) (gain_text (gain_of outcome))
+      pub writes : Writes {T = Unit {0}} written stopped_at faults refusals print_old print_new (Err stop) (gain_text (gain_of outcome))
 
     -- What a statement that punches nothing does from each state that the machine showed. Where it finds no memory, nothing is
     -- printed.

@@ -24,8 +24,8 @@ impl<E: Engine> Machine<Setup<E>> {
         card: u32,
     ) -> Result<Act, Halt>
         ensures { (cards : List (List ℕ)) →
-            Performs linear_programming program.Bcdout card P.written P.faults P.refusals print.old
-            print.new U.written U.faults U.refusals punch.old punch.new cards self.now self.now
+            Performs linear_programming program.Bcdout card P.written P.stopped_at P.faults P.refusals print.old
+            print.new U.written U.stopped_at U.faults U.refusals punch.old punch.new cards self.now self.now
             result }
     {
         let Some(problem) = self.problem_in(NameCell::Xpbname) else {

@@ -48,7 +48,7 @@ impl<E: Engine> Machine<Setup<E>> {
         card: u32,
     ) -> Result<Act, Halt>
         requires { IsSound cards.now self.old }
-        ensures acts { Executes linear_programming program.Convert card P.written P.faults
+        ensures acts { Executes linear_programming program.Convert card P.written P.stopped_at P.faults
             P.refusals print.old print.new cards.now self.old self.new result }
         ensures sound { IsSound cards.now self.new }
     {

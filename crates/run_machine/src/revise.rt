@@ -55,7 +55,7 @@ impl<E: Engine> Machine<Setup<E>> {
         card: u32,
     ) -> Result<Act, Halt>
         requires { IsSound cards.now self.old }
-        ensures acts { Executes linear_programming program.Revise card P.written P.faults P.refusals
+        ensures acts { Executes linear_programming program.Revise card P.written P.stopped_at P.faults P.refusals
             print.old print.new cards.now self.old self.new result }
         ensures sound { IsSound cards.now self.new }
     {

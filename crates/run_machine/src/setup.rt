@@ -108,7 +108,7 @@ pub fn set_up<E: Engine, P: Sink>(
 ) -> Result<Act, Halt>
     ensures acts { (cards : List (List ℕ)) →
         Executes linear_programming (program.Setup (options_shown options.now)) card P.written
-        P.faults P.refusals print.old print.new cards machine.old machine.new result }
+        P.stopped_at P.faults P.refusals print.old print.new cards machine.old machine.new result }
     ensures sound { (cards : List (List ℕ)) → IsSound cards machine.old →
         IsSound cards machine.new }
 {

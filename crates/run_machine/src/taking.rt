@@ -103,7 +103,7 @@ impl<E: Engine> Machine<Setup<E>> {
         requires sound { IsSound cards.now self.old }
         requires described { Describes linear_programming verb card cards.now self.old
             (Ok described) }
-        ensures acts { Executes linear_programming (verb_of verb) card P.written P.faults P.refusals
+        ensures acts { Executes linear_programming (verb_of verb) card P.written P.stopped_at P.faults P.refusals
             print.old print.new cards.now self.old self.new result }
         ensures sound { IsSound cards.now self.new }
     {

@@ -13,7 +13,7 @@ use report_text::{Report, text_of};
 /// TITLE: prints a text.
 pub fn print_title<P: Sink>(print: &mut P, text: &Text) -> Result<Act, Halt>
     ensures { (card : ℕ) (cards : List (List ℕ)) (machine : machines.Machine) → Executes
-        linear_programming (program.Title text.now) card P.written P.faults P.refusals print.old
+        linear_programming (program.Title text.now) card P.written P.stopped_at P.faults P.refusals print.old
         print.new cards machine machine result }
 {
     text_of(&Report::Title { text: text.bytes() }, print)?;

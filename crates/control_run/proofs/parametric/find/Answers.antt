@@ -12,12 +12,12 @@ use Rattle.control_run.proofs.parametric.find.Goals as goal
 pub returns-in-Err-clause-tells : goal.returns-in-Err-clause-tells
 returns-in-Err-clause-tells g c =
     rw c.refused.ensures
-    (unselected_told g.P.Sink.written g.P.Sink.faults g.P.Sink.refusals c.args.verb c.args.cells.now c.args.file.now c.setup.view_is _ c.in-Some.problem.now (sym c.in-Some.ensures) c.args.print.now c.in-Err.refusal c.in-Err.ensures.refused)
+    (unselected_told g.P.Sink.written g.P.Sink.stopped_at g.P.Sink.faults g.P.Sink.refusals c.args.verb c.args.cells.now c.args.file.now c.setup.view_is _ c.in-Some.problem.now (sym c.in-Some.ensures) c.args.print.now c.in-Err.refusal c.in-Err.ensures.refused)
 
 pub returns-in-Err-asked-clause-tells : goal.returns-in-Err-asked-clause-tells
 returns-in-Err-asked-clause-tells g c =
     rw c.refused-in-Err-asked.ensures
-    (unasked_told g.P.Sink.written g.P.Sink.faults g.P.Sink.refusals c.args.verb c.args.cells.now c.args.file.now c.setup.view_is _ c.in-Some.problem.now (sym c.in-Some.ensures) c.in-Ok.lp c.in-Ok.ensures.selected c.args.print.now c.in-Err-asked.refusal c.in-Err-asked.ensures.refused)
+    (unasked_told g.P.Sink.written g.P.Sink.stopped_at g.P.Sink.faults g.P.Sink.refusals c.args.verb c.args.cells.now c.args.file.now c.setup.view_is _ c.in-Some.problem.now (sym c.in-Some.ensures) c.in-Ok.lp c.in-Ok.ensures.selected c.args.print.now c.in-Err-asked.refusal c.in-Err-asked.ensures.refused)
 
 pub follow-requires-clause-sheet : goal.follow-requires-clause-sheet
 follow-requires-clause-sheet g c = record {
@@ -40,7 +40,7 @@ pub returns-in_err-finding-clause-tells : goal.returns-in_err-finding-clause-tel
 returns-in_err-finding-clause-tells g c =
     let p = err_from_is_err_and c.from_residual.result c.from_residual.ensures.1 in
     rw (p.1, p.2)
-    (run_told g.P.Sink.written g.P.Sink.faults g.P.Sink.refusals c.args.verb c.args.cells.now c.args.file.now c.setup.view_is _ c.in-Some.problem.now (sym c.in-Some.ensures) c.in-Ok.lp c.in-Ok.ensures.selected (sweep_shown c.in-Ok-asked.sweep) c.in-Ok-asked.ensures.asked
+    (run_told g.P.Sink.written g.P.Sink.stopped_at g.P.Sink.faults g.P.Sink.refusals c.args.verb c.args.cells.now c.args.file.now c.setup.view_is _ c.in-Some.problem.now (sym c.in-Some.ensures) c.in-Ok.lp c.in-Ok.ensures.selected (sweep_shown c.in-Ok-asked.sweep) c.in-Ok-asked.ensures.asked
     c.args.print.now c.follow.new.print (Err c.in_err-finding.field-0.0) refl refl c.in_err-finding.ensures.tells)
 
 pub returns-in_err-finding-clause-ready : goal.returns-in_err-finding-clause-ready
@@ -49,7 +49,7 @@ returns-in_err-finding-clause-ready g c =
 
 pub returns-clause-tells : goal.returns-clause-tells
 returns-clause-tells g c =
-    run_told g.P.Sink.written g.P.Sink.faults g.P.Sink.refusals c.args.verb c.args.cells.now c.args.file.now c.setup.view_is _ c.in-Some.problem.now (sym c.in-Some.ensures) c.in-Ok.lp c.in-Ok.ensures.selected (sweep_shown c.in-Ok-asked.sweep) c.in-Ok-asked.ensures.asked
+    run_told g.P.Sink.written g.P.Sink.stopped_at g.P.Sink.faults g.P.Sink.refusals c.args.verb c.args.cells.now c.args.file.now c.setup.view_is _ c.in-Some.problem.now (sym c.in-Some.ensures) c.in-Ok.lp c.in-Ok.ensures.selected (sweep_shown c.in-Ok-asked.sweep) c.in-Ok-asked.ensures.asked
     c.args.print.now c.follow.new.print (Ok c.in_ok-finding.finding) refl refl c.in_ok-finding.ensures.tells
 
 pub returns-clause-ready : goal.returns-clause-ready

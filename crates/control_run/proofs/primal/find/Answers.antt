@@ -13,7 +13,7 @@ use Rattle.control_run.proofs.primal.find.Goals as goal
 pub returns-in-Err-clause-tells : goal.returns-in-Err-clause-tells
 returns-in-Err-clause-tells g c =
     rw c.refused.ensures
-    (refusal_told g.P.Sink.written g.P.Sink.faults g.P.Sink.refusals c.args.cells.now c.args.file.now c.setup.view_is _ c.in-Some.problem.now (sym c.in-Some.ensures) c.args.print.now c.in-Err.refusal c.in-Err.ensures.refused)
+    (refusal_told g.P.Sink.written g.P.Sink.stopped_at g.P.Sink.faults g.P.Sink.refusals c.args.cells.now c.args.file.now c.setup.view_is _ c.in-Some.problem.now (sym c.in-Some.ensures) c.args.print.now c.in-Err.refusal c.in-Err.ensures.refused)
 
 pub returns-in-Err-clause-solved : goal.returns-in-Err-clause-solved
 returns-in-Err-clause-solved g c = rw c.refused.ensures (refusal_ends c.in-Err.refusal _)
@@ -38,7 +38,7 @@ pub returns-in_err-finding-clause-tells : goal.returns-in_err-finding-clause-tel
 returns-in_err-finding-clause-tells g c =
     let p = err_from_is_err_and c.from_residual.result c.from_residual.ensures.1 in
     rw (p.1, p.2)
-    (path_told g.P.Sink.written g.P.Sink.faults g.P.Sink.refusals c.args.cells.now c.args.file.now c.setup.view_is _ c.in-Some.problem.now (sym c.in-Some.ensures) c.in-Ok.lp c.limit.result c.args.print.now c.follow.new.print
+    (path_told g.P.Sink.written g.P.Sink.stopped_at g.P.Sink.faults g.P.Sink.refusals c.args.cells.now c.args.file.now c.setup.view_is _ c.in-Some.problem.now (sym c.in-Some.ensures) c.in-Ok.lp c.limit.result c.args.print.now c.follow.new.print
     (Err c.in_err-finding.field-0.0) c.limit.ensures.limit c.in-Ok.ensures.selected refl refl c.in_err-finding.ensures.tells)
 
 pub returns-in_err-finding-clause-ready : goal.returns-in_err-finding-clause-ready
@@ -47,7 +47,7 @@ returns-in_err-finding-clause-ready g c =
 
 pub returns-clause-tells : goal.returns-clause-tells
 returns-clause-tells g c =
-    path_told g.P.Sink.written g.P.Sink.faults g.P.Sink.refusals c.args.cells.now c.args.file.now c.setup.view_is _ c.in-Some.problem.now (sym c.in-Some.ensures) c.in-Ok.lp c.limit.result c.args.print.now c.follow.new.print
+    path_told g.P.Sink.written g.P.Sink.stopped_at g.P.Sink.faults g.P.Sink.refusals c.args.cells.now c.args.file.now c.setup.view_is _ c.in-Some.problem.now (sym c.in-Some.ensures) c.in-Ok.lp c.limit.result c.args.print.now c.follow.new.print
     (Ok c.in_ok-finding.finding) c.limit.ensures.limit c.in-Ok.ensures.selected refl refl c.in_ok-finding.ensures.tells
 
 pub returns-clause-ready : goal.returns-clause-ready

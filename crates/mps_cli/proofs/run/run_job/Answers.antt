@@ -35,9 +35,9 @@ returns-in-Ok-clause-unread g c differs = c.run_request.ensures.unread (λ e. di
 
 pub returns-in-Err-clause-headline : goal.returns-in-Err-clause-headline
 returns-in-Err-clause-headline g c =
-    stopped_headline (asked (map string_bytes c.args.words.now)) (g.S.Source.left c.args.job.now) c.end_job.result g.P.Sink.written g.P.Sink.faults g.P.Sink.refusals _ _ (g.U.Sink.written c.args.punch.now)
+    stopped_headline (asked (map string_bytes c.args.words.now)) (g.S.Source.left c.args.job.now) c.end_job.result g.P.Sink.written g.P.Sink.stopped_at g.P.Sink.faults g.P.Sink.refusals _ _ (g.U.Sink.written c.args.punch.now)
     c.in-Err.stop (λ e. c.in-Err.ensures.refused (ap (λ s. Err s) e))
-    (subst (λ (stop : EarlyStop). EndsWith g.P.Sink.written g.P.Sink.faults g.P.Sink.refusals c.args.print.now c.end_job.new.print stop c.end_job.result) c.from.ensures c.end_job.ensures)
+    (subst (λ (stop : EarlyStop). EndsWith g.P.Sink.written g.P.Sink.stopped_at g.P.Sink.faults g.P.Sink.refusals c.args.print.now c.end_job.new.print stop c.end_job.result) c.from.ensures c.end_job.ensures)
 
 pub returns-in-Err-clause-complete : goal.returns-in-Err-clause-complete
 returns-in-Err-clause-complete g c job is = complete_answer (returns-in-Err-clause-headline g c job is)
@@ -50,6 +50,6 @@ returns-in-Err-clause-punch g c = nothing refl
 
 pub returns-in-Err-clause-cause : goal.returns-in-Err-clause-cause
 returns-in-Err-clause-cause g c =
-    ending_cause (asked (map string_bytes c.args.words.now)) _ _ _ g.P.Sink.written g.P.Sink.faults g.P.Sink.refusals _ c.end_job.result
+    ending_cause (asked (map string_bytes c.args.words.now)) _ _ _ g.P.Sink.written g.P.Sink.stopped_at g.P.Sink.faults g.P.Sink.refusals _ c.end_job.result
     (why_words (asked (map string_bytes c.args.words.now)) _ _ c.in-Err.stop (λ e. c.in-Err.ensures.refused (ap (λ s. Err s) e)))
-    (subst (λ (stop : EarlyStop). EndsWith g.P.Sink.written g.P.Sink.faults g.P.Sink.refusals c.args.print.now c.end_job.new.print stop c.end_job.result) c.from.ensures c.end_job.ensures)
+    (subst (λ (stop : EarlyStop). EndsWith g.P.Sink.written g.P.Sink.stopped_at g.P.Sink.faults g.P.Sink.refusals c.args.print.now c.end_job.new.print stop c.end_job.result) c.from.ensures c.end_job.ensures)
