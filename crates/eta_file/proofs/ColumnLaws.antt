@@ -60,12 +60,12 @@ row_of_rates f i xs are passed var each = record {
     at k is false out h = h.at_nonbasic out (λ n. rates.0 n k) (rates.1 k (is, out))
 
 -- one value more
-pub rates_more : (f : Inverse) (i n : ℕ) (xs : List ℚ) (v : ℚ) → n < length xs → IsRateAt f i (n + 1) v → ((k : ℕ) → k < n → IsRateAt f i (k + 1) (get_or xs k zero_ℚ))
-    → (k : ℕ) → k < n + 1 → IsRateAt f i (k + 1) (get_or (set xs n v) k zero_ℚ)
-rates_more f i n xs v within next so_far =
-    below_more (λ k. IsRateAt f i (k + 1) (get_or (set xs n v) k zero_ℚ)) n
-    (λ k below. let other : k ≡ n → ⊥ = omega arith in subst (λ x. IsRateAt f i (k + 1) x) (sym (get_or-set_other xs n k v zero_ℚ other)) (so_far k below))
-    (subst (λ x. IsRateAt f i (n + 1) x) (sym (get_or-set_same xs n v zero_ℚ within)) next)
+pub each_more : (P : ℕ → ℚ → Type 0) (n : ℕ) (xs : List ℚ) (v : ℚ) → n < length xs → P n v → ((k : ℕ) → k < n → P k (get_or xs k zero_ℚ))
+    → (k : ℕ) → k < n + 1 → P k (get_or (set xs n v) k zero_ℚ)
+each_more P n xs v within next so_far =
+    below_more (λ k. P k (get_or (set xs n v) k zero_ℚ)) n
+    (λ k below. let other : k ≡ n → ⊥ = omega arith in subst (P k) (sym (get_or-set_other xs n k v zero_ℚ other)) (so_far k below))
+    (subst (P n) (sym (get_or-set_same xs n v zero_ℚ within)) next)
 
 -- a rate is read in the direction
 pub rate_read : (f : Inverse) (i k : ℕ) (v : ℚ) (xs : List ℚ) → IsNonsingular f.matrix f.basics → IsVariable f.matrix i → IsVariable f.matrix k → (basic : Bool) → basic ≡ is_in f.basics k → basic ≡ false

@@ -55,8 +55,8 @@ impl ByColumns {
     }
 }
 
-/// The rate of `i` at `k`, and 0 where `k` is basic, with room for the direction of `k`.
-fn rate_in(file: &EtaFile, i: u32, k: u32, room: &mut [Frac]) -> Result<Frac, Stop>
+/// The rate of `i` at `k`, and 0 where `k` is basic, by the direction of `k`, with room for it. It takes no memory.
+pub fn rate_by_column(file: &EtaFile, i: u32, k: u32, room: &mut [Frac]) -> Result<Frac, Stop>
     requires low { IsVariable file.now.matrix i }
     requires high { IsVariable file.now.matrix k }
     requires places { length room.old ≡ size file.now.matrix }
@@ -73,12 +73,7 @@ fn rate_in(file: &EtaFile, i: u32, k: u32, room: &mut [Frac]) -> Result<Frac, St
 }
 
 /// Fills `out` with the rates of the basic `i`, by the column of each nonbasic, with room for it. It takes no memory.
-pub fn row_by_columns(
-    file: &EtaFile,
-    i: u32,
-    out: &mut [Frac],
-    room: &mut [Frac],
-) -> Result<(), Stop>
+fn row_by_columns(file: &EtaFile, i: u32, out: &mut [Frac], room: &mut [Frac]) -> Result<(), Stop>
     requires basic { IsBasic file.now.matrix file.now.basics i }
     requires places { length out.old ≡ size file.now.matrix }
     requires room { length room.old ≡ size file.now.matrix }
@@ -88,7 +83,7 @@ pub fn row_by_columns(
     ensures never { IfErr result (λ stop. stop ≢ Stop.NoMemory) }
 {
     for k in 0..file.size() {
-        out[k as usize] = rate_in(file, i, k + 1, room)?;
+        out[k as usize] = rate_by_column(file, i, k + 1, room)?;
     }
     Ok(())
 }

@@ -7,7 +7,6 @@ ghost use Rattle.lp_definitions.specs.LinearProgram.{IsMatrix, IsVariable, IsCol
 ghost use Rattle.lp_definitions.specs.Basis.{is_in, IsBasic, IsNonbasic, IsNonsingular, IsDirectionOf, exchanged, row_basics};
 ghost use Rattle.lp_definitions.specs.Waypoints.{waypoint};
 ghost use Rattle.lp_definitions.specs.RatesEvidence.{ExchangeRefused};
-ghost use Rattle.lp_model.specs.Columns.{entries_of};
 ghost use Rattle.lp_model.specs.RatesCalls.{HasPivot, ColumnOverflow, ExchangeOverflow};
 ghost use Rattle.eta_file.specs.Crossings.{NoneLater, LeftAt};
 ghost use Rattle.eta_file.specs.Prefixes.{Passed, entries_to, IsLent, IsExchangeOf, basic_columns, after, entry_count};
@@ -21,6 +20,7 @@ use frac128::Frac;
 use lp_model::{Entry, Evidence, Lp, NoMemory, Stop};
 use std::alloc::Global;
 use std::marker::{Brand, Model};
+use std::rc::Rc;
 use std::sync::ledger::{Blank, Ledger};
 
 /// The most etas that a file holds.
@@ -32,7 +32,7 @@ const MOST_ETAS: usize = 4_294_967_294;
 pub struct EtaFile {
     rows: u32,
     cols: u32,
-    columns: Vec<Vec<Entry>>,
+    columns: Rc<Vec<Vec<Entry>>, Global>,
     marks: Vec<bool>,
     etas: Vec<StoredEta>,
     alloc: Global,
@@ -87,18 +87,6 @@ fn entries_at(alloc: Global, direction: &[Frac], marks: &[bool]) -> Result<Vec<E
     Ok(entries)
 }
 
-/// A copy of the columns.
-fn copy_of_columns(alloc: Global, columns: &Vec<Vec<Entry>>) -> Result<Vec<Vec<Entry>>, NoMemory>
-    ensures { IfOk result (λ copy. entries_of copy.items ≡ entries_of columns.now.items) }
-{
-    let mut copy = Vec::new(alloc);
-    for column in columns {
-        copy.push(Vec::from_slice(alloc, column)?)
-            .map_err(|_| NoMemory)?;
-    }
-    Ok(copy)
-}
-
 impl EtaFile {
     /// All rows are basic, and there is no eta.
     pub fn new(alloc: Global, lp: &Lp) -> Result<EtaFile, NoMemory>
@@ -110,7 +98,7 @@ impl EtaFile {
         Ok(EtaFile {
             rows: lp.rows,
             cols: lp.cols,
-            columns: lp.copied_columns(alloc)?,
+            columns: Rc::new(alloc, lp.copied_columns(alloc)?).map_err(|_| NoMemory)?,
             marks: row_marks(alloc, lp)?,
             etas: Vec::new(alloc),
             alloc,
@@ -135,7 +123,12 @@ impl EtaFile {
         self.rows
     }
 
-    /// A file of the same matrix where all rows are basic.
+    /// Where the file has its memory from.
+    pub fn alloc(&self) -> Global {
+        self.alloc
+    }
+
+    /// A file of the same matrix where all rows are basic. Both have the same columns in memory.
     pub fn at_rows(&self) -> Result<EtaFile, NoMemory>
         ensures matrix { IfOk result (λ file. file.matrix ≡ self.now.matrix) }
         ensures basics { IfOk result (λ file. file.basics ≡ row_basics self.now.matrix) }
@@ -147,7 +140,7 @@ impl EtaFile {
         Ok(EtaFile {
             rows: self.rows,
             cols: self.cols,
-            columns: copy_of_columns(self.alloc, &self.columns)?,
+            columns: self.columns.clone()?,
             marks,
             etas: Vec::new(self.alloc),
             alloc: self.alloc,

@@ -7,7 +7,7 @@ mod eta;
 mod file;
 mod steps;
 
-pub use by_columns::{ByColumns, row_by_columns};
+pub use by_columns::{ByColumns, rate_by_column};
 pub use eta::{Eta, EtaEntry, StoredEta};
 pub use file::EtaFile;
 pub use steps::Steps;

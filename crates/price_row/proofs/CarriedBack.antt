@@ -1,9 +1,9 @@
 -- The multiplier of a leaver, from those of the set after its exchange.
 use Rattle.std.proofs.Common.{◌≡◌, ◌≢◌, ℕ, zero, suc, ◌+◌, ◌-◌, ◌<◌, ◌≤◌, List, [], ◌∷◌, length, take, get_or, set, Bool, refl, sym, ◌∙◌, ap, ap₂, true, false, subst, arith, add-one, All}
-use Rattle.std.specs.Prelude.{nat_eq}
+use Rattle.std.specs.Prelude.{nat_eq, pos}
 use Rattle.std.proofs.lemmas.List.{get_or-set_same, get_or-set_other}
 use Rattle.exact_values.specs.Rational.{ℚ, zero_ℚ, neg_ℚ, ◌*ℚ◌, ◌/ℚ◌}
-use Rattle.exact_values.proofs.Ring.{by_ring1, by_ring2, ◌⊗◌, ◌≐◌, opposite}
+use Rattle.exact_values.proofs.Ring.{by_ring1, by_ring2, ◌⊗◌, ◌≐◌, opposite, number}
 use Rattle.exact_values.proofs.Inverse.{div_is}
 use Rattle.lp_definitions.specs.LinearProgram.{Vector, size, IsVariable, KeepsEquations, value_at}
 use Rattle.lp_definitions.specs.Basis.{Basics, is_in, IsBasic, IsNonsingular, AreRates, exchanged, row_basics}
@@ -14,6 +14,7 @@ use Rattle.lp_laws.proofs.Exchange.{enterer_in, others_stay}
 use Rattle.lp_laws.proofs.Combination.{multiplier_vanishes}
 use Rattle.lp_laws.proofs.Opening.{IsNonsingular-row_basics}
 use Rattle.lp_laws.proofs.Ordered.{carried_back}
+use Rattle.lp_laws.proofs.Idle.{zero_over}
 use Rattle.eta_file.specs.declared.eta.EtaEntry.{EtaEntry}
 use Rattle.eta_file.specs.declared.eta.StoredEta.{StoredEta}
 use Rattle.eta_file.specs.Entries.{IsEntryWithin}
@@ -119,6 +120,10 @@ module _ (f : Inverse) (passed : Passed f.matrix (row_basics f.matrix) f.etas) (
         div_is sum pivot (neg_ℚ (y eta.p)) (λ none. is.apart (sym is_pivot ∙ none))
         (total first sum is_first is_sum ∙ by_ring2 (y eta.p) (is.rate eta.p eta.q) (λ y v. opposite (y ⊗ v) ≐ opposite y ⊗ v) refl ∙ ap (λ v. neg_ℚ (y eta.p) *ℚ v) (sym is_pivot)) in
         ap neg_ℚ (is_ratio ∙ divided) ∙ by_ring1 (y eta.p) (λ y. opposite (opposite y) ≐ y) refl
+
+-- a sum of 0 needs no quotient
+pub idle_quotient : (sum pivot : ℚ) → sum ≡ zero_ℚ → sum ≡ neg_ℚ (sum /ℚ pivot)
+idle_quotient sum pivot none = none ∙ sym (ap neg_ℚ (zero_over sum pivot none) ∙ by_ring1 zero_ℚ (λ z. opposite (number (pos 0)) ≐ number (pos 0)) refl)
 
 -- an eta of a list that has one
 pub an_eta : (etas : List StoredEta) (k : ℕ) → k < length etas → StoredEta

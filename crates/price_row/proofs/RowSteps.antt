@@ -1,11 +1,11 @@
 -- A row that is carried back to the rows, and the rates that it gives.
-use Rattle.std.proofs.Common.{◌≡◌, ◌≢◌, ℕ, suc, ◌+◌, ◌-◌, ◌<◌, ◌≤◌, List, [], ◌∷◌, length, take, get_or, set, refl, sym, ◌∙◌, ap, true, false, cond, Bool, subst, arith, Ok, Err, Result, OnOk}
-use Rattle.std.specs.Prelude.{nat_eq, nat_le, IfOk}
+use Rattle.std.proofs.Common.{◌≡◌, ◌≢◌, ℕ, suc, ◌+◌, ◌-◌, ◌<◌, ◌≤◌, List, [], ◌∷◌, length, take, get_or, set, refl, sym, ◌∙◌, ap, true, false, cond, Bool, subst, arith, Ok, Err, Result}
+use Rattle.std.specs.Prelude.{nat_eq, nat_le, IfOk, IfErr, pos}
 use Rattle.std.proofs.lemmas.List.{get_or-set_same, get_or-set_other}
 use Rattle.exact_values.specs.Rational.{ℚ, zero_ℚ, one_ℚ, neg_ℚ, ◌+ℚ◌, ◌-ℚ◌, ◌*ℚ◌}
 use Rattle.exact_values.specs.Sums.{sum_to}
 use Rattle.exact_values.proofs.Sums.{sum_to-same}
-use Rattle.exact_values.proofs.Ring.{by_ring1, by_ring2, ◌⊕◌, ◌⊖◌, ◌≐◌, opposite}
+use Rattle.exact_values.proofs.Ring.{by_ring1, by_ring2, ◌⊕◌, ◌⊖◌, ◌≐◌, opposite, number}
 use Rattle.exact_values.proofs.Ring_laws.{zero-add}
 use Rattle.lp_definitions.specs.LinearProgram.{size, entry, column, IsMatrix, IsVariable, IsColumn, value_at}
 use Rattle.lp_definitions.specs.Basis.{Basics, is_in, IsBasic, IsNonsingular, AreRates, row_basics}
@@ -16,13 +16,15 @@ use Rattle.lp_laws.proofs.Entries.{sum_of_entries}
 use Rattle.lp_laws.proofs.Functionals.{functional_at_unit, KeepsEquations-unit}
 use Rattle.lp_laws.proofs.Combination.{multiplier_vanishes}
 use Rattle.lp_laws.proofs.Opening.{is_in-row_basics, length-row_basics, AreRates-opening}
-use Rattle.lp_model.specs.RatesCalls.{IsRowOf}
+use Rattle.lp_model.specs.RatesCalls.{IsRowOf, RowOverflow}
+use Rattle.lp_model.specs.declared.Stop.{Stop}
 use Rattle.eta_file.specs.declared.eta.StoredEta.{StoredEta}
 use Rattle.eta_file.specs.Prefixes.{Passed, after}
-use Rattle.eta_file.specs.Inverse.{Inverse}
+use Rattle.eta_file.specs.Inverse.{Inverse, ways_of, IsRateAt, IsColumnStop}
+use Rattle.eta_file.proofs.ColumnLaws.{row_stop}
 use Rattle.eta_file.proofs.PrefixLaws.{rates_after}
 use Rattle.price_row.specs.Sums.{products}
-use Rattle.price_row.specs.Known.{set_of, IsKnown, IsRateOf, IsUnit, IsFilledFrom}
+use Rattle.price_row.specs.Known.{set_of, IsKnown, IsRateOf, IsUnit, IsFilledFrom, IsMultiplierOf}
 
 take_whole_etas : (es : List StoredEta) → take (length es) es ≡ es
 take_whole_etas [] = refl
@@ -120,11 +122,37 @@ module _ (f : Inverse) (r place : ℕ) (xs : List ℚ) (v : ℚ) where
           opposite_of : (y s : ℚ) → y +ℚ s ≡ zero_ℚ → s ≡ neg_ℚ y
           opposite_of y s e = by_ring2 y s (λ y s. s ≐ (y ⊕ s) ⊖ y) refl ∙ ap (λ t. t -ℚ y) e ∙ zero-add (neg_ℚ y)
 
+-- a rate that is read in a direction
+pub rate_in_direction : (f : Inverse) (r k : ℕ) (v : ℚ) → IsVariable f.matrix k → IsRateAt f r k v → IsRateOf f r k v
+rate_in_direction f r k v var h = record { is_rate = λ rate are. at rate are (is_in f.basics k) refl }
+  where
+    at : (rate : ℕ → ℕ → ℚ) → AreRates f.matrix f.basics rate → (mark : Bool) → is_in f.basics k ≡ mark → v ≡ cond mark zero_ℚ (rate r k)
+    at rate are true basic = h.at_basic basic
+    at rate are false out = h.at_nonbasic out (λ n. rate n k) (are k (var, out))
+
+-- the multiplier of another variable is the opposite of its rate
+pub other_multiplier : (f : Inverse) (r k : ℕ) (u v : ℚ) → IsVariable f.matrix k → k ≢ r → IsRateAt f r k u → v ≡ neg_ℚ u → IsMultiplierOf f r k v
+other_multiplier f r k u v var other h is_v = record { is_multiplier = λ rate are. is_v ∙ at rate are (is_in f.basics k) refl }
+  where
+    at : (rate : ℕ → ℕ → ℚ) → AreRates f.matrix f.basics rate → (mark : Bool) → is_in f.basics k ≡ mark → neg_ℚ u ≡ cond mark (cond (nat_eq k r) one_ℚ zero_ℚ) (neg_ℚ (rate r k))
+    at rate are true basic =
+        let away : nat_eq k r ≡ false = grind (arith, other) in
+        ap neg_ℚ (h.at_basic basic) ∙ by_ring1 zero_ℚ (λ z. opposite (number (pos 0)) ≐ number (pos 0)) refl ∙ sym (ap (λ b. cond b one_ℚ zero_ℚ) away)
+    at rate are false out = ap neg_ℚ (h.at_nonbasic out (λ n. rate n k) (are k (var, out)))
+
+-- the multipliers of all rows, one by one
+pub rows_filled : (f : Inverse) (r : ℕ) (xs : List ℚ) → ((k : ℕ) → k < f.matrix.rows → IsMultiplierOf f r (k + 1) (get_or xs k zero_ℚ)) → IsFilledFrom f (size f.matrix) r xs
+rows_filled f r xs each = record {
+  known = λ rate are k below in_rows. (each k in_rows).is_multiplier rate are;
+  filled = λ k past within. absurd (omega (arith, past, within));
+}
+
+-- a direction that is refused refuses the row
+pub row_refused : (f : Inverse) (result : Result (Unit {0}) Stop) → IfErr result (IsColumnStop f) → RowOverflow result f.matrix f.basics (ways_of f) (ways_of f)
+row_refused f (Ok v) h = tt
+row_refused f (Err stop) h = row_stop f stop h
+
 -- what follows from the value, where there is one
 pub value_gives : {E : Type 0} (r : Result ℚ E) (P Q : ℚ → Type 0) → ((v : ℚ) → P v → Q v) → IfOk r P → IfOk r Q
 value_gives (Ok v) P Q step h = step v h
 value_gives (Err e) P Q step h = tt
-
-pub done_gives : {E : Type 0} (r : Result (Unit {0}) E) (P Q : Type 0) → (P → Q) → OnOk r P → OnOk r Q
-done_gives (Ok v) P Q step h = step h
-done_gives (Err e) P Q step h = tt

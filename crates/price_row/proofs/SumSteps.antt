@@ -1,13 +1,14 @@
 -- One product more.
-use Rattle.std.proofs.Common.{◌≡◌, ◌≢◌, ℕ, zero, suc, ◌+◌, ◌<◌, List, [], ◌∷◌, length, take, get_or, refl, sym, ◌∙◌, ap, true, false, cond, Bool, arith, add-one}
+use Rattle.std.proofs.Common.{◌≡◌, ◌≢◌, ℕ, zero, suc, ◌+◌, ◌<◌, List, [], ◌∷◌, length, take, get_or, refl, sym, ◌∙◌, ap, subst, true, false, cond, Bool, arith, add-one}
 use Rattle.std.specs.Prelude.{nat_eq}
 use Rattle.std.proofs.lemmas.List.{get_or_default}
-use Rattle.exact_values.specs.Rational.{ℚ, ◌+ℚ◌, ◌*ℚ◌}
+use Rattle.exact_values.specs.Rational.{ℚ, zero_ℚ, ◌+ℚ◌, ◌*ℚ◌}
 use Rattle.lp_definitions.specs.LinearProgram.{value_at}
 use Rattle.lp_definitions.specs.RatesEvidence.{sum_from}
 use Rattle.lp_definitions.specs.declared.Entry.{Entry}
 use Rattle.eta_file.specs.declared.eta.EtaEntry.{EtaEntry}
-use Rattle.price_row.specs.Sums.{weighted, products}
+use Rattle.frac128.specs.declared.Refused.{Refused}
+use Rattle.price_row.specs.Sums.{weighted, products, IsStepRefused, IsWeightedRefused, IsProductsRefused}
 
 pub weighted-take : (p : ℕ) (xs : List ℚ) (es : List EtaEntry) (n : ℕ) (d : EtaEntry) (start : ℚ) → n < length es
     → sum_from start (weighted p xs (take (suc n) es)) ≡ (λ (s : ℚ). cond (nat_eq (get_or es n d).i p) s (s +ℚ value_at xs (get_or es n d).i *ℚ (get_or es n d).rate)) (sum_from start (weighted p xs (take n es)))
@@ -56,3 +57,25 @@ products_more xs c n e start below is =
 
 pub element_at : {X : Type 0} (xs : List X) (n : ℕ) (e : X) → n < length xs → e ≡ get_or xs n e → (d : X) → get_or xs n d ≡ e
 element_at xs n e below is d = get_or_default xs n d e below ∙ sym is
+
+-- where one product more is refused
+pub weighted_refused : (p : ℕ) (start : ℚ) (xs : List ℚ) (es : List EtaEntry) (n : ℕ) (e : EtaEntry) (sum v : ℚ) (r : Refused) → n < length es → e ≡ get_or es n e → e.i ≢ p
+    → sum ≡ sum_from start (weighted p xs (take n es)) → v ≡ value_at xs e.i → IsStepRefused sum v e.rate r → IsWeightedRefused p start xs es r
+weighted_refused p start xs es n e sum v r below is other is_sum is_v refused = record {
+  place = n;
+  entry = e;
+  within = below;
+  is_entry = element_at es n e below is;
+  stays = other;
+  refused = subst (λ s. IsStepRefused s (value_at xs e.i) e.rate r) is_sum (subst (λ x. IsStepRefused sum x e.rate r) is_v refused);
+}
+
+pub products_refused : (xs : List ℚ) (c : List Entry) (n : ℕ) (e : Entry) (sum v : ℚ) (r : Refused) → n < length c → e ≡ get_or c n e
+    → sum ≡ sum_from zero_ℚ (products xs (take n c)) → v ≡ value_at xs e.row → IsStepRefused sum v e.value r → IsProductsRefused xs c r
+products_refused xs c n e sum v r below is is_sum is_v refused = record {
+  place = n;
+  entry = e;
+  within = below;
+  is_entry = element_at c n e below is;
+  refused = subst (λ s. IsStepRefused s (value_at xs e.row) e.value r) is_sum (subst (λ x. IsStepRefused sum x e.value r) is_v refused);
+}

@@ -4,6 +4,7 @@
 --     IsRateOf f r k v             v is the rate of r at k, and 0 where k is basic
 --     IsFilledFrom f n r xs        xs has these from place n on, and before it the multipliers of r at the rows
 --     IsUnit i xs                  xs is 1 at i, and 0 at every other variable
+--     IsMultiplierOf f r k v       v is the multiplier of r at k
 --     IsMultiplierAt f n r v       v is the multiplier of r at the variable that leaves at the eta after the first n
 use Rattle.std.specs.Prelude.{◌≡◌, ◌≢◌, ◌≤◌, ◌<◌, ◌+◌, ℕ, true, List, take, slice_index_or, if◌then◌else◌}
 use Rattle.exact_values.specs.Rational.{ℚ, zero_ℚ, one_ℚ}
@@ -22,6 +23,9 @@ pub record IsKnown (f : Inverse) (n r : ℕ) (xs : List ℚ) : Type 0 where
 
 pub record IsRateOf (f : Inverse) (r k : ℕ) (v : ℚ) : Type 0 where
   pub is_rate : (rate : ℕ → ℕ → ℚ) → AreRates f.matrix f.basics rate → v ≡ (if is_in f.basics k then zero_ℚ else rate r k)
+
+pub record IsMultiplierOf (f : Inverse) (r k : ℕ) (v : ℚ) : Type 0 where
+  pub is_multiplier : (rate : ℕ → ℕ → ℚ) → AreRates f.matrix f.basics rate → v ≡ multiplier f.basics rate r k
 
 -- 1 at i, and 0 at every other variable
 pub record IsUnit (i : ℕ) (xs : List ℚ) : Type 0 where

@@ -2,15 +2,15 @@
 #![tactic(auto)]
 
 ghost use Rattle.std.specs.Prelude.{◌≡◌, ◌≢◌, ℕ, ◌+◌, ◌-◌, ◌≤◌, ◌<◌, length, IfOk, IfErr, OnOk};
-ghost use Rattle.lp_definitions.specs.LinearProgram.{size, value_at};
+ghost use Rattle.lp_definitions.specs.LinearProgram.{IsVariable, size, value_at};
 ghost use Rattle.lp_definitions.specs.Basis.{IsBasic};
 ghost use Rattle.lp_model.specs.RatesCalls.{IsRowOf, RowOverflow};
-ghost use Rattle.eta_file.specs.Inverse.{ways_of};
-ghost use Rattle.price_row.specs.Known.{IsKnown, IsFilledFrom, IsRateOf, IsUnit, IsMultiplierAt};
+ghost use Rattle.eta_file.specs.Inverse.{ways_of, IsColumnStop};
+ghost use Rattle.price_row.specs.Known.{IsKnown, IsFilledFrom, IsRateOf, IsUnit, IsMultiplierAt, IsMultiplierOf};
 
 mod sums;
 
-use eta_file::{EtaFile, row_by_columns};
+use eta_file::{EtaFile, rate_by_column};
 use frac128::{Frac, Refused};
 use lp_model::{Lp, NoMemory, Stop};
 use std::alloc::Global;
@@ -45,8 +45,9 @@ impl PriceRow {
     }
 
     /// Fills `out`, which has a place for each variable, with the rates of the basic `i`: its rate at each nonbasic, and 0 at each
-    /// basic. The row is carried backwards through the file; where an operation of it is refused, it is had by the columns carried
-    /// forward. It takes no memory.
+    /// basic. The row is carried backwards through the file, and multiplied with the columns of the deck. Where an operation is
+    /// refused on the way back, the multipliers of the rows are had by their directions; where one is refused at a column, its rate
+    /// is had by its direction. It takes no memory.
     pub fn row(&mut self, file: &EtaFile, i: u32, out: &mut [Frac]) -> Result<(), Stop>
         requires basic { IsBasic file.now.matrix file.now.basics i }
         requires places { length out.old ≡ size file.now.matrix }
@@ -57,10 +58,9 @@ impl PriceRow {
         ensures never { IfErr result (λ stop. stop ≢ Stop.NoMemory) }
         ensures same { self.new ≡ self.old }
     {
-        match carried_row(file, i, out) {
-            Ok(()) => Ok(()),
-            Err(_refused) => row_by_columns(file, i, out, &mut self.room),
-        }
+        let _size = file.size();
+        multipliers(file, i, out, &mut self.room)?;
+        fill(file, i, out, &mut self.room)
     }
 }
 
@@ -89,6 +89,9 @@ fn multiplier_at(file: &EtaFile, place: u32, row: u32, out: &[Frac]) -> Result<F
     let eta = file.eta(place + 1);
     let pivot = file.pivot(place + 1);
     let sum = sum_over(eta.entries, eta.p, out[eta.q as usize - 1], out)?;
+    if sum.is_zero() {
+        return Ok(sum);
+    }
     let ratio = sum.div(pivot)?;
     Ok(ratio.neg())
 }
@@ -113,7 +116,7 @@ fn carry_back(file: &EtaFile, place: u32, row: u32, out: &mut [Frac]) -> Result<
 fn carry_to_rows(file: &EtaFile, row: u32, out: &mut [Frac]) -> Result<(), Refused>
     requires basic { IsBasic file.now.matrix file.now.basics row }
     requires places { length out.old ≡ size file.now.matrix }
-    ensures known { OnOk result (IsKnown file.now 0 row out.new) }
+    ensures known { OnOk result (IsFilledFrom file.now (size file.now.matrix) row out.new) }
 {
     let _size = file.size();
     begin(row, out);
@@ -124,8 +127,60 @@ fn carry_to_rows(file: &EtaFile, row: u32, out: &mut [Frac]) -> Result<(), Refus
     Ok(())
 }
 
+/// The multiplier of row `k` in the row of the basic `i`, by the direction of k where it isn't basic, with room for it.
+fn multiplier_of(file: &EtaFile, i: u32, k: u32, room: &mut [Frac]) -> Result<Frac, Stop>
+    requires basic { IsBasic file.now.matrix file.now.basics i }
+    requires row { IsVariable file.now.matrix k }
+    requires places { length room.old ≡ size file.now.matrix }
+    ensures value { IfOk result (IsMultiplierOf file.now i k) }
+    ensures overflow { IfErr result (IsColumnStop file.now) }
+    ensures never { IfErr result (λ stop. stop ≢ Stop.NoMemory) }
+{
+    if k == i {
+        return Ok(Frac::whole(1));
+    }
+    let rate = rate_by_column(file, i, k, room)?;
+    Ok(rate.neg())
+}
+
+/// Fills the first places of `out` with the multipliers of the rows, by the directions of those that aren't basic.
+fn multipliers_by_rows(
+    file: &EtaFile,
+    i: u32,
+    out: &mut [Frac],
+    room: &mut [Frac],
+) -> Result<(), Stop>
+    requires basic { IsBasic file.now.matrix file.now.basics i }
+    requires places { length out.old ≡ size file.now.matrix }
+    requires room { length room.old ≡ size file.now.matrix }
+    ensures known { OnOk result (IsFilledFrom file.now (size file.now.matrix) i out.new) }
+    ensures overflow { IfErr result (IsColumnStop file.now) }
+    ensures never { IfErr result (λ stop. stop ≢ Stop.NoMemory) }
+{
+    let _size = file.size();
+    for k in 0..file.rows() {
+        out[k as usize] = multiplier_of(file, i, k + 1, room)?;
+    }
+    Ok(())
+}
+
+/// Fills the first places of `out` with the multipliers of the rows: carried back, or where that is refused by their directions.
+fn multipliers(file: &EtaFile, i: u32, out: &mut [Frac], room: &mut [Frac]) -> Result<(), Stop>
+    requires basic { IsBasic file.now.matrix file.now.basics i }
+    requires places { length out.old ≡ size file.now.matrix }
+    requires room { length room.old ≡ size file.now.matrix }
+    ensures known { OnOk result (IsFilledFrom file.now (size file.now.matrix) i out.new) }
+    ensures overflow { IfErr result (IsColumnStop file.now) }
+    ensures never { IfErr result (λ stop. stop ≢ Stop.NoMemory) }
+{
+    match carry_to_rows(file, i, out) {
+        Ok(()) => Ok(()),
+        Err(_refused) => multipliers_by_rows(file, i, out, room),
+    }
+}
+
 /// The rate of the row at the variable of a place, from the multipliers of the rows up to it.
-fn rate_at(file: &EtaFile, place: u32, row: u32, out: &[Frac]) -> Result<Frac, Refused>
+fn rate_by_multipliers(file: &EtaFile, place: u32, row: u32, out: &[Frac]) -> Result<Frac, Refused>
     requires within { place < size file.now.matrix }
     requires basic { IsBasic file.now.matrix file.now.basics row }
     requires places { length out.now ≡ size file.now.matrix }
@@ -144,28 +199,44 @@ fn rate_at(file: &EtaFile, place: u32, row: u32, out: &[Frac]) -> Result<Frac, R
     sum_of_column(file.numbers(place + 1 - rows), out)
 }
 
+/// The same, by the direction of the variable where a number doesn't fit.
+fn rate_at(
+    file: &EtaFile,
+    place: u32,
+    row: u32,
+    out: &[Frac],
+    room: &mut [Frac],
+) -> Result<Frac, Stop>
+    requires within { place < size file.now.matrix }
+    requires basic { IsBasic file.now.matrix file.now.basics row }
+    requires places { length out.now ≡ size file.now.matrix }
+    requires room { length room.old ≡ size file.now.matrix }
+    requires filled { IsFilledFrom file.now (place + 1) row out.now }
+    ensures rate { IfOk result (IsRateOf file.now row (place + 1)) }
+    ensures overflow { IfErr result (IsColumnStop file.now) }
+    ensures never { IfErr result (λ stop. stop ≢ Stop.NoMemory) }
+{
+    let _size = file.size();
+    match rate_by_multipliers(file, place, row, out) {
+        Ok(rate) => Ok(rate),
+        Err(_refused) => rate_by_column(file, row, place + 1, room),
+    }
+}
+
 /// Fills in the rates, the last variable's first, so that the multipliers of the rows stand as long as they are needed.
-fn fill(file: &EtaFile, row: u32, out: &mut [Frac]) -> Result<(), Refused>
+fn fill(file: &EtaFile, row: u32, out: &mut [Frac], room: &mut [Frac]) -> Result<(), Stop>
     requires basic { IsBasic file.now.matrix file.now.basics row }
     requires places { length out.old ≡ size file.now.matrix }
+    requires room { length room.old ≡ size file.now.matrix }
     requires known { IsFilledFrom file.now (size file.now.matrix) row out.old }
-    ensures filled { OnOk result (IsFilledFrom file.now 0 row out.new) }
+    ensures rates { OnOk result (IsRowOf file.now.matrix file.now.basics row (value_at out.new)) }
+    ensures overflow { IfErr result (IsColumnStop file.now) }
+    ensures never { IfErr result (λ stop. stop ≢ Stop.NoMemory) }
 {
     let size = file.size();
     for back in 0..size {
         let place = size - 1 - back;
-        out[place as usize] = rate_at(file, place, row, out)?;
+        out[place as usize] = rate_at(file, place, row, out, room)?;
     }
     Ok(())
-}
-
-/// Fills `out` with the rates of the basic `row`, carried backwards through the file.
-fn carried_row(file: &EtaFile, row: u32, out: &mut [Frac]) -> Result<(), Refused>
-    requires basic { IsBasic file.now.matrix file.now.basics row }
-    requires places { length out.old ≡ size file.now.matrix }
-    ensures rates { OnOk result (IsRowOf file.now.matrix file.now.basics row (value_at out.new)) }
-{
-    let _size = file.size();
-    carry_to_rows(file, row, out)?;
-    fill(file, row, out)
 }

@@ -4,7 +4,7 @@ ghost use Rattle.std.specs.Prelude.{◌≡◌, ◌≤◌, ◌<◌, length, All, 
 ghost use Rattle.exact_values.specs.Rational.{zero_ℚ, ◌+ℚ◌, ◌*ℚ◌};
 ghost use Rattle.lp_definitions.specs.RatesEvidence.{sum_from};
 ghost use Rattle.eta_file.specs.Entries.{IsEntryWithin};
-ghost use Rattle.price_row.specs.Sums.{IsStepRefused, weighted, products};
+ghost use Rattle.price_row.specs.Sums.{IsStepRefused, IsWeightedRefused, IsProductsRefused, weighted, products};
 ghost use Rattle.price_row.specs.Places.{IsRowPlace};
 
 use eta_file::EtaEntry;
@@ -38,6 +38,7 @@ fn added(sum: Frac, x: Frac, y: Frac) -> Result<Frac, Refused>
 pub fn sum_over(entries: &[EtaEntry], p: u32, first: Frac, values: &[Frac]) -> Result<Frac, Refused>
     requires { All (IsEntryWithin (length values.now)) entries.now }
     ensures value { IfOk result (λ sum. sum ≡ sum_from first (weighted p values.now entries.now)) }
+    ensures refused { IfErr result (IsWeightedRefused p first values.now entries.now) }
 {
     let mut sum = first;
     for entry in entries {
@@ -52,6 +53,7 @@ pub fn sum_over(entries: &[EtaEntry], p: u32, first: Frac, values: &[Frac]) -> R
 pub fn sum_of_column(column: &[Entry], values: &[Frac]) -> Result<Frac, Refused>
     requires { All (IsRowPlace (length values.now)) column.now }
     ensures value { IfOk result (λ sum. sum ≡ sum_from zero_ℚ (products values.now column.now)) }
+    ensures refused { IfErr result (IsProductsRefused values.now column.now) }
 {
     let mut sum = Frac::whole(0);
     for entry in column {

@@ -33,7 +33,6 @@ pub rebuilt_start : (a : Matrix) (b : Basics) (g : Inverse) → g.matrix ≡ a �
 rebuilt_start a b g same are none = record {
   same_matrix = same;
   within = subst (λ m. HasColumnsWithin a m b) (sym are) (rows_within a b);
-  not_yet = λ j past is. ap (λ m. is_in m j) are ∙ column_is a j is (omega (arith, past));
   all_in = λ j low is basic. ap (λ m. is_in m j) are ∙ row_is a j is (omega (arith, low));
   counted =
       let few = columns_at_most a [] (row_basics a) refl in
@@ -45,32 +44,35 @@ rebuilt_start a b g same are none = record {
     only : All (λ w. HasColumnsWithin a w b) (row_basics a ∷ [])
     only k d below = let first : 0 ≡ k = omega arith in subst (λ n. HasColumnsWithin a (get_or (row_basics a ∷ []) n d) b) first (rows_within a b)
 
--- a column that isn't basic
-pub rebuilt_skip : (a : Matrix) (b : Basics) (c : ℕ) (g : Inverse) → 1 ≤ c → is_in b (a.rows + c) ≡ false → IsRebuilt a b (c - 1) g → IsRebuilt a b c g
-rebuilt_skip a b c g some out h = record {
+-- one column more is in, if it is basic
+pub next_column : (a : Matrix) (b : Basics) (c : ℕ) (g : Inverse) → (is_in b (a.rows + (c + 1)) ≡ true → is_in g.basics (a.rows + (c + 1)) ≡ true) → IsRebuilt a b c g → IsRebuilt a b (c + 1) g
+next_column a b c g enters h = record {
   same_matrix = h.same_matrix;
   within = h.within;
-  not_yet = λ j past is. h.not_yet j (omega (arith, past)) is;
-  all_in = λ j low is basic. at j low is basic (eqb_tells j (a.rows + c));
+  all_in = λ j low is basic. at j low is basic (eqb_tells j (a.rows + (c + 1)));
   counted = h.counted;
   ways = h.ways;
 }
   where
-    at : (j : ℕ) → j ≤ a.rows + c → IsVariable a j → is_in b j ≡ true → (((eqb j (a.rows + c) ≡ true) × (j ≡ a.rows + c)) ⊎ ((eqb j (a.rows + c) ≡ false) × (j ≢ a.rows + c))) → is_in g.basics j ≡ true
-    at j low is basic (inl same) = absurd (clash (sym basic ∙ ap (is_in b) same.1 ∙ out))
-    at j low is basic (inr other) = h.all_in j (omega (arith, low, some, other.1)) is basic
+    at : (j : ℕ) → j ≤ a.rows + (c + 1) → IsVariable a j → is_in b j ≡ true → (((eqb j (a.rows + (c + 1)) ≡ true) × (j ≡ a.rows + (c + 1))) ⊎ ((eqb j (a.rows + (c + 1)) ≡ false) × (j ≢ a.rows + (c + 1)))) → is_in g.basics j ≡ true
+    at j low is basic (inl same) = ap (is_in g.basics) same.1 ∙ enters (ap (is_in b) (sym same.1) ∙ basic)
+    at j low is basic (inr other) = h.all_in j (omega (arith, low, other.1)) is basic
+
+-- fewer columns are in too
+pub no_columns : (a : Matrix) (b : Basics) (c : ℕ) (g : Inverse) → IsRebuilt a b c g → IsRebuilt a b 0 g
+no_columns a b c g h = record {
+  same_matrix = h.same_matrix;
+  within = h.within;
+  all_in = λ j low is basic. h.all_in j (omega (arith, low)) is basic;
+  counted = h.counted;
+  ways = h.ways;
+}
 
 -- a column that enters
-module _ (a : Matrix) (b : Basics) (c : ℕ) (g f : Inverse) (p : ℕ) (column : IsColumn a c) (basic : is_in b (a.rows + c) ≡ true) (counted_g : length g.basics ≡ size a) (h : IsRebuilt a b (c - 1) g)
+module _ (a : Matrix) (b : Basics) (c : ℕ) (g f : Inverse) (p : ℕ) (column : IsColumn a c) (basic : is_in b (a.rows + c) ≡ true) (enters_out : is_in g.basics (a.rows + c) ≡ false) (counted_g : length g.basics ≡ size a)
     (row : IsRow a p) (leaves : is_in g.basics p ≡ true) (out : is_in b p ≡ false) (are : g.basics ≡ after (row_basics g.matrix) g.etas) (more : IsAppended g p (a.rows + c) f) where
-  k : ℕ
-  k = a.rows + c
-
   variable : IsVariable a (a.rows + c)
   variable = (omega (arith, column.0), omega (arith, column.1))
-
-  pub enters_out : is_in g.basics (a.rows + c) ≡ false
-  enters_out = h.not_yet (a.rows + c) (omega (arith, column.0)) variable
 
   leaver : IsBasic a g.basics p
   leaver = ((row.0, omega (arith, row.1)), leaves)
@@ -81,26 +83,22 @@ module _ (a : Matrix) (b : Basics) (c : ℕ) (g f : Inverse) (p : ℕ) (column :
   stays : (j : ℕ) → IsVariable a j → j ≢ p → j ≢ a.rows + c → is_in f.basics j ≡ is_in g.basics j
   stays j is other_p other_k = ap (λ m. is_in m j) more.is_exchanged ∙ others_stay a g.basics counted_g p (a.rows + c) leaver enterer j is other_p other_k
 
-  entered : is_in f.basics (a.rows + c) ≡ true
+  pub entered : is_in f.basics (a.rows + c) ≡ true
   entered = ap (λ m. is_in m (a.rows + c)) more.is_exchanged ∙ enterer_in a g.basics counted_g p (a.rows + c) leaver enterer
 
-  within_then : HasColumnsWithin a f.basics b
-  within_then j proper inside = at (eqb_tells j (a.rows + c))
+  within_then : HasColumnsWithin a g.basics b → HasColumnsWithin a f.basics b
+  within_then within j proper inside = at (eqb_tells j (a.rows + c))
     where
       at : (((eqb j (a.rows + c) ≡ true) × (j ≡ a.rows + c)) ⊎ ((eqb j (a.rows + c) ≡ false) × (j ≢ a.rows + c))) → is_in b j ≡ true
       at (inl same) = ap (is_in b) same.1 ∙ basic
       at (inr other) =
           let not_p : j ≢ p = λ e. (let no_row : j ≤ a.rows = omega (arith, e, row.1) in absurd (omega (arith, no_row, proper))) in
-          h.within j proper (inside.0, sym (stays j inside.0 not_p other.1) ∙ inside.1)
+          within j proper (inside.0, sym (stays j inside.0 not_p other.1) ∙ inside.1)
 
-  pub rebuilt_more : IsRebuilt a b c f
-  rebuilt_more = record {
+  pub rebuilt_more : (n : ℕ) → IsRebuilt a b n g → IsRebuilt a b n f
+  rebuilt_more n h = record {
     same_matrix = more.same_matrix ∙ h.same_matrix;
-    within = within_then;
-    not_yet = λ j past is.
-        let not_p : j ≢ p = λ e. absurd (omega (arith, e, row.1, past)) in
-        let not_k : j ≢ a.rows + c = λ e. absurd (omega (arith, e, past)) in
-        stays j is not_p not_k ∙ h.not_yet j (omega (arith, past)) is;
+    within = within_then h.within;
     all_in = λ j low is inside. at j low is inside (eqb_tells j (a.rows + c));
     counted =
         ap length more.one_more ∙ length-append g.etas (more.eta ∷ []) ∙ (let e : length g.etas + 1 ≡ suc (length g.etas) = omega arith in e) ∙ ap suc h.counted ∙ sym columns;
@@ -108,11 +106,11 @@ module _ (a : Matrix) (b : Basics) (c : ℕ) (g f : Inverse) (p : ℕ) (column :
         (All-append (λ w. HasColumnsWithin a w b) (ways_of g) (f.basics ∷ []) h.ways last);
   }
     where
-      at : (j : ℕ) → j ≤ a.rows + c → IsVariable a j → is_in b j ≡ true → (((eqb j (a.rows + c) ≡ true) × (j ≡ a.rows + c)) ⊎ ((eqb j (a.rows + c) ≡ false) × (j ≢ a.rows + c))) → is_in f.basics j ≡ true
+      at : (j : ℕ) → j ≤ a.rows + n → IsVariable a j → is_in b j ≡ true → (((eqb j (a.rows + c) ≡ true) × (j ≡ a.rows + c)) ⊎ ((eqb j (a.rows + c) ≡ false) × (j ≢ a.rows + c))) → is_in f.basics j ≡ true
       at j low is inside (inl same) = ap (is_in f.basics) same.1 ∙ entered
       at j low is inside (inr other) =
           let not_p : j ≢ p = λ e. clash (sym inside ∙ ap (is_in b) e ∙ out) in
-          stays j is not_p other.1 ∙ h.all_in j (omega (arith, low, column.0, other.1)) is inside
+          stays j is not_p other.1 ∙ h.all_in j low is inside
 
       columns : basic_columns a f.basics ≡ suc (basic_columns a g.basics)
       columns =
@@ -127,7 +125,7 @@ module _ (a : Matrix) (b : Basics) (c : ℕ) (g f : Inverse) (p : ℕ) (column :
           (ap (λ w. exchanged w more.eta.p more.eta.q) (sym are) ∙ ap (λ i. exchanged g.basics i more.eta.q) more.is_p ∙ ap (λ i. exchanged g.basics p i) more.is_q ∙ sym more.is_exchanged)
 
       last : All (λ w. HasColumnsWithin a w b) (f.basics ∷ [])
-      last n d below = let first : 0 ≡ n = omega arith in subst (λ i. HasColumnsWithin a (get_or (f.basics ∷ []) i d) b) first within_then
+      last k d below = let first : 0 ≡ k = omega arith in subst (λ i. HasColumnsWithin a (get_or (f.basics ∷ []) i d) b) first (within_then h.within)
 
 -- all columns are through
 pub rebuilt_all : (f g : Inverse) → IsNonsingular f.matrix f.basics → IsNonsingular g.matrix g.basics → (c : ℕ) → c ≡ f.matrix.cols → IsRebuilt f.matrix f.basics c g → IsRemade f g
@@ -159,7 +157,7 @@ rebuilt_all f g one two c all h = record {
             marked_below (m ∷ ms) (suc n) h = let rest = marked_below ms n h in omega (arith, rest)
 
 -- there is one that may leave
-pub some_leaver : (a : Matrix) (b : Basics) (c : ℕ) (g : Inverse) (xs : List ℚ) → IsNonsingular a b → IsColumn a c → is_in b (a.rows + c) ≡ true → IsRebuilt a b (c - 1) g → IsDirectionOf a g.basics (a.rows + c) (value_at xs)
+pub some_leaver : (a : Matrix) (b : Basics) (c : ℕ) (g : Inverse) (xs : List ℚ) → IsNonsingular a b → IsColumn a c → is_in b (a.rows + c) ≡ true → IsRebuilt a b 0 g → IsDirectionOf a g.basics (a.rows + c) (value_at xs)
     → ((p : ℕ) → IsRow a p → IsLeaver a b g.basics xs p → ⊥) → ⊥
 some_leaver a b c g xs one column basic h direction no_leaver =
     one_apart (sym direction.own ∙ one.only_zero (value_at xs) direction.keeps vanishes (a.rows + c) (omega (arith, column.0), omega (arith, column.1)))

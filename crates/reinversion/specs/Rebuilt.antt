@@ -4,7 +4,7 @@
 --     without_way stop             the same stop, with evidence that names no set
 --     KeptRefused a b e            an exchange on the way from the rows to the basics b is refused
 --     IsLeaver b g xs p            p may leave: it is basic in g and not in b, and xs isn't 0 there
-use Rattle.std.specs.Prelude.{◌≡◌, ◌≢◌, ℕ, ◌+◌, ◌≤◌, ◌<◌, true, false, List, [], ◌∷◌, length, All}
+use Rattle.std.specs.Prelude.{◌≡◌, ◌≢◌, ℕ, ◌+◌, ◌≤◌, true, false, List, [], ◌∷◌, length, All}
 use Rattle.exact_values.specs.Rational.{ℚ, zero_ℚ}
 use Rattle.lp_definitions.specs.LinearProgram.{Matrix, IsRow, IsVariable, value_at}
 use Rattle.lp_definitions.specs.Basis.{Basics, is_in, IsNonsingular, AreRates, exchanged}
@@ -19,7 +19,6 @@ use Rattle.eta_file.specs.Inverse.{Inverse, ways_of}
 pub record IsRebuilt (a : Matrix) (b : Basics) (c : ℕ) (g : Inverse) : Type 0 where
   pub same_matrix : g.matrix ≡ a
   pub within : HasColumnsWithin a g.basics b
-  pub not_yet : (j : ℕ) → a.rows + c < j → IsVariable a j → is_in g.basics j ≡ false
   pub all_in : (j : ℕ) → j ≤ a.rows + c → IsVariable a j → is_in b j ≡ true → is_in g.basics j ≡ true
   pub counted : length g.etas ≡ basic_columns a g.basics
   pub ways : All (λ w. HasColumnsWithin a w b) (ways_of g)

@@ -3,6 +3,7 @@
 
 mod form;
 mod last_column;
+mod order;
 mod rebuild;
 
 pub use form::{ProductForm, Reinverted};

@@ -1,10 +1,12 @@
-//! A new file for the basics of another: from the rows, one exchange for each basic column, in ascending order.
+//! A new file for the basics of another: from the rows, one exchange for each basic column.
 
-ghost use Rattle.std.specs.Prelude.{◌≡◌, ◌≢◌, ◌+◌, ◌-◌, ◌<◌, ◌≤◌, ◌↔◌, ℕ, length, IsTrue, IfOk, IfErr, OnOk};
+ghost use Rattle.std.specs.Prelude.{◌≡◌, ◌≢◌, ◌+◌, ◌-◌, ◌<◌, ◌≤◌, ◌↔◌, ℕ, true, length, IsTrue, IfOk, IfErr, OnOk};
 ghost use Rattle.lp_definitions.specs.LinearProgram.{IsRow, IsColumn, size};
+ghost use Rattle.lp_definitions.specs.Basis.{is_in};
 ghost use Rattle.lp_model.specs.RatesCalls.{IfOverflow};
 ghost use Rattle.reinversion.specs.Rebuilt.{IsRebuilt, IsRemade, KeptRefused, IsLeaver, without_way};
 
+use crate::order::{Entering, entering_order};
 use eta_file::EtaFile;
 use frac128::Frac;
 use lp_model::{Evidence, Stop};
@@ -47,14 +49,18 @@ fn may_leave(old: &EtaFile, new: &EtaFile, direction: &[Frac], p: u32) -> bool
     new.is_basic(p) && !old.is_basic(p) && !direction[p as usize - 1].is_zero()
 }
 
-/// A row that may leave the new file for the column with this direction, where there is one.
-fn leaver(old: &EtaFile, new: &EtaFile, direction: &[Frac]) -> u32
+/// A row that may leave the new file for the column with this direction, where there is one: the one that is wished for if it may,
+/// else the first.
+fn leaver(old: &EtaFile, new: &EtaFile, direction: &[Frac], wish: u32) -> u32
     requires same { new.now.matrix ≡ old.now.matrix }
     requires places { length direction.now ≡ size old.now.matrix }
     requires some { ((p : ℕ) → IsRow old.now.matrix p → IsLeaver old.now.matrix old.now.basics
         new.now.basics direction.now p → ⊥) → ⊥ }
     ensures { IsLeaver old.now.matrix old.now.basics new.now.basics direction.now result }
 {
+    if wish >= 1 && wish <= old.rows() && may_leave(old, new, direction, wish) {
+        return wish;
+    }
     for k in 0..old.rows() {
         if may_leave(old, new, direction, k + 1) {
             return k + 1;
@@ -63,12 +69,16 @@ fn leaver(old: &EtaFile, new: &EtaFile, direction: &[Frac]) -> u32
     0
 }
 
-/// Makes column `c`, from 1, basic in the new file if it is in the old one.
-fn enter(old: &EtaFile, new: &mut EtaFile, c: u32, room: &mut [Frac]) -> Result<(), Stop>
+/// Makes column `c`, from 1, basic in the new file if it is in the old one and isn't yet in the new one, in place of the row that is
+/// wished for if that may leave.
+fn enter(old: &EtaFile, new: &mut EtaFile, c: u32, wish: u32, room: &mut [Frac]) -> Result<(), Stop>
     requires column { IsColumn old.now.matrix c }
     requires places { length room.old ≡ size old.now.matrix }
-    requires rebuilt { IsRebuilt old.now.matrix old.now.basics (c - 1) new.old }
-    ensures rebuilt { OnOk result (IsRebuilt old.now.matrix old.now.basics c new.new) }
+    requires rebuilt { IsRebuilt old.now.matrix old.now.basics 0 new.old }
+    ensures keeps { OnOk result ((n : ℕ) → IsRebuilt old.now.matrix old.now.basics n new.old →
+        IsRebuilt old.now.matrix old.now.basics n new.new) }
+    ensures entered { OnOk result (is_in old.now.basics (old.now.matrix.rows + c) ≡ true →
+        is_in new.new.basics (old.now.matrix.rows + c) ≡ true) }
     ensures refused { IfErr result
         (λ stop. IfOverflow stop (KeptRefused old.now.matrix old.now.basics)) }
 {
@@ -78,15 +88,40 @@ fn enter(old: &EtaFile, new: &mut EtaFile, c: u32, room: &mut [Frac]) -> Result<
     if !old.is_basic(k) {
         return Ok(());
     }
+    if new.is_basic(k) {
+        return Ok(());
+    }
     if let Err(stop) = new.column(k, room) {
         return Err(kept(stop));
     }
-    let p = leaver(old, new, room);
+    let p = leaver(old, new, room, wish);
     new.append_carried(p, k, room)?;
     Ok(())
 }
 
-/// A new file for the basics of this one.
+/// Lets the columns of an order in, each in place of the row that the order wishes for.
+fn enter_in_order(
+    old: &EtaFile,
+    new: &mut EtaFile,
+    order: &[Entering],
+    room: &mut [Frac],
+) -> Result<(), Stop>
+    requires places { length room.old ≡ size old.now.matrix }
+    requires rebuilt { IsRebuilt old.now.matrix old.now.basics 0 new.old }
+    ensures rebuilt { OnOk result (IsRebuilt old.now.matrix old.now.basics 0 new.new) }
+    ensures refused { IfErr result
+        (λ stop. IfOverflow stop (KeptRefused old.now.matrix old.now.basics)) }
+{
+    let cols = old.size() - old.rows();
+    for entering in order {
+        if entering.column >= 1 && entering.column <= cols {
+            enter(old, new, entering.column, entering.row, room)?;
+        }
+    }
+    Ok(())
+}
+
+/// A new file for the basics of this one. Where the order left a column out, it enters at the end.
 pub fn rebuild(old: &EtaFile, room: &mut [Frac]) -> Result<EtaFile, Stop>
     requires { length room.old ≡ size old.now.matrix }
     ensures remade { IfOk result (IsRemade old.now) }
@@ -96,8 +131,10 @@ pub fn rebuild(old: &EtaFile, room: &mut [Frac]) -> Result<EtaFile, Stop>
     let size = old.size();
     let rows = old.rows();
     let mut new = old.at_rows()?;
+    let order = entering_order(old)?;
+    enter_in_order(old, &mut new, &order, room)?;
     for c in 0..size - rows {
-        enter(old, &mut new, c + 1, room)?;
+        enter(old, &mut new, c + 1, 0, room)?;
     }
     let _new_size = new.size();
     Ok(new)

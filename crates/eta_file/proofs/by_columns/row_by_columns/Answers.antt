@@ -1,10 +1,11 @@
-use Rattle.std.proofs.Common.{◌≡◌, arith, rules, Err}
-use Rattle.eta_file.proofs.ColumnLaws.{row_of_rates, rates_more, row_stop}
+use Rattle.std.proofs.Common.{◌≡◌, ◌+◌, arith, rules, Err}
+use Rattle.eta_file.specs.Inverse.{IsRateAt}
+use Rattle.eta_file.proofs.ColumnLaws.{row_of_rates, each_more, row_stop}
 use Rattle.eta_file.proofs.by_columns.row_by_columns.Goals as goal
 
 pub loop-k-preserved : goal.loop-k-preserved
 loop-k-preserved c =
-    rates_more c.args.file.now c.args.i c.loop-k.k c.loop-k.out c.in_ok-out.field-0 (search rules) c.in_ok-out.ensures.value c.loop-k.invariant
+    each_more (λ k v. IsRateAt c.args.file.now c.args.i (k + 1) v) c.loop-k.k c.loop-k.out c.in_ok-out.field-0 (search rules) c.in_ok-out.ensures.value c.loop-k.invariant
 
 pub returns-clause-rates : goal.returns-clause-rates
 returns-clause-rates c =

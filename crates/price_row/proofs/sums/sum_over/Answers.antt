@@ -1,9 +1,9 @@
-use Rattle.std.proofs.Common.{◌∙◌, sym, ap, length, subst}
+use Rattle.std.proofs.Common.{◌≡◌, ◌∙◌, sym, ap, length, subst, rules, Err}
 use Rattle.exact_values.specs.Rational.{◌+ℚ◌, ◌*ℚ◌}
 use Rattle.lp_definitions.specs.LinearProgram.{value_at}
 use Rattle.eta_file.specs.declared.eta.EtaEntry.{EtaEntry}
 use Rattle.eta_file.specs.Entries.{IsEntryWithin}
-use Rattle.price_row.proofs.SumSteps.{weighted_same, weighted_more}
+use Rattle.price_row.proofs.SumSteps.{weighted_same, weighted_more, weighted_refused}
 use Rattle.price_row.proofs.sums.sum_over.Goals as goal
 use Rattle.price_row.proofs.sums.sum_over.Goals.{then-entry-p+in_ok-sum, else-entry-p}
 use Rattle.lp_laws.proofs.Places.{value_at_place}
@@ -22,3 +22,13 @@ loop-entry-preserved c =
           w.sum-is ∙ c.loop-entry.invariant
           ∙ sym (weighted_same c.args.p c.args.values.now c.args.entries.now c.loop-entry.entry-index c.entry-item.result c.args.first c.loop-entry-test.true c.entry-item.is w.if-entry-p.false)
     ]
+
+pub returns-in_err-sum-clause-refused : goal.returns-in_err-sum-clause-refused
+returns-in_err-sum-clause-refused c =
+    let is_err : c.from_residual.result ≡ Err c.in_err-sum.field-0.0 = search rules in
+    let within : IsEntryWithin (length c.args.values.now) c.entry-item.result =
+    subst (λ (x : EtaEntry). IsEntryWithin (length c.args.values.now) x) (sym c.entry-item.is) (c.requires c.loop-entry.entry-index c.entry-item.result c.loop-entry-test.true) in
+    rw is_err
+    (weighted_refused c.args.p c.args.first c.args.values.now c.args.entries.now c.loop-entry.entry-index c.entry-item.result c.loop-entry.sum c.index-values-entry.result c.in_err-sum.field-0.0
+    c.loop-entry-test.true c.entry-item.is c.if-entry-p.true c.loop-entry.invariant
+    (value_at_place c.args.values.now c.entry-item.result.i c.index-values-entry.result within.0 within.1 c.index-values-entry.is) c.in_err-sum.ensures.refused)

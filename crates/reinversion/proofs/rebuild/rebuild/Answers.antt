@@ -1,9 +1,16 @@
 use Rattle.std.proofs.Common.{arith}
-use Rattle.reinversion.proofs.Rebuilding.{rebuilt_start, rebuilt_all}
+use Rattle.reinversion.proofs.Rebuilding.{rebuilt_start, no_columns, next_column, rebuilt_all}
 use Rattle.reinversion.proofs.rebuild.rebuild.Goals as goal
 
-pub loop-c-init : goal.loop-c-init
-loop-c-init c = rebuilt_start c.args.old.now.matrix c.args.old.now.basics c.in_ok-new.new c.in_ok-new.ensures.matrix c.in_ok-new.ensures.basics c.in_ok-new.ensures.no_eta
+pub enter_in_order-requires-clause-rebuilt : goal.enter_in_order-requires-clause-rebuilt
+enter_in_order-requires-clause-rebuilt c = rebuilt_start c.args.old.now.matrix c.args.old.now.basics c.in_ok-new.new c.in_ok-new.ensures.matrix c.in_ok-new.ensures.basics c.in_ok-new.ensures.no_eta
+
+pub enter-requires-clause-rebuilt : goal.enter-requires-clause-rebuilt
+enter-requires-clause-rebuilt c = no_columns c.args.old.now.matrix c.args.old.now.basics c.loop-c.c c.loop-c.new c.loop-c.invariant
+
+pub loop-c-preserved : goal.loop-c-preserved
+loop-c-preserved c =
+    next_column c.args.old.now.matrix c.args.old.now.basics c.loop-c.c c.enter.new.new c.in_ok-enter.ensures.entered (c.in_ok-enter.ensures.keeps c.loop-c.c c.loop-c.invariant)
 
 pub returns-clause-remade : goal.returns-clause-remade
 returns-clause-remade c =

@@ -1,6 +1,6 @@
 use Rattle.std.proofs.Common.{◌∙◌}
 use Rattle.eta_file.proofs.ColumnLaws.{rate_read}
-use Rattle.eta_file.proofs.by_columns.rate_in.Goals as goal
+use Rattle.eta_file.proofs.by_columns.rate_by_column.Goals as goal
 
 pub returns-clause-value : goal.returns-clause-value
 returns-clause-value c =
