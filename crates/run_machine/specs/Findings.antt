@@ -23,7 +23,7 @@ use Rattle.run_machine.specs.declared.end.End.{End}
 use Rattle.run_machine.specs.declared.end.End.TheVariants as end
 use Rattle.run_machine.specs.declared.end.Place.{Place as OwnPlace}
 use Rattle.run_machine.specs.declared.finding.Finding.{Finding}
-use Rattle.run_machine.specs.declared.finding.Finding.TheVariants.{Refused, Overflow, Limit, Ended, Shown, Swept}
+use Rattle.run_machine.specs.declared.finding.Finding.TheVariants.{Refused, Overflow, WrongPrices, Limit, Ended, Shown, Swept}
 use Rattle.run_machine.specs.declared.selecting.Refusal.{Refusal}
 use Rattle.run_machine.specs.declared.selecting.Refusal.TheVariants.{Fault, NoMemory}
 use Rattle.run_machine.specs.declared.selecting.Refusal.TheVariants as refusals
@@ -80,6 +80,7 @@ demanded_act None end = Ends end
 abbrev pub act_of : Cells → ℕ → Finding → Act
 act_of cells card (Refused fault) = Ends (end.Verb fault card)
 act_of cells card (Overflow e place) = Ends (end.Overflow e place card)
+act_of cells card (WrongPrices variable) = Ends (end.WrongPrices card variable)
 act_of cells card Limit = Ends (end.Limit (steps_allowed cells) card)
 act_of cells card (Ended Optimal) = Next
 act_of cells card (Ended Infeasible) = demanded_act cells.xdonfs end.Infeasible

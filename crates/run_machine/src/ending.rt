@@ -5,10 +5,11 @@ ghost use Rattle.run_definitions.specs.Verbs.{deck_fault_number, number_fault_of
 ghost use Rattle.run_machine.specs.declared.end.End.TheVariants as ends;
 ghost use Rattle.run_machine.specs.Ends.{end_shown};
 
-use crate::end::{End, Place};
+use crate::end::{End, Place, SingularBasis};
 use card_definitions::NumberFault;
 use deck_definitions::DeckFaultKind;
 use listing_definitions::VerbFault;
+use listing_tables::Sheet;
 use lp_definitions::Evidence;
 use report_text::Ending;
 
@@ -120,6 +121,21 @@ fn overflow_of<'a>(evidence: &'a Evidence, place: &'a Option<Place>, card: u32) 
     }
 }
 
+// What is printed of a singular basis.
+fn singular_of(card: u32, basis: &SingularBasis) -> Ending<'_>
+    ensures shown { ending_shown result ≡ end_shown (ends.Singular card basis.now) }
+    ensures lawful { IsEnding result }
+{
+    Ending::Singular {
+        card,
+        sheet: Sheet {
+            problem: &basis.problem,
+            lp: &basis.lp,
+        },
+        dependency: &basis.dependency,
+    }
+}
+
 /// What is printed of an end.
 pub fn ending_of(end: &End) -> Ending<'_>
     ensures shown { ending_shown result ≡ end_shown end.now }
@@ -132,6 +148,11 @@ pub fn ending_of(end: &End) -> Ending<'_>
         End::Verb { fault, card } => Ending::Verb {
             fault: verb_fault_number(*fault),
             card: *card,
+        },
+        End::Singular { card, basis } => singular_of(*card, basis),
+        End::WrongPrices { card, variable } => Ending::WrongPrices {
+            card: *card,
+            variable: *variable,
         },
         End::Deck(fault) => Ending::Deck {
             fault: deck_fault_number(fault.kind),

@@ -27,6 +27,8 @@ pub enum Finding {
         evidence: Evidence,
         place: Option<Place>,
     },
+    /// The prices are wrong: that of this variable is the first.
+    WrongPrices(u32),
     /// The path goes on past the limit.
     Limit,
     /// The path has ended, and its verdict leaves this mark.
@@ -119,6 +121,7 @@ pub fn act_of(cells: &Cells, card: u32, finding: Finding) -> Act
             place,
             card,
         }),
+        Finding::WrongPrices(variable) => Act::Ends(End::WrongPrices { card, variable }),
         Finding::Limit => Act::Ends(End::Limit {
             limit: cells.steps_allowed(),
             card,
@@ -139,6 +142,7 @@ pub fn mark_left(finding: &Finding) -> Option<Mark>
         Finding::Ended(left) => Some(*left),
         Finding::Refused(_)
         | Finding::Overflow { .. }
+        | Finding::WrongPrices(_)
         | Finding::Limit
         | Finding::Shown
         | Finding::Swept(_) => None,

@@ -17,7 +17,7 @@ mod taking;
 mod title;
 
 pub use act::{Act, AfterStatement, Halt};
-pub use end::{End, Place};
+pub use end::{End, Place, SingularBasis};
 pub use ending::ending_of;
 pub use finding::{Finding, act_of, mark_left, overflow_at, refused};
 pub use machine::{Machine, Setup};
