@@ -7,7 +7,7 @@ ghost use Rattle.deck_definitions.specs.Sections.{may_follow, is_section, is_sec
 ghost use Rattle.deck_definitions.specs.declared.Section.TheVariants.{Header, Endata};
 ghost use Rattle.deck_definitions.specs.Tests.{columns_fault};
 ghost use Rattle.deck_definitions.specs.Conversion.{section_card_fault};
-ghost use Rattle.deck_parts.specs.Told.{TellsDeckFault};
+ghost use Rattle.deck_cards.specs.Told.{TellsDeckFault};
 ghost use Rattle.deck_parts.specs.Shown.{columns_alone};
 ghost use Rattle.deck_cards.specs.Shown.{shown};
 
@@ -142,7 +142,7 @@ impl DeckDraft {
     ghost use Rattle.deck_definitions.specs.Conversion.{section_fault, data_card_fault};
     ghost use Rattle.deck_definitions.proofs.Steps.{with_card};
     ghost use Rattle.mps_convert.specs.State.{with_data, state_of};
-    ghost use Rattle.deck_parts.specs.Told.{TellsDeckFault};
+    ghost use Rattle.deck_cards.specs.Told.{TellsDeckFault};
     ghost use Rattle.deck_cards.specs.Shown.{shown};
     ghost use Rattle.mps_convert.specs.Draft_shown.{problem_shown, problem_named};
     ghost use Rattle.problem_definitions.specs.Numbering.{numbered};

@@ -5,7 +5,7 @@ ghost use Rattle.card_reader.specs.Card.{card_bytes};
 ghost use Rattle.deck_definitions.specs.Conversion.{card_fault, first_faulty};
 ghost use Rattle.deck_definitions.proofs.Converted.{ArePrintable};
 ghost use Rattle.mps_convert.specs.State.{State, state_of, state_with, state_after, fault_at, live_fault, Stops, StopsAt};
-ghost use Rattle.deck_parts.specs.Told.{TellsDeckFault};
+ghost use Rattle.deck_cards.specs.Told.{TellsDeckFault};
 
 use card_reader::{Card, Cards};
 use deck_fields::{DeckFault, DeckStop};

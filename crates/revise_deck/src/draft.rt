@@ -36,7 +36,7 @@ impl ReviseDraft {
     ghost use Rattle.deck_definitions.specs.DataCards.{FixedFields};
     ghost use Rattle.deck_definitions.specs.Conversion.{form_fault, section_card_fault};
     ghost use Rattle.revise_definitions.specs.Revision.{may_come_after};
-    ghost use Rattle.deck_parts.specs.Told.{TellsDeckFault};
+    ghost use Rattle.deck_cards.specs.Told.{TellsDeckFault};
     ghost use Rattle.deck_cards.specs.Shown.{shown};
     ghost use Rattle.revise_definitions.specs.Actions.{is_action_card, action_on, anchor_on};
     ghost use Rattle.revise_definitions.specs.Tests.{action_fault};

@@ -5,7 +5,7 @@ ghost use Rattle.card_reader.specs.Card.{card_bytes};
 ghost use Rattle.problem_definitions.specs.Numbering.{by_names};
 ghost use Rattle.deck_definitions.specs.Conversion.{first_faulty};
 ghost use Rattle.deck_definitions.proofs.Converted.{ArePrintable};
-ghost use Rattle.deck_parts.specs.Told.{TellsDeckFault};
+ghost use Rattle.deck_cards.specs.Told.{TellsDeckFault};
 ghost use Rattle.revise_definitions.specs.Revision.{revise_card_fault};
 ghost use Rattle.revise_deck.specs.State.{State, state_of, state_with, state_after, fault_at, live_fault, Stops, StopsAt};
 

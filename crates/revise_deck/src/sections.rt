@@ -9,7 +9,7 @@ ghost use Rattle.problem_definitions.specs.Valid.{IsName};
 ghost use Rattle.deck_definitions.specs.declared.Section.TheVariants.{Header, Rows, Columns, Endata};
 ghost use Rattle.deck_definitions.specs.Sections.{is_section, is_section_card, rank, section_word, section_words};
 ghost use Rattle.deck_definitions.specs.Conversion.{section_card_fault};
-ghost use Rattle.deck_parts.specs.Told.{TellsDeckFault};
+ghost use Rattle.deck_cards.specs.Told.{TellsDeckFault};
 ghost use Rattle.revise_definitions.specs.Actions.{action_words, action_on, anchor_on, is_action_card};
 ghost use Rattle.revise_definitions.specs.Tests.{has_anchor, action_fault, inserts};
 ghost use Rattle.revise_definitions.specs.Revision.{may_come_after};
