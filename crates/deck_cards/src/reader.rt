@@ -1,9 +1,8 @@
 // The cards of a deck, one after another.
-ghost use Rattle.std.specs.Prelude.{◌≡◌, ◌≤◌, ◌∷◌, ◌++◌, [], None, ℕ, Bool, List, Option, OnOk, IfErr, length};
+ghost use Rattle.std.specs.Prelude.{◌≡◌, ◌≤◌, ◌∷◌, ◌++◌, [], None, ℕ, List, Option, OnOk, IfErr, length};
 ghost use Rattle.card_definitions.specs.Cards.{Card as Numbered, live, cards_between};
 ghost use Rattle.card_reader.specs.Card.{card_bytes};
 ghost use Rattle.deck_definitions.specs.declared.DeckFaultKind.{DeckFaultKind as Kind};
-ghost use Rattle.deck_definitions.specs.declared.Section.{Section as TheSection};
 ghost use Rattle.deck_definitions.specs.declared.Section.TheVariants.{Endata};
 ghost use Rattle.deck_definitions.specs.Sections.{is_section_after};
 ghost use Rattle.deck_definitions.specs.Conversion.{fault_by, first_faulty};
@@ -13,7 +12,7 @@ ghost use Rattle.deck_cards.specs.Stops.{Stops, StopsAt};
 
 use crate::card_stop::CardStop;
 use card_reader::{Card, Cards};
-use deck_definitions::{DeckFault, DeckFaultKind, Section};
+use deck_definitions::{DeckFault, DeckFaultKind};
 use deck_fields::DeckStop;
 
 /// What is made of the cards of a deck, one after another.
@@ -23,13 +22,6 @@ pub trait Draft {
 
     /// The draft is made of these cards.
     ghost is_made_of: { Self → List Numbered → Type 0 };
-
-    /// Whether a section may come after another.
-    ghost follows: { TheSection → TheSection → Bool };
-
-    /// Whether a section may come after another.
-    fn may_follow(before: Section, section: Section) -> bool
-        ensures { result ≡ follows before section };
 
     /// Whether the section of the ENDATA card goes on.
     fn is_ended(&self) -> bool

@@ -1,13 +1,13 @@
 // The section cards of a deck.
-ghost use Rattle.std.specs.Prelude.{◌≡◌, None, Some, IfOk, OnOk, IfErr};
+ghost use Rattle.std.specs.Prelude.{◌≡◌, Bool, Some, IfOk, OnOk, IfErr};
 ghost use Rattle.card_definitions.specs.Words.{named};
+ghost use Rattle.deck_definitions.specs.declared.Section.{Section as TheSection};
 ghost use Rattle.deck_definitions.specs.declared.Section.TheVariants.{Header, Endata};
 ghost use Rattle.deck_definitions.specs.Sections.{is_section, is_section_card, rank, section_word, section_words};
 ghost use Rattle.deck_definitions.specs.Conversion.{section_card_fault};
 ghost use Rattle.deck_cards.specs.Told.{TellsDeckFault};
 
 use crate::card_stop::CardStop;
-use crate::reader::Draft;
 use crate::words::{first_word, section_named};
 use deck_definitions::{DeckFaultKind, Section};
 
@@ -50,12 +50,22 @@ pub fn rank_of(section: Section) -> u8
     }
 }
 
-/// The section that a section card begins after another, in the order that drafts of this kind ask for.
-pub fn next_section<D: Draft>(before: Option<Section>, card: &[u8]) -> Result<Section, CardStop>
+/// The order in which the sections of a kind of decks come.
+pub trait SectionOrder {
+    /// Whether a section may come after another.
+    ghost follows: { TheSection → TheSection → Bool };
+
+    /// Whether a section may come after another.
+    fn may_follow(before: Section, section: Section) -> bool
+        ensures { result ≡ follows before section };
+}
+
+/// The section that a section card begins after another, in this order.
+pub fn next_section<O: SectionOrder>(before: Option<Section>, card: &[u8]) -> Result<Section, CardStop>
     ensures section { IfOk result (λ section. named section_words (section_word card.now) ≡
         Some section) }
-    ensures no_fault { OnOk result (section_card_fault D.follows before card.now ≡ None) }
-    ensures stop { IfErr result (TellsDeckFault (section_card_fault D.follows before card.now)) }
+    ensures no_fault { OnOk result (section_card_fault O.follows before card.now ≡ None) }
+    ensures stop { IfErr result (TellsDeckFault (section_card_fault O.follows before card.now)) }
 {
     let next = section_named(first_word(card));
     let Some(before) = before else {
@@ -73,7 +83,7 @@ pub fn next_section<D: Draft>(before: Option<Section>, card: &[u8]) -> Result<Se
     let Some(section) = next else {
         return Err(CardStop::Refused(DeckFaultKind::UnknownSection));
     };
-    if !D::may_follow(before, section) {
+    if !O::may_follow(before, section) {
         return Err(CardStop::Refused(DeckFaultKind::SectionOrder));
     }
     Ok(section)
