@@ -17,42 +17,38 @@ use deck_fields::DeckStop;
 
 /// What is made of the cards of a deck, one after another.
 pub trait Draft {
-    /// The fault of a card after others of its deck.
+    /// The fault of a card after others, in a deck that was begun with this draft.
     ghost test: { Self → List Numbered → List ℕ → Option Kind };
 
-    /// The draft is made of these cards.
-    ghost is_made_of: { Self → List Numbered → Type 0 };
+    /// Begun with the first draft, the second is made of these cards.
+    ghost is_made_of: { Self → Self → List Numbered → Type 0 };
 
     /// Whether the section of the ENDATA card goes on.
     fn is_ended(&self) -> bool
-        ensures { (seen : List Numbered) → is_made_of self.now seen → result ≡
+        ensures { (start : Self) (seen : List Numbered) → is_made_of start self.now seen → result ≡
             is_section_after Endata seen };
 
     /// Takes one more card that isn't skipped. After an `Err` the draft is of no use.
     fn take(&mut self, card: Card<'_>) -> Result<(), CardStop>
-        ensures same_test { OnOk result (test self.new ≡ test self.old) }
-        ensures no_fault { (seen : List Numbered) → is_made_of self.old seen → OnOk result
-            (test self.old seen (card_bytes card.entry) ≡ None) }
-        ensures made { (seen : List Numbered) (number : ℕ) → is_made_of self.old seen → OnOk result
-            (is_made_of self.new (seen ++ record {
-              number = number;
-              bytes = card_bytes card.entry;
-            } ∷ [])) }
-        ensures stop { (seen : List Numbered) → is_made_of self.old seen → IfErr result
-            (TellsDeckFault (test self.old seen (card_bytes card.entry))) };
+        ensures no_fault { (start : Self) (seen : List Numbered) → is_made_of start self.old seen →
+            OnOk result (test start seen (card_bytes card.entry) ≡ None) }
+        ensures made { (start : Self) (seen : List Numbered) (number : ℕ) →
+            is_made_of start self.old seen → OnOk result (is_made_of start self.new
+            (seen ++ record { number = number; bytes = card_bytes card.entry } ∷ [])) }
+        ensures stop { (start : Self) (seen : List Numbered) → is_made_of start self.old seen →
+            IfErr result (TellsDeckFault (test start seen (card_bytes card.entry))) };
 }
 
 // Reads one more card, which may be skipped.
 fn read_card<D: Draft>(draft: &mut D, number: u32, card: Card<'_>) -> Result<(), DeckStop>
-    ensures same_test { OnOk result (D.test draft.new ≡ D.test draft.old) }
-    ensures no_fault { (seen : List Numbered) → D.is_made_of draft.old seen → OnOk result
-        (first_faulty (D.test draft.old) seen
+    ensures no_fault { (start : D) (seen : List Numbered) → D.is_made_of start draft.old seen →
+        OnOk result (first_faulty (D.test start) seen
         (live (record { number = number; bytes = card_bytes card.entry } ∷ [])) ≡ None) }
-    ensures made { (seen : List Numbered) → D.is_made_of draft.old seen → OnOk result
-        (D.is_made_of draft.new
+    ensures made { (start : D) (seen : List Numbered) → D.is_made_of start draft.old seen →
+        OnOk result (D.is_made_of start draft.new
         (seen ++ live (record { number = number; bytes = card_bytes card.entry } ∷ []))) }
-    ensures stop { (seen : List Numbered) → D.is_made_of draft.old seen → IfErr result
-        (StopsAt (D.test draft.old) seen
+    ensures stop { (start : D) (seen : List Numbered) → D.is_made_of start draft.old seen →
+        IfErr result (StopsAt (D.test start) seen
         (record { number = number; bytes = card_bytes card.entry })) }
 {
     if card.is_skipped() {
@@ -73,13 +69,12 @@ pub fn read_cards<D: Draft>(
     first: u32,
     last: u32,
 ) -> Result<(), DeckStop>
-    requires start { D.is_made_of draft.old [] }
+    requires start { D.is_made_of draft.old draft.old [] }
     requires from_one { 1 ≤ first }
     requires ordered { first ≤ last }
     requires within { last ≤ length cards.now }
-    ensures made { OnOk result (D.is_made_of draft.new
+    ensures made { OnOk result (D.is_made_of draft.old draft.new
         (live (cards_between first last cards.now))) }
-    ensures same_test { OnOk result (D.test draft.new ≡ D.test draft.old) }
     ensures no_fault { OnOk result (fault_by (D.test draft.old)
         (cards_between first last cards.now) ≡ None) }
     ensures printable { OnOk result (ArePrintable (cards_between first last cards.now)) }

@@ -230,7 +230,7 @@ impl Draft for DeckDraft {
 
     ghost test = { λ _. card_fault };
 
-    ghost is_made_of = { λ draft seen. state_shown draft ≡ state_of seen };
+    ghost is_made_of = { λ _ draft seen. state_shown draft ≡ state_of seen };
 
     fn is_ended(&self) -> bool {
         match self.section {
