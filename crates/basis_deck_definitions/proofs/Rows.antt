@@ -1,5 +1,5 @@
 -- Basis decks, worked: what they say, their faults, and the deck of a basis. The decks begin at card 33 of a job.
-use Rattle.std.specs.Prelude.{◌≡◌, refl, ℕ, List, [], ◌∷◌, codes, Option, Some, None, Result, Ok, Err, map}
+use Rattle.std.specs.Prelude.{◌≡◌, refl, ℕ, List, [], ◌∷◌, codes, Some, None, Result, Ok, Err, map}
 use Prim.Native.String.{String}
 use Rattle.std.proofs.Common.{pos}
 use Rattle.exact_values.specs.Rational.{whole, zero_ℚ}
@@ -14,7 +14,7 @@ use Rattle.problem_definitions.specs.declared.RowKind.TheVariants.{N, L, G, E}
 use Rattle.deck_definitions.specs.Written.{data_card}
 use Rattle.deck_definitions.specs.declared.DeckFault.{DeckFault}
 use Rattle.deck_definitions.specs.declared.DeckFaultKind.{DeckFaultKind}
-use Rattle.deck_definitions.specs.declared.DeckFaultKind.TheVariants.{SectionOrder, UnknownSection, UnknownRow, UnknownColumn, NoEndata, ExtraField, BadBasisCode, NamedTwice, NoSuchLimit}
+use Rattle.deck_definitions.specs.declared.DeckFaultKind.TheVariants.{SectionOrder, BadBasisCode, NamedTwice, NoSuchLimit}
 use Rattle.basis_deck_definitions.specs.Reading.{stands_for, basis_card_fault, basis_reading}
 use Rattle.basis_deck_definitions.specs.Writing.{basis_deck}
 

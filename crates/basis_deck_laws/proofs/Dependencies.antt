@@ -5,10 +5,10 @@ use Rattle.exact_values.proofs.Inverse.{zero_or_not, mul-inverse, one_apart}
 use Rattle.exact_values.proofs.Ring.{by_ring1, by_ring2, ◌⊕◌, ◌⊖◌, ◌⊗◌, ◌≐◌, number}
 use Rattle.exact_values.proofs.Ring_laws.{mul-zero}
 use Rattle.exact_values.proofs.Sums.{sum_to-zero}
-use Rattle.lp_definitions.specs.LinearProgram.{Matrix, Vector, size, entry, IsVariable, KeepsEquations}
+use Rattle.lp_definitions.specs.LinearProgram.{Matrix, Vector, entry, IsVariable, KeepsEquations}
 use Rattle.lp_definitions.specs.Basis.{Basics, is_in, IsNonsingular}
 use Rattle.lp_laws.proofs.Equations.{KeepsEquations-sub, KeepsEquations-scale}
-use Rattle.basis_deck_definitions.specs.Dependencies.{IsCombination, IsDependency}
+use Rattle.basis_deck_definitions.specs.Dependencies.{IsDependency}
 
 pub order : (m n : ℕ) → (m < n) ⊎ ((m ≡ n) ⊎ (n < m))
 order zero zero = inr (inl refl)

@@ -1,2 +1,3 @@
 pub mod Dependencies
+pub mod Lawful
 pub mod Stuck

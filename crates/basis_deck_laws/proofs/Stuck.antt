@@ -1,6 +1,6 @@
 -- Where no row may go out for a column, the column's direction is the dependency.
-use Rattle.std.proofs.Common.{◌≡◌, ℕ, ◌+◌, ◌<◌, ◌≤◌, ◌⊎◌, inl, inr, Bool, true, false, refl, sym, ◌∙◌, arith}
-use Rattle.exact_values.specs.Rational.{ℚ, zero_ℚ}
+use Rattle.std.proofs.Common.{◌≡◌, ℕ, ◌<◌, ◌≤◌, ◌⊎◌, inl, inr, Bool, true, false, refl, sym, ◌∙◌, arith}
+use Rattle.exact_values.specs.Rational.{zero_ℚ}
 use Rattle.exact_values.proofs.Inverse.{one_apart}
 use Rattle.lp_definitions.specs.LinearProgram.{Matrix, Vector, IsVariable}
 use Rattle.lp_definitions.specs.Basis.{Basics, is_in, IsBasic, IsNonbasic, IsNonsingular, IsDirectionOf}

@@ -1,0 +1,7 @@
+use Rattle.basis_deck_laws.proofs.Lawful.{lawful}
+use Rattle.basis_deck_laws.proofs.basis_deck_laws.Goals as goal
+
+pub returns : goal.returns
+returns c = record {
+  lawful = lawful;
+}
