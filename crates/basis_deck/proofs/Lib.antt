@@ -1,2 +1,5 @@
 pub mod Stuck
 pub mod OnWay
+mod Marks
+mod Named
+mod CardStep

@@ -1,1 +1,3 @@
 pub mod Installing
+pub mod Reading
+pub mod Draft_shown

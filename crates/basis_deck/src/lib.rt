@@ -1,6 +1,12 @@
-//! Basis decks: a basis is written as cards, and the rates of a basis are made anew.
+//! Basis decks: a deck is read, and gives a basis; a basis is written as cards; and the rates of a basis are made anew.
 #![tactic(auto)]
 
+mod codes;
+mod draft;
 mod installing;
+mod names;
+mod reading;
 
+pub use deck_fields::{DeckFault, DeckFaultKind, DeckStop};
 pub use installing::{InstallStop, install};
+pub use reading::read_basis;

@@ -7,12 +7,10 @@ use Rattle.lp_definitions.specs.LinearProgram.{LinearProgram}
 use Rattle.lp_definitions.specs.declared.Status.{Status}
 use Rattle.lp_definitions.specs.declared.Status.TheVariants.{Bs, Ll, Ul}
 use Rattle.card_definitions.specs.Fields.{Reading}
+pub use Rattle.basis_deck_definitions.specs.declared.Code.{Code}
+pub use Rattle.basis_deck_definitions.specs.declared.Code.TheVariants.{Exchanges, Stands}
 use Rattle.problem_definitions.specs.Names.{Name, number_in}
 use Rattle.problem_definitions.specs.Problem.{Problem, row_names, group_names}
-
--- the column in field 2 is basic, and the row in field 3 stands at this limit; or the column stands at this limit
-pub data Code : Type 0 where
-  Exchanges Stands : Status → Code
 
 abbrev pub code_words : List (List ℕ × Code)
 code_words = (codes "XU", Exchanges Ul) ∷ (codes "XL", Exchanges Ll) ∷ (codes "UL", Stands Ul) ∷ (codes "LL", Stands Ll) ∷ []

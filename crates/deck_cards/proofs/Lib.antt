@@ -1,1 +1,4 @@
 mod CardNames
+pub mod Between
+pub mod FirstFaulty
+pub mod States

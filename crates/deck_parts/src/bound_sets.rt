@@ -8,15 +8,15 @@ ghost use Rattle.problem_definitions.specs.Groups.{items_of, in_set};
 ghost use Rattle.deck_definitions.specs.DataCards.{bound_of, bound_group};
 ghost use Rattle.deck_definitions.specs.Tests.{bound_value_fault, bounds_fault};
 ghost use Rattle.deck_definitions.proofs.Steps.{with_group};
-ghost use Rattle.deck_parts.specs.Told.{TellsDeckFault};
+ghost use Rattle.deck_cards.specs.Told.{TellsDeckFault};
 ghost use Rattle.deck_parts.specs.Shown.{group_at, bounds_alone, bound_end_fault, bound_rest_fault, column_number};
 ghost use Rattle.deck_cards.specs.Shown.{shown};
 
 use crate::bounds::{Bounds, NamedBound};
-use crate::card_stop::{CardStop, fault_after};
+use crate::fault_after::fault_after;
 use crate::groups::Groups;
 use crate::pairs::number_in;
-use deck_cards::{DataCard, bound_kind, is_blank};
+use deck_cards::{CardStop, DataCard, bound_kind, is_blank};
 use deck_definitions::DeckFaultKind;
 use deck_fields::Decimal;
 use indexmap::IndexMap;

@@ -9,16 +9,15 @@ ghost use Rattle.problem_definitions.specs.Groups.{items_of, in_set};
 ghost use Rattle.deck_definitions.specs.DataCards.{entries_of, pairs_of};
 ghost use Rattle.deck_definitions.specs.declared.Section.TheVariants.{Columns};
 ghost use Rattle.deck_definitions.specs.Tests.{pairs_fault};
-ghost use Rattle.deck_parts.specs.Told.{TellsDeckFault};
+ghost use Rattle.deck_cards.specs.Told.{TellsDeckFault};
 ghost use Rattle.deck_parts.specs.Shown.{rows_alone, group_at, column_fault, row_number, column_number};
 ghost use Rattle.deck_cards.specs.Shown.{shown};
 
-use crate::card_stop::CardStop;
 use crate::entries::Entries;
 use crate::numbers::number_from;
 use crate::pairs::take_pairs;
 use crate::rows::Rows;
-use deck_cards::DataCard;
+use deck_cards::{CardStop, DataCard};
 use deck_definitions::{DeckFaultKind, Section};
 use indexmap::IndexMap;
 use name_table::Name;

@@ -5,8 +5,8 @@
 mod additions;
 mod bound_sets;
 mod bounds;
-mod card_stop;
 mod entries;
+mod fault_after;
 mod groups;
 mod numbers;
 mod on_row;
@@ -16,12 +16,12 @@ mod sections;
 
 pub use bound_sets::{BoundSets, bound_value, take_bound_card};
 pub use bounds::{touches_bottom, touches_top};
-pub use card_stop::CardStop;
+pub use deck_cards::CardStop;
 pub use deck_definitions::{DeckFaultKind, Section};
 pub use groups::Groups;
 pub use pairs::number_in;
 pub use rows::{Rows, is_free};
 pub use sections::{
-    has_more, is_marker, new_row_fault, order_fault, row_kind_of, take_column_card, take_row_card,
+    follows, has_more, is_marker, new_row_fault, row_kind_of, take_column_card, take_row_card,
     take_set_card,
 };

@@ -4,16 +4,18 @@ ghost use Rattle.card_definitions.specs.Numbers.{decimal_of};
 ghost use Rattle.card_definitions.specs.declared.NumberFault.TheVariants.{BadCharacter};
 ghost use Rattle.deck_definitions.specs.DataCards.{entry_of, entries_of, pairs_of};
 ghost use Rattle.deck_definitions.specs.Tests.{number_fault_from, value_fault, pair_row_fault, pair_fault, pairs_fault};
-ghost use Rattle.deck_parts.specs.Told.{TellsDeckFault};
+ghost use Rattle.deck_cards.specs.Told.{TellsDeckFault};
 ghost use Rattle.deck_parts.specs.Shown.{rows_alone, pair_value_fault};
 ghost use Rattle.deck_cards.specs.Shown.{shown, pair_shown};
 
-use crate::card_stop::{CardStop, fault_after};
+use crate::fault_after::fault_after;
 use crate::entries::Entries;
 use crate::on_row::OnRow;
 use crate::rows::{FoundRow, Rows, is_free};
 use card_definitions::NumberFault;
-use deck_cards::{DataCard, PairText, first_pair, is_blank, is_columns, is_ranges, second_pair};
+use deck_cards::{
+    CardStop, DataCard, PairText, first_pair, is_blank, is_columns, is_ranges, second_pair,
+};
 use deck_definitions::{DeckFaultKind, Section};
 use deck_fields::{Decimal, number};
 use name_table::Name;

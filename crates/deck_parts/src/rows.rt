@@ -4,12 +4,12 @@ ghost use Rattle.card_definitions.specs.Words.{◌⟹◌};
 ghost use Rattle.problem_definitions.specs.Kinds.{is_free_kind};
 ghost use Rattle.problem_definitions.specs.Problem.{plain_row, has_row, has_free_row};
 ghost use Rattle.problem_definitions.specs.Numbering.{row_by};
-ghost use Rattle.deck_parts.specs.Told.{TellsDeckFault};
+ghost use Rattle.deck_cards.specs.Told.{TellsDeckFault};
 ghost use Rattle.deck_parts.specs.Shown.{row_at, decl_at, row_number};
 
 use crate::additions::add_new;
-use crate::card_stop::CardStop;
 use crate::numbers::number_from;
+use deck_cards::CardStop;
 use deck_definitions::DeckFaultKind;
 use indexmap::IndexMap;
 use name_table::Name;

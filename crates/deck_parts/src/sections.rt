@@ -6,16 +6,16 @@ ghost use Rattle.problem_definitions.specs.Names.{same, marker};
 ghost use Rattle.problem_definitions.specs.Problem.{entry_count};
 ghost use Rattle.problem_definitions.specs.Groups.{in_set};
 ghost use Rattle.deck_definitions.specs.DataCards.{entries_of, row_of, row_kinds};
-ghost use Rattle.deck_definitions.specs.Sections.{may_follow, rank, furthest_next};
+ghost use Rattle.deck_definitions.specs.Sections.{may_follow, furthest_next};
 ghost use Rattle.deck_definitions.specs.Tests.{filled_from_3, rows_fault, columns_fault, set_fault};
-ghost use Rattle.deck_parts.specs.Told.{TellsDeckFault};
+ghost use Rattle.deck_cards.specs.Told.{TellsDeckFault};
 ghost use Rattle.deck_parts.specs.Shown.{rows_alone, columns_alone, row_kind_fault};
 ghost use Rattle.deck_cards.specs.Shown.{shown};
 
-use crate::card_stop::{CardStop, fault_after};
+use crate::fault_after::fault_after;
 use crate::groups::Groups;
 use crate::rows::Rows;
-use deck_cards::{DataCard, is_blank, is_combination, is_word, row_kind};
+use deck_cards::{CardStop, DataCard, is_blank, is_combination, is_word, rank_of, row_kind};
 use deck_definitions::{DeckFaultKind, Section};
 use problem_definitions::{MAX_ROWS, RowKind};
 use std::alloc::Global;
@@ -138,21 +138,6 @@ pub fn take_set_card(
     sets.take(alloc, rows, section, 0, card)
 }
 
-// How far along a section stands.
-fn rank_of(section: Section) -> u8
-    ensures { result ≡ rank section }
-{
-    match section {
-        Section::Header => 0,
-        Section::Rows => 1,
-        Section::Columns => 2,
-        Section::Rhs => 3,
-        Section::Ranges => 4,
-        Section::Bounds => 5,
-        Section::Endata => 6,
-    }
-}
-
 // The furthest section that may come next.
 fn furthest_after(section: Section) -> Section
     ensures { result ≡ furthest_next section }
@@ -168,20 +153,9 @@ fn furthest_after(section: Section) -> Section
     }
 }
 
-// Whether a section may come next.
-fn follows(before: Section, section: Section) -> bool
+/// Whether a section may come next in a data deck.
+pub fn follows(before: Section, section: Section) -> bool
     ensures { result ≡ may_follow before section }
 {
     rank_of(before) < rank_of(section) && rank_of(section) <= rank_of(furthest_after(before))
-}
-
-/// The fault of a section after another.
-pub fn order_fault(before: Section, section: Section) -> Option<DeckFaultKind>
-    ensures { result ≡ (not (may_follow before section) ⟹ DeckFaultKind.SectionOrder) }
-{
-    if follows(before, section) {
-        None
-    } else {
-        Some(DeckFaultKind::SectionOrder)
-    }
 }

@@ -2,6 +2,8 @@
 #![tactic(auto)]
 
 #[cfg(test)]
+mod basis_decks;
+#[cfg(test)]
 mod cards;
 #[cfg(test)]
 mod decks;

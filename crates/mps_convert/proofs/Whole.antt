@@ -6,6 +6,7 @@ use Rattle.std.proofs.lemmas.Option.{slice_get-get_or}
 use Rattle.std.proofs.lemmas.List.{map-append}
 use Rattle.card_definitions.specs.Words.{unless, ◌⟹◌}
 use Rattle.card_definitions.specs.Cards.{Card, live, numbered_cards, cards_between, is_skipped, last_number}
+use Rattle.card_definitions.proofs.FirstFaults.{no_first}
 use Rattle.card_definitions.proofs.Numbered.{live-append}
 use Rattle.problem_definitions.specs.Names.{Name}
 use Rattle.problem_definitions.specs.Problem.{Problem}
@@ -16,45 +17,37 @@ use Rattle.deck_definitions.specs.declared.DeckFaultKind.TheVariants.{NoEndata}
 use Rattle.deck_definitions.specs.declared.Section.TheVariants.{Endata}
 use Rattle.deck_definitions.specs.Sections.{is_section_after, header_name}
 use Rattle.deck_definitions.specs.Described.{described}
-use Rattle.deck_definitions.specs.Conversion.{card_fault, first_faulty, deck_fault, deck_name, conversion}
+use Rattle.deck_definitions.specs.Conversion.{card_fault, first_faulty, fault_by, deck_fault, deck_name, conversion}
 use Rattle.deck_definitions.proofs.Converted.{ArePrintable, described-problem, printable_live}
 use Rattle.deck_definitions.proofs.Steps.{last_or-push}
 use Rattle.deck_fields.specs.declared.stop.DeckStop.{DeckStop}
 use Rattle.deck_fields.specs.declared.stop.DeckStop.TheVariants.{Fault, NoMemory}
-use Rattle.mps_convert.specs.State.{State, state_of, Stops}
+use Rattle.deck_cards.specs.Stops.{Stops}
+use Rattle.deck_cards.proofs.Between.{cards_up_to, cards_more, cards_split}
+use Rattle.mps_convert.specs.State.{State, state_of}
 use Rattle.mps_convert.specs.Conversion.{Refuses}
-use Rattle.mps_convert.proofs.Loop.{cards_up_to, cards_more, cards_split}
 
 module _ (deck : List Card) (name : Option Name) where
   made : Problem ℕ
   made = numbered (described (unwrap_or name (deck_name (live deck))) (live deck))
 
-  by_parts : Option DeckFault → Bool → ℕ → Result (Problem ℕ) DeckFault
-  by_parts faulty ended last = unless (option_or faulty (option_or (not ended ⟹ record { card = last; kind = NoEndata }) None)) made
+  by_fault : conversion deck name ≡ unless (fault_by card_fault deck) made
+  unfolding conversion deck_fault made
+  by_fault = refl
 
-  in_parts : conversion deck name ≡ by_parts (first_faulty card_fault [] (live deck)) (is_section_after Endata (live deck)) (last_number deck)
-  unfolding conversion deck_fault made by_parts
-  in_parts = refl
-
-  -- the first faulty card decides
-  pub faulty : (stop : DeckStop) → Stops (live deck) stop → Refuses deck name stop
-  unfolding by_parts
+  -- the fault of the deck is what it converts to
+  pub faulty : (stop : DeckStop) → Stops card_fault deck stop → Refuses deck name stop
   faulty NoMemory h = tt
-  faulty (Fault told) h = in_parts ∙ ap (λ o. by_parts o (is_section_after Endata (live deck)) (last_number deck)) h
+  faulty (Fault found) h = by_fault ∙ ap (λ o. unless o made) h
 
-  -- where no card is faulty, the end of the deck may be missing
-  pub unended : (last : ℕ) → first_faulty card_fault [] (live deck) ≡ None → is_section_after Endata (live deck) ≡ false → last_number deck ≡ last
-      → conversion deck name ≡ Err (record { card = last; kind = NoEndata })
-  unfolding by_parts
-  unended last fine open_end is =
-      in_parts ∙ ap (λ o. by_parts o (is_section_after Endata (live deck)) (last_number deck)) fine ∙ ap (λ b. by_parts None b (last_number deck)) open_end ∙ ap (by_parts None false) is
+  -- without one it converts to the problem that it describes
+  pub whole : fault_by card_fault deck ≡ None → conversion deck name ≡ Ok (numbered (described (unwrap_or name (deck_name (live deck))) (live deck)))
+  unfolding made
+  whole fine = by_fault ∙ ap (λ o. unless o made) fine
 
-  -- else it converts to the problem that it describes
-  pub whole : first_faulty card_fault [] (live deck) ≡ None → is_section_after Endata (live deck) ≡ true
-      → conversion deck name ≡ Ok (numbered (described (unwrap_or name (deck_name (live deck))) (live deck)))
-  unfolding by_parts made
-  whole fine ended =
-      in_parts ∙ ap (λ o. by_parts o (is_section_after Endata (live deck)) (last_number deck)) fine ∙ ap (λ b. by_parts None b (last_number deck)) ended
+  -- and no card is faulty
+  pub cards_fine : fault_by card_fault deck ≡ None → first_faulty card_fault [] (live deck) ≡ None
+  cards_fine fine = no_first (first_faulty card_fault [] (live deck)) _ fine
 
 -- a problem under another name
 pub named_as : (name : Name) (cards : List Card) (problem : Problem Name) → problem ≡ described [] cards → record problem { name = name } ≡ described name cards
@@ -62,16 +55,16 @@ unfolding described
 named_as name cards problem is = ap (λ (p : Problem Name). record p { name = name }) is
 
 -- what a draft shows after the cards of a deck without a fault, under a name, is a problem
-pub is_problem : (deck : List Card) (own : Name) (problem : Problem Name) → IsName own → ArePrintable deck → first_faulty card_fault [] (live deck) ≡ None → problem ≡ described [] (live deck)
+pub is_problem : (deck : List Card) (own : Name) (problem : Problem Name) → IsName own → ArePrintable deck → fault_by card_fault deck ≡ None → problem ≡ described [] (live deck)
     → IsProblem (numbered (record problem { name = own }))
 is_problem deck own problem named printable fine is =
-    subst (λ (p : Problem Name). IsProblem (numbered p)) (sym (named_as own (live deck) problem is)) (described-problem own (live deck) named (printable_live deck printable) fine)
+    subst (λ (p : Problem Name). IsProblem (numbered p)) (sym (named_as own (live deck) problem is)) (described-problem own (live deck) named (printable_live deck printable) (cards_fine deck None fine))
 
 -- and the deck converts to it
-pub converts : (deck : List Card) (name : Option Name) (own : Name) (shown : Problem Name) (problem : Problem ℕ) → first_faulty card_fault [] (live deck) ≡ None → is_section_after Endata (live deck) ≡ true
+pub converts : (deck : List Card) (name : Option Name) (own : Name) (shown : Problem Name) (problem : Problem ℕ) → fault_by card_fault deck ≡ None
     → shown ≡ described [] (live deck) → own ≡ unwrap_or name (deck_name (live deck)) → problem ≡ numbered (record shown { name = own }) → conversion deck name ≡ Ok problem
-converts deck name own shown problem fine ended is own_is problem_is =
-    whole deck name fine ended
+converts deck name own shown problem fine is own_is problem_is =
+    whole deck name fine
     ∙ ap (λ (p : Problem ℕ). Ok p) (ap (λ n. numbered (described n (live deck))) (sym own_is) ∙ ap numbered (sym (named_as own (live deck) shown is)) ∙ sym problem_is)
 
 -- after no card
@@ -79,16 +72,7 @@ pub nothing_read : (state : State) → state.section ≡ None → state.problem 
 unfolding described
 nothing_read state section problem = λ i. record { section = section i; problem = problem i }
 
--- ---- the last card and the first
-
-pub last_is : (first last : ℕ) (cards : List (List ℕ)) → 1 ≤ first → first ≤ last → last ≤ length cards → last_number (cards_between first last cards) ≡ last
-last_is first last cards from_one from within =
-    let inside : last - 1 < length cards = omega arith in
-    let card = get_or cards (last - 1) [] in
-    let more = cards_more first last cards card from_one from (slice_get-get_or cards (last - 1) [] inside) in
-    ap last_number more
-    ∙ ap (λ numbers. unwrap_or (last_or None numbers) 0) (map-append (λ (c : Card). c.number) (cards_up_to first last cards) (record { number = last; bytes = card } ∷ []))
-    ∙ ap (λ o. unwrap_or o 0) (last_or-push None (map (λ (c : Card). c.number) (cards_up_to first last cards)) (Some last))
+-- ---- the first card
 
 module _ (first number : ℕ) (cards : List (List ℕ)) (card : List ℕ) (from_one : 1 ≤ first) (from : first ≤ number) (at : slice_get cards (number - 1) ≡ Some card)
     (none : live (cards_up_to first number cards) ≡ []) where

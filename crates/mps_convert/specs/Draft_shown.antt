@@ -1,7 +1,8 @@
--- The problem that a draft stands for.
+-- The problem that a draft stands for, and its state.
 use Rattle.std.specs.Prelude.{[]}
 use Rattle.problem_definitions.specs.Names.{Name}
 use Rattle.problem_definitions.specs.Problem.{Problem}
+use Rattle.mps_convert.specs.State.{State}
 use Rattle.mps_convert.specs.declared.draft.DeckDraft.{DeckDraft}
 
 -- under this name
@@ -10,3 +11,7 @@ problem_named name draft = record { name = name; rows = draft.rows; columns = dr
 
 abbrev pub problem_shown : DeckDraft → Problem Name
 problem_shown draft = problem_named [] draft
+
+-- the section that goes on, and that problem
+abbrev pub state_shown : DeckDraft → State
+state_shown draft = record { section = draft.section; problem = problem_shown draft }

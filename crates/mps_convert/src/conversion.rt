@@ -3,18 +3,17 @@ ghost use Rattle.std.specs.Prelude.{◌≡◌, ◌≤◌, [], None, IfOk, IfErr,
 ghost use Rattle.card_definitions.specs.Cards.{live, cards_between};
 ghost use Rattle.card_reader.specs.Card.{card_bytes};
 ghost use Rattle.problem_definitions.specs.Valid.{IsName};
-ghost use Rattle.deck_definitions.specs.Sections.{header_name, section_after};
+ghost use Rattle.deck_definitions.specs.Sections.{header_name};
 ghost use Rattle.deck_definitions.specs.Described.{described};
-ghost use Rattle.deck_definitions.specs.Conversion.{card_fault, first_faulty, deck_name, conversion};
+ghost use Rattle.deck_definitions.specs.Conversion.{card_fault, fault_by, deck_name, conversion};
 ghost use Rattle.deck_definitions.proofs.Converted.{ArePrintable};
 ghost use Rattle.mps_convert.specs.Conversion.{Refuses};
 ghost use Rattle.mps_convert.specs.Draft_shown.{problem_shown};
 
 use crate::draft::DeckDraft;
-use crate::reading::read_cards;
 use card_reader::{Card, Cards};
-use deck_cards::name_in;
-use deck_fields::{DeckFault, DeckFaultKind, DeckStop};
+use deck_cards::{name_in, read_cards};
+use deck_fields::DeckStop;
 use name_table::Name;
 use problem_file::Problem;
 use std::alloc::Global;
@@ -69,8 +68,8 @@ pub fn problem_name(cards: &Cards, first: u32, last: u32, name: Option<Name>) ->
     }
 }
 
-// The problem of a deck whose cards were read without a fault, or the fault of its end.
-fn ended_problem(
+// The problem of a deck that was read without a fault.
+fn problem_of(
     draft: &DeckDraft,
     cards: &Cards,
     first: u32,
@@ -80,23 +79,14 @@ fn ended_problem(
     requires from_one { 1 ≤ first }
     requires ordered { first ≤ last }
     requires within { last ≤ length cards.now }
-    requires section { draft.now.section ≡ section_after (live
-        (cards_between first last cards.now)) }
     requires described { problem_shown draft.now ≡ described []
         (live (cards_between first last cards.now)) }
-    requires no_fault { first_faulty card_fault []
-        (live (cards_between first last cards.now)) ≡ None }
+    requires no_fault { fault_by card_fault (cards_between first last cards.now) ≡ None }
     requires printable { ArePrintable (cards_between first last cards.now) }
     ensures problem { IfOk result (λ problem. conversion (cards_between first last cards.now) name ≡
         Ok problem) }
     ensures stop { IfErr result (Refuses (cards_between first last cards.now) name) }
 {
-    if !draft.is_ended() {
-        return Err(DeckStop::Fault(DeckFault {
-            card: last,
-            kind: DeckFaultKind::NoEndata,
-        }));
-    }
     let own = problem_name(cards, first, last, name);
     match draft.problem(own) {
         Ok(problem) => Ok(problem),
@@ -123,5 +113,5 @@ pub fn convert(
 {
     let mut draft = DeckDraft::new(alloc);
     read_cards(&mut draft, cards, first, last)?;
-    ended_problem(&draft, cards, first, last, name)
+    problem_of(&draft, cards, first, last, name)
 }

@@ -1,79 +1,24 @@
 // A problem in the making, card by card.
 ghost use Rattle.std.specs.Prelude.{◌≡◌, ◌≤◌, ◌++◌, None, Some, length, sum_by, IfOk, OnOk, IfErr};
-ghost use Rattle.card_definitions.specs.Words.{named};
 ghost use Rattle.problem_definitions.specs.Groups.{in_set};
 ghost use Rattle.deck_definitions.specs.DataCards.{entries_of};
-ghost use Rattle.deck_definitions.specs.Sections.{may_follow, is_section, is_section_card, section_word, section_words};
-ghost use Rattle.deck_definitions.specs.declared.Section.TheVariants.{Header, Endata};
 ghost use Rattle.deck_definitions.specs.Tests.{columns_fault};
-ghost use Rattle.deck_definitions.specs.Conversion.{section_card_fault};
-ghost use Rattle.deck_parts.specs.Told.{TellsDeckFault};
+ghost use Rattle.deck_cards.specs.Told.{TellsDeckFault};
 ghost use Rattle.deck_parts.specs.Shown.{columns_alone};
 ghost use Rattle.deck_cards.specs.Shown.{shown};
 
-use crate::reading::Draft;
 use card_reader::Card;
-use deck_cards::{DataCard, first_word, is_blank as is_empty_text, read_data_card, section_named};
+use deck_cards::{
+    CardStop, DataCard, Draft, SectionOrder, begins_section, is_blank as is_empty_text, is_header,
+    is_last, next_section, read_data_card,
+};
 use deck_parts::{
-    BoundSets, CardStop, DeckFaultKind, Groups, Rows, Section, order_fault, take_bound_card,
-    take_column_card, take_row_card, take_set_card,
+    BoundSets, DeckFaultKind, Groups, Rows, Section, follows, take_bound_card, take_column_card,
+    take_row_card, take_set_card,
 };
 use name_table::Name;
 use problem_file::{NoMemory, Problem};
 use std::alloc::Global;
-
-// Whether a card is a section card.
-fn begins_section(card: &[u8]) -> bool
-    ensures { result ≡ is_section_card card.now }
-{
-    match card.first() {
-        Some(byte) => !(*byte == b' ' || *byte == b'*'),
-        None => false,
-    }
-}
-
-// Whether this is the section of the NAME card.
-fn is_header(section: Section) -> bool
-    ensures { result ≡ is_section Header section }
-{
-    matches!(section, Section::Header)
-}
-
-// Whether this is the section of the ENDATA card.
-fn is_last(section: Section) -> bool
-    ensures { result ≡ is_section Endata section }
-{
-    matches!(section, Section::Endata)
-}
-
-// The section that a section card begins after another.
-fn next_section(before: Option<Section>, card: &[u8]) -> Result<Section, CardStop>
-    ensures section { IfOk result (λ section. named section_words (section_word card.now) ≡
-        Some section) }
-    ensures no_fault { OnOk result (section_card_fault may_follow before card.now ≡ None) }
-    ensures stop { IfErr result (TellsDeckFault (section_card_fault may_follow before card.now)) }
-{
-    let next = section_named(first_word(card));
-    let Some(before) = before else {
-        return match next {
-            Some(Section::Header) => Ok(Section::Header),
-            Some(Section::Rows) => Err(CardStop::Refused(DeckFaultKind::SectionOrder)),
-            Some(Section::Columns) => Err(CardStop::Refused(DeckFaultKind::SectionOrder)),
-            Some(Section::Rhs) => Err(CardStop::Refused(DeckFaultKind::SectionOrder)),
-            Some(Section::Ranges) => Err(CardStop::Refused(DeckFaultKind::SectionOrder)),
-            Some(Section::Bounds) => Err(CardStop::Refused(DeckFaultKind::SectionOrder)),
-            Some(Section::Endata) => Err(CardStop::Refused(DeckFaultKind::SectionOrder)),
-            None => Err(CardStop::Refused(DeckFaultKind::SectionOrder)),
-        };
-    };
-    let Some(section) = next else {
-        return Err(CardStop::Refused(DeckFaultKind::UnknownSection));
-    };
-    match order_fault(before, section) {
-        Some(kind) => Err(CardStop::Refused(kind)),
-        None => Ok(section),
-    }
-}
 
 // How many pairs a data card has.
 fn pair_count(card: &DataCard<'_>) -> u32
@@ -135,20 +80,18 @@ pub struct DeckDraft {
 }
 
 impl DeckDraft {
-    ghost use Rattle.std.specs.Prelude.{◌≡◌, [], None, Some, IfOk, OnOk, IfErr, false, unwrap_or, option_map};
+    ghost use Rattle.std.specs.Prelude.{◌≡◌, [], None, Some, IfOk, OnOk, IfErr};
     ghost use Rattle.card_definitions.specs.Fields.{Fixed, reading_of};
     ghost use Rattle.card_reader.specs.Card.{card_bytes};
     ghost use Rattle.deck_definitions.specs.DataCards.{FixedFields};
     ghost use Rattle.deck_definitions.specs.Conversion.{section_fault, data_card_fault};
     ghost use Rattle.deck_definitions.proofs.Steps.{with_card};
-    ghost use Rattle.mps_convert.specs.State.{with_data, state_of};
-    ghost use Rattle.deck_parts.specs.Told.{TellsDeckFault};
+    ghost use Rattle.mps_convert.specs.State.{with_data, fault_at, state_with};
+    ghost use Rattle.deck_cards.specs.Told.{TellsDeckFault};
     ghost use Rattle.deck_cards.specs.Shown.{shown};
-    ghost use Rattle.mps_convert.specs.Draft_shown.{problem_shown, problem_named};
+    ghost use Rattle.mps_convert.specs.Draft_shown.{problem_shown, problem_named, state_shown};
     ghost use Rattle.problem_definitions.specs.Numbering.{numbered};
     ghost use Rattle.problem_definitions.specs.Valid.{IsProblem};
-    ghost use Rattle.deck_definitions.specs.Sections.{is_section};
-    ghost use Rattle.deck_definitions.specs.declared.Section.TheVariants.{Endata};
 
     /// A draft after no card, which grows in this memory.
     pub fn new(alloc: Global) -> DeckDraft
@@ -172,16 +115,6 @@ impl DeckDraft {
             rhs: Groups::new(alloc),
             ranges: Groups::new(alloc),
             bounds: BoundSets::new(alloc),
-        }
-    }
-
-    /// Whether the last section goes on.
-    pub fn is_ended(&self) -> bool
-        ensures { result ≡ unwrap_or (option_map (is_section Endata) self.now.section) false }
-    {
-        match self.section {
-            Some(section) => is_last(section),
-            None => false,
         }
     }
 
@@ -260,19 +193,53 @@ impl DeckDraft {
             Err(kind) => Err(CardStop::Refused(kind)),
         }
     }
-}
 
-impl Draft for DeckDraft {
-    ghost use Rattle.std.specs.Prelude.{[]};
-
-    ghost state = { λ d. record { section = d.section; problem = record { name = []; rows = d.rows; columns = d.columns; rhs = d.rhs; ranges = d.ranges; bounds = d.bounds } } };
-
-    fn take(&mut self, card: Card<'_>) -> Result<(), CardStop> {
+    // Takes a card.
+    fn take_card(&mut self, card: Card<'_>) -> Result<(), CardStop>
+        ensures no_fault { OnOk result (fault_at (state_shown self.old)
+            (card_bytes card.entry) ≡ None) }
+        ensures step { OnOk result (state_shown self.new ≡ state_with (state_shown self.old)
+            (card_bytes card.entry)) }
+        ensures stop { IfErr result
+            (TellsDeckFault (fault_at (state_shown self.old) (card_bytes card.entry))) }
+    {
         if begins_section(card.bytes()) {
-            let section = next_section(self.section, card.bytes())?;
+            let section = next_section::<DeckDraft>(self.section, card.bytes())?;
             self.section = Some(section);
             return Ok(());
         }
         self.take_data(card)
+    }
+}
+
+impl SectionOrder for DeckDraft {
+    ghost use Rattle.deck_definitions.specs.Sections.{may_follow};
+
+    ghost follows = { may_follow };
+
+    fn may_follow(before: Section, section: Section) -> bool {
+        follows(before, section)
+    }
+}
+
+impl Draft for DeckDraft {
+    ghost use Rattle.std.specs.Prelude.{◌≡◌};
+    ghost use Rattle.deck_definitions.specs.Conversion.{card_fault};
+    ghost use Rattle.mps_convert.specs.State.{state_of};
+    ghost use Rattle.mps_convert.specs.Draft_shown.{state_shown};
+
+    ghost test = { λ _. card_fault };
+
+    ghost is_made_of = { λ _ draft seen. state_shown draft ≡ state_of seen };
+
+    fn is_ended(&self) -> bool {
+        match self.section {
+            Some(section) => is_last(section),
+            None => false,
+        }
+    }
+
+    fn take(&mut self, card: Card<'_>) -> Result<(), CardStop> {
+        self.take_card(card)
     }
 }

@@ -4,10 +4,8 @@
 
 mod conversion;
 mod draft;
-mod reading;
 
 pub use conversion::{convert, problem_name};
 pub use deck_fields::{DeckFault, DeckFaultKind, DeckStop};
-pub use deck_parts::{CardStop, Section};
+pub use deck_parts::Section;
 pub use draft::DeckDraft;
-pub use reading::{Draft, read_cards};

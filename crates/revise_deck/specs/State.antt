@@ -1,8 +1,8 @@
--- What a reader of a REVISE deck knows after the cards so far, what one more card does to it, and how reading stops.
-use Rattle.std.specs.Prelude.{◌≡◌, ℕ, List, [], ◌∷◌, Option, Some, None, if◌then◌else◌, option_map}
+-- What a reader of a REVISE deck knows after the cards so far, and what one more card does to it.
+use Rattle.std.specs.Prelude.{ℕ, List, [], ◌∷◌, Option, Some, None, if◌then◌else◌}
 use Rattle.std.specs.Option.{option_or}
 use Rattle.card_definitions.specs.Words.{first_fault}
-use Rattle.card_definitions.specs.Cards.{Card, is_skipped}
+use Rattle.card_definitions.specs.Cards.{Card}
 use Rattle.card_definitions.specs.Fields.{Fixed, Reading, reading_of}
 use Rattle.problem_definitions.specs.Names.{Name}
 use Rattle.problem_definitions.specs.Problem.{Problem}
@@ -12,13 +12,11 @@ use Rattle.deck_definitions.specs.declared.Section.{Section}
 use Rattle.deck_definitions.specs.declared.Section.TheVariants.{Header}
 use Rattle.deck_definitions.specs.Sections.{is_section_card, section_begun, section_after}
 use Rattle.deck_definitions.specs.DataCards.{FixedFields}
-use Rattle.deck_definitions.specs.Conversion.{section_card_fault, form_fault, first_faulty}
-use Rattle.deck_fields.specs.declared.stop.DeckStop.{DeckStop}
-use Rattle.deck_fields.specs.declared.stop.DeckStop.TheVariants.{Fault, NoMemory}
+use Rattle.deck_definitions.specs.Conversion.{section_card_fault, form_fault}
 use Rattle.revise_definitions.specs.declared.Action.{Action}
 use Rattle.revise_definitions.specs.Actions.{is_action_card, action_on, anchor_on, action_after, anchor_after, under_after}
 use Rattle.revise_definitions.specs.Tests.{action_fault}
-use Rattle.revise_definitions.specs.Revision.{revised, may_come_after, revise_card_fault}
+use Rattle.revise_definitions.specs.Revision.{revised, may_come_after}
 use Rattle.revise_parts.specs.Summary.{Under, under_of, edit_test, edited_by, with_card_under}
 
 -- the section and the action that go on, what is known of the data cards under the action, and the revised problem so far
@@ -79,20 +77,3 @@ abbrev pub state_with : State → List ℕ → State
 state_with state card =
     if is_section_card card then record state { section = option_or (section_begun card) state.section; action = None; under = under_of [] [] }
     else inner_with state card
-
--- the same where a skipped card may stand
-abbrev pub live_fault : State → List ℕ → Option DeckFaultKind
-live_fault state card = if is_skipped card then None else fault_at state card
-
-abbrev pub state_after : State → List ℕ → State
-state_after state card = if is_skipped card then state else state_with state card
-
--- a fault is that of the card of this number, and memory may be wanted at any time
-abbrev pub StopsAt : ℕ → Option DeckFaultKind → DeckStop → Type 0
-StopsAt number fault (Fault told) = option_map (λ kind. record { card = number; kind = kind }) fault ≡ Some told
-StopsAt number fault NoMemory = Unit {0}
-
--- a fault is that of the first faulty card of these
-abbrev pub Stops : Problem Name → List Card → DeckStop → Type 0
-Stops old cards (Fault told) = first_faulty (revise_card_fault old) [] cards ≡ Some told
-Stops old cards NoMemory = Unit {0}

@@ -1,14 +1,13 @@
 // A problem under revision, card by card.
 ghost use Rattle.std.specs.Prelude.{◌≡◌, [], None, Some, OnOk, IfErr};
 
-use crate::reading::Draft;
-use crate::sections::{
-    action_fault_of, action_of, anchor_of, begins_section, is_action, is_header, is_last,
-    next_section,
-};
+use crate::sections::{action_fault_of, action_of, anchor_of, comes_after, is_action};
 use card_reader::Card;
-use deck_cards::{DataCard, name_in, read_data_card};
-use deck_parts::{CardStop, DeckFaultKind, Section};
+use deck_cards::{
+    CardStop, DataCard, Draft, SectionOrder, begins_section, is_header, is_last, name_in,
+    next_section, read_data_card,
+};
+use deck_parts::{DeckFaultKind, Section};
 use revise_definitions::Action;
 use revise_lists::NamedProblem;
 use revise_parts::{UnderAction, edit, edit_fault_of};
@@ -26,22 +25,21 @@ pub struct ReviseDraft {
 }
 
 impl ReviseDraft {
-    ghost use Rattle.std.specs.Prelude.{◌≡◌, [], ◌∷◌, None, Some, OnOk, IfErr, unwrap_or, option_map, false};
+    ghost use Rattle.std.specs.Prelude.{◌≡◌, [], ◌∷◌, None, Some, OnOk, IfErr};
     ghost use Rattle.std.specs.Option.{option_or};
     ghost use Rattle.card_definitions.specs.Words.{first_fault, named};
     ghost use Rattle.card_definitions.specs.Fields.{Fixed, reading_of};
     ghost use Rattle.card_reader.specs.Card.{card_bytes};
-    ghost use Rattle.deck_definitions.specs.declared.Section.TheVariants.{Endata};
-    ghost use Rattle.deck_definitions.specs.Sections.{is_section, section_words, section_word};
+    ghost use Rattle.deck_definitions.specs.Sections.{section_words, section_word};
     ghost use Rattle.deck_definitions.specs.DataCards.{FixedFields};
     ghost use Rattle.deck_definitions.specs.Conversion.{form_fault, section_card_fault};
     ghost use Rattle.revise_definitions.specs.Revision.{may_come_after};
-    ghost use Rattle.deck_parts.specs.Told.{TellsDeckFault};
+    ghost use Rattle.deck_cards.specs.Told.{TellsDeckFault};
     ghost use Rattle.deck_cards.specs.Shown.{shown};
     ghost use Rattle.revise_definitions.specs.Actions.{is_action_card, action_on, anchor_on};
     ghost use Rattle.revise_definitions.specs.Tests.{action_fault};
     ghost use Rattle.revise_parts.specs.Summary.{under_of, with_card_under, edit_test, edited_by};
-    ghost use Rattle.revise_deck.specs.State.{data_fault, standing_fault, inner_fault, inner_with, problem_with};
+    ghost use Rattle.revise_deck.specs.State.{data_fault, standing_fault, inner_fault, inner_with, problem_with, fault_at, state_with};
     ghost use Rattle.revise_deck.specs.Draft_shown.{state_shown};
 
     /// A draft after no card, of this problem.
@@ -60,16 +58,6 @@ impl ReviseDraft {
             action: None,
             under: UnderAction::new(alloc, name_in(b"")),
             problem,
-        }
-    }
-
-    /// Whether the last section goes on.
-    pub fn is_ended(&self) -> bool
-        ensures { result ≡ unwrap_or (option_map (is_section Endata) self.now.section) false }
-    {
-        match self.section {
-            Some(section) => is_last(section),
-            None => false,
         }
     }
 
@@ -206,21 +194,57 @@ impl ReviseDraft {
             (TellsDeckFault (section_card_fault may_come_after self.old.section
             (card_bytes card.entry))) }
     {
-        let section = next_section(self.section, card.bytes())?;
+        let section = next_section::<ReviseDraft>(self.section, card.bytes())?;
         self.section = Some(section);
         self.action = None;
         self.under = UnderAction::new(self.alloc, name_in(b""));
         Ok(())
     }
-}
 
-impl Draft for ReviseDraft {
-    ghost state = { λ d. record { section = d.section; action = d.action; under = d.under; problem = d.problem } };
-
-    fn take(&mut self, card: Card<'_>) -> Result<(), CardStop> {
+    // Takes a card.
+    fn take_card(&mut self, card: Card<'_>) -> Result<(), CardStop>
+        ensures no_fault { OnOk result (fault_at (state_shown self.old)
+            (card_bytes card.entry) ≡ None) }
+        ensures step { OnOk result (state_shown self.new ≡ state_with (state_shown self.old)
+            (card_bytes card.entry)) }
+        ensures stop { IfErr result
+            (TellsDeckFault (fault_at (state_shown self.old) (card_bytes card.entry))) }
+    {
         if begins_section(card.bytes()) {
             return self.take_section(card);
         }
         self.take_inner(card)
+    }
+}
+
+impl SectionOrder for ReviseDraft {
+    ghost use Rattle.revise_definitions.specs.Revision.{may_come_after};
+
+    ghost follows = { may_come_after };
+
+    fn may_follow(before: Section, section: Section) -> bool {
+        comes_after(before, section)
+    }
+}
+
+impl Draft for ReviseDraft {
+    ghost use Rattle.std.specs.Prelude.{◌≡◌};
+    ghost use Rattle.revise_definitions.specs.Revision.{revise_card_fault};
+    ghost use Rattle.revise_deck.specs.State.{state_of};
+    ghost use Rattle.revise_deck.specs.Draft_shown.{state_shown};
+
+    ghost test = { λ start. revise_card_fault start.problem };
+
+    ghost is_made_of = { λ start draft seen. state_shown draft ≡ state_of start.problem seen };
+
+    fn is_ended(&self) -> bool {
+        match self.section {
+            Some(section) => is_last(section),
+            None => false,
+        }
+    }
+
+    fn take(&mut self, card: Card<'_>) -> Result<(), CardStop> {
+        self.take_card(card)
     }
 }

@@ -5,11 +5,9 @@
 mod draft;
 mod naming;
 mod numbering;
-mod reading;
 mod revision;
 mod sections;
 
 pub use deck_fields::{DeckFault, DeckFaultKind, DeckStop};
 pub use draft::ReviseDraft;
-pub use reading::{Draft, read_cards};
 pub use revision::revise;

@@ -2,7 +2,7 @@
 ghost use Rattle.std.specs.Prelude.{◌≡◌, ◌≤◌, [], None, IfOk, IfErr, length};
 ghost use Rattle.card_definitions.specs.Cards.{live, cards_between};
 ghost use Rattle.problem_definitions.specs.Numbering.{by_names};
-ghost use Rattle.deck_definitions.specs.Conversion.{first_faulty};
+ghost use Rattle.deck_definitions.specs.Conversion.{fault_by};
 ghost use Rattle.deck_definitions.proofs.Converted.{ArePrintable};
 ghost use Rattle.revise_definitions.specs.Revision.{revise_card_fault, revision};
 ghost use Rattle.revise_deck.specs.State.{state_of};
@@ -12,16 +12,16 @@ ghost use Rattle.revise_deck.specs.Revision.{Refuses};
 use crate::draft::ReviseDraft;
 use crate::naming::named;
 use crate::numbering::renumbered;
-use crate::reading::read_cards;
 use card_reader::Cards;
-use deck_fields::{DeckFault, DeckFaultKind, DeckStop};
+use deck_cards::read_cards;
+use deck_fields::DeckStop;
 use mps_convert::problem_name;
 use name_table::Name;
 use problem_file::Problem;
 use std::alloc::Global;
 
-// The problem of a deck whose cards were read without a fault, or the fault of its end.
-fn ended_problem(
+// The problem of a deck that was read without a fault.
+fn problem_of(
     alloc: Global,
     old: &Problem,
     draft: &ReviseDraft,
@@ -35,19 +35,13 @@ fn ended_problem(
     requires within { last ≤ length cards.now }
     requires state { state_shown draft.now ≡ state_of (by_names old.now)
         (live (cards_between first last cards.now)) }
-    requires no_fault { first_faulty (revise_card_fault (by_names old.now)) []
-        (live (cards_between first last cards.now)) ≡ None }
+    requires no_fault { fault_by (revise_card_fault (by_names old.now))
+        (cards_between first last cards.now) ≡ None }
     requires printable { ArePrintable (cards_between first last cards.now) }
     ensures problem { IfOk result (λ problem. revision old.now (cards_between first last cards.now)
         name ≡ Ok problem) }
     ensures stop { IfErr result (Refuses old.now (cards_between first last cards.now) name) }
 {
-    if !draft.is_ended() {
-        return Err(DeckStop::Fault(DeckFault {
-            card: last,
-            kind: DeckFaultKind::NoEndata,
-        }));
-    }
     let _ = old.name();
     let own = problem_name(cards, first, last, name);
     let shown = draft.problem();
@@ -80,6 +74,6 @@ pub fn revise(
         return Err(DeckStop::NoMemory);
     };
     let mut draft = ReviseDraft::new(alloc, problem);
-    read_cards(&mut draft, old, cards, first, last)?;
-    ended_problem(alloc, old, &draft, cards, first, last, name)
+    read_cards(&mut draft, cards, first, last)?;
+    problem_of(alloc, old, &draft, cards, first, last, name)
 }

@@ -1,111 +1,29 @@
-// The cards that begin sections, and the cards of actions.
-ghost use Rattle.std.specs.Prelude.{◌≡◌, ◌≤◌, ◌||◌, None, Some, IfOk, OnOk, IfErr, not, drop};
+// The order of sections, and the cards of actions.
+ghost use Rattle.std.specs.Prelude.{◌≡◌, ◌≤◌, ◌||◌, drop};
 ghost use Rattle.card_definitions.specs.Cards.{is_blank as is_blank_byte};
-ghost use Rattle.card_definitions.specs.Words.{named, ◌⟹◌};
+ghost use Rattle.card_definitions.specs.Words.{named};
 ghost use Rattle.card_definitions.specs.Fields.{is_blank_column};
 ghost use Rattle.deck_definitions.specs.DataCards.{FixedFields};
 ghost use Rattle.card_reader.specs.Card.{card_bytes};
 ghost use Rattle.problem_definitions.specs.Valid.{IsName};
-ghost use Rattle.deck_definitions.specs.declared.Section.TheVariants.{Header, Rows, Columns, Endata};
-ghost use Rattle.deck_definitions.specs.Sections.{is_section, is_section_card, rank, section_word, section_words};
-ghost use Rattle.deck_definitions.specs.Conversion.{section_card_fault};
-ghost use Rattle.deck_parts.specs.Told.{TellsDeckFault};
+ghost use Rattle.deck_definitions.specs.declared.Section.TheVariants.{Rows, Columns};
+ghost use Rattle.deck_definitions.specs.Sections.{is_section};
 ghost use Rattle.revise_definitions.specs.Actions.{action_words, action_on, anchor_on, is_action_card};
 ghost use Rattle.revise_definitions.specs.Tests.{has_anchor, action_fault, inserts};
 ghost use Rattle.revise_definitions.specs.Revision.{may_come_after};
 
 use card_reader::Card;
-use deck_cards::{first_word, is_blank, is_word, name_in, section_named};
-use deck_parts::{CardStop, DeckFaultKind, Section};
+use deck_cards::{first_word, is_blank, is_word, name_in, rank_of};
+use deck_parts::{DeckFaultKind, Section};
 use name_table::Name;
 use revise_definitions::Action;
 use revise_lists::NamedProblem;
 
-// Whether a card is a section card.
-pub fn begins_section(card: &[u8]) -> bool
-    ensures { result ≡ is_section_card card.now }
-{
-    match card.first() {
-        Some(byte) => !(*byte == b' ' || *byte == b'*'),
-        None => false,
-    }
-}
-
-// Whether this is the section of the ENDATA card.
-pub fn is_last(section: Section) -> bool
-    ensures { result ≡ is_section Endata section }
-{
-    matches!(section, Section::Endata)
-}
-
-// Whether this is the section of the NAME card.
-pub fn is_header(section: Section) -> bool
-    ensures { result ≡ is_section Header section }
-{
-    matches!(section, Section::Header)
-}
-
-// How far along a section stands.
-fn rank_of(section: Section) -> u8
-    ensures { result ≡ rank section }
-{
-    match section {
-        Section::Header => 0,
-        Section::Rows => 1,
-        Section::Columns => 2,
-        Section::Rhs => 3,
-        Section::Ranges => 4,
-        Section::Bounds => 5,
-        Section::Endata => 6,
-    }
-}
-
 // Whether a section may come next.
-fn comes_after(before: Section, section: Section) -> bool
+pub fn comes_after(before: Section, section: Section) -> bool
     ensures { result ≡ may_come_after before section }
 {
     rank_of(before) < rank_of(section)
-}
-
-// The fault of a section after another.
-fn order_fault(before: Section, section: Section) -> Option<DeckFaultKind>
-    ensures { result ≡ (not (may_come_after before section) ⟹ DeckFaultKind.SectionOrder) }
-{
-    if comes_after(before, section) {
-        None
-    } else {
-        Some(DeckFaultKind::SectionOrder)
-    }
-}
-
-// The section that a section card begins after another.
-pub fn next_section(before: Option<Section>, card: &[u8]) -> Result<Section, CardStop>
-    ensures section { IfOk result (λ section. named section_words (section_word card.now) ≡
-        Some section) }
-    ensures no_fault { OnOk result (section_card_fault may_come_after before card.now ≡ None) }
-    ensures stop { IfErr result
-        (TellsDeckFault (section_card_fault may_come_after before card.now)) }
-{
-    let next = section_named(first_word(card));
-    let Some(before) = before else {
-        return match next {
-            Some(Section::Header) => Ok(Section::Header),
-            Some(Section::Rows) => Err(CardStop::Refused(DeckFaultKind::SectionOrder)),
-            Some(Section::Columns) => Err(CardStop::Refused(DeckFaultKind::SectionOrder)),
-            Some(Section::Rhs) => Err(CardStop::Refused(DeckFaultKind::SectionOrder)),
-            Some(Section::Ranges) => Err(CardStop::Refused(DeckFaultKind::SectionOrder)),
-            Some(Section::Bounds) => Err(CardStop::Refused(DeckFaultKind::SectionOrder)),
-            Some(Section::Endata) => Err(CardStop::Refused(DeckFaultKind::SectionOrder)),
-            None => Err(CardStop::Refused(DeckFaultKind::SectionOrder)),
-        };
-    };
-    let Some(section) = next else {
-        return Err(CardStop::Refused(DeckFaultKind::UnknownSection));
-    };
-    match order_fault(before, section) {
-        Some(kind) => Err(CardStop::Refused(kind)),
-        None => Ok(section),
-    }
 }
 
 // Whether a column of a card is blank.

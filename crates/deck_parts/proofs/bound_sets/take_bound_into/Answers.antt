@@ -3,7 +3,7 @@ use Rattle.std.proofs.lemmas.Result.{on_ok_weaker}
 use Rattle.indexmap.specs.IndexMap.{insert_entry}
 use Rattle.problem_definitions.specs.Names.{same}
 use Rattle.deck_definitions.specs.DataCards.{bound_of}
-use Rattle.deck_parts.specs.Told.{TellsDeckFault}
+use Rattle.deck_cards.specs.Told.{TellsDeckFault}
 use Rattle.deck_parts.specs.Shown.{group_at, bound_rest_fault}
 use Rattle.deck_cards.specs.Shown.{shown}
 use Rattle.deck_parts.proofs.Grouped.{items_found, put_in_set}

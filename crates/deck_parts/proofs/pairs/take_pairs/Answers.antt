@@ -1,5 +1,5 @@
 use Rattle.std.proofs.Common.{[], ◌∷◌, IfErr, sym, ap, subst, ◌∙◌}
-use Rattle.deck_parts.specs.Told.{TellsDeckFault}
+use Rattle.deck_cards.specs.Told.{TellsDeckFault}
 use Rattle.deck_parts.specs.Shown.{rows_alone}
 use Rattle.deck_cards.specs.Shown.{pair_shown}
 use Rattle.deck_parts.proofs.Second.{second_tells}

@@ -1,6 +1,5 @@
 // Why a card was not taken.
-ghost use Rattle.std.specs.Prelude.{◌≡◌, ◌∷◌, [], Some};
-ghost use Rattle.card_definitions.specs.Words.{◌⟹◌, first_fault};
+ghost use Rattle.std.specs.Prelude.{◌≡◌};
 
 use deck_definitions::DeckFaultKind;
 use std::alloc::{AllocError, AllocFailed};
@@ -16,7 +15,7 @@ pub enum CardStop {
 }
 
 impl From<AllocError> for CardStop {
-    ghost use Rattle.deck_parts.specs.declared.card_stop.CardStop.TheVariants.{NoMemory};
+    ghost use Rattle.deck_cards.specs.declared.card_stop.CardStop.TheVariants.{NoMemory};
 
     ghost from_gives = { λ _ stop. stop ≡ NoMemory };
 
@@ -26,7 +25,7 @@ impl From<AllocError> for CardStop {
 }
 
 impl<T: Drop> From<AllocFailed<T>> for CardStop {
-    ghost use Rattle.deck_parts.specs.declared.card_stop.CardStop.TheVariants.{NoMemory};
+    ghost use Rattle.deck_cards.specs.declared.card_stop.CardStop.TheVariants.{NoMemory};
 
     ghost from_gives = { λ _ stop. stop ≡ NoMemory };
 
@@ -36,21 +35,11 @@ impl<T: Drop> From<AllocFailed<T>> for CardStop {
 }
 
 impl From<DeckFaultKind> for CardStop {
-    ghost use Rattle.deck_parts.specs.declared.card_stop.CardStop.TheVariants.{Refused};
+    ghost use Rattle.deck_cards.specs.declared.card_stop.CardStop.TheVariants.{Refused};
 
     ghost from_gives = { λ kind stop. stop ≡ Refused kind };
 
     fn from(kind: DeckFaultKind) -> Self {
         CardStop::Refused(kind)
     }
-}
-
-// The fault of a card that has this fault where an earlier test doesn't hold.
-pub fn fault_after(is_earlier: bool, earlier: DeckFaultKind, fault: DeckFaultKind) -> DeckFaultKind
-    ensures { Some result ≡ first_fault ((is_earlier ⟹ earlier) ∷ Some fault ∷ []) }
-{
-    if is_earlier {
-        return earlier;
-    }
-    fault
 }

@@ -1,0 +1,153 @@
+use crate::problems::problem_of;
+use basis_deck::{DeckFault, DeckFaultKind, DeckStop, read_basis};
+use card_reader::read_job;
+use job_devices::SureSource;
+use lp_model::{Basis, Lp, Sense, Status};
+use lp_setup::{Choice, SetupChoice, select};
+use name_table::Name;
+use problem_file::Problem;
+use std::alloc::Global;
+use std::test::Fail;
+
+const SMALL: &[u8] =
+    b"NAME          SMALL\nROWS\n N  COST\n L  UPR\n G  LOR\n E  EQ\nCOLUMNS\n    A         COST      -3             UPR       1\n    A         EQ        1\n    B         COST      -2             UPR       1\n    B         LOR       1\n    C         COST      1              LOR       1\n    C         EQ        1\nRHS\n    R         UPR       4              LOR       1\n    R         EQ        3\nBOUNDS\n UP BND       A         2\n UP BND       C         5\n MI BND       B\n UP BND       B         1\nENDATA\n";
+
+// A row and a column of one name.
+const TWINS: &[u8] =
+    b"NAME          T\nROWS\n N  COST\n G  X\nCOLUMNS\n    X         COST      1              X         1\nENDATA\n";
+
+// The linear program of a problem with its set BND, if it has one.
+fn program_of(alloc: Global, problem: &Problem) -> Result<Lp, Fail> {
+    let bound = match problem.bounds() {
+        [] => None,
+        _ => Name::of(b"BND"),
+    };
+    let options = SetupChoice {
+        bound,
+        range: None,
+        sense: Sense::Min,
+    };
+    let choice = Choice {
+        objective: None,
+        rhs: None,
+        options,
+    };
+    let lp = select(alloc, problem, &choice)
+        .ok()
+        .ok_or("a linear program")?;
+    Ok(lp)
+}
+
+// The letter of a status.
+fn letter(status: Status) -> u8 {
+    match status {
+        Status::Bs => b'B',
+        Status::Ll => b'L',
+        Status::Ul => b'U',
+        Status::Fr => b'F',
+    }
+}
+
+// The statuses of a basis, a letter for each.
+fn letters(alloc: Global, basis: &Basis) -> Result<Vec<u8>, Fail> {
+    let mut letters = Vec::new(alloc);
+    for status in basis.statuses() {
+        letters.push(letter(*status))?;
+    }
+    Ok(letters)
+}
+
+// The statuses for which a basis deck of a problem stands, or the card and the kind of its fault.
+fn reading(
+    alloc: Global,
+    problem: &[u8],
+    deck: &[u8],
+) -> Result<Result<Vec<u8>, (u32, DeckFaultKind)>, Fail> {
+    let problem = problem_of(alloc, problem, None)?;
+    let lp = program_of(alloc, &problem)?;
+    let mut source = SureSource::new(alloc, deck)?;
+    let cards = read_job(alloc, &mut source)?;
+    let last = cards.count();
+    if last == 0 || problem.row_count() != lp.rows || problem.column_count() != lp.cols {
+        return Err(Fail::from("no card, or another problem"));
+    }
+    match read_basis(alloc, &problem, &lp, &cards, 1, last) {
+        Ok(basis) => Ok(Ok(letters(alloc, &basis)?)),
+        Err(DeckStop::Fault(DeckFault { card, kind })) => Ok(Err((card, kind))),
+        Err(DeckStop::NoMemory) => Err(Fail::from("memory")),
+    }
+}
+
+#[test]
+fn basis_decks_stand_for_bases(rt: HostRuntime) -> Result<(), Fail> {
+    let decks: [(&[u8], &[u8]); 5] = [
+        (
+            b"NAME          START\n XU A         UPR\n XL C         EQ\n UL B\nENDATA\n",
+            b"BUBLBUB",
+        ),
+        (
+            b"NAME          START\n UL B\n* a comment\n XL C         EQ\n\n XU A         UPR\nENDATA\n",
+            b"BUBLBUB",
+        ),
+        (b"NAME          NOTHING       FREE\nENDATA\n", b"BBBBLUL"),
+        (b"NAME\n LL A\n UL C\nENDATA\n", b"BBBBLUU"),
+        (b"NAME\n XL B         LOR\nENDATA\n", b"BBLBLBL"),
+    ];
+    for (deck, expected) in decks {
+        let found = reading(rt.alloc(), SMALL, deck)?.ok().ok_or("a basis")?;
+        assert_eq!(rt; found.as_slice(), expected);
+    }
+    let found = reading(rt.alloc(), TWINS, b"NAME\n XL X         X\nENDATA\n")?;
+    assert_eq!(rt; found.ok().ok_or("a basis")?.as_slice(), b"BLB".as_slice());
+    Ok(())
+}
+
+#[test]
+fn faults_of_the_sections_of_basis_decks(rt: HostRuntime) -> Result<(), Fail> {
+    let decks: [(&[u8], u32, DeckFaultKind); 8] = [
+        (b"NAME          S\nROWS\nENDATA\n", 2, DeckFaultKind::SectionOrder),
+        (b"NAME          S\nNAME\nENDATA\n", 2, DeckFaultKind::SectionOrder),
+        (b"NAM           S\nENDATA\n", 1, DeckFaultKind::SectionOrder),
+        (b" UL A\nENDATA\n", 1, DeckFaultKind::SectionOrder),
+        (b"NAME          S\nROW\nENDATA\n", 2, DeckFaultKind::UnknownSection),
+        (b"NAME          S\n UL A\n\n", 3, DeckFaultKind::NoEndata),
+        (b"NAME          S\nENDATA\nENDATA\n", 3, DeckFaultKind::SectionOrder),
+        (b"NAME          S\nENDATA\n UL A\n", 3, DeckFaultKind::SectionOrder),
+    ];
+    for (deck, card, kind) in decks {
+        assert_eq!(rt; reading(rt.alloc(), SMALL, deck)?.err(), Some((card, kind)));
+    }
+    Ok(())
+}
+
+#[test]
+fn faults_of_the_data_cards_of_basis_decks(rt: HostRuntime) -> Result<(), Fail> {
+    let cards: [(&[u8], u32, DeckFaultKind); 19] = [
+        (b" XX A         UPR", 2, DeckFaultKind::BadBasisCode),
+        (b"    A         UPR", 2, DeckFaultKind::BadBasisCode),
+        (b" UL NONE", 2, DeckFaultKind::UnknownColumn),
+        (b" XL NONE      NONE", 2, DeckFaultKind::UnknownColumn),
+        (b" XL A         NONE", 2, DeckFaultKind::UnknownRow),
+        (b" XL A", 2, DeckFaultKind::UnknownRow),
+        (b" XL A         LOR\n UL A", 3, DeckFaultKind::NamedTwice),
+        (b" UL A\n XL A         LOR", 3, DeckFaultKind::NamedTwice),
+        (b" XL A         LOR\n XL C         LOR", 3, DeckFaultKind::NamedTwice),
+        (b" UL B\n LL B", 3, DeckFaultKind::NamedTwice),
+        (b" XL A         UPR", 2, DeckFaultKind::NoSuchLimit),
+        (b" XU A         LOR", 2, DeckFaultKind::NoSuchLimit),
+        (b" XL A         COST", 2, DeckFaultKind::NoSuchLimit),
+        (b" LL B", 2, DeckFaultKind::NoSuchLimit),
+        (b" LL B         UPR", 2, DeckFaultKind::NoSuchLimit),
+        (b" LL A         UPR", 2, DeckFaultKind::ExtraField),
+        (b" XL A         LOR       1", 2, DeckFaultKind::ExtraField),
+        (b" XL A         LOR                      B", 2, DeckFaultKind::ExtraField),
+        (b" XLXA         LOR", 2, DeckFaultKind::ExtraField),
+    ];
+    for (cards, card, kind) in cards {
+        let mut deck = Vec::from_slice(rt.alloc(), b"NAME          S\n")?;
+        deck.extend_from_slice(cards)?;
+        deck.extend_from_slice(b"\nENDATA\n")?;
+        assert_eq!(rt; reading(rt.alloc(), SMALL, &deck)?.err(), Some((card, kind)));
+    }
+    Ok(())
+}
