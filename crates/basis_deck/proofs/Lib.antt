@@ -1,2 +1,3 @@
-pub mod Stuck
 pub mod OnWay
+pub mod Punched
+pub mod Stuck

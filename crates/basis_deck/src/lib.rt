@@ -2,5 +2,7 @@
 #![tactic(auto)]
 
 mod installing;
+mod punching;
 
 pub use installing::{InstallStop, install};
+pub use punching::punch_basis;
