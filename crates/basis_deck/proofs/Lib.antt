@@ -1,5 +1,6 @@
-pub mod Stuck
 pub mod OnWay
+pub mod Punched
+pub mod Stuck
 mod Marks
 mod Named
 mod CardStep

@@ -5,8 +5,10 @@ mod codes;
 mod draft;
 mod installing;
 mod names;
+mod punching;
 mod reading;
 
 pub use deck_fields::{DeckFault, DeckFaultKind, DeckStop};
 pub use installing::{InstallStop, install};
+pub use punching::punch_basis;
 pub use reading::read_basis;

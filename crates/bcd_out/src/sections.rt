@@ -42,8 +42,8 @@ fn bound_kind_word(kind: BoundKind) -> &'static [u8]
     }
 }
 
-// The name of the row with this number.
-fn row_name(rows: &[RowDecl], number: u32) -> &[u8]
+/// The name of the row with this number.
+pub fn row_name(rows: &[RowDecl], number: u32) -> &[u8]
     ensures name { result.now ≡ name_at (map (λ row. row.name) rows.now) number }
     ensures short { length result.now ≤ 8 }
 {
@@ -53,8 +53,8 @@ fn row_name(rows: &[RowDecl], number: u32) -> &[u8]
     }
 }
 
-// The name of the column with this number.
-fn column_name(columns: &[ColumnDecl], number: u32) -> &[u8]
+/// The name of the column with this number.
+pub fn column_name(columns: &[ColumnDecl], number: u32) -> &[u8]
     ensures name { result.now ≡ name_at (group_names columns.now) number }
     ensures short { length result.now ≤ 8 }
 {

@@ -1,6 +1,8 @@
-//! The path over the engines that keep a product of elementary matrices, tried on small problems. Tests alone.
+//! The path, and rates that are made anew for a basis, over the engines, tried on small problems. Tests alone.
 #![tactic(auto)]
 
+#[cfg(test)]
+mod inserted;
 #[cfg(test)]
 mod tests;
 #[cfg(test)]

@@ -21,7 +21,7 @@ fn limit(n: i32) -> Option<Frac> {
 }
 
 /// Four rows, of which the first is the cost, and three columns. The least cost is 54.
-fn testprob(alloc: Global) -> Result<Lp, AllocError>
+pub fn testprob(alloc: Global) -> Result<Lp, AllocError>
     ensures { IfOk result (λ lp. size lp.matrix ≡ 7) }
 {
     let x = vec![in alloc;

@@ -88,10 +88,9 @@ fn problem_of(alloc: Global, deck: &[u8]) -> Result<Problem, Fail> {
     Ok(problem)
 }
 
-/// The linear program.
-fn transportation(alloc: Global) -> Result<Lp, Fail> {
-    let deck = transportation_deck(alloc)?;
-    let problem = problem_of(alloc, &deck)?;
+/// The linear program of a deck.
+pub fn program_of(alloc: Global, deck: &[u8]) -> Result<Lp, Fail> {
+    let problem = problem_of(alloc, deck)?;
     let options = SetupChoice {
         bound: None,
         range: None,
@@ -106,6 +105,11 @@ fn transportation(alloc: Global) -> Result<Lp, Fail> {
         .ok()
         .ok_or("a linear program")?;
     Ok(lp)
+}
+
+fn transportation(alloc: Global) -> Result<Lp, Fail> {
+    let deck = transportation_deck(alloc)?;
+    program_of(alloc, &deck)
 }
 
 /// The steps and the least cost of the path, and the product form that it leaves.
