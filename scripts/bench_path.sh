@@ -1,19 +1,21 @@
 #!/usr/bin/env bash
 # Times the path of the simplex method by each engine, the dense table and the product form: on transportation problems of 10, 20 .. 60
-# sources and as many destinations, on a sparse problem of 300 rows and 350 columns, and on a problem of the greatest size, 1,000
-# rows and 5,000 columns, whose path ends where it begins. Prints where each path ends, the least processor time of five runs, in
-# seconds, and the peak memory. Where the proved program is built it also times the job of 60 by 60 from its bytes to its verdict,
-# without and with RANGE. Then it prints how many of fifty problems of 15 rows and 30 columns, with numbers of two decimals, end
-# without an overflow by each engine.
-# Usage: scripts/bench_path.sh [PROGRAM], a program that takes the words `path table` and `path product`; or
-# scripts/bench_path.sh --dense N, which prints the N-th of the fifty decks.
+# sources and as many destinations, on the problems of 8, 10 and 12 queens, on a sparse problem of 300 rows and 350 columns, and on a
+# problem of the greatest size, 1,000 rows and 5,000 columns, whose path ends where it begins. Prints where each path ends, the least
+# processor time of five runs, in seconds, and the peak memory. Then it prints how many of fifty problems of 15 rows and 30 columns,
+# with numbers of two decimals, end without an overflow by each engine, and how long the fifty take together. Where the proved
+# program is built, or named, it also times whole jobs: the one of 60 by 60 from its bytes to its verdict, without and with RANGE;
+# SOLUTION of a problem of 1,000 rows and 5,000 columns; and a parametric run on it, up to 0.5 and, where numbers grow wide, up to 0.6.
+# Usage: scripts/bench_path.sh [--instructions] [PROGRAM [WHOLE]], a program that takes the words `path table` and `path product`, and
+# the one of whole jobs; with --instructions it counts the instructions of one run of each by valgrind, in place of time and memory; or
+# scripts/bench_path.sh --dense N or --queens N or --wide, which print a deck: the N-th of the fifty, that of N queens, and the one
+# of the parametric run.
 set -eu
-case ${1:-} in -h | --help) sed -n '2,9s/^# //p' "$0"; exit 0 ;; esac
+case ${1:-} in -h | --help) sed -n '2,13s/^# //p' "$0"; exit 0 ;; esac
 here=$(cd "$(dirname "$0")" && pwd)
-program=${1:-$here/../crates/bench/out/bench}
-[ "${1:-}" = --dense ] || [ -x "$program" ] || (cd "$here/../crates/bench" && rt run <stdin >/dev/null)
 deck=$(mktemp)
-trap 'rm -f "$deck"' EXIT
+counts=$(mktemp)
+trap 'rm -f "$deck" "$counts"' EXIT
 
 # Each of N sources has 10 to send and each of N destinations wants 10; a unit from i to j costs ((7i + 11j) mod 19) + 1.
 transport() {
@@ -91,10 +93,76 @@ dense() {
         }'
 }
 
-if [ "${1:-}" = --dense ]; then
-    dense "$2"
-    exit 0
-fi
+# One queen on each row and each file of a board of N by N, and at most one on each diagonal of two squares or more; the one at i and j
+# costs (3i + 5j) mod 7.
+queens() {
+    awk -v n="$1" 'BEGIN {
+        lines = 2 * n - 3
+        print "NAME          QUEENS\nROWS\n N  COST"
+        for (i = 0; i < n; i++) printf " E  R%d\n E  C%d\n", i, i
+        for (d = 1; d <= lines; d++) printf " L  U%d\n L  D%d\n", d, d
+        print "COLUMNS"
+        for (i = 0; i < n; i++) for (j = 0; j < n; j++) {
+            name = sprintf("X%02d%02d", i, j)
+            printf "    %-8s  %-8s  %d\n", name, "COST", (3 * i + 5 * j) % 7
+            printf "    %-8s  R%-7d  1\n    %-8s  C%-7d  1\n", name, i, name, j
+            up = i + j; down = i - j + n - 1
+            if (up >= 1 && up <= lines) printf "    %-8s  U%-7d  1\n", name, up
+            if (down >= 1 && down <= lines) printf "    %-8s  D%-7d  1\n", name, down
+        }
+        print "RHS"
+        for (i = 0; i < n; i++) printf "    RHS       R%-7d  1\n    RHS       C%-7d  1\n", i, i
+        for (d = 1; d <= lines; d++) printf "    RHS       U%-7d  1\n    RHS       D%-7d  1\n", d, d
+        print "ENDATA"
+    }'
+}
+
+# 999 rows that hold every column down, and 5,000 columns with eight entries of 1 to 3; every 25th has a negative cost. The row CHANGE
+# changes the cost.
+wide() {
+    awk -v seed=11 '
+        function below(n) { seed = (seed * 16807) % 2147483647; return seed % n }
+        BEGIN {
+            print "NAME          WIDE\nROWS\n N  COST\n N  CHANGE"
+            for (row = 1; row <= 998; row++) printf " L  R%d\n", row
+            print "COLUMNS"
+            for (column = 1; column <= 5000; column++) {
+                name = "X" column
+                printf "    %-8s  %-8s  %d\n", name, "COST", column % 25 ? 1 + below(20) : -1 - below(20)
+                printf "    %-8s  %-8s  %d\n", name, "CHANGE", below(21) - 10
+                for (k in taken) delete taken[k]
+                for (t = 0; t < 8; t++) {
+                    do row = below(998) + 1; while (row in taken)
+                    taken[row] = 1
+                    printf "    %-8s  R%-7d  %d\n", name, row, 1 + below(3)
+                }
+            }
+            print "RHS"
+            for (row = 1; row <= 998; row++) printf "    RHS       R%-7d  %d\n", row, 50 + below(50)
+            print "ENDATA"
+        }'
+}
+
+case ${1:-} in
+--dense) dense "$2"; exit 0 ;;
+--queens) queens "$2"; exit 0 ;;
+--wide) wide; exit 0 ;;
+--instructions) counting=yes; shift ;;
+*) counting= ;;
+esac
+program=${1:-$here/../crates/bench/out/bench}
+whole=${2:-$here/../crates/mps360/out/mps360}
+[ -x "$program" ] || (cd "$here/../crates/bench" && rt run <stdin >/dev/null)
+
+# What a program comes to on the deck, with its time and its memory, or with its instructions.
+measured() {
+    if [ -z "$counting" ]; then
+        python3 "$here/timed.py" "$deck" "$@"
+    else
+        last=$(valgrind --tool=callgrind --callgrind-out-file=/dev/null "$@" <"$deck" 2>"$counts" | tail -1)
+        echo "$last: $(sed -n 's/.*refs: *//p' "$counts") instructions"
+    fi
+}
 
 greatest() {
     awk 'BEGIN {
@@ -110,7 +178,7 @@ greatest() {
 by_each() {
     for engine in table product; do
         echo "$1 by $engine:"
-        python3 "$here/timed.py" "$deck" "$program" path "$engine"
+        measured "$program" path "$engine"
     done
 }
 
@@ -118,28 +186,46 @@ for size in 10 20 30 40 50 60; do
     transport "$size" >"$deck"
     by_each "transportation $size by $size"
 done
-whole=$here/../crates/mps360/out/mps360
-if [ -x "$whole" ]; then
-    for ranging in "" "         RANGE"; do
-        {
-            printf '         %s\n' PROGRAM CONVERT SETUP PRIMAL
-            [ -z "$ranging" ] || echo "$ranging"
-            printf '         %s\n' EXIT PEND
-            transport 60
-        } >"$deck"
-        echo "the whole job of 60 by 60${ranging:+ with RANGE}:"
-        python3 "$here/timed.py" "$deck" "$whole"
-    done
-fi
+for size in 8 10 12; do
+    queens "$size" >"$deck"
+    by_each "$size queens"
+done
 sparse >"$deck"
 by_each "sparse"
 greatest >"$deck"
 by_each "the greatest size"
 for engine in table product; do
     ended=0
-    for seed in $(seq 50); do
-        dense "$seed" >"$deck"
-        if ! "$program" path "$engine" <"$deck" | grep -q OVERFLOW; then ended=$((ended + 1)); fi
-    done
-    echo "fifty problems with numbers of two decimals by $engine: $ended end without an overflow"
+    TIMEFORMAT=%U
+    spent=$({ time for seed in $(seq 50); do dense "$seed" | "$program" path "$engine"; done >"$counts"; } 2>&1)
+    ended=$(grep -vc OVERFLOW "$counts")
+    echo "fifty problems with numbers of two decimals by $engine: $ended end without an overflow, $spent s"
 done
+
+# A job of the deck that the words after -- make, with the statements before it.
+job() {
+    printf '         %s\n' PROGRAM CONVERT
+    while [ "$1" != -- ]; do
+        printf '         %s\n' "$1"
+        shift
+    done
+    printf '         %s\n' EXIT PEND
+    shift
+    "$@"
+}
+
+if [ -x "$whole" ]; then
+    for ranging in "" RANGE; do
+        job SETUP PRIMAL ${ranging:+"$ranging"} -- transport 60 >"$deck"
+        echo "the whole job of 60 by 60${ranging:+ with RANGE}:"
+        measured "$whole"
+    done
+    job SETUP PRIMAL SOLUTION -- wide >"$deck"
+    echo "1,000 rows and 5,000 columns, SOLUTION, $("$whole" <"$deck" | wc -l) lines:"
+    measured "$whole"
+    for most in 0.5 0.6; do
+        job "MOVE(XCHROW,'CHANGE')" "MOVE(XPARMAX,$most)" SETUP PARAOBJ -- wide >"$deck"
+        echo "1,000 rows and 5,000 columns, PARAOBJ up to $most, $("$whole" <"$deck" | wc -l) lines:"
+        measured "$whole"
+    done
+fi

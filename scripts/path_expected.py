@@ -1,7 +1,7 @@
 #!/usr/bin/env python3
-"""What `bench path` prints of the transportation problem of N sources and N destinations, by Python's exact fractions: the bounded
-simplex method with the least-index rule over a table, written apart from the program.
-Usage: path_expected.py N. It takes a second for 20 and half a minute for 60."""
+"""What `bench path` prints of the transportation problem of N sources and N destinations, or of the problem of N queens, by Python's
+exact fractions: the bounded simplex method with the least-index rule over a table, written apart from the program.
+Usage: path_expected.py [queens] N. The transportation problem takes a second for 20 and half a minute for 60."""
 from fractions import Fraction
 import sys
 
@@ -9,19 +9,43 @@ if sys.argv[1:] in (["-h"], ["--help"]):
     print(__doc__)
     sys.exit(0)
 
-n = int(sys.argv[1])
-rows, columns = 2 * n + 1, n * n
+
+def transportation(n):
+    "each source has 10 to send, and each destination wants 10"
+    columns = [
+        {0: (7 * i + 11 * j) % 19 + 1, i: 1, n + j: 1}
+        for i in range(1, n + 1)
+        for j in range(1, n + 1)
+    ]
+    return columns, [None] * n + [10] * n, [10] * n + [None] * n
+
+
+def queens(n):
+    "each row and each file of a board has one queen, and each diagonal of two squares or more at most one"
+    lines = 2 * n - 3
+    columns = []
+    for i in range(n):
+        for j in range(n):
+            column = {0: (3 * i + 5 * j) % 7, 1 + 2 * i: 1, 2 + 2 * j: 1}
+            for half, d in enumerate((i + j, i - j + n - 1)):
+                if 1 <= d <= lines:
+                    column[2 * n + 2 * d - 1 + half] = 1
+            columns.append(column)
+    return columns, [1] * 2 * n + [None] * 2 * lines, [1] * (2 * n + 2 * lines)
+
+
+kind, n = (queens, int(sys.argv[2])) if sys.argv[1] == "queens" else (transportation, int(sys.argv[1]))
+entries, row_lower, row_upper = kind(n)
+rows, columns = len(row_lower) + 1, len(entries)
 size = rows + columns
 
-# each line gives a basic as a sum of nonbasics; row 0 is the cost, then come the sources and the destinations
+# each line gives a basic as a sum of nonbasics; row 0 is the cost
 table = [[0] * size for _ in range(rows)]
-for i in range(1, n + 1):
-    for j in range(1, n + 1):
-        column = rows + (i - 1) * n + j - 1
-        table[0][column] = (7 * i + 11 * j) % 19 + 1
-        table[i][column] = table[n + j][column] = 1
-lower = [None] * (n + 1) + [10] * n + [0] * columns
-upper = [None] + [10] * n + [None] * (n + columns)
+for j, column in enumerate(entries):
+    for i, number in column.items():
+        table[i][rows + j] = number
+lower = [None] + row_lower + [0] * columns
+upper = [None] + row_upper + [None] * columns
 value = [0] * size
 line_of = {k: k for k in range(rows)}
 at_lower = [True] * size

@@ -3,3 +3,4 @@ pub mod Lines
 pub mod Sheets
 pub mod Tables
 pub mod Values
+pub mod Buffers

@@ -1,12 +1,14 @@
 //! The tables that the listing prints of a problem and its linear program, line by line, written into a sink. No call takes memory.
 #![tactic(auto)]
 
+mod buffer;
 mod intervals;
 mod line;
 mod pieces;
 mod sheet;
 mod table;
 
+pub use buffer::TextBuffer;
 pub use pieces::{NAME_PLACES, blanks, decimal, fraction, operation, sense_word, solver_word};
 pub use sheet::{Sheet, objective_of, row_count};
 pub use table::{Ranging, Standing, Table, put_table};

@@ -6,6 +6,7 @@ ghost use Rattle.listing_definitions.specs.Report.{limit_value};
 ghost use Rattle.listing_definitions.specs.Text.{at_text, number5, name8, value_text, line_text};
 ghost use Rattle.listing_tables.specs.Values.{value_shown, value_after_blank};
 
+use crate::buffer::TextBuffer;
 use crate::pieces::{NAME_PLACES, NUMBER_PLACES, blanks, decimal, fraction};
 use frac128::Frac;
 use itoa::Buffer;
@@ -98,8 +99,8 @@ fn put_line_head<P: Sink>(print: &mut P, number: u32, name: Name) -> Result<(), 
     )
 }
 
-/// Writes a line of a table.
-pub fn put_line<P: Sink>(
+// A line of a table, part by part.
+fn put_line_parts<P: Sink>(
     print: &mut P,
     number: u32,
     name: Name,
@@ -111,4 +112,21 @@ pub fn put_line<P: Sink>(
     put_line_head(print, number, name)?;
     put_values(print, values)?;
     put_all(print, b"\n")
+}
+
+/// Writes a line of a table, in one piece where a buffer has room for it.
+pub fn put_line<P: Sink>(
+    print: &mut P,
+    number: u32,
+    name: Name,
+    values: &[Value],
+) -> Result<(), WriteStop>
+    ensures { Writes P.written P.stopped_at P.faults P.refusals print.old print.new result
+        (line_text (record { number = number; name = name; values = map value_shown values.now })) }
+{
+    let mut line = TextBuffer::new();
+    match put_line_parts(&mut line, number, name, values) {
+        Ok(()) => put_all(print, line.bytes()),
+        Err(_no_room) => put_line_parts(print, number, name, values),
+    }
 }

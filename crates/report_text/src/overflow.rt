@@ -9,7 +9,7 @@ ghost use Rattle.report_text.specs.Shown.{place_shown, place_text, evidence_tail
 
 use itoa::Buffer;
 use job_devices::{Sink, WriteStop, put_all, put_each};
-use listing_tables::{decimal, fraction, operation};
+use listing_tables::{TextBuffer, decimal, fraction, operation};
 use lp_definitions::{Evidence, Status};
 use lp_model::Basis;
 
@@ -110,13 +110,39 @@ impl Lettered for bool {
     }
 }
 
-// A letter for each variable.
-fn put_letters<T: Lettered, P: Sink>(print: &mut P, items: &[T]) -> Result<(), WriteStop>
+// A letter for each of these variables, one by one.
+fn put_each_letter<T: Lettered, P: Sink>(print: &mut P, items: &[T]) -> Result<(), WriteStop>
     ensures { Writes P.written P.stopped_at P.faults P.refusals print.old print.new result
         (flat_map (letters_of T.letter_of) items.now) }
 {
     for item in items {
         put_all(print, item.letter())?;
+    }
+    Ok(())
+}
+
+// A letter for each of these variables, in one piece where a buffer has room for it.
+fn put_piece<T: Lettered, P: Sink>(print: &mut P, items: &[T]) -> Result<(), WriteStop>
+    ensures { Writes P.written P.stopped_at P.faults P.refusals print.old print.new result
+        (flat_map (letters_of T.letter_of) items.now) }
+{
+    let mut letters = TextBuffer::new();
+    match put_each_letter(&mut letters, items) {
+        Ok(()) => put_all(print, letters.bytes()),
+        Err(_no_room) => put_each_letter(print, items),
+    }
+}
+
+// A letter for each variable, piece by piece.
+fn put_letters<T: Lettered, P: Sink>(print: &mut P, items: &[T]) -> Result<(), WriteStop>
+    ensures { Writes P.written P.stopped_at P.faults P.refusals print.old print.new result
+        (flat_map (letters_of T.letter_of) items.now) }
+{
+    let mut rest = items;
+    while !rest.is_empty() {
+        let (piece, after) = rest.split_at(rest.len().min(TextBuffer::ROOM));
+        put_piece(print, piece)?;
+        rest = after;
     }
     Ok(())
 }

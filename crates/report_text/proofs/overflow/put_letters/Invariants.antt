@@ -1,8 +1,14 @@
-use Rattle.std.proofs.Common.{Ok, take}
+use Rattle.std.proofs.Common.{◌≡◌, ◌++◌, ℕ, List, Ok, length}
 use Rattle.std.specs.List.{flat_map}
 use Rattle.job_devices.specs.Text.{Writes}
 use Rattle.report_text.specs.Shown.{letters_of}
 use Rattle.report_text.proofs.overflow.put_letters.Given as goal
 
-abbrev pub invariant-loop-item : goal.invariant-loop-item
-invariant-loop-item g l = Writes {T = Unit {0}} g.P.Sink.written g.P.Sink.stopped_at g.P.Sink.faults g.P.Sink.refusals l.fn.print l.print (Ok tt) (flat_map (letters_of g.T.Lettered.letter_of) (take l.item-index l.items))
+-- what is written, and the letters that are left, are all letters
+abbrev pub invariant-loop-rest : goal.invariant-loop-rest
+invariant-loop-rest g l =
+    (done : List ℕ) × (done ++ flat_map (letters_of g.T.Lettered.letter_of) l.rest ≡ flat_map (letters_of g.T.Lettered.letter_of) l.items)
+    × Writes {T = Unit {0}} g.P.Sink.written g.P.Sink.stopped_at g.P.Sink.faults g.P.Sink.refusals l.fn.print l.print (Ok tt) done
+
+abbrev pub decreases-loop-rest : goal.decreases-loop-rest
+decreases-loop-rest g l = length l.rest

@@ -1,0 +1,11 @@
+-- What a buffer of text holds.
+--     buffer_text b                what was written to it
+--     buffer_stopped b             what was written when a piece last found no room, if one has
+use Rattle.std.specs.Prelude.{ℕ, List, Option, take, option_map}
+use Rattle.listing_tables.specs.declared.buffer.TextBuffer.{TextBuffer}
+
+abbrev pub buffer_text : TextBuffer → List ℕ
+buffer_text buffer = buffer.bytes.items
+
+abbrev pub buffer_stopped : TextBuffer → Option (List ℕ)
+buffer_stopped buffer = option_map (λ count. take count buffer.bytes.items) buffer.stopped

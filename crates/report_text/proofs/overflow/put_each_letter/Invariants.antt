@@ -1,0 +1,8 @@
+use Rattle.std.proofs.Common.{Ok, take}
+use Rattle.std.specs.List.{flat_map}
+use Rattle.job_devices.specs.Text.{Writes}
+use Rattle.report_text.specs.Shown.{letters_of}
+use Rattle.report_text.proofs.overflow.put_each_letter.Given as goal
+
+abbrev pub invariant-loop-item : goal.invariant-loop-item
+invariant-loop-item g l = Writes {T = Unit {0}} g.P.Sink.written g.P.Sink.stopped_at g.P.Sink.faults g.P.Sink.refusals l.fn.print l.print (Ok tt) (flat_map (letters_of g.T.Lettered.letter_of) (take l.item-index l.items))
