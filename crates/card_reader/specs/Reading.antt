@@ -9,10 +9,12 @@ use Rattle.card_definitions.specs.declared.TheConstants.{MAX_JOB_BYTES}
 use Rattle.card_reader.specs.declared.stop.ReadStop.{ReadStop}
 use Rattle.card_reader.specs.declared.stop.ReadStop.TheVariants.{ReadFault, NoMemory, TooLong, CardTooLong, NotPrintable}
 
--- `ReadFault` is answered only where the source's count of faults rose, and the count never falls.
+-- `ReadFault` is answered only where the source's count of faults rose, and the count never falls. Where anything else is answered, it is
+-- what it was.
 pub record HasCause {T : Type 0} (before now : ℕ) (result : Result T ReadStop) : Type 0 where
   pub later : before ≤ now
   pub read_fault : IsErrOf result ReadFault → Rose before now
+  pub quiet : (IsErrOf result ReadFault → ⊥) → now ≡ before
 
 -- how far a job is read: one byte more than it may have
 abbrev pub read_limit : ℕ

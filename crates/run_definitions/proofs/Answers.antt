@@ -9,10 +9,11 @@ use Rattle.control_definitions.specs.Compiled.{control_fault, control_card_fault
 use Rattle.listing_definitions.specs.Numbers.{digits}
 use Rattle.listing_definitions.specs.Report.{Titled}
 use Rattle.listing_definitions.specs.Ending.{Ended, WordsRefused, ControlStop, ReadFault, Memory}
-use Rattle.run_definitions.specs.Moves.{Prints}
+use Rattle.run_definitions.specs.State.{State, start}
+use Rattle.run_definitions.specs.Moves.{Prints, Outcome, next}
 use Rattle.run_definitions.specs.Verbs.{verb_move}
-use Rattle.run_definitions.specs.Run.{begun, stepped, is_over, at_end, IsRun}
-use Rattle.run_definitions.specs.Answer.{Failures, WithoutBytes, Read, Made, job_decks, control_fault as by_control_fault, run, IsJobRun, words_refused, read_fails, by_itself, memory_at_start, whole, print_fails, IsAnswer}
+use Rattle.run_definitions.specs.Run.{counted, Step, begun, stepped, is_over, at_end, IsRun}
+use Rattle.run_definitions.specs.Answer.{Failures, WithoutBytes, Read, Made, job_decks, control_fault as by_control_fault, run, IsJobRun, words_refused, read_fails, by_itself, memory_at_start, IsSoFar, in_report, in_end, whole, print_fails, IsAnswer}
 use Rattle.run_definitions.proofs.Courses.{silent}
 
 -- nothing fails; a read fails; a write to the print fails
@@ -64,15 +65,28 @@ unfolding digits
 title_answer = whole (Ended 0) (by_itself title_bytes refl title_job) refl refl refl
 
 -- the print fails in the middle of the title, and the job was made
+title_start : State
+title_start = start (job_decks title_program title_bytes)
+
+title_outcome : Outcome
+title_outcome = next (Prints (Titled (codes "A B"))) (counted title_start)
+
+title_step : Step silent title_program title_start title_outcome
+unfolding title_program title_start title_outcome verb_move
+title_step = record { statement = _; is_at_position = refl; is_within_limit = lit< tt; gives = refl }
+
+title_so_far : IsSoFar silent title_bytes [] [] title_program title_start
+unfolding title_start
+title_so_far = record { is_program = record { is_read = title_read; is_compiled = title_compiled }; reaches = begun }
+
 title_cut : IsAnswer silent (Made title_bytes) print_fault (record { status = 25; printed = codes "TITLE"; punched = [] })
+unfolding print_fault title_outcome
+title_cut = print_fails tt refl (in_report title_bytes title_program title_start title_outcome (codes "TITLE") refl title_so_far title_step (codes " A B\n", refl) refl refl)
+
+-- the print fails in the middle of the last line
+title_end_cut : IsAnswer silent (Made title_bytes) print_fault (record { status = 25; printed = codes "TITLE A B\nEN"; punched = [] })
 unfolding digits print_fault
-title_cut = print_fails tt refl (record {
-  text = codes "TITLE A B\nEND 0\n";
-  deck_text = [];
-  is_possible = record { reports = _; cards = _; ending = Ended 0; may_end = by_itself title_bytes refl title_job; is_listing = refl; is_deck_text = refl };
-  print_front = (codes " A B\nEND 0\n", refl);
-  punch_front = ([], refl);
-})
+title_end_cut = print_fails tt refl (in_end (Ended 0) (codes "EN") (by_itself title_bytes refl title_job) (codes "D 0\n", refl) refl refl)
 
 -- memory is wanted before there is a report
 title_memory : IsAnswer silent (Read title_bytes) none_fails (record { status = 28; printed = codes "STOP 28 MEMORY\n"; punched = [] })

@@ -3,6 +3,7 @@
 --     IsJobRun bytes ..            what a job reports and punches and how it ends, where nothing fails
 --     IsSoFar bytes ..             how far a job has come
 --     MayEnd job ..                how a job may end, where devices and memory may fail
+--     IsCutShort job .. answer     the print has stopped in a report or in the lines of an end
 --     IsAnswer job .. answer       the status, and the bytes that the print and the punch gain
 --     IsAnswered job ..            what a call answers to a job, so far as its print and its punch tell what they gain
 use Rattle.std.specs.Prelude.{ℕ, ◌≡◌, ◌-◌, List, [], ◌++◌, Option, None, Some, Ok, Err, drop}
@@ -16,10 +17,10 @@ use Rattle.control_definitions.specs.Compiled.{compiled}
 use Rattle.listing_definitions.specs.Report.{Report}
 use Rattle.listing_definitions.specs.Ending.{Ending, WordsRefused, ControlStop, CardStop, ReadFault, PrintFault, PunchFault, Memory, status_of}
 use Rattle.job_devices.specs.Text.{IsFront}
-use Rattle.listing_definitions.specs.Listing.{listing}
+use Rattle.listing_definitions.specs.Listing.{ending_text, reports_text, listing}
 use Rattle.question_definitions.specs.Solving.{Solving}
 use Rattle.run_definitions.specs.State.{State}
-use Rattle.run_definitions.specs.Moves.{Punches, Goes}
+use Rattle.run_definitions.specs.Moves.{Punches, printed_by, punched_by, Outcome, Goes, gain_of}
 use Rattle.run_definitions.specs.Run.{Step, Reaches, IsRun}
 
 -- The words are refused; or the job is read from its source; or the words have made it.
@@ -95,22 +96,16 @@ module _ (S : Solving) where
     punch_fails : (bytes : List ℕ) (program : Program) (state : State) {reports : List Report} {cards : List (List ℕ)} (deck : List (List ℕ)) →
         failures.punch → bytes_of job ≡ Some bytes → IsSoFar bytes reports cards program state → IsPunching program state deck → MayEnd job failures reports (cards ++ deck) PunchFault
 
-  -- a listing that a job may have, and all that is punched by its end
-  pub record IsPossibleListing (job : Job) (failures : Failures) (text deck_text : List ℕ) : Type 0 where
-    pub reports : List Report
-    pub cards : List (List ℕ)
-    pub ending : Ending
-    pub may_end : MayEnd job failures reports cards ending
-    pub is_listing : text ≡ listing reports ending
-    pub is_deck_text : deck_text ≡ card_text cards
-
-  -- the print and the punch have gained fronts of these
-  pub record IsCutShort (job : Job) (failures : Failures) (answer : Answer) : Type 0 where
-    pub text : List ℕ
-    pub deck_text : List ℕ
-    pub is_possible : IsPossibleListing job failures text deck_text
-    pub print_front : IsFront answer.printed text
-    pub punch_front : IsFront answer.punched deck_text
+  -- The print has stopped in a report, or in the lines of an end. The reports before stand whole, and of the text in which it stopped a
+  -- prefix stands. Where that is the report of a statement to which the run has come, the cards of the reports before and those of this
+  -- statement are punched; where it is the end, what is punched by this end, or a prefix of that where the deck in hand isn't whole.
+  pub data IsCutShort (job : Job) (failures : Failures) (answer : Answer) : Type 0 where
+    in_report : (bytes : List ℕ) (program : Program) (state : State) {reports : List Report} {cards : List (List ℕ)} (outcome : Outcome) (part : List ℕ) →
+        bytes_of job ≡ Some bytes → IsSoFar bytes reports cards program state → Step S program state outcome →
+        IsFront part (reports_text (printed_by (gain_of outcome))) → answer.printed ≡ reports_text reports ++ part →
+        answer.punched ≡ card_text (cards ++ punched_by (gain_of outcome)) → IsCutShort job failures answer
+    in_end : {reports : List Report} {cards : List (List ℕ)} (ending : Ending) (part : List ℕ) → MayEnd job failures reports cards ending →
+        IsFront part (ending_text ending) → answer.printed ≡ reports_text reports ++ part → Gains ending answer.punched (card_text cards) → IsCutShort job failures answer
 
   -- What a job may be answered: the status of an end, with the whole listing, and with all that is punched by then, or a front of it
   -- where the deck in hand isn't whole; or the print has failed, or wanted memory itself, and all is cut short.

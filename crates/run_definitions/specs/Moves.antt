@@ -37,6 +37,11 @@ pub data Outcome : Type 0 where
   Goes : Gain → State → Outcome
   Ends : Gain → Ending → Outcome
 
+-- what it adds, in either case
+abbrev pub gain_of : Outcome → Gain
+gain_of (Goes gain state) = gain
+gain_of (Ends gain ending) = gain
+
 -- the next statement follows, or the run goes on at another position
 abbrev pub next : Gain → State → Outcome
 next gain state = Goes gain (record state { position = state.position + 1 })

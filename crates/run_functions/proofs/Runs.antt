@@ -58,7 +58,7 @@ stopped_ending gain other ending another nor stop (inr (inl silent)) = let e = s
 stopped_ending gain other ending another nor stop (inr (inr other_stop)) = absurd (nor (overflows other another other_stop))
 
 -- an ending is a stop for an overflow, or isn't
-overflow_or_not : (ending : Ending) → IsOverflow ending ⊎ (IsOverflow ending → ⊥)
+pub overflow_or_not : (ending : Ending) → IsOverflow ending ⊎ (IsOverflow ending → ⊥)
 overflow_or_not (OverflowStop overflow) = inl (overflow, refl)
 overflow_or_not (Ended code) = inr (λ h. let e = h.1 in cc e)
 overflow_or_not WordsRefused = inr (λ h. let e = h.1 in cc e)

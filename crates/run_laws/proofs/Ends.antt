@@ -62,7 +62,9 @@ HasNoChange p = (z : Vector) → z p.objective ≡ objective_value p z
 -- what the verdict of an end says is true
 module _ (sheet : Sheet) (s : Basis) (steps : ℕ) (lawful : IsLinearProgram sheet.lp) (plain : HasNoChange sheet.lp) (at : IsNonsingularBasis sheet.lp s) where
   pub end_is_true : (ending : PathEnding) → EndsAt sheet.lp s ending → IsTrueOf sheet (verdict_of sheet steps ending)
-  end_is_true (EndsOptimal z y) ends = record { point = z; best = (optimal_end sheet.lp s z y lawful at ends).best; is_objective = plain (value_at z) }
+  end_is_true (EndsOptimal z y) ends =
+      let proved = optimal_end sheet.lp s z y lawful at ends in
+      record { point = z; prices = y; best = proved.best; proving = proved.proving; is_objective = plain (value_at z) }
   end_is_true (EndsCrossed k) ends = let crossed = crossed_end sheet.lp s k ends in (crossed, infeasible_by_proof sheet.lp (by_crossed k crossed))
   end_is_true (EndsInfeasible w) ends =
       let ray = infeasible_end sheet.lp s w at.is_basis at.nonsingular ends in

@@ -12,9 +12,9 @@ use Rattle.answer_definitions.specs.Real.{linear_programming}
 use Rattle.run_definitions.specs.State.{State}
 use Rattle.run_definitions.specs.Moves.{Gain, Nothing, Prints, Punches, printed_by, Outcome, Goes, Ends}
 use Rattle.run_definitions.specs.Run.{counted, Step, Reaches, begun, stepped, IsRun, is_over, is_ended}
-use Rattle.run_definitions.specs.Answer.{Job, Failures, Answer, IsProgramOf, job_decks, IsJobRun, card_fault, control_fault, run, MayEnd, words_refused, read_fails, by_itself, memory_at_start, memory_in_run, memory_at_punch, punch_fails, IsAnswer, whole, print_fails, print_wants_memory}
+use Rattle.run_definitions.specs.Answer.{Job, Failures, Answer, IsProgramOf, job_decks, IsJobRun, card_fault, control_fault, run, MayEnd, words_refused, read_fails, by_itself, memory_at_start, memory_in_run, memory_at_punch, punch_fails, IsCutShort, in_report, in_end, IsAnswer, whole, print_fails, print_wants_memory}
 use Rattle.run_laws.specs.Truth.{Holds, HoldsAtEnd}
-use Rattle.run_laws.specs.Headline.{HoldSoFar, HoldInRun, HoldInJob, HoldInEnd, HoldInAnswer}
+use Rattle.run_laws.specs.Headline.{HoldSoFar, HoldInRun, HoldInJob, HoldInEnd, HoldInCut, HoldInAnswer}
 use Rattle.run_laws.specs.Laws.{KnowsSolving, reports_of, TellsTruth}
 use Rattle.run_laws.proofs.Moves.{HasProblem, Knows, HoldsGain, Keeps, unmarked, without_setup}
 use Rattle.run_laws.proofs.Verbs.{verb_kept}
@@ -115,11 +115,16 @@ module _ (S : Solving) (solving : KnowsSolving S) where
   end_holds _ _ _ (memory_at_punch bytes program state deck is so_far punching) = so_far_holds bytes program so_far.is_program _ _ state so_far.reaches
   end_holds _ _ _ (punch_fails bytes program state deck failed is so_far punching) = so_far_holds bytes program so_far.is_program _ _ state so_far.reaches
 
+  cut_holds : {job : Job} {failures : Failures} {answer : Answer} (cut : IsCutShort S job failures answer) → HoldInCut S cut
+  cut_holds (in_report bytes program state outcome part is so_far step front printed punched) =
+      (so_far_holds bytes program so_far.is_program _ _ state so_far.reaches, step_holds bytes program so_far.is_program _ _ state outcome so_far.reaches step)
+  cut_holds (in_end ending part may_end front printed punched) = end_holds _ _ ending may_end
+
   -- each report of an answer to a job holds of the state in which it was made
   pub answer_holds : {job : Job} {failures : Failures} {answer : Answer} (is : IsAnswer S job failures answer) → HoldInAnswer S is
   answer_holds (whole {reports} {cards} ending may_end status printed punched) = end_holds reports cards ending may_end
-  answer_holds (print_fails failed status cut) = end_holds _ _ _ cut.is_possible.may_end
-  answer_holds (print_wants_memory wanted status cut) = end_holds _ _ _ cut.is_possible.may_end
+  answer_holds (print_fails failed status cut) = cut_holds cut
+  answer_holds (print_wants_memory wanted status cut) = cut_holds cut
 
   pub tells_truth : TellsTruth S
   tells_truth = record {

@@ -2,6 +2,7 @@
 -- the state in which it was made.
 --     HoldSoFar, HoldInRun ..      each report of a run, and its end, holds of the state in which it was made
 --     HoldInEnd may_end            so does each report of a job, however it ends
+--     HoldInCut cut                and so of a listing in which the print has stopped
 --     HoldInAnswer answer          and so of an answer to a job
 --     IsTrueAnswer job ..          the headline
 use Rattle.std.specs.Prelude.{ℕ, List, All}
@@ -11,9 +12,9 @@ use Rattle.listing_definitions.specs.Report.{Report}
 use Rattle.listing_definitions.specs.Ending.{Ending}
 use Rattle.question_definitions.specs.Solving.{Solving}
 use Rattle.run_definitions.specs.State.{State}
-use Rattle.run_definitions.specs.Moves.{printed_by}
+use Rattle.run_definitions.specs.Moves.{printed_by, gain_of}
 use Rattle.run_definitions.specs.Run.{Reaches, begun, stepped, IsRun, is_over, is_ended}
-use Rattle.run_definitions.specs.Answer.{Job, Failures, Answer, IsJobRun, run, MayEnd, by_itself, memory_in_run, memory_at_punch, punch_fails, IsAnswer, whole, print_fails, print_wants_memory}
+use Rattle.run_definitions.specs.Answer.{Job, Failures, Answer, IsJobRun, run, MayEnd, by_itself, memory_in_run, memory_at_punch, punch_fails, IsCutShort, in_report, in_end, IsAnswer, whole, print_fails, print_wants_memory}
 use Rattle.run_laws.specs.Truth.{Holds, HoldsAtEnd}
 
 module _ (S : Solving) where
@@ -48,17 +49,25 @@ module _ (S : Solving) where
   HoldInEnd (punch_fails bytes program state deck failed is so_far punching) = HoldSoFar program _ so_far.reaches
   HoldInEnd _ = Unit {0}
 
+  -- of a listing in which the print has stopped: of the reports that stand whole, and of that of which a
+  -- prefix stands
+  abbrev pub HoldInCut : {job : Job} {failures : Failures} {answer : Answer} →
+      IsCutShort S job failures answer → Type 0
+  HoldInCut (in_report bytes program state outcome part is so_far step front printed punched) =
+      HoldSoFar program _ so_far.reaches × All (Holds state) (printed_by (gain_of outcome))
+  HoldInCut (in_end ending part may_end front printed punched) = HoldInEnd may_end
+
   -- of an answer: of the reports of its listing, or of the listing that is cut short
   abbrev pub HoldInAnswer : {job : Job} {failures : Failures} {answer : Answer} →
       IsAnswer S job failures answer → Type 0
   HoldInAnswer (whole ending may_end status printed punched) = HoldInEnd may_end
-  HoldInAnswer (print_fails failed status cut) = HoldInEnd cut.is_possible.may_end
-  HoldInAnswer (print_wants_memory wanted status cut) = HoldInEnd cut.is_possible.may_end
+  HoldInAnswer (print_fails failed status cut) = HoldInCut cut
+  HoldInAnswer (print_wants_memory wanted status cut) = HoldInCut cut
 
   -- THE HEADLINE. The print and the punch gain some bytes. With the status they are an answer to this job:
   -- the printed bytes are the listing of the reports and the end of a run of the job's program, or of its
-  -- early stop, or a front of it as the status says. And each report of this run holds of the state in
-  -- which it was made.
+  -- early stop; or the print has stopped in a report or in the lines of an end, and all that comes before
+  -- stands with a prefix of it. And each report of this run holds of the state in which it was made.
   pub record IsTrueAnswer (job : Job) (failures : Failures) (status : ℕ) (PrintGains PunchGains : List ℕ → Type 0) :
       Type 0 where
     pub printed : List ℕ

@@ -21,7 +21,7 @@ use Rattle.answer_definitions.specs.Sweeps.{IsSwept}
 use Rattle.answer_definitions.specs.Bases.{ArePunched, IsInstalled}
 use Rattle.answer_definitions.specs.Real.{linear_programming}
 use Rattle.run_definitions.specs.State.{Present, State}
-use Rattle.run_definitions.specs.Moves.{Gain, printed_by, Outcome, Goes, Ends, Gives}
+use Rattle.run_definitions.specs.Moves.{Gain, printed_by, Outcome, Ends, gain_of, Gives}
 use Rattle.run_definitions.specs.Verbs.{verb_move}
 use Rattle.run_definitions.specs.Run.{Step}
 use Rattle.run_definitions.specs.Answer.{IsJobRun, IsSoFar}
@@ -41,8 +41,7 @@ pub record KnowsSolving (S : Solving) : Type 0 where
 
 -- what a statement prints, where the run goes on and where it ends
 abbrev pub reports_of : Outcome → List Report
-reports_of (Goes gain after) = printed_by gain
-reports_of (Ends gain ending) = printed_by gain
+reports_of outcome = printed_by (gain_of outcome)
 
 -- In the run of a job, each report of a statement holds of the state in which it is executed, and so does
 -- the end to which a statement brings the run; and so each report of a job that ends by itself, and its end,

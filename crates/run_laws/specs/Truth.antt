@@ -81,10 +81,12 @@ pub record ShowsRanges (setup : Option Present) (cells : Cells) (lines : RangeLi
   pub is_report : IsRangeReport program.lp (present_basis program.present) report
   pub are_lines : lines ≡ range_lines (sheet_of program) (present_basis program.present) tableau report
 
--- the objective is that of a best point
+-- the objective is that of a best point, and there are prices that prove this point best
 pub record IsBestObjective (p : LinearProgram) (objective : ℚ) : Type 0 where
   pub point : List ℚ
+  pub prices : List ℚ
   pub best : IsBest p (value_at point)
+  pub proving : AreProvingPrices p (value_at point) (value_at prices)
   pub is_objective : objective ≡ objective_value p (value_at point)
 
 -- the lines are the multipliers of a ray that aren't 0
@@ -102,7 +104,7 @@ pub record AreLinesOfDirection (sheet : Sheet) (objective : ℚ) (lines : List L
   pub is_objective : objective ≡ objective_value sheet.lp (value_at point)
   pub are_lines : lines ≡ pair_lines sheet point direction
 
--- An objective that is printed is that of a best point. A variable that is printed is crossed, or the
+-- An objective that is printed is that of a best point, which prices prove best. A variable that is printed is crossed, or the
 -- lines are those of a ray, and so no point is feasible. Or the lines are those of a feasible point and a
 -- direction, and so there is no best point.
 abbrev pub IsTrueOf : Sheet → PathVerdict → Type 0

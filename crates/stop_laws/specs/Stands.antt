@@ -58,7 +58,8 @@ module _ (S : Solving) (job : Job) (failures : Failures) (PrintGains PunchGains 
     pub is_front : IsFront punched (card_text cards)
     pub punch_gains : PunchGains punched
 
-  -- A front of a listing that the job may have stands, and a front of the cards punched by its end.
+  -- The print has stopped in a report or in the lines of an end: all that comes before stands, with a
+  -- prefix of this text, and the cards that are punched by then.
   pub record StandsCutShort (status : ℕ) : Type 0 where
     pub printed : List ℕ
     pub punched : List ℕ
@@ -71,7 +72,8 @@ module _ (S : Solving) (job : Job) (failures : Failures) (PrintGains PunchGains 
   -- refused, and one of which a read fails, leaves the line of this stop alone. A job that ends by
   -- itself leaves its whole listing and all its cards. A fault of the punch, or want of memory, breaks
   -- it off: the reports so far and the stop's line stand, and a front of the cards. Where the print
-  -- fails, or wants memory itself, a front of a possible listing stands, and a front of its cards.
+  -- fails, or wants memory itself, it has stopped in a report or in the lines of an end: all that comes
+  -- before stands, with a prefix of this text, and the cards that are punched by then.
   pub data StandsAfter (status : ℕ) : Type 0 where
     ended : status ≤ 2 → StandsWhole (Ended status) → StandsAfter status
     words_refused : status ≡ 4 → job ≡ WithoutBytes → StandsAlone WordsRefused → StandsAfter status
