@@ -1,4 +1,4 @@
--- The path of bases since SETUP, and the waypoints that lie in it.
+-- The path of bases since SETUP or INSERT, and the waypoints that lie in it.
 use Rattle.std.proofs.Common.{◌≡◌, ℕ, List, [], ◌∷◌, ◌++◌, Option, Some, map, get_or, inl, inr, refl, sym, ap, subst, ◌∙◌}
 use Rattle.std.proofs.lemmas.List.{append_assoc}
 use Rattle.std.proofs.lemmas.List.Elements.{All-contains}
@@ -25,50 +25,9 @@ use Rattle.run_machine.specs.Kept.{Setup}
 use Rattle.run_machine.specs.Standing.{IsPresent}
 use Rattle.control_run.specs.Found.{PathReaches}
 use Rattle.sweep_laws.proofs.Runs.{last_of-append}
-
--- ---- lists of bases
-
--- all up to the last
-before_last : (s : Basis) (bases : List Basis) → (initial : List Basis) × (s ∷ bases ≡ initial ++ last_of s bases ∷ [])
-before_last s [] = ([], refl)
-before_last s (next ∷ bases) = let rest = before_last next bases in (s ∷ rest.0, ap (λ xs. s ∷ xs) rest.1)
-
--- ---- the setup of the state, with the problem that is on file
-
-abbrev pub present_with : Problem ℕ → SetupOptions → Basis → List Basis → Present
-present_with problem options opening steps = record { problem = problem; options = options; opening = opening; steps = steps }
-
-pub record IsPresentOf (problem : Problem ℕ) (setup : Setup) (shown : Option Present) : Type 0 where
-  pub opening : Basis
-  pub steps : List Basis
-  pub is_shown : shown ≡ Some (present_with problem setup.options opening steps)
-  pub reached : last_of opening steps ≡ setup.basis
-  pub lie : LieIn (matrix_of problem) setup.engine.waypoints (opening ∷ steps)
-  pub initial : List Basis
-  pub ends : opening ∷ steps ≡ initial ++ setup.basis ∷ []
-
-pub one_problem : (file : Filed) (setup : Setup) (a b : Problem ℕ) → filed_under setup.name file ≡ Some a → filed_under setup.name file ≡ Some b → a ≡ b
-one_problem file setup a b first second = same_Some a b (sym first ∙ second)
-
-pub present_at : (file : Filed) (setup : Setup) (shown : Option Present) (problem : Problem ℕ) → filed_under setup.name file ≡ Some problem → IsPresent file setup shown → IsPresentOf problem setup shown
-present_at file setup shown problem on_file p =
-    let same : p.problem ≡ problem = one_problem file setup p.problem problem p.on_file on_file in
-    let b = before_last p.opening p.steps in
-    record {
-      opening = p.opening;
-      steps = p.steps;
-      is_shown = p.is_shown ∙ ap (λ (q : Problem ℕ). Some (present_with q setup.options p.opening p.steps)) same;
-      reached = p.reached;
-      lie = subst (λ (q : Problem ℕ). LieIn (matrix_of q) setup.engine.waypoints (p.opening ∷ p.steps)) same p.lie;
-      initial = b.0;
-      ends = b.1 ∙ ap (λ s. b.0 ++ s ∷ []) p.reached;
-    }
+use Rattle.run_machine.proofs.Present.{IsPresentOf, present_with}
 
 module _ (problem : Problem ℕ) (setup : Setup) (shown : Option Present) (p : IsPresentOf problem setup shown) (lp : LinearProgram) (same : matrix_of problem ≡ lp.matrix) where
-  -- the waypoints lie in a list that ends with the basis
-  pub lie_up_to : LieIn lp.matrix setup.engine.waypoints (p.initial ++ setup.basis ∷ [])
-  lie_up_to = subst (λ (a : Matrix). LieIn a setup.engine.waypoints (p.initial ++ setup.basis ∷ [])) same (subst (λ (bs : List Basis). LieIn (matrix_of problem) setup.engine.waypoints bs) p.ends p.lie)
-
   -- the present basis after a path
   pub goes_through : (file : Filed) (new : Setup) (bases : List Basis) → filed_under setup.name file ≡ Some problem → new.name ≡ setup.name → new.options ≡ setup.options →
       last_of setup.basis bases ≡ new.basis → LieIn lp.matrix new.engine.waypoints (p.initial ++ setup.basis ∷ bases) →

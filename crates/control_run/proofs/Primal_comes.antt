@@ -36,7 +36,8 @@ use Rattle.run_machine.proofs.Selected.{same_matrix}
 use Rattle.run_machine.proofs.Giving.{gives_fault, gives_found, gives_unselected, gives_selected, quietly}
 use Rattle.control_run.proofs.Telling.{told_executes, cut_executes}
 use Rattle.control_run.proofs.Demanded.{verdict_comes}
-use Rattle.control_run.proofs.Present.{present_with, IsPresentOf, present_at, lie_up_to, goes_through}
+use Rattle.control_run.proofs.Present.{goes_through}
+use Rattle.run_machine.proofs.Present.{IsPresentOf, lie_up_to, present_at, present_with}
 
 pub no_cards_by : (problem : Problem ℕ) (cells : Cells) (setup new : Setup) (gain : Gain) (finding : Finding) → Finds problem cells setup new gain finding → punched_by gain ≡ []
 no_cards_by problem cells setup new _ _ (unselected h) = refl

@@ -51,8 +51,8 @@ use Rattle.control_run.specs.Found.{RangesFound, ranged, stopped, ShowsRanges, r
 use Rattle.run_machine.proofs.Selected.{same_matrix}
 use Rattle.run_machine.proofs.Giving.{gives_fault, gives_found, gives_selected, quietly}
 use Rattle.control_run.proofs.Telling.{told_executes, cut_executes}
-use Rattle.control_run.proofs.Present.{present_with, IsPresentOf, present_at, one_problem, lie_up_to}
 use Rattle.control_run.proofs.Showing.{IsSameSetup, still_stands}
+use Rattle.run_machine.proofs.Present.{IsPresentOf, lie_up_to, one_problem, present_at, present_with}
 
 -- ---- the intervals of a basis
 

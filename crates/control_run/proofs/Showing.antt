@@ -48,7 +48,8 @@ use Rattle.control_run.specs.Found.{LinesFound, shown, overflows, Shows}
 use Rattle.run_machine.proofs.Selected.{same_matrix}
 use Rattle.run_machine.proofs.Giving.{gives_fault, gives_found, gives_selected, quietly}
 use Rattle.control_run.proofs.Telling.{told_executes, cut_executes}
-use Rattle.control_run.proofs.Present.{present_with, IsPresentOf, present_at, one_problem, lie_up_to, lie_later}
+use Rattle.control_run.proofs.Present.{lie_later}
+use Rattle.run_machine.proofs.Present.{IsPresentOf, lie_up_to, one_problem, present_at, present_with}
 
 -- ---- the lines of a basis
 

@@ -46,7 +46,7 @@ use Rattle.run_machine.specs.Findings.{TellsFinding, refused_finding, IfEnded}
 use Rattle.control_run.specs.Found.{PathReaches, PathFinds, reached, at_limit, overflows, Finds, unselected, too_large, solved}
 use Rattle.run_machine.proofs.Selected.{same_matrix, no_change, rates_carry}
 use Rattle.control_run.proofs.Telling.{tells_more, tells_quietly}
-use Rattle.control_run.proofs.Present.{one_problem}
+use Rattle.run_machine.proofs.Present.{one_problem}
 
 -- ---- the path
 
@@ -74,61 +74,6 @@ pub path_overflows : (sheet : OwnSheet) (s now : Basis) (limit : Option ℕ) (be
     (place : OwnPlace) → place_shown place ≡ record { basis = now; way = waypoint (basics_of now) after e.way } → PathFinds (sheet_shown sheet) s now limit before after Nothing (Overflow e (Some place))
 path_overflows sheet s now limit before after e o place is =
     overflows (λ earlier lie. subst (λ (p : endings.Place). OverflowsOnPath (sheet_shown sheet) (earlier ++ s ∷ []) limit e (Some p)) (sym is) (o.overflows earlier lie))
-
--- ---- a setup
-
--- the linear program has the rows and the columns of the problem
-pub as_many_rows : (problem : Problem ℕ) (choice : Choice) (p : LinearProgram) → selected problem choice ≡ Ok p → length problem.rows ≡ p.matrix.rows
-as_many_rows problem choice p e = ap (λ (a : Matrix). a.rows) (same_matrix problem choice p e)
-
-pub as_many_columns : (problem : Problem ℕ) (choice : Choice) (p : LinearProgram) → selected problem choice ≡ Ok p → length problem.columns ≡ p.matrix.cols
-as_many_columns problem choice p e = ap (λ (a : Matrix). a.cols) (same_matrix problem choice p e)
-
-module _ (file : Filed) (setup : Setup) (r : IsReady file setup) (problem : Problem ℕ) (on_file : filed_under setup.name file ≡ Some problem) where
-  own_selected : selected problem r.choice ≡ Ok setup.lp
-  own_selected = subst (λ (q : Problem ℕ). selected q r.choice ≡ Ok setup.lp) (one_problem file setup r.problem problem r.on_file on_file) r.is_selected
-
-  -- the setup's linear program has the rows and the columns of the problem
-  pub ready_rows : length problem.rows ≡ setup.lp.matrix.rows
-  ready_rows = as_many_rows problem r.choice setup.lp own_selected
-
-  pub ready_columns : length problem.columns ≡ setup.lp.matrix.cols
-  ready_columns = as_many_columns problem r.choice setup.lp own_selected
-
-  pub ready_unchanged : setup.lp.change ≡ None
-  ready_unchanged = no_change problem r.choice setup.lp own_selected
-
-  module _ (cells : Cells) (lp : LinearProgram) (ok : selected problem (choice_of cells setup.options) ≡ Ok lp) where
-    -- the setup's rates are those of what is selected now
-    pub ready_rates : HasRates setup.engine.matrix setup.engine.basics lp setup.basis
-    ready_rates = rates_carry problem r.choice (choice_of cells setup.options) setup.lp lp r.has_options own_selected ok setup.engine.matrix setup.engine.basics setup.basis r.rates
-
-    -- and the other way
-    pub ready_again : (new : Setup) → new.name ≡ setup.name → new.options ≡ setup.options → new.lp ≡ setup.lp → HasRates new.engine.matrix new.engine.basics lp new.basis → IsReady file new
-    ready_again new same_name same_options same_lp has = record {
-      problem = problem;
-      on_file = ap (λ name. filed_under name file) same_name ∙ on_file;
-      choice = r.choice;
-      has_options = r.has_options ∙ sym same_options;
-      is_selected = own_selected ∙ ap Ok (sym same_lp);
-      rates = subst (λ (p : LinearProgram). HasRates new.engine.matrix new.engine.basics p new.basis) (sym same_lp)
-          (rates_carry problem (choice_of cells setup.options) r.choice lp setup.lp (sym r.has_options) ok own_selected new.engine.matrix new.engine.basics new.basis has);
-    }
-
-    pub ready_solved : (new : Setup) → new.name ≡ setup.name → new.options ≡ setup.options → new.lp ≡ lp → HasRates new.engine.matrix new.engine.basics lp new.basis → IsReady file new
-    ready_solved new same_name same_options same_lp has = record {
-      problem = problem;
-      on_file = ap (λ name. filed_under name file) same_name ∙ on_file;
-      choice = choice_of cells setup.options;
-      has_options = sym same_options;
-      is_selected = ok ∙ ap Ok (sym same_lp);
-      rates = subst (λ (p : LinearProgram). HasRates new.engine.matrix new.engine.basics p new.basis) (sym same_lp) has;
-    }
-
-    pub now_selected : (new : Setup) → new.name ≡ setup.name → new.options ≡ setup.options → new.lp ≡ lp → IsSelected cells file new
-    now_selected new same_name same_options same_lp = λ other on.
-        let same : problem ≡ other = one_problem file setup problem other on_file (ap (λ name. filed_under name file) (sym same_name) ∙ on) in
-        ap (λ o. selected other (choice_of cells o)) same_options ∙ subst (λ (q : Problem ℕ). selected q (choice_of cells setup.options) ≡ Ok lp) same ok ∙ ap Ok (sym same_lp)
 
 -- ---- what is found with a setup
 

@@ -36,8 +36,9 @@ use Rattle.control_run.specs.Sweeping.{verb_of, name_moved, change_of, change_fa
 use Rattle.run_machine.proofs.Selected.{same_matrix}
 use Rattle.run_machine.proofs.Giving.{gives_fault, gives_found, gives_unselected, gives_selected, quietly}
 use Rattle.control_run.proofs.Telling.{told_executes, cut_executes}
-use Rattle.control_run.proofs.Present.{present_with, IsPresentOf, present_at, lie_up_to, goes_through}
+use Rattle.control_run.proofs.Present.{goes_through}
 use Rattle.control_run.proofs.Demanded.{verdict_comes}
+use Rattle.run_machine.proofs.Present.{IsPresentOf, lie_up_to, present_at, present_with}
 
 no_cards_by : (problem : Problem ℕ) (cells : Cells) (verb : SweepVerb) (setup new : Setup) (gain : Gain) (finding : Finding) → Sweeps problem cells verb setup new gain finding → punched_by gain ≡ []
 no_cards_by problem cells verb setup new _ _ (unselected h) = refl

@@ -6,3 +6,4 @@ mod Filing
 mod Revising
 mod Setting
 mod Titling
+pub mod Present

@@ -51,7 +51,7 @@ module _ {U : Type 0} (punch_written punch_stopped_at : U → Option (List ℕ))
 -- ---- BCDOUT
 
 -- what a call wrote whose value is of no matter
-wrote : {T P : Type 0} (written stopped_at : P → Option (List ℕ)) (faults refusals : P → ℕ) {old new : P} (value : T) (text : List ℕ) → Writes {T = T} written stopped_at faults refusals old new (Ok value) text →
+pub wrote : {T P : Type 0} (written stopped_at : P → Option (List ℕ)) (faults refusals : P → ℕ) {old new : P} (value : T) (text : List ℕ) → Writes {T = T} written stopped_at faults refusals old new (Ok value) text →
     Writes {T = Unit {0}} written stopped_at faults refusals old new (Ok tt) text
 wrote written stopped_at faults refusals value text w = record {
   bytes = w.bytes;
@@ -62,7 +62,7 @@ wrote written stopped_at faults refusals value text w = record {
 same_stop : {T : Type 0} (result : Result T WriteStop) (a b : WriteStop) → result ≡ Err a → IsErrOf result b → a ≡ b
 same_stop result a b is also = cc
 
-stopped : {T P : Type 0} (written stopped_at : P → Option (List ℕ)) (faults refusals : P → ℕ) {old new : P} (stop : WriteStop) (text : List ℕ) → Writes {T = T} written stopped_at faults refusals old new (Err stop) text →
+pub stopped : {T P : Type 0} (written stopped_at : P → Option (List ℕ)) (faults refusals : P → ℕ) {old new : P} (stop : WriteStop) (text : List ℕ) → Writes {T = T} written stopped_at faults refusals old new (Err stop) text →
     Writes {T = Unit {0}} written stopped_at faults refusals old new (Err stop) text
 stopped written stopped_at faults refusals stop text w = record {
   bytes = w.bytes;

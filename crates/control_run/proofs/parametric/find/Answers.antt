@@ -5,9 +5,9 @@ use Rattle.run_definitions.specs.State.{choice_of}
 use Rattle.run_machine.specs.Standing.{IsReady}
 use Rattle.control_run.specs.Sweeping.{sweep_shown}
 use Rattle.run_machine.proofs.Selected.{no_change}
-use Rattle.control_run.proofs.Solving_steps.{as_many_rows, as_many_columns, ready_rates, ready_again, ready_solved}
 use Rattle.control_run.proofs.Sweep_steps.{unselected_told, unasked_told, run_told, serves}
 use Rattle.control_run.proofs.parametric.find.Goals as goal
+use Rattle.run_machine.proofs.Present.{as_many_columns, as_many_rows, ready_again, ready_rates, ready_solved}
 
 pub returns-in-Err-clause-tells : goal.returns-in-Err-clause-tells
 returns-in-Err-clause-tells g c =

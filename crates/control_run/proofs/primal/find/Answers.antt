@@ -7,8 +7,9 @@ use Rattle.run_definitions.specs.State.{choice_of}
 use Rattle.run_machine.specs.Kept.{Setup}
 use Rattle.run_machine.specs.Standing.{IsReady, IsSolved}
 use Rattle.run_machine.proofs.Selected.{no_change}
-use Rattle.control_run.proofs.Solving_steps.{as_many_rows, as_many_columns, ready_rates, ready_again, ready_solved, now_selected, refusal_told, refusal_ends, solved_ends, path_told}
+use Rattle.control_run.proofs.Solving_steps.{refusal_told, refusal_ends, solved_ends, path_told}
 use Rattle.control_run.proofs.primal.find.Goals as goal
+use Rattle.run_machine.proofs.Present.{as_many_columns, as_many_rows, now_selected, ready_again, ready_rates, ready_solved}
 
 pub returns-in-Err-clause-tells : goal.returns-in-Err-clause-tells
 returns-in-Err-clause-tells g c =

@@ -1,0 +1,7 @@
+//! The verbs by which a basis goes out and comes in: PUNCH writes the present basis as a deck, and INSERT makes that of a deck the
+//! present one.
+#![tactic(auto)]
+
+mod basis_out;
+
+pub use basis_out::punch_present;
