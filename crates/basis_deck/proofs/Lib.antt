@@ -1,3 +1,5 @@
 mod Marks
 mod Named
+mod Variables
 mod CardStep
+mod Begun
