@@ -22,7 +22,9 @@ use Rattle.deck_definitions.specs.declared.Section.TheVariants.{Header}
 use Rattle.deck_definitions.specs.Sections.{is_section, is_section_card, section_word, section_words, section_after, is_section_after}
 use Rattle.deck_definitions.specs.Conversion.{section_card_fault, form_fault}
 use Rattle.deck_definitions.proofs.Steps.{section_after-push}
-use Rattle.basis_deck_definitions.specs.Placings.{Code, Exchanges, Stands, code_words, HasNames, Placing, placings_by, row_variable, column_variable}
+use Rattle.basis_deck_definitions.specs.declared.Code.{Code}
+use Rattle.basis_deck_definitions.specs.declared.Code.TheVariants.{Exchanges, Stands}
+use Rattle.basis_deck_definitions.specs.Placings.{code_words, HasNames, Placing, placings_by, row_variable, column_variable}
 use Rattle.basis_deck_definitions.specs.Reading.{has_limit_of, is_named_in, filled_after, placings_on, placings_of, stands_for, code_fault, by_code, basis_card_fault}
 use Rattle.basis_deck_laws.proofs.Lawful.{row_is, column_is, not_false}
 use Rattle.basis_deck.specs.Reading.{State, marks_of, state_of, is_marked, ends_after, code_test, read_test, inner_test, fault_at, with_code, with_read, state_with}
@@ -136,10 +138,10 @@ module _ (problem : Problem ℕ) (lp : LinearProgram) (names : HasNames problem 
     unfolding stands_for
     said section placings s p =
         let all : placings_of problem (seen ++ card ∷ []) ≡ placings_of problem seen ++ placings
-            = flat_map-append (placings_on problem) seen (card ∷ []) ∙ ap (λ more. placings_of problem seen ++ more) (append-nil (placings_on problem card) ∙ p) in
+        = flat_map-append (placings_on problem) seen (card ∷ []) ∙ ap (λ more. placings_of problem seen ++ more) (append-nil (placings_on problem card) ∙ p) in
         let statuses : stands_for problem lp (seen ++ card ∷ []) ≡ fold (λ (s : List Status) (placing : Placing). with_status s placing.variable placing.status) (stands_for problem lp seen) placings
-            = ap (fold (λ (s : List Status) (placing : Placing). with_status s placing.variable placing.status) (opening_statuses lp)) all
-            ∙ fold-append (λ (s : List Status) (placing : Placing). with_status s placing.variable placing.status) (opening_statuses lp) (placings_of problem seen) placings in
+        = ap (fold (λ (s : List Status) (placing : Placing). with_status s placing.variable placing.status) (opening_statuses lp)) all
+        ∙ fold-append (λ (s : List Status) (placing : Placing). with_status s placing.variable placing.status) (opening_statuses lp) (placings_of problem seen) placings in
         λ i. record { problem = problem; lp = lp; section = s i; statuses = statuses i; marks = marks_of lp (all i) }
 
     section-is : (b : Bool) → is_section_card card.bytes ≡ b → section_after (seen ++ card ∷ []) ≡ option_or (cond b (named section_words (section_word card.bytes)) None) (section_after seen)

@@ -3,4 +3,6 @@ pub mod Punched
 pub mod Stuck
 mod Marks
 mod Named
+mod Variables
 mod CardStep
+mod Begun

@@ -5,6 +5,7 @@ use Rattle.std.specs.Option.{option_map}
 use Rattle.std.proofs.lemmas.Bool.{lt-ltb}
 use Rattle.std.proofs.lemmas.Bool.Decides.{nat_tests}
 use Rattle.problem_definitions.specs.Names.{Name, same, has_name, number_in}
+use Rattle.problem_definitions.specs.Valid.{IsNumberOf}
 use Rattle.problem_definitions.proofs.Names.{same_sym}
 use Rattle.problem_definitions.proofs.Places.{number_in-is, number_in-within}
 use Rattle.name_table.specs.Numbers.{number_of}
@@ -27,7 +28,10 @@ module _ (names : List Name) (name : Name) where
 
   -- a name that isn't there has no number
   pub absent : has_name names name ≡ false → number_of name names ≡ None
-  absent e = let past = place_past (same name) names e in ap (option_map (λ (place : ℕ). place + 1)) (rw past (grind (arith, nat_tests)))
+  absent e =
+      let past = place_past (same name) names e in
+      let none : position (same name) names ≡ None = rw past (grind (arith, nat_tests)) in
+      ap (option_map (λ (place : ℕ). place + 1)) none
 
   -- a name that has no number isn't there
   pub missing : number_of name names ≡ None → has_name names name ≡ false
@@ -44,6 +48,9 @@ module _ (names : List Name) (name : Name) where
       by : (b : Bool) → has_name names name ≡ b → has_name names name ≡ true
       by true e = e
       by false e = absurd (cc (some, absent e))
+
+  pub within : (k : ℕ) → number_of name names ≡ Some k → IsNumberOf (length names) k
+  within k some = subst (IsNumberOf (length names)) (ap (λ o. unwrap_or o 0) some) (number_in-within names name (there k some))
 
   pub number : (k : ℕ) → number_of name names ≡ Some k → k ≡ number_in names name
   number k some = sym (ap (λ o. unwrap_or o 0) some)

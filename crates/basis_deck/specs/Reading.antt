@@ -17,7 +17,8 @@ use Rattle.deck_definitions.specs.Sections.{is_section, is_section_card, section
 use Rattle.deck_definitions.specs.Conversion.{section_card_fault, form_fault}
 use Rattle.deck_fields.specs.declared.stop.DeckStop.{DeckStop}
 use Rattle.deck_fields.specs.declared.stop.DeckStop.TheVariants.{Fault, NoMemory}
-use Rattle.basis_deck_definitions.specs.Placings.{Code, code_words, Placing, placings_by}
+use Rattle.basis_deck_definitions.specs.declared.Code.{Code}
+use Rattle.basis_deck_definitions.specs.Placings.{code_words, Placing, placings_by}
 use Rattle.basis_deck_definitions.specs.Reading.{has_limit_of, row_fault, filled_after, placings_of, stands_for, basis_reading}
 
 -- the problem and the linear program, the section that goes on, where each variable stands, and whether a card named it

@@ -13,8 +13,7 @@ use deck_cards::{
     read_data_card,
 };
 use deck_definitions::{DeckFaultKind, Section};
-use deck_fields::DeckStop;
-use lp_model::{Basis, Lp, Status};
+use lp_model::{Basis, Lp, NoMemory, Status};
 use name_table::{Name, NameTable};
 use problem_file::Problem;
 use std::alloc::Global;
@@ -54,21 +53,20 @@ impl<'a> BasisDraft<'a> {
     ghost use Rattle.problem_definitions.specs.Problem.{has_row, has_group};
     ghost use Rattle.deck_cards.specs.Told.{TellsDeckFault};
     ghost use Rattle.deck_cards.specs.Shown.{shown};
-    ghost use Rattle.basis_deck_definitions.specs.Placings.{Exchanges, Stands, code_words, HasNames, row_variable, column_variable};
+    ghost use Rattle.basis_deck_definitions.specs.declared.Code.TheVariants.{Exchanges, Stands};
+    ghost use Rattle.basis_deck_definitions.specs.Placings.{code_words, HasNames, row_variable, column_variable};
     ghost use Rattle.basis_deck.specs.Reading.{State, state_of, code_test, read_test, inner_test, fault_at, with_placing, with_code, with_read, with_data, state_with};
     ghost use Rattle.basis_deck.specs.Draft_shown.{state_shown};
 
     /// A draft after no card: each variable stands as it opens.
-    pub fn new(alloc: Global, problem: &'a Problem, lp: &'a Lp) -> Result<BasisDraft<'a>, DeckStop>
+    pub fn new(alloc: Global, problem: &'a Problem, lp: &'a Lp) -> Result<BasisDraft<'a>, NoMemory>
         requires { HasNames problem.now lp.now }
         ensures { IfOk result (λ draft. state_shown draft ≡ state_of problem.now lp.now []) }
     {
         let size = lp.number_of_variables() as usize;
         let rows = names_of_rows(alloc, problem.rows())?;
         let columns = names_of_columns(alloc, problem.columns())?;
-        let Ok(opening) = Basis::opening(alloc, lp) else {
-            return Err(DeckStop::NoMemory);
-        };
+        let opening = Basis::opening(alloc, lp)?;
         let marks = vec![in alloc; false; size]?;
         Ok(BasisDraft {
             problem,
@@ -83,7 +81,7 @@ impl<'a> BasisDraft<'a> {
 
     /// The basis after the cards so far.
     pub fn into_basis(self) -> Basis
-        ensures { result ≡ (state_shown self).statuses }
+        ensures { result ≡ (state_shown self.entry).statuses }
     {
         let _size = self.lp.number_of_variables();
         Basis::of(self.statuses)
@@ -107,6 +105,7 @@ impl<'a> BasisDraft<'a> {
         ensures variable { IfSome result (IsVariable self.now.lp.now.matrix) }
     {
         let number = self.columns.find(name)?;
+        let _few = self.problem.column_count();
         Some(self.problem.row_count() + number)
     }
 

@@ -4,26 +4,26 @@ ghost use Rattle.std.specs.List.{IsDistinct};
 ghost use Rattle.problem_definitions.specs.Names.{same};
 ghost use Rattle.name_table.specs.Numbers.{number_of};
 
-use deck_fields::DeckStop;
+use lp_model::NoMemory;
 use name_table::{AddStop, Name, NameTable};
 use problem_file::{ColumnDecl, RowDecl};
 use std::alloc::Global;
 
 // Puts a name at the end that isn't there.
-fn add_new(names: &mut NameTable, name: Name) -> Result<(), DeckStop>
+fn add_new(names: &mut NameTable, name: Name) -> Result<(), NoMemory>
     requires room { length names.old ≤ 5000 }
     requires is_new { number_of name names.old ≡ None }
     ensures { OnOk result (names.new ≡ names.old ++ name ∷ []) }
 {
     match names.add(name) {
         Ok(_) => Ok(()),
-        Err(AddStop::NoMemory) => Err(DeckStop::NoMemory),
+        Err(AddStop::NoMemory) => Err(NoMemory),
         Err(AddStop::Taken(_)) => unreachable!(),
     }
 }
 
 /// The names of these rows.
-pub fn names_of_rows(alloc: Global, rows: &[RowDecl]) -> Result<NameTable, DeckStop>
+pub fn names_of_rows(alloc: Global, rows: &[RowDecl]) -> Result<NameTable, NoMemory>
     requires few { length rows.now ≤ 1000 }
     requires distinct { IsDistinct same (map (λ row. row.name) rows.now) }
     ensures { IfOk result (λ names. names ≡ map (λ row. row.name) rows.now) }
@@ -36,7 +36,7 @@ pub fn names_of_rows(alloc: Global, rows: &[RowDecl]) -> Result<NameTable, DeckS
 }
 
 /// The names of these columns.
-pub fn names_of_columns(alloc: Global, columns: &[ColumnDecl]) -> Result<NameTable, DeckStop>
+pub fn names_of_columns(alloc: Global, columns: &[ColumnDecl]) -> Result<NameTable, NoMemory>
     requires few { length columns.now ≤ 5000 }
     requires distinct { IsDistinct same (map (λ column. column.name) columns.now) }
     ensures { IfOk result (λ names. names ≡ map (λ column. column.name) columns.now) }

@@ -34,7 +34,10 @@ pub fn read_basis(
     ensures stop { IfErr result
         (Refuses problem.now lp.now (cards_between first last cards.now)) }
 {
-    let mut draft = BasisDraft::new(alloc, problem, lp)?;
+    let Ok(begun) = BasisDraft::new(alloc, problem, lp) else {
+        return Err(DeckStop::NoMemory);
+    };
+    let mut draft = begun;
     read_cards(&mut draft, cards, first, last)?;
     Ok(draft.into_basis())
 }

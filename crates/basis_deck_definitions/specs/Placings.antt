@@ -7,8 +7,8 @@ use Rattle.lp_definitions.specs.LinearProgram.{LinearProgram}
 use Rattle.lp_definitions.specs.declared.Status.{Status}
 use Rattle.lp_definitions.specs.declared.Status.TheVariants.{Bs, Ll, Ul}
 use Rattle.card_definitions.specs.Fields.{Reading}
-pub use Rattle.basis_deck_definitions.specs.declared.Code.{Code}
-pub use Rattle.basis_deck_definitions.specs.declared.Code.TheVariants.{Exchanges, Stands}
+use Rattle.basis_deck_definitions.specs.declared.Code.{Code}
+use Rattle.basis_deck_definitions.specs.declared.Code.TheVariants.{Exchanges, Stands}
 use Rattle.problem_definitions.specs.Names.{Name, number_in}
 use Rattle.problem_definitions.specs.Problem.{Problem, row_names, group_names}
 

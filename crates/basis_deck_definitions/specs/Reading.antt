@@ -20,7 +20,9 @@ use Rattle.deck_definitions.specs.declared.Section.TheVariants.{Header, Endata}
 use Rattle.deck_definitions.specs.Sections.{is_section, is_section_card, section_after, is_section_after}
 use Rattle.deck_definitions.specs.Tests.{filled_from_3, filled_from_4}
 use Rattle.deck_definitions.specs.Conversion.{section_card_fault, form_fault, fault_by}
-use Rattle.basis_deck_definitions.specs.Placings.{Code, Exchanges, Stands, code_words, Placing, placings_by}
+use Rattle.basis_deck_definitions.specs.declared.Code.{Code}
+use Rattle.basis_deck_definitions.specs.declared.Code.TheVariants.{Exchanges, Stands}
+use Rattle.basis_deck_definitions.specs.Placings.{code_words, Placing, placings_by}
 
 -- the limit at which a status stands is there; what is basic needs none
 abbrev pub has_limit_of : LinearProgram → Placing → Bool

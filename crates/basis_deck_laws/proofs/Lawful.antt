@@ -27,7 +27,9 @@ use Rattle.deck_definitions.specs.declared.Section.TheVariants.{Header, Endata}
 use Rattle.deck_definitions.specs.declared.DeckFaultKind.TheVariants.{SectionOrder, UnknownRow, UnknownColumn, NamedTwice, NoSuchLimit}
 use Rattle.deck_definitions.specs.Sections.{is_section, is_section_card, section_after, is_section_after}
 use Rattle.deck_definitions.specs.Conversion.{section_card_fault, form_fault, first_faulty, fault_by}
-use Rattle.basis_deck_definitions.specs.Placings.{Code, Exchanges, Stands, code_words, HasNames, Placing, placings_by, row_variable, column_variable}
+use Rattle.basis_deck_definitions.specs.declared.Code.{Code}
+use Rattle.basis_deck_definitions.specs.declared.Code.TheVariants.{Exchanges, Stands}
+use Rattle.basis_deck_definitions.specs.Placings.{code_words, HasNames, Placing, placings_by, row_variable, column_variable}
 use Rattle.basis_deck_definitions.specs.Reading.{has_limit_of, placings_on, placings_of, stands_for, is_named_in, row_fault, filled_after, code_fault, by_code, basis_data_fault, basis_card_fault, basis_reading}
 
 -- ---- tests and codes
