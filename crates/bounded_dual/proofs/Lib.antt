@@ -1,0 +1,5 @@
+pub mod DualEvidence
+pub mod Returning
+pub mod Ending
+pub mod WalkSteps
+pub mod CompleteDual

@@ -1,0 +1,24 @@
+use Rattle.std.proofs.Common.{◌≡◌, ◌-◌, ◌≤◌}
+use Rattle.std.specs.Prelude.{IsTrue}
+use Rattle.lp_definitions.specs.LinearProgram.{value_at}
+use Rattle.lp_definitions.specs.Basis.{IsPointOf, ArePricesOf}
+use Rattle.method_definitions.specs.DualPath.{dual_turn}
+use Rattle.basis_values.specs.Calls.{HasRates}
+use Rattle.bounded_primal.specs.KeptPoints.{all_kept, AgreesWithPoint}
+use Rattle.bounded_primal.specs.Turns.{least_outside}
+use Rattle.bounded_primal.proofs.PathWalk.{HasReached}
+use Rattle.bounded_dual.proofs.path.walk.Given as goal
+
+abbrev pub decreases-loop-outcome : goal.decreases-loop-outcome
+decreases-loop-outcome g l = l.limit - l.steps
+
+abbrev pub invariant-loop-outcome : goal.invariant-loop-outcome
+invariant-loop-outcome g l = record {
+  rates : HasRates (g.R.Rates.matrix l.rates) (g.R.Rates.basics l.rates) l.lp l.basis;
+  point : AgreesWithPoint l.lp l.basis (value_at l.point);
+  kept : IsTrue (all_kept l.kept) → IsPointOf l.lp l.basis (value_at l.point);
+  prices : ArePricesOf l.lp l.basis (value_at l.prices);
+  broken : l.broken ≡ least_outside l.lp l.basis (value_at l.point);
+  within : l.steps ≤ l.limit;
+  reached : HasReached dual_turn l.lp l.fn.basis (g.R.Rates.waypoints l.fn.rates) l.basis (g.R.Rates.waypoints l.rates) l.steps;
+}

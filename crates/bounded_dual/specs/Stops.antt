@@ -1,0 +1,43 @@
+-- What a call of the dual method promises.
+--     dual_stop_of                 a stop of one call as that of the path
+--     DualEnds                     the path has ended within the limit, from right prices to right prices
+--     DualStops                    what holds after a call that has stopped
+--     IsNotUnbounded               the outcome isn't that the objective has no bound
+use Rattle.std.specs.Prelude.{◌≡◌, ℕ, ◌≤◌, List, length}
+use Rattle.lp_definitions.specs.LinearProgram.{LinearProgram}
+use Rattle.lp_definitions.specs.Basis.{Basics}
+use Rattle.lp_definitions.specs.declared.Status.{Status}
+use Rattle.lp_model.specs.declared.Stop.{Stop}
+use Rattle.lp_model.specs.declared.Stop.TheVariants as stop
+use Rattle.lp_model.specs.declared.reports.Outcome.{Outcome}
+use Rattle.lp_model.specs.declared.reports.Outcome.TheVariants.{Optimal, Crossed, Infeasible, Unbounded}
+use Rattle.method_definitions.specs.Path.{last_of}
+use Rattle.method_definitions.specs.DualPath.{dual_turn, HasRightPrices, IsWrongAt, IsDualPath}
+use Rattle.method_definitions.specs.Statements.{Dual}
+use Rattle.bounded_primal.specs.Calls.{RuleCallEnds, RuleCallGoesOn, RuleStopsOnPath}
+use Rattle.bounded_dual.specs.declared.moves.DualStop.{DualStop}
+use Rattle.bounded_dual.specs.declared.moves.DualStop.TheVariants.{NotDualFeasible, Limit, Overflow, NoMemory}
+
+abbrev pub dual_stop_of : Stop → DualStop
+dual_stop_of (stop.Overflow e) = Overflow e
+dual_stop_of stop.NoMemory = NoMemory
+
+-- the prices of s are right, and so are those of the basis where the path ends
+pub record DualEnds (p : LinearProgram) (s now : List Status) (limit : ℕ) (outcome : Outcome) : Type 0 where
+  pub right : HasRightPrices p s
+  pub stays : HasRightPrices p now
+  pub call : RuleCallEnds dual_turn p s now limit outcome
+
+-- a wrong price is named before any step; the limit is reached where the path goes on from right prices; an overflow shows its
+-- evidence on the path so far
+abbrev pub DualStops : LinearProgram → List Status → List Status → ℕ → List Basics → List Basics → DualStop → Type 0
+DualStops p s now limit before after (NotDualFeasible j) = IsWrongAt p s j × (now ≡ s)
+DualStops p s now limit before after Limit = HasRightPrices p s × RuleCallGoesOn dual_turn p s now limit
+DualStops p s now limit before after (Overflow e) = RuleStopsOnPath dual_turn (Dual p) p s now limit before after e
+DualStops p s now limit before after NoMemory = (bases : List (List Status)) × (IsDualPath p s bases × (last_of s bases ≡ now)) × (length bases ≤ limit)
+
+abbrev pub IsNotUnbounded : Outcome → Type 0
+IsNotUnbounded (Optimal steps point prices) = Unit {0}
+IsNotUnbounded (Crossed k) = Unit {0}
+IsNotUnbounded (Infeasible steps ray) = Unit {0}
+IsNotUnbounded (Unbounded steps point direction) = ⊥

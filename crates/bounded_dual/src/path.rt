@@ -1,0 +1,165 @@
+//! The path of the dual simplex method.
+
+ghost use Rattle.std.specs.Prelude.{◌≡◌, None, List, length, OnOk, IfOk, IfErr, IsTrue};
+ghost use Rattle.lp_definitions.specs.LinearProgram.{size, value_at, IsLinearProgram};
+ghost use Rattle.lp_definitions.specs.Basis.{ArePricesOf};
+ghost use Rattle.lp_definitions.specs.declared.Status.{Status};
+ghost use Rattle.method_definitions.specs.Path.{PathEnding};
+ghost use Rattle.method_definitions.specs.DualPath.{dual_turn, HasRightPrices};
+ghost use Rattle.method_definitions.specs.Statements.{Dual};
+ghost use Rattle.basis_values.specs.Calls.{HasRates, KeepsRates};
+ghost use Rattle.basis_values.specs.Stops.{PointOverflow};
+ghost use Rattle.bounded_primal.specs.Calls.{RuleCallEnds, RuleWaypointsFollow};
+ghost use Rattle.bounded_primal.specs.Complete.{RuleEndsUnhindered, IsEndOr};
+ghost use Rattle.bounded_primal.specs.Outcomes.{IsTrueOutcome};
+ghost use Rattle.bounded_primal.specs.Turns.{IsUncrossed};
+ghost use Rattle.bounded_dual.specs.Stops.{DualEnds, DualStops, IsNotUnbounded};
+
+use crate::moves::DualStop;
+use crate::turns::next_turn;
+use basis_values::{crossed, fill_prices, outside, point_of, wrong_price};
+use bounded_primal::{Kept, Turn, room, step_over};
+use dual_step::prices_over;
+use frac128::Frac;
+use lp_model::{Basis, Lp, Outcome, Rates, Stop};
+use std::alloc::Global;
+
+/// The prices of the basis, which are at hand where they were `carried` there, and are made anew where an operation was refused on the
+/// way. `room` is room for a row.
+fn kept_prices<R: Rates>(
+    lp: &Lp,
+    basis: &Basis,
+    rates: &mut R,
+    room: &mut [Frac],
+    prices: &mut [Frac],
+    carried: bool,
+) -> Result<(), Stop>
+    requires lawful { IsLinearProgram lp.now }
+    requires rates { HasRates (R.matrix rates.old) (R.basics rates.old) lp.now basis.now }
+    requires room { length room.old ≡ size lp.now.matrix }
+    requires places { length prices.old ≡ size lp.now.matrix }
+    requires carried { IsTrue carried → ArePricesOf lp.now basis.now (value_at prices.old) }
+    ensures prices { OnOk result (ArePricesOf lp.now basis.now (value_at prices.new)) }
+    ensures rates { KeepsRates (R.matrix rates.new) (R.basics rates.new) lp.now basis.now
+        (R.waypoints rates.old) (R.waypoints rates.new) }
+    ensures overflow { PointOverflow result lp.now basis.now (R.waypoints rates.old)
+        (R.waypoints rates.new) }
+{
+    if carried {
+        return Ok(());
+    }
+    fill_prices(lp, basis, rates, room, prices)
+}
+
+/// Makes the basis's point, and goes from basis to basis with it, or with the values that steps need, where another is refused.
+/// `prices` are the basis's, and are kept over each step; `row` and `direction` are room.
+fn walk<R: Rates>(
+    alloc: Global,
+    lp: &Lp,
+    basis: &mut Basis,
+    rates: &mut R,
+    point: &mut [Frac],
+    prices: &mut [Frac],
+    row: &mut [Frac],
+    direction: &mut [Frac],
+    limit: u32,
+) -> Result<Outcome, DualStop>
+    requires lawful { IsLinearProgram lp.now }
+    requires no_change { lp.now.change ≡ None }
+    requires rates { HasRates (R.matrix rates.old) (R.basics rates.old) lp.now basis.old }
+    requires point_places { length point.old ≡ size lp.now.matrix }
+    requires price_places { length prices.old ≡ size lp.now.matrix }
+    requires row_places { length row.old ≡ size lp.now.matrix }
+    requires direction_places { length direction.old ≡ size lp.now.matrix }
+    requires prices { ArePricesOf lp.now basis.old (value_at prices.old) }
+    requires right { HasRightPrices lp.now basis.old }
+    requires uncrossed { IsUncrossed lp.now }
+    ensures ends { IfOk result (RuleCallEnds dual_turn lp.now basis.old basis.new limit) }
+    ensures stops { IfErr result (DualStops lp.now basis.old basis.new limit
+        (R.waypoints rates.old) (R.waypoints rates.new)) }
+    ensures rates { HasRates (R.matrix rates.new) (R.basics rates.new) lp.now basis.new }
+    ensures waypoints { RuleWaypointsFollow dual_turn lp.now basis.old basis.new
+        (R.waypoints rates.old) (R.waypoints rates.new) }
+{
+    point_of(alloc, lp, basis, rates, point)?;
+    let mut broken = outside(lp, basis, point);
+    let mut kept = Kept::AllSoFar;
+    let mut steps = 0;
+    loop {
+        match next_turn(
+            alloc,
+            lp,
+            basis,
+            rates,
+            point,
+            kept,
+            prices,
+            row,
+            direction,
+            broken,
+            steps,
+            limit - steps,
+        )? {
+            Turn::Ends(outcome) => return Ok(outcome),
+            Turn::Moves { q, by } => {
+                let carried = prices_over(prices, row, by.p, q);
+                kept = step_over(lp, basis, rates, point, direction, q, &by, kept)?;
+                kept_prices(lp, basis, rates, direction, prices, carried)?;
+            }
+        }
+        broken = outside(lp, basis, point);
+        steps += 1;
+    }
+}
+
+/// Follows the dual path from a basis whose prices are right, until it ends, for at most `limit` steps: the least-numbered basic outside
+/// its limits is brought back to the limit that it broke, by the least-numbered of the nonbasics that bring it back at the least loss.
+/// `NotDualFeasible` names the least-numbered nonbasic whose price is wrong, and comes before any step; prices are tested before crossed
+/// variables. `Limit` comes exactly where the path has not ended after so many steps. The basis and the rates are those that the path
+/// has reached, after a stop too.
+pub fn dual<R: Rates>(
+    alloc: Global,
+    lp: &Lp,
+    basis: &mut Basis,
+    rates: &mut R,
+    limit: u32,
+) -> Result<Outcome, DualStop>
+    requires rates { HasRates (R.matrix rates.old) (R.basics rates.old) lp.now basis.old }
+    requires no_change { lp.now.change ≡ None }
+    ensures ends { IfOk result (DualEnds lp.now basis.old basis.new limit) }
+    ensures stops { IfErr result (DualStops lp.now basis.old basis.new limit
+        (R.waypoints rates.old) (R.waypoints rates.new)) }
+    ensures rates { HasRates (R.matrix rates.new) (R.basics rates.new) lp.now basis.new }
+    ensures waypoints { RuleWaypointsFollow dual_turn lp.now basis.old basis.new
+        (R.waypoints rates.old) (R.waypoints rates.new) }
+    ensures truth { IfOk result (IsTrueOutcome lp.now) }
+    ensures bounded { IfOk result IsNotUnbounded }
+    ensures complete { (bases : List (List Status)) (ending : PathEnding) →
+        HasRightPrices lp.now basis.old →
+        RuleEndsUnhindered dual_turn (Dual lp.now) lp.now basis.old limit (R.waypoints rates.old)
+        bases ending → IsEndOr DualStop.NoMemory basis.old bases ending basis.new result }
+{
+    let size = lp.number_of_variables() as usize;
+    let mut prices = room(alloc, size)?;
+    let mut row = room(alloc, size)?;
+    fill_prices(lp, basis, rates, &mut row, &mut prices)?;
+    if let Some(j) = wrong_price(lp, basis, &prices) {
+        return Err(DualStop::NotDualFeasible(j));
+    }
+    if let Some(k) = crossed(lp) {
+        return Ok(Outcome::Crossed { k });
+    }
+    let mut point = room(alloc, size)?;
+    let mut direction = room(alloc, size)?;
+    walk(
+        alloc,
+        lp,
+        basis,
+        rates,
+        &mut point,
+        &mut prices,
+        &mut row,
+        &mut direction,
+        limit,
+    )
+}
