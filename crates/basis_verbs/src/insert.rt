@@ -81,3 +81,50 @@ fn basic_count(lp: &Lp, basis: &Basis) -> u32
     }
     count
 }
+
+// An exchange on the way to the basis is refused: the run ends with the basis that is present, and the set at which it was to be made.
+fn overflow_end<E: Engine>(
+    alloc: Global,
+    lp: &Lp,
+    present: &Basis,
+    engine: &E,
+    evidence: Evidence,
+    card: u32,
+) -> Result<Act, Halt>
+    requires matrix { E.matrix engine.now ≡ lp.now.matrix }
+    requires way { evidence.way ≤ length (E.waypoints engine.now) }
+    ensures { IsOverflowEnd present.now (waypoint (E.basics engine.now) (E.waypoints engine.now)
+        evidence.way) evidence card result }
+{
+    match place_at(alloc, lp, present, engine, evidence.way) {
+        Ok(place) => Ok(Act::Ends(End::Overflow {
+            evidence,
+            place: Some(place),
+            card,
+        })),
+        Err(NoMemory) => Err(Halt::NoMemory),
+    }
+}
+
+// The basis is singular: the run ends, and its end owns all that is printed of it.
+fn singular_end(
+    file: ProblemFile,
+    name: Name,
+    lp: Lp,
+    dependency: Direction,
+    card: u32,
+) -> Act
+    requires on_file { IsSheetOf (filed_under name file) lp }
+    requires full { length dependency ≡ size lp.matrix }
+    ensures { EndsSingular (lines_shown (filed_under name file) lp dependency) card result }
+{
+    Act::Ends(End::Singular {
+        card,
+        basis: SingularBasis {
+            file,
+            name,
+            lp,
+            dependency,
+        },
+    })
+}

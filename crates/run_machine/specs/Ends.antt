@@ -2,7 +2,8 @@
 use Rattle.std.specs.Prelude.{option_map}
 use Rattle.listing_definitions.specs.Ending.{Ending, Ended, VerbStop, SingularStop, PriceStop, LimitStop, StatementLimit, OverflowStop}
 use Rattle.listing_definitions.specs.Ending as endings
-use Rattle.listing_tables.specs.Lines.{ray_lines}
+use Rattle.problem_file.specs.Filed.{filed_under}
+use Rattle.run_machine.specs.Singular.{lines_shown}
 use Rattle.run_definitions.specs.Verbs.{deck_stop}
 use Rattle.run_machine.specs.declared.end.End.{End}
 use Rattle.run_machine.specs.declared.end.End.TheVariants.{Done, Infeasible, Unbounded, Verb, Singular, WrongPrices, Deck, Limit, Statements, Overflow, Memory}
@@ -17,7 +18,7 @@ end_shown Done = Ended 0
 end_shown Infeasible = Ended 1
 end_shown Unbounded = Ended 2
 end_shown (Verb fault card) = VerbStop (record { fault = fault; card = card })
-end_shown (Singular card basis) = SingularStop (record { card = card; lines = ray_lines basis.problem basis.lp basis.dependency })
+end_shown (Singular card basis) = SingularStop (record { card = card; lines = lines_shown (filed_under basis.name basis.file) basis.lp basis.dependency })
 end_shown (WrongPrices card variable) = PriceStop (record { card = card; variable = variable })
 end_shown (Deck fault) = deck_stop fault
 end_shown (Limit limit card) = LimitStop (record { limit = limit; card = card })

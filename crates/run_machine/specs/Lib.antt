@@ -1,3 +1,4 @@
+pub mod Singular
 pub mod Kept
 pub mod Machines
 pub mod Ends

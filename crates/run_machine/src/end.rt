@@ -1,12 +1,15 @@
 // How a run ends, where no device fails.
 ghost use Rattle.std.specs.Prelude.{◌≡◌, length};
 ghost use Rattle.lp_definitions.specs.LinearProgram.{size};
+ghost use Rattle.problem_file.specs.Filed.{filed_under};
+ghost use Rattle.run_machine.specs.Singular.{IsSheetOf};
 
 use deck_definitions::DeckFault;
 use listing_definitions::VerbFault;
 use lp_definitions::Evidence;
 use lp_model::{Basis, Direction, Lp};
-use problem_file::Problem;
+use name_table::Name;
+use problem_file::ProblemFile;
 
 /// Where an operation is refused: the present basis, and a mark for each basic of the set that the evidence speaks of.
 #[derive(Drop)]
@@ -15,15 +18,15 @@ pub struct Place {
     pub way: Vec<bool>,
 }
 
-/// A singular basis that a deck has given: the problem and the linear program whose variables its columns are, and a coefficient for
-/// each variable by which these columns depend on each other.
+/// A singular basis that a deck has given: the problems on file, the name of the one whose variables its columns are, the linear program
+/// that is selected of that one, and a coefficient for each variable by which these columns depend on each other.
 #[derive(Drop)]
 pub struct SingularBasis {
-    pub problem: Problem,
+    pub file: ProblemFile,
+    pub name: Name,
     pub lp: Lp,
     pub dependency: Direction,
-    pub ghost rows: { length problem.rows ≡ lp.matrix.rows },
-    pub ghost columns: { length problem.columns ≡ lp.matrix.cols },
+    pub ghost on_file: { IsSheetOf (filed_under name file) lp },
     pub ghost full: { length dependency ≡ size lp.matrix },
 }
 

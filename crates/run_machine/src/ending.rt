@@ -126,13 +126,16 @@ fn singular_of(card: u32, basis: &SingularBasis) -> Ending<'_>
     ensures shown { ending_shown result ≡ end_shown (ends.Singular card basis.now) }
     ensures lawful { IsEnding result }
 {
-    Ending::Singular {
-        card,
-        sheet: Sheet {
-            problem: &basis.problem,
-            lp: &basis.lp,
+    match basis.file.get(&basis.name) {
+        Some(problem) => Ending::Singular {
+            card,
+            sheet: Sheet {
+                problem,
+                lp: &basis.lp,
+            },
+            dependency: &basis.dependency,
         },
-        dependency: &basis.dependency,
+        None => unreachable!(),
     }
 }
 

@@ -39,20 +39,20 @@ pub enum Finding {
     Swept(Frac),
 }
 
-// The place of an evidence at a basis, with the set that has this number among the waypoints.
-fn place_at<R: Rates>(
+/// The place of an evidence: a basis, and the set that has this number among the waypoints of rates of the same matrix.
+pub fn place_at<R: Rates>(
     alloc: Global,
     lp: &Lp,
     basis: &Basis,
     rates: &R,
     way: u32,
 ) -> Result<Place, NoMemory>
-    requires rates { HasRates (R.matrix rates.now) (R.basics rates.now) lp.now basis.now }
+    requires matrix { R.matrix rates.now ≡ lp.now.matrix }
     requires way { way ≤ length (R.waypoints rates.now) }
     ensures { IfOk result (λ place. place_shown place ≡
         record {
           basis = basis.now;
-          way = waypoint (basics_of basis.now)
+          way = waypoint (R.basics rates.now)
               (R.waypoints rates.now) way;
         }) }
 {

@@ -19,7 +19,7 @@ mod title;
 pub use act::{Act, AfterStatement, Halt};
 pub use end::{End, Place, SingularBasis};
 pub use ending::ending_of;
-pub use finding::{Finding, act_of, mark_left, overflow_at, refused};
+pub use finding::{Finding, act_of, mark_left, overflow_at, place_at, refused};
 pub use machine::{Machine, Setup};
 pub use selecting::{Refusal, select_present};
 pub use setup::set_up;

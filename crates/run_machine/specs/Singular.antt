@@ -1,0 +1,18 @@
+-- What a singular basis prints.
+--     IsSheetOf found p            the problem that is found has the rows and columns of the linear program
+--     lines_shown found p d        the lines of a dependency
+use Rattle.std.specs.Prelude.{◌≡◌, ℕ, List, [], Option, Some, None, length}
+use Rattle.exact_values.specs.Rational.{ℚ}
+use Rattle.lp_definitions.specs.LinearProgram.{LinearProgram}
+use Rattle.problem_definitions.specs.Problem.{Problem}
+use Rattle.listing_definitions.specs.Report.{Line}
+use Rattle.listing_tables.specs.Lines.{ray_lines}
+
+abbrev pub IsSheetOf : Option (Problem ℕ) → LinearProgram → Type 0
+IsSheetOf None p = ⊥
+IsSheetOf (Some problem) p = (length problem.rows ≡ p.matrix.rows) × (length problem.columns ≡ p.matrix.cols)
+
+-- the coefficients that aren't 0, with the problem's names
+abbrev pub lines_shown : Option (Problem ℕ) → LinearProgram → List ℚ → List Line
+lines_shown None p d = []
+lines_shown (Some problem) p d = ray_lines problem p d
