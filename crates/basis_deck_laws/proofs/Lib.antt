@@ -1,2 +1,4 @@
 pub mod Dependencies
+pub mod GivesBack
 pub mod Lawful
+pub mod Spoken

@@ -1,7 +1,9 @@
 use Rattle.basis_deck_laws.proofs.Lawful.{lawful}
+use Rattle.basis_deck_laws.proofs.GivesBack.{gives_back}
 use Rattle.basis_deck_laws.proofs.basis_deck_laws.Goals as goal
 
 pub returns : goal.returns
 returns c = record {
   lawful = lawful;
+  gives_back = gives_back;
 }
