@@ -130,22 +130,9 @@ count_statuses (st ∷ s) whole m same =
     by true false e h = absurd (cc e)
     by false true e h = absurd (cc e)
 
-module _ (lp : LinearProgram) (s : List Status) (basis : IsBasis lp s) where
-  basic_at : ℕ → Bool
-  basic_at k = is_basic (status_of s k)
+-- ---- the variables that cards name
 
-  pub as_many : length (basic_columns lp s) ≡ length (nonbasic_rows lp s)
-  as_many =
-      let p : ℕ → Bool = λ k. is_basic (status_of s k) in
-      let all = sym (count_statuses s s 1 (λ i below. (let e : 1 + i - 1 ≡ i = omega arith in ap (λ k. get_or s k Bs) e))) ∙ is_count_by basics_in is_basic refl (λ st s. refl) s ∙ basis.m_basics in
-      let counted = ap (λ n. length (filter (λ k. is_basic (status_of s k)) (numbers_from 1 n))) (sym basis.counted) ∙ all in
-      let split = count_split (λ k. is_basic (status_of s k)) lp.rows lp.cols 1 in
-      let place = ap (λ m. length (filter (λ k. is_basic (status_of s k)) (numbers_from m lp.cols))) (let e : 1 + lp.rows ≡ lp.rows + 1 = omega arith in e) in
-      let rows = count_all (λ k. is_basic (status_of s k)) lp.rows 1 in
-      omega (arith, counted, split, place, rows)
-
-  -- ---- the placings of the cards
-
+module _ (lp : LinearProgram) (s : List Status) where
   -- a basic column, a nonbasic row, and a column at its upper limit
   pub record IsBasicColumn (k : ℕ) : Type 0 where
     pub past : lp.rows < k
@@ -161,11 +148,11 @@ module _ (lp : LinearProgram) (s : List Status) (basis : IsBasis lp s) where
     pub is : IsVariable lp.matrix k
     pub up : status_of s k ≡ Ul
 
-  columns_ascend : Ascends IsBasicColumn (lp.rows + 1) (basic_columns lp s)
+  pub columns_ascend : Ascends IsBasicColumn (lp.rows + 1) (basic_columns lp s)
   columns_ascend = ascending IsBasicColumn (λ k. is_basic (status_of s k)) lp.cols (lp.rows + 1)
       (λ k low high basic. record { past = omega (arith, low); is = (omega (arith, low), omega (arith, high)); basic = basic })
 
-  rows_ascend : Ascends IsNonbasicRow 1 (nonbasic_rows lp s)
+  pub rows_ascend : Ascends IsNonbasicRow 1 (nonbasic_rows lp s)
   rows_ascend = ascending IsNonbasicRow (λ k. not (is_basic (status_of s k))) lp.rows 1
       (λ k low high out. record { row = (low, omega (arith, high)); out = not_true (is_basic (status_of s k)) out })
     where
@@ -173,7 +160,7 @@ module _ (lp : LinearProgram) (s : List Status) (basis : IsBasis lp s) where
       not_true false h = refl
       not_true true h = absurd (cc h)
 
-  raised_ascend : Ascends IsUpColumn (lp.rows + 1) (raised lp s)
+  pub raised_ascend : Ascends IsUpColumn (lp.rows + 1) (raised lp s)
   raised_ascend = ascending IsUpColumn (is_raised lp s) lp.cols (lp.rows + 1)
       (λ k low high up. record { past = omega (arith, low); is = (omega (arith, low), omega (arith, high)); up = stands_up (status_of s k) (is_up (opening_at_of lp k)) up })
     where
@@ -182,6 +169,25 @@ module _ (lp : LinearProgram) (s : List Status) (basis : IsBasis lp s) where
       stands_up Ll opens h = absurd (cc h)
       stands_up Ul opens h = refl
       stands_up Fr opens h = absurd (cc h)
+
+  abbrev pub pairs : List (ℕ × ℕ)
+  pairs = zip (basic_columns lp s) (nonbasic_rows lp s)
+
+module _ (lp : LinearProgram) (s : List Status) (basis : IsBasis lp s) where
+  basic_at : ℕ → Bool
+  basic_at k = is_basic (status_of s k)
+
+  pub as_many : length (basic_columns lp s) ≡ length (nonbasic_rows lp s)
+  as_many =
+      let p : ℕ → Bool = λ k. is_basic (status_of s k) in
+      let all = sym (count_statuses s s 1 (λ i below. (let e : 1 + i - 1 ≡ i = omega arith in ap (λ k. get_or s k Bs) e))) ∙ is_count_by basics_in is_basic refl (λ st s. refl) s ∙ basis.m_basics in
+      let counted = ap (λ n. length (filter (λ k. is_basic (status_of s k)) (numbers_from 1 n))) (sym basis.counted) ∙ all in
+      let split = count_split (λ k. is_basic (status_of s k)) lp.rows lp.cols 1 in
+      let place = ap (λ m. length (filter (λ k. is_basic (status_of s k)) (numbers_from m lp.cols))) (let e : 1 + lp.rows ≡ lp.rows + 1 = omega arith in e) in
+      let rows = count_all (λ k. is_basic (status_of s k)) lp.rows 1 in
+      omega (arith, counted, split, place, rows)
+
+  -- ---- the placings of the cards
 
   -- what the first cards leave free: columns from c on, and rows from r on
   abbrev LeavesFrom : ℕ → ℕ → List Placing → Type 0
@@ -202,7 +208,7 @@ module _ (lp : LinearProgram) (s : List Status) (basis : IsBasis lp s) where
       by (inl same) = absurd (apart same.1)
       by (inr other) = other.0
 
-  exchanges_free : (cs rs : List ℕ) (c r : ℕ) (placed : List Placing) → lp.rows < c → Ascends IsBasicColumn c cs → Ascends IsNonbasicRow r rs → LeavesFrom c r placed → AreFreeInTurn placed (map (exchange_placings s) (zip cs rs))
+  exchanges_free : (cs rs : List ℕ) (c r : ℕ) (placed : List Placing) → lp.rows < c → Ascends (IsBasicColumn lp s) c cs → Ascends (IsNonbasicRow lp s) r rs → LeavesFrom c r placed → AreFreeInTurn placed (map (exchange_placings s) (zip cs rs))
   exchanges_free [] rs c r placed past hc hr free = tt
   exchanges_free (k ∷ cs) [] c r placed past hc hr free = tt
   exchanges_free (k ∷ cs) (i ∷ rs) c r placed past hc hr free = (
@@ -220,7 +226,7 @@ module _ (lp : LinearProgram) (s : List Status) (basis : IsBasis lp s) where
   )
 
   -- they leave the columns at upper limits free
-  exchanges_leave : (cs rs : List ℕ) (c r : ℕ) → Ascends IsBasicColumn c cs → Ascends IsNonbasicRow r rs → (k : ℕ) → IsUpColumn k → places (flat_map (exchange_placings s) (zip cs rs)) k ≡ false
+  exchanges_leave : (cs rs : List ℕ) (c r : ℕ) → Ascends (IsBasicColumn lp s) c cs → Ascends (IsNonbasicRow lp s) r rs → (k : ℕ) → (IsUpColumn lp s) k → places (flat_map (exchange_placings s) (zip cs rs)) k ≡ false
   exchanges_leave [] rs c r hc hr k up = refl
   exchanges_leave (j ∷ cs) [] c r hc hr k up = refl
   exchanges_leave (j ∷ cs) (i ∷ rs) c r hc hr k up =
@@ -231,7 +237,7 @@ module _ (lp : LinearProgram) (s : List Status) (basis : IsBasis lp s) where
       (neither (nat_eq i k) false (differ i k (λ e. absurd (omega (arith, e, hr.0.has.row.1, up.past)))) refl))
       (exchanges_leave cs rs (suc j) (suc i) hc.1 hr.1 k up)
 
-  limits_free : (ks : List ℕ) (c : ℕ) (placed : List Placing) → Ascends IsUpColumn c ks → ((k : ℕ) → c ≤ k → IsUpColumn k → places placed k ≡ false) → AreFreeInTurn placed (map limit_placings ks)
+  limits_free : (ks : List ℕ) (c : ℕ) (placed : List Placing) → Ascends (IsUpColumn lp s) c ks → ((k : ℕ) → c ≤ k → (IsUpColumn lp s) k → places placed k ≡ false) → AreFreeInTurn placed (map limit_placings ks)
   limits_free [] c placed h free = tt
   limits_free (k ∷ ks) c placed h free = (
     (free k h.0.low h.0.has, tt),
@@ -240,20 +246,17 @@ module _ (lp : LinearProgram) (s : List Status) (basis : IsBasis lp s) where
         ∙ neither (places placed j) (places (limit_placings k) j) (free j (omega (arith, from, h.0.low)) up) (neither (nat_eq k j) false (differ k j (λ e. absurd (omega (arith, e, from)))) refl)),
   )
 
-  abbrev pub pairs : List (ℕ × ℕ)
-  pairs = zip (basic_columns lp s) (nonbasic_rows lp s)
+  pub pairs_free : AreFreeInTurn [] (map (exchange_placings s) (pairs lp s))
+  pairs_free = exchanges_free (basic_columns lp s) (nonbasic_rows lp s) (lp.rows + 1) 1 [] (omega arith) (columns_ascend lp s) (rows_ascend lp s) ((λ k from column. refl), (λ k from row. refl))
 
-  pub pairs_free : AreFreeInTurn [] (map (exchange_placings s) pairs)
-  pairs_free = exchanges_free (basic_columns lp s) (nonbasic_rows lp s) (lp.rows + 1) 1 [] (omega arith) columns_ascend rows_ascend ((λ k from column. refl), (λ k from row. refl))
-
-  pub raised_free : AreFreeInTurn (flat_map (exchange_placings s) pairs) (map limit_placings (raised lp s))
-  raised_free = limits_free (raised lp s) (lp.rows + 1) (flat_map (exchange_placings s) pairs) raised_ascend
-      (λ k from up. exchanges_leave (basic_columns lp s) (nonbasic_rows lp s) (lp.rows + 1) 1 columns_ascend rows_ascend k up)
+  pub raised_free : AreFreeInTurn (flat_map (exchange_placings s) (pairs lp s)) (map limit_placings (raised lp s))
+  raised_free = limits_free (raised lp s) (lp.rows + 1) (flat_map (exchange_placings s) (pairs lp s)) (raised_ascend lp s)
+      (λ k from up. exchanges_leave (basic_columns lp s) (nonbasic_rows lp s) (lp.rows + 1) 1 (columns_ascend lp s) (rows_ascend lp s) k up)
 
   -- ---- what is placed
 
   abbrev pub all_placings : List Placing
-  all_placings = flat_map (exchange_placings s) pairs ++ flat_map limit_placings (raised lp s)
+  all_placings = flat_map (exchange_placings s) (pairs lp s) ++ flat_map limit_placings (raised lp s)
 
   either : (a b : Bool) → (a ≡ true) ⊎ (b ≡ true) → (a || b) ≡ true
   either true b h = refl
@@ -297,11 +300,11 @@ module _ (lp : LinearProgram) (s : List Status) (basis : IsBasis lp s) where
   pub told : (k : ℕ) → IsVariable lp.matrix k → (opening_at_of lp k ≡ status_of s k) ⊎ (places all_placings k ≡ true)
   told k is = by_half (nat_le k lp.rows) refl
     where
-      first : places (flat_map (exchange_placings s) pairs) k ≡ true → (opening_at_of lp k ≡ status_of s k) ⊎ (places all_placings k ≡ true)
-      first h = inr (places-append (flat_map (exchange_placings s) pairs) (flat_map limit_placings (raised lp s)) k ∙ either _ _ (inl h))
+      first : places (flat_map (exchange_placings s) (pairs lp s)) k ≡ true → (opening_at_of lp k ≡ status_of s k) ⊎ (places all_placings k ≡ true)
+      first h = inr (places-append (flat_map (exchange_placings s) (pairs lp s)) (flat_map limit_placings (raised lp s)) k ∙ either _ _ (inl h))
 
       second : places (flat_map limit_placings (raised lp s)) k ≡ true → (opening_at_of lp k ≡ status_of s k) ⊎ (places all_placings k ≡ true)
-      second h = inr (places-append (flat_map (exchange_placings s) pairs) (flat_map limit_placings (raised lp s)) k ∙ either (places (flat_map (exchange_placings s) pairs) k) _ (inr h))
+      second h = inr (places-append (flat_map (exchange_placings s) (pairs lp s)) (flat_map limit_placings (raised lp s)) k ∙ either (places (flat_map (exchange_placings s) (pairs lp s)) k) _ (inr h))
 
       row_case : k ≤ lp.rows → (b : Bool) → is_basic (status_of s k) ≡ b → (opening_at_of lp k ≡ status_of s k) ⊎ (places all_placings k ≡ true)
       row_case low true e = inl (row_opens lp k low ∙ sym (basic_from (status_of s k) e))
@@ -340,7 +343,7 @@ module _ (lp : LinearProgram) (s : List Status) (basis : IsBasis lp s) where
     is : IsVariable lp.matrix p.variable
     same : status_of s p.variable ≡ p.status
 
-  exchanges_agree : (cs rs : List ℕ) (c r : ℕ) → Ascends IsBasicColumn c cs → Ascends IsNonbasicRow r rs → AllByRecursion Agrees (flat_map (exchange_placings s) (zip cs rs))
+  exchanges_agree : (cs rs : List ℕ) (c r : ℕ) → Ascends (IsBasicColumn lp s) c cs → Ascends (IsNonbasicRow lp s) r rs → AllByRecursion Agrees (flat_map (exchange_placings s) (zip cs rs))
   exchanges_agree [] rs c r hc hr = tt
   exchanges_agree (k ∷ cs) [] c r hc hr = tt
   exchanges_agree (k ∷ cs) (i ∷ rs) c r hc hr =
@@ -352,13 +355,13 @@ module _ (lp : LinearProgram) (s : List Status) (basis : IsBasis lp s) where
         ),
       )
 
-  limits_agree : (ks : List ℕ) (c : ℕ) → Ascends IsUpColumn c ks → AllByRecursion Agrees (flat_map limit_placings ks)
+  limits_agree : (ks : List ℕ) (c : ℕ) → Ascends (IsUpColumn lp s) c ks → AllByRecursion Agrees (flat_map limit_placings ks)
   limits_agree [] c h = tt
   limits_agree (k ∷ ks) c h = (record { is = h.0.has.is; same = h.0.has.up }, limits_agree ks (suc k) h.1)
 
   all_agree : AllByRecursion Agrees all_placings
-  all_agree = each-append Agrees (flat_map (exchange_placings s) pairs) (flat_map limit_placings (raised lp s))
-      (exchanges_agree (basic_columns lp s) (nonbasic_rows lp s) (lp.rows + 1) 1 columns_ascend rows_ascend) (limits_agree (raised lp s) (lp.rows + 1) raised_ascend)
+  all_agree = each-append Agrees (flat_map (exchange_placings s) (pairs lp s)) (flat_map limit_placings (raised lp s))
+      (exchanges_agree (basic_columns lp s) (nonbasic_rows lp s) (lp.rows + 1) 1 (columns_ascend lp s) (rows_ascend lp s)) (limits_agree (raised lp s) (lp.rows + 1) (raised_ascend lp s))
 
   length_put : (ps : List Placing) (s0 : List Status) → length (put s0 ps) ≡ length s0
   length_put [] s0 = refl
@@ -447,17 +450,17 @@ module _ (problem : Problem ℕ) (lp : LinearProgram) (s : List Status) (first :
   head_placed = card_placed problem lp [] head [] (ap (λ b. cond b [] (unwrap_or (option_map (placings_by problem (reading_of Fixed (name_card problem.name))) (named code_words ((reading_of Fixed (name_card problem.name)).kind))) [])) head_section)
 
   abbrev exchange_texts : List (List ℕ)
-  exchange_texts = map (exchange_card problem lp s) (pairs lp s basis)
+  exchange_texts = map (exchange_card problem lp s) (pairs lp s)
 
   abbrev limit_texts : List (List ℕ)
   limit_texts = map (limit_card problem lp) (raised lp s)
 
-  each_pair : (cs rs : List ℕ) (c r : ℕ) → Ascends (IsBasicColumn lp s basis) c cs → Ascends (IsNonbasicRow lp s basis) r rs → AllByRecursion (λ pair. Speaks problem lp (exchange_card problem lp s pair) (exchange_placings s pair)) (zip cs rs)
+  each_pair : (cs rs : List ℕ) (c r : ℕ) → Ascends (IsBasicColumn lp s) c cs → Ascends (IsNonbasicRow lp s) r rs → AllByRecursion (λ pair. Speaks problem lp (exchange_card problem lp s pair) (exchange_placings s pair)) (zip cs rs)
   each_pair [] rs c r hc hr = tt
   each_pair (k ∷ cs) [] c r hc hr = tt
   each_pair (k ∷ cs) (i ∷ rs) c r hc hr = (exchange_speaks problem lp lawful names s basis k i hc.0.has.past hc.0.has.is hr.0.has.row hr.0.has.out, each_pair cs rs (suc k) (suc i) hc.1 hr.1)
 
-  each_limit : (ks : List ℕ) (c : ℕ) → Ascends (IsUpColumn lp s basis) c ks → AllByRecursion (λ k. Speaks problem lp (limit_card problem lp k) (limit_placings k)) ks
+  each_limit : (ks : List ℕ) (c : ℕ) → Ascends (IsUpColumn lp s) c ks → AllByRecursion (λ k. Speaks problem lp (limit_card problem lp k) (limit_placings k)) ks
   each_limit [] c h = tt
   each_limit (k ∷ ks) c h = (limit_speaks problem lp lawful names s basis k h.0.has.past h.0.has.is h.0.has.up, each_limit ks (suc k) h.1)
 
@@ -467,13 +470,13 @@ module _ (problem : Problem ℕ) (lp : LinearProgram) (s : List Status) (first :
   middle_accepted : AreAccepted problem lp (head ∷ []) middle (all_placings lp s basis)
   middle_accepted =
       let n = first + 1 in
-      let one = accepted problem lp (exchange_card problem lp s) (exchange_placings s) (pairs lp s basis) (each_pair (basic_columns lp s) (nonbasic_rows lp s) (lp.rows + 1) 1 (columns_ascend lp s basis) (rows_ascend lp s basis)) n (head ∷ []) head_after
-      (subst (λ ps. AreFreeInTurn ps (map (exchange_placings s) (pairs lp s basis))) (sym head_placed) (pairs_free lp s basis)) in
-      let before = one.placed ∙ ap (λ ps. ps ++ flat_map (exchange_placings s) (pairs lp s basis)) head_placed in
-      let two = accepted problem lp (limit_card problem lp) limit_placings (raised lp s) (each_limit (raised lp s) (lp.rows + 1) (raised_ascend lp s basis)) (n + length exchange_texts) ((head ∷ []) ++ numbered_from n exchange_texts) one.after
+      let one = accepted problem lp (exchange_card problem lp s) (exchange_placings s) (pairs lp s) (each_pair (basic_columns lp s) (nonbasic_rows lp s) (lp.rows + 1) 1 (columns_ascend lp s) (rows_ascend lp s)) n (head ∷ []) head_after
+      (subst (λ ps. AreFreeInTurn ps (map (exchange_placings s) (pairs lp s))) (sym head_placed) (pairs_free lp s basis)) in
+      let before = one.placed ∙ ap (λ ps. ps ++ flat_map (exchange_placings s) (pairs lp s)) head_placed in
+      let two = accepted problem lp (limit_card problem lp) limit_placings (raised lp s) (each_limit (raised lp s) (lp.rows + 1) (raised_ascend lp s)) (n + length exchange_texts) ((head ∷ []) ++ numbered_from n exchange_texts) one.after
       (subst (λ ps. AreFreeInTurn ps (map limit_placings (raised lp s))) (sym before) (raised_free lp s basis)) in
       subst (λ cards. AreAccepted problem lp (head ∷ []) cards (all_placings lp s basis)) (sym (numbered_from-append n exchange_texts limit_texts))
-      (accepted-then problem lp (head ∷ []) (numbered_from n exchange_texts) (numbered_from (n + length exchange_texts) limit_texts) (flat_map (exchange_placings s) (pairs lp s basis)) (flat_map limit_placings (raised lp s)) one two)
+      (accepted-then problem lp (head ∷ []) (numbered_from n exchange_texts) (numbered_from (n + length exchange_texts) limit_texts) (flat_map (exchange_placings s) (pairs lp s)) (flat_map limit_placings (raised lp s)) one two)
 
   -- ENDATA, after any cards of the deck
   last_fine : (before : List Card) → section_after before ≡ Some Header → basis_card_fault problem lp before (codes "ENDATA") ≡ None
