@@ -4,14 +4,17 @@ ghost use Rattle.std.specs.List.{concat};
 ghost use Rattle.listing_definitions.specs.Numbers.{digits};
 ghost use Rattle.job_devices.specs.Text.{Writes};
 ghost use Rattle.listing_definitions.specs.Ending as endings;
+ghost use Rattle.listing_definitions.specs.Ending.{verb_fault_number};
 ghost use Rattle.listing_definitions.specs.Listing.{ending_text, fault_text, labelled, deck_stop_text};
-ghost use Rattle.report_text.specs.Shown.{IsEnding, IsVerbFault, IsCardFault, verb_fault, card_fault, ending_shown};
+ghost use Rattle.report_text.specs.Shown.{ending_shown};
 
 use crate::overflow::put_overflow;
 use crate::report::Ending;
 use arrayvec::ArrayString;
+use card_definitions::CardFault;
 use itoa::Buffer;
 use job_devices::{Sink, WriteStop, put_all, put_each};
+use listing_definitions::VerbFault;
 use listing_tables::decimal;
 
 // The code of a run that ends by itself.
@@ -55,24 +58,47 @@ fn put_fault<P: Sink>(
     )
 }
 
-// A statement that is refused, by the number of its fault.
-fn put_verb_fault<P: Sink>(print: &mut P, fault: u8, card: u32) -> Result<(), WriteStop>
-    requires { IsVerbFault fault }
-    ensures { Writes P.written P.stopped_at P.faults P.refusals print.old print.new result
-        (ending_text (endings.VerbStop (record { fault = verb_fault fault; card = card }))) }
+// The number of a verb fault.
+fn verb_fault_number(fault: VerbFault) -> u8
+    ensures { result ≡ verb_fault_number fault }
 {
-    put_fault(print, b"STOP 10 VERB ", fault, card)
+    match fault {
+        VerbFault::DeckNotFound => 1,
+        VerbFault::NoProblem => 2,
+        VerbFault::NoSetup => 3,
+        VerbFault::NotSolved => 4,
+        VerbFault::NotOptimal => 5,
+        VerbFault::NoChangeRow => 6,
+        VerbFault::NoChangeSet => 7,
+        VerbFault::NoParmax => 8,
+        VerbFault::ParmaxBelow => 9,
+        VerbFault::NoObjective => 10,
+        VerbFault::ObjectiveNotFree => 11,
+        VerbFault::NoRhsSet => 12,
+        VerbFault::NoRangeSet => 13,
+        VerbFault::NoBoundSet => 14,
+        VerbFault::Singular => 15,
+        VerbFault::WrongPrices => 16,
+    }
 }
 
-// The cards of the job are refused.
-fn put_card_fault<P: Sink>(print: &mut P, fault: u8, card: Option<u32>) -> Result<(), WriteStop>
-    requires { IsCardFault fault card }
+// A statement that is refused.
+fn put_verb_fault<P: Sink>(print: &mut P, fault: VerbFault, card: u32) -> Result<(), WriteStop>
     ensures { Writes P.written P.stopped_at P.faults P.refusals print.old print.new result
-        (ending_text (endings.CardStop (card_fault fault card))) }
+        (ending_text (endings.VerbStop (record { fault = fault; card = card }))) }
 {
-    match card {
-        Some(card) => put_fault(print, b"STOP 13 CARD ", fault, card),
-        None => put_all(print, b"STOP 13 CARD FAULT 2\n"),
+    put_fault(print, b"STOP 10 VERB ", verb_fault_number(fault), card)
+}
+
+// The cards of the job are refused: a job that is too long has no card to be named.
+fn put_card_fault<P: Sink>(print: &mut P, fault: CardFault) -> Result<(), WriteStop>
+    ensures { Writes P.written P.stopped_at P.faults P.refusals print.old print.new result
+        (ending_text (endings.CardStop fault)) }
+{
+    match fault {
+        CardFault::TooLong => put_all(print, b"STOP 13 CARD FAULT 2\n"),
+        CardFault::CardTooLong(card) => put_fault(print, b"STOP 13 CARD ", 3, card),
+        CardFault::NotPrintable(card) => put_fault(print, b"STOP 13 CARD ", 4, card),
     }
 }
 
@@ -152,7 +178,6 @@ fn put_limit<P: Sink>(
 
 /// Writes the lines of an end.
 pub fn put_ending<P: Sink>(print: &mut P, ending: Ending<'_>) -> Result<(), WriteStop>
-    requires { IsEnding ending }
     ensures { Writes P.written P.stopped_at P.faults P.refusals print.old print.new result
         (ending_text (ending_shown ending.entry)) }
 {
@@ -167,7 +192,7 @@ pub fn put_ending<P: Sink>(print: &mut P, ending: Ending<'_>) -> Result<(), Writ
             number,
             column,
         } => put_deck_fault(print, b"STOP 12 DECK ", fault, card, number, column),
-        Ending::CardFault { fault, card } => put_card_fault(print, fault, card),
+        Ending::Card(fault) => put_card_fault(print, fault),
         Ending::Limit { limit, card } => put_limit(print, b"STOP 16 ITERATION LIMIT ", limit, card),
         Ending::Statements => put_all(print, b"STOP 17 STATEMENT LIMIT\n"),
         Ending::Overflow {

@@ -8,9 +8,10 @@ use crate::plain::{put_converted, put_punched, put_revised, put_setup, put_title
 use crate::ranges::put_ranges;
 use crate::solution::put_solution;
 use crate::verdict::put_verdict;
+use card_definitions::CardFault;
 use frac128::{Frac, Refused};
 use job_devices::{Sink, WriteStop};
-use listing_definitions::{Mark, Solver};
+use listing_definitions::{Mark, Solver, VerbFault};
 use listing_tables::{Ranging, Sheet, Standing};
 use lp_definitions::{Evidence, Sense};
 use lp_model::{Basis, Outcome, ParaRun, Point, Prices, RangeReport};
@@ -95,9 +96,9 @@ pub enum Ending<'a> {
         fault: u8,
         card: u32,
     },
-    /// A statement is refused, with a verb fault from 1 to 14.
+    /// A statement is refused.
     Verb {
-        fault: u8,
+        fault: VerbFault,
         card: u32,
     },
     /// A card of a deck is refused: a fault of a number has its number, and one of a bad character its column.
@@ -107,12 +108,8 @@ pub enum Ending<'a> {
         number: Option<u8>,
         column: Option<u8>,
     },
-    /// The cards of the job are refused: there are too many of them (fault 2, without a card), or one is too long (3) or has a
-    /// byte that isn't printable (4).
-    CardFault {
-        fault: u8,
-        card: Option<u32>,
-    },
+    /// The cards of the job are refused.
+    Card(CardFault),
     /// The statement of this card has made as many steps as the limit allows.
     Limit {
         limit: u32,
