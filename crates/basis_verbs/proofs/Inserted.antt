@@ -144,11 +144,16 @@ module _ (card : ℕ) (cards : List (List ℕ)) (machine : Machine) where
         unfolding linear_programming
         gives_overflow deck rest t taken read evidence way refused =
             asked deck rest t _ taken read
-            (inr (evidence, Some (record { basis = setup.basis; way = way }), record {
-              way = way;
-              is_refused = refused;
-              is_place = ap (λ (b : Basis). Some (record { basis = b; way = way })) (sym (shown Insert card (go card) (begins card) cards machine setup is_setup problem on_file s).reached);
-            }, refl))
+            (inr (
+              evidence,
+              Some (record { basis = setup.basis; way = way }),
+              record {
+                way = way;
+                is_refused = refused;
+                is_place = ap (λ (b : Basis). Some (record { basis = b; way = way })) (sym (shown Insert card (go card) (begins card) cards machine setup is_setup problem on_file s).reached);
+              },
+              refl,
+            ))
 
       -- the deck ends the run
       pub deck_ends : (end : End) → IsDeckEnd problem lp wanted decks cards card end → EndsSo card cards machine (end_shown end)

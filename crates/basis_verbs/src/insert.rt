@@ -131,13 +131,7 @@ fn overflow_end<E: Engine>(
 }
 
 // The run ends at a singular basis. The end owns all that is printed of it.
-fn singular_end(
-    file: ProblemFile,
-    name: Name,
-    lp: Lp,
-    dependency: Direction,
-    card: u32,
-) -> End
+fn singular_end(file: ProblemFile, name: Name, lp: Lp, dependency: Direction, card: u32) -> End
     requires on_file { IsSheetOf (filed_under name file) lp }
     requires full { length dependency ≡ size lp.matrix }
     ensures { end_shown result ≡ SingularStop (record {
