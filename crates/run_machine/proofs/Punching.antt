@@ -16,7 +16,7 @@ use Rattle.listing_definitions.specs.Report.{Punched}
 use Rattle.listing_definitions.specs.Text.{report_text}
 use Rattle.question_definitions.specs.Solving.{Solving}
 use Rattle.run_definitions.specs.State.{State, problem_of}
-use Rattle.run_definitions.specs.Moves.{Gain, Punches, punched_by, Outcome, next, Does, Gives}
+use Rattle.run_definitions.specs.Moves.{Gain, Punches, punched_by, Outcome, next, Does, Gives, gain_of}
 use Rattle.run_definitions.specs.Verbs.{max_counted, verb_move}
 use Rattle.run_machine.specs.declared.act.Act.{Act}
 use Rattle.run_machine.specs.declared.act.Act.TheVariants.{Next, Ends}
@@ -26,7 +26,7 @@ use Rattle.run_machine.specs.declared.end.End.TheVariants as ends
 use Rattle.run_machine.specs.Machines.{Machine}
 use Rattle.answer_definitions.specs.Real.{linear_programming}
 use Rattle.run_machine.specs.Standing.{filed, Stands}
-use Rattle.run_machine.specs.Statements.{gain_of, Executes}
+use Rattle.run_machine.specs.Statements.{Executes}
 use Rattle.run_machine.specs.Punching.{gain_cards, Performs}
 use Rattle.run_machine.proofs.Giving.{problem_shown, gives_fault, gives_found, quietly}
 
@@ -55,7 +55,8 @@ wrote : {T P : Type 0} (written stopped_at : P → Option (List ℕ)) (faults re
     Writes {T = Unit {0}} written stopped_at faults refusals old new (Ok tt) text
 wrote written stopped_at faults refusals value text w = record {
   bytes = w.bytes;
-  cause = record { later = w.cause.later; later_refusals = w.cause.later_refusals; failed = λ h. absurd (cc h); no_memory = λ h. absurd (cc h) };
+  cause = record { later = w.cause.later; later_refusals = w.cause.later_refusals; failed = λ h. absurd (cc h); no_memory = λ h. absurd (cc h); no_fault = w.cause.no_fault; no_refusal = w.cause.no_refusal; failed_alone = λ h. absurd (cc h); wanted_alone = λ h. absurd (cc h) };
+  stopped = w.stopped;
 }
 
 same_stop : {T : Type 0} (result : Result T WriteStop) (a b : WriteStop) → result ≡ Err a → IsErrOf result b → a ≡ b
@@ -70,7 +71,12 @@ stopped written stopped_at faults refusals stop text w = record {
     later_refusals = w.cause.later_refusals;
     failed = λ h. w.cause.failed (ap (λ s. Err s) (same_stop {T = Unit {0}} (Err stop) stop Failed refl h));
     no_memory = λ h. w.cause.no_memory (ap (λ s. Err s) (same_stop {T = Unit {0}} (Err stop) stop NoMemory refl h));
+    no_fault = tt;
+    no_refusal = tt;
+    failed_alone = λ h. w.cause.failed_alone (ap (λ s. Err s) (same_stop {T = Unit {0}} (Err stop) stop Failed refl h));
+    wanted_alone = λ h. w.cause.wanted_alone (ap (λ s. Err s) (same_stop {T = Unit {0}} (Err stop) stop NoMemory refl h));
   };
+  stopped = w.stopped;
 }
 
 -- the cards of a problem, and what BCDOUT makes of it

@@ -1,6 +1,6 @@
 // What is printed of an end of a run.
 ghost use Rattle.std.specs.Prelude.{◌≡◌};
-ghost use Rattle.report_text.specs.Shown.{IsEnding, ending_shown, verb_fault, IsVerbFault};
+ghost use Rattle.report_text.specs.Shown.{ending_shown};
 ghost use Rattle.run_definitions.specs.Verbs.{deck_fault_number, number_fault_of, column_of};
 ghost use Rattle.run_machine.specs.declared.end.End.TheVariants as ends;
 ghost use Rattle.run_machine.specs.Ends.{end_shown};
@@ -8,34 +8,8 @@ ghost use Rattle.run_machine.specs.Ends.{end_shown};
 use crate::end::{End, Place};
 use card_definitions::NumberFault;
 use deck_definitions::DeckFaultKind;
-use listing_definitions::VerbFault;
 use lp_definitions::Evidence;
 use report_text::Ending;
-
-// The number of a verb fault.
-fn verb_fault_number(fault: VerbFault) -> u8
-    ensures number { verb_fault result ≡ fault }
-    ensures lawful { IsVerbFault result }
-{
-    match fault {
-        VerbFault::DeckNotFound => 1,
-        VerbFault::NoProblem => 2,
-        VerbFault::NoSetup => 3,
-        VerbFault::NotSolved => 4,
-        VerbFault::NotOptimal => 5,
-        VerbFault::NoChangeRow => 6,
-        VerbFault::NoChangeSet => 7,
-        VerbFault::NoParmax => 8,
-        VerbFault::ParmaxBelow => 9,
-        VerbFault::NoObjective => 10,
-        VerbFault::ObjectiveNotFree => 11,
-        VerbFault::NoRhsSet => 12,
-        VerbFault::NoRangeSet => 13,
-        VerbFault::NoBoundSet => 14,
-        VerbFault::Singular => 15,
-        VerbFault::WrongPrices => 16,
-    }
-}
 
 // The number of a deck fault.
 fn deck_fault_number(kind: DeckFaultKind) -> u8
@@ -101,8 +75,7 @@ fn column_of(kind: DeckFaultKind) -> Option<u8>
 
 // What is printed where an operation is refused.
 fn overflow_of<'a>(evidence: &'a Evidence, place: &'a Option<Place>, card: u32) -> Ending<'a>
-    ensures shown { ending_shown result ≡ end_shown (ends.Overflow evidence.now place.now card) }
-    ensures lawful { IsEnding result }
+    ensures { ending_shown result ≡ end_shown (ends.Overflow evidence.now place.now card) }
 {
     match place {
         Some(place) => Ending::Overflow {
@@ -122,15 +95,14 @@ fn overflow_of<'a>(evidence: &'a Evidence, place: &'a Option<Place>, card: u32) 
 
 /// What is printed of an end.
 pub fn ending_of(end: &End) -> Ending<'_>
-    ensures shown { ending_shown result ≡ end_shown end.now }
-    ensures lawful { IsEnding result }
+    ensures { ending_shown result ≡ end_shown end.now }
 {
     match end {
         End::Done => Ending::Code(0),
         End::Infeasible => Ending::Code(1),
         End::Unbounded => Ending::Code(2),
         End::Verb { fault, card } => Ending::Verb {
-            fault: verb_fault_number(*fault),
+            fault: *fault,
             card: *card,
         },
         End::Deck(fault) => Ending::Deck {
