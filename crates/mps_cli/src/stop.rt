@@ -1,7 +1,6 @@
 // Why the program of a job isn't run.
 ghost use Rattle.std.specs.Prelude.{◌≡◌};
-ghost use Rattle.listing_definitions.specs.Ending as endings;
-ghost use Rattle.report_text.specs.Shown.{IsEnding, ending_shown};
+ghost use Rattle.report_text.specs.Shown.{ending_shown};
 
 use card_definitions::CardFault;
 use card_reader::ReadStop;
@@ -67,39 +66,17 @@ impl From<CompileStop> for EarlyStop {
     }
 }
 
-// What is printed of a fault of the cards.
-fn card_ending(fault: CardFault) -> Ending<'static>
-    ensures shown { ending_shown result ≡ endings.CardStop fault }
-    ensures lawful { IsEnding result }
-{
-    match fault {
-        CardFault::TooLong => Ending::CardFault {
-            fault: 2,
-            card: None,
-        },
-        CardFault::CardTooLong(card) => Ending::CardFault {
-            fault: 3,
-            card: Some(card),
-        },
-        CardFault::NotPrintable(card) => Ending::CardFault {
-            fault: 4,
-            card: Some(card),
-        },
-    }
-}
-
 impl EarlyStop {
     ghost use Rattle.mps_cli.specs.Stops.{stop_shown, status_at};
 
     /// What is printed of it.
     pub fn ending(self) -> Ending<'static>
-        ensures shown { ending_shown result ≡ stop_shown self }
-        ensures lawful { IsEnding result }
+        ensures { ending_shown result ≡ stop_shown self }
     {
         match self {
             EarlyStop::Words => Ending::Words,
             EarlyStop::ReadFault => Ending::ReadFault,
-            EarlyStop::Card(fault) => card_ending(fault),
+            EarlyStop::Card(fault) => Ending::Card(fault),
             EarlyStop::Control(fault) => Ending::Control {
                 fault: fault.number,
                 card: fault.card,
