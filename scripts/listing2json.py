@@ -144,20 +144,24 @@ def each_line(report):
             yield "intervals", line
 
 
-def name_back(listing, names):
-    rows = None
-    for report in listing["reports"]:
-        if report["report"] == "convert":
+def name_back(listing, names, about=()):
+    """the modeller's names, and the constant of the objective. About has the linear program of each report, where it is known: then a
+    constant is that of its very objective, else of the one that the table of names tells"""
+    rows, constants = None, names.get("constants", {})
+    for k, report in enumerate(listing["reports"]):
+        if report["report"] in ("convert", "revise"):
             rows = report["rows"]
         for _, line in each_line(report):
             table = names.get("rows" if rows is None or line["number"] <= rows else "columns", {})
             line["name"] = table.get(line["name"], line["name"])
         if "change" in report:
-            table = names.get("rows", {}) if report["by"] == "paraobj" else {}
+            table = names.get("rows" if report["by"] == "paraobj" else "sets", {})
             report["change"] = table.get(report["change"], report["change"])
-        constants = list(names.get("constants", {}).values())
-        if "objective" in report and len(constants) == 1:
-            report["objective_with_constant"] = str(Fraction(report["objective"]) + Fraction(constants[0]))
+        program = about[k] if about else None
+        row = program.names[program.objective] if program else names.get("objective", next(iter(constants)) if len(constants) == 1 else None)
+        if "objective" in report and row in constants:
+            report["objective_constant"] = str(Fraction(constants[row]))
+            report["objective_with_constant"] = str(Fraction(report["objective"]) + Fraction(constants[row]))
 
 
 def add_decimals(listing):
