@@ -10,7 +10,7 @@ The page has each verdict in a sentence, the plan and the rows as tables with de
 RANGE beside them, a ray as the rows that conflict, a direction as what grows, and parametric runs as plots; the listing stands at its end.
 It ends with 0, with 64 for wrong use, 65 where the text isn't a listing, or is one of another job, 66 where a file can't be read, 73
 where the page can't be written."""
-import argparse, hashlib, html, json, re, sys
+import argparse, hashlib, html, json, signal, sys
 from fractions import Fraction
 import follow_listing, listing2json, parametric_svg
 from readable import marked_decimal, visible
@@ -49,7 +49,8 @@ svg{max-width:100%;height:auto;display:block}svg text{fill:var(--ink);font:11px 
 .axis{stroke:var(--soft);fill:none}.grid{stroke:var(--line)}.zeroline{stroke:var(--ink);stroke-width:1.4}.bend{stroke:var(--soft);stroke-dasharray:2 4}
 .curve{stroke:var(--blue);stroke-width:2.2;fill:none}.jump{stroke:var(--blue);stroke-dasharray:3 3;fill:none}.dot{fill:var(--blue)}
 @media print{:root{color-scheme:light;--ink:#000;--paper:#fff;--soft:#333;--line:#999;--band:#fff;--blue:#000;--good:#000;--bad:#000;--warn:#000}
-body{max-width:none;padding:0;font-size:10pt}.tools,.skip{display:none}.wide{overflow:visible}tr,figure,.verdict{break-inside:avoid}thead{display:table-header-group}
+@page{margin:12mm}
+body{max-width:none;padding:0;font-size:10pt}table{font-size:8pt}td{white-space:normal}th,td{padding:.15rem .35rem}.tools,.skip{display:none}.wide{overflow:visible}tr,figure,.verdict{break-inside:avoid}thead{display:table-header-group}
 h2,h3{break-after:avoid}.e,.d,#exact:checked~main .d{display:inline}.e::before{content:" ("}.e::after{content:")"}pre{white-space:pre-wrap}}
 """
 
@@ -365,6 +366,7 @@ def main():
     if any(word in ("-h", "--help") for word in sys.argv[1:]):
         print(__doc__)
         return 0
+    signal.signal(signal.SIGPIPE, signal.SIG_DFL)
     parser = argparse.ArgumentParser(add_help=False)
     parser.error = lambda message: (print(f"listing2html.py: {message}", file=sys.stderr), sys.exit(64))
     parser.add_argument("--names")

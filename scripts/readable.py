@@ -34,8 +34,10 @@ def marked_decimal(number):
 
 
 def visible(text):
-    "a text in which each control character, and each that turns the direction of writing, is shown by its number"
-    return "".join(c if unicodedata.category(c)[0] != "C" and unicodedata.category(c) not in ("Zl", "Zp") else f"\\u{{{ord(c):x}}}" for c in text)
+    "a text in which each control character, and each that turns the direction of writing or can't be seen, stands as an escape"
+    def escape(c):
+        return f"\\x{ord(c):02x}" if ord(c) < 256 else f"\\u{ord(c):04x}"
+    return "".join(escape(c) if unicodedata.category(c)[0] == "C" or unicodedata.category(c) in ("Zl", "Zp") else c for c in text)
 
 
 def cell(text):
