@@ -75,7 +75,7 @@ BOUNDS
  PL BND X1
 ENDATA
 """
-MODULES = ("runner.py", "every_basis.py", "expected_postoptimal.py")
+MODULES = ("runner.py", "every_basis.py", "expected_postoptimal.py", "follow_listing.py", "parametric_svg.py", "readable.py")
 DOOMED = {
     "a MARKER": ("    M1  'MARKER'  'INTORG'\n", "MARKER"),
     "a long number": ("    X  COST  0.1234567890123\n", "12 columns"),
