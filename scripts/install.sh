@@ -26,7 +26,7 @@ mkdir -p "$home/faults" "$prefix"/{bin,share/man/man1,share/bash-completion/comp
 install -m 755 "$program" "$home/program"
 echo "mps360 $(git -C "$scripts" rev-parse --short HEAD 2>/dev/null || echo 'of unknown commit'), proved program" >"$home/version"
 install -m 755 "$scripts"/{mps360,mps360-batch,explain,mps2job.py,listing2json.py,plot_parametric.py,expected_listing.py} "$home"
-install -m 644 "$scripts"/{runner,expected_postoptimal}.py "$home"
+install -m 644 "$scripts"/{runner,mps_file,expected_postoptimal}.py "$home"
 install -m 644 "$scripts/../examples/faults/INDEX" "$home/faults"
 link() { ln -sf "../libexec/mps360/$1" "$prefix/bin/$2"; }
 link mps360 mps360

@@ -10,7 +10,7 @@ The page has each verdict in a sentence, the plan and the rows as tables with de
 RANGE beside them, a ray as the rows that conflict, a direction as what grows, and parametric runs as plots; the listing stands at its end.
 It ends with 0, with 64 for wrong use, 65 where the text isn't a listing, or is one of another job, 66 where a file can't be read, 73
 where the page can't be written."""
-import argparse, hashlib, html, json, signal, sys
+import argparse, hashlib, html, signal, sys
 from fractions import Fraction
 import follow_listing, listing2json, parametric_svg
 from readable import marked_decimal, visible
@@ -118,8 +118,8 @@ class Page:
         self.parsed = listing2json.parse(listing)
         self.reports = self.parsed["reports"]
         self.about, self.shifts = follow_listing.follow(job, self.reports)
-        self.long = {**names.get("rows", {})}, {**names.get("columns", {})}
-        listing2json.name_back(self.parsed, names, self.about)
+        self.long = names[0].get("rows", {}), names[0].get("columns", {})
+        listing2json.name_back(self.parsed, names)
         self.sense, self.parts = "MIN", []
 
     # ---- what is known of the linear program
@@ -357,9 +357,9 @@ def affine(constant, rate):
     return joined([number(str(constant)), " − " if rate < 0 else " + ", factor, "θ"])
 
 
-def page(job, listing, names=None, printed_by="This page can't see which program printed it."):
+def page(job, listing, names=listing2json.NO_NAMES, printed_by="This page can't see which program printed it."):
     "the page of a job and its listing, as text"
-    return Page(job, listing, names or {}, printed_by).whole()
+    return Page(job, listing, names, printed_by).whole()
 
 
 def main():
@@ -376,10 +376,13 @@ def main():
     options = parser.parse_args()
     try:
         job, listing = (open(path, encoding="latin-1").read() for path in (options.job, options.listing))
-        names = json.load(open(options.names, encoding="utf-8")) if options.names else {}
+        names = listing2json.read_names(options.names) if options.names else listing2json.NO_NAMES
     except (OSError, ValueError) as cause:
         print(f"listing2html.py: can't read: {cause}", file=sys.stderr)
         return 66
+    except listing2json.NoNames as cause:
+        print(f"listing2html.py: {options.names}: {cause}", file=sys.stderr)
+        return 65
     try:
         text = page(job, listing, names)
     except (listing2json.NoListing, follow_listing.OtherJob, ZeroDivisionError, TypeError, ValueError) as cause:

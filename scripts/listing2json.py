@@ -7,8 +7,9 @@ usage: listing2json.py [--csv | --table NAME] [--decimal] [--names MAP] [FILE]  
   --table NAME  CSV of all reports of a kind: verdicts, solutions, rays (and directions), ranges, intervals (of parametric runs), or
                 others (titles, problems, setups, decks punched); the column report numbers the reports of the listing
   --decimal     beside each fraction its value as a decimal number, which is rounded
-  --names MAP   the table of names that mps2job.py wrote: names come as they were, and a constant of the objective is added
-                to the objective of each verdict, under objective_with_constant
+  --names MAP   the table of names that mps2job.py wrote: names come as they were, and a constant of the objective is added to the objective
+                of each verdict, under objective_with_constant; it isn't, and a line on standard error says so, where the SOLUTION below
+                the verdict has another objective or right-hand side
 
 In CSV a name that a spreadsheet could take for a formula (it begins with = + - @ or an apostrophe) has an apostrophe before it, and a control
 character stands as an escape; in JSON names are exact. It ends with 0, with 64 for wrong use, 65 where the text isn't a listing, 66 where it
@@ -18,6 +19,7 @@ from fractions import Fraction
 from readable import cell
 
 FORMAT, VERSION = "mps360 listing", 1
+NO_NAMES = ({}, None, None)
 ROW = ("at", "activity", "slack", "lower", "upper", "dual")
 COLUMN = ("at", "activity", "cost", "lower", "upper", "reduced")
 RANGES = (("rows_at_limit", "SECTION 1 - ROWS AT LIMIT LEVEL", ("at", "activity", "limit_low", "limit_high")),
@@ -29,15 +31,19 @@ PART = ("at", "value", "value_rate", "price", "price_rate")
 NUMBER = r"-?\d{1,300}(?:/[1-9]\d{0,299})?"
 MAY_BE_NONE = ("lower", "upper", "limit_low", "limit_high", "cost_low", "cost_high", "factor_low", "factor_high")
 VERDICT = re.compile(
-    rf"(PRIMAL|PARAOBJ|PARARHS) (OPTIMAL|INFEASIBLE|UNBOUNDED) STEPS (\d+) (?:OBJECTIVE ({NUMBER})|CROSSED (\d+)|RAY) (CHECKED|UNCHECKED .*)$")
+    rf"(PRIMAL|PARAOBJ|PARARHS) (OPTIMAL|INFEASIBLE|UNBOUNDED) STEPS (\d{{1,20}}) (?:OBJECTIVE ({NUMBER})|CROSSED (\d{{1,20}})|RAY) (CHECKED|UNCHECKED .*)$")
 SWEEP = re.compile(rf"(PARAOBJ|PARARHS) FROM ({NUMBER}) CHANGE (.*)$")
-INTERVAL = re.compile(rf"INTERVAL (\d+) FROM ({NUMBER}) TO ({NUMBER})$")
+INTERVAL = re.compile(rf"INTERVAL (\d{{1,20}}) FROM ({NUMBER}) TO ({NUMBER})$")
 SWEPT = re.compile(rf"(?:PARAOBJ|PARARHS) (ENDS AT|UNBOUNDED PAST|INFEASIBLE PAST) ({NUMBER})$")
 TABLE = re.compile(r"( *\d{1,9}) (.{8}) (.+)$")
 
 
 class NoListing(Exception):
     pass
+
+
+class NoNames(Exception):
+    "a table of names that isn't one"
 
 
 def is_value(key, text, keys):
@@ -93,14 +99,14 @@ def parse(text):
         line = lines[at]
         at += 1
         verdict = VERDICT.match(line)
-        counts = re.match(r"(CONVERT|REVISE ) (.{8}) ROWS (\d+) COLUMNS (\d+) ENTRIES (\d+)$", line)
+        counts = re.match(r"(CONVERT|REVISE ) (.{8}) ROWS (\d{1,20}) COLUMNS (\d{1,20}) ENTRIES (\d{1,20})$", line)
         setup = re.match(r"SETUP   (.{8}) (MIN|MAX)$", line)
         if line.startswith("TITLE "):
             reports.append({"report": "title", "text": line[6:]})
         elif counts:
             reports.append({"report": counts[1].strip().lower(), "name": counts[2].rstrip(), "rows": int(counts[3]), "columns": int(counts[4]),
                             "entries": int(counts[5])})
-        elif punched := re.match(r"BCDOUT  (.{8}) CARDS (\d+)$", line):
+        elif punched := re.match(r"BCDOUT  (.{8}) CARDS (\d{1,20})$", line):
             reports.append({"report": "bcdout", "name": punched[1].rstrip(), "cards": int(punched[2])})
         elif found := SWEEP.match(line):
             reports.append(sweep(found))
@@ -141,7 +147,7 @@ def parse(text):
             reports.append(report)
         elif re.match(r"END [012]$", line):
             ended = {"status": int(line[4:]), "text": line}
-        elif re.match(r"STOP \d+ ", line):
+        elif re.match(r"STOP \d{1,3} ", line):
             ended = {"status": int(line.split(" ")[1]), "text": "\n".join(lines[at - 1:])}
             at = len(lines)
         else:
@@ -159,11 +165,52 @@ def each_line(report):
             yield "intervals", line
 
 
-def name_back(listing, names, about=()):
-    """the modeller's names, and the constant of the objective. About has the linear program of each report, where it is known: then a
-    constant is that of its very objective, else of the one that the table of names tells"""
-    rows, constants = None, names.get("constants", {})
-    for k, report in enumerate(listing["reports"]):
+def read_names(path):
+    "the table of names, the value of its constant and the number in RHS that says it, None where there is none"
+    with open(path, encoding="utf-8") as source:
+        names = json.load(source)
+    tables = [names.get(key, {}) for key in ("problem", "rows", "columns", "sets")] if isinstance(names, dict) else [None]
+    if not all(isinstance(table, dict) and all(isinstance(name, str) for name in table.values()) for table in tables):
+        raise NoNames("it isn't a table of names that mps2job.py wrote")
+    constant = names.get("constant") or {}
+    if names.get("constants") and "constant" not in names:
+        raise NoNames("an older mps2job.py wrote it; make it anew")
+    try:
+        return names, *(None if constant.get(key) is None else Fraction(constant[key]) for key in ("value", "rhs"))
+    except (AttributeError, TypeError, ValueError, ZeroDivisionError):
+        raise NoNames("its constant isn't a number")
+
+
+def objective_line(reports, place, name):
+    "the line of the objective in the SOLUTION that shows the verdict at this place, or None"
+    for report in reports[place + 1:]:
+        if report["report"] in ("setup", "verdict", "parametric"):
+            return None
+        if report["report"] == "solution":
+            return next((line for line in report.get("rows", []) if line["name"] == name), None)
+    return None
+
+
+def add_constant(reports, names, constant, rhs):
+    for place, report in enumerate(reports):
+        if "objective" not in report:
+            continue
+        objective, line = Fraction(report["objective"]), objective_line(reports, place, names.get("objective"))
+        if line and (Fraction(line["activity"]) != objective or rhs is not None and Fraction(line["slack"]) != rhs - objective):
+            print("listing2json.py: the objective or its right-hand side isn't that of the table of names; no constant is added", file=sys.stderr)
+        else:
+            report |= {"objective_constant": str(constant), "objective_with_constant": str(objective + constant)}
+
+
+def name_back(listing, names):
+    "the names of the file, and the constant of its objective"
+    names, constant, rhs = names
+    if constant is not None:
+        add_constant(listing["reports"], names, constant, rhs)
+    rows = None
+    for report in listing["reports"]:
+        if "name" in report:
+            report["name"] = names.get("problem", {}).get(report["name"], report["name"])
         if report["report"] in ("convert", "revise"):
             rows = report["rows"]
         for _, line in each_line(report):
@@ -172,11 +219,6 @@ def name_back(listing, names, about=()):
         if "change" in report:
             table = names.get("rows" if report["by"] == "paraobj" else "sets", {})
             report["change"] = table.get(report["change"], report["change"])
-        program = about[k] if about else None
-        row = program.names[program.objective] if program else names.get("objective", next(iter(constants)) if len(constants) == 1 else None)
-        if "objective" in report and row in constants:
-            report["objective_constant"] = str(Fraction(constants[row]))
-            report["objective_with_constant"] = str(Fraction(report["objective"]) + Fraction(constants[row]))
 
 
 def add_decimals(listing):
@@ -184,7 +226,7 @@ def add_decimals(listing):
         lines = [line for _, line in each_line(report)]
         for place in [report, *report.get("intervals", []), *lines]:
             for key, value in list(place.items()):
-                if key not in ("name", "text") and isinstance(value, str) and re.fullmatch(NUMBER, value):
+                if key not in ("name", "text", "change") and isinstance(value, str) and re.fullmatch(NUMBER, value):
                     place[key + "_decimal"] = float(Fraction(value))
 
 
@@ -302,17 +344,20 @@ def main():
     options = parser.parse_args()
     try:
         text = open(options.file, encoding="latin-1").read() if options.file else sys.stdin.buffer.read().decode("latin-1")
-        names = json.load(open(options.names, encoding="utf-8")) if options.names else None
+        names = read_names(options.names) if options.names else None
     except (OSError, ValueError) as cause:
         print(f"listing2json.py: can't read: {cause}", file=sys.stderr)
         return 66
+    except NoNames as cause:
+        print(f"listing2json.py: {options.names}: {cause}", file=sys.stderr)
+        return 65
+    sys.stdout.reconfigure(encoding="utf-8")
     try:
         listing = parse(text)
         if not listing["reports"] and not listing["end"]:
             raise NoListing("it is empty")
         if names:
             name_back(listing, names)
-        sys.stdout.reconfigure(encoding="utf-8")
         if options.csv:
             write_solution(listing, options.decimal, sys.stdout)
         elif options.table:
