@@ -13,11 +13,6 @@ def as_text(text):
     return UNSEEN.sub(escape, text)
 
 
-def in_columns(text):
-    "the same with one ? for each, so that columns stay where they are"
-    return UNSEEN.sub("?", text)
-
-
 class Shown:
     "a stream on which only line feeds are obeyed, and what it can't write is escaped"
     def __init__(self, stream):
