@@ -13,7 +13,8 @@ where the page can't be written."""
 import argparse, hashlib, html, signal, sys
 from fractions import Fraction
 import follow_listing, listing2json, parametric_svg
-from readable import marked_decimal, visible
+from readable import marked_decimal
+from strangers_text import as_text
 
 PLACES = {"BS": "in the basis", "LL": "at its lower limit", "UL": "at its upper limit", "EQ": "at its limits, which are equal",
           "FR": "free, and at 0", "**": "outside its limits"}
@@ -60,7 +61,7 @@ class Html(str):
 
 
 def content(part):
-    return part if isinstance(part, Html) else Html(html.escape(visible(str(part)), quote=True))
+    return part if isinstance(part, Html) else Html(html.escape(as_text(str(part)), quote=True))
 
 
 def joined(parts):
@@ -130,7 +131,7 @@ class Page:
         return self.long[0 if place < program.m else 1].get(name, name)
 
     def objective(self, k):
-        return visible(self.name_of(self.about[k], self.about[k].objective)) if self.about[k] else "the objective"
+        return as_text(self.name_of(self.about[k], self.about[k].objective)) if self.about[k] else "the objective"
 
     # ---- sentences
 
@@ -147,7 +148,7 @@ class Page:
             words = f"There is no best plan: {name} {'grows' if self.sense == 'MAX' else 'falls'} without end."
         elif "crossed" in report:
             crossed = self.name_of(self.about[k], report["crossed"] - 1) if self.about[k] else f"number {report['crossed']}"
-            words = f"No plan keeps all limits: the lower limit of {visible(crossed)} is above its upper one."
+            words = f"No plan keeps all limits: the lower limit of {as_text(crossed)} is above its upper one."
         else:
             words = f"No plan keeps all limits: {conflict_of(report['ray'])} conflict."
         check = "" if report["checked"] else " The second check met a number too large to be kept, and stopped; it found nothing wrong."
@@ -189,13 +190,13 @@ class Page:
             ("Changes by", lambda line: number(line["direction"]))], moving))
         if not program:
             return
-        step, name = Fraction(lines[program.objective]["direction"]), visible(self.name_of(program, program.objective))
+        step, name = Fraction(lines[program.objective]["direction"]), as_text(self.name_of(program, program.objective))
         missing = "A row or a bound that should stop this is missing, or MIN stands for MAX." if past is None else "A row or a bound that should stop this is missing."
         if change is None:
             self.say(f"Each unit changes {name} by {said(str(step))}. {missing}")
         else:
             rate = next((Fraction(line["direction"]) for line in lines[:program.m] if line["name"] == change), Fraction(0))
-            self.parts.append(tag("p", f"Each unit changes {name} + θ {visible(change)} by ", affine(step, rate), f", which is {'more' if self.sense == 'MAX' else 'less'} than 0 "
+            self.parts.append(tag("p", f"Each unit changes {name} + θ {as_text(change)} by ", affine(step, rate), f", which is {'more' if self.sense == 'MAX' else 'less'} than 0 "
                                   f"for every theta past {said(past)}. {missing}"))
 
     # ---- tables
@@ -230,7 +231,7 @@ class Page:
 
     def parametric(self, k, report):
         program, verb = self.about[k], report["by"]
-        change = visible(report["change"])
+        change = as_text(report["change"])
         added = f"theta times the row {change} is added to the objective" if verb == "paraobj" else f"theta times the set {change} is added to the rows' limits"
         intervals = report["intervals"]
         self.parts.append(tag("h2", f"Parametric run: {added}"))
@@ -284,13 +285,13 @@ class Page:
             if k:
                 self.parts.append(tag("h2", report["text"] or "(no title)"))
         elif kind in ("convert", "revise"):
-            self.say(f"Problem {visible(report['name']) or '(no name)'}, {'read' if kind == 'convert' else 'revised'}: {report['rows']} rows, {report['columns']} columns, "
+            self.say(f"Problem {as_text(report['name']) or '(no name)'}, {'read' if kind == 'convert' else 'revised'}: {report['rows']} rows, {report['columns']} columns, "
                      f"{report['entries']} entries.", "soft")
         elif kind == "setup":
             self.sense = report["sense"]
-            self.say(f"{visible(report['name']) or 'The problem'} is set up: the objective is to be {'greatest (MAX)' if self.sense == 'MAX' else 'least (MIN)'}.", "soft")
+            self.say(f"{as_text(report['name']) or 'The problem'} is set up: the objective is to be {'greatest (MAX)' if self.sense == 'MAX' else 'least (MIN)'}.", "soft")
         elif kind == "bcdout":
-            self.say(f"The deck of {visible(report['name'])} was punched, in {report['cards']} cards.", "soft")
+            self.say(f"The deck of {as_text(report['name'])} was punched, in {report['cards']} cards.", "soft")
         elif kind == "verdict":
             self.verdict(k, report)
         elif kind == "parametric":
@@ -341,7 +342,7 @@ class Page:
 
 def conflict_of(ray):
     "whose limits conflict, as words"
-    names = [visible(line["name"]) for line in ray]
+    names = [as_text(line["name"]) for line in ray]
     if len(names) == 1:
         return f"the two limits of {names[0]}"
     return f"the limits of {', '.join(names[:-1])} and {names[-1]}" if len(names) <= MOST_NAMED else f"the limits of the {len(names)} rows and columns below"

@@ -3,7 +3,8 @@ import html
 import math
 from fractions import Fraction
 from plot_parametric import value_at
-from readable import marked_decimal, visible
+from readable import marked_decimal
+from strangers_text import as_text
 
 MOST_FIGURES = 24
 LEFT, RIGHT, TOP, BOTTOM = 66, 14, 22, 42
@@ -64,7 +65,7 @@ class Plot:
 
     def text(self, x, y, words, anchor="middle", turned=False):
         turn = f' transform="rotate(-90 {x:.1f} {y:.1f})"' if turned else ""
-        return f'<text x="{x:.1f}" y="{y:.1f}" text-anchor="{anchor}"{turn}>{html.escape(visible(words))}</text>'
+        return f'<text x="{x:.1f}" y="{y:.1f}" text-anchor="{anchor}"{turn}>{html.escape(as_text(words))}</text>'
 
     def line(self, kind, x1, y1, x2, y2, title=""):
         told = f"<title>{html.escape(title)}</title>" if title else ""
@@ -107,7 +108,7 @@ class Plot:
     def svg(self, label):
         parts = "".join([*self.axes(), *self.bends(), *self.curve()])
         return (f'<svg xmlns="http://www.w3.org/2000/svg" viewBox="0 0 {self.wide} {self.tall}" width="{self.wide}" height="{self.tall}" role="img" '
-                f'aria-label="{html.escape(visible(label), quote=True)}">{parts}</svg>')
+                f'aria-label="{html.escape(as_text(label), quote=True)}">{parts}</svg>')
 
 
 def drawn(pieces, name, what, wide, tall, with_zero):

@@ -1,7 +1,7 @@
-"""Numbers and strangers' texts for people: decimals beside fractions, and names that can do nothing but be read."""
-import unicodedata
+"""Numbers for people, decimals beside fractions; and strangers' texts in the cells of a spreadsheet."""
 from decimal import Decimal, localcontext
 from fractions import Fraction
+from strangers_text import as_text
 
 DIGITS, MOST_DIGITS = 7, 15
 FORMULA_SIGNS = tuple("=+-@\t\r\n'")
@@ -33,14 +33,7 @@ def marked_decimal(number):
     return text if exact else f"≈{text}"
 
 
-def visible(text):
-    "a text in which each control character, and each that turns the direction of writing or can't be seen, stands as an escape"
-    def escape(c):
-        return f"\\x{ord(c):02x}" if ord(c) < 256 else f"\\u{ord(c):04x}"
-    return "".join(escape(c) if unicodedata.category(c)[0] == "C" or unicodedata.category(c) in ("Zl", "Zp") else c for c in text)
-
-
 def cell(text):
     """a text as a cell that no spreadsheet takes for a formula: where it begins with = + - @ or ', an apostrophe stands before it"""
-    text = visible(text)
+    text = as_text(text)
     return "'" + text if text.startswith(FORMULA_SIGNS) else text
