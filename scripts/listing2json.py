@@ -128,8 +128,10 @@ def parse(text):
             report = {"report": "solution", "mark": line[9:].lower()}
             for key, title, head, keys in (("rows", "SECTION 1 - ROWS", "NUMBER ROW AT ACTIVITY SLACK LOWER UPPER DUAL", ROW),
                                            ("columns", "SECTION 2 - COLUMNS", "NUMBER COLUMN AT ACTIVITY COST LOWER UPPER REDUCED", COLUMN)):
-                if lines[at:at + 2] != [title, head]:
-                    if at >= len(lines):
+                begun = lines[at:at + 2]
+                if begun != [title, head]:
+                    if begun == [title, head][:len(lines) - at]:
+                        at = len(lines)
                         break
                     raise NoListing(f"line {at + 1}: no {title}")
                 at += 2

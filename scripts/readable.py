@@ -4,7 +4,7 @@ from fractions import Fraction
 from strangers_text import as_text
 
 DIGITS, MOST_DIGITS = 7, 15
-FORMULA_SIGNS = tuple("=+-@\t\r\n'")
+FORMULA_SIGNS = tuple("=+-@＝＋－＠'")
 
 
 def decimal_of(number):
@@ -34,6 +34,6 @@ def marked_decimal(number):
 
 
 def cell(text):
-    """a text as a cell that no spreadsheet takes for a formula: where it begins with = + - @ or ', an apostrophe stands before it"""
+    """a text as a cell that no spreadsheet takes for a formula: where it begins with = + - @ (also of full width) or ', an apostrophe stands before it"""
     text = as_text(text)
     return "'" + text if text.startswith(FORMULA_SIGNS) else text
