@@ -193,7 +193,7 @@ def text_of(value):
 
 def nearest(value):
     "the number of 12 columns that is nearest to this one, or None where it is too large"
-    for power in range(-MOST_POWER - NUMBER_COLUMNS, MOST_POWER + NUMBER_COLUMNS):
+    for power in range(-MOST_POWER - NUMBER_COLUMNS, MOST_POWER + 1):
         unit = Fraction(10) ** power
         near = round(value / unit) * unit
         if abs(near) < 10 ** 40 and text_of(near) is not None:
@@ -218,7 +218,8 @@ class Line:
         self.text, self.fixed = text, fixed
         if fixed:
             self.check_gaps()
-            self.spans = [(a, min(b, len(text))) for a, b in FIELDS]
+            text = self.text
+            self.spans = [(a, max(a + 1, min(b, len(text)))) for a, b in FIELDS]
             self.words = [text[a:b].strip(" ") if k in (0, 3, 5) else text[a:b].rstrip(" ") for k, (a, b) in enumerate(FIELDS)]
         else:
             self.spans = [found.span() for found in re.finditer(r"[^ \t]+", text)]
@@ -229,8 +230,9 @@ class Line:
             raise Refused("a tab has no place among columns", "\t")
         self.check_remark()
         for a, b in GAPS:
-            if self.text[a:b].strip(" "):
-                raise Refused(f"something stands between the fields, in columns {a + 1} to {b}", (a, min(b, len(self.text))))
+            if between := self.text[a:b].strip(" "):
+                start = self.text.index(between, a)
+                raise Refused(f"something stands between the fields, in columns {a + 1} to {b}", (start, start + len(between)))
 
     def check_remark(self):
         "a $ at the start of field 3 or 5 begins a remark"
@@ -515,7 +517,9 @@ class Reader:
 
     def take_rhs(self, items, row, at, line):
         value = self.value(at, line)
-        if abs(value) >= self.reading.infinity:
+        if self.model.rows[row] == "N" and isinstance(value, float):
+            raise Refused("a constant can't be infinite", at)
+        if self.model.rows[row] != "N" and abs(value) >= self.reading.infinity:
             raise Refused(f"a right-hand side of {decimal_text(self.reading.infinity)} and more is infinite in some programs; "
                           "make the row an N row, or leave it out (or say --infinity)", at)
         items[row] = value
