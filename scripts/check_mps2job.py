@@ -2,7 +2,7 @@
 """Tries mps2job.py, mps_file.py and the names and constants of listing2json.py: on files whose answers were worked out by hand, on files that
 are to be refused with their line, on random files in all forms, and on the decks that glpk-utils installs.
 
-usage: check_mps2job.py [--random COUNT [SEED]]      COUNT random files (40 without it) from SEED on; a thousand take a minute or two
+usage: check_mps2job.py [--random COUNT [SEED]]      COUNT random files (20 without it) from SEED on; a thousand take a few minutes
 
 Each random model is made in fractions and written twice: in the form under test, and in the plainest form, without a constant, for esolver of
 qsopt-ex. The job is read back by a reader of this script's own and compared with the fractions; then it is run, and its objective is to be
@@ -11,11 +11,12 @@ MPS360_PROGRAM, or the proved one where it is fresh, else expected_listing.py. W
 It ends with 1 where a result is another, with 64 for wrong use."""
 import collections, contextlib, gzip, io, json, os, pathlib, random, re, shutil, subprocess, sys, tempfile
 from fractions import Fraction
-import expected_listing, listing2json, mps2job, runner
+import expected_listing, listing2json, mps2job, mps_file, runner
 
 SCRIPTS = runner.TOP / "scripts"
 DECKS = pathlib.Path("/usr/share/doc/glpk-utils/examples")
-SECONDS = 60
+SECONDS, MOST_SHOWN = 60, 3000
+OVERFLOW = "STOP 20 OVERFLOW"
 wrong = 0
 
 
@@ -23,7 +24,7 @@ def check(what, holds):
     global wrong
     if not holds:
         wrong += 1
-        print(f"check_mps2job: {what}", file=sys.stderr)
+        print(f"check_mps2job: {what[:MOST_SHOWN]}", file=sys.stderr)
     return bool(holds)
 
 
@@ -147,14 +148,15 @@ BY_HAND = [
         "OBJSENSE MAX\n", "OBJSENSE\n    MAX\n", "OBJSENSE\n MAXIMIZE\n", "OBJSENSE\n    Maximise\n", "OBJSENSEMAX\n", "OBJSENSE MAXIMUM\n")),
     ("OBJSENSE MIN and --max", ("--max",), small(" X COST 1 R1 1", " B R1 4", rows=L, before="OBJSENSE MIN\n"), ("optimal", "4", None)),
     ("a limit of 1e20", (), small(" X COST -1 R1 1\n Y COST -1", " B R1 4", bounds=" UP B Y 1e20", rows=L), ("unbounded", None, None)),
-    ("a limit below --infinity", ("--infinity", "1e25"), small(LESS, " B R1 1e20", bounds=" UP B X 1e20", rows=L), ("optimal", "-1" + 20 * "0", None)),
+    ("a limit below --infinity", ("--infinity", "1e25"), small(LESS, " B R1 1e20", bounds=" UP B X 1e20", rows=L),
+     ("optimal", "-1" + 20 * "0", None)),
     ("a column alone", (), small(" Z\n" + MORE, " B R1 4"), ("optimal", "4", None)),
-    ("remarks", (), small(" X COST 1 $ R1 7\n X R1 1\n X $ more\n Y COST 2 R1 1 $", " R1 4 $ COST 2", bounds=" UP B X 3 $ Y", rows=" N COST $ money\n G R1"),
-     ("optimal", "5", None)),
+    ("remarks", (), small(" X COST 1 $ R1 7\n X R1 1\n X $ more\n Y COST 2 R1 1 $", " R1 4 $ COST 2", bounds=" UP B X 3 $ Y",
+                          rows=" N COST $ money\n G R1"), ("optimal", "5", None)),
     ("a number rounded up", ("--round",), small(" X COST 1 R1 1", " B R1 .123456789016"), ("optimal", "6172839451/50000000000", None)),
     ("a number rounded down", ("--round",), small(" X COST 1 R1 1", " B R1 .123456789014"), ("optimal", "12345678901/100000000000", None)),
-    ("names with blanks", ("--fixed",), mps("NAME", "ROWS", " N  A COST", " G  THE ROW", "COLUMNS", FIXED("A X", "A COST", "2"), FIXED("", "THE ROW", "1"),
-                                            "RHS", FIXED("B 1", "THE ROW", "4"), "ENDATA"), ("optimal", "8", None)),
+    ("names with blanks", ("--fixed",), mps("NAME", "ROWS", " N  A COST", " G  THE ROW", "COLUMNS", FIXED("A X", "A COST", "2"),
+                                            FIXED("", "THE ROW", "1"), "RHS", FIXED("B 1", "THE ROW", "4"), "ENDATA"), ("optimal", "8", None)),
     ("a blank name repeats the column", (), mps("NAME", "ROWS", " N  COST", " G  R1", "COLUMNS", FIXED("X", "COST", "2"), FIXED("", "R1", "1"),
                                                 "RHS", FIXED("", "R1", "4"), "ENDATA"), ("optimal", "8", None)),
 ]
@@ -198,8 +200,7 @@ REFUSED = [
     ("no ENDATA", (), small(MORE).replace("ENDATA\n", ""), 8, "before ENDATA", None),
     ("a name that begins as a remark", (), small(" X $R 1", rows=" N COST\n G $R"), 6, "begins a remark", "$R"),
     ("a blank name that isn't the column's", (), small(" X COST 1\n R1 1"), 7, "missing", "R1"),
-    ("words and columns that differ", (), mps(F[:-1], "    X         COST                 1", "    A R1 3    R1                   5", "ENDATA").replace(
-        "COLUMNS\n", "COLUMNS\n", 1), 7, "--fixed", None),
+    ("words and columns that differ", (), mps(F[:-1], FIXED("X", "COST", "1"), FIXED("A COST 3", "R1", "5"), "ENDATA"), 7, "--fixed", None),
     ("a name of nine letters in 8 columns", ("--fixed",), mps(F[:-1], "    NINECHARS COST                 1", "ENDATA"), 6, "columns 13 to 14", "S"),
     ("a tab among columns", ("--fixed",), mps(F[:-1], "    X\tCOST 1", "ENDATA"), 6, "tab", "\t"),
     ("a bound of another number of words", (), small(MORE, " B R1 4", bounds=" UP B X 4 5"), 11, "wants", "5"),
@@ -218,16 +219,16 @@ SAID = [
     ("a range on an N row", (), small(MORE, " B R1 4", " B COST 1"), "line 11: a range on an N row"),
     ("two sets", (), small(MORE, " A R1 4\n B R1 5"), "RHS has 2 sets; A is taken"),
     ("a constant", (), small(MORE, " A R1 4 COST 3"), "constant is -3, the negative of its number"),
-    ("whole numbers", ("--relax",), small(MORE, " B R1 4", bounds=" BV B X"), "1 columns should have whole numbers (X)"),
+    ("whole numbers", ("--relax",), small(MORE, " B R1 4", bounds=" BV B X"), "1 column should have whole numbers (X)"),
     ("rounding", ("--round",), small(" X COST 1 R1 1", " B R1 .123456789016\n B COST 1.23456789015"),
-     "1 numbers were rounded to 12 columns; the greatest change is 4e-12, of .123456789016 in line 8"),
+     "1 number was rounded to 12 columns; the greatest change is 4e-12, of .123456789016 in line 8"),
     ("a number that isn't read", (), small(MORE, " B R1 4", bounds=" FR B X 1"), "line 11: a number on FR is not read"),
     ("text behind", (), small(MORE) + "NAME\n", "line 9: what follows ENDATA"),
     ("PuLP's remark", (), "*SENSE:Maximize\n" + small(MORE), "line 1: a remark speaks of maximizing"),
-    ("a negative UP", ("--negative-up", "free"), small(MORE, " B R1 4", bounds=" UP B X -1"), "line 11: a negative UP alone: the lower limit is taken"),
-    ("a column alone", (), small(" Z\n" + MORE), "1 columns have no entry (Z)"),
+    ("a negative UP", ("--negative-up", "free"), small(MORE, " B R1 4", bounds=" UP B X -1"), "line 11: a negative UP alone: the lower"),
+    ("a column alone", (), small(" Z\n" + MORE), "1 column has no entry (Z)"),
     ("the N rows", (), small(MORE, rows=" N COST\n N MORE\n G R1"), "2 N rows; the objective is COST"),
-    ("another name", (), small(MORE, rows=" N COST\n G R1\n L A_LONG_NAME"), "1 rows have other names"),
+    ("another name", (), small(MORE, rows=" N COST\n G R1\n L A_LONG_NAME"), "1 row has another name"),
     ("the problem's name", (), small(MORE).replace("SMALL", "A long name"), "name is PROBLEM"),
     ("Latin-1", (), small(" Zürich COST 1").encode("latin-1"), "isn't UTF-8"),
 ]
@@ -273,11 +274,32 @@ def call(*words, **more):
     return subprocess.run([str(word) for word in words], capture_output=True, timeout=SECONDS, **more)
 
 
+def try_model(house):
+    "what mps_file.py gives to other scripts: exact numbers of any length, the limits under the sets that are taken"
+    text = small(" X COST 1 R1 0.33333333333333333333\n Y COST 2 E1 1", " B R1 4 COST 5\n B E1 2\n C R1 9", " R E1 -3 R1 7",
+                 " LO B X 1\n MI B Y\n UP B Y 3", rows=" N COST\n G R1\n E E1", before="OBJSENSE MAX\n")
+    model = mps_file.read_text(text, mps_file.Reading(numbers="exact"))
+    check(f"an exact entry: {model.columns}", model.columns["X"] == {"COST": 1, "R1": Fraction((10 ** 20 - 1) // 3, 10 ** 20)})
+    limits = [model.row_limits(row) for row in model.rows] + [model.column_limits(column) for column in model.columns]
+    check(f"limits: {limits}", limits == [(None, None), (4, 11), (-1, 2), (1, None), (None, 3)])
+    taken = model.sense, model.objective, model.rhs_set, model.range_set, model.bound_set, model.constant
+    check(f"what is taken: {taken}", taken == ("MAX", "COST", "B", "R", "B", -5))
+    try:
+        mps_file.job_of(model)
+        check("a job of a number that it can't hold", False)
+    except mps_file.Refused as cause:
+        check(f"a job of a number that it can't hold: {cause}", "12 columns" in str(cause))
+    path = house.folder / "model.gz"
+    path.write_bytes(gzip.compress(text.encode()))
+    check("a model read from a gzipped file", mps_file.read_file(path, mps_file.Reading(numbers="exact")) == model)
+
+
 def try_names(house):
     "names that aren't ASCII come back whole in JSON and CSV; what a table of names mustn't say"
     cities = small(" Zürich Kosten 1 Straße 2\n 東京 Kosten 3 Straße 1", " Straße 8", rows=" N Kosten\n G Straße").encode()
     _, job, _, _ = house.convert(cities, ())
-    lines = {line["name"]: line["activity"] for report in house.solved(job) if report["report"] == "solution" for line in report["rows"] + report["columns"]}
+    solution = next(report for report in house.solved(job) if report["report"] == "solution")
+    lines = {line["name"]: line["activity"] for line in solution["rows"] + solution["columns"]}
     check(f"names that aren't ASCII: {lines}", lines == {"Kosten": "4", "Straße": "8", "Zürich": "4", "東京": "0"})
     listing, names = house.folder / "cities.listing", house.folder / "model.names"
     listing.write_text(house.listing(job))
@@ -313,7 +335,7 @@ def try_places(house):
     for words, status in ((("-o", none), 73), (("--names", none), 73), (("-o", model), 64), (("-o", job, "--names", job), 64),
                           (("-o", house.folder), 73), (("-o", job, "--infinity", "x"), 64), (("-o", job, "--rhs", "Z"), 65)):
         told = call(SCRIPTS / "mps2job.py", *words, model)
-        check(f"mps2job.py {words}: {told}", told.returncode == status and told.stderr.startswith(b"mps2job.py: ") and b"Traceback" not in told.stderr)
+        check(f"mps2job.py {words}: {told}", told.returncode == status and told.stderr.startswith(b"mps2job.py: "))
     check("the model stands as it was", model.read_text() == small(MORE, " B R1 4"))
     told = call(SCRIPTS / "mps2job.py", "-", input=gzip.compress(model.read_bytes()))
     check(f"mps2job.py -: {told}", told.returncode == 0 and told.stdout == call(SCRIPTS / "mps2job.py", model).stdout and told.stdout)
@@ -381,7 +403,8 @@ class Random:
         rng = self.rng
         while True:
             number = rng.randint(1, 99)
-            name = {"short": f"{prefix}{number}", "long": f"{prefix}_a_long_name_{number}", "letters": f"{prefix}ü'{number}é", "digits": str(number)}[self.name_style]
+            name = {"short": f"{prefix}{number}", "long": f"{prefix}_a_long_name_{number}", "letters": f"{prefix}ü'{number}é",
+                    "digits": str(number)}[self.name_style]
             if self.blanks and rng.random() < 0.5:
                 name = f"{prefix} {number}"
             if name not in self.used:
@@ -466,8 +489,8 @@ class Random:
     def limited(self, column):
         rng, low = self.rng, decimal(self.rng, -9, 5)
         high, zero = low + decimal(rng, 0, 9), Fraction(0)
-        kinds = ["none", "UP", "LO", "both", "FX", "FR", "MI", "MI UP", "PL", "endless", "negative", "twice"] + (["BV", "LI", "UI", "LI UI"] if self.relax else [])
-        kind = rng.choice(kinds)
+        kinds = ["none", "UP", "LO", "both", "FX", "FR", "MI", "MI UP", "PL", "endless", "negative", "twice"]
+        kind = rng.choice(kinds + ["BV", "LI", "UI", "LI UI"] * self.relax)
         if column in self.marked and kind in ("LO", "MI", "LI"):
             kind = "both"
         if kind == "none":
@@ -547,49 +570,47 @@ class Random:
                 low, high = {"L": (limit - span, limit), "G": (limit, limit + span), "E": (limit + min(signed, 0), limit + max(signed, 0))}[kind]
         self.row_limits[row] = low, high
 
-    def named_sets(self, section, word, cards_of, others):
-        "the cards of a section: those of the set that is taken, and perhaps of another one before or behind"
-        rng = self.rng
-        name = self.name("S") if not (blank := rng.random() < 0.3) else ""
-        cards = cards_of(name)
+    def with_sets(self, word, cards, others):
+        "the cards of a section, with the name of their set; perhaps those of another set before or behind, or with blanks for the name"
+        rng, blank = self.rng, self.rng.random() < 0.3
+        name = "" if blank else self.name("S")
         if not cards:
             return []
-        if not blank and rng.random() < 0.3 and others:
-            other = cards_of_other = [Card(*(part if k != 1 else self.other_name for k, part in enumerate(card.fields))) for card in others(self.name("S"))]
-            first = rng.random() < 0.5
-            if first:
-                self.words += [word, name]
-            return (cards_of_other + cards) if first else (cards + other)
-        if not blank and rng.random() < 0.3:
+        for card in cards:
+            card.fields[1] = name
+        if blank:
+            return cards
+        if others and rng.random() < 0.3:
+            other = self.name("S")
+            for card in others:
+                card.fields[1] = other
+            if rng.random() < 0.5:
+                return cards + others
+            self.words += [word, name]
+            return others + cards
+        if rng.random() < 0.3:
             for card in cards[1:]:
                 if rng.random() < 0.5:
-                    card.fields[1] = ""
-                    self.blank_set = "same"
+                    card.fields[1], self.blank_set = "", "same"
         return cards
 
     def sections(self):
         "all cards of the file, section by section"
         rng, self.blank_set = self.rng, None
-        rows = [Card(rng.choice((kind, kind.lower()) if not self.is_fixed else (kind,)), name, remark=rng.choice((None, None, "remark"))) for name, kind in self.kinds.items()]
 
-        def values(texts):
-            return lambda name: self.paired(name, list(texts.items()), False)
+        def remark():
+            return rng.choice((None, None, "remark"))
 
-        def other_values(name):
-            self.other_name = name
-            rows = [row for row, kind in self.kinds.items() if kind != "N"]
-            return [Card("", name, row, self.number(decimal(rng) or Fraction(1))) for row in rows[:2]]
+        def others():
+            return [Card("", "", row, self.number(decimal(rng) or Fraction(1))) for row, kind in self.kinds.items() if kind != "N"][:2]
 
-        def other_bounds(name):
-            self.other_name = name
-            return [Card("UP", name, next(iter(self.entries)), "7")]
-
-        def bounds(name):
-            return [Card(kind, name, column, text, remark=rng.choice((None, None, "remark")) if text else None) for kind, column, text in self.bound_lines]
-
-        return {"ROWS": rows, "COLUMNS": self.column_cards, "RHS": self.named_sets("RHS", "--rhs", values(self.rhs_texts), other_values),
-                "RANGES": self.named_sets("RANGES", "--ranges", values(self.range_texts), other_values),
-                "BOUNDS": self.named_sets("BOUNDS", "--bounds", bounds, other_bounds if not self.marked else None)}
+        rows = [Card(rng.choice((kind, kind if self.is_fixed else kind.lower())), name, remark=remark()) for name, kind in self.kinds.items()]
+        bounds = [Card(kind, "", column, text, remark=remark() if text else None) for kind, column, text in self.bound_lines]
+        other_bounds = [] if self.marked else [Card("UP", "", next(iter(self.entries)), "7")]
+        return {"ROWS": rows, "COLUMNS": self.column_cards,
+                "RHS": self.with_sets("--rhs", self.paired("", self.rhs_texts.items(), False), others()),
+                "RANGES": self.with_sets("--ranges", self.paired("", self.range_texts.items(), False), others()),
+                "BOUNDS": self.with_sets("--bounds", bounds, other_bounds)}
 
     def file(self):
         rng, sections = self.rng, self.sections()
@@ -598,8 +619,8 @@ class Random:
         if self.blanks:
             self.words.append("--fixed")
         lines = ["* a remark", rng.choice(("NAME", "NAME          RANDOM", "NAME  a random model"))]
-        word = {"section": ["OBJSENSE", f"    {self.sense}"], "line": [f"OBJSENSE {self.sense.lower()}"], "long": ["OBJSENSE", "    Maximize"], "word": []}
-        lines += word.get(self.sense_form, [])
+        lines += {"section": ["OBJSENSE", f"    {self.sense}"], "line": [f"OBJSENSE {self.sense.lower()}"],
+                  "long": ["OBJSENSE", "    Maximize"]}.get(self.sense_form, [])
         self.words += ["--" + self.sense.lower()] if self.sense_form == "word" else []
         lines += {"section": ["OBJNAME", f"    {self.objective}"], "line": [f"OBJNAME {self.objective}"]}.get(self.objective_form, [])
         self.words += ["--objective", self.objective] if self.objective_form == "word" else []
@@ -647,6 +668,10 @@ def written(value):
     return f"{'-' if digits < 0 else ''}{abs(digits) // 10 ** 11}.{abs(digits) % 10 ** 11:011}"
 
 
+def without_zeros(entries):
+    return [(column, {row: value for row, value in items.items() if value}) for column, items in entries.items()]
+
+
 def job_read(job, names):
     "what a job says, read apart from mps_file.py, by the file's names: the same as a Random holds"
     cards = [card for card in job.split("\n") if card and not card.startswith("*")]
@@ -684,8 +709,8 @@ def job_read(job, names):
             row_limits[row] = {"E": (limit + min(far, 0), limit + max(far, 0)), "L": (None if span is None else limit - abs(far), limit),
                                "G": (limit, None if span is None else limit + abs(far))}[kind]
     objective = rows(moved["XOBJ"]) if moved["XOBJ"] is not None else next(row for row, kind in kinds.items() if kind == "N")
-    return {"kinds": list(kinds.items()), "entries": [(column, {row: value for row, value in items.items() if value}) for column, items in entries.items()],
-            "limits": {column: tuple(ends) for column, ends in limits.items()}, "row_limits": row_limits, "objective": objective,
+    return {"kinds": list(kinds.items()), "entries": without_zeros(entries), "row_limits": row_limits,
+            "limits": {column: tuple(ends) for column, ends in limits.items()}, "objective": objective,
             "sense": "MAX" if "'MAX'" in program else "MIN", "rhs on objective": rhs.get(objective, Fraction(0))}
 
 
@@ -699,9 +724,8 @@ def try_random(house, count, first):
             shown = gzip.decompress(data) if data[:2] == b"\x1f\x8b" else data
             check(f"random file {seed}: refused: {said}\n{model.words}\n{shown.decode()}", False)
             continue
-        wanted = {"kinds": list(model.kinds.items()), "entries": [(column, {row: value for row, value in items.items() if value}) for column, items in model.entries.items()],
-                  "limits": model.limits, "row_limits": model.row_limits, "objective": model.objective, "sense": model.sense,
-                  "rhs on objective": model.rhs.get(model.objective, Fraction(0))}
+        wanted = {"kinds": list(model.kinds.items()), "entries": without_zeros(model.entries), "limits": model.limits, "row_limits": model.row_limits,
+                  "objective": model.objective, "sense": model.sense, "rhs on objective": model.rhs.get(model.objective, Fraction(0))}
         found = job_read(job, names)
         for key, value in wanted.items():
             check(f"random file {seed}: {key}: {found[key]}, not {value}", found[key] == value)
@@ -715,7 +739,7 @@ def try_answer(house, seed, model, job):
     verdict, objective, whole = verdict_of(reports)
     if not house.esolver:
         return "not compared with esolver"
-    if house.end.startswith("STOP 20 OVERFLOW"):
+    if house.end.startswith(OVERFLOW):
         return "stopped for overflow"
     known, value = model.answer(house)
     found = None if objective is None else Fraction(objective)
@@ -744,6 +768,9 @@ def try_decks(house):
         call("glpsol", "--mps", deck, "--check", "--wfreemps", again)
         known = house.exact(again.read_text())
         verdict, objective, _ = verdict_of(house.solved(job))
+        if house.end.startswith(OVERFLOW):
+            told.append(f"{deck.name} stopped for overflow")
+            continue
         check(f"{deck.name}: {verdict} {objective}, and esolver has {known}", (verdict, objective and Fraction(objective)) == known)
         told.append(deck.name)
     return "decks of glpk-utils: " + ", ".join(told)
@@ -756,14 +783,14 @@ def main(words):
     if words and (words[0] != "--random" or not 2 <= len(words) <= 3 or not all(word.isdigit() for word in words[1:])):
         print("usage: check_mps2job.py [--random COUNT [SEED]]", file=sys.stderr)
         return 64
-    count, seed = (int(words[1]) if words else 40), int(words[2]) if len(words) > 2 else 0
+    count, seed = (int(words[1]) if words else 20), int(words[2]) if len(words) > 2 else 0
     with tempfile.TemporaryDirectory() as folder:
         house = House(folder)
         if not house.program:
             print("check_mps2job: no fresh proved program and no MPS360_PROGRAM; expected_listing.py runs the jobs")
         if not house.esolver:
             print("check_mps2job: no esolver (qsopt-ex); random files are compared with their fractions alone")
-        for part in (try_by_hand, try_refused, try_said, try_names, try_places):
+        for part in (try_by_hand, try_refused, try_said, try_model, try_names, try_places):
             part(house)
         verdicts = try_random(house, count, seed)
         print(f"check_mps2job: {count} random files: " + ", ".join(f"{number} {verdict}" for verdict, number in sorted(verdicts.items())))
