@@ -170,30 +170,32 @@ def decimal_parts(value):
     return digits, -power
 
 
+def form_of(bare, point, power):
+    "digits with a point behind as many of them as this says, and an exponent"
+    whole = bare[:max(point, 0)] + "0" * max(0, point - len(bare))
+    rest = "0" * -point + bare if point < 0 else bare[point:]
+    return whole + ("." + rest if rest else "") + (f"E{power}" if power else "")
+
+
 @lru_cache(maxsize=65536)
 def text_of(value):
-    "the shortest text of a number's exact value, or None where 12 columns don't hold one"
+    "the text of a number's exact value, without an exponent if that can be, or None where 12 columns don't hold one"
     parts = decimal_parts(value)
-    if parts is None:
-        return None
-    bare, exponent = str(abs(parts[0])), parts[1]
-    if not parts[0]:
-        return "0"
-    sign, forms = "-" if value < 0 else "", []
-    for point in range(-NUMBER_COLUMNS, len(bare) + NUMBER_COLUMNS + 1):
-        whole = bare[:max(point, 0)] + "0" * max(0, point - len(bare))
-        rest = "0" * -point + bare if point < 0 else bare[point:]
-        power = exponent + len(bare) - point
-        if abs(power) <= MOST_POWER:
-            forms.append(sign + whole + ("." + rest if rest else "") + (f"E{power}" if power else ""))
-    forms = [form for form in forms if len(form) <= NUMBER_COLUMNS]
-    plain = [form for form in forms if "E" not in form]
-    return plain[0] if plain else min(forms, key=len, default=None)
+    if not parts or not parts[0]:
+        return parts and "0"
+    bare, sign = str(abs(parts[0])), "-" if value < 0 else ""
+    whole, most = parts[1] + len(bare), NUMBER_COLUMNS - len(sign)
+    if -most < whole <= most and len(plain := form_of(bare, whole, 0)) <= most:
+        return sign + plain
+    points = range(-NUMBER_COLUMNS, len(bare) + NUMBER_COLUMNS + 1)
+    forms = [form_of(bare, point, whole - point) for point in points if abs(whole - point) <= MOST_POWER]
+    forms = [form for form in forms if len(form) <= most]
+    return sign + min(forms, key=len) if forms else None
 
 
 def nearest(value):
     "the number of 12 columns that is nearest to this one, or None where it is too large"
-    for power in range(-MOST_POWER - NUMBER_COLUMNS, MOST_POWER + NUMBER_COLUMNS):
+    for power in range(-MOST_POWER - NUMBER_COLUMNS, MOST_POWER + 1):
         unit = Fraction(10) ** power
         near = round(value / unit) * unit
         if abs(near) < 10 ** 40 and text_of(near) is not None:
@@ -204,6 +206,15 @@ def nearest(value):
 def decimal_text(value):
     "a rounded decimal number for a sentence"
     return "0" if not value else f"{float(value):.3g}"
+
+
+def counted(count, what, *verbs):
+    "a number of things, and a verb: the first for one of them, the second for more"
+    return " ".join([f"{count} {what}{'' if count == 1 else 's'}", *(verbs[:1] if count == 1 else verbs[1:])])
+
+
+def some_of(names):
+    return ", ".join(name[:30] for name in names[:5]) + (", .." if len(names) > 5 else "")
 
 
 def lines_text(lines):
@@ -218,7 +229,8 @@ class Line:
         self.text, self.fixed = text, fixed
         if fixed:
             self.check_gaps()
-            self.spans = [(a, min(b, len(text))) for a, b in FIELDS]
+            text = self.text
+            self.spans = [(a, max(a + 1, min(b, len(text)))) for a, b in FIELDS]
             self.words = [text[a:b].strip(" ") if k in (0, 3, 5) else text[a:b].rstrip(" ") for k, (a, b) in enumerate(FIELDS)]
         else:
             self.spans = [found.span() for found in re.finditer(r"[^ \t]+", text)]
@@ -229,8 +241,9 @@ class Line:
             raise Refused("a tab has no place among columns", "\t")
         self.check_remark()
         for a, b in GAPS:
-            if self.text[a:b].strip(" "):
-                raise Refused(f"something stands between the fields, in columns {a + 1} to {b}", (a, min(b, len(self.text))))
+            if between := self.text[a:b].strip(" "):
+                start = self.text.index(between, a)
+                raise Refused(f"something stands between the fields, in columns {a + 1} to {b}", (start, start + len(between)))
 
     def check_remark(self):
         "a $ at the start of field 3 or 5 begins a remark"
@@ -312,8 +325,8 @@ class Reader:
                 cause.span = Line(cause.text, False).span_of(cause.word)
 
     def take_comment(self, line):
-        if found := re.match(r"\*\s*sense\s*:\s*(max)", line, re.I):
-            self.model.said.append(f"line {self.line}: a remark speaks of maximizing, and remarks aren't read: --max does so")
+        if re.match(r"\*\s*sense\s*:\s*max", line, re.I):
+            self.lines.setdefault("maximizing", []).append(self.line)
 
     def take(self, text):
         line = None
@@ -365,8 +378,10 @@ class Reader:
             self.said_sense = SENSES[word.upper()]
         elif self.section == "OBJNAME":
             self.said_objective = line.text[line.spans[place][0]:], self.line
+        elif self.section == "OBJSENSE":
+            raise Refused(f"OBJSENSE is MAX or MIN, not {word[:30]}", place)
         else:
-            raise Refused("a data line where no section takes one" if self.section != "OBJSENSE" else f"OBJSENSE is MAX or MIN, not {word[:30]}", place)
+            raise Refused("a data line where no section takes one", place)
         self.section = None
 
     def most(self, what, count):
@@ -515,7 +530,9 @@ class Reader:
 
     def take_rhs(self, items, row, at, line):
         value = self.value(at, line)
-        if abs(value) >= self.reading.infinity:
+        if self.model.rows[row] == "N" and isinstance(value, float):
+            raise Refused("a constant can't be infinite", at)
+        if self.model.rows[row] != "N" and abs(value) >= self.reading.infinity:
             raise Refused(f"a right-hand side of {decimal_text(self.reading.infinity)} and more is infinite in some programs; "
                           "make the row an N row, or leave it out (or say --infinity)", at)
         items[row] = value
@@ -577,7 +594,7 @@ class Reader:
         if abs(value) < self.reading.infinity:
             return value
         if (value > 0) != (kind in ("UP", "UI")) or kind == "FX":
-            raise Refused(f"{line.words[at][:30]} is infinite, and no number is past it", at)
+            raise Refused(f"a bound {kind} of {line.words[at][:30]} is infinite, and leaves no number", at)
         self.note("endless bound")
         return None
 
@@ -614,7 +631,7 @@ class Reader:
     def end_markers(self):
         "the upper limits of whole-number columns between markers of which no bound says one"
         sets = list(self.model.bounds.values()) or [{}]
-        changed = set()
+        changed = {}
         for column, line in self.marked.items():
             for items in sets:
                 limits = items.get(column, Limits())
@@ -624,12 +641,13 @@ class Reader:
                     raise Refused(f"column {column[:30]} between markers has no upper bound: some programs then take 1, some none; "
                                   "say --marker-upper 1 or none, or write a bound PL or UP", column, line)
                 if self.reading.marker_upper == "1":
-                    changed.add(column)
+                    changed[column] = line
                     items.setdefault(column, limits).upper = Fraction(1)
         if changed:
             if not self.model.bounds:
                 self.model.bounds["MARKERS"] = sets[0]
-            self.model.said.append(f"{len(changed)} columns between markers have no bound: their upper limit is 1, as you said")
+            self.model.said.append(f"{counted(len(changed), 'column', 'has', 'have')} no bound between markers ({some_of(list(changed))}): the "
+                                   "upper limit is 1, as you said")
         self.model.relaxed = list(self.whole)
 
     def choose(self):
@@ -653,16 +671,19 @@ class Reader:
                      "range on N": "a range on an N row says nothing, and is left out",
                      "endless range": f"a range of {decimal_text(self.reading.infinity)} and more is none, and is left out",
                      "endless bound": f"a bound of {decimal_text(self.reading.infinity)} and more is no limit",
+                     "maximizing": "a remark speaks of maximizing, and remarks aren't read; --max does so",
                      "negative keep": "a negative UP alone: the lower limit stays at 0, so there is no plan",
                      "negative free": "a negative UP alone: the lower limit is taken away"}
+        if self.reading.sense or model.sense == "MAX":
+            self.lines.pop("maximizing", None)
         for kind, lines in self.lines.items():
             told.append(f"{lines_text(lines)}: {sentences.get(kind) or 'a ' + kind + ' is not read'}")
         if model.relaxed:
-            told.append(f"{len(model.relaxed)} columns should have whole numbers ({', '.join(name[:30] for name in model.relaxed[:5])}"
-                        f"{', ..' if len(model.relaxed) > 5 else ''}): any numbers are allowed them here")
-        for what, sets, taken in (("RHS", model.rhs, model.rhs_set), ("RANGES", model.ranges, model.range_set), ("BOUNDS", model.bounds, model.bound_set)):
+            told.append(f"{counted(len(model.relaxed), 'column')} should have whole numbers ({some_of(model.relaxed)}): any numbers are allowed here")
+        taken = {"RHS": model.rhs_set, "RANGES": model.range_set, "BOUNDS": model.bound_set}
+        for what, sets in self.sets.items():
             if len(sets) > 1:
-                told.append(f"{what} has {len(sets)} sets; {taken or 'the one without a name'} is taken")
+                told.append(f"{what} has {len(sets)} sets; {taken[what] or 'the one without a name'} is taken")
         others = [row for row, kind in model.rows.items() if kind == "N"]
         if len(others) > 1:
             told.append(f"there are {len(others)} N rows; the objective is {model.objective}")
@@ -670,10 +691,12 @@ class Reader:
             self.tell_rounding()
 
     def tell_rounding(self):
-        changes = [(abs(near - number(word)), abs(near / number(word) - 1), line, word, near) for line, word, near in self.model.rounded]
+        exact = [(line, word, near, number(word)) for line, word, near in self.model.rounded]
+        changes = [(abs(near - value), abs(near / value - 1), line, word) for line, word, near, value in exact]
         most, least = max(changes), max(changes, key=lambda change: change[1])
-        told = f"{len(changes)} numbers were rounded to 12 columns; the greatest change is {decimal_text(most[0])}, of {most[3][:40]} in line {most[2]}"
-        told += f", and the greatest in proportion {decimal_text(least[1])} of its size, of {least[3][:40]} in line {least[2]}"
+        told = f"{counted(len(changes), 'number', 'was', 'were')} rounded to 12 columns; "
+        told += f"the greatest change is {decimal_text(most[0])}, of {most[3][:40]} in line {most[2]}"
+        told += f", and the greatest part of a number {decimal_text(least[1])}, of {least[3][:40]} in line {least[2]}"
         self.model.said.append(told)
 
 
@@ -787,11 +810,12 @@ def name_all(job):
     job.rows, job.columns, job.sets = rows.settle(), columns.settle(), {**sets.settle(), "": ""}
     lawful = len(model.name) <= 8 and model.name.isascii() and model.name.isprintable()
     job.problem = model.name if lawful else "PROBLEM"
-    renamed = [f"{sum(name != short for name, short in names.items())} {what}" for names, what in
-               ((job.rows, "rows"), (job.columns, "columns"), (job.sets, "sets")) if any(name != short for name, short in names.items())]
+    renamed = [(sum(name != short for name, short in names.items()), what) for names, what in
+               ((job.rows, "row"), (job.columns, "column"), (job.sets, "set"))]
     job.said = list(model.said)
-    if renamed:
-        job.said.append(f"{', '.join(renamed)} have other names in the job; the table of names has them")
+    if shown := [counted(count, what) for count, what in renamed if count]:
+        verb = "has another name" if sum(count for count, _ in renamed) == 1 else "have other names"
+        job.said.append(f"{', '.join(shown)} {verb} in the job; the table of names has them")
     if not lawful:
         job.said.append(f"the problem's name is {job.problem} in the job")
 
@@ -809,8 +833,9 @@ def rhs_cards(job, item):
                 text = "0"
             cards.append(item(job.sets[name], job.rows[row], text))
     if model.constant:
-        job.said.append(f"the objective's constant is {model.constant}, {'its number in RHS' if model.constant_sign > 0 else 'the negative of its number in RHS'}"
-                        ": it isn't in OBJECTIVE and ACTIVITY of the listing, add it there (listing2json.py --names does)")
+        sign = "" if model.constant_sign > 0 else "the negative of "
+        job.said.append(f"the objective's constant is {model.constant}, {sign}its number in RHS: it isn't in OBJECTIVE and ACTIVITY of "
+                        "the listing, add it there (listing2json.py --names does)")
     return cards
 
 
@@ -824,7 +849,7 @@ def deck_cards(job):
             empty.append(column)
             cards.append(item(job.columns[column], first, "0"))
     if empty:
-        job.said.append(f"{len(empty)} columns have no entry ({', '.join(name[:30] for name in empty[:5])}): their card has 0 on the first row")
+        job.said.append(f"{counted(len(empty), 'column', 'has', 'have')} no entry ({some_of(empty)}), and a card with 0 on the first row")
     rhs = rhs_cards(job, item)
     ranges = [item(job.sets[name], job.rows[row], card_number(value)) for name, items in model.ranges.items() for row, value in items.items()]
     bounds = [f" {kind} {job.sets[name]:<10}{job.columns[column]:<10}{value}".rstrip()
