@@ -4,9 +4,10 @@ docs/REFERENCE_ANSWERS.md. What is expected was worked out by hand, stands in a 
 they are installed. Jobs are run by scripts/expected_listing.py, so that no proved program is needed. scripts/check.sh runs it.
 
 usage: check_reports.py      ends with 1 where a result is another"""
-import csv, html.parser, io, json, os, pathlib, re, shutil, signal, subprocess, sys, tempfile, time
+import csv, html.parser, io, json, pathlib, re, shutil, signal, subprocess, sys, tempfile, time
+from concurrent.futures import ThreadPoolExecutor
 from fractions import Fraction
-import check_tools, listing2json, runner
+import check_tools, listing2html, listing2json, runner
 
 SCRIPTS, EXAMPLES = runner.TOP / "scripts", runner.TOP / "examples"
 SCHEMA = json.loads((runner.TOP / "docs/listing.schema.json").read_text())
@@ -181,7 +182,6 @@ def try_pages(folder):
     for job in sorted([*EXAMPLES.glob("*.job"), *(SCRIPTS / "known").glob("*.job")]):
         told = call(SCRIPTS / "listing2html.py", job, job.with_suffix(".listing")) if job.stem in SAID else None
         if told is None:
-            import listing2html
             page = listing2html.page(job.read_text(), job.with_suffix(".listing").read_text())
         else:
             check(f"listing2html.py {job.name}: {told.stderr.decode()}", told.returncode == 0)
@@ -367,24 +367,40 @@ def try_interrupt(folder):
         check("solve: the program goes with it", not pathlib.Path(f"/proc/{pid}").exists() or "zombie" in pathlib.Path(f"/proc/{pid}/status").read_text())
 
 
+def try_models(folder, program):
+    try_solve(folder, program)
+    try_statuses(folder, program)
+    try_browser(folder, [try_hostile(folder, program), folder / "glass.html"])
+
+
 # ---- the page of reference answers
 
 def try_reference(folder, program):
     "the commands of the page, in a folder of models, come to the table that the page shows"
     page = (runner.TOP / "docs/REFERENCE_ANSWERS.md").read_text()
-    blocks = re.findall(r"^```(\w*)\n(.*?)^```", page, re.M | re.S)
-    commands = next((text for kind, text in blocks if kind == "sh"), "")
-    table = next((text for kind, text in blocks if kind == "csv"), None)
-    check("REFERENCE_ANSWERS.md: no commands, or no table", commands and table)
+    blocks = re.findall(r"^```(\w+)\n(.*?)^```", page, re.M | re.S)
+    commands = "".join(text for kind, text in blocks if kind == "sh")
+    shown, compare = (next(text for kind, text in blocks if kind == wanted) for wanted in ("csv", "python"))
     place = folder / "reference"
     (place / "models").mkdir(parents=True)
-    for name, text in (("testprob", check_tools.TESTPROB), ("glass", check_tools.GLASS), ("beale", check_tools.BEALE)):
-        (place / f"models/{name}.mps").write_text(text)
-    (place / "models/conflict.mps").write_text(CONFLICT)
-    (place / "scripts").symlink_to(SCRIPTS)
-    told = call("bash", "-ec", commands.replace("scripts/solve", f"scripts/solve --program {program}"), cwd=place)
-    made = next((path.read_text() for path in place.glob("*.csv")), "")
-    check(f"REFERENCE_ANSWERS.md: {told.stderr.decode()} {made}", told.returncode == 0 and re.sub(r"\d+\.\d+$", "SECONDS", made, flags=re.M) == re.sub(r"\d+\.\d+$", "SECONDS", table, flags=re.M))
+    for name, text in (("testprob", check_tools.TESTPROB), ("glass", check_tools.GLASS), ("beale", check_tools.BEALE), ("conflict", CONFLICT)):
+        (place / f"models/{name}.mps").write_bytes(text.encode())
+    shutil.copytree(SCRIPTS, place / "scripts", ignore=shutil.ignore_patterns("__pycache__"))
+    shutil.copy(program, place / "scripts/program")
+    told = call("bash", "-ec", commands, cwd=place)
+    made = place / "answers/summary.csv"
+    check(f"REFERENCE_ANSWERS.md: {told.stderr.decode()}", told.returncode == 0 and made.exists())
+    if told.returncode or not made.exists():
+        return
+    without_time = [[{key: value for key, value in line.items() if key != "seconds"} for line in csv.DictReader(io.StringIO(text))] for text in (made.read_text(), shown)]
+    check(f"REFERENCE_ANSWERS.md: {made.read_text()}", without_time[0] == without_time[1])
+    documents = {path.stem: json.loads(path.read_text()) for path in (place / "answers").glob("*.json") if path.stem != "summary"}
+    results = {name: (document["result"]["verdict"], document["result"].get("objective_with_constant", document["result"].get("objective"))) for name, document in documents.items()}
+    check(f"REFERENCE_ANSWERS.md: {results}", results == {"testprob": ("optimal", "64"), "glass": ("optimal", "36"), "beale": ("optimal", "-1/20"), "conflict": ("infeasible", None)})
+    check("REFERENCE_ANSWERS.md: its JSON by the schema", not any(True for document in documents.values() for _ in violations(document, SCHEMA)))
+    (place / "mine.csv").write_text("name,objective\nglass,36.36\nbeale,-0.05\n")
+    told = call(sys.executable, "-c", compare, cwd=place).stdout.decode()
+    check(f"REFERENCE_ANSWERS.md: the comparison: {told}", told == "beale -1/20 0.0\nglass 36 0.01\n")
 
 
 CONFLICT = """NAME CONFLICT
@@ -413,14 +429,10 @@ def main():
     with tempfile.TemporaryDirectory() as folder:
         folder = pathlib.Path(folder)
         program = stub(folder, "program", f"exec {sys.executable} {SCRIPTS}/expected_listing.py\n")
-        try_schema()
-        try_pages(folder)
-        hostile = try_hostile(folder, program)
-        try_solve(folder, program)
-        try_statuses(folder, program)
-        try_interrupt(folder)
-        try_reference(folder, program)
-        try_browser(folder, [hostile, folder / "glass.html"])
+        with ThreadPoolExecutor() as pool:
+            tried = [pool.submit(*words) for words in ((try_models, folder, program), (try_interrupt, folder), (try_reference, folder, program), (try_pages, folder), (try_schema,))]
+        for one in tried:
+            one.result()
     said = f"; left out: {', '.join(dict.fromkeys(left_out))}" if left_out else ""
     print(f"check_reports: {'ok' if not wrong else f'{wrong} wrong'}, in {time.monotonic() - begun:.0f} s{said}")
     return 1 if wrong else 0
