@@ -332,6 +332,16 @@ def try_glass(document, folder, program, path):
     check(f"CSV of RANGE: {table}", re.search(r"^\d+,columns_between,\d+,windows_batches,BS,6,,,5,2,none,,$", table, re.M) and re.search(r"^\d+,rows_at_limit,\d+,plant_3_hours,UL,18,12,24,", table, re.M))
 
 
+def try_readme(folder, program):
+    "the first command of README.md, and what it says of the answer"
+    page = (runner.TOP / "README.md").read_text()
+    command = re.search(r"^    scripts/solve (.*)$", page, re.M)[1].split()
+    said = re.search(r"`(OPTIMAL: .*?)`", page)[1]
+    told = call(SCRIPTS / "solve", "--program", program, *(runner.TOP / word if word.startswith("examples/") else word for word in command), cwd=folder)
+    check(f"README.md: {told.stdout.decode()}", told.returncode == 0 and told.stdout.decode().startswith(said + "\n"))
+    check_page("README.md", next((folder / word).read_text(encoding="utf-8") for word in command if word.endswith(".html")))
+
+
 def try_statuses(folder, program):
     silent, other = stub(folder, "silent", "exit 3\n"), stub(folder, "other", f"cat {EXAMPLES}/ranging.listing\n")
     refused = folder / "refused.mps"
@@ -369,6 +379,7 @@ def try_interrupt(folder):
 
 def try_models(folder, program):
     try_solve(folder, program)
+    try_readme(folder, program)
     try_statuses(folder, program)
     try_browser(folder, [try_hostile(folder, program), folder / "glass.html"])
 

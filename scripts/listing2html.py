@@ -22,7 +22,7 @@ STOPS = {"4": "the program was called with words that it doesn't know", "8": "th
          "12": "a deck has a fault", "13": "a card has a fault", "16": "the limit on steps was reached", "17": "the limit on statements was reached",
          "20": "a number became too large to be kept", "24": "the job couldn't be read", "25": "the listing couldn't be written",
          "26": "the deck couldn't be punched", "28": "there wasn't enough memory"}
-MOST_SHOWN_BYTES, LONG, MOST_NAMED = 1_000_000, 24, 6
+MOST_SHOWN_BYTES, MOST_FORMULAS, LONG, MOST_NAMED = 1_000_000, 20_000, 24, 6
 STYLE = """
 :root{color-scheme:light dark;--ink:#1b1f24;--paper:#fff;--soft:#57606a;--line:#d0d7de;--band:#f3f5f8;--blue:#0b57b8;--good:#116329;--bad:#a40e26;--warn:#7d4e00}
 @media (prefers-color-scheme:dark){:root{--ink:#e6edf3;--paper:#0f1419;--soft:#9aa7b4;--line:#343d47;--band:#1a2129;--blue:#7cb7ff;--good:#5bd076;--bad:#ff8f8f;--warn:#e3b341}}
@@ -219,7 +219,7 @@ class Page:
         self.parts.append(table("Columns: how much of each", heads, columns or [], lambda line: not Fraction(line["activity"])))
         heads = [("Row", name[1]), ("Activity", of("activity")), at, *([("Slack", of("slack")), *limits, ("Shadow price", of("dual"))] if solution else [])]
         if ranges:
-            heads += [("Price holds while the limit is from", two("limit_low", "limit_high")), ("Same plan while a unit is charged, on the objective, from", two("factor_low", "factor_high"))]
+            heads += [("Price holds while the limit is from", two("limit_low", "limit_high")), ("Same plan while each unit adds to the objective from", two("factor_low", "factor_high"))]
         self.parts.append(tag("h3", "The rows"))
         self.parts.append(table("Rows: what the plan uses and keeps", heads, rows or [], lambda line: "dual" in line and not Fraction(line["dual"])))
         if solution and solution["mark"] == "optimal":
@@ -241,7 +241,10 @@ class Page:
             self.say(f"Theta goes from {said(first)} to {said(last)}, in {count}. In each one basis is optimal at every theta, the ends with it.")
             self.parts.append(self.interval_table(report))
             self.plots(k, report)
-            self.parts.append(tag("details", tag("summary", "Every activity and price in every interval"), *(self.formulas(number, part) for number, part in enumerate(intervals, 1))))
+            if sum(len(part["lines"]) for part in intervals) <= MOST_FORMULAS:
+                self.parts.append(tag("details", tag("summary", "Every activity and price in every interval"), *(self.formulas(count, part) for count, part in enumerate(intervals, 1))))
+            else:
+                self.say("The intervals have too many activities and prices for a page; listing2json.py --table intervals has them.")
         past = report.get("at")
         if report.get("end") == "ends":
             self.say(f"The run ends at theta = {said(past)}, the last one that was asked for.")
