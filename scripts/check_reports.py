@@ -121,7 +121,8 @@ def try_schema():
     listings = sorted([*EXAMPLES.glob("*.listing"), *(SCRIPTS / "known").glob("*.listing")])
     check("no listings", len(listings) > 20)
     texts = [path.read_text() for path in listings]
-    texts += ["STOP 12 DECK FAULT 6 CARD 12\n", texts[0][:200].rpartition("\n")[0] + "\n", "PRIMAL INFEASIBLE STEPS 0 CROSSED 3 UNCHECKED ADD 1 2\nEND 1\n"]
+    texts += ["STOP 12 DECK FAULT 6 CARD 12\n", texts[0][:200].rpartition("\n")[0] + "\n", "PRIMAL INFEASIBLE STEPS 0 CROSSED 3 UNCHECKED ADD 1 2\nEND 1\n",
+              f"PRIMAL OPTIMAL STEPS 0 OBJECTIVE {10**400} CHECKED\nEND 0\n"]
     documents = []
     for text in texts:
         documents.append(listing2json.document(listing2json.parse(text)))

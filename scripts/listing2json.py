@@ -28,7 +28,8 @@ RANGES = (("rows_at_limit", "SECTION 1 - ROWS AT LIMIT LEVEL", ("at", "activity"
           ("rows_between", "SECTION 3 - ROWS AT INTERMEDIATE LEVEL", ("at", "activity", "factor_low", "factor_high")),
           ("columns_between", "SECTION 4 - COLUMNS AT INTERMEDIATE LEVEL", ("at", "activity", "cost", "cost_low", "cost_high")))
 PART = ("at", "value", "value_rate", "price", "price_rate")
-NUMBER = r"-?\d{1,300}(?:/[1-9]\d{0,299})?"
+# (of no more digits than Python makes numbers of)
+NUMBER = r"-?\d{1,4000}(?:/[1-9]\d{0,3999})?"
 MAY_BE_NONE = ("lower", "upper", "limit_low", "limit_high", "cost_low", "cost_high", "factor_low", "factor_high")
 VERDICT = re.compile(
     rf"(PRIMAL|PARAOBJ|PARARHS) (OPTIMAL|INFEASIBLE|UNBOUNDED) STEPS (\d{{1,20}}) (?:OBJECTIVE ({NUMBER})|CROSSED (\d{{1,20}})|RAY) (CHECKED|UNCHECKED .*)$")
@@ -44,6 +45,14 @@ class NoListing(Exception):
 
 class NoNames(Exception):
     "a table of names that isn't one"
+
+
+def rounded(text):
+    "the number as a decimal one, None where it is too large for that"
+    try:
+        return float(Fraction(text))
+    except OverflowError:
+        return None
 
 
 def is_value(key, text, keys):
@@ -229,7 +238,7 @@ def add_decimals(listing):
         for place in [report, *report.get("intervals", []), *lines]:
             for key, value in list(place.items()):
                 if key not in ("name", "text", "change") and isinstance(value, str) and re.fullmatch(NUMBER, value):
-                    place[key + "_decimal"] = float(Fraction(value))
+                    place[key + "_decimal"] = rounded(value)
 
 
 def result_of(listing):
@@ -313,7 +322,7 @@ def write_csv(lines, heads, decimal, out):
     writer = csv.DictWriter(out, [*heads, *(key + "_decimal" for key in numbers)], restval="", lineterminator="\n", extrasaction="ignore")
     writer.writeheader()
     for line in lines:
-        decimals = {key + "_decimal": float(Fraction(line[key])) for key in numbers if is_number(line, key)}
+        decimals = {key + "_decimal": rounded(line[key]) for key in numbers if is_number(line, key)}
         writer.writerow({key: cell_of(key, value) for key, value in (line | decimals).items()})
 
 
