@@ -17,7 +17,8 @@ wrong = 0
 left_out = []
 
 # Names that do something where they aren't taken for text: markup, quotes, formulas, escapes of a terminal, a turned direction of writing.
-HOSTILE = ("<script>alert(1)</script>", "\"'><img/src=x>", "&lt;", "=1+1", "+SUM(A1)", "-2+3", "@SUM(A1)", "'=1", "\x1b[31mred\x1b[0m", "\x07bell", "a\u202eb",
+HOSTILE = ("<script>alert(1)</script>", "\"'><img/src=x>", "&lt;", "=1+1", "+SUM(A1)", "-2+3", "@SUM(A1)", "'=1", "\x1b[31mred\x1b[0m", "\x07bell",
+           "a\u202eb",
            "</title><script>x</script>", "Zürich")
 # Hillier and Lieberman's glass products: by the book the prices are 0, 3/2 and 1; the plan stays the same for the first profit from 0 to 15/2 and the second
 # from 2 upward, and the prices hold for the second plant's hours from 6 to 18 and the third's from 12 to 24.
@@ -25,11 +26,14 @@ GLASS = {"doors_batches": ("0", "15/2"), "windows_batches": ("2", None), "plant_
 GLASS_PRICES = {"plant_1_hours": "0", "plant_2_hours": "3/2", "plant_3_hours": "1"}
 # What the pages of the examples say, as docs/LISTING.md works it out by hand.
 SAID = {
-    "first": ("The greatest value of PROFIT is 1511.75 (exactly 6047/4)", "SHELF 8 at its upper limit 36 0 8 8.5 17/2", "BOARDS 240 at its upper limit 0 240 4.0625 65/16"),
-    "ranging": ("BREAD 238.4 1192/5 in the basis 3 0 0 2 to ≈5.333333 16/3", "FLOUR 300 at its upper limit 0 300 1.6 8/5 151 to 376", "PIES 0 at its lower limit 4 0 -0.4 -2/5 −∞ to 4.4 22/5 −∞ to 76"),
+    "first": ("The greatest value of PROFIT is 1511.75 (exactly 6047/4)", "SHELF 8 at its upper limit 36 0 8 8.5 17/2",
+              "BOARDS 240 at its upper limit 0 240 4.0625 65/16"),
+    "ranging": ("BREAD 238.4 1192/5 in the basis 3 0 0 2 to ≈5.333333 16/3", "FLOUR 300 at its upper limit 0 300 1.6 8/5 151 to 376",
+                "PIES 0 at its lower limit 4 0 -0.4 -2/5 −∞ to 4.4 22/5 −∞ to 76"),
     "conflict": ("the limits of HOURS, CHAIRS and TABLES conflict", "CHAIRS -2 at least 20 -40", "the sum is at most -10, and 0 isn't"),
     "endless": ("PROFIT grows without end", "BUY 0 1", "Each unit changes PROFIT by 2."),
-    "pararhs": ("0 to 10 90 + 3 θ 90 120", "10 to 15 70 + 5 θ 120 145", "the sum is at most 18 − θ, which is less than 0 for every theta past 18", "10: 120", "18: 160"),
+    "pararhs": ("0 to 10 90 + 3 θ 90 120", "10 to 15 70 + 5 θ 120 145", "the sum is at most 18 − θ, which is less than 0 for every theta past 18",
+                "10: 120", "18: 160"),
     "paraobj": ("2 to 15 -32 + 16 θ 0 208", "Each unit changes PROFIT + θ SOLD by -15 + θ, which is more than 0 for every theta past 15"),
     "wide": ("700000029600000359100001323/100000003700000039900000132300000000",),
 }
@@ -110,9 +114,12 @@ def spoiled(whole):
             place[path[-1]] = value
         return copy
     row = ("reports", 4, "rows", 1)
-    for path, value in ((("format",), "x"), (("version",), 2), (("version",), True), (("result", "objective"), 1511.75), (("result", "verdict"), "best"),
-                        (("result", "status"), None), (("end", "status"), "0"), (("more",), 1), (("reports", 3, "objective"), "6047/0"), (("reports", 3, "checked"), 1),
-                        ((*row, "at"), "XX"), ((*row, "dual"), "4.06"), ((*row, "dual"), None), ((*row, "number"), 0), ((*row, "more"), "1"), (("reports", 4, "mark"), "best"),
+    for path, value in ((("format",), "x"), (("version",), 2), (("version",), True), (("result", "objective"), 1511.75),
+                        (("result", "verdict"), "best"),
+                        (("result", "status"), None), (("end", "status"), "0"), (("more",), 1), (("reports", 3, "objective"), "6047/0"),
+                        (("reports", 3, "checked"), 1),
+                        ((*row, "at"), "XX"), ((*row, "dual"), "4.06"), ((*row, "dual"), None), ((*row, "number"), 0), ((*row, "more"), "1"),
+                        (("reports", 4, "mark"), "best"),
                         (("reports", 2, "sense"), "max")):
         yield path, at(path, value)
 
@@ -121,7 +128,8 @@ def try_schema():
     listings = sorted([*EXAMPLES.glob("*.listing"), *(SCRIPTS / "known").glob("*.listing")])
     check("no listings", len(listings) > 20)
     texts = [path.read_text() for path in listings]
-    texts += ["STOP 12 DECK FAULT 6 CARD 12\n", texts[0][:200].rpartition("\n")[0] + "\n", "PRIMAL INFEASIBLE STEPS 0 CROSSED 3 UNCHECKED ADD 1 2\nEND 1\n",
+    texts += ["STOP 12 DECK FAULT 6 CARD 12\n", texts[0][:200].rpartition("\n")[0] + "\n",
+              "PRIMAL INFEASIBLE STEPS 0 CROSSED 3 UNCHECKED ADD 1 2\nEND 1\n",
               f"PRIMAL OPTIMAL STEPS 0 OBJECTIVE {10**400} CHECKED\nEND 0\n"]
     documents = []
     for text in texts:
@@ -172,7 +180,8 @@ def check_page(what, page):
     tags = [tag for tag, _ in read.tags]
     check(f"{what}: tags {read.faults} {read.open}", not read.faults and not read.open)
     check(f"{what}: parts from outside", not {"script", "img", "iframe", "object", "embed", "base", "form", "link"} & set(tags) and
-          not any(key in ("src", "href", "action", "style") and value != "#page" or key.startswith("on") for _, attributes in read.tags for key, value in attributes.items()) and
+          not any(key in ("src", "href", "action", "style") and value != "#page" or key.startswith("on")
+                  for _, attributes in read.tags for key, value in attributes.items()) and
           not re.search(r"@import|url\(", page))
     check(f"{what}: a policy that lets nothing in", "default-src 'none'" in str(read.tags))
     check(f"{what}: what is proved", "What is proved, and what this page only shows" in read.text)
@@ -194,14 +203,17 @@ def try_pages(folder):
             check(f"listing2html.py {job.name}: the listing's line {line}", line in html.unescape(page))
     page = folder / "page.html"
     ends = {
-        0: (EXAMPLES / "first.job", EXAMPLES / "first.listing", "-o", page), 64: (EXAMPLES / "first.job",), 73: (EXAMPLES / "first.job", EXAMPLES / "first.listing", "-o", folder / "none/page"),
+        0: (EXAMPLES / "first.job", EXAMPLES / "first.listing", "-o", page), 64: (EXAMPLES / "first.job",),
+        73: (EXAMPLES / "first.job", EXAMPLES / "first.listing", "-o", folder / "none/page"),
         65: (EXAMPLES / "first.job", EXAMPLES / "ranging.listing"), 66: (EXAMPLES / "first.job", folder / "none"),
     }
     for status, words in ends.items():
         told = call(SCRIPTS / "listing2html.py", *words)
-        check(f"listing2html.py: {told.returncode}, not {status}: {told.stderr.decode()}", told.returncode == status and bool(told.stderr) == (status > 0) and b"Traceback" not in told.stderr)
+        check(f"listing2html.py: {told.returncode}, not {status}: {told.stderr.decode()}",
+              told.returncode == status and bool(told.stderr) == (status > 0) and b"Traceback" not in told.stderr)
     listing = folder / "cut.listing"
-    for text, words in ((EXAMPLES.joinpath("first.listing").read_text()[:300].rpartition("\n")[0] + "\n", "Cut off."), ("STOP 12 DECK FAULT 6 CARD 12\n", "Stopped with status 12")):
+    for text, words in ((EXAMPLES.joinpath("first.listing").read_text()[:300].rpartition("\n")[0] + "\n", "Cut off."),
+                        ("STOP 12 DECK FAULT 6 CARD 12\n", "Stopped with status 12")):
         listing.write_text(text)
         read = check_page("a cut listing", call(SCRIPTS / "listing2html.py", EXAMPLES / "first.job", listing).stdout.decode())
         check(f"listing2html.py: {words}", words in read.text)
@@ -246,7 +258,8 @@ def try_hostile(folder, program):
         told = call(SCRIPTS / "listing2html.py", jobs, listing)
         check(f"listing2html.py: {new!r}", told.returncode == 0 and no_control(told.stdout))
         check_page(f"hostile {old}", told.stdout.decode())
-    for text in ("PRIMAL OPTIMAL STEPS " + "9" * 5000 + " OBJECTIVE 1 CHECKED\n", "    1 PROFIT   BS NONE 0 NONE NONE 0\n", "PRIMAL OPTIMAL STEPS 1 OBJECTIVE 1/0 CHECKED\nEND 0\n",
+    for text in ("PRIMAL OPTIMAL STEPS " + "9" * 5000 + " OBJECTIVE 1 CHECKED\n", "    1 PROFIT   BS NONE 0 NONE NONE 0\n",
+                 "PRIMAL OPTIMAL STEPS 1 OBJECTIVE 1/0 CHECKED\nEND 0\n",
                  "PRIMAL OPTIMAL STEPS 1 OBJECTIVE " + "9" * 5000 + " CHECKED\nEND 0\n"):
         listing.write_text(text)
         for script, words in (("listing2json.py", (listing,)), ("listing2html.py", (job, listing))):
@@ -263,8 +276,10 @@ def try_browser(folder, pages):
         return
     for page in pages:
         picture = folder / "picture.png"
-        told = call(browser, "--headless=new", "--no-sandbox", "--disable-gpu", f"--user-data-dir={folder}/browser", "--enable-logging=stderr", f"--screenshot={picture}", f"file://{page}")
-        check(f"{page.name} in a browser: {told.stderr.decode()[-300:]}", picture.exists() and picture.stat().st_size > 5000 and b"CONSOLE" not in told.stderr)
+        told = call(browser, "--headless=new", "--no-sandbox", "--disable-gpu", f"--user-data-dir={folder}/browser", "--enable-logging=stderr",
+                    f"--screenshot={picture}", f"file://{page}")
+        check(f"{page.name} in a browser: {told.stderr.decode()[-300:]}",
+              picture.exists() and picture.stat().st_size > 5000 and b"CONSOLE" not in told.stderr)
         picture.unlink(missing_ok=True)
 
 
@@ -292,7 +307,8 @@ def outside(folder, name):
 
 
 def try_solve(folder, program):
-    models = {"testprob": (check_tools.TESTPROB, "54", "64", "MIN"), "glass": (check_tools.GLASS.replace("\r", ""), "36", None, "MAX"), "beale": (check_tools.BEALE, "-1/20", None, "MIN")}
+    models = {"testprob": (check_tools.TESTPROB, "54", "64", "MIN"), "glass": (check_tools.GLASS.replace("\r", ""), "36", None, "MAX"),
+              "beale": (check_tools.BEALE, "-1/20", None, "MIN")}
     validate = list(validators())
     for name, (text, objective, whole, sense) in models.items():
         path = folder / f"{name}.mps"
@@ -300,10 +316,13 @@ def try_solve(folder, program):
         told = call(SCRIPTS / "solve", "--program", program, "--ranging", "--json", "--keep", folder / "kept", path)
         document = json.loads(told.stdout or "{}")
         result = document.get("result", {})
-        check(f"solve {name}: {result}", (told.returncode, result.get("objective"), result.get("objective_with_constant"), result.get("sense")) == (0, objective, whole, sense))
-        check(f"solve {name}: its JSON by the schema", all(is_lawful(document) for _, is_lawful in validate) and document["run"]["program"] == "other")
+        check(f"solve {name}: {result}",
+              (told.returncode, result.get("objective"), result.get("objective_with_constant"), result.get("sense")) == (0, objective, whole, sense))
+        check(f"solve {name}: its JSON by the schema",
+              all(is_lawful(document) for _, is_lawful in validate) and document["run"]["program"] == "other")
         kept = {ending: folder / f"kept/{name}.{ending}" for ending in ("job", "listing", "names")}
-        check(f"solve {name}: what is kept", all(path.exists() for path in kept.values()) and call(program, input=kept["job"].read_bytes()).stdout == kept["listing"].read_bytes())
+        check(f"solve {name}: what is kept",
+              all(path.exists() for path in kept.values()) and call(program, input=kept["job"].read_bytes()).stdout == kept["listing"].read_bytes())
         for solver, value, room in outside(folder, name):
             check(f"solve {name}: {solver} has {value}", abs((-value if sense == "MAX" else value) - Fraction(result.get("objective", 0))) <= room)
         if name == "glass":
@@ -315,13 +334,16 @@ def try_solve(folder, program):
 
 def try_glass(document, folder, program, path):
     lines = {line["name"]: line for report in document["reports"] for _, line in listing2json.each_line(report) if report["report"] == "ranges"}
-    ends = {name: (line.get("cost_low", line.get("limit_low")), line.get("cost_high", line.get("limit_high"))) for name, line in lines.items() if name in GLASS}
+    ends = {name: (line.get("cost_low", line.get("limit_low")), line.get("cost_high", line.get("limit_high")))
+            for name, line in lines.items() if name in GLASS}
     check(f"RANGE of the glass products: {ends}", ends == GLASS)
     solution = next(report for report in document["reports"] if report["report"] == "solution")
     prices = {line["name"]: line["dual"] for line in solution["rows"] if line["name"] in GLASS_PRICES}
     check(f"prices of the glass products: {prices}", prices == GLASS_PRICES)
     told = call(SCRIPTS / "solve", "--program", program, "--ranging", "--html", folder / "glass.html", path).stdout.decode()
-    check(f"solve glass: {told}", told.startswith("OPTIMAL: the greatest total_profit is 36; no plan that keeps all limits has more.\n") and re.search(r"^plant_2_hours +12 +1\.5 = 3/2 +6 to 18$", told, re.M)
+    check(f"solve glass: {told}",
+          told.startswith("OPTIMAL: the greatest total_profit is 36; no plan that keeps all limits has more.\n")
+          and re.search(r"^plant_2_hours +12 +1\.5 = 3/2 +6 to 18$", told, re.M)
           and "Not proved" in told)
     read = check_page("glass", (folder / "glass.html").read_text(encoding="utf-8"))
     check("the page of the glass products", "plant_2_hours 12 at its upper limit 0 12 1.5 3/2 6 to 18" in words_of(read.text))
@@ -329,8 +351,11 @@ def try_glass(document, folder, program, path):
     for given in (path.read_bytes(), packed):
         told = call(SCRIPTS / "solve", "--program", program, "--csv", "-", input=given).stdout.decode()
         check("solve from standard input", "doors_batches,BS,2," in told and "windows_batches,BS,6," in told)
-    table = call(SCRIPTS / "listing2json.py", "--table", "ranges", "--names", folder / "kept/glass.names", folder / "kept/glass.listing").stdout.decode()
-    check(f"CSV of RANGE: {table}", re.search(r"^\d+,columns_between,\d+,windows_batches,BS,6,,,5,2,none,,$", table, re.M) and re.search(r"^\d+,rows_at_limit,\d+,plant_3_hours,UL,18,12,24,", table, re.M))
+    table = call(SCRIPTS / "listing2json.py", "--table", "ranges", "--names", folder / "kept/glass.names",
+                 folder / "kept/glass.listing").stdout.decode()
+    check(f"CSV of RANGE: {table}",
+          re.search(r"^\d+,columns_between,\d+,windows_batches,BS,6,,,5,2,none,,$", table, re.M)
+          and re.search(r"^\d+,rows_at_limit,\d+,plant_3_hours,UL,18,12,24,", table, re.M))
 
 
 def try_readme(folder, program):
@@ -338,7 +363,8 @@ def try_readme(folder, program):
     page = (runner.TOP / "README.md").read_text()
     command = re.search(r"^    scripts/solve (.*)$", page, re.M)[1].split()
     said = re.search(r"`(OPTIMAL: .*?)`", page)[1]
-    told = call(SCRIPTS / "solve", "--program", program, *(runner.TOP / word if word.startswith("examples/") else word for word in command), cwd=folder)
+    told = call(SCRIPTS / "solve", "--program", program, *(runner.TOP / word if word.startswith("examples/") else word for word in command),
+                cwd=folder)
     check(f"README.md: {told.stdout.decode()}", told.returncode == 0 and told.stdout.decode().startswith(said + "\n"))
     check_page("README.md", next((folder / word).read_text(encoding="utf-8") for word in command if word.endswith(".html")))
 
@@ -347,16 +373,23 @@ def try_statuses(folder, program):
     silent, other = stub(folder, "silent", "exit 3\n"), stub(folder, "other", f"cat {EXAMPLES}/ranging.listing\n")
     refused = folder / "refused.mps"
     refused.write_text("NAME\nROWS\n X  COST\nENDATA\n")
-    cases = ((1, (EXAMPLES / "conflict.job",), "INFEASIBLE"), (2, (EXAMPLES / "endless.job",), "UNBOUNDED: PROFIT grows"), (0, (EXAMPLES / "pararhs.job",), "parametric runs"),
-             (0, (EXAMPLES / "seasons.job",), "The job has 2 solutions"), (65, (refused,), ""), (66, (folder / "nothing",), ""), (66, (folder,), ""), (64, (), ""), (64, ("a", "b"), ""),
-             (64, ("--max", EXAMPLES / "first.job"), ""), (64, ("--names", folder / "kept/glass.names", folder / "glass.mps"), ""), (73, ("--keep", refused / "x", EXAMPLES / "first.job"), ""),
-             (70, ("--program", silent, EXAMPLES / "first.job"), ""), (70, ("--program", other, EXAMPLES / "first.job"), ""), (70, ("--program", folder / "nothing", EXAMPLES / "first.job"), ""))
+    cases = ((1, (EXAMPLES / "conflict.job",), "INFEASIBLE"), (2, (EXAMPLES / "endless.job",), "UNBOUNDED: PROFIT grows"),
+             (0, (EXAMPLES / "pararhs.job",), "parametric runs"),
+             (0, (EXAMPLES / "seasons.job",), "The job has 2 solutions"), (65, (refused,), ""), (66, (folder / "nothing",), ""), (66, (folder,), ""),
+             (64, (), ""), (64, ("a", "b"), ""),
+             (64, ("--max", EXAMPLES / "first.job"), ""), (64, ("--names", folder / "kept/glass.names", folder / "glass.mps"), ""),
+             (73, ("--keep", refused / "x", EXAMPLES / "first.job"), ""),
+             (70, ("--program", silent, EXAMPLES / "first.job"), ""), (70, ("--program", other, EXAMPLES / "first.job"), ""),
+             (70, ("--program", folder / "nothing", EXAMPLES / "first.job"), ""))
     for status, words, said in cases:
         told = call(SCRIPTS / "solve", "--program", program, *words)
-        check(f"solve {words}: {told.returncode}: {told.stderr.decode()}", told.returncode == status and said in told.stdout.decode() and b"Traceback" not in told.stderr
+        check(f"solve {words}: {told.returncode}: {told.stderr.decode()}",
+              told.returncode == status and said in told.stdout.decode() and b"Traceback" not in told.stderr
               and (status < 64 or told.stderr.startswith(b"solve: ")))
-    for name, table, wanted in (("conflict", "rays", r"^\d+,ray,4,TABLES,-5,,$"), ("endless", "rays", r"^\d+,direction,3,BUY,,0,1$"), ("pararhs", "intervals", r"^4,pararhs,MORE,2,10,15,5,COOP,BS,-10,1,0,0$"),
-                                ("pararhs", "verdicts", r"^5,pararhs,infeasible,MIN,.*,18$"), ("punch", "others", r"^4,bcdout,NEXTWEEK,,,,,24$"), ("first", "solutions", r"^5,columns,6,SHELF,UL,8,,0,8,,36,17/2$")):
+    for name, table, wanted in (("conflict", "rays", r"^\d+,ray,4,TABLES,-5,,$"), ("endless", "rays", r"^\d+,direction,3,BUY,,0,1$"),
+                                ("pararhs", "intervals", r"^4,pararhs,MORE,2,10,15,5,COOP,BS,-10,1,0,0$"),
+                                ("pararhs", "verdicts", r"^5,pararhs,infeasible,MIN,.*,18$"), ("punch", "others", r"^4,bcdout,NEXTWEEK,,,,,24$"),
+                                ("first", "solutions", r"^5,columns,6,SHELF,UL,8,,0,8,,36,17/2$")):
         told = call(SCRIPTS / "listing2json.py", "--table", table, EXAMPLES / f"{name}.listing").stdout.decode()
         check(f"--table {table} of {name}: {told}", re.search(wanted, told, re.M))
 
@@ -364,18 +397,22 @@ def try_statuses(folder, program):
 def try_interrupt(folder):
     "Ctrl-C while PRIMAL runs, and while RANGE does: what was printed stands, and the program is ended too"
     lines = (EXAMPLES / "ranging.listing").read_text().splitlines(keepends=True)
-    for count, said, waits, status in ((3, "cut off before a verdict", b"waits for PRIMAL; the listing has 3 lines so far", None), (17, "OPTIMAL: the greatest PROFIT is 1038.4 = 5192/5", b"waits for RANGE", None)):
+    for count, said, waits, status in ((3, "cut off before a verdict", b"waits for PRIMAL; the listing has 3 lines so far", None),
+                                       (17, "OPTIMAL: the greatest PROFIT is 1038.4 = 5192/5", b"waits for RANGE", None)):
         part = folder / "part.listing"
         part.write_text("".join(lines[:count]) + "PRIM")
         endless = stub(folder, "endless", f"echo $$ >{folder}/pid\ncat {part}\nexec sleep 60\n")
-        running = subprocess.Popen([SCRIPTS / "solve", "--program", endless, "--life", "0.2", EXAMPLES / "ranging.job"], stdout=subprocess.PIPE, stderr=subprocess.PIPE)
+        running = subprocess.Popen([SCRIPTS / "solve", "--program", endless, "--life", "0.2", EXAMPLES / "ranging.job"], stdout=subprocess.PIPE,
+                                   stderr=subprocess.PIPE)
         seen = running.stderr.readline() + running.stderr.readline()
         check(f"solve: a line of life: {seen}", waits in seen)
         running.send_signal(signal.SIGINT)
         out, told = running.communicate(timeout=30)
-        check(f"solve: Ctrl-C: {running.returncode} {out} {told}", running.returncode == 130 and said in out.decode() and b"What was printed stands" in told and b"Traceback" not in told)
+        check(f"solve: Ctrl-C: {running.returncode} {out} {told}",
+              running.returncode == 130 and said in out.decode() and b"What was printed stands" in told and b"Traceback" not in told)
         pid = int((folder / "pid").read_text())
-        check("solve: the program goes with it", not pathlib.Path(f"/proc/{pid}").exists() or "zombie" in pathlib.Path(f"/proc/{pid}/status").read_text())
+        check("solve: the program goes with it",
+              not pathlib.Path(f"/proc/{pid}").exists() or "zombie" in pathlib.Path(f"/proc/{pid}/status").read_text())
 
 
 def try_models(folder, program):
@@ -404,11 +441,14 @@ def try_reference(folder, program):
     check(f"REFERENCE_ANSWERS.md: {told.stderr.decode()}", told.returncode == 0 and made.exists())
     if told.returncode or not made.exists():
         return
-    without_time = [[{key: value for key, value in line.items() if key != "seconds"} for line in csv.DictReader(io.StringIO(text))] for text in (made.read_text(), shown)]
+    without_time = [[{key: value for key, value in line.items() if key != "seconds"} for line in csv.DictReader(io.StringIO(text))]
+                    for text in (made.read_text(), shown)]
     check(f"REFERENCE_ANSWERS.md: {made.read_text()}", without_time[0] == without_time[1])
     documents = {path.stem: json.loads(path.read_text()) for path in (place / "answers").glob("*.json") if path.stem != "summary"}
-    results = {name: (document["result"]["verdict"], document["result"].get("objective_with_constant", document["result"].get("objective"))) for name, document in documents.items()}
-    check(f"REFERENCE_ANSWERS.md: {results}", results == {"testprob": ("optimal", "64"), "glass": ("optimal", "36"), "beale": ("optimal", "-1/20"), "conflict": ("infeasible", None)})
+    results = {name: (document["result"]["verdict"], document["result"].get("objective_with_constant", document["result"].get("objective"))) for name,
+               document in documents.items()}
+    check(f"REFERENCE_ANSWERS.md: {results}",
+          results == {"testprob": ("optimal", "64"), "glass": ("optimal", "36"), "beale": ("optimal", "-1/20"), "conflict": ("infeasible", None)})
     check("REFERENCE_ANSWERS.md: its JSON by the schema", not any(True for document in documents.values() for _ in violations(document, SCHEMA)))
     (place / "mine.csv").write_text("name,objective\nglass,36.36\nbeale,-0.05\n")
     told = call(sys.executable, "-c", compare, cwd=place).stdout.decode()
@@ -442,7 +482,9 @@ def main():
         folder = pathlib.Path(folder)
         program = stub(folder, "program", f"exec {sys.executable} {SCRIPTS}/expected_listing.py\n")
         with ThreadPoolExecutor() as pool:
-            tried = [pool.submit(*words) for words in ((try_models, folder, program), (try_interrupt, folder), (try_reference, folder, program), (try_pages, folder), (try_schema,))]
+            tried = [pool.submit(*words)
+                     for words in ((try_models, folder, program), (try_interrupt, folder), (try_reference, folder, program), (try_pages, folder),
+                                   (try_schema,))]
         for one in tried:
             one.result()
     said = f"; left out: {', '.join(dict.fromkeys(left_out))}" if left_out else ""

@@ -88,7 +88,8 @@ def number(text):
     if marked_decimal(text) == text:
         return content(text)
     fraction = tag("span", text, class_="long") if len(text) > LONG else text
-    return joined([tag("span", marked_decimal(text), class_="d", title=f"exactly {text}"), tag("span", fraction, class_="e", title=marked_decimal(text))])
+    return joined([tag("span", marked_decimal(text), class_="d", title=f"exactly {text}"),
+                   tag("span", fraction, class_="e", title=marked_decimal(text))])
 
 
 def said(text):
@@ -253,11 +254,13 @@ class Page:
         if solution:
             rows, columns = solution.get("rows", []), solution.get("columns", [])
         else:
-            rows, columns = ([line for key in (f"{kind}_at_limit", f"{kind}_between") for line in ranges.get(key, [])] for kind in ("rows", "columns"))
+            rows, columns = ([line for key in (f"{kind}_at_limit", f"{kind}_between") for line in ranges.get(key, [])]
+                             for kind in ("rows", "columns"))
         self.parts.append(tag("h3", "The plan"))
         self.parts.append(table("Columns: how much of each", column_heads(solution, near), columns, lambda line: not Fraction(line["activity"])))
         self.parts.append(tag("h3", "The rows"))
-        self.parts.append(table("Rows: what the plan uses and keeps", row_heads(solution, near), rows, lambda line: "dual" in line and not Fraction(line["dual"])))
+        self.parts.append(table("Rows: what the plan uses and keeps", row_heads(solution, near), rows,
+                                lambda line: "dual" in line and not Fraction(line["dual"])))
         if solution and solution["mark"] == "optimal":
             self.say(PRICES + (HOLD if ranges else NO_RANGE), "soft")
 

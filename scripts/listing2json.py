@@ -249,7 +249,8 @@ def result_of(listing):
             result["sense"] = report["sense"]
         elif report["report"] == "verdict":
             result = {"status": result["status"], "verdict": report["verdict"], "sense": result["sense"]}
-            result |= {key: report[key] for key in ("objective", "objective_constant", "objective_with_constant", "steps", "checked") if key in report}
+            result |= {key: report[key] for key in ("objective", "objective_constant", "objective_with_constant", "steps", "checked")
+                       if key in report}
     return result
 
 
@@ -264,7 +265,8 @@ def json_text(document):
 
 
 LINES = {"solutions": ("solution", ("section", "number", "name", *ROW, "cost", "reduced")),
-         "ranges": ("ranges", ("section", "number", "name", "at", "activity", "limit_low", "limit_high", "cost", "cost_low", "cost_high", "factor_low", "factor_high"))}
+         "ranges": ("ranges", ("section", "number", "name", "at", "activity", "limit_low", "limit_high", "cost", "cost_low", "cost_high",
+                               "factor_low", "factor_high"))}
 TABLES = {
     **{name: keys for name, (_, keys) in LINES.items()},
     "verdicts": ("by", "verdict", "sense", "objective", "objective_constant", "objective_with_constant", "steps", "checked", "crossed", "theta"),

@@ -120,7 +120,8 @@ def figures(report, objective):
     first = report["intervals"][0]["lines"]
     groups = [("The best value over theta", [drawn(segments(report, objective_of), f"Best value of {objective}", "best value", 720, 320, False)])]
     left_out = 0
-    for title, what, constant, rate in (("Activities that move", "activity", "value", "value_rate"), ("Prices that move", "price", "price", "price_rate")):
+    for title, what, constant, rate in (("Activities that move", "activity", "value", "value_rate"),
+                                        ("Prices that move", "price", "price", "price_rate")):
         found = []
         for k, line in enumerate(first):
             pieces = segments(report, lambda part: (Fraction(part["lines"][k][constant]), Fraction(part["lines"][k][rate])))
