@@ -445,8 +445,8 @@ def try_reference(folder, program):
                     for text in (made.read_text(), shown)]
     check(f"REFERENCE_ANSWERS.md: {made.read_text()}", without_time[0] == without_time[1])
     documents = {path.stem: json.loads(path.read_text()) for path in (place / "answers").glob("*.json") if path.stem != "summary"}
-    results = {name: (document["result"]["verdict"], document["result"].get("objective_with_constant", document["result"].get("objective"))) for name,
-               document in documents.items()}
+    results = {name: document["result"] for name, document in documents.items()}
+    results = {name: (result["verdict"], result.get("objective_with_constant", result.get("objective"))) for name, result in results.items()}
     check(f"REFERENCE_ANSWERS.md: {results}",
           results == {"testprob": ("optimal", "64"), "glass": ("optimal", "36"), "beale": ("optimal", "-1/20"), "conflict": ("infeasible", None)})
     check("REFERENCE_ANSWERS.md: its JSON by the schema", not any(True for document in documents.values() for _ in violations(document, SCHEMA)))
