@@ -283,7 +283,7 @@ MISTAKES = (
     ("no PEND", ("         PEND\n", ""), "STOP 8 CONTROL FAULT 3 CARD 10", ("A card NAME begins a deck: PEND is missing",), ()),
     ("a byte order mark", ("* A week", "\xef\xbb\xbf* A week"), "STOP 13 CARD FAULT 4 CARD 1", ("byte order mark (BOM) of UTF-8", "    ???* A week"), ("\xef",)),
 )
-# what a SETUP took, and what was perhaps forgotten: a job, what explain says
+# what a SETUP took, and what was perhaps forgotten: a job, its rows, what explain says; each best plan is worth 0
 FORGOTTEN = """         PROGRAM
          CONVERT
          SETUP
@@ -309,16 +309,16 @@ BOUNDS
 ENDATA
 """
 TAKEN = (
-    (FORGOTTEN, 0, ("SETUP, card 3: problem 'SHOP', MIN, since SETUP names neither MIN nor MAX",
+    (FORGOTTEN, 3, ("SETUP, card 3: problem 'SHOP', MIN, since SETUP names neither MIN nor MAX",
                     "objective: 'COUNT', the first of 2 (the others: 'PROFIT'); MOVE(XOBJ,'PROFIT') before SETUP takes another",
                     "LOOK: the objective 'COUNT' has no entry", "right-hand side: 'FIRST', the first of 2 (the others: 'SECOND')",
                     "LOOK: the number 7 on the objective in RHS is used in SLACK alone",
-                    "LOOK: the deck's sets 'WEEK', 'MONTH' of bounds doesn't count; SETUP('BOUND','WEEK') takes the first",
+                    "LOOK: the deck's sets 'WEEK', 'MONTH' of bounds don't count; SETUP('BOUND','WEEK') takes the first",
                     "LOOK: the deck's set 'SPAN' of ranges doesn't count; SETUP('RANGE','SPAN') takes it")),
-    (FORGOTTEN.replace(" N  COUNT\n", "").replace("    FIRST     COUNT     7\n", ""), 0,
+    (FORGOTTEN.replace(" N  COUNT\n", "").replace("    FIRST     COUNT     7\n", ""), 2,
      ("objective: 'PROFIT', the only one", "right-hand side: 'SECOND', the only one",
       "LOOK: every cost is 0 or more and no limit forces anything, so under MIN doing nothing is best; is MAX meant?")),
-    (FORGOTTEN.replace("SETUP\n", "SETUP('MAX','BOUND','MONTH')\n").replace("CONVERT\n", "CONVERT\n         MOVE(XOBJ,'PROFIT')\n"), 1275,
+    (FORGOTTEN.replace("SETUP\n", "SETUP('MAX','BOUND','MONTH')\n").replace("CONVERT\n", "CONVERT\n         MOVE(XOBJ,'PROFIT')\n"), 3,
      ("SETUP, card 4: problem 'SHOP', MAX\n", "objective: 'PROFIT', as XOBJ says\n", "bounds: the set 'MONTH'; of no account: 'WEEK'")),
 )
 
@@ -336,11 +336,10 @@ def try_mistakes(folder):
     job.write_text(TESTPROB)
     listing.write_text("STOP 8 CONTROL FAULT 1 CARD 1\n")
     check("explain: an MPS file", b"mps2job.py makes a job of it" in call(SCRIPTS / "explain", job, listing).stdout)
-    for text, objective, wanted in TAKEN:
+    for text, rows, wanted in TAKEN:
         job.write_text(text)
-        rows = text.split("COLUMNS")[0].count("\n ") - text.split("NAME ")[0].count("\n ")
         sense = "MAX" if "'MAX'" in text else "MIN"
-        listing.write_text(f"CONVERT SHOP     ROWS {rows} COLUMNS 2 ENTRIES 4\nSETUP   SHOP     {sense}\nPRIMAL OPTIMAL STEPS 0 OBJECTIVE {objective} CHECKED\nEND 0\n")
+        listing.write_text(f"CONVERT SHOP     ROWS {rows} COLUMNS 2 ENTRIES 4\nSETUP   SHOP     {sense}\nPRIMAL OPTIMAL STEPS 0 OBJECTIVE 0 CHECKED\nEND 0\n")
         told = call(SCRIPTS / "explain", job, listing).stdout.decode()
         for line in wanted:
             check(f"explain: no {line!r} in {told}", line in told)
