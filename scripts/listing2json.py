@@ -42,8 +42,8 @@ def exact(text):
     "the value of a printed number"
     try:
         return Fraction(text)
-    except (ValueError, ZeroDivisionError):
-        raise NoListing(f"{text[:30]} stands for a number")
+    except (TypeError, ValueError, ZeroDivisionError):
+        raise NoListing(f"{str(text)[:30]} stands for a number")
 
 
 def rounded(text):
