@@ -212,6 +212,8 @@ REFUSED = [
     ("no name of a column", (), small(" COST 1"), 6, "name", "COST"),
     ("an early data line", (), "NAME X\n N COST\n", 2, "no section", "N"),
     ("a second NAME", (), "NAME X\nNAME Y\n", 2, "second NAME", "NAME"),
+    ("UTF-16", (), small(MORE).encode("utf-16"), None, "UTF-16", None),
+    ("a BOM before another encoding", (), b"\xef\xbb\xbf" + small(" Zürich COST 1").encode("latin-1"), 6, "begins as UTF-8", None),
     ("a file cut short, gzipped", (), gzip.compress(small(MORE).encode())[:40], None, "gzipped", None),
     ("no N row", (), small(" X R1 1", rows=" G R1"), None, "no objective", None),
     ("1,001 rows", (), small(MORE, rows="\n".join([" N COST", *(f" G R{k}" for k in range(1, 1001))])), 1003, "1,000 rows", None),

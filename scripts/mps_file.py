@@ -16,7 +16,7 @@ A Model holds all of the file, by the file's names, with Fractions for numbers a
 A Job has text; rows, columns and sets {name: name in the job}; problem, the problem's name in it; name_map(), a table for JSON by which
 listing2json.py puts the file's names back: the names that were changed by those in the job, the objective, the sense, the sets taken, the
 constants, the rounded numbers, the relaxed columns, and all that was said."""
-import gzip, io, re, sys, textwrap, zlib
+import codecs, gzip, io, re, sys, textwrap, zlib
 from dataclasses import dataclass, field
 from fractions import Fraction
 from functools import lru_cache
@@ -720,9 +720,13 @@ def read_bytes(data, reading=Reading()):
             raise Refused(f"it begins as a gzipped file, and isn't one: {cause}")
     if len(data) > MOST_TEXT:
         raise Refused(f"it has more than {MOST_TEXT:,} bytes")
+    if data[:2] in (codecs.BOM_UTF16_LE, codecs.BOM_UTF16_BE):
+        raise Refused("it is UTF-16; save it as UTF-8")
     try:
         return read_text(data.decode("utf-8-sig"), reading)
-    except UnicodeDecodeError:
+    except UnicodeDecodeError as cause:
+        if data.startswith(codecs.BOM_UTF8):
+            raise Refused("it begins as UTF-8, and has a byte that isn't", line=cause.object[:cause.start].count(b"\n") + 1)
         model = read_text(data.decode("latin-1"), reading)
     model.said.append("the file isn't UTF-8: its letters are read as Latin-1")
     return model
