@@ -2,7 +2,9 @@
 """Tries mps2job.py, mps_file.py and the names and constants of listing2json.py: on files whose answers were worked out by hand, on files that
 are to be refused with their line, on random files in all forms, and on the decks that glpk-utils installs.
 
-usage: check_mps2job.py [--random COUNT [SEED]]      COUNT random files (20 without it) from SEED on; a thousand take a few minutes
+usage: check_mps2job.py [--random COUNT [SEED] | --models]
+  --random COUNT    COUNT random files (20 without it) from SEED on; a thousand take a few minutes
+  --models          besides, the models of glpk-utils in its own language, as glpsol writes them; they take some minutes
 
 Each random model is made in fractions and written twice: in the form under test, and in the plainest form, without a constant, for esolver of
 qsopt-ex. The job is read back by a reader of this script's own and compared with the fractions; then it is run, and its objective is to be
@@ -17,6 +19,7 @@ SCRIPTS = runner.TOP / "scripts"
 DECKS = pathlib.Path("/usr/share/doc/glpk-utils/examples")
 SECONDS, MOST_SHOWN = 60, 3000
 OVERFLOW = "STOP 20 OVERFLOW"
+MOST_MODEL = 60_000  # bytes of a model as glpsol writes it
 wrong = 0
 
 
@@ -202,11 +205,15 @@ REFUSED = [
     ("a blank name that isn't the column's", (), small(" X COST 1\n R1 1"), 7, "missing", "R1"),
     ("words and columns that differ", (), mps(F[:-1], FIXED("X", "COST", "1"), FIXED("A COST 3", "R1", "5"), "ENDATA"), 7, "--fixed", None),
     ("a name of nine letters in 8 columns", ("--fixed",), mps(F[:-1], "    NINECHARS COST                 1", "ENDATA"), 6, "columns 13 to 14", "S"),
+    ("a number past its columns", ("--fixed",), mps(F[:-1], FIXED("X", "COST", "1") + "   R1        " + "0.1234567890123", "ENDATA"), 6, "61", "123"),
+    ("a job", (), "         PROGRAM\n         PEND\n", 1, "scripts/mps360", "PROGRAM"),
     ("a tab among columns", ("--fixed",), mps(F[:-1], "    X\tCOST 1", "ENDATA"), 6, "tab", "\t"),
     ("a bound of another number of words", (), small(MORE, " B R1 4", bounds=" UP B X 4 5"), 11, "wants", "5"),
     ("no name of a column", (), small(" COST 1"), 6, "name", "COST"),
     ("an early data line", (), "NAME X\n N COST\n", 2, "no section", "N"),
     ("a second NAME", (), "NAME X\nNAME Y\n", 2, "second NAME", "NAME"),
+    ("UTF-16", (), small(MORE).encode("utf-16"), None, "UTF-16", None),
+    ("a BOM before another encoding", (), b"\xef\xbb\xbf" + small(" Zürich COST 1").encode("latin-1"), 6, "begins as UTF-8", None),
     ("a file cut short, gzipped", (), gzip.compress(small(MORE).encode())[:40], None, "gzipped", None),
     ("no N row", (), small(" X R1 1", rows=" G R1"), None, "no objective", None),
     ("1,001 rows", (), small(MORE, rows="\n".join([" N COST", *(f" G R{k}" for k in range(1, 1001))])), 1003, "1,000 rows", None),
@@ -230,6 +237,8 @@ SAID = [
     ("the N rows", (), small(MORE, rows=" N COST\n N MORE\n G R1"), "2 N rows; the objective is COST"),
     ("another name", (), small(MORE, rows=" N COST\n G R1\n L A_LONG_NAME"), "1 row has another name"),
     ("the problem's name", (), small(MORE).replace("SMALL", "A long name"), "name is PROBLEM"),
+    ("what old cards have past column 72", ("--fixed",), mps(F[:-1], f"{FIXED('X', 'COST', '1'):<72}00010", "ENDATA"),
+     "line 6: what stands past column 61"),
     ("Latin-1", (), small(" Zürich COST 1").encode("latin-1"), "isn't UTF-8"),
 ]
 
@@ -319,9 +328,11 @@ def try_names(house):
     listing.write_text(house.listing(moved))
     told = call(SCRIPTS / "listing2json.py", "--names", names, listing)
     check(f"a constant of another right-hand side: {told}", b"no constant is added" in told.stderr and b"with_constant" not in told.stdout)
-    listing.write_text(house.listing(job).replace("OBJECTIVE 4", "OBJECTIVE 4/0"))
-    told = call(SCRIPTS / "listing2json.py", "--names", names, listing)
-    check(f"an objective 4/0: {told}", told.returncode == 65 and b"Traceback" not in told.stderr)
+    for what, other in (("OBJECTIVE 4", "OBJECTIVE 4/0"), ("BS 4 -14", "BS NONE -14"), ("BS 4 -14", "BS 4 NONE")):
+        check(f"the listing has {what}", what in house.listing(job))
+        listing.write_text(house.listing(job).replace(what, other, 1))
+        told = call(SCRIPTS / "listing2json.py", "--names", names, listing)
+        check(f"{other}: {told}", told.returncode == 65 and b"Traceback" not in told.stderr)
     listing.write_text(house.listing(job).replace("OBJECTIVE 4", "OBJECTIVE 4" + 400 * "0"))
     told = call(SCRIPTS / "listing2json.py", "--decimal", listing)
     check("an objective past all decimals", told.returncode == 0 and b'"objective_decimal": null' in told.stdout)
@@ -333,7 +344,8 @@ def try_places(house):
     model.write_text(small(MORE, " B R1 4"))
     job = house.folder / "places.job"
     for words, status in ((("-o", none), 73), (("--names", none), 73), (("-o", model), 64), (("-o", job, "--names", job), 64),
-                          (("-o", house.folder), 73), (("-o", job, "--infinity", "x"), 64), (("-o", job, "--rhs", "Z"), 65)):
+                          (("-o", house.folder), 73), (("-o", job, "--infinity", "x"), 64), (("-o", job, "--rhs", "Z"), 65),
+                          (("--max", "--min"), 64), (("--free", "--fixed"), 64), (("--wrong",), 64), ((none,), 64)):
         told = call(SCRIPTS / "mps2job.py", *words, model)
         check(f"mps2job.py {words}: {told}", told.returncode == status and told.stderr.startswith(b"mps2job.py: "))
     check("the model stands as it was", model.read_text() == small(MORE, " B R1 4"))
@@ -752,36 +764,46 @@ def try_answer(house, seed, model, job):
     return known
 
 
-def try_decks(house):
-    "the decks that glpk-utils installs: esolver has them as glpsol writes them"
-    decks = sorted(DECKS.glob("*.mps"))
-    if not decks or not house.esolver or not shutil.which("glpsol"):
-        return "no decks of glpk-utils, no glpsol or no esolver: its decks weren't tried"
-    told = []
-    for deck in decks:
-        status, job, _, said = house.convert(deck.read_bytes(), ("--relax", "--blank-set", "same", "--marker-upper", "none"))
-        if status:
-            check(f"{deck.name}: {status}, {said}", status == 65 and re.search(r": line \d+: ", said))
-            told.append(f"{deck.name} refused")
-            continue
-        again = house.folder / "again.mps"
-        call("glpsol", "--mps", deck, "--check", "--wfreemps", again)
-        known = house.exact(again.read_text())
-        verdict, objective, _ = verdict_of(house.solved(job))
-        if house.end.startswith(OVERFLOW):
-            told.append(f"{deck.name} stopped for overflow")
-            continue
-        check(f"{deck.name}: {verdict} {objective}, and esolver has {known}", (verdict, objective and Fraction(objective)) == known)
-        told.append(deck.name)
-    return "decks of glpk-utils: " + ", ".join(told)
+def compared(house, data, plain, words):
+    "whether a job of a file has the objective that esolver has for a plain form of it, in a word"
+    status, job, _, said = house.convert(data, words)
+    if status:
+        return "refused" if status == 65 and re.search(r": line \d+: ", said) else f"ends with {status}: {said}"
+    verdict, objective, _ = verdict_of(house.solved(job))
+    if house.end.startswith(OVERFLOW):
+        return "stopped for overflow"
+    known = house.exact(plain)
+    return "the same" if (verdict, objective and Fraction(objective)) == known else f"{verdict} {objective}, and esolver has {known}"
+
+
+def try_decks(house, models):
+    "the decks that glpk-utils installs: esolver has them as glpsol writes them; and its models, as glpsol writes them"
+    if not DECKS.exists() or not house.esolver or not shutil.which("glpsol"):
+        return "no examples of glpk-utils, no glpsol or no esolver: its decks weren't tried"
+    told, again = collections.defaultdict(list), house.folder / "again.mps"
+    for path in sorted([*DECKS.glob("*.mps"), *(DECKS.glob("*.mod") if models else [])]):
+        again.unlink(missing_ok=True)
+        call("glpsol", "--mps" if path.suffix == ".mps" else "-m", path, "--check", "--wfreemps", again)
+        plain = again.read_text() if again.exists() else ""
+        if path.suffix == ".mps":
+            outcome = compared(house, path.read_bytes(), plain, ("--relax", "--blank-set", "same", "--marker-upper", "none"))
+        elif not plain or len(plain) > MOST_MODEL or "\nRHS" not in plain or not re.search("\nCOLUMNS\n ", plain):
+            outcome = "left out (large, or without variables)"
+        else:
+            outcome = compared(house, plain.encode(), plain, ("--relax", "--round", "--marker-upper", "1"))
+        told[outcome].append(path.name)
+        check(f"{path.name}: {outcome}", outcome in ("the same", "refused", "stopped for overflow") or outcome.startswith("left out"))
+    return "examples of glpk-utils: " + "; ".join(f"{outcome}: {', '.join(names)}" for outcome, names in told.items())
 
 
 def main(words):
     if words[:1] in (["-h"], ["--help"]):
         print(__doc__)
         return 0
+    models = words == ["--models"]
+    words = [] if models else words
     if words and (words[0] != "--random" or not 2 <= len(words) <= 3 or not all(word.isdigit() for word in words[1:])):
-        print("usage: check_mps2job.py [--random COUNT [SEED]]", file=sys.stderr)
+        print("usage: check_mps2job.py [--random COUNT [SEED] | --models]", file=sys.stderr)
         return 64
     count, seed = (int(words[1]) if words else 20), int(words[2]) if len(words) > 2 else 0
     with tempfile.TemporaryDirectory() as folder:
@@ -794,7 +816,7 @@ def main(words):
             part(house)
         verdicts = try_random(house, count, seed)
         print(f"check_mps2job: {count} random files: " + ", ".join(f"{number} {verdict}" for verdict, number in sorted(verdicts.items())))
-        print(f"check_mps2job: {try_decks(house)}")
+        print(f"check_mps2job: {try_decks(house, models)}")
     return 1 if wrong else 0
 
 

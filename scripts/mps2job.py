@@ -78,7 +78,8 @@ def reading_of(options):
 
 def check_places(options):
     "nothing is written over another file of this call"
-    places = [os.path.realpath(place) for place in (options.job, options.names, options.file if options.file != "-" else None) if place]
+    places = [os.path.realpath(place) for place in (options.job, options.names, options.file if options.file != "-" else None)
+              if place and (os.path.isfile(place) or not os.path.exists(place))]
     if len(set(places)) < len(places):
         wrong_use("JOB, MAP and FILE are different files")
 

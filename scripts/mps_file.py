@@ -16,7 +16,7 @@ A Model holds all of the file, by the file's names, with Fractions for numbers a
 A Job has text; rows, columns and sets {name: name in the job}; problem, the problem's name in it; name_map(), a table for JSON by which
 listing2json.py puts the file's names back: the names that were changed by those in the job, the objective, the sense, the sets taken, the
 constants, the rounded numbers, the relaxed columns, and all that was said."""
-import gzip, io, re, sys, textwrap, zlib
+import codecs, gzip, io, re, sys, textwrap, zlib
 from dataclasses import dataclass, field
 from fractions import Fraction
 from functools import lru_cache
@@ -240,6 +240,8 @@ class Line:
         if "\t" in self.text:
             raise Refused("a tab has no place among columns", "\t")
         self.check_remark()
+        if self.text[LAST_COLUMN - 1:LAST_COLUMN].strip(" ") and self.text[LAST_COLUMN:LAST_COLUMN + 1].strip(" "):
+            raise Refused(f"field 6 goes on past column {LAST_COLUMN}", (LAST_COLUMN, len(self.text)))
         for a, b in GAPS:
             if between := self.text[a:b].strip(" "):
                 start = self.text.index(between, a)
@@ -336,6 +338,8 @@ class Reader:
                 self.take_section(line)
             elif self.section in SECTIONS:
                 line = Line(text, self.reading.form == "fixed")
+                if line.fixed and line.text[LAST_COLUMN:]:
+                    self.note("past")
                 known = self.model.columns if self.section == "BOUNDS" else self.model.rows
                 line.cut_remark(self.section, known)
                 {"ROWS": self.take_row, "COLUMNS": self.take_column, "RHS": self.take_value, "RANGES": self.take_value,
@@ -380,6 +384,8 @@ class Reader:
             self.said_objective = line.text[line.spans[place][0]:], self.line
         elif self.section == "OBJSENSE":
             raise Refused(f"OBJSENSE is MAX or MIN, not {word[:30]}", place)
+        elif word == "PROGRAM":
+            raise Refused("this is a job already, and no MPS file: scripts/mps360 runs it", place)
         else:
             raise Refused("a data line where no section takes one", place)
         self.section = None
@@ -671,6 +677,7 @@ class Reader:
                      "range on N": "a range on an N row says nothing, and is left out",
                      "endless range": f"a range of {decimal_text(self.reading.infinity)} and more is none, and is left out",
                      "endless bound": f"a bound of {decimal_text(self.reading.infinity)} and more is no limit",
+                     "past": f"what stands past column {LAST_COLUMN} isn't read",
                      "maximizing": "a remark speaks of maximizing, and remarks aren't read; --max does so",
                      "negative keep": "a negative UP alone: the lower limit stays at 0, so there is no plan",
                      "negative free": "a negative UP alone: the lower limit is taken away"}
@@ -713,9 +720,13 @@ def read_bytes(data, reading=Reading()):
             raise Refused(f"it begins as a gzipped file, and isn't one: {cause}")
     if len(data) > MOST_TEXT:
         raise Refused(f"it has more than {MOST_TEXT:,} bytes")
+    if data[:2] in (codecs.BOM_UTF16_LE, codecs.BOM_UTF16_BE):
+        raise Refused("it is UTF-16; save it as UTF-8")
     try:
         return read_text(data.decode("utf-8-sig"), reading)
-    except UnicodeDecodeError:
+    except UnicodeDecodeError as cause:
+        if data.startswith(codecs.BOM_UTF8):
+            raise Refused("it begins as UTF-8, and has a byte that isn't", line=cause.object[:cause.start].count(b"\n") + 1)
         model = read_text(data.decode("latin-1"), reading)
     model.said.append("the file isn't UTF-8: its letters are read as Latin-1")
     return model
