@@ -620,7 +620,7 @@ class Run:
                 self.lines.append("STOP 17 STATEMENT LIMIT")
                 return 17
             card, verb, words = self.statements[at]
-            at, executed = at + 1, executed + 1
+            at, executed, self.card = at + 1, executed + 1, card
             words = [word.strip("'") for word in words]
             try:
                 if verb == "EXIT":
