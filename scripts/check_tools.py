@@ -49,7 +49,6 @@ RHS
  plant_3_hours 18
 BOUNDS
  UP doors_batches 1e30
- MI windows_batches
  LO windows_batches 0
 ENDATA
 """.replace("\n", "\r\n")
@@ -75,7 +74,7 @@ BOUNDS
  PL BND X1
 ENDATA
 """
-MODULES = ("runner.py", "every_basis.py", "expected_postoptimal.py", "strangers_text.py")
+MODULES = ("runner.py", "mps_file.py", "every_basis.py", "expected_postoptimal.py", "strangers_text.py")
 DOOMED = {
     "a MARKER": ("    M1  'MARKER'  'INTORG'\n", "MARKER"),
     "a long number": ("    X  COST  0.1234567890123\n", "12 columns"),

@@ -5,8 +5,9 @@ usage: listing2json.py [--csv] [--decimal] [--names MAP] [FILE]      without FIL
 
   --csv        the table lines of the last SOLUTION, with a head line
   --decimal    beside each fraction its value as a decimal number, which is rounded
-  --names MAP  the table of names that mps2job.py wrote: names come as they were, and a constant of the objective is added
-               to the objective of each verdict, under objective_with_constant
+  --names MAP  the table of names that mps2job.py wrote: names come as they were, and a constant of the objective is added to the objective
+               of each verdict, under objective_with_constant; it isn't, and a line on standard error says so, where the SOLUTION below
+               the verdict has another objective or right-hand side
 
 It ends with 0, with 64 for wrong use, 65 where the text isn't a listing, 66 where it can't be read."""
 import argparse, csv, json, re, sys
@@ -31,6 +32,26 @@ TABLE = re.compile(r"( *\d+) (.{8}) (.+)$")
 
 class NoListing(Exception):
     pass
+
+
+class NoNames(Exception):
+    "a table of names that isn't one"
+
+
+def exact(text):
+    "the value of a printed number"
+    try:
+        return Fraction(text)
+    except (TypeError, ValueError, ZeroDivisionError):
+        raise NoListing(f"{str(text)[:30]} stands for a number")
+
+
+def rounded(text):
+    "the number as a decimal one, None where it is too large for that"
+    try:
+        return float(exact(text))
+    except OverflowError:
+        return None
 
 
 def table_line(line, keys):
@@ -144,7 +165,46 @@ def each_line(report):
             yield "intervals", line
 
 
+def read_names(path):
+    "the table of names, the value of its constant and the number in RHS that says it, None where there is none"
+    with open(path, encoding="utf-8") as source:
+        names = json.load(source)
+    if not isinstance(names, dict) or not all(isinstance(names.get(key, {}), dict) for key in ("rows", "columns")):
+        raise NoNames("it isn't a table of names that mps2job.py wrote")
+    constant = names.get("constant") or {}
+    if names.get("constants") and "constant" not in names:
+        raise NoNames("an older mps2job.py wrote it; make it anew")
+    try:
+        return names, *(None if constant.get(key) is None else Fraction(constant[key]) for key in ("value", "rhs"))
+    except (AttributeError, TypeError, ValueError, ZeroDivisionError):
+        raise NoNames("its constant isn't a number")
+
+
+def objective_line(reports, place, name):
+    "the line of the objective in the SOLUTION that shows the verdict at this place, or None"
+    for report in reports[place + 1:]:
+        if report["report"] in ("setup", "verdict", "parametric"):
+            return None
+        if report["report"] == "solution":
+            return next((line for line in report.get("rows", []) if line["name"] == name), None)
+    return None
+
+
+def add_constant(reports, names, constant, rhs):
+    for place, report in enumerate(reports):
+        if "objective" not in report:
+            continue
+        objective, line = exact(report["objective"]), objective_line(reports, place, names.get("objective"))
+        if line and (exact(line["activity"]) != objective or rhs is not None and exact(line["slack"]) != rhs - objective):
+            print("listing2json.py: the objective or its right-hand side isn't that of the table of names; no constant is added", file=sys.stderr)
+        else:
+            report["objective_with_constant"] = str(objective + constant)
+
+
 def name_back(listing, names):
+    names, constant, rhs = names
+    if constant is not None:
+        add_constant(listing["reports"], names, constant, rhs)
     rows = None
     for report in listing["reports"]:
         if report["report"] == "convert":
@@ -153,11 +213,8 @@ def name_back(listing, names):
             table = names.get("rows" if rows is None or line["number"] <= rows else "columns", {})
             line["name"] = table.get(line["name"], line["name"])
         if "change" in report:
-            table = names.get("rows", {}) if report["by"] == "paraobj" else {}
+            table = names.get("rows", {}) if report["by"] == "paraobj" else names.get("sets", {})
             report["change"] = table.get(report["change"], report["change"])
-        constants = list(names.get("constants", {}).values())
-        if "objective" in report and len(constants) == 1:
-            report["objective_with_constant"] = str(Fraction(report["objective"]) + Fraction(constants[0]))
 
 
 def add_decimals(listing):
@@ -166,7 +223,7 @@ def add_decimals(listing):
         for place in [report, *report.get("intervals", []), *lines]:
             for key, value in list(place.items()):
                 if key not in ("name", "text") and isinstance(value, str) and re.fullmatch(NUMBER, value):
-                    place[key + "_decimal"] = float(Fraction(value))
+                    place[key + "_decimal"] = rounded(value)
 
 
 def print_csv(listing, decimal):
@@ -195,10 +252,14 @@ def main():
     options = parser.parse_args()
     try:
         text = open(options.file, encoding="latin-1").read() if options.file else sys.stdin.read()
-        names = json.load(open(options.names, encoding="utf-8")) if options.names else None
+        names = read_names(options.names) if options.names else None
     except (OSError, ValueError) as cause:
         print(f"listing2json.py: can't read: {cause}", file=sys.stderr)
         return 66
+    except NoNames as cause:
+        print(f"listing2json.py: {options.names}: {cause}", file=sys.stderr)
+        return 65
+    sys.stdout.reconfigure(encoding="utf-8")
     try:
         listing = parse(text)
         if not listing["reports"] and not listing["end"]:
