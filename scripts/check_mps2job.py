@@ -18,8 +18,8 @@ import expected_listing, listing2json, mps2job, mps_file, runner
 SCRIPTS = runner.TOP / "scripts"
 DECKS = pathlib.Path("/usr/share/doc/glpk-utils/examples")
 SECONDS, MOST_SHOWN = 60, 3000
-OVERFLOW = "STOP 20 OVERFLOW"
-MOST_MODEL = 60_000  # bytes of a model as glpsol writes it
+OVERFLOW, NO_TIME = "STOP 20 OVERFLOW", f"no answer of esolver in {SECONDS} seconds"
+MOST_MODEL = 30_000  # bytes of a model as glpsol writes it
 wrong = 0
 
 
@@ -79,7 +79,10 @@ class House:
         path, answer = self.folder / "plain.mps", self.folder / "plain.sol"
         answer.unlink(missing_ok=True)
         path.write_text(plain, encoding="ascii")
-        ended = subprocess.run([self.esolver, "-O", answer, path], capture_output=True, timeout=SECONDS)
+        try:
+            ended = subprocess.run([self.esolver, "-O", answer, path], capture_output=True, timeout=SECONDS)
+        except subprocess.TimeoutExpired:
+            return NO_TIME, None
         told = answer.read_text() if answer.exists() else ""
         verdict = re.search(r"status = (\w+)|status (\w+)", told)
         value = re.search(r"Value = (\S+)", told)
@@ -773,6 +776,8 @@ def compared(house, data, plain, words):
     if house.end.startswith(OVERFLOW):
         return "stopped for overflow"
     known = house.exact(plain)
+    if known[0] == NO_TIME:
+        return "left out (" + NO_TIME + ")"
     return "the same" if (verdict, objective and Fraction(objective)) == known else f"{verdict} {objective}, and esolver has {known}"
 
 

@@ -703,7 +703,7 @@ class Reader:
         most, least = max(changes), max(changes, key=lambda change: change[1])
         told = f"{counted(len(changes), 'number', 'was', 'were')} rounded to 12 columns; "
         told += f"the greatest change is {decimal_text(most[0])}, of {most[3][:40]} in line {most[2]}"
-        told += f", and the greatest part of a number {decimal_text(least[1])}, of {least[3][:40]} in line {least[2]}"
+        told += f", and the greatest relative change {decimal_text(least[1])}, of {least[3][:40]} in line {least[2]}"
         self.model.said.append(told)
 
 
