@@ -18,7 +18,7 @@ import expected_listing, listing2json, mps2job, mps_file, runner
 SCRIPTS = runner.TOP / "scripts"
 DECKS = pathlib.Path("/usr/share/doc/glpk-utils/examples")
 SECONDS, MOST_SHOWN = 60, 3000
-OVERFLOW, NO_TIME = "STOP 20 OVERFLOW", f"no answer of esolver in {SECONDS} seconds"
+OVERFLOW = "STOP 20 OVERFLOW"
 MOST_MODEL = 30_000  # bytes of a model as glpsol writes it
 wrong = 0
 
@@ -60,7 +60,7 @@ class House:
 
     def listing(self, job):
         if self.program:
-            return runner.run_proved(self.program, job.encode("ascii"))[1].decode("ascii")
+            return subprocess.run([self.program], input=job, stdout=subprocess.PIPE, encoding="ascii", cwd=self.folder, timeout=SECONDS).stdout
         run = expected_listing.Run(job)
         run.run()
         return "\n".join(run.lines) + "\n"
@@ -79,10 +79,7 @@ class House:
         path, answer = self.folder / "plain.mps", self.folder / "plain.sol"
         answer.unlink(missing_ok=True)
         path.write_text(plain, encoding="ascii")
-        try:
-            ended = subprocess.run([self.esolver, "-O", answer, path], capture_output=True, timeout=SECONDS)
-        except subprocess.TimeoutExpired:
-            return NO_TIME, None
+        ended = subprocess.run([self.esolver, "-O", answer, path], capture_output=True, timeout=SECONDS)
         told = answer.read_text() if answer.exists() else ""
         verdict = re.search(r"status = (\w+)|status (\w+)", told)
         value = re.search(r"Value = (\S+)", told)
@@ -772,12 +769,13 @@ def compared(house, data, plain, words):
     status, job, _, said = house.convert(data, words)
     if status:
         return "refused" if status == 65 and re.search(r": line \d+: ", said) else f"ends with {status}: {said}"
-    verdict, objective, _ = verdict_of(house.solved(job))
-    if house.end.startswith(OVERFLOW):
-        return "stopped for overflow"
-    known = house.exact(plain)
-    if known[0] == NO_TIME:
-        return "left out (" + NO_TIME + ")"
+    try:
+        verdict, objective, _ = verdict_of(house.solved(job))
+        if house.end.startswith(OVERFLOW):
+            return "stopped for overflow"
+        known = house.exact(plain)
+    except subprocess.TimeoutExpired:
+        return f"left out (no answer in {SECONDS} seconds)"
     return "the same" if (verdict, objective and Fraction(objective)) == known else f"{verdict} {objective}, and esolver has {known}"
 
 
