@@ -2,7 +2,7 @@
 """Tries the scripts on examples whose results are known from outside, and on hostile inputs. scripts/check.sh runs it.
 
 usage: check_tools.py      ends with 1 where a result is another; what needs the proved program is left out, and said, where it isn't fresh"""
-import json, os, pathlib, re, subprocess, sys, tempfile, xml.dom.minidom
+import json, os, pathlib, re, subprocess, sys, tempfile, time, xml.dom.minidom
 import runner
 
 SCRIPTS = runner.TOP / "scripts"
@@ -49,7 +49,6 @@ RHS
  plant_3_hours 18
 BOUNDS
  UP doors_batches 1e30
- MI windows_batches
  LO windows_batches 0
 ENDATA
 """.replace("\n", "\r\n")
@@ -75,7 +74,8 @@ BOUNDS
  PL BND X1
 ENDATA
 """
-MODULES = ("runner.py", "every_basis.py", "expected_postoptimal.py")
+MODULES = ("runner.py", "mps_file.py", "every_basis.py", "expected_bases.py", "expected_postoptimal.py", "strangers_text.py", "follow_listing.py",
+           "parametric_svg.py", "readable.py")
 DOOMED = {
     "a MARKER": ("    M1  'MARKER'  'INTORG'\n", "MARKER"),
     "a long number": ("    X  COST  0.1234567890123\n", "12 columns"),
@@ -214,16 +214,25 @@ def try_random(program):
 
 
 def try_listings():
-    "listing2json.py on RANGE, a parametric run and a punched deck, as worked out by hand"
+    "listing2json.py on RANGE, a parametric run, punched decks, a deck that is inserted, and what follows a stop, as worked out by hand"
+    def told(name):
+        return json.loads(call(SCRIPTS / "listing2json.py", SCRIPTS / f"known/{name}.listing").stdout)
+
     def reports(name, kind):
-        told = json.loads(call(SCRIPTS / "listing2json.py", SCRIPTS / f"known/{name}.listing").stdout)
-        return [report for report in told["reports"] if report["report"] == kind]
+        return [report for report in told(name)["reports"] if report["report"] == kind]
     line = reports("range-testprob", "ranges")[0]["columns_at_limit"][0]
     check(f"listing2json.py: RANGE: {line}", (line["name"], line["limit_high"], line["cost_low"], line["cost_high"]) == ("YTWO", "1", "-8", None))
     run = reports("pararhs-infeasible-past", "parametric")[0]
     ends = run["change"], run["end"], run["at"], run["ray"][0]["multiplier"], run["intervals"][0]["to"], run["intervals"][0]["lines"][2]["value_rate"]
     check(f"listing2json.py: PARARHS: {ends}", ends == ("C", "infeasible", "2", "-1", "2", "1"))
     check("listing2json.py: BCDOUT", reports("bcdout-one", "bcdout") == [{"report": "bcdout", "name": "ONE", "cards": 10}])
+    check("listing2json.py: PUNCH", reports("insert-basis", "punch") == [{"report": "punch", "name": "TESTPROB", "cards": 4}])
+    check("listing2json.py: INSERT", reports("insert-basis", "insert") == [{"report": "insert", "name": "TESTPROB", "basic": 2}])
+    verdict = reports("dual-infeasible", "verdict")[0]
+    check(f"listing2json.py: DUAL: {verdict}", (verdict["by"], verdict["verdict"], [line["multiplier"] for line in verdict["ray"]]) == ("dual", "infeasible", ["-1", "1"]))
+    dependency = [(line["name"], line["value"]) for line in told("insert-dependency")["end"]["dependency"]]
+    check(f"listing2json.py: fault 15: {dependency}", dependency == [("COST", "-1"), ("D", "1"), ("P", "-2"), ("Q", "1")])
+    check("listing2json.py: fault 16", told("dual-wrong-prices")["end"]["variable"] == 2)
 
 
 # A job, a listing, and what scripts/explain says of them; a listing of another job is explained by itself.
@@ -243,6 +252,20 @@ EXPLAINED = (
     ("scripts/known/pararhs-point-interval", "scripts/known/pararhs-point-interval", ("At theta = 0 alone: the objective is 1.\n",)),
     ("scripts/known/paraobj-unbounded-opening", "scripts/known/paraobj-unbounded-opening", (
         "At XPARAM, where PARAOBJ begins, there is no best plan, so there are no intervals.\nThe objective has no bound.",)),
+    ("scripts/known/dual-infeasible", "scripts/known/dual-infeasible", (
+        "-1 x LOW      which is at least 3: at most -3\n", "together 0, and at most -1: so these limits conflict")),
+    ("scripts/known/insert-dependency", "scripts/known/insert-dependency", (
+        "      -2 x P\n         1 x Q\n\nThat changes COST by -1, D by 1, and no row that the deck takes out of the basis.", "What to do: leave out the card of one of the columns")),
+    ("scripts/known/dual-wrong-prices", "scripts/known/dual-wrong-prices", ("\nVariable 2 is X.\n", "PRIMAL in place of DUAL")),
+    ("examples/replan", "examples/replan", ("SETUP, card 7: problem 'NEXTWEEK', MAX\n", "The plan of SOLUTION is best: 1200, after 1 steps")),
+)
+# A card of the basis deck of examples/replan.job and another in its place, the fault, and what explain says.
+BASIS_MISTAKES = (
+    (" XU TABLE     BOARDS", " XU TABELS    BOARDS", 11, ("Known columns: 'TABLE', 'CHAIR', 'SHELF'\nNear to 'TABELS': 'TABLE'",)),
+    (" XU TABLE     BOARDS", " XU TABLE     BORDS", 6, ("Known rows: 'PROFIT', 'BOARDS', 'HOURS'\nNear to 'BORDS': 'BOARDS'",)),
+    (" XU TABLE     BOARDS", " XX TABLE     BOARDS", 30, ("It means: ", "XU, XL, UL or LL")),
+    (" XU TABLE     BOARDS", " UL TABLE     BOARDS", 32, ("It means: ",)),
+    (" UL SHELF", " UL SHELF     HOURS", 20, ("Column 15 is to be blank, which belongs to field 3, and a UL card has no field 3; here it has 'H'.",)),
 )
 
 
@@ -258,6 +281,13 @@ def try_explain(folder):
         told = call(SCRIPTS / "explain", runner.TOP / f"{job}.job", runner.TOP / f"{name}.listing").stdout.decode()
         for text in wanted:
             check(f"explain {job} {name}: no {text!r} in {told}", text in told)
+    replan, begun = (examples / "replan.job").read_text(), "".join((examples / "replan.listing").read_text().splitlines(True)[:3])
+    for card, other, fault, wanted in BASIS_MISTAKES:
+        (folder / "basis.job").write_text(replan.replace(card + "\n", other + "\n"))
+        listing.write_text(f"{begun}STOP 12 DECK FAULT {fault} CARD {replan.splitlines().index(card) + 1}\n")
+        told = call(SCRIPTS / "explain", folder / "basis.job", listing).stdout.decode()
+        for text in wanted:
+            check(f"explain: {other}: no {text!r} in {told}", text in told)
     broken = folder / "broken.listing"
     for old in ("TO 10", "BS 90", "1/2\nEND"):
         for word in ("NONE", "1/0"):
@@ -270,6 +300,156 @@ def try_explain(folder):
     told = call(SCRIPTS / "explain", late, listing).stdout.decode()
     for text in ("At XPARAM, where PARARHS begins", "which is at least 50: at most -50\n", "together 0, and at most -2: so"):
         check(f"explain: no plan at XPARAM: no {text!r} in {told}", text in told)
+
+
+# A job made of the joiner's week, the line on which its listing stops by the rules of cards, what explain says, what it doesn't.
+MISTAKES = (
+    ("an option of SETUP with an S", ("'BOUND'", "'BOUNDS'"), "STOP 8 CONTROL FAULT 7 CARD 6",
+     ("'BOUNDS' is no option of SETUP; near to it: 'BOUND'.", "SETUP is written SETUP('MIN' or 'MAX'"), ("quotes are missing", "has no quotes")),
+    ("a name without quotes", ("SETUP('MAX'", "MOVE(XOBJ,PROFIT) SETUP('MAX'"), "STOP 8 CONTROL FAULT 7 CARD 6", ("PROFIT has no quotes",), ("no option",)),
+    ("a number two columns off", ("PROFIT    45 ", "PROFIT  45   "), "STOP 12 DECK FAULT 20 CARD 17",
+     ("    " + " " * 22 + "^\n     11 |  2   |  |  3   |  |    4     |   |  5   |  |    6     |", "Column 23 is to be blank",
+      "45, which stands in columns 23 to 24, into field 4, columns 25 to 36"), ("8 characters",)),
+    ("a long name", ("    TABLE     PROFIT ", "    TABLETOPS PROFIT "), "STOP 12 DECK FAULT 20 CARD 17",
+     ("Column 13 is to be blank", "TABLETOPS runs over its field, and a name has 8"), ()),
+    ("no PEND", ("         PEND\n", ""), "STOP 8 CONTROL FAULT 3 CARD 10", ("A card NAME begins a deck: PEND is missing",), ()),
+    ("a byte order mark", ("* A week", "\xef\xbb\xbf* A week"), "STOP 13 CARD FAULT 4 CARD 1", ("byte order mark (BOM) of UTF-8", "    ???* A week"), ("\xef",)),
+)
+# what a SETUP took, and what was perhaps forgotten: a job, its rows, what explain says; each best plan is worth 0
+FORGOTTEN = """         PROGRAM
+         CONVERT
+         SETUP
+         PRIMAL
+         EXIT
+         PEND
+NAME          SHOP
+ROWS
+ N  COUNT
+ N  PROFIT
+ L  BOARDS
+COLUMNS
+    TABLE     PROFIT    45             BOARDS    8
+    CHAIR     PROFIT    20             BOARDS    3
+RHS
+    FIRST     COUNT     7
+    SECOND    BOARDS    240
+RANGES
+    SPAN      BOARDS    10
+BOUNDS
+ UP WEEK      TABLE     4
+ UP MONTH     TABLE     16
+ENDATA
+"""
+TAKEN = (
+    (FORGOTTEN, 3, ("SETUP, card 3: problem 'SHOP', MIN, since SETUP names neither MIN nor MAX",
+                    "objective: 'COUNT', the first of 2 (the others: 'PROFIT'); MOVE(XOBJ,'PROFIT') before SETUP takes another",
+                    "LOOK: the objective 'COUNT' has no entry", "right-hand side: 'FIRST', the first of 2 (the others: 'SECOND')",
+                    "LOOK: the number 7 on the objective in RHS is used in SLACK alone",
+                    "LOOK: the deck's sets 'WEEK', 'MONTH' of bounds don't count; SETUP('BOUND','WEEK') takes the first",
+                    "LOOK: the deck's set 'SPAN' of ranges doesn't count; SETUP('RANGE','SPAN') takes it")),
+    (FORGOTTEN.replace(" N  COUNT\n", "").replace("    FIRST     COUNT     7\n", ""), 2,
+     ("objective: 'PROFIT', the only one", "right-hand side: 'SECOND', the only one",
+      "LOOK: every cost is 0 or more and no limit forces anything, so under MIN doing nothing is best; is MAX meant?")),
+    (FORGOTTEN.replace("SETUP\n", "SETUP('MAX','BOUND','MONTH')\n").replace("CONVERT\n", "CONVERT\n         MOVE(XOBJ,'PROFIT')\n"), 3,
+     ("SETUP, card 4: problem 'SHOP', MAX\n", "objective: 'PROFIT', as XOBJ says\n", "bounds: the set 'MONTH'; of no account: 'WEEK'")),
+)
+
+
+def try_mistakes(folder):
+    "what explain says of mistakes that are easily made, in the job or beside it"
+    first, job, listing = (runner.TOP / "examples/first.job").read_text(), folder / "mistake.job", folder / "mistake.listing"
+    for what, (old, new), stop, wanted, unwanted in MISTAKES:
+        job.write_text(first.replace(old, new, 1), encoding="latin-1")
+        listing.write_text(stop + "\n")
+        told = call(SCRIPTS / "explain", job, listing).stdout.decode()
+        for text in wanted:
+            check(f"explain: {what}: no {text!r} in {told}", text in told)
+        check(f"explain: {what}: {told}", not any(text in told for text in unwanted))
+    job.write_text(TESTPROB)
+    listing.write_text("STOP 8 CONTROL FAULT 1 CARD 1\n")
+    check("explain: an MPS file", b"mps2job.py makes a job of it" in call(SCRIPTS / "explain", job, listing).stdout)
+    for text, rows, wanted in TAKEN:
+        job.write_text(text)
+        sense = "MAX" if "'MAX'" in text else "MIN"
+        listing.write_text(f"CONVERT SHOP     ROWS {rows} COLUMNS 2 ENTRIES 4\nSETUP   SHOP     {sense}\nPRIMAL OPTIMAL STEPS 0 OBJECTIVE 0 CHECKED\nEND 0\n")
+        told = call(SCRIPTS / "explain", job, listing).stdout.decode()
+        for line in wanted:
+            check(f"explain: no {line!r} in {told}", line in told)
+    # nothing is solved: the least-cost plan of 40 by 40 takes Python minutes
+    job.write_bytes(call(sys.executable, "-c", "import expected_listing; print(expected_listing.made_job(40), end='')", cwd=SCRIPTS).stdout)
+    listing.write_text("CONVERT TRANSP   ROWS 81 COLUMNS 1600 ENTRIES 4800\nSETUP   TRANSP   MIN\nPRIMAL OPTIMAL STEPS 9 OBJECTIVE 400 CHECKED\nEND 0\n")
+    begun = time.monotonic()
+    told = call(SCRIPTS / "explain", job, listing).stdout.decode()
+    check("explain: a problem of 40 by 40", "The plan of SOLUTION is best: 400" in told and time.monotonic() - begun < 20)
+    listing.write_text(listing.read_text().replace("1600", "1601"))
+    told = call(SCRIPTS / "explain", job, listing).stdout.decode()
+    check(f"explain: a listing of another job: {told}", "The listing isn't of this job (where the job has CONVERT on card 4" in told)
+
+
+def try_streams(folder):
+    "explain reads pipes; and text of strangers is shown as text"
+    job, listing = (runner.TOP / f"examples/first.{ending}" for ending in ("job", "listing"))
+    wanted = call(SCRIPTS / "explain", job, listing).stdout
+    check("explain -: the job", call(SCRIPTS / "explain", "-", listing, input=job.read_bytes()).stdout == wanted)
+    check("explain -: the listing", call(SCRIPTS / "explain", job, "-", input=listing.read_bytes()).stdout == wanted)
+    check("explain - -", call(SCRIPTS / "explain", "-", "-").returncode == 64)
+    piped = call("bash", "-c", f"exec {SCRIPTS}/explain <(cat {job}) <(cat {listing})").stdout
+    check("explain: pipes", piped == wanted)
+    bad, sweep = folder / "escapes.listing", (runner.TOP / "examples/pararhs.listing").read_bytes()
+    bad.write_bytes((runner.TOP / "examples/endless.listing").read_bytes().replace(b"PROFIT  ", b"\x1b[2J\x9bX\x07 "))
+    told = call(SCRIPTS / "explain", job, bad)
+    check(f"explain: escapes of a terminal: {told.stdout}", b"\\x1b[2J\\x9bX" in told.stdout and not re.search(rb"[\x00-\x09\x0b-\x1f\x7f]|\xc2[\x80-\x9f]", told.stdout))
+    for words in ((), ("--svg",)):
+        told = call(SCRIPTS / "plot_parametric.py", *words, input=sweep.replace(b"CHANGE MORE", b"CHANGE M\x1b[2J"))
+        check(f"plot_parametric.py {words}: escapes", told.returncode == 0 and b"\\x1b[2J" in told.stdout and b"\x1b" not in told.stdout)
+
+
+def boxes(picture):
+    "the text of a picture with the room that it takes, at 6 units a letter and 12 a line"
+    for text in xml.dom.minidom.parseString(picture).getElementsByTagName("text"):
+        words = text.firstChild.data
+        x, y, wide = float(text.getAttribute("x")), float(text.getAttribute("y")), 6 * len(words)
+        left = {"middle": x - wide / 2, "end": x - wide, "start": x}[text.getAttribute("text-anchor")]
+        yield words, left, left + wide, y - 12, y
+
+
+def try_labels(folder):
+    "no label of a picture lies over another, also where breakpoints are near to each other"
+    entry = "INTERVAL {} FROM {} TO {}\n    1 COST     BS {} 1 1 0\n".format
+    ends = ["0", "1/1000000007", "1/1000000006", "1/1000000005", "1/3", "1/2", "5000/9999", "1"]
+    listing = "PARAOBJ FROM 0 CHANGE ROW\n" + "".join(entry(k, *pair, 0) for k, pair in enumerate(zip(ends, ends[1:]), 1)) + "PARAOBJ ENDS AT 1\nEND 0\n"
+    picture = call(SCRIPTS / "plot_parametric.py", "--svg", input=listing.encode()).stdout.decode()
+    wide = float(re.search(r'viewBox="0 0 (\d+)', picture)[1])
+    found = list(boxes(picture))
+    check(f"plot_parametric.py: labels: {picture}", [box[0] for box in found if box[0] in ("0", "1/3", "1/2", "1")] and len(found) >= len(ends))
+    for k, (words, left, right, above, below) in enumerate(found):
+        check(f"plot_parametric.py: {words} is outside", left >= 0 and right <= wide)
+        for other, start, end, top, bottom in found[:k]:
+            check(f"plot_parametric.py: {words} lies over {other}", right <= start or end <= left or below <= top or bottom <= above)
+
+
+def try_minutes():
+    "how long scripts/build.sh takes is the same everywhere"
+    told = {}
+    for path in [runner.TOP / "README.md", *sorted((runner.TOP / "docs").glob("*.md")), *sorted(SCRIPTS.iterdir()), *sorted((SCRIPTS / "share").iterdir())]:
+        if path.is_file() and not path.name.startswith("check_"):
+            for found in re.finditer(r"build\.sh[^.\n]{0,80}?(?:some|about) (\d+)(?: minutes)?|first time takes (?:some|about) (\d+) minutes", path.read_text()):
+                told.setdefault(found[1] or found[2], []).append(path.name)
+    check(f"minutes: {told}", len(told) == 1)
+
+
+def try_hints(folder):
+    "mps360 says what a file is that begins like no job"
+    env = {**os.environ, "MPS360_PROVED": "1", "PATH": "/usr/bin:/bin"}
+    for what, content, wanted in (("an MPS file", TESTPROB, b"mps2job.py makes a job of it"), ("one with carriage returns", GLASS, b"mps2job.py makes a job of it"),
+                                  ("a byte order mark", "\xef\xbb\xbf         PROGRAM\n", b"(BOM)"), ("a job", "*\n         PROGRAM\n", None),
+                                  ("a label", "NAME     PROGRAM\n", None)):
+        path = folder / "hint"
+        path.write_bytes(content.encode("latin-1"))
+        told = call(SCRIPTS / "mps360", path, env=env).stderr
+        check(f"mps360: {what}: {told}", wanted in told if wanted else b"mps360: the file begins" not in told)
+    told = call(SCRIPTS / "mps360", "a\x1b[2Jb")
+    check(f"mps360: a file's name is shown as text: {told.stderr}", told.returncode == 66 and b"\x1b" not in told.stderr)
 
 
 def try_help(folder):
@@ -326,6 +506,11 @@ def main():
         try_random(program)
         try_listings()
         try_explain(folder)
+        try_mistakes(folder)
+        try_streams(folder)
+        try_labels(folder)
+        try_minutes()
+        try_hints(folder)
         try_help(folder)
         try_hostile(folder, program)
     return 1 if wrong else 0
