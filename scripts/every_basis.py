@@ -1,12 +1,13 @@
 """What expected_listing.py says of a small linear program, checked by the meaning of the words and by another way than the simplex path:
 a verdict by a look at every basis, an interval of RANGE by solving the changed program anew at its ends and past them, a parametric run by
-the verdicts at its breaks, between them and past its end, a deck that is written out by what it converts to. random_jobs.py --itself runs it.
+the verdicts at its breaks, between them and past its end, a deck that is written out by what it converts to, a basis that DUAL, PUNCH or
+INSERT is about by the rows' equations solved anew. random_jobs.py --itself runs it.
 
 Where a linear program has a feasible point, it has one at which each nonbasic variable stands at a limit, or at 0 where it has none; and
 where it has a best one, one of these is best. It has none where some direction that keeps all limits betters the objective."""
 import copy, itertools, math
 from fractions import Fraction
-import expected_listing
+import expected_bases, expected_listing
 
 MOST = 3000
 LITTLE, MUCH = Fraction(1, 10**9), Fraction(10**9)
@@ -78,6 +79,17 @@ def verdict(lp):
     return -lp.better() * least
 
 
+def wrong_prices(lp, at, sums):
+    "the nonbasics with a price that an optimal basis hasn't"
+    wrong = []
+    for k, code in enumerate(at):
+        if code != "BS" and (lp.lower[k] is None or lp.lower[k] != lp.upper[k]):
+            price = -lp.better() * sum((factor * sums[row].get(k, 0) for row, factor in lp.worth().items()), Fraction(0))
+            if price < 0 and code in ("LL", "FR") or price > 0 and code in ("UL", "FR"):
+                wrong.append(k)
+    return wrong
+
+
 def is_optimal(lp, at):
     "whether the basis, told by where each variable stands, is optimal, solved anew from the rows' equations"
     basics = [k for k, code in enumerate(at) if code == "BS"]
@@ -85,12 +97,7 @@ def is_optimal(lp, at):
     stands = {k: {"LL": lp.lower[k], "UL": lp.upper[k], "FR": Fraction(0)}[code] for k, code in enumerate(at) if code != "BS"}
     if not is_within(values(sums, stands), lp.lower, lp.upper):
         return False
-    for k, code in enumerate(at):
-        if code != "BS" and (lp.lower[k] is None or lp.lower[k] != lp.upper[k]):
-            price = -lp.better() * sum((factor * sums[row].get(k, 0) for row, factor in lp.worth().items()), Fraction(0))
-            if price < 0 and code in ("LL", "FR") or price > 0 and code in ("UL", "FR"):
-                return False
-    return True
+    return not wrong_prices(lp, at, sums)
 
 
 def with_limit(lp, k, side, value):
@@ -191,6 +198,52 @@ class Watched(expected_listing.Run):
         wanted = {name: entries for name, entries in problem.columns.items() if entries}
         same = (again.name, again.rows, columns, again.sets) == (problem.name, problem.rows, wanted, problem.sets)
         self.check("the deck that is written out", same and list(columns) == list(wanted))
+
+    def wrong_prices(self):
+        "the nonbasics with wrong prices at the present basis, solved anew"
+        return wrong_prices(self.lp, self.table.at, dictionary(self.lp, [k for k, code in enumerate(self.table.at) if code == "BS"]))
+
+    def dual(self):
+        self.select()
+        self.table.take(self.lp)
+        wrong = self.wrong_prices()
+        self.looked += 1
+        try:
+            end = super().dual()
+        except expected_listing.VerbFault as fault:
+            self.check("the first wrong price", fault.more == f" VARIABLE {min(wrong, default=-1) + 1}")
+            raise
+        self.check("DUAL goes on from wrong prices, or to one", not wrong and not self.wrong_prices() and end[0] != "UNBOUNDED")
+        self.check("where DUAL ends", end[0] != "OPTIMAL" or is_optimal(self.lp, self.table.at))
+        return end
+
+    def basis_out(self):
+        "a punched deck, read again, stands for the basis"
+        first = len(self.punched)
+        super().basis_out()
+        opening = expected_listing.Table(self.lp).at
+        again = expected_bases.stands_for(self.punched[first:], self.lp, opening, expected_listing.is_skipped, expected_listing.fields)
+        self.looked += 1
+        self.check("the basis deck that is punched", again == self.table.at)
+
+    def insert(self):
+        self.looked += 1
+        try:
+            super().insert()
+        except expected_listing.VerbFault as fault:
+            self.check("the dependency", not fault.lines or self.is_dependency(fault.lines))
+            raise
+        lp, table = self.lp, self.table
+        sums = dictionary(lp, [k for k, code in enumerate(table.at) if code == "BS"])
+        same = sums is not None and all(line[k] == sums[i].get(k, 0) for i, line in table.rate.items() for k in range(table.size) if k not in sums)
+        self.check("the rates of an inserted basis", same and table.rate.keys() == sums.keys())
+
+    def is_dependency(self, lines):
+        "whether a vector keeps the equations, and its last column is what the columns before it make up"
+        lp, vector = self.lp, {int(line[:5]) - 1: Fraction(line[15:]) for line in lines}
+        columns = [k for k in vector if k >= lp.m]
+        keeps = all(vector.get(i, 0) == sum(entries.get(i, 0) * vector.get(lp.m + j, 0) for j, entries in enumerate(lp.columns)) for i in range(lp.m))
+        return keeps and bool(columns) and vector[max(columns)] == 1
 
     def check_intervals(self, told, program, start):
         at = start

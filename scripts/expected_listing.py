@@ -5,14 +5,15 @@ table of Python's exact fractions. The listings beside the jobs of examples/ are
 usage: expected_listing.py [--punch FILE] [--make N | FILE.job]      without a file the job is read from standard input; it ends with the
 run's status. With --make N the job is the generated one: N sources with 10 each, and N destinations that want 10 each.
 
-It knows every verb (RANGE, PARAOBJ and PARARHS are worked out in expected_postoptimal.py), and the faults of statements. It looks for
-few other faults, and ends with 70 where it meets one. With --punch the punched cards go to FILE, where there are any."""
+It knows every verb (RANGE, PARAOBJ and PARARHS are worked out in expected_postoptimal.py, DUAL, PUNCH and INSERT in expected_bases.py), the
+faults of statements, and those of basis decks. It looks for few other faults, and ends with 70 where it meets one. With --punch the punched
+cards go to FILE, where there are any."""
 import copy
 from fractions import Fraction
 import re
 import sys
 
-import expected_postoptimal
+import expected_bases, expected_postoptimal
 
 SECTIONS = ("NAME", "ROWS", "COLUMNS", "RHS", "RANGES", "BOUNDS", "ENDATA")
 NUMBER = re.compile(r"([+-]?(?:\d+\.?\d*|\.\d+))(?:[EeDd]([+-]?\d+))?$")
@@ -23,7 +24,14 @@ class Fault(Exception):
 
 
 class VerbFault(Exception):
-    "a statement that can't be done, with the number of its fault"
+    "a statement that can't be done, with the number of its fault, what follows on its line, and the lines after that"
+    def __init__(self, number, more="", lines=()):
+        super().__init__(number)
+        self.more, self.lines = more, lines
+
+
+class DeckFault(Exception):
+    "a basis deck that has a fault, with its number and its card"
 
 
 def number(text):
@@ -71,7 +79,9 @@ def ends(kind):
 
 
 def deck_name(cards):
-    return next((card[14:22].rstrip() for card in cards if not is_skipped(card) and card.split(" ")[0] == "NAME"), "")
+    "the name on the first card, where that is a NAME card"
+    first = next((card for card in cards if not is_skipped(card)), "")
+    return first[14:22].rstrip() if first.split(" ")[0] == "NAME" else None
 
 
 class Problem:
@@ -271,6 +281,10 @@ class LinearProgram:
             if kind in ("UP", "FX", "FR", "PL"):
                 self.upper[k] = value if kind in ("UP", "FX") else None
 
+    def crossed(self):
+        "the least-numbered variable whose lower limit is above its upper one"
+        return next((k for k, (low, high) in enumerate(zip(self.lower, self.upper)) if None not in (low, high) and low > high), None)
+
     def better(self):
         "1 where the objective is to rise, -1 where it is to fall"
         return 1 if self.sense == "MAX" else -1
@@ -338,6 +352,16 @@ class Table:
             return "above"
         return None
 
+    def first_outside(self, value):
+        "the least-numbered basic outside its limits"
+        return next((k for k in range(self.size) if k in self.rate and self.is_outside(k, value)), None)
+
+    def ray(self, p, below):
+        "the factors by which the limits of p and of the nonbasics conflict"
+        ray = [Fraction(0) if k in self.rate else rate if below else -rate for k, rate in enumerate(self.rate[p])]
+        ray[p] = Fraction(-1 if below else 1)
+        return ray
+
     def may_move(self, k, up):
         lp = self.lp
         if k in self.rate or lp.lower[k] is not None and lp.lower[k] == lp.upper[k]:
@@ -389,21 +413,18 @@ class Table:
 
     def path(self, most):
         "the end of the path and the number of steps"
-        lp, steps = self.lp, 0
-        for k in range(self.size):
-            if None not in (lp.lower[k], lp.upper[k]) and lp.lower[k] > lp.upper[k]:
-                return ("CROSSED", k), steps
+        lp, steps, crossed = self.lp, 0, self.lp.crossed()
+        if crossed is not None:
+            return ("CROSSED", crossed), steps
         while True:
             value = self.value()
-            p = next((k for k in range(self.size) if k in self.rate and self.is_outside(k, value)), None)
+            p = self.first_outside(value)
             if p is not None:
                 below = self.is_outside(p, value) == "below"
                 line = self.rate[p]
                 q = self.entering(lambda k: line[k] if below else -line[k])
                 if q is None:
-                    ray = [Fraction(0) if k in self.rate else line[k] if below else -line[k] for k in range(self.size)]
-                    ray[p] = Fraction(-1 if below else 1)
-                    return ("RAY", ray), steps
+                    return ("RAY", self.ray(p, below)), steps
                 to = "LL" if below else "UL"
             else:
                 line, better = self.rates_of(lp.worth()), lp.better()
@@ -500,12 +521,26 @@ class Run:
         if self.setup is None or self.mark is None or self.mark not in marks:
             raise VerbFault(3 if self.setup is None else 4 if self.mark is None else 5)
 
+    def limit(self):
+        "the steps of a verb that has a limit under 'NONE' too"
+        return 1_000_000 if self.cells["XITERLIM"] is None else self.cells["XITERLIM"]
+
     def primal(self):
         self.select()
         self.table.take(self.lp)
         end, steps = self.table.path(self.cells["XITERLIM"])
         if end[0] != "LIMIT":
             self.mark = self.verdict("PRIMAL", end, steps)
+        return end
+
+    def dual(self):
+        self.select()
+        self.table.take(self.lp)
+        end, steps = expected_bases.dual_path(self.table, self.limit())
+        if end[0] == "WRONG":
+            raise VerbFault(16, f" VARIABLE {end[1] + 1}")
+        if end[0] != "LIMIT":
+            self.mark = self.verdict("DUAL", end, steps)
         return end
 
     def verdict(self, verb, end, steps):
@@ -536,13 +571,13 @@ class Run:
             raise VerbFault(7)
         if "XPARMAX" not in cells or cells["XPARMAX"] < cells["XPARAM"]:
             raise VerbFault(9 if "XPARMAX" in cells else 8)
-        self.mark, most = None, 1_000_000 if cells["XITERLIM"] is None else cells["XITERLIM"]
+        self.mark = None
         if verb == "PARAOBJ":
             changes = expected_postoptimal.OfObjective(self.lp, list(problem.rows).index(change))
         else:
             values = problem.sets["RHS"][change]
             changes = expected_postoptimal.OfLimits(self.lp, [values.get(name, Fraction(0)) for name in problem.rows] + [Fraction(0)] * self.lp.n)
-        run = expected_postoptimal.Sweep(self.table, changes, most)
+        run = expected_postoptimal.Sweep(self.table, changes, self.limit())
         opening, steps = run.opening(cells["XPARAM"])
         if opening[0] != "OPTIMAL":
             if opening[0] != "LIMIT":
@@ -613,6 +648,28 @@ class Run:
         self.punched += cards
         self.lines.append(f"BCDOUT  {problem.name:<8} CARDS {len(cards)}")
 
+    def basis_out(self):
+        "PUNCH"
+        self.select()
+        problem = self.setup[0]
+        self.table.take(self.lp)
+        cards = list(expected_bases.deck(problem.name, self.table, Table(self.lp).at))
+        self.punched += cards
+        self.lines.append(f"PUNCH   {problem.name:<8} CARDS {len(cards)}")
+
+    def insert(self):
+        self.select()
+        cards, table = self.deck(), Table(self.lp)
+        try:
+            at = expected_bases.stands_for(cards, self.lp, table.at, is_skipped, fields)
+            count = expected_bases.take(table, at)
+        except expected_bases.DeckFault as fault:
+            raise DeckFault(fault.number, self.place - len(cards) + fault.place + 1) from None
+        except expected_bases.Singular as cause:
+            raise VerbFault(15, "", self.factors(cause.vector)) from None
+        self.table, self.mark = table, None
+        self.lines.append(f"INSERT  {deck_name(cards):<8} BASIC {count}")
+
     def run(self):
         at = executed = 0
         while at < len(self.statements):
@@ -627,8 +684,8 @@ class Run:
                     break
                 if verb == "GOTO":
                     at = self.labels[words[0]]
-                elif verb in ("PRIMAL", "PARAOBJ", "PARARHS"):
-                    end = self.primal() if verb == "PRIMAL" else self.parametric(verb)
+                elif verb in ("PRIMAL", "DUAL", "PARAOBJ", "PARARHS"):
+                    end = self.primal() if verb == "PRIMAL" else self.dual() if verb == "DUAL" else self.parametric(verb)
                     if end[0] == "LIMIT":
                         self.lines.append(f"STOP 16 ITERATION LIMIT {end[1]} CARD {card}")
                         return 16
@@ -641,8 +698,11 @@ class Run:
                 else:
                     self.execute(verb, words)
             except VerbFault as fault:
-                self.lines.append(f"STOP 10 VERB FAULT {fault} CARD {card}")
+                self.lines += [f"STOP 10 VERB FAULT {fault} CARD {card}{fault.more}", *fault.lines]
                 return 10
+            except DeckFault as fault:
+                self.lines.append("STOP 12 DECK FAULT {} CARD {}".format(*fault.args))
+                return 12
         self.lines.append("END 0")
         return 0
 
@@ -668,6 +728,10 @@ class Run:
             self.ranges()
         elif verb == "BCDOUT":
             self.punch()
+        elif verb == "PUNCH":
+            self.basis_out()
+        elif verb == "INSERT":
+            self.insert()
         else:
             raise Fault(f"verb {verb}")
 

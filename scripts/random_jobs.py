@@ -1,13 +1,16 @@
 #!/usr/bin/env python3
 """Compares the program with scripts/expected_listing.py on small jobs made at random: rows of each type, ranges, bounds of each type,
-MIN and MAX, RANGE, two right-hand sides in one run, PARAOBJ and PARARHS, REVISE, the deck written out. Outside the gate: a run of 300 takes some
-minutes unproved, a few seconds else.
+MIN and MAX, RANGE, two right-hand sides in one run, PARAOBJ and PARARHS, REVISE, the deck written out; the basis punched, taken in again and
+solved from by DUAL; basis decks made at random, with their faults. Outside the gate: a run of 300 takes some minutes unproved, a few seconds
+else.
 
-usage: random_jobs.py [--unproved | --itself] [--no-parametric] [--no-revise] [FIRST [COUNT]]      jobs FIRST, FIRST + 1, ..; 0 and 300 where nothing is said
+usage: random_jobs.py [--unproved | --itself] [--no-parametric] [--no-revise] [--no-bases] [FIRST [COUNT]]
+       jobs FIRST, FIRST + 1, ..; 0 and 300 where nothing is said
 
 It prints how many differ, and the first of them whole; ends with 1 where one does, with 70 where there is no program. --unproved: the
-program as it stands, where no proved one is. --no-parametric: without PARAOBJ and PARARHS; --no-revise: without REVISE. --itself: no program
-runs; what expected_listing.py says is checked by the meaning of the words, where a job is small enough (scripts/every_basis.py)."""
+program as it stands, where no proved one is. --no-parametric: without PARAOBJ and PARARHS; --no-revise: without REVISE; --no-bases: without
+DUAL, PUNCH and INSERT. --itself: no program runs; what expected_listing.py says is checked by the meaning of the words, where a job is small
+enough (scripts/every_basis.py)."""
 import collections, random, re, sys
 import every_basis, expected_listing, runner
 
@@ -131,42 +134,96 @@ def is_lawful(problem):
 
 
 def revising(chance, deck):
-    "the statements that revise the deck's problem and solve what comes of it, and the deck of the revision"
+    "the statements that revise the deck's problem and solve what comes of it, the deck of the revision, and the new SETUP"
     problem = expected_listing.Problem(deck.cards())
     cards, revised = revision(chance, problem)
     words = [f"'{word}','{name}'" for word, section in (("RANGE", "RANGES"), ("BOUND", "BOUNDS")) for name in revised.sets[section]][:1]
     setup = f"SETUP({','.join([*words, chance.choice(SENSES)])})"
-    return statements("REVISE", "INITIALZ", "MOVE(XOBJ,'OBJ')", setup) + solving("R"), cards
+    return statements("REVISE", "INITIALZ", "MOVE(XOBJ,'OBJ')", setup) + solving("R"), cards, setup
+
+
+def run_of(program, cards):
+    "the run of a job, as it is worked out"
+    run = expected_listing.Run("\n".join([*statements("PROGRAM"), *program, *statements("PEND"), *cards]) + "\n")
+    run.run()
+    return run
+
+
+def keeping(setup, cards, names):
+    """the statements that set up again and take the basis at which PRIMAL ended, and its deck; where it is optimal its prices are right, and
+    DUAL goes on for each right-hand side, else PRIMAL"""
+    run = run_of(statements("CONVERT", "MOVE(XOBJ,'OBJ')", setup, "MVADR(XDONFS,KEEP)", "MVADR(XDOUNB,KEEP)", "PRIMAL", "KEEP:PUNCH"), cards)
+    program = statements(setup, "INSERT", "PUNCH")
+    if run.mark != "OPTIMAL":
+        return program + solving("K"), run.punched
+    for letter, name in enumerate(sorted(names)):
+        program += statements(f"MOVE(XRHS,'{name}')") + [card.replace("PRIMAL", "DUAL") for card in solving(f"K{letter}")]
+    return program + statements("PUNCH"), run.punched
+
+
+def basis_cards(chance, lp):
+    "a basis deck at random; most have no fault, and some of these are singular"
+    def code(k, codes):
+        fitting = [word for word, ends in zip(codes, (lp.upper, lp.lower)) if ends[k] is not None]
+        return chance.choice(fitting if fitting and chance.random() < 0.97 else codes)
+
+    rows = [k for k in range(lp.m) if lp.lower[k] is not None or lp.upper[k] is not None or chance.random() < 0.03]
+    columns = list(range(lp.m, lp.m + lp.n))
+    count = chance.randint(0, min(len(rows), len(columns)))
+    chance.shuffle(columns)
+    cards = [f" {code(row, ('XU', 'XL'))} {lp.names[column]:<10}{lp.names[row]}" for column, row in zip(columns, chance.sample(rows, count))]
+    limited = [k for k in columns[count:] if lp.lower[k] is not None or lp.upper[k] is not None]
+    cards += [f" {code(k, ('UL', 'LL'))} {lp.names[k]}" for k in limited if chance.random() < 0.4]
+    wrong = [" XX A", " XU NOBODY    OBJ", " UL", "    C0", "ROWS", "LAST", "NAME          TWICE", *(card[:13] + "X" + card[14:] for card in cards if len(card) > 14),
+             *cards, *(card[:14] + "NOBODY" for card in cards), *(f"{card:<24}1" for card in cards)]
+    if chance.random() < 0.15:
+        cards.insert(chance.randint(0, len(cards)), chance.choice(wrong))
+    chance.shuffle(cards)
+    return ["NAME          BASIS", *cards, *(["ENDATA"] if chance.random() < 0.98 else [])]
+
+
+def basing(chance, setup, program, cards):
+    "the statements that take a basis deck made at random and solve from it, as far as they come, and the deck"
+    verb = chance.choice(("DUAL", "PRIMAL"))
+    others = ["MOVE(XITERLIM,'NONE')"] if chance.random() < 0.1 else [f"MOVE(XITERLIM,{chance.randint(0, 3)})"] if chance.random() < 0.1 else []
+    solve = [card.replace("PRIMAL", verb) for card in solving("I")]
+    return statements(setup, "INSERT", "PUNCH", *others) + solve + statements("PUNCH"), basis_cards(chance, run_of([*program, *statements(setup)], cards).lp)
 
 
 SENSES = ("'MIN'", "'MAX'")
 
 
-def job(seed, is_parametric, revises):
+def job(seed, is_parametric, revises, has_bases):
     chance = random.Random(seed)
     deck = Deck(chance)
     words = (["'RANGE','RG'"] if deck.ranges else []) + (["'BOUND','BD'"] if deck.bounds else []) + [chance.choice(SENSES)]
-    program = statements("PROGRAM", "CONVERT", "MOVE(XOBJ,'OBJ')", f"SETUP({','.join(words)})") + solving("A")
+    setup = f"SETUP({','.join(words)})"
+    program = statements("CONVERT", "MOVE(XOBJ,'OBJ')", setup) + solving("A")
     names = {name for name, _, _ in deck.values}
     if names == {"B1", "B2"}:
         program += statements("MOVE(XRHS,'B2')") + solving("B")
     if is_parametric:
         program += sweeping(chance, "PARAOBJ", "MOVE(XCHROW,'CHG')")
         program += sweeping(chance, "PARARHS", f"MOVE(XCHCOL,'{max(names)}')") if names else []
-    cards = deck.cards()
-    if revises:
-        more, others = revising(chance, deck)
-        program, cards = program + more, cards + others
-    return "\n".join([*program, *statements("BCDOUT", "EXIT", "PEND"), *cards]) + "\n"
+    cards, revised = deck.cards(), revising(chance, deck) if revises else ([], [], setup)
+    if has_bases:
+        more, basis = keeping(setup, cards, names)
+        program, cards = program + more, cards + basis
+    program, cards = program + revised[0] + statements("BCDOUT"), cards + revised[1]
+    if has_bases:
+        more, basis = basing(chance, revised[2], program, cards)
+        program, cards = program + more, cards + basis
+    return "\n".join([*statements("PROGRAM"), *program, *statements("EXIT", "PEND"), *cards]) + "\n"
 
 
 def kind_of(line):
-    "what is counted of a listing: verdicts, RANGE, ends of parametric runs"
+    "what is counted of a listing: verdicts, RANGE, ends of parametric runs, faults"
     if line == "RANGE":
         return "ranges"
-    if line.startswith("REVISE "):
-        return "revised"
-    found = re.match("PRIMAL (OPTIMAL|INFEASIBLE|UNBOUNDED) |(PARAOBJ|PARARHS) (ENDS|INFEASIBLE|UNBOUNDED) ", line)
+    if line.startswith(("REVISE ", "INSERT ")):
+        return {"R": "revised", "I": "inserted"}[line[0]]
+    found = re.match("(?:PRIMAL|(DUAL)) (OPTIMAL|INFEASIBLE|UNBOUNDED) |(PARAOBJ|PARARHS) (ENDS|INFEASIBLE|UNBOUNDED) "
+                     "|STOP (?:10|12) (VERB|DECK) FAULT ([0-9]+)", line)
     return found and " ".join(word for word in found.groups() if word).lower()
 
 
@@ -182,13 +239,14 @@ def by_program(jobs, expected, unproved):
 
 
 def main(words):
-    modes = {word for word in words if word in ("--unproved", "--itself", "--no-parametric", "--no-revise")}
+    modes = {word for word in words if word in ("--unproved", "--itself", "--no-parametric", "--no-revise", "--no-bases")}
     numbers = [word for word in words if word not in modes]
     if any(not word.isdigit() for word in numbers) or len(numbers) > 2 or {"--unproved", "--itself"} <= modes:
         print(__doc__)
         return 0 if words in (["-h"], ["--help"]) else 64
     first, count = [int(word) for word in numbers] + [0, 300][len(numbers):]
-    jobs = {str(seed): job(seed, "--no-parametric" not in modes, "--no-revise" not in modes) for seed in range(first, first + count)}
+    parts = [word not in modes for word in ("--no-parametric", "--no-revise", "--no-bases")]
+    jobs = {str(seed): job(seed, *parts) for seed in range(first, first + count)}
     expected, verdicts, looked, wrong = {}, collections.Counter(), 0, {}
     for name, text in jobs.items():
         run = every_basis.Watched(text) if "--itself" in modes else expected_listing.Run(text)
