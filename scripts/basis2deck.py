@@ -17,7 +17,7 @@ A column that no line names stands where SETUP puts it: at its lower limit, or e
 shortened for the job are shortened here. What is placed otherwise than the file says, since a limit isn't there, is said on standard error:
 a basis is a place to begin, and none makes another problem. It ends with 0, with 64 for wrong use, 65 where a file is refused, 66 where it
 can't be read, 73 where DECK can't be written."""
-import argparse, sys
+import argparse, os, sys
 import basis_file, listing2json, mps2job, mps_file
 
 
@@ -63,6 +63,11 @@ def read_basis(path, model, writer):
         raise Ended(65, f"{path}: {cause}")
 
 
+def same_file(path, other):
+    "(a device isn't written over)"
+    return other is not None and os.path.isfile(other) and os.path.realpath(path) == os.path.realpath(other)
+
+
 def main():
     if any(word in ("-h", "--help") for word in sys.argv[1:]):
         print(__doc__)
@@ -77,6 +82,8 @@ def main():
     options, passed = parser.parse_known_args()
     if unknown := [word for word in passed if not word.startswith("--")]:
         parser.error(f"one model and one basis; what is {unknown[0]}?")
+    if options.deck and any(same_file(options.deck, path) for path in (options.model, options.basis, options.names)):
+        parser.error("DECK is a file of its own")
     try:
         job = read_job(options.model, passed)
         if options.names:
