@@ -241,6 +241,8 @@ COLUMNS
  C EVEN 1
  D COST 1
  D BAND 1
+ F COST 1
+ F TOP 1
 RHS
  R TOP 5
  R LOW 2
@@ -252,6 +254,7 @@ BOUNDS
  MI W C
  UP W C 7
  FR W D
+ FX W F 2
 ENDATA
 """
 CARDS = "NAME {}\n{}\nENDATA\n"
@@ -259,7 +262,7 @@ CARDS = "NAME {}\n{}\nENDATA\n"
 DECKS = ((" XL A TOP", None, " XU A         TOP"), (" XU B LOW", None, " XL B         LOW"), (" XU C EVEN", None, " XL C         EVEN"),
          (" XU D BAND", "activity", " XU D         BAND"), (" XL D BAND", "clp", " XL D         BAND"), (" XL D BAND", "esolver", " XL D         BAND"),
          (" XL D BAND", "lp_solve", " XU D         BAND"), (" XU D BAND", "lp_solve", " XL D         BAND"), (" UL A", None, " UL A"),
-         (" LL A", None, ""), (" UL C", None, ""), (" LL C", None, ""), (" UL B", None, ""), ("* a remark\n\n XU\tB\tLOW\n", None, " XL B         LOW"),
+         (" LL A", None, ""), (" UL C", None, ""), (" LL C", None, ""), (" UL B", None, ""), (" UL F", None, ""), ("* a remark\n\n XU\tB\tLOW\n", None, " XL B         LOW"),
          (" XL D TOP\n XL A LOW", None, " XU A         TOP\n XL D         LOW"))
 # a basis that is refused, the line and a part of what is said
 REFUSED = ((" XX A TOP", 2, "XX isn't XU, XL, UL or LL"), (" XL Z TOP", 2, "no column Z"), (" XL A NONE", 2, "no row NONE"), (" UL Z", 2, "no column Z"),
@@ -278,9 +281,9 @@ def check_hand():
     for cards, line, words in REFUSED:
         check_refused(CARDS.format("HAND", cards), line, words, model)
     for text, line, words in (("", 1, "ends before ENDATA"), (" XL A TOP\nENDATA\n", 1, "before NAME"), ("NAME\n XL A TOP\n", 2, "ends before ENDATA"),
-                              ("c x\ns bas 3 4 f f 0\n", 2, "the model has 4 and 4"), ("c x\ns ipt 4 4 o 0\n", 2, "isn't the solution of a basis"),
-                              ("s bas 4 4 f f 0\ni 1 q 0 0\n", 2, "b, l, u, f or s"), ("s bas 4 4 f f 0\ni 1 b 0 0\ne o f\n", 3, "are missing"),
-                              ("s bas 4 4 f f 0\ni 5 b 0 0\n", 2, "b, l, u, f or s"), ("s bas 4 4 f f 0\ni 1 b 0 0\ni 1 b 0 0\n", 3, "an earlier line")):
+                              ("c x\ns bas 3 4 f f 0\n", 2, "the model has 4 and 5"), ("c x\ns ipt 4 5 o 0\n", 2, "isn't the solution of a basis"),
+                              ("s bas 4 5 f f 0\ni 1 q 0 0\n", 2, "b, l, u, f or s"), ("s bas 4 5 f f 0\ni 1 b 0 0\ne o f\n", 3, "are missing"),
+                              ("s bas 4 5 f f 0\ni 5 b 0 0\n", 2, "b, l, u, f or s"), ("s bas 4 5 f f 0\ni 1 b 0 0\ni 1 b 0 0\n", 3, "an earlier line")):
         check_refused(text, line, words, model)
     said = basis_file.read_text(CARDS.format("HAND", " UL B"), model).said
     check(f"a limit that isn't there is said: {said}", said == ["line 2: column B has no upper limit; it stands at its lower one"])
@@ -364,7 +367,7 @@ def check_prove(folder):
         ended = call(SCRIPTS / "prove", "--program", stub(folder, mode), *words, model)
         check(f"prove, {mode}: {ended}", ended[0] == status and said in ended[2][-1])
     check_singular(folder, program)
-    check_solvers(folder, model, program, objective)
+    check_solvers(folder, program)
 
 
 def check_singular(folder, program):
@@ -376,16 +379,46 @@ def check_singular(folder, program):
           ended[2][-1].endswith("(INSERT of two.bas and PRIMAL: the basis is singular)"))
 
 
-def check_solvers(folder, model, program, objective):
-    "a solver that is asked; of a model to maximize, whose objective has a constant, too"
+MOST = """NAME MOST
+OBJSENSE
+ MAX
+ROWS
+ N COST
+ L A
+ E B
+ G D
+COLUMNS
+ X COST 3
+ X A 2
+ Y COST 1
+ Y B 1
+ Y D 1
+ Z COST -1
+ Z D 1
+RHS
+ R A 1
+ R B 4
+ R D 1
+ R COST 4
+RANGES
+ S A .5
+ S B -2
+ S D 2
+BOUNDS
+ MI W Z
+ UP W Z -1
+ENDATA
+"""
+
+
+def check_solvers(folder, program):
+    "a solver that is asked, of a model to maximize whose objective has a constant: X is 1/2, Y 4 and Z -3"
+    model = folder / "most.mps"
+    model.write_text(MOST)
     for solver in (solver for solver in SOLVERS if shutil.which(solver)):
         ended = call(SCRIPTS / "prove", "--program", program, "--with", solver, model)
-        check(f"prove --with {solver}: {ended}", ended[0] == 0 and f"objective {objective}, by INSERT of {solver}'s basis" in ended[2][-1])
-        most = folder / "most.mps"
-        most.write_text("NAME MOST\nOBJSENSE\n MAX\nROWS\n N COST\n L A\nCOLUMNS\n X COST 3\n X A 2\nRHS\n R A 1\n R COST 4\nENDATA\n")
-        ended = call(SCRIPTS / "prove", "--program", program, "--with", solver, most)
-        line = f"OPTIMAL, objective 3/2, -5/2 with the file's constant, by INSERT of {solver}'s basis and PRIMAL in 0 steps"
-        check(f"prove --with {solver} to maximize: {ended}", ended[0] == 0 and ended[2][-1].endswith(line))
+        line = f"OPTIMAL, objective 17/2, 9/2 with the file's constant, by INSERT of {solver}'s basis and PRIMAL in 0 steps"
+        check(f"prove --with {solver}: {ended}", ended[0] == 0 and ended[2][-1].endswith(line))
 
 
 def main(words):
