@@ -2,8 +2,8 @@
 use crate::bases::BASES;
 use crate::jobs::answer_of;
 use crate::rows::{
-    CONTROL_FAULTS, DECK_FAULTS, DECKS, DeckRow, OVERFLOWS, PLANS, RANGES, REVISIONS, Row, VERB_FAULTS,
-    VERDICTS,
+    CONTROL_FAULTS, DECK_FAULTS, DECKS, DeckRow, OVERFLOWS, PLANS, RANGES, REVISIONS, Row,
+    VERB_FAULTS, VERDICTS,
 };
 use crate::sweeps::PARAMETRIC;
 use std::alloc::Global;
