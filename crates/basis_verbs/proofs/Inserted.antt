@@ -1,5 +1,5 @@
 -- What INSERT comes to.
-use Rattle.std.proofs.Common.{◌≡◌, ℕ, ◌+◌, ◌-◌, ◌≤◌, List, [], ◌∷◌, Option, Some, None, Result, Ok, Err, inl, inr, refl, sym, ap, subst, ◌∙◌, arith, length, drop, All, map}
+use Rattle.std.proofs.Common.{◌≡◌, ℕ, ◌+◌, ◌-◌, ◌≤◌, List, [], ◌∷◌, Option, Some, None, IfSome, Result, Ok, Err, inl, inr, refl, sym, ap, subst, ◌∙◌, arith, length, drop, All, map}
 use Rattle.std.proofs.lemmas.List.Elements.{All-map}
 use Rattle.exact_values.specs.Rational.{ℚ}
 use Rattle.job_devices.specs.declared.device.WriteStop.{WriteStop}
@@ -7,7 +7,7 @@ use Rattle.job_devices.specs.Text.{Writes}
 use Rattle.card_definitions.specs.Cards.{Card, live, numbered_cards, cards_between}
 use Rattle.problem_definitions.specs.Names.{Name}
 use Rattle.problem_definitions.specs.Problem.{Problem}
-use Rattle.problem_file.specs.Filed.{filed_under}
+use Rattle.problem_file.specs.Filed.{Filed, filed_under}
 use Rattle.deck_definitions.specs.declared.DeckFault.{DeckFault}
 use Rattle.deck_definitions.specs.Conversion.{deck_name}
 use Rattle.deck_definitions.specs.Decks.{decks_of, deck_taken}
@@ -25,6 +25,7 @@ use Rattle.bounded_primal.proofs.SameChoices.{listed_is}
 use Rattle.control_definitions.specs.Program.{Insert}
 use Rattle.control_definitions.specs.Cells.{Cells}
 use Rattle.selection_definitions.specs.Selection.{matrix_of, selected}
+use Rattle.listing_definitions.specs.declared.Mark.{Mark}
 use Rattle.listing_definitions.specs.declared.VerbFault.TheVariants.{NoSetup, DeckNotFound}
 use Rattle.listing_definitions.specs.Report.{Inserted}
 use Rattle.listing_definitions.specs.Text.{report_text}
@@ -47,7 +48,7 @@ use Rattle.run_machine.specs.Ends.{end_shown}
 use Rattle.run_machine.specs.Kept.{Setup}
 use Rattle.run_machine.specs.Machines.{Machine}
 use Rattle.run_machine.specs.Singular.{IsSheetOf, lines_shown}
-use Rattle.run_machine.specs.Standing.{IsReady, IsPresent, Stands, IsSound}
+use Rattle.run_machine.specs.Standing.{IsReady, IsSolved, IsPresent, Stands, IsSound}
 use Rattle.run_machine.specs.Statements.{Executes}
 use Rattle.run_machine.proofs.Giving.{gives_fault, gives_found, quietly, loudly, cut_off}
 use Rattle.run_machine.proofs.Selected.{same_matrix}
@@ -220,6 +221,14 @@ module _ (card : ℕ) (cards : List (List ℕ)) (machine : Machine) where
         basis_found (Err halted) h = h
 
 -- ---- what is found decides what the statement does
+
+-- without a setup nothing is solved
+nothing_solved : (cells : Cells) (file : Filed) (mark : Option Mark) → IfSome mark (λ m. IfSome None (IsSolved m cells file))
+nothing_solved cells file None = tt
+nothing_solved cells file (Some mark) = tt
+
+pub sound_emptied : (cards : List (List ℕ)) (machine : Machine) (file : Filed) → IsSound cards machine → IsSound cards (record machine { setup = None; file = file })
+sound_emptied cards machine file s = record { first = s.first; last = s.last; demands = s.demands; ready = tt; solved = nothing_solved machine.cells file machine.mark }
 
 module _ (card : ℕ) {P : Type 0} (written stopped_at : P → Option (List ℕ)) (faults refusals : P → ℕ) (cards : List (List ℕ)) (machine : Machine) where
   pub ends_quietly : (print : P) (new : Machine) (end : End) (ending : endings.Ending) → end_shown end ≡ ending → EndsSo card cards machine ending →
