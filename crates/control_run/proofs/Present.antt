@@ -73,15 +73,15 @@ module _ (rule : Rule) (sheet : Sheet) (s now : Basis) (limit : Option ℕ) (bef
       subst (λ (bs : List Basis). LieIn sheet.lp.now.matrix after (earlier ++ s ∷ bs)) same.same_bases (w.lie earlier lie)
 
 module _ (sheet : Sheet) (s now : Basis) (before after : List Basics) (report : PathReport) (a : Matrix) (b : Basics) (lawful : IsLinearProgram sheet.lp.now) (has : HasRates a b sheet.lp.now s) where
-  at : IsNonsingularBasis sheet.lp.now s
-  at = record { is_basis = has.is_basis; nonsingular = has.nonsingular }
+  begins : IsNonsingularBasis sheet.lp.now s
+  begins = record { is_basis = has.is_basis; nonsingular = has.nonsingular }
 
   pub path_reached : (limit : Option ℕ) (r : IsReached sheet s now limit report) → WaypointsFollow sheet.lp.now s now before after →
       PathReaches solvers.Primal (sheet_shown sheet) s now limit before after r.bases (verdict_shown sheet report.outcome) (check_shown report.refused)
   path_reached limit r w = record {
     reaches = r.reaches;
     leads = r.leads;
-    lie = lie_reached turn sheet s now limit before after report (λ bases others ending first second. one_path sheet.lp.now lawful s bases others ending ending at first second) r w;
+    lie = lie_reached turn sheet s now limit before after report (λ bases others ending first second. one_path sheet.lp.now lawful s bases others ending ending begins first second) r w;
   }
 
   pub dual_reached : (limit : ℕ) (r : IsDualReached sheet s now limit report) → RuleWaypointsFollow dual_turn sheet.lp.now s now before after →
@@ -89,5 +89,5 @@ module _ (sheet : Sheet) (s now : Basis) (before after : List Basics) (report : 
   dual_reached limit r w = record {
     reaches = (r.0, r.1.reaches);
     leads = r.1.leads;
-    lie = lie_reached dual_turn sheet s now (Some limit) before after report (λ bases others ending first second. one_dual_path sheet.lp.now lawful s bases others ending ending at first second) r.1 w;
+    lie = lie_reached dual_turn sheet s now (Some limit) before after report (λ bases others ending first second. one_dual_path sheet.lp.now lawful s bases others ending ending begins first second) r.1 w;
   }

@@ -11,7 +11,7 @@ ghost use Rattle.control_run.specs.Running.{Steps};
 use crate::parametric::{sweep_objective, sweep_rhs};
 use crate::ranges::show_ranges;
 use crate::solution::show_solution;
-use crate::solving::{SolvingVerb, solve};
+use crate::solving::{solve_dual, solve_primal};
 use basis_verbs::{insert_basis, punch_present};
 use card_reader::Cards;
 use control_compiler::{Program, Verb};
@@ -48,8 +48,8 @@ fn execute<E: Engine, P: Sink, U: Sink>(
         Verb::Goto(position) => Ok(machine.jump(*position)),
         Verb::Convert => machine.convert(alloc, cards, print, card),
         Verb::Setup(options) => set_up(alloc, machine, print, card, options),
-        Verb::Primal => solve(alloc, machine, print, card, SolvingVerb::Primal),
-        Verb::Dual => solve(alloc, machine, print, card, SolvingVerb::Dual),
+        Verb::Primal => solve_primal(alloc, machine, print, card),
+        Verb::Dual => solve_dual(alloc, machine, print, card),
         Verb::Solution => show_solution(alloc, machine, print, card),
         Verb::Revise => machine.revise(alloc, cards, print, card),
         Verb::Ranging => show_ranges(alloc, machine, print, card),

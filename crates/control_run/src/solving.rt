@@ -2,6 +2,7 @@
 ghost use Rattle.std.specs.Prelude.{◌≡◌, ℕ, List, Option, None, Some, IfSome, IfOk};
 ghost use Rattle.problem_definitions.specs.Problem.{Problem};
 ghost use Rattle.problem_file.specs.Filed.{filed_under};
+ghost use Rattle.control_definitions.specs.Program as program;
 ghost use Rattle.lp_definitions.specs.LinearProgram.{IsLinearProgram};
 ghost use Rattle.lp_definitions.specs.Basis.{Basics};
 ghost use Rattle.question_definitions.specs.Answers as answers;
@@ -137,11 +138,11 @@ fn follow_dual<P: Sink, R: Rates>(
 // Follows the path of a verb from a basis, within the limit that the cells give it, and prints its verdict.
 fn follow<P: Sink, R: Rates>(
     alloc: Global,
-    verb: SolvingVerb,
-    cells: &Cells,
     sheet: Sheet<'_>,
     basis: &mut Basis,
     rates: &mut R,
+    verb: SolvingVerb,
+    cells: &Cells,
     print: &mut P,
 ) -> Result<Finding, Halt>
     requires sheet { IsSheet sheet }
@@ -165,10 +166,10 @@ fn follow<P: Sink, R: Rates>(
 // Selects by the cells as they stand, and follows the path of a verb from the present basis of a setup.
 fn find<E: Engine, P: Sink>(
     alloc: Global,
-    verb: SolvingVerb,
     cells: &Cells,
     file: &ProblemFile,
     setup: &mut Setup<E>,
+    verb: SolvingVerb,
     print: &mut P,
 ) -> Result<Finding, Halt>
     requires { IsReady file.now setup.old }
@@ -190,25 +191,20 @@ fn find<E: Engine, P: Sink>(
     let sheet = Sheet { problem, lp: &lp };
     let finding = follow(
         alloc,
-        verb,
-        cells,
         sheet,
         &mut setup.basis,
         &mut setup.engine,
+        verb,
+        cells,
         print,
     )?;
     setup.lp = lp;
     Ok(finding)
 }
 
-/// PRIMAL and DUAL: selects again by the cells as they stand, follows the path of the verb from the present basis to its end, and prints
-/// the verdict, which leaves its mark. An optimal verdict goes on with the next statement, and any other with the position of its demand,
-/// if that is set.
-///
-/// The statement is refused where there is no setup, and where the cells select nothing; and DUAL where a price is wrong. It ends the run
-/// where the path goes on past the limit of steps, if there is one, and where an operation is refused. Where there is no memory, nothing
-/// is printed.
-pub fn solve<E: Engine, P: Sink>(
+// Selects by the cells as they stand, follows the path of the verb from the present basis to its end, and prints the verdict, which
+// leaves its mark and decides what follows.
+fn solve<E: Engine, P: Sink>(
     alloc: Global,
     machine: &mut Machine<Setup<E>>,
     print: &mut P,
@@ -227,7 +223,47 @@ pub fn solve<E: Engine, P: Sink>(
         return Refusal::Fault(VerbFault::NoSetup).act(card);
     };
     machine.mark = None;
-    let finding = find(alloc, verb, &machine.cells, &machine.file, setup, print)?;
+    let finding = find(alloc, &machine.cells, &machine.file, setup, verb, print)?;
     machine.mark = mark_left(&finding);
     Ok(act_of(&machine.cells, card, finding))
+}
+
+/// PRIMAL: selects again by the cells as they stand, follows the path from the present basis to its end, and prints the verdict, which
+/// leaves its mark. An optimal verdict goes on with the next statement, and any other with the position of its demand, if that is set.
+///
+/// The statement is refused where there is no setup, and where the cells select nothing. It ends the run where the path goes on past
+/// the limit of steps, if there is one, and where an operation is refused. Where there is no memory, nothing is printed.
+pub fn solve_primal<E: Engine, P: Sink>(
+    alloc: Global,
+    machine: &mut Machine<Setup<E>>,
+    print: &mut P,
+    card: u32,
+) -> Result<Act, Halt>
+    requires demands { AreDemands machine.old.cells }
+    requires ready { IfSome machine.old.setup (IsReady machine.old.file) }
+    ensures acts { (cards : List (List ℕ)) →
+        Executes linear_programming program.Primal card P.written P.stopped_at P.faults P.refusals print.old
+        print.new cards machine.old machine.new result }
+    ensures sound { (cards : List (List ℕ)) → IsSound cards machine.old →
+        IsSound cards machine.new }
+{
+    solve(alloc, machine, print, card, SolvingVerb::Primal)
+}
+
+/// DUAL: the same of the dual path, which always has a limit of steps. The run ends where a price of the present basis is wrong.
+pub fn solve_dual<E: Engine, P: Sink>(
+    alloc: Global,
+    machine: &mut Machine<Setup<E>>,
+    print: &mut P,
+    card: u32,
+) -> Result<Act, Halt>
+    requires demands { AreDemands machine.old.cells }
+    requires ready { IfSome machine.old.setup (IsReady machine.old.file) }
+    ensures acts { (cards : List (List ℕ)) →
+        Executes linear_programming program.Dual card P.written P.stopped_at P.faults P.refusals print.old
+        print.new cards machine.old machine.new result }
+    ensures sound { (cards : List (List ℕ)) → IsSound cards machine.old →
+        IsSound cards machine.new }
+{
+    solve(alloc, machine, print, card, SolvingVerb::Dual)
 }

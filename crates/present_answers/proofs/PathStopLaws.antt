@@ -79,4 +79,4 @@ module _ (sheet : Sheet) (s now : Basis) (limit : ℕ) (before after : List Basi
   dual_stops (dual_stop.NotDualFeasible j) h = h
   dual_stops dual_stop.Limit h = h
   dual_stops (dual_stop.Overflow e) h = overflows dual_turn (Dual sheet.lp.now) sheet s now limit (Some limit) (left_is sheet.lp.now (Some limit)) before after e h
-  dual_stops dual_stop.NoMemory h = (h.0, h.1.0)
+  dual_stops dual_stop.NoMemory h = (h.0, h.1)
