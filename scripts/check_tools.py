@@ -152,6 +152,8 @@ def try_measures(folder):
     printed = call(SCRIPTS / "bench_expected.py").stdout + 2 * call(SCRIPTS / "path_expected.py", "4").stdout
     check("bench_expected.py, path_expected.py", printed == (runner.TOP / "crates/bench/stdout").read_bytes())
     check("path_expected.py 2", call(SCRIPTS / "path_expected.py", "2").stdout == b"OPTIMAL STEPS 4 OBJECTIVE 180/1\n")
+    # on a board of 2 by 2 the lines and the diagonals leave one plan, a half on each square
+    check("path_expected.py queens 2", call(SCRIPTS / "path_expected.py", "queens", "2").stdout.endswith(b" OBJECTIVE 9/2\n"))
     deck = folder / "deck"
     deck.write_text("NAME          ONE\nROWS\n N  COST\n G  LOW\nCOLUMNS\n    X         COST      3              LOW       2\nRHS\n    B         LOW       8\nENDATA\n")
     widths = call(SCRIPTS / "path_widths.py", "--all", deck).stdout

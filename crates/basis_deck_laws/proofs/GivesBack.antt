@@ -1,14 +1,13 @@
 -- The deck that is written for a basis stands for that basis.
 use Rattle.std.proofs.Common.{◌≡◌, ◌≢◌, ℕ, zero, suc, ◌+◌, ◌-◌, ◌<◌, ◌≤◌, ◌⊎◌, inl, inr, Bool, true, false, cond, not, ◌||◌, ◌&&◌, unwrap_or, List, [], ◌∷◌, ◌++◌, Option, Some, None, Ok, length, map, get_or, refl, sym, ap, ap₂, subst, ◌∙◌, arith, zero-add}
-use Rattle.std.specs.Prelude.{nat_eq, nat_le, eqb, IsSome, codes, filter, zip, fold}
+use Rattle.std.specs.Prelude.{nat_eq, nat_le, eqb, IsSome, codes, filter, zip}
 use Rattle.std.proofs.lemmas.List.Recursion.{is_count_by}
 use Rattle.std.specs.List.{AllByRecursion, list_any, flat_map, last_or, cons_option}
 use Rattle.std.specs.Option.{option_or, option_map}
 use Rattle.std.proofs.lemmas.Bool.Decides.{eqb_tells}
 use Rattle.std.proofs.lemmas.List.{length-set, append-nil, get_or_default, same_lists}
 use Rattle.std.proofs.lemmas.List.Folds.{list_any-append}
-use Rattle.std.proofs.lemmas.Grind.{flat_map-append}
-use Rattle.lp_definitions.specs.LinearProgram.{LinearProgram, size, numbers_from, variables, lower_of, upper_of, IsRow, IsVariable}
+use Rattle.lp_definitions.specs.LinearProgram.{LinearProgram, size, numbers_from, lower_of, upper_of, IsRow, IsVariable}
 use Rattle.lp_definitions.specs.Basis.{is_basic, status_of, with_status, opening_status_of, opening_at_of, opening_statuses, IsAllowed, IsBasis}
 use Rattle.lp_definitions.specs.declared.Status.{Status}
 use Rattle.lp_definitions.specs.declared.Status.TheVariants.{Bs, Ll, Ul, Fr}
@@ -22,7 +21,6 @@ use Rattle.problem_definitions.specs.Valid.{IsProblem}
 use Rattle.problem_definitions.proofs.Each.{each-append}
 use Rattle.deck_definitions.specs.declared.DeckFault.{DeckFault}
 use Rattle.deck_definitions.specs.declared.DeckFaultKind.TheVariants.{NoEndata}
-use Rattle.deck_definitions.specs.declared.Section.{Section}
 use Rattle.deck_definitions.specs.declared.Section.TheVariants.{Header, Endata}
 use Rattle.deck_definitions.specs.Sections.{is_section, is_section_card, section_begun, section_after, is_section_after}
 use Rattle.deck_definitions.specs.Conversion.{section_card_fault, first_faulty}

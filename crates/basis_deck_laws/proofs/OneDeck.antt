@@ -1,5 +1,5 @@
 -- The cards that are written for a basis come back from their text, as one deck under the problem's name.
-use Rattle.std.proofs.Common.{◌≡◌, ℕ, suc, ◌+◌, ◌-◌, Bool, true, false, cond, List, [], ◌∷◌, ◌++◌, Some, map, refl, sym, ap, subst, ◌∙◌}
+use Rattle.std.proofs.Common.{◌≡◌, ℕ, suc, ◌+◌, ◌-◌, Bool, true, false, cond, List, [], ◌∷◌, ◌++◌, Some, map, refl, sym, subst}
 use Rattle.std.specs.Prelude.{codes, zip}
 use Rattle.std.specs.List.{AllByRecursion}
 use Rattle.lp_definitions.specs.LinearProgram.{LinearProgram}

@@ -1,6 +1,6 @@
 -- What the cards say that are written for a basis, whatever cards stand before them.
-use Rattle.std.proofs.Common.{◌≡◌, ◌≢◌, ℕ, suc, ◌+◌, ◌-◌, ◌<◌, ◌≤◌, ◌⊎◌, inl, inr, Bool, true, false, cond, not, ◌||◌, ◌&&◌, unwrap_or, List, [], ◌∷◌, ◌++◌, Option, Some, None, length, map, refl, sym, ap, ap₂, subst, ◌∙◌, arith}
-use Rattle.std.specs.Prelude.{nat_eq, IsSome, is_none, codes, if◌then◌else◌}
+use Rattle.std.proofs.Common.{◌≡◌, ℕ, ◌+◌, ◌-◌, ◌<◌, Bool, true, false, cond, not, ◌||◌, ◌&&◌, unwrap_or, List, [], ◌∷◌, ◌++◌, Option, Some, None, length, map, refl, sym, ap, ap₂, subst, ◌∙◌, arith}
+use Rattle.std.specs.Prelude.{IsSome, is_none, codes}
 use Rattle.std.specs.List.{AllByRecursion, list_any, flat_map}
 use Rattle.std.specs.Option.{option_or, option_map}
 use Rattle.std.proofs.lemmas.List.{length-map, append-nil, append_assoc}
@@ -9,11 +9,11 @@ use Rattle.lp_definitions.specs.LinearProgram.{LinearProgram, lower_of, upper_of
 use Rattle.lp_definitions.specs.Basis.{is_basic, status_of, IsAllowed, IsBasis}
 use Rattle.lp_definitions.specs.declared.Status.{Status}
 use Rattle.lp_definitions.specs.declared.Status.TheVariants.{Bs, Ll, Ul, Fr}
-use Rattle.card_definitions.specs.Words.{first_fault, named, is_empty, without_trailing, without_leading, ◌⟹◌}
+use Rattle.card_definitions.specs.Words.{first_fault, named, is_empty, without_leading, ◌⟹◌}
 use Rattle.card_definitions.specs.Cards.{Card, is_blank, is_skipped, live, numbered_from}
 use Rattle.card_definitions.specs.Fields.{Fixed, Reading, reading_of}
 use Rattle.card_definitions.proofs.Numbered.{live-append}
-use Rattle.problem_definitions.specs.Names.{Name, name_at, has_name}
+use Rattle.problem_definitions.specs.Names.{name_at}
 use Rattle.problem_definitions.specs.Problem.{Problem, row_names, group_names, has_row, has_group}
 use Rattle.problem_definitions.specs.Numbering.{entry_by, by_names}
 use Rattle.problem_definitions.specs.Valid.{IsNumberOf, IsProblem}
@@ -23,11 +23,9 @@ use Rattle.problem_definitions.proofs.PlainRows.{row_names-by}
 use Rattle.problem_definitions.proofs.Lawful.{IsLabel, names-by}
 use Rattle.deck_definitions.specs.declared.DeckFaultKind.{DeckFaultKind}
 use Rattle.deck_definitions.specs.declared.DeckFaultKind.TheVariants.{SectionOrder, UnknownRow, UnknownColumn, NamedTwice, NoSuchLimit, ExtraField}
-use Rattle.deck_definitions.specs.declared.Section.{Section}
 use Rattle.deck_definitions.specs.declared.Section.TheVariants.{Header, Endata}
 use Rattle.deck_definitions.specs.Sections.{is_section, is_section_card, section_words, section_word, section_after, is_section_after}
 use Rattle.deck_definitions.specs.Conversion.{section_card_fault, form_fault, first_faulty}
-use Rattle.deck_definitions.specs.Written.{data_card}
 use Rattle.deck_definitions.proofs.WrittenCards.{FitsField}
 use Rattle.deck_definitions.proofs.Steps.{section_after-push, first_faulty-append}
 use Rattle.revise_laws.proofs.ByNames.{named-lawful}
@@ -35,9 +33,9 @@ use Rattle.revise_laws.proofs.Places.{name_at-there, number_in-name_at}
 use Rattle.written_laws.proofs.Cards.{IsWritten, fields, written-card}
 use Rattle.written_laws.proofs.Facts.{none_found, not_found, fits-name, label-of}
 use Rattle.basis_deck_definitions.specs.Placings.{Code, Exchanges, Stands, code_words, HasNames, Placing, placings_by, row_variable, column_variable}
-use Rattle.basis_deck_definitions.specs.Reading.{has_limit_of, placings_on, placings_of, is_named_in, row_fault, filled_after, code_fault, by_code, basis_data_fault, basis_card_fault}
+use Rattle.basis_deck_definitions.specs.Reading.{has_limit_of, placings_on, placings_of, is_named_in, filled_after, code_fault, by_code, basis_data_fault, basis_card_fault}
 use Rattle.basis_deck_definitions.specs.Writing.{is_up, exchange_card, limit_card}
-use Rattle.basis_deck_laws.proofs.Lawful.{places, not_false}
+use Rattle.basis_deck_laws.proofs.Lawful.{places}
 
 -- ---- the code of an exchange
 

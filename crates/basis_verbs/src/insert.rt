@@ -205,8 +205,10 @@ fn installed<E: Engine>(
             dependency,
         }),
         Err(InstallStop::Overflow(evidence, engine)) => {
-            let end = overflow_end::<E>(alloc, &lp, &setup.basis, &engine, evidence, card)?;
-            Ok(Found::Ends(end))
+            match overflow_end::<E>(alloc, &lp, &setup.basis, &engine, evidence, card) {
+                Ok(end) => Ok(Found::Ends(end)),
+                Err(NoMemory) => Err(Halt::NoMemory),
+            }
         }
         Err(InstallStop::NoMemory) => Err(Halt::NoMemory),
     }

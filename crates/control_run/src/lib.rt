@@ -11,5 +11,5 @@ mod solving;
 mod status;
 mod sweep;
 
-pub use run::{run_on, run_program};
+pub use run::{RunEngine, run_on, run_program};
 pub use status::Status;
