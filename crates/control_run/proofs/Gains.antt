@@ -5,7 +5,7 @@ use Rattle.std.proofs.lemmas.List.Concat.{flat_map-append}
 use Rattle.job_devices.specs.Text.{IsFront, AppendsFront}
 use Rattle.deck_definitions.specs.Written.{card_text}
 use Rattle.listing_definitions.specs.Report.{Report}
-use Rattle.listing_definitions.specs.Ending.{Ending, Ended, WordsRefused, ControlStop, VerbStop, DeckStop, CardStop, LimitStop, StatementLimit, OverflowStop, ReadFault, PrintFault, PunchFault, Memory}
+use Rattle.listing_definitions.specs.Ending.{Ending, Ended, WordsRefused, ControlStop, VerbStop, SingularStop, PriceStop, DeckStop, CardStop, LimitStop, StatementLimit, OverflowStop, ReadFault, PrintFault, PunchFault, Memory}
 use Rattle.listing_definitions.specs.Text.{report_text}
 use Rattle.listing_definitions.specs.Listing.{reports_text}
 use Rattle.run_definitions.specs.Moves.{Gain, Nothing, Prints, Punches, printed_by}
@@ -36,6 +36,8 @@ gains_all (Ended code) text = refl
 gains_all WordsRefused text = refl
 gains_all (ControlStop fault) text = refl
 gains_all (VerbStop fault) text = refl
+gains_all (SingularStop basis) text = refl
+gains_all (PriceStop price) text = refl
 gains_all (DeckStop fault) text = refl
 gains_all (CardStop fault) text = refl
 gains_all (LimitStop reached) text = refl

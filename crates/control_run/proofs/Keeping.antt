@@ -4,7 +4,7 @@ use Rattle.problem_file.specs.Filed.{Filed}
 use Rattle.listing_definitions.specs.declared.Mark.{Mark}
 use Rattle.control_definitions.specs.Cells.{Cells}
 use Rattle.run_machine.specs.declared.finding.Finding.{Finding}
-use Rattle.run_machine.specs.declared.finding.Finding.TheVariants.{Refused, Overflow, Limit, Ended, Shown, Swept}
+use Rattle.run_machine.specs.declared.finding.Finding.TheVariants.{Refused, Overflow, WrongPrices, Limit, Ended, Shown, Swept}
 use Rattle.run_machine.specs.Machines.{Machine}
 use Rattle.run_machine.specs.Kept.{Setup}
 use Rattle.run_machine.specs.Standing.{AreDemands, IsReady, IsSolved, IsSound}
@@ -29,6 +29,7 @@ module _ (cells : Cells) (file : Filed) (setup new : Setup) where
   after_finding (Ended own) ends = ends
   after_finding (Refused fault) ends = tt
   after_finding (Overflow e place) ends = tt
+  after_finding (WrongPrices variable) ends = tt
   after_finding Limit ends = tt
   after_finding Shown ends = tt
   after_finding (Swept value) ends = tt
@@ -46,6 +47,7 @@ module _ (cards : List (List ℕ)) (old : Machine) (setup new : Setup) (ready : 
   demands_left : (finding : Finding) → AreDemands (cells_left finding old.cells)
   demands_left (Refused fault) = s.demands
   demands_left (Overflow e place) = s.demands
+  demands_left (WrongPrices variable) = s.demands
   demands_left Limit = s.demands
   demands_left (Ended mark) = s.demands
   demands_left Shown = s.demands

@@ -9,7 +9,7 @@ pub mod Sound
 pub mod Telling
 pub mod Present
 pub mod Solving_steps
-pub mod Primal_comes
+pub mod Solving_comes
 pub mod Keeping
 pub mod Showing
 pub mod Ranging

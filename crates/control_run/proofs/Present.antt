@@ -7,19 +7,23 @@ use Rattle.lp_definitions.specs.LinearProgram.{Matrix, LinearProgram, IsLinearPr
 use Rattle.lp_definitions.specs.Basis.{Basics, basics_of}
 use Rattle.lp_definitions.specs.Waypoints.{IsWithinOne, IsKept, KeepsWaypoints}
 use Rattle.lp_laws.proofs.WaypointLaws.{within_itself, within_by}
-use Rattle.method_definitions.specs.Path.{EndsAt, last_of}
+use Rattle.method_definitions.specs.Path.{PathEnding, Rule, turn, RuleEnd, RulePathEnds, last_of}
+use Rattle.method_definitions.specs.DualPath.{dual_turn}
+use Rattle.path_laws.specs.Laws.{IsNonsingularBasis, SameEnds}
 use Rattle.path_laws.proofs.OnePath.{one_path}
+use Rattle.dual_laws.proofs.OneDualPath.{one_path as one_dual_path}
+use Rattle.listing_definitions.specs.declared.Solver.TheVariants as solvers
 use Rattle.problem_definitions.specs.Problem.{Problem}
 use Rattle.problem_file.specs.Filed.{Filed, filed_under}
 use Rattle.control_definitions.specs.Program.{SetupOptions}
 use Rattle.selection_definitions.specs.Selection.{matrix_of}
 use Rattle.question_definitions.specs.Answers.{Basis}
 use Rattle.basis_values.specs.Calls.{HasRates, LieIn}
-use Rattle.bounded_primal.specs.Calls.{WaypointsFollow}
+use Rattle.bounded_primal.specs.Calls.{WaypointsFollow, RuleWaypointsFollow}
 use Rattle.listing_tables.specs.declared.sheet.Sheet.{Sheet}
 use Rattle.report_text.specs.Verdicts.{verdict_shown, check_shown}
 use Rattle.present_answers.specs.declared.path.PathReport.{PathReport}
-use Rattle.present_answers.specs.Reports.{sheet_shown, IsReached}
+use Rattle.present_answers.specs.Reports.{sheet_shown, RuleIsReached, IsReached, IsDualReached}
 use Rattle.run_definitions.specs.State.{Present, gone_through}
 use Rattle.run_machine.specs.Kept.{Setup}
 use Rattle.run_machine.specs.Standing.{IsPresent}
@@ -60,14 +64,30 @@ module _ (a : Matrix) where
 
 -- ---- the path that a verdict ends is the one that the waypoints follow
 
-pub path_reached : (sheet : Sheet) (s now : Basis) (limit : Option ℕ) (before after : List Basics) (report : PathReport) (a : Matrix) (b : Basics) → IsLinearProgram sheet.lp.now → HasRates a b sheet.lp.now s →
-    (r : IsReached sheet s now limit report) → WaypointsFollow sheet.lp.now s now before after →
-    PathReaches (sheet_shown sheet) s now limit before after r.bases (verdict_shown sheet report.outcome) (check_shown report.refused)
-path_reached sheet s now limit before after report a b lawful has r w =
-    let same = one_path sheet.lp.now lawful s w.bases r.bases r.reaches.ending r.reaches.ending (record { is_basis = has.is_basis; nonsingular = has.nonsingular })
-    (record { is_path = w.is_path; ends = subst (λ x. EndsAt sheet.lp.now x r.reaches.ending) (r.leads ∙ sym w.reaches) r.reaches.ends.ends }) r.reaches.ends in
-    record {
-      reaches = r.reaches;
-      leads = r.leads;
-      lie = λ earlier lie. subst (λ (bs : List Basis). LieIn sheet.lp.now.matrix after (earlier ++ s ∷ bs)) same.same_bases (w.lie earlier lie);
-    }
+module _ (rule : Rule) (sheet : Sheet) (s now : Basis) (limit : Option ℕ) (before after : List Basics) (report : PathReport)
+    (one : (bases others : List Basis) (ending : PathEnding) → RulePathEnds rule sheet.lp.now s bases ending → RulePathEnds rule sheet.lp.now s others ending → SameEnds bases others ending ending)
+    (r : RuleIsReached rule sheet s now limit report) (w : RuleWaypointsFollow rule sheet.lp.now s now before after) where
+  lie_reached : (earlier : List Basis) → LieIn sheet.lp.now.matrix before (earlier ++ s ∷ []) → LieIn sheet.lp.now.matrix after (earlier ++ s ∷ r.bases)
+  lie_reached earlier lie =
+      let same = one w.bases r.bases r.reaches.ending (record { is_path = w.is_path; ends = subst (λ x. RuleEnd rule sheet.lp.now x r.reaches.ending) (r.leads ∙ sym w.reaches) r.reaches.ends.ends }) r.reaches.ends in
+      subst (λ (bs : List Basis). LieIn sheet.lp.now.matrix after (earlier ++ s ∷ bs)) same.same_bases (w.lie earlier lie)
+
+module _ (sheet : Sheet) (s now : Basis) (before after : List Basics) (report : PathReport) (a : Matrix) (b : Basics) (lawful : IsLinearProgram sheet.lp.now) (has : HasRates a b sheet.lp.now s) where
+  begins : IsNonsingularBasis sheet.lp.now s
+  begins = record { is_basis = has.is_basis; nonsingular = has.nonsingular }
+
+  pub path_reached : (limit : Option ℕ) (r : IsReached sheet s now limit report) → WaypointsFollow sheet.lp.now s now before after →
+      PathReaches solvers.Primal (sheet_shown sheet) s now limit before after r.bases (verdict_shown sheet report.outcome) (check_shown report.refused)
+  path_reached limit r w = record {
+    reaches = r.reaches;
+    leads = r.leads;
+    lie = lie_reached turn sheet s now limit before after report (λ bases others ending first second. one_path sheet.lp.now lawful s bases others ending ending begins first second) r w;
+  }
+
+  pub dual_reached : (limit : ℕ) (r : IsDualReached sheet s now limit report) → RuleWaypointsFollow dual_turn sheet.lp.now s now before after →
+      PathReaches solvers.Dual (sheet_shown sheet) s now (Some limit) before after r.1.bases (verdict_shown sheet report.outcome) (check_shown report.refused)
+  dual_reached limit r w = record {
+    reaches = (r.0, r.1.reaches);
+    leads = r.1.leads;
+    lie = lie_reached dual_turn sheet s now (Some limit) before after report (λ bases others ending first second. one_dual_path sheet.lp.now lawful s bases others ending ending begins first second) r.1 w;
+  }

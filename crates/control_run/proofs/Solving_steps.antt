@@ -1,4 +1,4 @@
--- What PRIMAL finds, and what it does then.
+-- What PRIMAL and DUAL find.
 use Rattle.std.proofs.Common.{◌≡◌, ℕ, List, [], ◌∷◌, ◌++◌, Option, None, Some, Result, Ok, Err, length, refl, sym, ap, subst, ◌∙◌}
 use Rattle.std.specs.Prelude.{MatchResult, IfOk}
 use Rattle.job_devices.specs.declared.device.WriteStop.{WriteStop}
@@ -7,9 +7,13 @@ use Rattle.lp_definitions.specs.LinearProgram.{Matrix, LinearProgram, IsLinearPr
 use Rattle.lp_definitions.specs.Basis.{Basics, basics_of, IsOptimalBasis}
 use Rattle.lp_definitions.specs.Waypoints.{waypoint}
 use Rattle.lp_definitions.specs.declared.Evidence.{Evidence}
-use Rattle.method_definitions.specs.Path.{PathEnding, EndsOptimal, EndsCrossed, EndsInfeasible, EndsUnbounded, EndsAt}
+use Rattle.method_definitions.specs.Path.{PathEnding, EndsOptimal, EndsCrossed, EndsInfeasible, EndsUnbounded, Rule, EndsAt, last_of}
+use Rattle.method_definitions.specs.DualPath.{HasRightPrices, DualEndsAt}
+use Rattle.method_definitions.specs.Statements.{SolvingStatement}
 use Rattle.path_laws.specs.Laws.{IsNonsingularBasis}
 use Rattle.path_laws.proofs.Ends.{optimal_end}
+use Rattle.dual_laws.proofs.DualTurns.{dual_end}
+use Rattle.dual_laws.proofs.OneDualPath.{path_right}
 use Rattle.basis_values.specs.Calls.{HasRates}
 use Rattle.problem_definitions.specs.Problem.{Problem}
 use Rattle.problem_file.specs.Filed.{Filed, filed_under}
@@ -18,15 +22,16 @@ use Rattle.selection_definitions.specs.Choice.{Choice}
 use Rattle.selection_definitions.specs.Selection.{selected}
 use Rattle.listing_definitions.specs.declared.Mark.{Mark}
 use Rattle.listing_definitions.specs.declared.Mark.TheVariants.{Optimal}
-use Rattle.listing_definitions.specs.declared.Solver.TheVariants.{Primal as ByPrimal}
+use Rattle.listing_definitions.specs.declared.Solver.{Solver}
+use Rattle.listing_definitions.specs.declared.Solver.TheVariants.{Primal, Dual, Paraobj, Pararhs}
 use Rattle.listing_definitions.specs.Report.{PathVerdict, Check, Solved}
 use Rattle.listing_definitions.specs.Text.{report_text}
 use Rattle.listing_definitions.specs.Ending as endings
-use Rattle.question_definitions.specs.Answers.{Basis, Sheet, PathLimit}
-use Rattle.answer_definitions.specs.Verdicts.{verdict_of, IsSolved}
-use Rattle.answer_definitions.specs.Evidence.{OverflowsOnPath}
+use Rattle.question_definitions.specs.Answers.{Basis, Sheet, Reached, PathLimit}
+use Rattle.answer_definitions.specs.Verdicts.{verdict_of, IsSolvedBy}
+use Rattle.answer_definitions.specs.Evidence.{RuleOverflowsOnPath, OverflowsBy}
 use Rattle.listing_tables.specs.declared.sheet.Sheet.{Sheet as OwnSheet}
-use Rattle.present_answers.specs.Reports.{sheet_shown, OverflowsThere, PassesLimit}
+use Rattle.present_answers.specs.Reports.{sheet_shown, RuleOverflowsThere, PassesLimit}
 use Rattle.run_definitions.specs.State.{choice_of}
 use Rattle.run_definitions.specs.Moves.{Gain, Nothing, Prints}
 use Rattle.run_definitions.specs.Verbs.{mark_of}
@@ -43,46 +48,51 @@ use Rattle.run_machine.specs.Choosing.{IsUnselected}
 use Rattle.run_machine.specs.Ends.{place_shown}
 use Rattle.run_machine.specs.Standing.{IsReady, IsSelected}
 use Rattle.run_machine.specs.Findings.{TellsFinding, refused_finding, IfEnded}
-use Rattle.control_run.specs.Found.{PathReaches, PathFinds, reached, at_limit, overflows, Finds, unselected, too_large, solved}
+use Rattle.control_run.specs.declared.solving.SolvingVerb.{SolvingVerb}
+use Rattle.control_run.specs.Found.{solver_of, limit_of, PathReaches, PathFinds, reached, wrong_prices, at_limit, overflows, Finds, unselected, too_large, solved}
 use Rattle.run_machine.proofs.Selected.{same_matrix, no_change, rates_carry}
 use Rattle.control_run.proofs.Telling.{tells_more, tells_quietly}
 use Rattle.run_machine.proofs.Present.{one_problem}
 
 -- ---- the path
 
-module _ {P : Type 0} (written stopped_at : P → Option (List ℕ)) (faults refusals : P → ℕ) (sheet : Sheet) (s now : Basis) (limit : Option ℕ) (before after : List Basics) (bases : List Basis) (verdict : PathVerdict) (check : Check)
-    (r : PathReaches sheet s now limit before after bases verdict check) where
+module _ {P : Type 0} (written stopped_at : P → Option (List ℕ)) (faults refusals : P → ℕ) (solver : Solver) (sheet : Sheet) (s now : Basis) (limit : Option ℕ) (before after : List Basics) (bases : List Basis) (verdict : PathVerdict) (check : Check)
+    (r : PathReaches solver sheet s now limit before after bases verdict check) where
   -- its verdict is printed or broken off
-  pub verdict_told : (mark : Mark) {print_old print_new : P} → mark ≡ mark_of verdict → Writes {T = Unit {0}} written stopped_at faults refusals print_old print_new (Ok tt) (report_text (Solved ByPrimal verdict check)) →
-      TellsFinding (PathFinds sheet s now limit before after) written stopped_at faults refusals print_old print_new (Ok (Ended mark))
+  pub verdict_told : (mark : Mark) {print_old print_new : P} → mark ≡ mark_of verdict → Writes {T = Unit {0}} written stopped_at faults refusals print_old print_new (Ok tt) (report_text (Solved solver verdict check)) →
+      TellsFinding (PathFinds solver sheet s now limit before after) written stopped_at faults refusals print_old print_new (Ok (Ended mark))
   verdict_told mark e writes = record {
-    gain = Prints (Solved ByPrimal verdict check);
-    holds = subst (λ (m : Mark). PathFinds sheet s now limit before after (Prints (Solved ByPrimal verdict check)) (Ended m)) (sym e) (reached r);
+    gain = Prints (Solved solver verdict check);
+    holds = subst (λ (m : Mark). PathFinds solver sheet s now limit before after (Prints (Solved solver verdict check)) (Ended m)) (sym e) (reached r);
     writes = writes;
   }
 
-  pub verdict_cut : (stop : WriteStop) {print_old print_new : P} → Writes {T = Unit {0}} written stopped_at faults refusals print_old print_new (Err stop) (report_text (Solved ByPrimal verdict check)) →
-      TellsFinding (PathFinds sheet s now limit before after) written stopped_at faults refusals print_old print_new (Err (halt.Print stop))
-  verdict_cut stop writes = record { gain = Prints (Solved ByPrimal verdict check); finding = Ended (mark_of verdict); holds = reached r; writes = writes }
+  pub verdict_cut : (stop : WriteStop) {print_old print_new : P} → Writes {T = Unit {0}} written stopped_at faults refusals print_old print_new (Err stop) (report_text (Solved solver verdict check)) →
+      TellsFinding (PathFinds solver sheet s now limit before after) written stopped_at faults refusals print_old print_new (Err (halt.Print stop))
+  verdict_cut stop writes = record { gain = Prints (Solved solver verdict check); finding = Ended (mark_of verdict); holds = reached r; writes = writes }
 
 -- only a limit is passed
-pub limit_passed : (sheet : OwnSheet) (s now : Basis) (limit : Option ℕ) → PassesLimit sheet s now limit → IsSolved (sheet_shown sheet) s limit PathLimit
+pub limit_passed : (sheet : OwnSheet) (s now : Basis) (limit : Option ℕ) → PassesLimit sheet s now limit → IsSolvedBy Primal (sheet_shown sheet) s limit PathLimit
 limit_passed sheet s now (Some most) h = h.goes_on
 limit_passed sheet s now None h = h
 
-pub path_overflows : (sheet : OwnSheet) (s now : Basis) (limit : Option ℕ) (before after : List Basics) (e : Evidence) → OverflowsThere sheet s now limit before after e →
-    (place : OwnPlace) → place_shown place ≡ record { basis = now; way = waypoint (basics_of now) after e.way } → PathFinds (sheet_shown sheet) s now limit before after Nothing (Overflow e (Some place))
-path_overflows sheet s now limit before after e o place is =
-    overflows (λ earlier lie. subst (λ (p : endings.Place). OverflowsOnPath (sheet_shown sheet) (earlier ++ s ∷ []) limit e (Some p)) (sym is) (o.overflows earlier lie))
+-- a path by a rule stops where the solver may stop
+pub path_overflows : (solver : Solver) (rule : Rule) (statement : SolvingStatement) (sheet : OwnSheet) (s now : Basis) (limit : Option ℕ) (before after : List Basics) (e : Evidence) →
+    ((bases : List Basis) (place : Option endings.Place) → RuleOverflowsOnPath rule statement (sheet_shown sheet) bases limit e place → OverflowsBy solver (sheet_shown sheet) bases limit e place) →
+    RuleOverflowsThere rule statement sheet s now limit before after e →
+    (place : OwnPlace) → place_shown place ≡ record { basis = now; way = waypoint (basics_of now) after e.way } → PathFinds solver (sheet_shown sheet) s now limit before after Nothing (Overflow e (Some place))
+path_overflows solver rule statement sheet s now limit before after e by o place is =
+    overflows (λ earlier lie. by (earlier ++ s ∷ []) (Some (place_shown place))
+    (subst (λ (p : endings.Place). RuleOverflowsOnPath rule statement (sheet_shown sheet) (earlier ++ s ∷ []) limit e (Some p)) (sym is) (o.overflows earlier lie)))
 
 -- ---- what is found with a setup
 
 -- a refusal of the selection
-refusal_found : (problem : Problem ℕ) (cells : Cells) (setup new : Setup) (refusal : Refusal) → IsUnselected problem (choice_of cells setup.options) refusal →
-    MatchResult (refused_finding refusal) (Finds problem cells setup new Nothing) (λ h. h ≡ halt.NoMemory)
-refusal_found problem cells setup new (Fault fault) u = unselected u
-refusal_found problem cells setup new (refusals.Overflow e) u = too_large u
-refusal_found problem cells setup new NoMemory u = refl
+refusal_found : (verb : SolvingVerb) (problem : Problem ℕ) (cells : Cells) (setup new : Setup) (refusal : Refusal) → IsUnselected problem (choice_of cells setup.options) refusal →
+    MatchResult (refused_finding refusal) (Finds verb problem cells setup new Nothing) (λ h. h ≡ halt.NoMemory)
+refusal_found verb problem cells setup new (Fault fault) u = unselected u
+refusal_found verb problem cells setup new (refusals.Overflow e) u = too_large u
+refusal_found verb problem cells setup new NoMemory u = refl
 
 pub refusal_ends : (refusal : Refusal) (Fact : Mark → Type 0) → IfOk (refused_finding refusal) (λ finding. IfEnded finding Fact)
 refusal_ends (Fault fault) Fact = tt
@@ -96,34 +106,59 @@ optimal_ending p now sheet steps (EndsCrossed k) lawful at ends is = absurd (cc 
 optimal_ending p now sheet steps (EndsInfeasible w) lawful at ends is = absurd (cc is)
 optimal_ending p now sheet steps (EndsUnbounded z d) lawful at ends is = absurd (cc is)
 
-pub solved_ends : (sheet : Sheet) (s now : Basis) (limit : Option ℕ) (before after : List Basics) (gain : Gain) (finding : Finding) → IsLinearProgram sheet.lp → IsNonsingularBasis sheet.lp now → PathFinds sheet s now limit before after gain finding →
+-- by either verb the path ends where the simplex path does
+record IsEnd (sheet : Sheet) (now : Basis) (steps : ℕ) (verdict : PathVerdict) : Type 0 where
+  ending : PathEnding
+  ends : EndsAt sheet.lp now ending
+  is_verdict : verdict ≡ verdict_of sheet steps ending
+
+end_reached : (solver : Solver) (sheet : Sheet) (s now : Basis) (limit : Option ℕ) (bases : List Basis) (verdict : PathVerdict) (check : Check) → IsLinearProgram sheet.lp → sheet.lp.change ≡ None →
+    IsNonsingularBasis sheet.lp s → IsNonsingularBasis sheet.lp now → last_of s bases ≡ now → IsSolvedBy solver sheet s limit (Reached bases verdict check) → IsEnd sheet now (length bases) verdict
+end_reached Primal sheet s now limit bases verdict check lawful no_change from at leads r = record {
+  ending = r.ending;
+  ends = subst (λ (b : Basis). EndsAt sheet.lp b r.ending) leads r.ends.ends;
+  is_verdict = r.is_verdict.is_verdict;
+}
+end_reached Dual sheet s now limit bases verdict check lawful no_change from at leads r = record {
+  ending = r.1.ending;
+  ends = dual_end sheet.lp now r.1.ending lawful at
+      (subst (HasRightPrices sheet.lp) leads (path_right sheet.lp lawful no_change s bases from r.0 r.1.ends.is_path))
+      (subst (λ (b : Basis). DualEndsAt sheet.lp b r.1.ending) leads r.1.ends.ends);
+  is_verdict = r.1.is_verdict.is_verdict;
+}
+end_reached Paraobj sheet s now limit bases verdict check lawful no_change from at leads r = absurd r
+end_reached Pararhs sheet s now limit bases verdict check lawful no_change from at leads r = absurd r
+
+pub solved_ends : (solver : Solver) (sheet : Sheet) (s now : Basis) (limit : Option ℕ) (before after : List Basics) (gain : Gain) (finding : Finding) → IsLinearProgram sheet.lp → sheet.lp.change ≡ None →
+    IsNonsingularBasis sheet.lp s → IsNonsingularBasis sheet.lp now → PathFinds solver sheet s now limit before after gain finding →
     (Fact : Mark → Type 0) → ((mark : Mark) → (mark ≡ Optimal → IsOptimalBasis sheet.lp now) → Fact mark) → IfEnded finding Fact
-solved_ends sheet s now limit before after _ _ lawful at (reached {bases = bases} {verdict = verdict} r) Fact gives =
-    gives (mark_of verdict) (λ is. optimal_ending sheet.lp now sheet (length bases) r.reaches.ending lawful at (subst (λ (b : Basis). EndsAt sheet.lp b r.reaches.ending) r.leads r.reaches.ends.ends)
-    (subst (λ (v : PathVerdict). mark_of v ≡ Optimal) r.reaches.is_verdict.is_verdict is))
-solved_ends sheet s now limit before after _ _ lawful at (at_limit h) Fact gives = tt
-solved_ends sheet s now limit before after _ _ lawful at (overflows h) Fact gives = tt
+solved_ends solver sheet s now limit before after _ _ lawful no_change from at (reached {bases = bases} {verdict = verdict} {check = check} r) Fact gives =
+    let end = end_reached solver sheet s now limit bases verdict check lawful no_change from at r.leads r.reaches in
+    gives (mark_of verdict) (λ is. optimal_ending sheet.lp now sheet (length bases) end.ending lawful at end.ends (subst (λ (v : PathVerdict). mark_of v ≡ Optimal) end.is_verdict is))
+solved_ends solver sheet s now limit before after _ _ lawful no_change from at (wrong_prices h) Fact gives = tt
+solved_ends solver sheet s now limit before after _ _ lawful no_change from at (at_limit h) Fact gives = tt
+solved_ends solver sheet s now limit before after _ _ lawful no_change from at (overflows h) Fact gives = tt
 
 -- The setup that code has opened, which is the one that is spoken of, and what is left of it.
-module _ {P : Type 0} (written stopped_at : P → Option (List ℕ)) (faults refusals : P → ℕ) (cells : Cells) (file : Filed) {setup old : Setup} (is_old : setup ≡ old) (new : Setup) (there : Problem ℕ) (is_there : filed_under setup.name file ≡ Some there) where
-  at_problem : (print_old print_new : P) (result : Result Finding Halt) → TellsFinding (Finds there cells setup new) written stopped_at faults refusals print_old print_new result →
-      (problem : Problem ℕ) → filed_under old.name file ≡ Some problem → TellsFinding (Finds problem cells old new) written stopped_at faults refusals print_old print_new result
+module _ {P : Type 0} (written stopped_at : P → Option (List ℕ)) (faults refusals : P → ℕ) (verb : SolvingVerb) (cells : Cells) (file : Filed) {setup old : Setup} (is_old : setup ≡ old) (new : Setup) (there : Problem ℕ) (is_there : filed_under setup.name file ≡ Some there) where
+  at_problem : (print_old print_new : P) (result : Result Finding Halt) → TellsFinding (Finds verb there cells setup new) written stopped_at faults refusals print_old print_new result →
+      (problem : Problem ℕ) → filed_under old.name file ≡ Some problem → TellsFinding (Finds verb problem cells old new) written stopped_at faults refusals print_old print_new result
   at_problem print_old print_new result t problem on_file =
-      subst (λ (s : Setup). TellsFinding (Finds problem cells s new) written stopped_at faults refusals print_old print_new result) is_old
-      (subst (λ (q : Problem ℕ). TellsFinding (Finds q cells setup new) written stopped_at faults refusals print_old print_new result)
+      subst (λ (s : Setup). TellsFinding (Finds verb problem cells s new) written stopped_at faults refusals print_old print_new result) is_old
+      (subst (λ (q : Problem ℕ). TellsFinding (Finds verb q cells setup new) written stopped_at faults refusals print_old print_new result)
       (one_problem file setup there problem is_there (ap (λ (s : Setup). filed_under s.name file) is_old ∙ on_file)) t)
 
   pub refusal_told : (print : P) (refusal : Refusal) → IsUnselected there (choice_of cells setup.options) refusal →
-      (problem : Problem ℕ) → filed_under old.name file ≡ Some problem → TellsFinding (Finds problem cells old new) written stopped_at faults refusals print print (refused_finding refusal)
+      (problem : Problem ℕ) → filed_under old.name file ≡ Some problem → TellsFinding (Finds verb problem cells old new) written stopped_at faults refusals print print (refused_finding refusal)
   refusal_told print refusal u =
-      at_problem print print (refused_finding refusal) (tells_quietly written stopped_at faults refusals (Finds there cells setup new) print (refused_finding refusal) (refusal_found there cells setup new refusal u))
+      at_problem print print (refused_finding refusal) (tells_quietly written stopped_at faults refusals (Finds verb there cells setup new) print (refused_finding refusal) (refusal_found verb there cells setup new refusal u))
 
-  pub path_told : (lp : LinearProgram) (limit : Option ℕ) (print_old print_new : P) (result : Result Finding Halt) → limit ≡ cells.xiterlim → selected there (choice_of cells setup.options) ≡ Ok lp →
+  pub path_told : (lp : LinearProgram) (limit : Option ℕ) (print_old print_new : P) (result : Result Finding Halt) → limit ≡ limit_of verb cells → selected there (choice_of cells setup.options) ≡ Ok lp →
       new.name ≡ setup.name → new.options ≡ setup.options →
-      TellsFinding (PathFinds (record { problem = there; lp = lp }) setup.basis new.basis limit setup.engine.waypoints new.engine.waypoints) written stopped_at faults refusals print_old print_new result →
-      (problem : Problem ℕ) → filed_under old.name file ≡ Some problem → TellsFinding (Finds problem cells old new) written stopped_at faults refusals print_old print_new result
+      TellsFinding (PathFinds (solver_of verb) (record { problem = there; lp = lp }) setup.basis new.basis limit setup.engine.waypoints new.engine.waypoints) written stopped_at faults refusals print_old print_new result →
+      (problem : Problem ℕ) → filed_under old.name file ≡ Some problem → TellsFinding (Finds verb problem cells old new) written stopped_at faults refusals print_old print_new result
   path_told lp limit print_old print_new result within ok same_name same_options t =
       at_problem print_old print_new result
-      (tells_more written stopped_at faults refusals (PathFinds (record { problem = there; lp = lp }) setup.basis new.basis limit setup.engine.waypoints new.engine.waypoints) (Finds there cells setup new) print_old print_new
+      (tells_more written stopped_at faults refusals (PathFinds (solver_of verb) (record { problem = there; lp = lp }) setup.basis new.basis limit setup.engine.waypoints new.engine.waypoints) (Finds verb there cells setup new) print_old print_new
       (λ gain finding f. solved ok same_name same_options
-      (subst (λ (n : Option ℕ). PathFinds (record { problem = there; lp = lp }) setup.basis new.basis n setup.engine.waypoints new.engine.waypoints gain finding) within f)) result t)
+      (subst (λ (n : Option ℕ). PathFinds (solver_of verb) (record { problem = there; lp = lp }) setup.basis new.basis n setup.engine.waypoints new.engine.waypoints gain finding) within f)) result t)

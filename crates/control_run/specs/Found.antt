@@ -1,6 +1,7 @@
--- What PRIMAL, SOLUTION and RANGE find.
---     PathFinds gain finding       the path from a basis ends so, or is stopped so
---     Finds gain finding           PRIMAL finds this with a setup, and has this to print
+-- What PRIMAL, DUAL, SOLUTION and RANGE find.
+--     verb_of, solver_of, limit_of the verb, whose path it follows, and the limit of that
+--     PathFinds gain finding       the path of a solver from a basis ends so, or is stopped so
+--     Finds gain finding           PRIMAL or DUAL finds this with a setup, and has this to print
 --     LinesFound gain finding      the lines of a basis are made, or their making is stopped so
 --     Shows gain finding           SOLUTION finds this with a setup, and has this to print
 --     RangesFound gain finding     the intervals of a basis are made, or their making is stopped so
@@ -18,32 +19,50 @@ use Rattle.listing_definitions.specs.declared.Mark.{Mark}
 use Rattle.listing_definitions.specs.declared.Mark.TheVariants.{Optimal, Infeasible, Unbounded}
 use Rattle.listing_definitions.specs.declared.VerbFault.{VerbFault}
 use Rattle.listing_definitions.specs.declared.VerbFault.TheVariants.{NotSolved, NotOptimal}
-use Rattle.listing_definitions.specs.declared.Solver.TheVariants.{Primal as ByPrimal}
+use Rattle.listing_definitions.specs.declared.Solver.{Solver}
+use Rattle.listing_definitions.specs.declared.Solver.TheVariants as solvers
 use Rattle.listing_definitions.specs.Report.{PathVerdict, Check, Solved, Solution, SolutionLines, Ranges, RangeLines}
 use Rattle.listing_definitions.specs.Ending.{Place}
-use Rattle.control_definitions.specs.Cells.{Cells}
-use Rattle.question_definitions.specs.Answers.{Basis, Sheet, PathLimit}
-use Rattle.answer_definitions.specs.Verdicts.{ReachesVerdict, IsSolved}
+use Rattle.control_definitions.specs.Program.{Verb}
+use Rattle.control_definitions.specs.Program as program
+use Rattle.control_definitions.specs.Cells.{Cells, steps_allowed}
+use Rattle.question_definitions.specs.Answers.{Basis, Sheet, Reached, PathLimit, PricesWrong}
+use Rattle.answer_definitions.specs.Verdicts.{IsSolvedBy}
 use Rattle.answer_definitions.specs.Sections.{IsShown, IsRanged}
-use Rattle.answer_definitions.specs.Evidence.{IsEvidence, OverflowsOnPath}
+use Rattle.answer_definitions.specs.Evidence.{IsEvidence, OverflowsBy}
 use Rattle.basis_values.specs.Calls.{LieIn}
 use Rattle.run_definitions.specs.State.{choice_of}
 use Rattle.run_definitions.specs.Moves.{Gain, Nothing, Prints}
 use Rattle.run_definitions.specs.Verbs.{mark_of}
 use Rattle.run_machine.specs.declared.end.Place.{Place as OwnPlace}
 use Rattle.run_machine.specs.declared.finding.Finding.{Finding}
-use Rattle.run_machine.specs.declared.finding.Finding.TheVariants.{Refused, Overflow, Limit, Ended, Shown}
+use Rattle.run_machine.specs.declared.finding.Finding.TheVariants.{Refused, Overflow, WrongPrices, Limit, Ended, Shown}
 use Rattle.run_machine.specs.Kept.{Setup}
 use Rattle.run_machine.specs.Choosing.{HasSelectionFault, HasSelectionOverflow}
 use Rattle.run_machine.specs.Ends.{place_shown}
+use Rattle.control_run.specs.declared.solving.SolvingVerb.{SolvingVerb}
+use Rattle.control_run.specs.declared.solving.SolvingVerb.TheVariants.{Primal, Dual}
 
 -- ---- the path
 
-module _ (sheet : Sheet) (s now : Basis) (limit : Option ℕ) (before after : List Basics) where
+abbrev pub verb_of : SolvingVerb → Verb ℕ
+verb_of Primal = program.Primal
+verb_of Dual = program.Dual
+
+abbrev pub solver_of : SolvingVerb → Solver
+solver_of Primal = solvers.Primal
+solver_of Dual = solvers.Dual
+
+-- PRIMAL alone may have no limit
+abbrev pub limit_of : SolvingVerb → Cells → Option ℕ
+limit_of Primal cells = cells.xiterlim
+limit_of Dual cells = Some (steps_allowed cells)
+
+module _ (solver : Solver) (sheet : Sheet) (s now : Basis) (limit : Option ℕ) (before after : List Basics) where
   -- The path from s goes over these bases to now, and ends there with this verdict. For every list of bases that ends with s, in which
   -- the waypoints lay before, they lie after in that list followed by these bases.
   pub record PathReaches (bases : List Basis) (verdict : PathVerdict) (check : Check) : Type 0 where
-    pub reaches : ReachesVerdict sheet s limit bases verdict check
+    pub reaches : IsSolvedBy solver sheet s limit (Reached bases verdict check)
     pub leads : last_of s bases ≡ now
     pub lie : (earlier : List Basis) → LieIn sheet.lp.matrix before (earlier ++ s ∷ []) →
         LieIn sheet.lp.matrix after (earlier ++ s ∷ bases)
@@ -52,31 +71,33 @@ module _ (sheet : Sheet) (s now : Basis) (limit : Option ℕ) (before after : Li
   abbrev pub PathOverflows : Evidence → Option Place → Type 0
   PathOverflows e place = (earlier : List Basis) →
       LieIn sheet.lp.matrix before (earlier ++ s ∷ []) →
-      OverflowsOnPath sheet (earlier ++ s ∷ []) limit e place
+      OverflowsBy solver sheet (earlier ++ s ∷ []) limit e place
 
-  -- its verdict is printed; or it goes on past the limit; or an operation is refused
+  -- its verdict is printed; or a price of s is wrong; or it goes on past the limit; or an operation is refused
   pub data PathFinds : Gain → Finding → Type 0 where
     reached : {bases : List Basis} {verdict : PathVerdict} {check : Check} →
         PathReaches bases verdict check →
-        PathFinds (Prints (Solved ByPrimal verdict check)) (Ended (mark_of verdict))
-    at_limit : IsSolved sheet s limit PathLimit → PathFinds Nothing Limit
+        PathFinds (Prints (Solved solver verdict check)) (Ended (mark_of verdict))
+    wrong_prices : {variable : ℕ} → IsSolvedBy solver sheet s limit (PricesWrong variable) →
+        PathFinds Nothing (WrongPrices variable)
+    at_limit : IsSolvedBy solver sheet s limit PathLimit → PathFinds Nothing Limit
     overflows : {e : Evidence} {place : Option OwnPlace} →
         PathOverflows e (option_map place_shown place) → PathFinds Nothing (Overflow e place)
 
--- With these cells the selection of a setup's problem is refused; or its path is followed from the present basis, and the setup keeps
--- where it has come to.
-pub data Finds (problem : Problem ℕ) (cells : Cells) (setup new : Setup) : Gain → Finding → Type 0 where
+-- With these cells the selection of a setup's problem is refused; or the path of the verb is followed from the present basis, and the
+-- setup keeps where it has come to.
+pub data Finds (verb : SolvingVerb) (problem : Problem ℕ) (cells : Cells) (setup new : Setup) : Gain → Finding → Type 0 where
   unselected : {fault : VerbFault} →
       HasSelectionFault problem (choice_of cells setup.options) fault →
-      Finds problem cells setup new Nothing (Refused fault)
+      Finds verb problem cells setup new Nothing (Refused fault)
   too_large : {e : Evidence} → HasSelectionOverflow problem (choice_of cells setup.options) e →
-      Finds problem cells setup new Nothing (Overflow e None)
+      Finds verb problem cells setup new Nothing (Overflow e None)
   solved : {lp : LinearProgram} {gain : Gain} {finding : Finding} →
       selected problem (choice_of cells setup.options) ≡ Ok lp →
       new.name ≡ setup.name → new.options ≡ setup.options →
-      PathFinds (record { problem = problem; lp = lp }) setup.basis new.basis cells.xiterlim
+      PathFinds (solver_of verb) (record { problem = problem; lp = lp }) setup.basis new.basis (limit_of verb cells)
       setup.engine.waypoints new.engine.waypoints gain finding →
-      Finds problem cells setup new gain finding
+      Finds verb problem cells setup new gain finding
 
 -- ---- the lines of a basis
 

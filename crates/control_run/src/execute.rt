@@ -9,9 +9,10 @@ ghost use Rattle.run_machine.specs.Punching.{Performs};
 ghost use Rattle.control_run.specs.Running.{Steps};
 
 use crate::parametric::{sweep_objective, sweep_rhs};
-use crate::primal::solve;
 use crate::ranges::show_ranges;
 use crate::solution::show_solution;
+use crate::solving::{solve_dual, solve_primal};
+use basis_verbs::{insert_basis, punch_present};
 use card_reader::Cards;
 use control_compiler::{Program, Verb};
 use job_devices::Sink;
@@ -47,13 +48,16 @@ fn execute<E: Engine, P: Sink, U: Sink>(
         Verb::Goto(position) => Ok(machine.jump(*position)),
         Verb::Convert => machine.convert(alloc, cards, print, card),
         Verb::Setup(options) => set_up(alloc, machine, print, card, options),
-        Verb::Primal => solve(alloc, machine, print, card),
+        Verb::Primal => solve_primal(alloc, machine, print, card),
+        Verb::Dual => solve_dual(alloc, machine, print, card),
         Verb::Solution => show_solution(alloc, machine, print, card),
         Verb::Revise => machine.revise(alloc, cards, print, card),
         Verb::Ranging => show_ranges(alloc, machine, print, card),
         Verb::Paraobj => sweep_objective(alloc, machine, print, card),
         Verb::Pararhs => sweep_rhs(alloc, machine, print, card),
         Verb::Bcdout => machine.punch_problem(print, punch, card),
+        Verb::Punch => punch_present(alloc, machine, print, punch, card),
+        Verb::Insert => insert_basis(alloc, machine, cards, print, card),
         Verb::Exit => Ok(machine.exit()),
     }
 }

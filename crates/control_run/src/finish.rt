@@ -22,7 +22,7 @@ fn status_of(end: &End) -> Status
         End::Done => Status::Done,
         End::Infeasible => Status::Infeasible,
         End::Unbounded => Status::Unbounded,
-        End::Verb { .. } => Status::Verb,
+        End::Verb { .. } | End::Singular { .. } | End::WrongPrices { .. } => Status::Verb,
         End::Deck(_) => Status::Deck,
         End::Limit { .. } => Status::Limit,
         End::Statements => Status::Statements,

@@ -4,10 +4,10 @@
 mod execute;
 mod finish;
 mod parametric;
-mod primal;
 mod ranges;
 mod run;
 mod solution;
+mod solving;
 mod status;
 mod sweep;
 

@@ -19,7 +19,7 @@ ghost use Rattle.run_machine.specs.Statements.{Executes};
 ghost use Rattle.run_machine.specs.Findings.{TellsFinding};
 ghost use Rattle.control_run.specs.Sweeping.{verb_of, sweep_shown, Serves, StopsSweep, SweepFinds, Sweeps, IsRunOverflow, value_left, cells_left};
 
-use crate::primal::mark_of;
+use crate::solving::mark_of;
 use crate::sweep::{Sweep, SweepVerb, asked};
 use bounded_primal::PrimalStop;
 use frac128::{Frac, Refused};

@@ -75,8 +75,14 @@ returns-in-Setup-clause-acts g c =
 pub returns-in-Primal-clause-acts : goal.returns-in-Primal-clause-acts
 returns-in-Primal-clause-acts g c =
     rw c.in-Primal.is
-    (punches_nothing g.U.Sink.written g.U.Sink.stopped_at g.U.Sink.faults g.U.Sink.refusals c.args.punch.now linear_programming program.Primal c.args.card g.P.Sink.written g.P.Sink.stopped_at g.P.Sink.faults g.P.Sink.refusals c.args.print.now c.solve.new.print c.args.cards.now c.args.machine.now c.solve.new.machine c.solve.result
-    (c.solve.ensures.acts c.args.cards.now))
+    (punches_nothing g.U.Sink.written g.U.Sink.stopped_at g.U.Sink.faults g.U.Sink.refusals c.args.punch.now linear_programming program.Primal c.args.card g.P.Sink.written g.P.Sink.stopped_at g.P.Sink.faults g.P.Sink.refusals c.args.print.now c.solve_primal.new.print c.args.cards.now c.args.machine.now c.solve_primal.new.machine c.solve_primal.result
+    (c.solve_primal.ensures.acts c.args.cards.now))
+
+pub returns-in-Dual-clause-acts : goal.returns-in-Dual-clause-acts
+returns-in-Dual-clause-acts g c =
+    rw c.in-Dual.is
+    (punches_nothing g.U.Sink.written g.U.Sink.stopped_at g.U.Sink.faults g.U.Sink.refusals c.args.punch.now linear_programming program.Dual c.args.card g.P.Sink.written g.P.Sink.stopped_at g.P.Sink.faults g.P.Sink.refusals c.args.print.now c.solve_dual.new.print c.args.cards.now c.args.machine.now c.solve_dual.new.machine c.solve_dual.result
+    (c.solve_dual.ensures.acts c.args.cards.now))
 
 pub returns-in-Solution-clause-acts : goal.returns-in-Solution-clause-acts
 returns-in-Solution-clause-acts g c =
@@ -104,3 +110,12 @@ returns-in-Pararhs-clause-acts g c =
 
 pub returns-in-Bcdout-clause-acts : goal.returns-in-Bcdout-clause-acts
 returns-in-Bcdout-clause-acts g c = rw c.in-Bcdout.is (c.punch_problem.ensures c.args.cards.now)
+
+pub returns-in-Punch-clause-acts : goal.returns-in-Punch-clause-acts
+returns-in-Punch-clause-acts g c = rw c.in-Punch.is (c.punch_present.ensures c.args.cards.now)
+
+pub returns-in-Insert-clause-acts : goal.returns-in-Insert-clause-acts
+returns-in-Insert-clause-acts g c =
+    rw c.in-Insert.is
+    (punches_nothing g.U.Sink.written g.U.Sink.stopped_at g.U.Sink.faults g.U.Sink.refusals c.args.punch.now linear_programming program.Insert c.args.card g.P.Sink.written g.P.Sink.stopped_at g.P.Sink.faults g.P.Sink.refusals c.args.print.now c.insert_basis.new.print c.args.cards.now c.args.machine.now c.insert_basis.new.machine c.insert_basis.result
+    (c.insert_basis.ensures.acts))

@@ -7,14 +7,15 @@ use Rattle.run_definitions.specs.State.{choice_of}
 use Rattle.run_machine.specs.Kept.{Setup}
 use Rattle.run_machine.specs.Standing.{IsReady, IsSolved}
 use Rattle.run_machine.proofs.Selected.{no_change}
+use Rattle.control_run.specs.Found.{solver_of, limit_of}
 use Rattle.control_run.proofs.Solving_steps.{refusal_told, refusal_ends, solved_ends, path_told}
-use Rattle.control_run.proofs.primal.find.Goals as goal
+use Rattle.control_run.proofs.solving.find.Goals as goal
 use Rattle.run_machine.proofs.Present.{as_many_columns, as_many_rows, now_selected, ready_again, ready_rates, ready_solved}
 
 pub returns-in-Err-clause-tells : goal.returns-in-Err-clause-tells
 returns-in-Err-clause-tells g c =
     rw c.refused.ensures
-    (refusal_told g.P.Sink.written g.P.Sink.stopped_at g.P.Sink.faults g.P.Sink.refusals c.args.cells.now c.args.file.now c.setup.view_is _ c.in-Some.problem.now (sym c.in-Some.ensures) c.args.print.now c.in-Err.refusal c.in-Err.ensures.refused)
+    (refusal_told g.P.Sink.written g.P.Sink.stopped_at g.P.Sink.faults g.P.Sink.refusals c.args.verb c.args.cells.now c.args.file.now c.setup.view_is _ c.in-Some.problem.now (sym c.in-Some.ensures) c.args.print.now c.in-Err.refusal c.in-Err.ensures.refused)
 
 pub returns-in-Err-clause-solved : goal.returns-in-Err-clause-solved
 returns-in-Err-clause-solved g c = rw c.refused.ensures (refusal_ends c.in-Err.refusal _)
@@ -39,8 +40,8 @@ pub returns-in_err-finding-clause-tells : goal.returns-in_err-finding-clause-tel
 returns-in_err-finding-clause-tells g c =
     let p = err_from_is_err_and c.from_residual.result c.from_residual.ensures.1 in
     rw (p.1, p.2)
-    (path_told g.P.Sink.written g.P.Sink.stopped_at g.P.Sink.faults g.P.Sink.refusals c.args.cells.now c.args.file.now c.setup.view_is _ c.in-Some.problem.now (sym c.in-Some.ensures) c.in-Ok.lp c.limit.result c.args.print.now c.follow.new.print
-    (Err c.in_err-finding.field-0.0) c.limit.ensures.limit c.in-Ok.ensures.selected refl refl c.in_err-finding.ensures.tells)
+    (path_told g.P.Sink.written g.P.Sink.stopped_at g.P.Sink.faults g.P.Sink.refusals c.args.verb c.args.cells.now c.args.file.now c.setup.view_is _ c.in-Some.problem.now (sym c.in-Some.ensures) c.in-Ok.lp (limit_of c.args.verb c.args.cells.now) c.args.print.now c.follow.new.print
+    (Err c.in_err-finding.field-0.0) refl c.in-Ok.ensures.selected refl refl c.in_err-finding.ensures.tells)
 
 pub returns-in_err-finding-clause-ready : goal.returns-in_err-finding-clause-ready
 returns-in_err-finding-clause-ready g c =
@@ -48,8 +49,8 @@ returns-in_err-finding-clause-ready g c =
 
 pub returns-clause-tells : goal.returns-clause-tells
 returns-clause-tells g c =
-    path_told g.P.Sink.written g.P.Sink.stopped_at g.P.Sink.faults g.P.Sink.refusals c.args.cells.now c.args.file.now c.setup.view_is _ c.in-Some.problem.now (sym c.in-Some.ensures) c.in-Ok.lp c.limit.result c.args.print.now c.follow.new.print
-    (Ok c.in_ok-finding.finding) c.limit.ensures.limit c.in-Ok.ensures.selected refl refl c.in_ok-finding.ensures.tells
+    path_told g.P.Sink.written g.P.Sink.stopped_at g.P.Sink.faults g.P.Sink.refusals c.args.verb c.args.cells.now c.args.file.now c.setup.view_is _ c.in-Some.problem.now (sym c.in-Some.ensures) c.in-Ok.lp (limit_of c.args.verb c.args.cells.now) c.args.print.now c.follow.new.print
+    (Ok c.in_ok-finding.finding) refl c.in-Ok.ensures.selected refl refl c.in_ok-finding.ensures.tells
 
 pub returns-clause-ready : goal.returns-clause-ready
 returns-clause-ready g c =
@@ -60,6 +61,8 @@ returns-clause-solved g c =
     let sheet : Sheet = record { problem = c.in-Some.problem.now; lp = c.in-Ok.lp } in
     let after : Setup = record { name = c.setup.inside.name; options = c.setup.inside.options; lp = c.in-Ok.lp; basis = c.follow.new.basis; engine = record { matrix = g.E.Rates.matrix c.follow.new.rates; basics = g.E.Rates.basics c.follow.new.rates; waypoints = g.E.Rates.waypoints c.follow.new.rates } } in
     let ready = subst (IsReady c.args.file.now) (sym c.setup.view_is) c.requires in
-    solved_ends sheet c.setup.inside.basis c.follow.new.basis c.limit.result (g.E.Rates.waypoints c.setup.inside.engine) (g.E.Rates.waypoints c.follow.new.rates) c.in_ok-finding.ensures.tells.gain c.in_ok-finding.finding
-    (subst IsLinearProgram c.lp.view_is c.lp.invariant) (record { is_basis = c.follow.ensures.rates.is_basis; nonsingular = c.follow.ensures.rates.nonsingular }) c.in_ok-finding.ensures.tells.holds
+    let from = ready_rates c.args.file.now _ ready c.in-Some.problem.now (sym c.in-Some.ensures) c.args.cells.now c.in-Ok.lp c.in-Ok.ensures.selected in
+    solved_ends (solver_of c.args.verb) sheet c.setup.inside.basis c.follow.new.basis (limit_of c.args.verb c.args.cells.now) (g.E.Rates.waypoints c.setup.inside.engine) (g.E.Rates.waypoints c.follow.new.rates) c.in_ok-finding.ensures.tells.gain c.in_ok-finding.finding
+    (subst IsLinearProgram c.lp.view_is c.lp.invariant) (no_change c.in-Some.problem.now (choice_of c.args.cells.now c.setup.inside.options) c.in-Ok.lp c.in-Ok.ensures.selected)
+    (record { is_basis = from.is_basis; nonsingular = from.nonsingular }) (record { is_basis = c.follow.ensures.rates.is_basis; nonsingular = c.follow.ensures.rates.nonsingular }) c.in_ok-finding.ensures.tells.holds
     (λ mark. IsSolved mark c.args.cells.now c.args.file.now after) (λ mark optimal. record { is_selected = now_selected c.args.file.now _ ready c.in-Some.problem.now (sym c.in-Some.ensures) c.args.cells.now c.in-Ok.lp c.in-Ok.ensures.selected after refl refl refl; optimal = optimal })
