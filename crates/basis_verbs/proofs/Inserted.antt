@@ -1,6 +1,5 @@
 -- What INSERT comes to.
-use Rattle.std.proofs.Common.{◌≡◌, ℕ, ◌+◌, ◌-◌, ◌≤◌, List, [], ◌∷◌, Option, Some, None, IfSome, Result, Ok, Err, inl, inr, refl, sym, ap, subst, ◌∙◌, arith, length, drop, All, map}
-use Rattle.std.proofs.lemmas.List.Elements.{All-map}
+use Rattle.std.proofs.Common.{◌≡◌, ℕ, ◌+◌, ◌-◌, ◌≤◌, List, [], ◌∷◌, Option, Some, None, IfSome, Result, Ok, Err, inl, inr, refl, sym, ap, subst, ◌∙◌, arith, length, drop, All}
 use Rattle.exact_values.specs.Rational.{ℚ}
 use Rattle.job_devices.specs.declared.device.WriteStop.{WriteStop}
 use Rattle.job_devices.specs.Text.{Writes}
@@ -13,7 +12,7 @@ use Rattle.deck_definitions.specs.Conversion.{deck_name}
 use Rattle.deck_definitions.specs.Decks.{decks_of, deck_taken}
 use Rattle.lp_definitions.specs.LinearProgram.{Matrix, LinearProgram, size, value_at}
 use Rattle.lp_definitions.specs.Basis.{Basics, basics_of, IsNonsingular}
-use Rattle.lp_definitions.specs.Waypoints.{HasColumnsWithin, IsWithinOne}
+use Rattle.lp_definitions.specs.Waypoints.{HasColumnsWithin}
 use Rattle.lp_definitions.specs.declared.Evidence.{Evidence}
 use Rattle.method_definitions.specs.Path.{last_of, listed}
 use Rattle.basis_deck_definitions.specs.Placings.{HasNames}
@@ -79,7 +78,7 @@ gives_deck_fault card read move fault err = subst (λ r. Gives linear_programmin
 
 -- the waypoints have no other columns than those of the basis
 lies : (a : Matrix) (s : Basis) (ways : List Basics) → All (λ w. HasColumnsWithin a w (basics_of s)) ways → LieIn a ways (s ∷ [])
-lies a s ways within = All-map (λ (w : Basics). HasColumnsWithin a w (basics_of s)) (λ (w : Basics). IsWithinOne a w (basics_of s ∷ [])) ways (λ w h. inl h) within
+lies a s ways within = λ k way lt. inl (within k way lt)
 
 module _ (card : ℕ) (cards : List (List ℕ)) (machine : Machine) where
   pub no_setup : machine.setup ≡ None → IsFound card cards machine (refused_found card (Fault NoSetup))
@@ -192,7 +191,7 @@ module _ (card : ℕ) (cards : List (List ℕ)) (machine : Machine) where
         }
           where
             same_line : {new : Setup} {deck : Name} {basic next_card : ℕ} → IsInstalledSetup card setup lp t first last cards new deck basic next_card →
-                (deck_name (live (cards_between first last cards)), length (basic_columns lp t)) ≡ (deck, basic)
+                ◌≡◌ {A = Name × ℕ} (deck_name (live (cards_between first last cards)), length (basic_columns lp t)) (deck, basic)
             same_line i = let d = i.is_deck in let n = i.is_basic in cc
 
             one_before : {new : Setup} {deck : Name} {basic next_card : ℕ} → IsInstalledSetup card setup lp t first last cards new deck basic next_card → last ≡ next_card - 1

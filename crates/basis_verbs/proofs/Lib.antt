@@ -1,4 +1,4 @@
 pub mod Selecting
-pub mod Basis_out
+pub mod Punched
 pub mod Inserted
 pub mod Counting

@@ -46,10 +46,10 @@ enum Given {
 
 // What INSERT finds, before the machine changes.
 #[derive(Drop)]
-enum Found<E: Engine> {
+enum Found<S> {
     // The setup with the basis of a deck, the name of the deck, the number of basic columns, and the number of the next card.
     Inserted {
-        setup: Setup<E>,
+        setup: S,
         deck: Name,
         basic: u32,
         next: u32,
@@ -101,9 +101,10 @@ fn basic_count(lp: &Lp, basis: &Basis) -> u32
     let _size = lp.number_of_variables();
     let mut count = 0;
     for c in 0..lp.cols {
-        if stands_basic(basis, lp.rows + c + 1) {
-            count += 1;
+        if !stands_basic(basis, lp.rows + c + 1) {
+            continue;
         }
+        count += 1;
     }
     count
 }
@@ -151,7 +152,7 @@ fn singular_end(file: ProblemFile, name: Name, lp: Lp, dependency: Direction, ca
 }
 
 // The statement comes to nothing with a setup.
-fn ended<E: Engine>(refusal: Refusal, card: u32) -> Result<Found<E>, Halt>
+fn ended<E: Engine>(refusal: Refusal, card: u32) -> Result<Found<Setup<E>>, Halt>
     ensures { result ≡ refused_found card refusal }
 {
     match refusal {
@@ -174,7 +175,7 @@ fn installed<E: Engine>(
     deck: Deck,
     cards: &Cards,
     card: u32,
-) -> Result<Found<E>, Halt>
+) -> Result<Found<Setup<E>>, Halt>
     requires basis { IsBasis lp basis }
     requires from_one { 1 ≤ deck.first }
     requires ordered { deck.first ≤ deck.last }
@@ -185,6 +186,7 @@ fn installed<E: Engine>(
         Ok(engine) => {
             let name = problem_name(cards, deck.first, deck.last, None);
             let basic = basic_count(&lp, &basis);
+            let _count = cards.count();
             let setup = Setup {
                 name: setup.name,
                 options: setup.options,
@@ -220,7 +222,7 @@ fn find_basis<E: Engine>(
     machine: &Machine<Setup<E>>,
     cards: &Cards,
     card: u32,
-) -> Result<Found<E>, Halt>
+) -> Result<Found<Setup<E>>, Halt>
     requires { IsSound cards.now machine.now }
     ensures { IsFound card cards.now machine.now result }
 {
@@ -236,7 +238,8 @@ fn find_basis<E: Engine>(
         Err(refusal) => return ended(refusal, card),
     };
     let wanted = machine.cells.name(NameCell::Xdata);
-    match take_basis(alloc, problem, &lp, cards, machine.decks_from, wanted, card)? {
+    let given = take_basis(alloc, problem, &lp, cards, machine.decks_from, wanted, card)?;
+    match given {
         Given::Basis { basis, deck } => installed(alloc, setup, lp, basis, deck, cards, card),
         Given::Ends(end) => Ok(Found::Ends(end)),
     }
@@ -260,7 +263,8 @@ pub fn insert_basis<E: Engine, P: Sink>(
         print.old print.new cards.now machine.old machine.new result }
     ensures sound { IsSound cards.now machine.new }
 {
-    match find_basis(alloc, machine, cards, card)? {
+    let found = find_basis(alloc, machine, cards, card)?;
+    match found {
         Found::Ends(end) => Ok(Act::Ends(end)),
         Found::Singular {
             name,

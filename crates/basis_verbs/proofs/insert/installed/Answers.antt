@@ -1,33 +1,46 @@
 -- What comes of the basis of a deck.
-use Rattle.std.proofs.Common.{◌≡◌, refl}
+use Rattle.std.proofs.Common.{List, refl, sym, ap, subst}
+use Rattle.exact_values.specs.Rational.{ℚ}
+use Rattle.lp_definitions.specs.Waypoints.{waypoint}
+use Rattle.basis_deck.specs.Installing.{InstallStops}
+use Rattle.run_machine.specs.Kept.{Setup}
+use Rattle.basis_verbs.specs.Inserting.{IsSingularFor}
 use Rattle.basis_verbs.proofs.insert.installed.Goals as goal
 
 pub returns-in-Ok : goal.returns-in-Ok
 returns-in-Ok g c = record {
-  name = refl;
-  options = refl;
+  name = ap (λ (s : Setup). s.name) c.setup.view_is;
+  options = ap (λ (s : Setup). s.options) c.setup.view_is;
   same_lp = refl;
   same_basis = refl;
   rates = c.in-Ok.ensures.rates;
   within = c.in-Ok.ensures.within;
-  is_deck = c.problem_name.ensures.name;
-  is_basic = c.basic_count.ensures;
+  is_deck = c.problem_name-name.ensures.name;
+  is_basic = c.basic_count-basic.ensures;
   is_next = refl;
 }
 
 pub returns-in-Err-Singular : goal.returns-in-Err-Singular
-returns-in-Err-Singular g c = record {
-  same_name = refl;
-  same_lp = refl;
-  full = c.in-Err-Singular.ensures.stops.0;
-  column = c.in-Err-Singular.ensures.stops.1.0;
-  is_dependency = c.in-Err-Singular.ensures.stops.1.1;
-}
+returns-in-Err-Singular g c =
+    let stops = subst (InstallStops g.E.Rates.matrix g.E.Rates.basics g.E.Rates.waypoints c.args.lp c.args.basis) c.in-Err-Singular.field-0-is c.in-Err-Singular.ensures.stops in
+    subst (λ (d : List ℚ). IsSingularFor c.args.card c.args.setup.now c.args.lp c.args.basis c.args.deck.first c.args.deck.last c.args.cards.now c.setup.inside.name c.args.lp d) (sym c.in-Err-Singular.dependency-is) (record {
+      same_name = ap (λ (s : Setup). s.name) c.setup.view_is;
+      same_lp = refl;
+      full = stops.0;
+      column = stops.1.0;
+      is_dependency = stops.1.1;
+    })
 
-pub returns-in-Err-Overflow-in-Ok : goal.returns-in-Err-Overflow-in-Ok
-returns-in-Err-Overflow-in-Ok g c = record {
-  evidence = c.in-Err-Overflow.evidence;
-  way = _;
-  is_refused = c.in-Err-Overflow.ensures.stops.refuses.refused;
-  is_end = c.in-Err-Overflow-in-Ok.ensures;
-}
+pub returns-in-Ok-overflow_end : goal.returns-in-Ok-overflow_end
+returns-in-Ok-overflow_end g c =
+    let stops = subst (InstallStops g.E.Rates.matrix g.E.Rates.basics g.E.Rates.waypoints c.args.lp c.args.basis) c.in-Err-Overflow.field-0-is c.in-Err-Overflow.ensures.stops in
+    let evidence = c.in-Err-Overflow.evidence-is in
+    let engine = c.in-Err-Overflow.engine-is in
+    let setup = c.setup.view_is in
+    let ends = c.in-Ok-overflow_end.ensures in
+    record {
+      evidence = c.in-Err-Overflow.evidence;
+      way = waypoint (g.E.Rates.basics c.in-Err-Overflow.engine) (g.E.Rates.waypoints c.in-Err-Overflow.engine) c.in-Err-Overflow.evidence.way;
+      is_refused = stops.refuses.refused;
+      is_end = cc;
+    }

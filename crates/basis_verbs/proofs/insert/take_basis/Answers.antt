@@ -1,5 +1,8 @@
 -- The deck that is taken, and what it gives.
-use Rattle.std.proofs.Common.{◌≡◌, ◌≤◌, Some, inl, inr, refl, arith, ◌∙◌}
+use Rattle.std.proofs.Common.{inl, inr, refl, ap, subst, arith, ◌∙◌}
+use Rattle.card_definitions.specs.Cards.{cards_between}
+use Rattle.basis_deck.specs.Reading.{Refuses}
+use Rattle.run_machine.specs.declared.end.End.TheVariants as ends
 use Rattle.basis_verbs.proofs.insert.take_basis.Goals as goal
 
 pub returns-in_default : goal.returns-in_default
@@ -25,4 +28,6 @@ returns-in-Ok c = record {
 }
 
 pub returns-in-Err-Fault : goal.returns-in-Err-Fault
-returns-in-Err-Fault c = inr (_, _, c.in-Err-Fault.fault, c.in-Some.ensures.taken, c.in-Err-Fault.ensures.stop, refl)
+returns-in-Err-Fault c =
+    let stop = subst (Refuses c.args.problem.now c.args.lp.now (cards_between c.in-Some.deck.first c.in-Some.deck.last c.args.cards.now)) c.in-Err-Fault.field-0-is c.in-Err-Fault.ensures.stop in
+    inr (_, _, c.in-Err-Fault.fault, c.in-Some.ensures.taken, stop, ap ends.Deck c.in-Err-Fault.fault-is)
