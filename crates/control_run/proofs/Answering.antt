@@ -14,7 +14,6 @@ use Rattle.listing_definitions.specs.Report.{Report}
 use Rattle.listing_definitions.specs.Ending.{Ending, status_of}
 use Rattle.listing_definitions.specs.Listing.{listing, ending_text, reports_text}
 use Rattle.question_definitions.specs.Solving.{Solving}
-use Rattle.run_definitions.specs.State.{State}
 use Rattle.run_definitions.specs.Moves.{punched_by, gain_of}
 use Rattle.run_definitions.specs.Answer.{Job, Failures, bytes_of, IsProgramOf, run, MayEnd, by_itself as ends_by_itself, memory_in_run, memory_at_punch, punch_fails, IsCutShort, IsAnswered}
 use Rattle.run_definitions.specs.Answer as answers
