@@ -14,14 +14,13 @@ use Rattle.listing_definitions.specs.Report.{Report}
 use Rattle.listing_definitions.specs.Ending.{Ending, status_of}
 use Rattle.listing_definitions.specs.Listing.{listing, ending_text, reports_text}
 use Rattle.question_definitions.specs.Solving.{Solving}
-use Rattle.run_definitions.specs.State.{State}
 use Rattle.run_definitions.specs.Moves.{punched_by, gain_of}
 use Rattle.run_definitions.specs.Answer.{Job, Failures, bytes_of, IsProgramOf, run, MayEnd, by_itself as ends_by_itself, memory_in_run, memory_at_punch, punch_fails, IsCutShort, IsAnswered}
 use Rattle.run_definitions.specs.Answer as answers
 use Rattle.run_machine.specs.declared.act.Halt.{Halt}
 use Rattle.run_machine.specs.declared.act.Halt.TheVariants as halt
 use Rattle.run_machine.specs.declared.end.End.{End}
-use Rattle.run_machine.specs.declared.end.End.TheVariants.{Done, Infeasible, Unbounded, Verb, Deck, Limit, Statements, Overflow, Memory}
+use Rattle.run_machine.specs.declared.end.End.TheVariants.{Done, Infeasible, Unbounded, Verb, Singular, WrongPrices, Deck, Limit, Statements, Overflow, Memory}
 use Rattle.control_run.specs.declared.status.Status.{Status}
 use Rattle.control_run.specs.declared.status.Status.TheVariants.{PrintFault, PunchFault}
 use Rattle.run_machine.specs.Ends.{end_shown}
@@ -73,6 +72,8 @@ module _ (S : Solving) (program : Program) (cards : List (List ℕ)) {P U : Type
   no_fault Infeasible code low high e = omega (arith, low, high, e)
   no_fault Unbounded code low high e = omega (arith, low, high, e)
   no_fault (Verb fault card) code low high e = omega (arith, low, high, e)
+  no_fault (Singular card basis) code low high e = omega (arith, low, high, e)
+  no_fault (WrongPrices card variable) code low high e = omega (arith, low, high, e)
   no_fault (Deck fault) code low high e = omega (arith, low, high, e)
   no_fault (Limit limit card) code low high e = omega (arith, low, high, e)
   no_fault Statements code low high e = omega (arith, low, high, e)

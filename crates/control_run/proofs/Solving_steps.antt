@@ -3,7 +3,7 @@ use Rattle.std.proofs.Common.{◌≡◌, ℕ, List, [], ◌∷◌, ◌++◌, Opt
 use Rattle.std.specs.Prelude.{MatchResult, IfOk}
 use Rattle.job_devices.specs.declared.device.WriteStop.{WriteStop}
 use Rattle.job_devices.specs.Text.{Writes}
-use Rattle.lp_definitions.specs.LinearProgram.{Matrix, LinearProgram, IsLinearProgram}
+use Rattle.lp_definitions.specs.LinearProgram.{LinearProgram, IsLinearProgram}
 use Rattle.lp_definitions.specs.Basis.{Basics, basics_of, IsOptimalBasis}
 use Rattle.lp_definitions.specs.Waypoints.{waypoint}
 use Rattle.lp_definitions.specs.declared.Evidence.{Evidence}
@@ -14,11 +14,9 @@ use Rattle.path_laws.specs.Laws.{IsNonsingularBasis}
 use Rattle.path_laws.proofs.Ends.{optimal_end}
 use Rattle.dual_laws.proofs.DualTurns.{dual_end}
 use Rattle.dual_laws.proofs.OneDualPath.{path_right}
-use Rattle.basis_values.specs.Calls.{HasRates}
 use Rattle.problem_definitions.specs.Problem.{Problem}
 use Rattle.problem_file.specs.Filed.{Filed, filed_under}
 use Rattle.control_definitions.specs.Cells.{Cells}
-use Rattle.selection_definitions.specs.Choice.{Choice}
 use Rattle.selection_definitions.specs.Selection.{selected}
 use Rattle.listing_definitions.specs.declared.Mark.{Mark}
 use Rattle.listing_definitions.specs.declared.Mark.TheVariants.{Optimal}
@@ -46,11 +44,10 @@ use Rattle.run_machine.specs.declared.selecting.Refusal.TheVariants.{Fault, NoMe
 use Rattle.run_machine.specs.declared.selecting.Refusal.TheVariants as refusals
 use Rattle.run_machine.specs.Choosing.{IsUnselected}
 use Rattle.run_machine.specs.Ends.{place_shown}
-use Rattle.run_machine.specs.Standing.{IsReady, IsSelected}
 use Rattle.run_machine.specs.Findings.{TellsFinding, refused_finding, IfEnded}
 use Rattle.control_run.specs.declared.solving.SolvingVerb.{SolvingVerb}
 use Rattle.control_run.specs.Found.{solver_of, limit_of, PathReaches, PathFinds, reached, wrong_prices, at_limit, overflows, Finds, unselected, too_large, solved}
-use Rattle.run_machine.proofs.Selected.{same_matrix, no_change, rates_carry}
+use Rattle.run_machine.proofs.Selected.{no_change}
 use Rattle.control_run.proofs.Telling.{tells_more, tells_quietly}
 use Rattle.run_machine.proofs.Present.{one_problem}
 

@@ -54,7 +54,7 @@ use Rattle.control_run.specs.declared.sweep.SweepVerb.{SweepVerb}
 use Rattle.run_machine.specs.Choosing.{IsUnselected}
 use Rattle.run_machine.specs.Ends.{place_shown}
 use Rattle.run_machine.specs.Findings.{TellsFinding, refused_finding}
-use Rattle.control_run.specs.Sweeping.{IsNotAsked, IsAsked, IsOf, Serves, value_left, IsRunOverflow, SweepFinds, opened, chained, overflows, Sweeps, unselected, too_large, not_asked, swept, SweepReaches, sweep_shown}
+use Rattle.control_run.specs.Sweeping.{IsNotAsked, IsAsked, IsOf, Serves, value_left, IsRunOverflow, SweepFinds, opened, chained, overflows, Sweeps, unselected, too_large, not_asked, swept}
 use Rattle.control_run.proofs.Telling.{tells_more, tells_quietly, overflow_tells}
 use Rattle.control_run.proofs.Limit_formula.{placed_apart, unplaced_limit}
 use Rattle.control_run.proofs.Sweep_lines.{last_same, chain_same}

@@ -13,7 +13,7 @@ use Rattle.listing_definitions.specs.Ending.{Ended, StatementLimit, Memory}
 use Rattle.listing_definitions.specs.Listing.{reports_text}
 use Rattle.question_definitions.specs.Solving.{Solving}
 use Rattle.run_definitions.specs.State.{State, start}
-use Rattle.run_definitions.specs.Moves.{Gain, printed_by, punched_by, Outcome, Goes as GoesOn, Ends as EndsRun, gain_of}
+use Rattle.run_definitions.specs.Moves.{Gain, printed_by, punched_by, Goes as GoesOn, gain_of}
 use Rattle.run_definitions.specs.Run.{Step, Reaches, begun, stepped, is_over, is_ended, at_end, at_limit}
 use Rattle.run_machine.specs.declared.act.Halt.{Halt}
 use Rattle.run_machine.specs.declared.act.Halt.TheVariants as halt
@@ -23,7 +23,6 @@ use Rattle.run_machine.specs.declared.end.End.{End}
 use Rattle.run_machine.specs.Machines.{Machine}
 use Rattle.run_machine.specs.Ends.{end_shown}
 use Rattle.run_machine.specs.Standing.{IsSound, Stands}
-use Rattle.run_machine.specs.Statements.{gain_text}
 use Rattle.run_machine.specs.Punching.{gain_cards}
 use Rattle.control_run.specs.Running.{decks_after, by_itself, for_memory, for_memory_of_punch, for_punch_fault, Turns, IsStepCut, IsDeckCut, Steps, RunsTo, IsRunCut, Runs}
 use Rattle.control_run.proofs.Gains.{printed_text, reports_text_more, card_text_more, gains_whole, gains_front_at_fault, gains_front_for_memory}
