@@ -12,7 +12,7 @@ use Rattle.deck_definitions.specs.Conversion.{deck_name}
 use Rattle.deck_definitions.specs.Decks.{decks_of, deck_taken}
 use Rattle.lp_definitions.specs.LinearProgram.{Matrix, LinearProgram, size, value_at}
 use Rattle.lp_definitions.specs.Basis.{Basics, basics_of, IsNonsingular}
-use Rattle.lp_definitions.specs.Waypoints.{HasColumnsWithin}
+use Rattle.lp_definitions.specs.Waypoints.{HasColumnsWithin, waypoint}
 use Rattle.lp_definitions.specs.declared.Evidence.{Evidence}
 use Rattle.method_definitions.specs.Path.{last_of, listed}
 use Rattle.basis_deck_definitions.specs.Placings.{HasNames}
@@ -79,6 +79,14 @@ gives_deck_fault card read move fault err = subst (λ r. Gives linear_programmin
 -- the waypoints have no other columns than those of the basis
 lies : (a : Matrix) (s : Basis) (ways : List Basics) → All (λ w. HasColumnsWithin a w (basics_of s)) ways → LieIn a ways (s ∷ [])
 lies a s ways within = λ k way lt. inl (within k way lt)
+
+-- the ending of a refused exchange, by the same setup, evidence and engine
+pub ended_at : {N : Type 0} (basics : N → Basics) (ways : N → List Basics) (card : ℕ) (a b : Setup) → a ≡ b → (d e : Evidence) → d ≡ e → (m n : N) → m ≡ n → (end : End) →
+    end_shown end ≡ overflow_ending card a.basis (waypoint (basics m) (ways m) d.way) d → end_shown end ≡ overflow_ending card b.basis (waypoint (basics n) (ways n) e.way) e
+ended_at {N} basics ways card a b setup d e evidence m n engine end h =
+    subst (λ (x : Setup). end_shown end ≡ overflow_ending card x.basis (waypoint (basics n) (ways n) e.way) e) setup
+    (subst (λ (y : Evidence). end_shown end ≡ overflow_ending card a.basis (waypoint (basics n) (ways n) y.way) y) evidence
+    (subst (λ (k : N). end_shown end ≡ overflow_ending card a.basis (waypoint (basics k) (ways k) d.way) d) engine h))
 
 module _ (card : ℕ) (cards : List (List ℕ)) (machine : Machine) where
   pub no_setup : machine.setup ≡ None → IsFound card cards machine (refused_found card (Fault NoSetup))

@@ -3,7 +3,8 @@ use Rattle.std.proofs.Common.{◌-◌, Some, Ok, drop, sym, ap, subst, ◌∙◌
 use Rattle.card_definitions.specs.Cards.{numbered_cards}
 use Rattle.run_machine.proofs.Present.{as_many_rows, as_many_columns}
 use Rattle.run_definitions.specs.State.{choice_of}
-use Rattle.basis_verbs.specs.Inserting.{IsGiven}
+use Rattle.run_machine.specs.Kept.{Setup}
+use Rattle.basis_verbs.specs.Inserting.{IsGiven, IsInstalledFor}
 use Rattle.basis_verbs.proofs.Selecting.{ready_of, stays_on_file}
 use Rattle.basis_verbs.proofs.Inserted.{no_setup, not_selected, deck_ends, basis_found}
 use Rattle.basis_verbs.proofs.insert.find_basis.Goals as goal
@@ -28,7 +29,8 @@ take_basis-requires-clause-names g c = record {
 pub returns-in-Basis : goal.returns-in-Basis
 returns-in-Basis g c =
     basis_found c.args.card c.args.cards.now c.args.machine.now _ (c.in-Some.is ∙ ap Some (sym c.setup.view_is)) c.in-Some-get.problem.now (sym c.in-Some-get.ensures)
-    c.in-Ok.lp c.in-Ok.ensures.selected c.name-wanted.result c.name-wanted.ensures (ready_of c.args.machine.now.file c.args.machine.now.setup _ (c.in-Some.is ∙ ap Some (sym c.setup.view_is)) c.requires.ready) c.in-Basis.basis c.in-Basis.deck.first c.in-Basis.deck.last (subst (IsGiven c.args.card c.in-Some-get.problem.now c.in-Ok.lp c.name-wanted.result (drop (c.args.machine.now.decks_from - 1) (numbered_cards c.args.cards.now)) c.args.cards.now) (ap Ok c.in-Basis.is) c.in_ok-given.ensures) c.installed.result c.installed.ensures
+    c.in-Ok.lp c.in-Ok.ensures.selected c.name-wanted.result c.name-wanted.ensures (ready_of c.args.machine.now.file c.args.machine.now.setup _ (c.in-Some.is ∙ ap Some (sym c.setup.view_is)) c.requires.ready) c.in-Basis.basis c.in-Basis.deck.first c.in-Basis.deck.last (subst (IsGiven c.args.card c.in-Some-get.problem.now c.in-Ok.lp c.name-wanted.result (drop (c.args.machine.now.decks_from - 1) (numbered_cards c.args.cards.now)) c.args.cards.now) (ap Ok c.in-Basis.is) c.in_ok-given.ensures) c.installed.result
+    (subst (λ (s : Setup). IsInstalledFor c.args.card s c.in-Ok.lp c.in-Basis.basis c.in-Basis.deck.first c.in-Basis.deck.last c.args.cards.now c.installed.result) (sym c.setup.view_is) c.installed.ensures)
 
 pub returns-in-Ends : goal.returns-in-Ends
 returns-in-Ends g c =

@@ -29,7 +29,7 @@ pub returns-in_err-text_of-in-Inserted-clause-acts : goal.returns-in_err-text_of
 returns-in_err-text_of-in-Inserted-clause-acts g c =
     let p = err_from_is_err_and c.from_residual-in_err-text_of-in-Inserted.result c.from_residual-in_err-text_of-in-Inserted.ensures.1 in
     rw (p.1, p.2)
-    (inserted_cut c.args.card g.P.Sink.written g.P.Sink.stopped_at g.P.Sink.faults g.P.Sink.refusals c.args.cards.now c.args.machine.now _ _ _ _ (subst (IsFound c.args.card c.args.cards.now c.args.machine.now) (ap Ok c.in-Inserted.is) c.in_ok-found.ensures) _ _ c.in_err-text_of-in-Inserted.ensures)
+    (inserted_cut c.args.card g.P.Sink.written g.P.Sink.stopped_at g.P.Sink.faults g.P.Sink.refusals c.args.cards.now c.args.machine.now _ _ _ _ (subst (IsFound c.args.card c.args.cards.now c.args.machine.now) (ap Ok c.in-Inserted.is) c.in_ok-found.ensures) c.args.machine.now _ c.in_err-text_of-in-Inserted.ensures)
 
 pub returns-in_err-text_of-in-Inserted-clause-sound : goal.returns-in_err-text_of-in-Inserted-clause-sound
 returns-in_err-text_of-in-Inserted-clause-sound g c = sound_inserted c.args.card g.P.Sink.written g.P.Sink.stopped_at g.P.Sink.faults g.P.Sink.refusals c.args.cards.now c.args.machine.now _ _ _ _ (subst (IsFound c.args.card c.args.cards.now c.args.machine.now) (ap Ok c.in-Inserted.is) c.in_ok-found.ensures) c.requires

@@ -5,6 +5,7 @@ use Rattle.lp_definitions.specs.Waypoints.{waypoint}
 use Rattle.basis_deck.specs.Installing.{InstallStops}
 use Rattle.run_machine.specs.Kept.{Setup}
 use Rattle.basis_verbs.specs.Inserting.{IsSingularFor}
+use Rattle.basis_verbs.proofs.Inserted.{ended_at}
 use Rattle.basis_verbs.proofs.insert.installed.Goals as goal
 
 pub returns-in-Ok : goal.returns-in-Ok
@@ -34,13 +35,9 @@ returns-in-Err-Singular g c =
 pub returns-in-Ok-overflow_end : goal.returns-in-Ok-overflow_end
 returns-in-Ok-overflow_end g c =
     let stops = subst (InstallStops g.E.Rates.matrix g.E.Rates.basics g.E.Rates.waypoints c.args.lp c.args.basis) c.in-Err-Overflow.field-0-is c.in-Err-Overflow.ensures.stops in
-    let evidence = c.in-Err-Overflow.evidence-is in
-    let engine = c.in-Err-Overflow.engine-is in
-    let setup = c.setup.view_is in
-    let ends = c.in-Ok-overflow_end.ensures in
     record {
       evidence = c.in-Err-Overflow.evidence;
       way = waypoint (g.E.Rates.basics c.in-Err-Overflow.engine) (g.E.Rates.waypoints c.in-Err-Overflow.engine) c.in-Err-Overflow.evidence.way;
       is_refused = stops.refuses.refused;
-      is_end = cc;
+      is_end = ended_at g.E.Rates.basics g.E.Rates.waypoints c.args.card _ _ c.setup.view_is _ _ c.in-Err-Overflow.evidence-is _ _ c.in-Err-Overflow.engine-is c.in-Ok-overflow_end.end c.in-Ok-overflow_end.ensures;
     }
