@@ -65,7 +65,7 @@ enum Found<E: Engine> {
 }
 
 // Takes a deck of the cards from this number on, and reads it.
-fn given(
+fn take_basis(
     alloc: Global,
     problem: &Problem,
     lp: &Lp,
@@ -215,7 +215,7 @@ fn installed<E: Engine>(
 }
 
 // What INSERT finds with the setup of a machine.
-fn found<E: Engine>(
+fn find_basis<E: Engine>(
     alloc: Global,
     machine: &Machine<Setup<E>>,
     cards: &Cards,
@@ -236,7 +236,7 @@ fn found<E: Engine>(
         Err(refusal) => return ended(refusal, card),
     };
     let wanted = machine.cells.name(NameCell::Xdata);
-    match given(alloc, problem, &lp, cards, machine.decks_from, wanted, card)? {
+    match take_basis(alloc, problem, &lp, cards, machine.decks_from, wanted, card)? {
         Given::Basis { basis, deck } => installed(alloc, setup, lp, basis, deck, cards, card),
         Given::Ends(end) => Ok(Found::Ends(end)),
     }
@@ -260,7 +260,7 @@ pub fn insert_basis<E: Engine, P: Sink>(
         print.old print.new cards.now machine.old machine.new result }
     ensures sound { IsSound cards.now machine.new }
 {
-    match found(alloc, machine, cards, card)? {
+    match find_basis(alloc, machine, cards, card)? {
         Found::Ends(end) => Ok(Act::Ends(end)),
         Found::Singular {
             name,

@@ -2,7 +2,7 @@
 ghost use Rattle.std.specs.Prelude.{◌≡◌, length};
 ghost use Rattle.lp_definitions.specs.LinearProgram.{size};
 ghost use Rattle.problem_file.specs.Filed.{filed_under};
-ghost use Rattle.run_machine.specs.Singular.{IsSheetOf};
+ghost use Rattle.run_machine.specs.Singular.{IsSheetOf, IsSheetOf-prop};
 
 use deck_definitions::DeckFault;
 use listing_definitions::VerbFault;
@@ -26,7 +26,7 @@ pub struct SingularBasis {
     pub name: Name,
     pub lp: Lp,
     pub dependency: Direction,
-    pub ghost on_file: { IsSheetOf (filed_under name file) lp },
+    pub ghost on_file: { IsSheetOf (filed_under name file) lp } by { IsSheetOf-prop (filed_under name file) lp },
     pub ghost full: { length dependency ≡ size lp.matrix },
 }
 

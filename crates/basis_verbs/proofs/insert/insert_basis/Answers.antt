@@ -5,10 +5,10 @@ use Rattle.run_machine.specs.Ends.{end_shown}
 use Rattle.basis_verbs.proofs.Inserted.{ends_quietly, inserted_done, inserted_cut, sound_emptied, sound_inserted}
 use Rattle.basis_verbs.proofs.insert.insert_basis.Goals as goal
 
-pub returns-in_err-found-clause-acts : goal.returns-in_err-found-clause-acts
-returns-in_err-found-clause-acts g c =
+pub returns-in_err-find_basis-clause-acts : goal.returns-in_err-find_basis-clause-acts
+returns-in_err-find_basis-clause-acts g c =
     let p = err_from_is_err_and c.from_residual.result c.from_residual.ensures.1 in
-    rw (p.1, p.2, c.in_err-found.ensures) refl
+    rw (p.1, p.2, c.in_err-find_basis.ensures) refl
 
 pub returns-in-Ends-clause-acts : goal.returns-in-Ends-clause-acts
 returns-in-Ends-clause-acts g c =

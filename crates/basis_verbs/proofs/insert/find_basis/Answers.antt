@@ -5,7 +5,7 @@ use Rattle.run_machine.proofs.Present.{as_many_rows, as_many_columns}
 use Rattle.run_definitions.specs.State.{choice_of}
 use Rattle.basis_verbs.proofs.Selecting.{ready_of, stays_on_file}
 use Rattle.basis_verbs.proofs.Inserted.{no_setup, not_selected, deck_ends, basis_found}
-use Rattle.basis_verbs.proofs.insert.found.Goals as goal
+use Rattle.basis_verbs.proofs.insert.find_basis.Goals as goal
 
 pub returns-in_default : goal.returns-in_default
 returns-in_default g c = rw c.ended.ensures (no_setup c.args.card c.args.cards.now c.args.machine.now c.in_default.is)
@@ -19,8 +19,8 @@ returns-in-Err g c =
     rw c.ended-in-Err.ensures
     (not_selected c.args.card c.args.cards.now c.args.machine.now c.in-Some.setup c.in-Some.is c.in-Some-get.problem.now (sym c.in-Some-get.ensures) c.in-Err.refusal c.in-Err.ensures.refused)
 
-pub given-requires-clause-names : goal.given-requires-clause-names
-given-requires-clause-names g c = record {
+pub take_basis-requires-clause-names : goal.take_basis-requires-clause-names
+take_basis-requires-clause-names g c = record {
   rows = as_many_rows c.in-Some-get.problem.now (choice_of c.args.machine.now.cells c.in-Some.setup.options) c.in-Ok.lp c.in-Ok.ensures.selected;
   columns = as_many_columns c.in-Some-get.problem.now (choice_of c.args.machine.now.cells c.in-Some.setup.options) c.in-Ok.lp c.in-Ok.ensures.selected;
 }

@@ -1,6 +1,6 @@
 -- The deck that is taken, and what it gives.
 use Rattle.std.proofs.Common.{◌≡◌, ◌≤◌, Some, inl, inr, refl, arith, ◌∙◌}
-use Rattle.basis_verbs.proofs.insert.given.Goals as goal
+use Rattle.basis_verbs.proofs.insert.take_basis.Goals as goal
 
 pub returns-in_default : goal.returns-in_default
 returns-in_default c = inl (c.take_deck.ensures.taken ∙ rw c.in_default.is refl, refl)
