@@ -8,7 +8,7 @@ use Rattle.job_devices.specs.declared.device.WriteStop.{WriteStop}
 use Rattle.job_devices.specs.declared.device.WriteStop.TheVariants.{Failed, NoMemory}
 use Rattle.deck_definitions.specs.Written.{card_text}
 use Rattle.listing_definitions.specs.Ending.{Ending, status_of}
-use Rattle.listing_definitions.specs.Listing.{listing, ending_text}
+use Rattle.listing_definitions.specs.Listing.{ending_text}
 use Rattle.question_definitions.specs.Solving.{Solving}
 use Rattle.run_definitions.specs.Answer.{Job, Failures, Gains, MayEnd, IsCutShort, in_end, IsAnswered, whole, print_fails, print_wants_memory}
 use Rattle.control_run.specs.declared.status.Status.{Status}
