@@ -5,13 +5,14 @@
 # processor time of five runs, in seconds, and the peak memory. Then it prints how many of fifty problems of 15 rows and 30 columns,
 # with numbers of two decimals, end without an overflow by each engine, and how long the fifty take together. Where the proved
 # program is built, or named, it also times whole jobs: the one of 60 by 60 from its bytes to its verdict, without and with RANGE;
-# SOLUTION of a problem of 1,000 rows and 5,000 columns; and a parametric run on it, up to 0.5 and, where numbers grow wide, up to 0.6.
+# SOLUTION of a problem of 1,000 rows and 5,000 columns; and a parametric run on it, up to 0.1 and up to 0.3, which is 22 and 99
+# intervals.
 # Usage: scripts/bench_path.sh [--instructions] [PROGRAM [WHOLE]], a program that takes the words `path table` and `path product`, and
 # the one of whole jobs; with --instructions it counts the instructions of one run of each by valgrind, in place of time and memory; or
 # scripts/bench_path.sh --dense N or --queens N or --wide, which print a deck: the N-th of the fifty, that of N queens, and the one
 # of the parametric run.
 set -eu
-case ${1:-} in -h | --help) sed -n '2,13s/^# //p' "$0"; exit 0 ;; esac
+case ${1:-} in -h | --help) sed -n '2,14s/^# //p' "$0"; exit 0 ;; esac
 here=$(cd "$(dirname "$0")" && pwd)
 deck=$(mktemp)
 counts=$(mktemp)
@@ -223,7 +224,7 @@ if [ -x "$whole" ]; then
     job SETUP PRIMAL SOLUTION -- wide >"$deck"
     echo "1,000 rows and 5,000 columns, SOLUTION, $("$whole" <"$deck" | wc -l) lines:"
     measured "$whole"
-    for most in 0.5 0.6; do
+    for most in 0.1 0.3; do
         job "MOVE(XCHROW,'CHANGE')" "MOVE(XPARMAX,$most)" SETUP PARAOBJ -- wide >"$deck"
         echo "1,000 rows and 5,000 columns, PARAOBJ up to $most, $("$whole" <"$deck" | wc -l) lines:"
         measured "$whole"

@@ -129,7 +129,8 @@ def try_schema():
     check("no listings", len(listings) > 20)
     texts = [path.read_text() for path in listings]
     texts += ["STOP 12 DECK FAULT 6 CARD 12\n", texts[0][:200].rpartition("\n")[0] + "\n",
-              "PRIMAL INFEASIBLE STEPS 0 CROSSED 3 UNCHECKED ADD 1 2\nEND 1\n",
+              "PRIMAL INFEASIBLE STEPS 0 CROSSED 3 UNCHECKED ADD 1 2\nEND 1\n", "STOP 10 VERB FAULT 15 CARD 4\n    1 COST     -1/3\n    2 X        1\n",
+              "STOP 10 VERB FAULT 16 CARD 4 VARIABLE 2\n",
               f"PRIMAL OPTIMAL STEPS 0 OBJECTIVE {10**400} CHECKED\nEND 0\n"]
     documents = []
     for text in texts:
@@ -388,7 +389,7 @@ def try_statuses(folder, program):
               and (status < 64 or told.stderr.startswith(b"solve: ")))
     for name, table, wanted in (("conflict", "rays", r"^\d+,ray,4,TABLES,-5,,$"), ("endless", "rays", r"^\d+,direction,3,BUY,,0,1$"),
                                 ("pararhs", "intervals", r"^4,pararhs,MORE,2,10,15,5,COOP,BS,-10,1,0,0$"),
-                                ("pararhs", "verdicts", r"^5,pararhs,infeasible,MIN,.*,18$"), ("punch", "others", r"^4,bcdout,NEXTWEEK,,,,,24$"),
+                                ("pararhs", "verdicts", r"^5,pararhs,infeasible,MIN,.*,18$"), ("punch", "others", r"^4,bcdout,NEXTWEEK,,,,,24,$"),
                                 ("first", "solutions", r"^5,columns,6,SHELF,UL,8,,0,8,,36,17/2$")):
         told = call(SCRIPTS / "listing2json.py", "--table", table, EXAMPLES / f"{name}.listing").stdout.decode()
         check(f"--table {table} of {name}: {told}", re.search(wanted, told, re.M))

@@ -74,8 +74,8 @@ BOUNDS
  PL BND X1
 ENDATA
 """
-MODULES = ("runner.py", "mps_file.py", "every_basis.py", "expected_bases.py", "expected_postoptimal.py", "strangers_text.py", "follow_listing.py", "parametric_svg.py",
-           "readable.py")
+MODULES = ("runner.py", "mps_file.py", "every_basis.py", "expected_bases.py", "expected_postoptimal.py", "strangers_text.py", "follow_listing.py",
+           "parametric_svg.py", "readable.py")
 DOOMED = {
     "a MARKER": ("    M1  'MARKER'  'INTORG'\n", "MARKER"),
     "a long number": ("    X  COST  0.1234567890123\n", "12 columns"),
@@ -152,6 +152,8 @@ def try_measures(folder):
     printed = call(SCRIPTS / "bench_expected.py").stdout + 2 * call(SCRIPTS / "path_expected.py", "4").stdout
     check("bench_expected.py, path_expected.py", printed == (runner.TOP / "crates/bench/stdout").read_bytes())
     check("path_expected.py 2", call(SCRIPTS / "path_expected.py", "2").stdout == b"OPTIMAL STEPS 4 OBJECTIVE 180/1\n")
+    # on a board of 2 by 2 the lines and the diagonals leave one plan, a half on each square
+    check("path_expected.py queens 2", call(SCRIPTS / "path_expected.py", "queens", "2").stdout.endswith(b" OBJECTIVE 9/2\n"))
     deck = folder / "deck"
     deck.write_text("NAME          ONE\nROWS\n N  COST\n G  LOW\nCOLUMNS\n    X         COST      3              LOW       2\nRHS\n    B         LOW       8\nENDATA\n")
     widths = call(SCRIPTS / "path_widths.py", "--all", deck).stdout
@@ -212,16 +214,25 @@ def try_random(program):
 
 
 def try_listings():
-    "listing2json.py on RANGE, a parametric run and a punched deck, as worked out by hand"
+    "listing2json.py on RANGE, a parametric run, punched decks, a deck that is inserted, and what follows a stop, as worked out by hand"
+    def told(name):
+        return json.loads(call(SCRIPTS / "listing2json.py", SCRIPTS / f"known/{name}.listing").stdout)
+
     def reports(name, kind):
-        told = json.loads(call(SCRIPTS / "listing2json.py", SCRIPTS / f"known/{name}.listing").stdout)
-        return [report for report in told["reports"] if report["report"] == kind]
+        return [report for report in told(name)["reports"] if report["report"] == kind]
     line = reports("range-testprob", "ranges")[0]["columns_at_limit"][0]
     check(f"listing2json.py: RANGE: {line}", (line["name"], line["limit_high"], line["cost_low"], line["cost_high"]) == ("YTWO", "1", "-8", None))
     run = reports("pararhs-infeasible-past", "parametric")[0]
     ends = run["change"], run["end"], run["at"], run["ray"][0]["multiplier"], run["intervals"][0]["to"], run["intervals"][0]["lines"][2]["value_rate"]
     check(f"listing2json.py: PARARHS: {ends}", ends == ("C", "infeasible", "2", "-1", "2", "1"))
     check("listing2json.py: BCDOUT", reports("bcdout-one", "bcdout") == [{"report": "bcdout", "name": "ONE", "cards": 10}])
+    check("listing2json.py: PUNCH", reports("insert-basis", "punch") == [{"report": "punch", "name": "TESTPROB", "cards": 4}])
+    check("listing2json.py: INSERT", reports("insert-basis", "insert") == [{"report": "insert", "name": "TESTPROB", "basic": 2}])
+    verdict = reports("dual-infeasible", "verdict")[0]
+    check(f"listing2json.py: DUAL: {verdict}", (verdict["by"], verdict["verdict"], [line["multiplier"] for line in verdict["ray"]]) == ("dual", "infeasible", ["-1", "1"]))
+    dependency = [(line["name"], line["value"]) for line in told("insert-dependency")["end"]["dependency"]]
+    check(f"listing2json.py: fault 15: {dependency}", dependency == [("COST", "-1"), ("D", "1"), ("P", "-2"), ("Q", "1")])
+    check("listing2json.py: fault 16", told("dual-wrong-prices")["end"]["variable"] == 2)
 
 
 # A job, a listing, and what scripts/explain says of them; a listing of another job is explained by itself.
@@ -241,6 +252,20 @@ EXPLAINED = (
     ("scripts/known/pararhs-point-interval", "scripts/known/pararhs-point-interval", ("At theta = 0 alone: the objective is 1.\n",)),
     ("scripts/known/paraobj-unbounded-opening", "scripts/known/paraobj-unbounded-opening", (
         "At XPARAM, where PARAOBJ begins, there is no best plan, so there are no intervals.\nThe objective has no bound.",)),
+    ("scripts/known/dual-infeasible", "scripts/known/dual-infeasible", (
+        "-1 x LOW      which is at least 3: at most -3\n", "together 0, and at most -1: so these limits conflict")),
+    ("scripts/known/insert-dependency", "scripts/known/insert-dependency", (
+        "      -2 x P\n         1 x Q\n\nThat changes COST by -1, D by 1, and no row that the deck takes out of the basis.", "What to do: leave out the card of one of the columns")),
+    ("scripts/known/dual-wrong-prices", "scripts/known/dual-wrong-prices", ("\nVariable 2 is X.\n", "PRIMAL in place of DUAL")),
+    ("examples/replan", "examples/replan", ("SETUP, card 7: problem 'NEXTWEEK', MAX\n", "The plan of SOLUTION is best: 1200, after 1 steps")),
+)
+# A card of the basis deck of examples/replan.job and another in its place, the fault, and what explain says.
+BASIS_MISTAKES = (
+    (" XU TABLE     BOARDS", " XU TABELS    BOARDS", 11, ("Known columns: 'TABLE', 'CHAIR', 'SHELF'\nNear to 'TABELS': 'TABLE'",)),
+    (" XU TABLE     BOARDS", " XU TABLE     BORDS", 6, ("Known rows: 'PROFIT', 'BOARDS', 'HOURS'\nNear to 'BORDS': 'BOARDS'",)),
+    (" XU TABLE     BOARDS", " XX TABLE     BOARDS", 30, ("It means: ", "XU, XL, UL or LL")),
+    (" XU TABLE     BOARDS", " UL TABLE     BOARDS", 32, ("It means: ",)),
+    (" UL SHELF", " UL SHELF     HOURS", 20, ("Column 15 is to be blank, which belongs to field 3, and a UL card has no field 3; here it has 'H'.",)),
 )
 
 
@@ -256,6 +281,13 @@ def try_explain(folder):
         told = call(SCRIPTS / "explain", runner.TOP / f"{job}.job", runner.TOP / f"{name}.listing").stdout.decode()
         for text in wanted:
             check(f"explain {job} {name}: no {text!r} in {told}", text in told)
+    replan, begun = (examples / "replan.job").read_text(), "".join((examples / "replan.listing").read_text().splitlines(True)[:3])
+    for card, other, fault, wanted in BASIS_MISTAKES:
+        (folder / "basis.job").write_text(replan.replace(card + "\n", other + "\n"))
+        listing.write_text(f"{begun}STOP 12 DECK FAULT {fault} CARD {replan.splitlines().index(card) + 1}\n")
+        told = call(SCRIPTS / "explain", folder / "basis.job", listing).stdout.decode()
+        for text in wanted:
+            check(f"explain: {other}: no {text!r} in {told}", text in told)
     broken = folder / "broken.listing"
     for old in ("TO 10", "BS 90", "1/2\nEND"):
         for word in ("NONE", "1/0"):

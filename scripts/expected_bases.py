@@ -151,4 +151,3 @@ def take(table, at):
         row = next(k for k in rows if k in table.rate and table.rate[k][column])
         table.exchange(row, column, at[row])
     table.at = list(at)
-    return len(columns)

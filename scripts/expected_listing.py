@@ -657,18 +657,28 @@ class Run:
         self.punched += cards
         self.lines.append(f"PUNCH   {problem.name:<8} CARDS {len(cards)}")
 
-    def insert(self):
+    def basis_taken(self):
+        "the deck that INSERT takes, and where each variable stands by it"
         self.select()
-        cards, table = self.deck(), Table(self.lp)
+        cards = self.deck()
         try:
-            at = expected_bases.stands_for(cards, self.lp, table.at, is_skipped, fields)
-            count = expected_bases.take(table, at)
+            return cards, expected_bases.stands_for(cards, self.lp, Table(self.lp).at, is_skipped, fields)
         except expected_bases.DeckFault as fault:
             raise DeckFault(fault.number, self.place - len(cards) + fault.place + 1) from None
+
+    def inserted(self, cards, at):
+        self.mark = None
+        self.lines.append(f"INSERT  {deck_name(cards):<8} BASIC {at[self.lp.m:].count('BS')}")
+
+    def insert(self):
+        cards, at = self.basis_taken()
+        table = Table(self.lp)
+        try:
+            expected_bases.take(table, at)
         except expected_bases.Singular as cause:
             raise VerbFault(15, "", self.factors(cause.vector)) from None
-        self.table, self.mark = table, None
-        self.lines.append(f"INSERT  {deck_name(cards):<8} BASIC {count}")
+        self.table = table
+        self.inserted(cards, at)
 
     def run(self):
         at = executed = 0
@@ -677,7 +687,7 @@ class Run:
                 self.lines.append("STOP 17 STATEMENT LIMIT")
                 return 17
             card, verb, words = self.statements[at]
-            at, executed, self.card = at + 1, executed + 1, card
+            at, executed, self.card, self.verb = at + 1, executed + 1, card, verb
             words = [word.strip("'") for word in words]
             try:
                 if verb == "EXIT":

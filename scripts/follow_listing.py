@@ -1,11 +1,12 @@
 """Follows a job along its listing: which linear program each report is about. Nothing is solved: where the control program asks for a
-verdict, the listing's is taken."""
+verdict, or punches or inserts a basis, the listing's word is taken."""
+from fractions import Fraction
 import expected_listing
 
 SAME_LINE = {
     "title": "TITLE {text}", "convert": "CONVERT {name:<8} ROWS {rows} COLUMNS {columns} ENTRIES {entries}",
     "revise": "REVISE  {name:<8} ROWS {rows} COLUMNS {columns} ENTRIES {entries}", "setup": "SETUP   {name:<8} {sense}",
-    "bcdout": "BCDOUT  {name:<8} CARDS {cards}",
+    "bcdout": "BCDOUT  {name:<8} CARDS {cards}", "punch": "PUNCH   {name:<8} CARDS {cards}", "insert": "INSERT  {name:<8} BASIC {basic}",
 }
 UNKNOWN = (expected_listing.Fault, LookupError, ValueError, ArithmeticError, TypeError, AttributeError)
 
@@ -29,8 +30,11 @@ class Followed(expected_listing.Run):
             raise ListingEnds
         report = self.reports[len(self.about)]
         if report["report"] not in kinds:
-            raise OtherJob(f"report {len(self.about) + 1} of the listing is {report['report']}, where the job has {kinds[0]}")
+            self.refuse()
         return report
+
+    def refuse(self):
+        raise OtherJob(f"where the job has {self.verb} on card {self.card}, the listing has another report")
 
     def met(self, report):
         "the report is about the present linear program"
@@ -45,7 +49,7 @@ class Followed(expected_listing.Run):
         for line in self.lines[before:]:
             report = self.next_report(*SAME_LINE)
             if line.rstrip() != SAME_LINE[report["report"]].format(**report).rstrip():
-                raise OtherJob(f"the job has {line!r}, where the listing has another line")
+                self.refuse()
             self.about.append(None)
 
     def set_up(self, words):
@@ -58,24 +62,56 @@ class Followed(expected_listing.Run):
         self.select()
         self.lines.append(f"SETUP   {problem.name:<8} {options['sense']}")
 
-    def verdict_of(self, report):
+    def report_by(self, verb, *kinds):
+        "the next report, which is to be by this verb"
+        report = self.next_report(*kinds)
+        if report["by"] != verb.lower():
+            self.refuse()
+        return report
+
+    def path(self, verb):
+        self.select()
+        report = self.report_by(verb, "verdict")
         self.met(report)
         self.mark = report["verdict"].upper()
         return (self.mark,)
 
     def primal(self):
-        self.select()
-        return self.verdict_of(self.next_report("verdict"))
+        return self.path("PRIMAL")
+
+    def dual(self):
+        return self.path("DUAL")
 
     def parametric(self, verb):
         self.select()
-        self.mark, report = None, self.next_report("parametric", "verdict")
-        if report["report"] == "verdict":
-            return self.verdict_of(report)
-        if verb == "PARARHS":
-            self.shifts[len(self.about)] = self.setup[0].sets["RHS"].get(report["change"], {})
+        self.mark, report = None, self.report_by(verb, "parametric", "verdict")
         self.met(report)
+        if report["report"] == "verdict":
+            self.about[-1] = self.at_opening(verb)
+            return (report["verdict"].upper(),)
+        if verb == "PARARHS":
+            self.shifts[len(self.about) - 1] = self.setup[0].sets["RHS"].get(report["change"], {})
+        if "at" not in report:
+            raise ListingEnds
+        self.cells["XPARAM"] = Fraction(report["at"])
         return ("OPTIMAL",)
+
+    def at_opening(self, verb):
+        "the linear program at XPARAM, whose limits PARARHS has moved"
+        if verb == "PARAOBJ":
+            return self.lp
+        values = self.setup[0].sets["RHS"].get(self.cells.get("XCHCOL"), {})
+        shift = [values.get(name, Fraction(0)) for name in self.lp.names[:self.lp.m]] + [Fraction(0)] * self.lp.n
+        return self.lp.with_limits(shift, self.cells["XPARAM"])
+
+    def basis_out(self):
+        self.select()
+        self.lines.append(f"PUNCH   {self.setup[0].name:<8} CARDS {self.next_report('punch')['cards']}")
+
+    def insert(self):
+        taken = self.basis_taken()
+        self.next_report("insert")
+        self.inserted(*taken)
 
     def solution(self):
         self.met(self.next_report("solution"))

@@ -179,7 +179,7 @@ class Page:
     def verdict(self, k, report):
         kind, name = report["verdict"], self.objective(k)
         most, more = ("greatest", "more") if self.sense == "MAX" else ("least", "less")
-        if report["by"] != "primal":
+        if report["by"] in ("paraobj", "pararhs"):
             self.say(f"At the first value of theta {report['by'].upper()} finds no best plan, so there are no intervals.")
         if kind == "optimal":
             total = report.get("objective_with_constant", report["objective"])
@@ -337,6 +337,10 @@ class Page:
             self.say(f"{as_text(report['name']) or 'The problem'} is set up: the objective is to be {wish}.", "soft")
         elif kind == "bcdout":
             self.say(f"The deck of {as_text(report['name'])} was punched, in {report['cards']} cards.", "soft")
+        elif kind == "punch":
+            self.say(f"The basis of {as_text(report['name'])} was punched, in {report['cards']} cards.", "soft")
+        elif kind == "insert":
+            self.say(f"The basis of the deck {as_text(report['name']) or '(no name)'} was taken: {report['basic']} columns are basic.", "soft")
         elif kind == "verdict":
             self.verdict(k, report)
         elif kind == "parametric":

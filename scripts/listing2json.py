@@ -5,7 +5,7 @@ usage: listing2json.py [--csv | --table NAME] [--decimal] [--names MAP] [FILE]  
 
   --csv         the table lines of the last SOLUTION, with a head line
   --table NAME  CSV of all reports of a kind: verdicts, solutions, rays (and directions), ranges, intervals (of parametric runs), or
-                others (titles, problems, setups, decks punched); the column report numbers the reports of the listing
+                others (titles, problems, setups, decks and bases); the column report numbers the reports of the listing
   --decimal     beside each fraction its value as a decimal number, which is rounded
   --names MAP   the table of names that mps2job.py wrote: names come as they were, and a constant of the objective is added to the objective
                 of each verdict, under objective_with_constant; it isn't, and a line on standard error says so, where the SOLUTION below
@@ -32,7 +32,7 @@ PART = ("at", "value", "value_rate", "price", "price_rate")
 NUMBER = r"-?\d{1,4000}(?:/[1-9]\d{0,3999})?"
 MAY_BE_NONE = ("lower", "upper", "limit_low", "limit_high", "cost_low", "cost_high", "factor_low", "factor_high")
 VERDICT = re.compile(
-    rf"(PRIMAL|PARAOBJ|PARARHS) (OPTIMAL|INFEASIBLE|UNBOUNDED) STEPS (\d{{1,20}}) (?:OBJECTIVE ({NUMBER})|CROSSED (\d{{1,20}})|RAY) (CHECKED|UNCHECKED .*)$")
+    rf"(PRIMAL|DUAL|PARAOBJ|PARARHS) (OPTIMAL|INFEASIBLE|UNBOUNDED) STEPS (\d{{1,20}}) (?:OBJECTIVE ({NUMBER})|CROSSED (\d{{1,20}})|RAY) (CHECKED|UNCHECKED .*)$")
 SWEEP = re.compile(rf"(PARAOBJ|PARARHS) FROM ({NUMBER}) CHANGE (.*)$")
 INTERVAL = re.compile(rf"INTERVAL (\d{{1,20}}) FROM ({NUMBER}) TO ({NUMBER})$")
 SWEPT = re.compile(rf"(?:PARAOBJ|PARARHS) (ENDS AT|UNBOUNDED PAST|INFEASIBLE PAST) ({NUMBER})$")
@@ -115,8 +115,10 @@ def parse(text):
         elif counts:
             reports.append({"report": counts[1].strip().lower(), "name": counts[2].rstrip(), "rows": int(counts[3]), "columns": int(counts[4]),
                             "entries": int(counts[5])})
-        elif punched := re.match(r"BCDOUT  (.{8}) CARDS (\d{1,20})$", line):
-            reports.append({"report": "bcdout", "name": punched[1].rstrip(), "cards": int(punched[2])})
+        elif punched := re.match(r"(BCDOUT|PUNCH )  (.{8}) CARDS (\d{1,20})$", line):
+            reports.append({"report": punched[1].rstrip().lower(), "name": punched[2].rstrip(), "cards": int(punched[3])})
+        elif inserted := re.match(r"INSERT  (.{8}) BASIC (\d{1,20})$", line):
+            reports.append({"report": "insert", "name": inserted[1].rstrip(), "basic": int(inserted[2])})
         elif found := SWEEP.match(line):
             reports.append(sweep(found))
         elif setup:
@@ -160,6 +162,10 @@ def parse(text):
             ended = {"status": int(line[4:]), "text": line}
         elif re.match(r"STOP \d{1,3} ", line):
             ended = {"status": int(line.split(" ")[1]), "text": "\n".join(lines[at - 1:])}
+            if re.match(r"STOP 10 VERB FAULT 15 CARD \d+$", line):
+                ended["dependency"] = table(("value",))
+            elif found := re.match(r"STOP 10 VERB FAULT 16 CARD \d+ VARIABLE (\d{1,20})$", line):
+                ended["variable"] = int(found[1])
             at = len(lines)
         else:
             raise NoListing(f"line {at}: {line[:60]}")
@@ -167,7 +173,7 @@ def parse(text):
 
 
 def each_line(report):
-    for key in ("rows", "columns", "ray", "direction", *(section[0] for section in RANGES)):
+    for key in ("rows", "columns", "ray", "direction", "dependency", *(section[0] for section in RANGES)):
         if isinstance(report.get(key), list):
             for line in report[key]:
                 yield key, line
@@ -219,10 +225,10 @@ def name_back(listing, names):
     if constant is not None:
         add_constant(listing["reports"], names, constant, rhs)
     rows = None
-    for report in listing["reports"]:
+    for report in [*listing["reports"], listing["end"] or {}]:
         if "name" in report:
             report["name"] = names.get("problem", {}).get(report["name"], report["name"])
-        if report["report"] in ("convert", "revise"):
+        if report.get("report") in ("convert", "revise"):
             rows = report["rows"]
         for _, line in each_line(report):
             table = names.get("rows" if rows is None or line["number"] <= rows else "columns", {})
@@ -233,7 +239,7 @@ def name_back(listing, names):
 
 
 def add_decimals(listing):
-    for report in [listing["result"], *listing["reports"]]:
+    for report in [listing["result"], *listing["reports"], listing["end"] or {}]:
         lines = [line for _, line in each_line(report)]
         for place in [report, *report.get("intervals", []), *lines]:
             for key, value in list(place.items()):
@@ -272,7 +278,7 @@ TABLES = {
     "verdicts": ("by", "verdict", "sense", "objective", "objective_constant", "objective_with_constant", "steps", "checked", "crossed", "theta"),
     "rays": ("section", "number", "name", "multiplier", "activity", "direction"),
     "intervals": ("by", "change", "interval", "from", "to", "number", "name", *PART),
-    "others": ("kind", "name", "sense", "rows", "columns", "entries", "cards"),
+    "others": ("kind", "name", "sense", "rows", "columns", "entries", "cards", "basic"),
 }
 
 TEXTS = ("name", "change")
@@ -295,7 +301,7 @@ def lines_of(report, table, sense):
         for count, interval in enumerate(report["intervals"], 1):
             for line in interval["lines"]:
                 yield {**report, "interval": count, "from": interval["from"], "to": interval["to"], **line, "at": line["at"]}
-    elif table == "others" and kind in ("title", "convert", "revise", "setup", "bcdout"):
+    elif table == "others" and kind in ("title", "convert", "revise", "setup", "bcdout", "punch", "insert"):
         yield {**report, "kind": kind, "name": report.get("name", report.get("text"))}
 
 

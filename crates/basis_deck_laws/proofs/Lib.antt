@@ -1,2 +1,5 @@
 pub mod Dependencies
+pub mod GivesBack
 pub mod Lawful
+pub mod OneDeck
+pub mod Spoken

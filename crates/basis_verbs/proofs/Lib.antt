@@ -1,2 +1,4 @@
 pub mod Selecting
 pub mod Basis_out
+pub mod Inserted
+pub mod Counting

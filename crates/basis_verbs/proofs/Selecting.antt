@@ -24,6 +24,10 @@ use Rattle.run_machine.specs.Statements.{Executes}
 use Rattle.run_machine.proofs.Giving.{gives_fault, gives_found, gives_unselected, gives_selected, quietly}
 use Rattle.run_machine.proofs.Present.{present_with, IsPresentOf, present_at}
 
+-- the state has no setup where the machine has none
+pub setup_gone : (cards : List (List ℕ)) (machine : Machine) → machine.setup ≡ None → {position executed : ℕ} {state : State} → Stands cards machine position executed state → state.setup ≡ None
+setup_gone cards machine none {state = state} s = subst (λ (kept : Option Setup). ShowsSetup machine.file kept state.setup) none s.setup
+
 -- what the statement does with a setup, and with what is selected
 module _ (verb : Verb ℕ) (card : ℕ) (go : State → Present → LinearProgram → Move)
     (begins : (state : State) (outcome : Outcome) → Gives linear_programming card (or_fault card NoSetup state.setup (λ present. selects_present card state present (go state present))) outcome → Gives linear_programming card (verb_move verb card state) outcome) where
@@ -38,7 +42,7 @@ module _ (verb : Verb ℕ) (card : ℕ) (go : State → Present → LinearProgra
   without_setup written stopped_at faults refusals cards machine print none =
       quietly linear_programming verb card written stopped_at faults refusals cards machine print (λ position executed state s.
       begins state (stops (endings.VerbStop (record { fault = NoSetup; card = card })))
-      (gives_fault card NoSetup state.setup (with_setup state) (subst (λ (kept : Option Setup). ShowsSetup machine.file kept state.setup) none s.setup)))
+      (gives_fault card NoSetup state.setup (with_setup state) (setup_gone cards machine none s)))
 
   module _ (cards : List (List ℕ)) (old : Machine) (setup : Setup) (is_setup : old.setup ≡ Some setup) (problem : Problem ℕ) (on_file : filed_under setup.name old.file ≡ Some problem) where
     module _ {position executed : ℕ} {state : State} (s : Stands cards old position executed state) where
@@ -57,14 +61,14 @@ module _ (verb : Verb ℕ) (card : ℕ) (go : State → Present → LinearProgra
           setup_gives outcome (gives_selected card (selected problem (choice_of state.cells setup.options)) (selecting_move state present) lp outcome
           (ap (λ (c : Cells). selected problem (choice_of c setup.options)) s.cells ∙ ok) g)
 
-      fault_gives : (fault : VerbFault) → HasSelectionFault problem (choice_of old.cells setup.options) fault →
+      pub fault_gives : (fault : VerbFault) → HasSelectionFault problem (choice_of old.cells setup.options) fault →
           Gives linear_programming card (verb_move verb card state) (stops (endings.VerbStop (record { fault = fault; card = card })))
       fault_gives fault h =
           setup_gives (stops (endings.VerbStop (record { fault = fault; card = card })))
           (gives_unselected card (selected problem (choice_of state.cells setup.options)) (selecting_move state present) h.why fault
           (ap (λ (c : Cells). selected problem (choice_of c setup.options)) s.cells ∙ h.is_refused) h.is_fault)
 
-      overflow_gives : (e : Evidence) → HasSelectionOverflow problem (choice_of old.cells setup.options) e →
+      pub overflow_gives : (e : Evidence) → HasSelectionOverflow problem (choice_of old.cells setup.options) e →
           Gives linear_programming card (verb_move verb card state) (stops (endings.OverflowStop (record { evidence = e; place = None; card = card })))
       overflow_gives e h =
           selected_gives h.lp h.is_selected (stops (endings.OverflowStop (record { evidence = e; place = None; card = card })))

@@ -1,15 +1,20 @@
 // INSERT.
-ghost use Rattle.std.specs.Prelude.{◌≡◌, ◌+◌, ◌≤◌, ◌-◌, ℕ, List, IfSome, IfOk, length, drop};
+ghost use Rattle.std.specs.Prelude.{◌≡◌, ◌+◌, ◌≤◌, ◌-◌, length, drop};
 ghost use Rattle.card_definitions.specs.Cards.{numbered_cards};
-ghost use Rattle.deck_definitions.specs.Decks.{decks_of};
 ghost use Rattle.lp_definitions.specs.LinearProgram.{size};
+ghost use Rattle.lp_definitions.specs.Waypoints.{waypoint};
 ghost use Rattle.basis_deck_definitions.specs.Placings.{HasNames};
 ghost use Rattle.basis_deck_definitions.specs.Writing.{basic_columns};
 ghost use Rattle.control_definitions.specs.Program as program;
 ghost use Rattle.answer_definitions.specs.Real.{linear_programming};
 ghost use Rattle.run_machine.specs.Standing.{IsReady, IsSound};
 ghost use Rattle.run_machine.specs.Statements.{Executes};
-ghost use Rattle.basis_verbs.specs.Given.{IsGiven};
+ghost use Rattle.problem_file.specs.Filed.{filed_under};
+ghost use Rattle.listing_definitions.specs.Ending.{SingularStop};
+ghost use Rattle.lp_definitions.specs.Basis.{IsBasis};
+ghost use Rattle.run_machine.specs.Ends.{end_shown};
+ghost use Rattle.run_machine.specs.Singular.{IsSheetOf, lines_shown};
+ghost use Rattle.basis_verbs.specs.Inserting.{IsGiven, IsFound, IsInstalledFor, IsOverflowEnd, refused_found};
 
 use basis_deck::{InstallStop, install, read_basis};
 use basis_values::stands_basic;
@@ -19,7 +24,7 @@ use deck_fields::DeckStop;
 use job_decks::{Deck, take_deck};
 use job_devices::Sink;
 use listing_definitions::VerbFault;
-use lp_model::{Basis, Direction, Engine, Evidence, Lp};
+use lp_model::{Basis, Direction, Engine, Evidence, Lp, NoMemory};
 use mps_convert::problem_name;
 use name_table::Name;
 use problem_file::{Problem, ProblemFile};
@@ -28,13 +33,34 @@ use run_machine::{
     Act, End, Halt, Machine, Refusal, Setup, SingularBasis, place_at, select_present,
 };
 use std::alloc::Global;
+use std::mem::replace;
 
 // What the deck that is taken gives.
 #[derive(Drop)]
 enum Given {
-    /// The status list of a basis, and the deck that stands for it.
+    // The status list of a basis, and the deck that stands for it.
     Basis { basis: Basis, deck: Deck },
-    /// The end of the run.
+    // The end of the run.
+    Ends(End),
+}
+
+// What INSERT finds, before the machine changes.
+#[derive(Drop)]
+enum Found<E: Engine> {
+    // The setup with the basis of a deck, the name of the deck, the number of basic columns, and the number of the next card.
+    Inserted {
+        setup: Setup<E>,
+        deck: Name,
+        basic: u32,
+        next: u32,
+    },
+    // The basis is singular, of the problem of this name.
+    Singular {
+        name: Name,
+        lp: Lp,
+        dependency: Direction,
+    },
+    // The end of the run.
     Ends(End),
 }
 
@@ -82,7 +108,7 @@ fn basic_count(lp: &Lp, basis: &Basis) -> u32
     count
 }
 
-// An exchange on the way to the basis is refused: the run ends with the basis that is present, and the set at which it was to be made.
+// An exchange on the way to the basis is refused: the run ends with the present basis, and the set at which it was to be made.
 fn overflow_end<E: Engine>(
     alloc: Global,
     lp: &Lp,
@@ -90,35 +116,30 @@ fn overflow_end<E: Engine>(
     engine: &E,
     evidence: Evidence,
     card: u32,
-) -> Result<Act, Halt>
+) -> Result<End, NoMemory>
     requires matrix { E.matrix engine.now ≡ lp.now.matrix }
     requires way { evidence.way ≤ length (E.waypoints engine.now) }
-    ensures { IsOverflowEnd present.now (waypoint (E.basics engine.now) (E.waypoints engine.now)
-        evidence.way) evidence card result }
+    ensures { IsOverflowEnd card present.now
+        (waypoint (E.basics engine.now) (E.waypoints engine.now) evidence.way) evidence result }
 {
-    match place_at(alloc, lp, present, engine, evidence.way) {
-        Ok(place) => Ok(Act::Ends(End::Overflow {
-            evidence,
-            place: Some(place),
-            card,
-        })),
-        Err(NoMemory) => Err(Halt::NoMemory),
-    }
+    let place = place_at(alloc, lp, present, engine, evidence.way)?;
+    Ok(End::Overflow {
+        evidence,
+        place: Some(place),
+        card,
+    })
 }
 
-// The basis is singular: the run ends, and its end owns all that is printed of it.
-fn singular_end(
-    file: ProblemFile,
-    name: Name,
-    lp: Lp,
-    dependency: Direction,
-    card: u32,
-) -> Act
+// The run ends at a singular basis. The end owns all that is printed of it.
+fn singular_end(file: ProblemFile, name: Name, lp: Lp, dependency: Direction, card: u32) -> End
     requires on_file { IsSheetOf (filed_under name file) lp }
     requires full { length dependency ≡ size lp.matrix }
-    ensures { EndsSingular (lines_shown (filed_under name file) lp dependency) card result }
+    ensures { end_shown result ≡ SingularStop (record {
+      card = card;
+      lines = lines_shown (filed_under name file) lp dependency;
+    }) }
 {
-    Act::Ends(End::Singular {
+    End::Singular {
         card,
         basis: SingularBasis {
             file,
@@ -126,5 +147,141 @@ fn singular_end(
             lp,
             dependency,
         },
-    })
+    }
+}
+
+// The statement comes to nothing with a setup.
+fn ended<E: Engine>(refusal: Refusal, card: u32) -> Result<Found<E>, Halt>
+    ensures { result ≡ refused_found card refusal }
+{
+    match refusal {
+        Refusal::Fault(fault) => Ok(Found::Ends(End::Verb { fault, card })),
+        Refusal::Overflow(evidence) => Ok(Found::Ends(End::Overflow {
+            evidence,
+            place: None,
+            card,
+        })),
+        Refusal::NoMemory => Err(Halt::NoMemory),
+    }
+}
+
+// Makes the rates of the basis of a deck, for a setup whose linear program this is.
+fn installed<E: Engine>(
+    alloc: Global,
+    setup: &Setup<E>,
+    lp: Lp,
+    basis: Basis,
+    deck: Deck,
+    cards: &Cards,
+    card: u32,
+) -> Result<Found<E>, Halt>
+    requires basis { IsBasis lp basis }
+    requires from_one { 1 ≤ deck.first }
+    requires ordered { deck.first ≤ deck.last }
+    requires within { deck.last ≤ length cards.now }
+    ensures { IsInstalledFor card setup.now lp basis deck.first deck.last cards.now result }
+{
+    match install(alloc, &lp, &basis) {
+        Ok(engine) => {
+            let name = problem_name(cards, deck.first, deck.last, None);
+            let basic = basic_count(&lp, &basis);
+            let setup = Setup {
+                name: setup.name,
+                options: setup.options,
+                lp,
+                basis,
+                engine,
+            };
+            Ok(Found::Inserted {
+                setup,
+                deck: name,
+                basic,
+                next: deck.last + 1,
+            })
+        }
+        Err(InstallStop::Singular(dependency)) => Ok(Found::Singular {
+            name: setup.name,
+            lp,
+            dependency,
+        }),
+        Err(InstallStop::Overflow(evidence, engine)) => {
+            match overflow_end::<E>(alloc, &lp, &setup.basis, &engine, evidence, card) {
+                Ok(end) => Ok(Found::Ends(end)),
+                Err(NoMemory) => Err(Halt::NoMemory),
+            }
+        }
+        Err(InstallStop::NoMemory) => Err(Halt::NoMemory),
+    }
+}
+
+// What INSERT finds with the setup of a machine.
+fn found<E: Engine>(
+    alloc: Global,
+    machine: &Machine<Setup<E>>,
+    cards: &Cards,
+    card: u32,
+) -> Result<Found<E>, Halt>
+    requires { IsSound cards.now machine.now }
+    ensures { IsFound card cards.now machine.now result }
+{
+    let Some(setup) = &machine.setup else {
+        return ended(Refusal::Fault(VerbFault::NoSetup), card);
+    };
+    // a setup's problem stays on file
+    let Some(problem) = machine.file.get(&setup.name) else {
+        unreachable!();
+    };
+    let lp = match select_present(alloc, problem, &machine.cells, setup.options) {
+        Ok(lp) => lp,
+        Err(refusal) => return ended(refusal, card),
+    };
+    let wanted = machine.cells.name(NameCell::Xdata);
+    match given(alloc, problem, &lp, cards, machine.decks_from, wanted, card)? {
+        Given::Basis { basis, deck } => installed(alloc, setup, lp, basis, deck, cards, card),
+        Given::Ends(end) => Ok(Found::Ends(end)),
+    }
+}
+
+/// INSERT: selects by the cells as they stand, takes the first deck of the name moved to XDATA, or the first of all, reads the basis that
+/// it stands for, and makes its rates. It becomes the present basis, with which the path in hand begins anew, and the mark is cleared; the
+/// deck's name and the number of basic columns are printed.
+///
+/// The statement is refused where there is no setup, where the cells select nothing, and where there is no such deck. A fault of the
+/// deck, a singular basis and a refused operation end the run. Where there is no memory, nothing is printed.
+pub fn insert_basis<E: Engine, P: Sink>(
+    alloc: Global,
+    machine: &mut Machine<Setup<E>>,
+    cards: &Cards,
+    print: &mut P,
+    card: u32,
+) -> Result<Act, Halt>
+    requires { IsSound cards.now machine.old }
+    ensures acts { Executes linear_programming program.Insert card P.written P.stopped_at P.faults P.refusals
+        print.old print.new cards.now machine.old machine.new result }
+    ensures sound { IsSound cards.now machine.new }
+{
+    match found(alloc, machine, cards, card)? {
+        Found::Ends(end) => Ok(Act::Ends(end)),
+        Found::Singular {
+            name,
+            lp,
+            dependency,
+        } => {
+            machine.setup = None;
+            let file = replace(&mut machine.file, ProblemFile::new(alloc));
+            Ok(Act::Ends(singular_end(file, name, lp, dependency, card)))
+        }
+        Found::Inserted {
+            setup,
+            deck,
+            basic,
+            next,
+        } => {
+            machine.setup = Some(setup);
+            machine.decks_from = next;
+            machine.mark = None;
+            text_of(&Report::Inserted { name: deck, basic }, print)?;
+            Ok(Act::Next)
+        }
+    }
 }

@@ -3,5 +3,7 @@
 #![tactic(auto)]
 
 mod basis_out;
+mod insert;
 
 pub use basis_out::punch_present;
+pub use insert::insert_basis;

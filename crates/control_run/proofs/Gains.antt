@@ -47,31 +47,9 @@ gains_all PrintFault text = refl
 pub gains_whole : (ending : Ending) (old new : Option (List ℕ)) (text : List ℕ) → Appends old new text → GainsBy ending old new text
 gains_whole ending old new text appends = (text, appends, gains_all ending text)
 
-pub front_of_whole : (old new : Option (List ℕ)) (text : List ℕ) → Appends old new text → AppendsFront old new text
-front_of_whole old new text appends = (text, ([], append-nil text), appends)
-
 -- where a deck is broken off a front is gained
 pub gains_front_at_fault : (old new : Option (List ℕ)) (text : List ℕ) → AppendsFront old new text → GainsBy PunchFault old new text
 gains_front_at_fault old new text front = (front.0, front.2, front.1)
 
 pub gains_front_for_memory : (old new : Option (List ℕ)) (text : List ℕ) → AppendsFront old new text → GainsBy Memory old new text
 gains_front_for_memory old new text front = (front.0, front.2, front.1)
-
--- what is gained by an end is a front
-is_front : (ending : Ending) (gained text : List ℕ) → Gains ending gained text → IsFront gained text
-is_front PunchFault gained text gains = gains
-is_front Memory gained text gains = gains
-is_front (Ended code) gained text gains = ([], append-nil gained ∙ gains)
-is_front WordsRefused gained text gains = ([], append-nil gained ∙ gains)
-is_front (ControlStop fault) gained text gains = ([], append-nil gained ∙ gains)
-is_front (VerbStop fault) gained text gains = ([], append-nil gained ∙ gains)
-is_front (DeckStop fault) gained text gains = ([], append-nil gained ∙ gains)
-is_front (CardStop fault) gained text gains = ([], append-nil gained ∙ gains)
-is_front (LimitStop reached) gained text gains = ([], append-nil gained ∙ gains)
-is_front StatementLimit gained text gains = ([], append-nil gained ∙ gains)
-is_front (OverflowStop overflow) gained text gains = ([], append-nil gained ∙ gains)
-is_front ReadFault gained text gains = ([], append-nil gained ∙ gains)
-is_front PrintFault gained text gains = ([], append-nil gained ∙ gains)
-
-pub front_gained : (ending : Ending) (old new : Option (List ℕ)) (text : List ℕ) → GainsBy ending old new text → AppendsFront old new text
-front_gained ending old new text gains = (gains.0, is_front ending gains.0 text gains.2, gains.1)

@@ -1,4 +1,5 @@
 pub mod Gains
+pub mod Reported
 pub mod Underway
 pub mod Answering
 pub mod Clamping

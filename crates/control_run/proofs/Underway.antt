@@ -1,9 +1,9 @@
 -- A run that is underway, and what each statement makes of it.
 use Rattle.std.proofs.Common.{◌≡◌, ℕ, ◌+◌, ◌-◌, ◌≤◌, ◌<◌, List, [], ◌++◌, Option, Ok, Err, drop, length, refl, sym, subst, arith}
-use Rattle.job_devices.proofs.TextLemmas.{writes_then, writes_same, writes_nothing}
+use Rattle.job_devices.proofs.TextLemmas.{Appends-then, writes_then, writes_same, writes_nothing}
 use Rattle.job_devices.specs.declared.device.WriteStop.{WriteStop}
 use Rattle.job_devices.specs.declared.device.WriteStop.TheVariants.{Failed, NoMemory}
-use Rattle.job_devices.specs.Text.{Writes}
+use Rattle.job_devices.specs.Text.{IsFront, Writes}
 use Rattle.card_definitions.specs.Cards.{numbered_cards}
 use Rattle.deck_definitions.specs.Decks.{decks_of}
 use Rattle.deck_definitions.specs.Written.{card_text}
@@ -13,7 +13,7 @@ use Rattle.listing_definitions.specs.Ending.{Ended, StatementLimit, Memory}
 use Rattle.listing_definitions.specs.Listing.{reports_text}
 use Rattle.question_definitions.specs.Solving.{Solving}
 use Rattle.run_definitions.specs.State.{State, start}
-use Rattle.run_definitions.specs.Moves.{Gain, printed_by, punched_by, Outcome, Goes as GoesOn, Ends as EndsRun}
+use Rattle.run_definitions.specs.Moves.{Gain, printed_by, punched_by, Outcome, Goes as GoesOn, Ends as EndsRun, gain_of}
 use Rattle.run_definitions.specs.Run.{Step, Reaches, begun, stepped, is_over, is_ended, at_end, at_limit}
 use Rattle.run_machine.specs.declared.act.Halt.{Halt}
 use Rattle.run_machine.specs.declared.act.Halt.TheVariants as halt
@@ -23,10 +23,11 @@ use Rattle.run_machine.specs.declared.end.End.{End}
 use Rattle.run_machine.specs.Machines.{Machine}
 use Rattle.run_machine.specs.Ends.{end_shown}
 use Rattle.run_machine.specs.Standing.{IsSound, Stands}
-use Rattle.run_machine.specs.Statements.{gain_text, gain_of}
+use Rattle.run_machine.specs.Statements.{gain_text}
 use Rattle.run_machine.specs.Punching.{gain_cards}
 use Rattle.control_run.specs.Running.{decks_after, by_itself, for_memory, for_memory_of_punch, for_punch_fault, Turns, IsStepCut, IsDeckCut, Steps, RunsTo, IsRunCut, Runs}
-use Rattle.control_run.proofs.Gains.{reports_text_more, card_text_more, gains_whole, front_of_whole, gains_front_at_fault, gains_front_for_memory}
+use Rattle.control_run.proofs.Gains.{printed_text, reports_text_more, card_text_more, gains_whole, gains_front_at_fault, gains_front_for_memory}
+use Rattle.control_run.proofs.Reported.{left}
 
 module _ (S : Solving) (program : Program) (cards : List (List ℕ)) {P U : Type 0} (written stopped_at : P → Option (List ℕ)) (faults refusals : P → ℕ)
     (punch_written punch_stopped_at : U → Option (List ℕ)) (punch_faults punch_refusals : U → ℕ) where
@@ -75,9 +76,12 @@ module _ (S : Solving) (program : Program) (cards : List (List ℕ)) {P U : Type
         Writes {T = Unit {0}} punch_written punch_stopped_at punch_faults punch_refusals punch_old punch_later (Err stop) (card_text (u.punched ++ deck))
     punches_cut stop deck w = writes_same (card_text_more u.punched deck) (writes_then u.punches w)
 
-    -- what is printed stays as it was
+    -- what is printed stays as it was, and what is punched
     prints_same : (later : P) → later ≡ now → Writes {T = Unit {0}} written stopped_at faults refusals old later (Ok tt) (reports_text u.reports)
     prints_same later same = subst (λ (p : P). Writes {T = Unit {0}} written stopped_at faults refusals old p (Ok tt) (reports_text u.reports)) (sym same) u.prints
+
+    punches_same : (later : U) → later ≡ punch_now → Writes {T = Unit {0}} punch_written punch_stopped_at punch_faults punch_refusals punch_old later (Ok tt) (card_text u.punched)
+    punches_same later same = subst (λ (q : U). Writes {T = Unit {0}} punch_written punch_stopped_at punch_faults punch_refusals punch_old q (Ok tt) (card_text u.punched)) (sym same) u.punches
 
   module _ {old now : P} (later : P) {punch_old punch_now : U} (punch_later : U) {machine : Machine} {position executed : ℕ} (u : IsUnderway old now punch_old punch_now machine position executed) where
     -- one more statement leads to another
@@ -100,55 +104,48 @@ module _ (S : Solving) (program : Program) (cards : List (List ℕ)) {P U : Type
     -- one more statement ends the run
     underway_ended : {new : Machine} (end : End) →
         Turns S program cards written stopped_at faults refusals now later punch_written punch_stopped_at punch_faults punch_refusals punch_now punch_later executed u.state new (Ends end) →
-        RunsTo S program cards written stopped_at faults refusals old later punch_written punch_stopped_at punch_faults punch_refusals punch_old punch_later (end_shown end)
+        RunsTo S program cards written stopped_at faults refusals old later punch_written punch_stopped_at punch_faults punch_refusals punch_old punch_later (Ok tt) (end_shown end)
     underway_ended end t = record {
       reports = u.reports ++ printed_by t.gain;
       punched = u.punched ++ punched_by t.gain;
       can_end = by_itself (is_ended t.gain u.reaches t.leads);
       prints = writes_same (reports_text_more u.reports t.gain) (writes_then u.prints t.prints);
       gains = gains_whole (end_shown end) (punch_written punch_old) (punch_written punch_later) (card_text (u.punched ++ punched_by t.gain)) (punches_more u t.gain t.punches).bytes;
+      leaves = left (punches_more u t.gain t.punches);
     }
 
     -- the print stops
     underway_cut : (stop : WriteStop) → IsStepCut S program cards written stopped_at faults refusals now later punch_written punch_stopped_at punch_faults punch_refusals punch_now punch_later u.state stop →
         IsRunCut S program cards written stopped_at faults refusals old later punch_written punch_stopped_at punch_faults punch_refusals punch_old punch_later stop
-    underway_cut stop t = by t.outcome t.step t.prints t.punches
-      where
-        by : (outcome : Outcome) → Step S program u.state outcome →
-            Writes {T = Unit {0}} written stopped_at faults refusals now later (Err stop) (gain_text (gain_of outcome)) →
-            Writes {T = Unit {0}} punch_written punch_stopped_at punch_faults punch_refusals punch_now punch_later (Ok tt) (gain_cards (gain_of outcome)) →
-            IsRunCut S program cards written stopped_at faults refusals old later punch_written punch_stopped_at punch_faults punch_refusals punch_old punch_later stop
-        by (GoesOn gain after) step prints punches = record {
-          reports = u.reports ++ printed_by gain;
-          punched = u.punched ++ punched_by gain;
-          ending = Memory;
-          can_end = for_memory (reaches_more u gain step);
-          prints = writes_same (reports_text_more u.reports gain) (writes_then u.prints prints);
-          gains = front_of_whole (punch_written punch_old) (punch_written punch_later) (card_text (u.punched ++ punched_by gain)) (punches_more u gain punches).bytes;
-        }
-        by (EndsRun gain ending) step prints punches = record {
-          reports = u.reports ++ printed_by gain;
-          punched = u.punched ++ punched_by gain;
-          ending = ending;
-          can_end = by_itself (is_ended gain u.reaches step);
-          prints = writes_same (reports_text_more u.reports gain) (writes_then u.prints prints);
-          gains = front_of_whole (punch_written punch_old) (punch_written punch_later) (card_text (u.punched ++ punched_by gain)) (punches_more u gain punches).bytes;
+    underway_cut stop t =
+        let part = t.prints.bytes in
+        record {
+          reports = u.reports;
+          punched = u.punched;
+          state = u.state;
+          reaches = u.reaches;
+          outcome = t.outcome;
+          step = t.step;
+          part = part.0;
+          is_part = subst (λ (text : List ℕ). IsFront part.0 text) (sym (printed_text (gain_of t.outcome))) part.1;
+          gains = Appends-then (written old) (written now) (written later) (reports_text u.reports) part.0 u.prints.bytes part.2;
+          leaves = left (writes_then u.prints t.prints);
+          punches = punches_more u (gain_of t.outcome) t.punches;
         }
 
     -- the punch stops in a deck
     underway_deck_cut : (stop : WriteStop) → IsDeckCut S program cards written stopped_at faults refusals now later punch_written punch_stopped_at punch_faults punch_refusals punch_now punch_later u.state stop →
         Runs S program cards written stopped_at faults refusals old later punch_written punch_stopped_at punch_faults punch_refusals punch_old punch_later (Err (halt.Punch stop))
     underway_deck_cut Failed t =
-        let w = punches_cut u Failed t.deck t.punches in (
-          record {
-            reports = u.reports;
-            punched = u.punched ++ t.deck;
-            can_end = for_punch_fault t.deck (w.cause.failed refl) u.reaches t.punching;
-            prints = prints_same u later t.is_quiet;
-            gains = gains_front_at_fault (punch_written punch_old) (punch_written punch_later) (card_text (u.punched ++ t.deck)) w.bytes;
-          },
-          w.cause.failed refl,
-        )
+        let w = punches_cut u Failed t.deck t.punches in
+        record {
+          reports = u.reports;
+          punched = u.punched ++ t.deck;
+          can_end = for_punch_fault t.deck (w.cause.failed refl) u.reaches t.punching;
+          prints = prints_same u later t.is_quiet;
+          gains = gains_front_at_fault (punch_written punch_old) (punch_written punch_later) (card_text (u.punched ++ t.deck)) w.bytes;
+          leaves = left w;
+        }
     underway_deck_cut NoMemory t =
         let w = punches_cut u NoMemory t.deck t.punches in
         record {
@@ -157,41 +154,44 @@ module _ (S : Solving) (program : Program) (cards : List (List ℕ)) {P U : Type
           can_end = for_memory_of_punch t.deck (w.cause.no_memory refl) u.reaches t.punching;
           prints = prints_same u later t.is_quiet;
           gains = gains_front_for_memory (punch_written punch_old) (punch_written punch_later) (card_text (u.punched ++ t.deck)) w.bytes;
+          leaves = left w;
         }
 
     -- a statement finds no memory
-    underway_without_memory : later ≡ now → punch_later ≡ punch_now → RunsTo S program cards written stopped_at faults refusals old later punch_written punch_stopped_at punch_faults punch_refusals punch_old punch_later Memory
+    underway_without_memory : later ≡ now → punch_later ≡ punch_now → RunsTo S program cards written stopped_at faults refusals old later punch_written punch_stopped_at punch_faults punch_refusals punch_old punch_later (Ok tt) Memory
     underway_without_memory same same_punch = record {
       reports = u.reports;
       punched = u.punched;
       can_end = for_memory u.reaches;
       prints = prints_same u later same;
-      gains = gains_whole Memory (punch_written punch_old) (punch_written punch_later) (card_text u.punched)
-          (subst (λ (q : U). Writes {T = Unit {0}} punch_written punch_stopped_at punch_faults punch_refusals punch_old q (Ok tt) (card_text u.punched)) (sym same_punch) u.punches).bytes;
+      gains = gains_whole Memory (punch_written punch_old) (punch_written punch_later) (card_text u.punched) (punches_same u punch_later same_punch).bytes;
+      leaves = left (punches_same u punch_later same_punch);
     }
 
   -- ---- the run is over
 
   module _ {old now : P} {punch_old punch_now : U} {machine : Machine} {position executed : ℕ} (u : IsUnderway old now punch_old punch_now machine position executed) where
     -- the program's end
-    pub underway_over : length program.statements < position → RunsTo S program cards written stopped_at faults refusals old now punch_written punch_stopped_at punch_faults punch_refusals punch_old punch_now (Ended 0)
+    pub underway_over : length program.statements < position → RunsTo S program cards written stopped_at faults refusals old now punch_written punch_stopped_at punch_faults punch_refusals punch_old punch_now (Ok tt) (Ended 0)
     underway_over over = record {
       reports = u.reports;
       punched = u.punched;
       can_end = by_itself (is_over u.reaches (at_end (rw u.stands.is_position over)));
       prints = u.prints;
       gains = gains_whole (Ended 0) (punch_written punch_old) (punch_written punch_now) (card_text u.punched) u.punches.bytes;
+      leaves = left u.punches;
     }
 
     -- the statement limit
     pub underway_at_limit : position ≤ length program.statements → 100000 ≤ executed →
-        RunsTo S program cards written stopped_at faults refusals old now punch_written punch_stopped_at punch_faults punch_refusals punch_old punch_now StatementLimit
+        RunsTo S program cards written stopped_at faults refusals old now punch_written punch_stopped_at punch_faults punch_refusals punch_old punch_now (Ok tt) StatementLimit
     underway_at_limit within most = record {
       reports = u.reports;
       punched = u.punched;
       can_end = by_itself (is_over u.reaches (at_limit (rw u.stands.is_position within) (rw u.stands.is_executed most)));
       prints = u.prints;
       gains = gains_whole StatementLimit (punch_written punch_old) (punch_written punch_now) (card_text u.punched) u.punches.bytes;
+      leaves = left u.punches;
     }
 
   -- ---- by what a statement's result is
@@ -207,7 +207,7 @@ module _ (S : Solving) (program : Program) (cards : List (List ℕ)) {P U : Type
   pub underway_ends : {old now later : P} {punch_old punch_now punch_later : U} {machine : Machine} (new : Machine) {position executed : ℕ} (turn : AfterStatement) (end : End) → turn ≡ Ends end →
       (u : IsUnderway old now punch_old punch_now machine position executed) → executed < 100000 →
       Steps S program cards written stopped_at faults refusals now later punch_written punch_stopped_at punch_faults punch_refusals punch_now punch_later position machine new (Ok turn) →
-      RunsTo S program cards written stopped_at faults refusals old later punch_written punch_stopped_at punch_faults punch_refusals punch_old punch_later (end_shown end)
+      RunsTo S program cards written stopped_at faults refusals old later punch_written punch_stopped_at punch_faults punch_refusals punch_old punch_later (Ok tt) (end_shown end)
   underway_ends {now = now} {later = later} {punch_now = punch_now} {punch_later = punch_later} new {executed = executed} turn end is u within steps =
       underway_ended later punch_later u {new = new} end
       (subst (λ (t : AfterStatement). Turns S program cards written stopped_at faults refusals now later punch_written punch_stopped_at punch_faults punch_refusals punch_now punch_later executed u.state new t) is (steps executed u.state within u.stands))

@@ -1,5 +1,6 @@
 pub mod Statuses
 pub mod Found
+pub mod Devices
 pub mod Finishing
 pub mod Running
 pub mod Sweeping

@@ -2,6 +2,7 @@
 --     Leads state turn             executing a statement of the program leads there
 --     Steps result                 a statement leads somewhere, with its report printed and its deck punched; or it is cut off
 --     CanEnd reports punched ending     the run ends so by itself, for want of memory, or since the punch takes no more
+--     IsCut ..                     the print has stopped in a report or in the lines of an end
 --     Runs result                  the run ends, with its reports printed and its decks punched; or it is cut off
 --     IsRunAnswer status ..        what a run may be answered
 use Rattle.std.specs.Prelude.{◌≡◌, ℕ, ◌+◌, ◌-◌, ◌<◌, ◌≤◌, List, ◌++◌, Option, Result, Ok, Err, drop}
@@ -9,17 +10,17 @@ use Rattle.std.specs.Io.KnownBytes.{Appends}
 use Rattle.job_devices.specs.declared.device.WriteStop.{WriteStop}
 use Rattle.job_devices.specs.declared.device.WriteStop.TheVariants.{Failed, NoMemory}
 use Rattle.job_devices.specs.Causes.{Rose}
-use Rattle.job_devices.specs.Text.{Writes, AppendsFront}
+use Rattle.job_devices.specs.Text.{IsFront, Writes}
 use Rattle.card_definitions.specs.Cards.{Card, numbered_cards}
 use Rattle.deck_definitions.specs.Decks.{decks_of}
 use Rattle.deck_definitions.specs.Written.{card_text}
 use Rattle.control_definitions.specs.Program.{Program}
 use Rattle.listing_definitions.specs.Report.{Report}
 use Rattle.listing_definitions.specs.Ending.{Ending, PrintFault, PunchFault, Memory, status_of}
-use Rattle.listing_definitions.specs.Listing.{reports_text, listing}
+use Rattle.listing_definitions.specs.Listing.{ending_text, reports_text, listing}
 use Rattle.question_definitions.specs.Solving.{Solving}
 use Rattle.run_definitions.specs.State.{State}
-use Rattle.run_definitions.specs.Moves.{Gain, Outcome, Goes as GoesOn, Ends as EndsRun}
+use Rattle.run_definitions.specs.Moves.{Gain, printed_by, punched_by, Outcome, Goes as GoesOn, Ends as EndsRun, gain_of}
 use Rattle.run_definitions.specs.Run.{max_executed, Step, Reaches, IsRun}
 use Rattle.run_definitions.specs.Answer.{Gains, IsPunching}
 use Rattle.run_machine.specs.declared.act.Halt.{Halt}
@@ -30,12 +31,18 @@ use Rattle.run_machine.specs.declared.end.End.{End}
 use Rattle.run_machine.specs.Machines.{Machine}
 use Rattle.run_machine.specs.Ends.{end_shown}
 use Rattle.run_machine.specs.Standing.{Stands}
-use Rattle.run_machine.specs.Statements.{gain_text, gain_of}
+use Rattle.run_machine.specs.Statements.{gain_text}
 use Rattle.run_machine.specs.Punching.{gain_cards}
+use Rattle.control_run.specs.Devices.{Leaves}
 
 -- the decks of the cards after a program
 abbrev pub decks_after : Program → List (List ℕ) → List (List Card)
 decks_after program cards = decks_of (drop (program.decks_from - 1) (numbered_cards cards))
+
+-- how a run ends where the punch takes no more
+abbrev pub punch_end : WriteStop → Ending
+punch_end Failed = PunchFault
+punch_end NoMemory = Memory
 
 -- known bytes grow by what the punch gains of a text by this end: all of it, or a front where its deck may be broken off
 abbrev pub GainsBy : Ending → Option (List ℕ) → Option (List ℕ) → List ℕ → Type 0
@@ -60,18 +67,29 @@ module _ (S : Solving) (program : Program) (cards : List (List ℕ)) where
       for_punch_fault : {reports : List Report} {punched : List (List ℕ)} {state : State} (deck : List (List ℕ)) → punch_failed →
           Reaches S program (decks_after program cards) reports punched state → IsPunching S program state deck → CanEnd reports (punched ++ deck) PunchFault
 
-  -- What a run may be answered: the status of an end, with the whole listing, and with all that is punched by then, or a front of it
-  -- where the deck in hand isn't whole; or the print has failed, or wanted memory itself, and print and punch have gained fronts of
-  -- a listing and of its cards.
+    -- The print has stopped in a report, or in the lines of an end. The reports before stand whole, and of the text in which it stopped a
+    -- prefix stands. Where that is the report of a statement to which the run has come, the cards of the reports before and those of
+    -- this statement are punched; where it is the end, what is punched by this end, or a prefix of that where the deck in hand isn't
+    -- whole.
+    pub data IsCut (old new punch_old punch_new : Option (List ℕ)) : Type 0 where
+      in_report : {reports : List Report} {punched : List (List ℕ)} {state : State} (outcome : Outcome) (part : List ℕ) →
+          Reaches S program (decks_after program cards) reports punched state → Step S program state outcome →
+          IsFront part (reports_text (printed_by (gain_of outcome))) → Appends old new (reports_text reports ++ part) →
+          Appends punch_old punch_new (card_text (punched ++ punched_by (gain_of outcome))) → IsCut old new punch_old punch_new
+      in_end : {reports : List Report} {punched : List (List ℕ)} {ending : Ending} (part : List ℕ) → CanEnd reports punched ending →
+          IsFront part (ending_text ending) → Appends old new (reports_text reports ++ part) → GainsBy ending punch_old punch_new (card_text punched) →
+          IsCut old new punch_old punch_new
+
+  -- What a run may be answered: the status of an end, with the whole listing, and with all that is punched by then, or a prefix of it
+  -- where the deck in hand isn't whole; or the print has failed, or wanted memory itself, and has stopped in a report or in the lines of
+  -- an end.
   pub data IsRunAnswer (print_failed print_wanted punch_failed punch_wanted : Type 0) (status : ℕ) (old new punch_old punch_new : Option (List ℕ)) : Type 0 where
     whole : {reports : List Report} {punched : List (List ℕ)} {ending : Ending} → CanEnd punch_failed punch_wanted reports punched ending →
         status ≡ status_of ending → Appends old new (listing reports ending) → GainsBy ending punch_old punch_new (card_text punched) →
         IsRunAnswer print_failed print_wanted punch_failed punch_wanted status old new punch_old punch_new
-    print_fails : {reports : List Report} {punched : List (List ℕ)} {ending : Ending} → print_failed → CanEnd punch_failed punch_wanted reports punched ending →
-        status ≡ status_of PrintFault → AppendsFront old new (listing reports ending) → AppendsFront punch_old punch_new (card_text punched) →
+    print_fails : print_failed → status ≡ status_of PrintFault → IsCut punch_failed punch_wanted old new punch_old punch_new →
         IsRunAnswer print_failed print_wanted punch_failed punch_wanted status old new punch_old punch_new
-    print_wants_memory : {reports : List Report} {punched : List (List ℕ)} {ending : Ending} → print_wanted → CanEnd punch_failed punch_wanted reports punched ending →
-        status ≡ status_of Memory → AppendsFront old new (listing reports ending) → AppendsFront punch_old punch_new (card_text punched) →
+    print_wants_memory : print_wanted → status ≡ status_of Memory → IsCut punch_failed punch_wanted old new punch_old punch_new →
         IsRunAnswer print_failed print_wanted punch_failed punch_wanted status old new punch_old punch_new
 
   module _ {P U : Type 0} (written stopped_at : P → Option (List ℕ)) (faults refusals : P → ℕ) (print_old print_new : P) (punch_written punch_stopped_at : U → Option (List ℕ)) (punch_faults punch_refusals : U → ℕ) (punch_old punch_new : U) where
@@ -108,27 +126,32 @@ module _ (S : Solving) (program : Program) (cards : List (List ℕ)) where
     abbrev pub CanEndNow : List Report → List (List ℕ) → Ending → Type 0
     CanEndNow = CanEnd (Rose (punch_faults punch_old) (punch_faults punch_new)) (Rose (punch_refusals punch_old) (punch_refusals punch_new))
 
-    -- the reports are printed up to this end, and the decks are punched
-    pub record RunsTo (ending : Ending) : Type 0 where
+    -- the reports are printed up to this end, and the decks are punched, where the last write to the punch came to this result
+    pub record RunsTo (result : Result (Unit {0}) WriteStop) (ending : Ending) : Type 0 where
       pub reports : List Report
       pub punched : List (List ℕ)
       pub can_end : CanEndNow reports punched ending
       pub prints : Writes {T = Unit {0}} written stopped_at faults refusals print_old print_new (Ok tt) (reports_text reports)
       pub gains : GainsBy ending (punch_written punch_old) (punch_written punch_new) (card_text punched)
+      pub leaves : Leaves punch_written punch_stopped_at punch_faults punch_refusals punch_old punch_new result
 
-    -- the print stops before all reports are printed
+    -- the print stops in what a statement prints, to which the run has come
     pub record IsRunCut (stop : WriteStop) : Type 0 where
       pub reports : List Report
       pub punched : List (List ℕ)
-      pub ending : Ending
-      pub can_end : CanEndNow reports punched ending
-      pub prints : Writes {T = Unit {0}} written stopped_at faults refusals print_old print_new (Err stop) (reports_text reports)
-      pub gains : AppendsFront (punch_written punch_old) (punch_written punch_new) (card_text punched)
+      pub state : State
+      pub reaches : Reaches S program (decks_after program cards) reports punched state
+      pub outcome : Outcome
+      pub step : Step S program state outcome
+      pub part : List ℕ
+      pub is_part : IsFront part (reports_text (printed_by (gain_of outcome)))
+      pub gains : Appends (written print_old) (written print_new) (reports_text reports ++ part)
+      pub leaves : Leaves written stopped_at faults refusals print_old print_new (Err stop)
+      pub punches : Writes {T = Unit {0}} punch_written punch_stopped_at punch_faults punch_refusals punch_old punch_new (Ok tt) (card_text (punched ++ punched_by (gain_of outcome)))
 
-    -- The run ends; or the print stops it; or the punch has failed, and stops it; or there is no memory.
+    -- The run ends; or the print stops it; or the punch stops it, since it has failed or has found no memory; or there is no memory.
     abbrev pub Runs : Result End Halt → Type 0
-    Runs (Ok end) = RunsTo (end_shown end)
+    Runs (Ok end) = RunsTo (Ok tt) (end_shown end)
     Runs (Err (halt.Print stop)) = IsRunCut stop
-    Runs (Err (halt.Punch Failed)) = RunsTo PunchFault × Rose (punch_faults punch_old) (punch_faults punch_new)
-    Runs (Err (halt.Punch NoMemory)) = RunsTo Memory
-    Runs (Err halt.NoMemory) = RunsTo Memory
+    Runs (Err (halt.Punch stop)) = RunsTo (Err stop) (punch_end stop)
+    Runs (Err halt.NoMemory) = RunsTo (Ok tt) Memory

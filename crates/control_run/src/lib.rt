@@ -11,5 +11,5 @@ mod solution;
 mod status;
 mod sweep;
 
-pub use run::{run_on, run_program};
+pub use run::{RunEngine, run_on, run_program};
 pub use status::Status;

@@ -1,7 +1,6 @@
 -- The first fault of the cards of a deck, one more card at a time.
-use Rattle.std.proofs.Common.{◌≡◌, ℕ, ◌+◌, ◌-◌, ◌≤◌, Bool, true, false, cond, not, List, [], ◌∷◌, ◌++◌, Option, Some, None, length, take, drop, slice_get, refl, ap, sym, ◌∙◌, unwrap_or}
+use Rattle.std.proofs.Common.{◌≡◌, ℕ, ◌+◌, ◌-◌, ◌≤◌, Bool, true, false, cond, not, List, [], ◌∷◌, ◌++◌, Option, Some, None, length, take, drop, slice_get, refl, ap, ◌∙◌}
 use Rattle.std.specs.Option.{option_or, option_map}
-use Rattle.std.proofs.lemmas.List.{append_assoc, append-nil}
 use Rattle.card_definitions.specs.Words.{◌⟹◌}
 use Rattle.card_definitions.specs.Cards.{Card, live, numbered_cards, cards_between, is_skipped, last_number}
 use Rattle.card_definitions.proofs.Numbered.{live-append}

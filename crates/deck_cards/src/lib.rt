@@ -13,9 +13,7 @@ pub use card_reading::{first_pair, name_in, read_data_card, second_pair};
 pub use card_stop::CardStop;
 pub use data_card::{DataCard, PairText};
 pub use reader::{Draft, read_cards};
-pub use sections::{
-    SectionOrder, begins_section, is_header, is_last, next_section, rank_of,
-};
+pub use sections::{SectionOrder, begins_section, is_header, is_last, next_section, rank_of};
 pub use words::{
     bound_kind, first_word, is_blank, is_columns, is_combination, is_ranges, is_word, row_kind,
     section_named,

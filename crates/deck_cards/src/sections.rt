@@ -61,7 +61,10 @@ pub trait SectionOrder {
 }
 
 /// The section that a section card begins after another, in this order.
-pub fn next_section<O: SectionOrder>(before: Option<Section>, card: &[u8]) -> Result<Section, CardStop>
+pub fn next_section<O: SectionOrder>(
+    before: Option<Section>,
+    card: &[u8],
+) -> Result<Section, CardStop>
     ensures section { IfOk result (λ section. named section_words (section_word card.now) ≡
         Some section) }
     ensures no_fault { OnOk result (section_card_fault O.follows before card.now ≡ None) }

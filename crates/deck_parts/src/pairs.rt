@@ -8,8 +8,8 @@ ghost use Rattle.deck_cards.specs.Told.{TellsDeckFault};
 ghost use Rattle.deck_parts.specs.Shown.{rows_alone, pair_value_fault};
 ghost use Rattle.deck_cards.specs.Shown.{shown, pair_shown};
 
-use crate::fault_after::fault_after;
 use crate::entries::Entries;
+use crate::fault_after::fault_after;
 use crate::on_row::OnRow;
 use crate::rows::{FoundRow, Rows, is_free};
 use card_definitions::NumberFault;

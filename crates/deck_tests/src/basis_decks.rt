@@ -105,14 +105,34 @@ fn basis_decks_stand_for_bases(rt: HostRuntime) -> Result<(), Fail> {
 #[test]
 fn faults_of_the_sections_of_basis_decks(rt: HostRuntime) -> Result<(), Fail> {
     let decks: [(&[u8], u32, DeckFaultKind); 8] = [
-        (b"NAME          S\nROWS\nENDATA\n", 2, DeckFaultKind::SectionOrder),
-        (b"NAME          S\nNAME\nENDATA\n", 2, DeckFaultKind::SectionOrder),
+        (
+            b"NAME          S\nROWS\nENDATA\n",
+            2,
+            DeckFaultKind::SectionOrder,
+        ),
+        (
+            b"NAME          S\nNAME\nENDATA\n",
+            2,
+            DeckFaultKind::SectionOrder,
+        ),
         (b"NAM           S\nENDATA\n", 1, DeckFaultKind::SectionOrder),
         (b" UL A\nENDATA\n", 1, DeckFaultKind::SectionOrder),
-        (b"NAME          S\nROW\nENDATA\n", 2, DeckFaultKind::UnknownSection),
+        (
+            b"NAME          S\nROW\nENDATA\n",
+            2,
+            DeckFaultKind::UnknownSection,
+        ),
         (b"NAME          S\n UL A\n\n", 3, DeckFaultKind::NoEndata),
-        (b"NAME          S\nENDATA\nENDATA\n", 3, DeckFaultKind::SectionOrder),
-        (b"NAME          S\nENDATA\n UL A\n", 3, DeckFaultKind::SectionOrder),
+        (
+            b"NAME          S\nENDATA\nENDATA\n",
+            3,
+            DeckFaultKind::SectionOrder,
+        ),
+        (
+            b"NAME          S\nENDATA\n UL A\n",
+            3,
+            DeckFaultKind::SectionOrder,
+        ),
     ];
     for (deck, card, kind) in decks {
         assert_eq!(rt; reading(rt.alloc(), SMALL, deck)?.err(), Some((card, kind)));
@@ -131,7 +151,11 @@ fn faults_of_the_data_cards_of_basis_decks(rt: HostRuntime) -> Result<(), Fail> 
         (b" XL A", 2, DeckFaultKind::UnknownRow),
         (b" XL A         LOR\n UL A", 3, DeckFaultKind::NamedTwice),
         (b" UL A\n XL A         LOR", 3, DeckFaultKind::NamedTwice),
-        (b" XL A         LOR\n XL C         LOR", 3, DeckFaultKind::NamedTwice),
+        (
+            b" XL A         LOR\n XL C         LOR",
+            3,
+            DeckFaultKind::NamedTwice,
+        ),
         (b" UL B\n LL B", 3, DeckFaultKind::NamedTwice),
         (b" XL A         UPR", 2, DeckFaultKind::NoSuchLimit),
         (b" XU A         LOR", 2, DeckFaultKind::NoSuchLimit),
@@ -140,14 +164,21 @@ fn faults_of_the_data_cards_of_basis_decks(rt: HostRuntime) -> Result<(), Fail> 
         (b" LL B         UPR", 2, DeckFaultKind::NoSuchLimit),
         (b" LL A         UPR", 2, DeckFaultKind::ExtraField),
         (b" XL A         LOR       1", 2, DeckFaultKind::ExtraField),
-        (b" XL A         LOR                      B", 2, DeckFaultKind::ExtraField),
+        (
+            b" XL A         LOR                      B",
+            2,
+            DeckFaultKind::ExtraField,
+        ),
         (b" XLXA         LOR", 2, DeckFaultKind::ExtraField),
     ];
     for (cards, card, kind) in cards {
         let mut deck = Vec::from_slice(rt.alloc(), b"NAME          S\n")?;
         deck.extend_from_slice(cards)?;
         deck.extend_from_slice(b"\nENDATA\n")?;
-        assert_eq!(rt; reading(rt.alloc(), SMALL, &deck)?.err(), Some((card, kind)));
+        assert_eq!(rt;
+            reading(rt.alloc(), SMALL, &deck)?.err(),
+            Some((card, kind))
+        );
     }
     Ok(())
 }

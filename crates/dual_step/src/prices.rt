@@ -1,9 +1,9 @@
 //! The basis's prices over a step.
 
-ghost use Rattle.std.specs.Prelude.{◌≡◌, ◌≢◌, ◌≤◌, ◌<◌, ◌^◌, length, IsTrue};
+ghost use Rattle.std.specs.Prelude.{◌≡◌, ◌≢◌, ◌≤◌, ◌<◌, ◌^◌, false, length, IsTrue};
 ghost use Rattle.exact_values.specs.Rational.{zero_ℚ};
 ghost use Rattle.lp_definitions.specs.LinearProgram.{value_at};
-ghost use Rattle.dual_step.specs.Prices.{IsTaken, ArePricesOver};
+ghost use Rattle.dual_step.specs.Prices.{IsTaken, SomeTakenRefused, ArePricesOver, OverRefused};
 
 use frac128::Frac;
 
@@ -11,8 +11,10 @@ use frac128::Frac;
 /// sparse program are 0, and what has such a rate stays as it is.
 fn take_multiple(prices: &mut [Frac], row: &[Frac], step: Frac) -> bool
     requires places { length prices.old ≡ length row.now }
-    ensures { IsTrue result → IsTaken step (value_at row.now) (value_at prices.old)
+    ensures taken { IsTrue result → IsTaken step (value_at row.now) (value_at prices.old)
         (length row.now) (value_at prices.new) }
+    ensures refused { result ≡ false → SomeTakenRefused step (value_at row.now)
+        (value_at prices.old) (length row.now) }
 {
     for k in 0..prices.len() {
         let rate = row[k];
@@ -38,8 +40,10 @@ pub fn prices_over(prices: &mut [Frac], row: &[Frac], r: u32, q: u32) -> bool
     requires enterer_high { q ≤ length row.now }
     requires apart { r ≢ q }
     requires pivot { value_at row.now q ≢ zero_ℚ }
-    ensures { IsTrue result → ArePricesOver (value_at prices.old) (value_at row.now) r q
+    ensures prices { IsTrue result → ArePricesOver (value_at prices.old) (value_at row.now) r q
         (length row.now) (value_at prices.new) }
+    ensures refused { result ≡ false → OverRefused (value_at prices.old) (value_at row.now) q
+        (length row.now) }
 {
     let price = prices[q as usize - 1];
     let pivot = row[q as usize - 1];

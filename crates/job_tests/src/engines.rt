@@ -4,11 +4,10 @@ use crate::rows::{PLANS, RANGES, Row};
 use crate::sweeps::PARAMETRIC;
 use card_reader::read_job;
 use control_compiler::compile;
-use control_run::{Status, run_on};
+use control_run::{RunEngine, Status, run_on};
 use job_devices::{MemorySink, MemorySource};
 use lp_model::Engine;
 use rates_dense::Dense;
-use reinversion::ProductForm;
 use std::alloc::Global;
 use std::test::Fail;
 
@@ -52,10 +51,10 @@ fn the_table_of_rates_runs_jobs(rt: HostRuntime) -> Result<(), Fail> {
 }
 
 #[test]
-fn the_product_form_runs_jobs(rt: HostRuntime) -> Result<(), Fail> {
-    assert_eq!(rt; first_untold::<ProductForm>(rt.alloc(), &PLANS)?, None);
-    assert_eq!(rt; first_untold::<ProductForm>(rt.alloc(), &RANGES)?, None);
-    assert_eq!(rt; first_untold::<ProductForm>(rt.alloc(), &PARAMETRIC)?, None);
+fn the_engine_of_runs_runs_jobs(rt: HostRuntime) -> Result<(), Fail> {
+    assert_eq!(rt; first_untold::<RunEngine>(rt.alloc(), &PLANS)?, None);
+    assert_eq!(rt; first_untold::<RunEngine>(rt.alloc(), &RANGES)?, None);
+    assert_eq!(rt; first_untold::<RunEngine>(rt.alloc(), &PARAMETRIC)?, None);
     Ok(())
 }
 

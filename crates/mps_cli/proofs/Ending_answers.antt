@@ -10,7 +10,7 @@ use Rattle.deck_definitions.specs.Written.{card_text}
 use Rattle.listing_definitions.specs.Ending.{Ending, status_of}
 use Rattle.listing_definitions.specs.Listing.{listing, ending_text}
 use Rattle.question_definitions.specs.Solving.{Solving}
-use Rattle.run_definitions.specs.Answer.{Job, Failures, Gains, MayEnd, IsCutShort, IsAnswered, whole, print_fails, print_wants_memory}
+use Rattle.run_definitions.specs.Answer.{Job, Failures, Gains, MayEnd, IsCutShort, in_end, IsAnswered, whole, print_fails, print_wants_memory}
 use Rattle.control_run.specs.declared.status.Status.{Status}
 use Rattle.control_run.specs.Statuses.{code_of}
 use Rattle.control_run.specs.Finishing.{cut_status}
@@ -56,13 +56,7 @@ code_is Memory = refl
 
 module _ (S : Solving) (job : Job) (failures : Failures) (stop : EarlyStop) (may_end : MayEnd S job failures [] [] (stop_shown stop)) where
   cut : (status : ℕ) (front back : List ℕ) → front ++ back ≡ ending_text (stop_shown stop) → IsCutShort S job failures (record { status = status; printed = front; punched = [] })
-  cut status front back e = record {
-    text = listing [] (stop_shown stop);
-    deck_text = card_text [];
-    is_possible = record { reports = []; cards = []; ending = stop_shown stop; may_end = may_end; is_listing = refl; is_deck_text = refl };
-    print_front = (back, e);
-    punch_front = (card_text [], refl);
-  }
+  cut status front back e = in_end (stop_shown stop) front may_end (back, e) refl (gains_nothing stop)
 
   module _ (old new punch : Option (List ℕ)) (status : Status) where
     -- the end is printed

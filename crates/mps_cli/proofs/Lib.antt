@@ -1,4 +1,5 @@
 pub mod Ending_answers
 pub mod May_end
 pub mod Why
+pub mod Reported
 pub mod Truth

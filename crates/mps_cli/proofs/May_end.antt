@@ -3,7 +3,7 @@ use Rattle.std.proofs.Common.{◌≡◌, ℕ, List, [], Option, None, Some, IfSo
 use Rattle.listing_definitions.specs.Report.{Report}
 use Rattle.listing_definitions.specs.Ending.{Ending}
 use Rattle.question_definitions.specs.Solving.{Solving}
-use Rattle.run_definitions.specs.Answer.{Job, Read, bytes_of, Failures, Answer, IsProgramOf, MayEnd, words_refused, read_fails, by_itself, memory_at_start, memory_in_run, memory_at_punch, punch_fails, IsCutShort, IsAnswer, IsAnswered, whole, print_fails, print_wants_memory, card_fault, control_fault}
+use Rattle.run_definitions.specs.Answer.{Job, Read, bytes_of, Failures, Answer, IsProgramOf, MayEnd, words_refused, read_fails, by_itself, memory_at_start, memory_in_run, memory_at_punch, punch_fails, IsCutShort, in_report, in_end, IsAnswer, IsAnswered, whole, print_fails, print_wants_memory, card_fault, control_fault}
 use Rattle.mps_cli.specs.declared.prepare.Prepared.{Prepared}
 use Rattle.mps_cli.specs.declared.stop.EarlyStop.{EarlyStop}
 use Rattle.mps_cli.specs.declared.stop.EarlyStop.TheVariants.{Words, ReadFault, Card, Control, Memory}
@@ -44,22 +44,8 @@ module _ (S : Solving) (job : Job) (some others : Failures) (read : some.read �
   ends _ _ _ (punch_fails bytes program state deck failed is so_far punching) = punch_fails bytes program state deck (punch failed) is so_far punching
 
   cut_short : (answer : Answer) → IsCutShort S job some answer → IsCutShort S job others answer
-  cut_short answer cut =
-      let possible = cut.is_possible in
-      record {
-        text = cut.text;
-        deck_text = cut.deck_text;
-        is_possible = record {
-          reports = possible.reports;
-          cards = possible.cards;
-          ending = possible.ending;
-          may_end = ends possible.reports possible.cards possible.ending possible.may_end;
-          is_listing = possible.is_listing;
-          is_deck_text = possible.is_deck_text;
-        };
-        print_front = cut.print_front;
-        punch_front = cut.punch_front;
-      }
+  cut_short answer (in_report bytes program state outcome part is so_far step front printed punched) = in_report bytes program state outcome part is so_far step front printed punched
+  cut_short answer (in_end {reports} {cards} ending part may_end front printed punched) = in_end ending part (ends reports cards ending may_end) front printed punched
 
   answers : (answer : Answer) → IsAnswer S job some answer → IsAnswer S job others answer
   answers answer (whole {reports} {cards} ending may_end status printed punched) = whole ending (ends reports cards ending may_end) status printed punched

@@ -1,5 +1,5 @@
 -- The headline of a job: what it is answered, and that each report of this answer holds of the state in which it was made. Such an
--- answer is complete.
+-- answer is complete and decided.
 use Rattle.std.proofs.Common.{◌≡◌, ℕ, List, Option, None, Some, refl, subst}
 use Rattle.std.specs.Io.KnownBytes.{Appends}
 use Rattle.job_devices.specs.Causes.{Rose}
@@ -9,9 +9,9 @@ use Rattle.run_definitions.specs.Answer.{Job, WithoutBytes, Read, Made, Failures
 use Rattle.run_laws.specs.Headline.{IsTrueAnswer}
 use Rattle.run_laws.proofs.Runs.{knows_linear_programming, answer_holds}
 use Rattle.run_functions.specs.Laws.{IsFunction}
-use Rattle.run_functions.specs.Complete.{IsComplete}
+use Rattle.run_functions.specs.Complete.{IsComplete, IsDecided}
 use Rattle.run_functions.proofs.Runs.{is_function, answers_once}
-use Rattle.run_functions.proofs.Complete.{answer_is_complete}
+use Rattle.run_functions.proofs.Complete.{answer_is_complete, answer_is_decided}
 use Rattle.command_line.specs.declared.request.Request.{Request}
 use Rattle.command_line.specs.declared.request.Request.TheVariants as request
 use Rattle.control_run.specs.declared.status.Status.{Status}
@@ -46,6 +46,12 @@ pub complete_answer : {job : Job} {failures : Failures} {status : ℕ} {PrintGai
     IsComplete linear_programming job failures status PrintGains PunchGains
 complete_answer {job} {failures} {status} {PrintGains} {PunchGains} is =
     answer_is_complete linear_programming job failures status PrintGains PunchGains is.printed is.punched runs_are_functions is.print_gains is.punch_gains is.is_answer
+
+-- and decided
+pub decided_answer : {job : Job} {failures : Failures} {status : ℕ} {PrintGains PunchGains : List ℕ → Type 0} → IsTrueAnswer linear_programming job failures status PrintGains PunchGains →
+    IsDecided linear_programming job failures status PrintGains PunchGains
+decided_answer {job} {failures} {status} {PrintGains} {PunchGains} is =
+    answer_is_decided linear_programming job failures status PrintGains PunchGains is.printed is.punched runs_are_functions is.print_gains is.punch_gains is.is_answer
 
 -- ---- the job that is asked for
 

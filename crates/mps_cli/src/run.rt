@@ -8,13 +8,14 @@ ghost use Rattle.card_reader.specs.Reading.{ReadsFront, ReadsJob};
 ghost use Rattle.answer_definitions.specs.Real.{linear_programming};
 ghost use Rattle.deck_definitions.specs.Transport.{made_job};
 ghost use Rattle.run_definitions.specs.Answer.{Job, Made, IsAnswered};
-ghost use Rattle.run_functions.specs.Complete.{IsComplete};
+ghost use Rattle.run_functions.specs.Complete.{IsComplete, IsDecided};
 ghost use Rattle.run_laws.specs.Headline.{IsTrueAnswer};
 ghost use Rattle.stop_laws.specs.Stands.{StandsAfter};
 ghost use Rattle.command_line.specs.Sizes.{max_size};
 ghost use Rattle.command_line.specs.Requests.{HasSize};
 ghost use Rattle.command_line.specs.Requests as requests;
 ghost use Rattle.control_run.specs.Statuses.{code_of};
+ghost use Rattle.control_run.specs.Devices.{IsReported, IsStill};
 ghost use Rattle.control_run.specs.Finishing.{failures_in_run};
 ghost use Rattle.mps_cli.specs.Asked.{IsAsked, IsGiven};
 ghost use Rattle.mps_cli.specs.Causes.{HasCause, IsPunched};
@@ -54,6 +55,26 @@ fn run_source<S: Source, P: Sink, U: Sink>(
         (Rose (U.faults punch.old) (U.faults punch.new))
         (AppendsFront (P.written print.old) (P.written print.new))
         result }
+    ensures reported { IsReported
+        (record {
+          read = S.faults job.old;
+          print = P.faults print.old;
+          print_memory = P.refusals print.old;
+          punch = U.faults punch.old;
+          punch_memory = U.refusals punch.old;
+        })
+        (record {
+          read = S.faults job.new;
+          print = P.faults print.new;
+          print_memory = P.refusals print.new;
+          punch = U.faults punch.new;
+          punch_memory = U.refusals punch.new;
+        })
+        (code_of result) }
+    ensures still { IsStill (P.faults print.old) (P.faults print.new) (P.refusals print.old)
+        (P.refusals print.new) (P.stopped_at print.new) (P.written print.new) ×
+        IsStill (U.faults punch.old) (U.faults punch.new) (U.refusals punch.old)
+        (U.refusals punch.new) (U.stopped_at punch.new) (U.written punch.new) }
     ensures no_further { ReadsFront (S.left job.old) (S.left job.new) }
     ensures punch { IsPunched (Some Request.Read) (S.left job.old)
         (ReadsJob (S.left job.old) (S.left job.new)) (punch.new ≡ punch.old) result }
@@ -90,6 +111,26 @@ fn run_made<P: Sink, U: Sink>(alloc: Global, size: u32, print: &mut P, punch: &m
         (Rose (U.faults punch.old) (U.faults punch.new))
         (AppendsFront (P.written print.old) (P.written print.new))
         result }
+    ensures reported { IsReported
+        (record {
+          read = 0;
+          print = P.faults print.old;
+          print_memory = P.refusals print.old;
+          punch = U.faults punch.old;
+          punch_memory = U.refusals punch.old;
+        })
+        (record {
+          read = 0;
+          print = P.faults print.new;
+          print_memory = P.refusals print.new;
+          punch = U.faults punch.new;
+          punch_memory = U.refusals punch.new;
+        })
+        (code_of result) }
+    ensures still { IsStill (P.faults print.old) (P.faults print.new) (P.refusals print.old)
+        (P.refusals print.new) (P.stopped_at print.new) (P.written print.new) ×
+        IsStill (U.faults punch.old) (U.faults punch.new) (U.refusals punch.old)
+        (U.refusals punch.new) (U.stopped_at punch.new) (U.written punch.new) }
     ensures punch { IsPunched (Some (Request.Make size)) None (Unit {0}) (punch.new ≡ punch.old)
         result }
 {
@@ -126,6 +167,26 @@ fn run_request<S: Source, P: Sink, U: Sink>(
         (Rose (U.faults punch.old) (U.faults punch.new))
         (AppendsFront (P.written print.old) (P.written print.new))
         result }
+    ensures reported { IsReported
+        (record {
+          read = S.faults job.old;
+          print = P.faults print.old;
+          print_memory = P.refusals print.old;
+          punch = U.faults punch.old;
+          punch_memory = U.refusals punch.old;
+        })
+        (record {
+          read = S.faults job.new;
+          print = P.faults print.new;
+          print_memory = P.refusals print.new;
+          punch = U.faults punch.new;
+          punch_memory = U.refusals punch.new;
+        })
+        (code_of result) }
+    ensures still { IsStill (P.faults print.old) (P.faults print.new) (P.refusals print.old)
+        (P.refusals print.new) (P.stopped_at print.new) (P.written print.new) ×
+        IsStill (U.faults punch.old) (U.faults punch.new) (U.refusals punch.old)
+        (U.refusals punch.new) (U.stopped_at punch.new) (U.written punch.new) }
     ensures no_further { ReadsFront (S.left job.old) (S.left job.new) }
     ensures unread { request ≢ Request.Read → job.new ≡ job.old }
     ensures punch { IsPunched (Some request) (S.left job.old)
@@ -145,7 +206,8 @@ fn run_request<S: Source, P: Sink, U: Sink>(
 /// size is run. All other words are refused, and nothing is read.
 ///
 /// After a fault of the print, or where the print wants memory, nothing more is printed. A deck in which a write to the punch
-/// fails, or in which the punch wants memory, is broken off, and ends the job. Want of memory may end a job at any time.
+/// fails, or in which the punch wants memory, is broken off, and ends the job. The status reports each of these. Want of
+/// memory may end a job at any time.
 ///
 /// It doesn't give up: a job whose run meets no evidence that a number is too large has one run, and gets the status, the
 /// whole listing and all the cards of this run, unless a read, a write to the print or one to the punch fails, or memory is
@@ -157,8 +219,8 @@ pub fn run_job<S: Source, P: Sink, U: Sink>(
     print: &mut P,
     punch: &mut U,
 ) -> Status
-    // The headline. The printed bytes are the listing of a run of this job's control program, or of its early stop, or a front
-    // of that listing, as the status says; and each report of this run holds of the state in which it was made: a SOLUTION
+    // The headline. The printed bytes are the listing of a run of this job's control program, or of its early stop; or the print
+    // has stopped in a report or in the lines of an end, and all before stands with a prefix of it; and each report of this run holds of the state in which it was made: a SOLUTION
     // OPTIMAL is a feasible point that no feasible point betters, with prices that prove it; a verdict OPTIMAL has the
     // objective of such a point; a verdict of infeasibility prints a crossed variable or a ray, and one of unboundedness a
     // feasible point with a direction, and these prove it; RANGE prints where the basis stays optimal; at every value in an
@@ -194,10 +256,27 @@ pub fn run_job<S: Source, P: Sink, U: Sink>(
         (Appends (P.written print.old) (P.written print.new))
         (Appends (U.written punch.old) (U.written punch.new)) }
 
+    // What the status decides. Take any run of the job's bytes that doesn't stop with an overflow: the status is that of its end,
+    // and the print gains its whole listing and the punch all its cards; or the status is 20, and this run was broken off; or
+    // a read has failed and the status is 24, or the print and it is 25, or the punch and it is 26, or it is 28, want of memory.
+    ensures decided { (asked : Job) →
+        IsAsked (requests.asked (map string_bytes words.now)) (S.left job.old) asked →
+        IsDecided linear_programming asked
+        (record {
+          read = Rose (S.faults job.old) (S.faults job.new);
+          print = Rose (P.faults print.old) (P.faults print.new);
+          punch = Rose (U.faults punch.old) (U.faults punch.new);
+          memory = Rose (P.refusals print.old) (P.refusals print.new);
+        })
+        (code_of result)
+        (Appends (P.written print.old) (P.written print.new))
+        (Appends (U.written punch.old) (U.written punch.new)) }
+
     // What stands, by the status. With 0, 1, 2, 8, 10, 12, 13, 16, 17 and 20 the run of the job has this end; the whole
     // listing of the run stands, and all cards that it has punched; 8 and 13 leave their line alone, and so do 4 and 24. After
     // 26 and 28 the reports so far stand with this line, and a front of the cards; and after 25, and where the print wanted
-    // memory, a front of a listing that the job may have, and a front of its cards.
+    // memory, the print has stopped in a report or in the lines of an end: all that comes before stands with a prefix of this
+    // text, and the cards that are punched by then.
     ensures stands { (asked : Job) →
         IsAsked (requests.asked (map string_bytes words.now)) (S.left job.old) asked →
         StandsAfter linear_programming asked
@@ -219,6 +298,31 @@ pub fn run_job<S: Source, P: Sink, U: Sink>(
         (Rose (U.faults punch.old) (U.faults punch.new))
         (AppendsFront (P.written print.old) (P.written print.new))
         result }
+
+    // What the status reports: a fault of the print by 25, and want of memory there by 28; a fault of a read by 24 and one of the
+    // punch by 26, and want of memory there by 28, unless the print stops as well and the status is that of its stop.
+    ensures reported { IsReported
+        (record {
+          read = S.faults job.old;
+          print = P.faults print.old;
+          print_memory = P.refusals print.old;
+          punch = U.faults punch.old;
+          punch_memory = U.refusals punch.old;
+        })
+        (record {
+          read = S.faults job.new;
+          print = P.faults print.new;
+          print_memory = P.refusals print.new;
+          punch = U.faults punch.new;
+          punch_memory = U.refusals punch.new;
+        })
+        (code_of result) }
+
+    // After a fault of the print or of the punch, or where one of them wants memory, nothing more is written to it.
+    ensures still { IsStill (P.faults print.old) (P.faults print.new) (P.refusals print.old)
+        (P.refusals print.new) (P.stopped_at print.new) (P.written print.new) ×
+        IsStill (U.faults punch.old) (U.faults punch.new) (U.refusals punch.old)
+        (U.refusals punch.new) (U.stopped_at punch.new) (U.written punch.new) }
 
     // How far the job is read, and what stays the same. Nothing is punched but in the run of the job's program.
     ensures no_further { ReadsFront (S.left job.old) (S.left job.new) }

@@ -1,6 +1,5 @@
 // Why the program of a job isn't run.
 ghost use Rattle.std.specs.Prelude.{◌≡◌};
-ghost use Rattle.listing_definitions.specs.Ending as endings;
 ghost use Rattle.report_text.specs.Shown.{IsEnding, ending_shown};
 
 use card_definitions::CardFault;
@@ -67,27 +66,6 @@ impl From<CompileStop> for EarlyStop {
     }
 }
 
-// What is printed of a fault of the cards.
-fn card_ending(fault: CardFault) -> Ending<'static>
-    ensures shown { ending_shown result ≡ endings.CardStop fault }
-    ensures lawful { IsEnding result }
-{
-    match fault {
-        CardFault::TooLong => Ending::CardFault {
-            fault: 2,
-            card: None,
-        },
-        CardFault::CardTooLong(card) => Ending::CardFault {
-            fault: 3,
-            card: Some(card),
-        },
-        CardFault::NotPrintable(card) => Ending::CardFault {
-            fault: 4,
-            card: Some(card),
-        },
-    }
-}
-
 impl EarlyStop {
     ghost use Rattle.mps_cli.specs.Stops.{stop_shown, status_at};
 
@@ -99,7 +77,7 @@ impl EarlyStop {
         match self {
             EarlyStop::Words => Ending::Words,
             EarlyStop::ReadFault => Ending::ReadFault,
-            EarlyStop::Card(fault) => card_ending(fault),
+            EarlyStop::Card(fault) => Ending::Card(fault),
             EarlyStop::Control(fault) => Ending::Control {
                 fault: fault.number,
                 card: fault.card,

@@ -1,25 +1,17 @@
 -- The conversion of a whole deck, by its parts: the first faulty card, its end and its name.
-use Rattle.std.proofs.Common.{◌≡◌, ℕ, ◌+◌, ◌-◌, ◌≤◌, ◌<◌, Bool, true, false, cond, not, List, [], ◌∷◌, ◌++◌, Option, Some, None, Result, Ok, Err, length, map, take, drop, slice_get, get_or, refl, ap, sym, subst, ◌∙◌, unwrap_or, arith}
-use Rattle.std.specs.List.{last_or}
-use Rattle.std.specs.Option.{option_or}
-use Rattle.std.proofs.lemmas.Option.{slice_get-get_or}
-use Rattle.std.proofs.lemmas.List.{map-append}
-use Rattle.card_definitions.specs.Words.{unless, ◌⟹◌}
-use Rattle.card_definitions.specs.Cards.{Card, live, numbered_cards, cards_between, is_skipped, last_number}
+use Rattle.std.proofs.Common.{◌≡◌, ℕ, ◌+◌, ◌-◌, ◌≤◌, true, false, cond, not, List, [], ◌∷◌, ◌++◌, Option, Some, None, Ok, take, drop, slice_get, refl, ap, sym, subst, ◌∙◌, unwrap_or}
+use Rattle.card_definitions.specs.Words.{unless}
+use Rattle.card_definitions.specs.Cards.{Card, live, numbered_cards, cards_between, is_skipped}
 use Rattle.card_definitions.proofs.FirstFaults.{no_first}
 use Rattle.card_definitions.proofs.Numbered.{live-append}
 use Rattle.problem_definitions.specs.Names.{Name}
 use Rattle.problem_definitions.specs.Problem.{Problem}
 use Rattle.problem_definitions.specs.Numbering.{numbered}
 use Rattle.problem_definitions.specs.Valid.{IsName, IsProblem}
-use Rattle.deck_definitions.specs.declared.DeckFault.{DeckFault}
-use Rattle.deck_definitions.specs.declared.DeckFaultKind.TheVariants.{NoEndata}
-use Rattle.deck_definitions.specs.declared.Section.TheVariants.{Endata}
-use Rattle.deck_definitions.specs.Sections.{is_section_after, header_name}
+use Rattle.deck_definitions.specs.Sections.{header_name}
 use Rattle.deck_definitions.specs.Described.{described}
 use Rattle.deck_definitions.specs.Conversion.{card_fault, first_faulty, fault_by, deck_fault, deck_name, conversion}
 use Rattle.deck_definitions.proofs.Converted.{ArePrintable, described-problem, printable_live}
-use Rattle.deck_definitions.proofs.Steps.{last_or-push}
 use Rattle.deck_fields.specs.declared.stop.DeckStop.{DeckStop}
 use Rattle.deck_fields.specs.declared.stop.DeckStop.TheVariants.{Fault, NoMemory}
 use Rattle.deck_cards.specs.Stops.{Stops}

@@ -21,6 +21,18 @@ fn plainly_added(sum: Frac, x: Frac, y: Frac) -> Result<Frac, Refused>
 }
 
 /// The same, from the product's parts where the product or the sum doesn't fit.
+fn product_added(sum: Frac, x: Frac, y: Frac) -> Result<Frac, Refused>
+    ensures value { IfOk result (λ next. next ≡ sum +ℚ x *ℚ y) }
+    ensures refused { IfErr result (IsStepRefused sum x y) }
+{
+    match sum.sub_product(x.neg(), y) {
+        Some(next) => Ok(next),
+        None => plainly_added(sum, x, y),
+    }
+}
+
+/// The same. Most values of a row are 0, and nothing is made of these.
+#[inline(always)]
 fn added(sum: Frac, x: Frac, y: Frac) -> Result<Frac, Refused>
     ensures value { IfOk result (λ next. next ≡ sum +ℚ x *ℚ y) }
     ensures refused { IfErr result (IsStepRefused sum x y) }
@@ -28,10 +40,7 @@ fn added(sum: Frac, x: Frac, y: Frac) -> Result<Frac, Refused>
     if x.is_zero() {
         return Ok(sum);
     }
-    match sum.sub_product(x.neg(), y) {
-        Some(next) => Ok(next),
-        None => plainly_added(sum, x, y),
-    }
+    product_added(sum, x, y)
 }
 
 /// The sum of the rates at the entries but that of `p`, each times the value there, begun with `first`.

@@ -1,4 +1,3 @@
-pub mod Faults
 pub mod Overflows
 pub mod Verdicts
 pub mod Solutions

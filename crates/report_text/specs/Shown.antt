@@ -1,16 +1,12 @@
 -- What the borrowed data of a report prints, in the words of the definitions of listings.
 --     IsReport report          the report can be printed
 --     text_shown report        its text
-use Rattle.std.specs.Prelude.{ℕ, ◌-◌, ◌≤◌, ◌≡◌, ◌⊎◌, List, [], ◌∷◌, ◌++◌, Option, Some, None, Bool, codes, slice_index_or, nat_eq, if◌then◌else◌}
+use Rattle.std.specs.Prelude.{ℕ, List, [], ◌∷◌, ◌++◌, Option, Some, None, Bool, codes}
 use denote.Bor.{Bor}
 use Rattle.std.specs.List.{concat, flat_map}
 use Rattle.lp_definitions.specs.declared.Evidence.{Evidence}
 use Rattle.lp_definitions.specs.declared.Status.{Status}
-use Rattle.card_definitions.specs.declared.CardFault.{CardFault}
-use Rattle.card_definitions.specs.declared.CardFault.TheVariants as card_faults
 use Rattle.listing_definitions.specs.Numbers.{digits, rational_text}
-use Rattle.listing_definitions.specs.declared.VerbFault.{VerbFault}
-use Rattle.listing_definitions.specs.declared.VerbFault.TheVariants.{DeckNotFound, NoProblem, NoSetup, NotSolved, NotOptimal, NoChangeRow, NoChangeSet, NoParmax, ParmaxBelow, NoObjective, ObjectiveNotFree, NoRhsSet, NoRangeSet, NoBoundSet, Singular, WrongPrices}
 use Rattle.listing_definitions.specs.Report as reports
 use Rattle.listing_definitions.specs.Ending as endings
 use Rattle.listing_definitions.specs.Text.{report_text}
@@ -24,34 +20,12 @@ use Rattle.report_text.specs.Verdicts.{IsFull, IsOutcome, verdict_shown, check_s
 use Rattle.report_text.specs.declared.report.Report.{Report}
 use Rattle.report_text.specs.declared.report.Report.TheVariants.{Title, Converted, Revised, SetUp, BcdOut, BasisOut, Inserted, Solved, Solution, Ranges, Parametric, End}
 use Rattle.report_text.specs.declared.report.Ending.{Ending}
-use Rattle.report_text.specs.declared.report.Ending.TheVariants.{Code, Words, Control, Verb, Singular as SingularBasis, WrongPrices as PricesWrong, Deck, CardFault as CardStop, Limit, Statements, Overflow, ReadFault, PunchFault, Memory}
+use Rattle.report_text.specs.declared.report.Ending.TheVariants.{Code, Words, Control, Verb, Singular as SingularBasis, WrongPrices as PricesWrong, Deck, Card, Limit, Statements, Overflow, ReadFault, PunchFault, Memory}
 
 -- ---- ends
 
--- the verb faults, in the order of their numbers from 1
-abbrev pub verb_faults : List VerbFault
-verb_faults = DeckNotFound ∷ NoProblem ∷ NoSetup ∷ NotSolved ∷ NotOptimal ∷ NoChangeRow ∷ NoChangeSet ∷ NoParmax ∷ ParmaxBelow ∷ NoObjective ∷ ObjectiveNotFree ∷ NoRhsSet ∷ NoRangeSet ∷ NoBoundSet ∷ Singular ∷ WrongPrices ∷ []
-
--- the verb fault of a number
-abbrev pub verb_fault : ℕ → VerbFault
-verb_fault number = slice_index_or verb_faults (number - 1) DeckNotFound
-
-abbrev pub IsVerbFault : ℕ → Type 0
-IsVerbFault number = (1 ≤ number) × (number ≤ 16)
-
--- fault 2 has no card; of the two that have one, 3 is a card that is too long
-abbrev pub card_fault : ℕ → Option ℕ → CardFault
-card_fault fault None = card_faults.TooLong
-card_fault fault (Some card) = if nat_eq fault 3 then card_faults.CardTooLong card else card_faults.NotPrintable card
-
-abbrev pub IsCardFault : ℕ → Option ℕ → Type 0
-IsCardFault fault None = fault ≡ 2
-IsCardFault fault (Some card) = (fault ≡ 3) ⊎ (fault ≡ 4)
-
--- the faults have the numbers that there are; a dependency has a coefficient for each variable
+-- a dependency has a coefficient for each variable, and each variable a name
 abbrev pub IsEnding : Ending → Type 0
-IsEnding (Verb fault card) = IsVerbFault fault
-IsEnding (CardStop fault card) = IsCardFault fault card
 IsEnding (SingularBasis card sheet dependency) = IsSheet sheet × IsFull sheet dependency.now
 IsEnding _ = Unit {0}
 
@@ -64,11 +38,11 @@ abbrev pub ending_shown : Ending → endings.Ending
 ending_shown (Code code) = endings.Ended code
 ending_shown Words = endings.WordsRefused
 ending_shown (Control fault card) = endings.ControlStop (record { number = fault; card = card })
-ending_shown (Verb fault card) = endings.VerbStop (record { fault = verb_fault fault; card = card })
+ending_shown (Verb fault card) = endings.VerbStop (record { fault = fault; card = card })
 ending_shown (SingularBasis card sheet dependency) = endings.SingularStop (record { card = card; lines = ray_lines sheet.problem.now sheet.lp.now dependency.now })
 ending_shown (PricesWrong card variable) = endings.PriceStop (record { card = card; variable = variable })
 ending_shown (Deck fault card number column) = endings.DeckStop (record { fault = fault; card = card; number = number; column = column })
-ending_shown (CardStop fault card) = endings.CardStop (card_fault fault card)
+ending_shown (Card fault) = endings.CardStop fault
 ending_shown (Limit limit card) = endings.LimitStop (record { limit = limit; card = card })
 ending_shown Statements = endings.StatementLimit
 ending_shown (Overflow evidence basis way card) = endings.OverflowStop (record { evidence = evidence.now; place = place_shown basis way.now; card = card })
@@ -99,8 +73,7 @@ place_text (Some place) = letter_line (codes "BASIS ") status_letter place.basis
 
 -- ---- reports
 
--- What is borrowed can be printed: the sheet names each row and column, all lists have their lengths, and the faults have the
--- numbers that there are.
+-- What is borrowed can be printed: the sheet names each row and column, and all lists have their lengths.
 abbrev pub IsReport : Report → Type 0
 IsReport (Solved by sheet outcome refused) = IsOutcome sheet outcome.now
 IsReport (Solution mark sheet basis point prices slack) = IsSolution sheet (record { basis = basis; point = point; prices = prices; slack = slack })

@@ -4,24 +4,22 @@ ghost use Rattle.std.specs.List.{concat};
 ghost use Rattle.listing_definitions.specs.Numbers.{digits};
 ghost use Rattle.job_devices.specs.Text.{Writes};
 ghost use Rattle.listing_definitions.specs.Ending as endings;
+ghost use Rattle.listing_definitions.specs.Ending.{verb_fault_number};
 ghost use Rattle.listing_definitions.specs.Listing.{ending_text, fault_text, labelled, deck_stop_text};
 ghost use Rattle.listing_tables.specs.Lines.{ray_lines};
 ghost use Rattle.listing_tables.specs.Sheets.{IsSheet};
 ghost use Rattle.report_text.specs.Verdicts.{IsFull};
-ghost use Rattle.report_text.specs.Shown.{IsEnding, IsVerbFault, IsCardFault, verb_fault, card_fault, ending_shown};
+ghost use Rattle.report_text.specs.Shown.{IsEnding, ending_shown};
 
 use crate::overflow::put_overflow;
 use crate::report::Ending;
 use arrayvec::ArrayString;
+use card_definitions::CardFault;
 use itoa::Buffer;
 use job_devices::{Sink, WriteStop, put_all, put_each};
+use listing_definitions::VerbFault;
 use listing_tables::{Sheet, Table, decimal, put_table};
 use lp_model::Direction;
-
-// The number of the verb fault of a singular basis, and that of wrong prices.
-const SINGULAR: u8 = 15;
-
-const WRONG_PRICES: u8 = 16;
 
 // The code of a run that ends by itself.
 fn put_code<P: Sink>(print: &mut P, code: u8) -> Result<(), WriteStop>
@@ -64,13 +62,36 @@ fn put_fault<P: Sink>(
     )
 }
 
-// A statement that is refused, by the number of its fault.
-fn put_verb_fault<P: Sink>(print: &mut P, fault: u8, card: u32) -> Result<(), WriteStop>
-    requires { IsVerbFault fault }
-    ensures { Writes P.written P.stopped_at P.faults P.refusals print.old print.new result
-        (ending_text (endings.VerbStop (record { fault = verb_fault fault; card = card }))) }
+// The number of a verb fault.
+fn verb_fault_number(fault: VerbFault) -> u8
+    ensures { result ≡ verb_fault_number fault }
 {
-    put_fault(print, b"STOP 10 VERB ", fault, card)
+    match fault {
+        VerbFault::DeckNotFound => 1,
+        VerbFault::NoProblem => 2,
+        VerbFault::NoSetup => 3,
+        VerbFault::NotSolved => 4,
+        VerbFault::NotOptimal => 5,
+        VerbFault::NoChangeRow => 6,
+        VerbFault::NoChangeSet => 7,
+        VerbFault::NoParmax => 8,
+        VerbFault::ParmaxBelow => 9,
+        VerbFault::NoObjective => 10,
+        VerbFault::ObjectiveNotFree => 11,
+        VerbFault::NoRhsSet => 12,
+        VerbFault::NoRangeSet => 13,
+        VerbFault::NoBoundSet => 14,
+        VerbFault::Singular => 15,
+        VerbFault::WrongPrices => 16,
+    }
+}
+
+// A statement that is refused.
+fn put_verb_fault<P: Sink>(print: &mut P, fault: VerbFault, card: u32) -> Result<(), WriteStop>
+    ensures { Writes P.written P.stopped_at P.faults P.refusals print.old print.new result
+        (ending_text (endings.VerbStop (record { fault = fault; card = card }))) }
+{
+    put_fault(print, b"STOP 10 VERB ", verb_fault_number(fault), card)
 }
 
 // The basis that a deck gives is singular: the line of the fault, and the coefficients of the dependency that aren't 0.
@@ -88,7 +109,7 @@ fn put_singular<P: Sink>(
           lines = ray_lines sheet.entry.problem.now sheet.entry.lp.now dependency.now;
         }))) }
 {
-    put_fault(print, b"STOP 10 VERB ", SINGULAR, card)?;
+    put_verb_fault(print, VerbFault::Singular, card)?;
     let last = sheet.lp.number_of_variables();
     put_table(
         print,
@@ -134,18 +155,24 @@ fn put_wrong_prices<P: Sink>(print: &mut P, card: u32, variable: u32) -> Result<
     ensures { Writes P.written P.stopped_at P.faults P.refusals print.old print.new result
         (ending_text (endings.PriceStop (record { card = card; variable = variable }))) }
 {
-    put_fault_at(print, b"STOP 10 VERB ", WRONG_PRICES, card, variable)
+    put_fault_at(
+        print,
+        b"STOP 10 VERB ",
+        verb_fault_number(VerbFault::WrongPrices),
+        card,
+        variable,
+    )
 }
 
-// The cards of the job are refused.
-fn put_card_fault<P: Sink>(print: &mut P, fault: u8, card: Option<u32>) -> Result<(), WriteStop>
-    requires { IsCardFault fault card }
+// The cards of the job are refused: a job that is too long has no card to be named.
+fn put_card_fault<P: Sink>(print: &mut P, fault: CardFault) -> Result<(), WriteStop>
     ensures { Writes P.written P.stopped_at P.faults P.refusals print.old print.new result
-        (ending_text (endings.CardStop (card_fault fault card))) }
+        (ending_text (endings.CardStop fault)) }
 {
-    match card {
-        Some(card) => put_fault(print, b"STOP 13 CARD ", fault, card),
-        None => put_all(print, b"STOP 13 CARD FAULT 2\n"),
+    match fault {
+        CardFault::TooLong => put_all(print, b"STOP 13 CARD FAULT 2\n"),
+        CardFault::CardTooLong(card) => put_fault(print, b"STOP 13 CARD ", 3, card),
+        CardFault::NotPrintable(card) => put_fault(print, b"STOP 13 CARD ", 4, card),
     }
 }
 
@@ -246,7 +273,7 @@ pub fn put_ending<P: Sink>(print: &mut P, ending: Ending<'_>) -> Result<(), Writ
             number,
             column,
         } => put_deck_fault(print, b"STOP 12 DECK ", fault, card, number, column),
-        Ending::CardFault { fault, card } => put_card_fault(print, fault, card),
+        Ending::Card(fault) => put_card_fault(print, fault),
         Ending::Limit { limit, card } => put_limit(print, b"STOP 16 ITERATION LIMIT ", limit, card),
         Ending::Statements => put_all(print, b"STOP 17 STATEMENT LIMIT\n"),
         Ending::Overflow {

@@ -10,9 +10,10 @@ use crate::plain::{
 use crate::ranges::put_ranges;
 use crate::solution::put_solution;
 use crate::verdict::put_verdict;
+use card_definitions::CardFault;
 use frac128::{Frac, Refused};
 use job_devices::{Sink, WriteStop};
-use listing_definitions::{Mark, Solver};
+use listing_definitions::{Mark, Solver, VerbFault};
 use listing_tables::{Ranging, Sheet, Standing};
 use lp_definitions::{Evidence, Sense};
 use lp_model::{Basis, Direction, Outcome, ParaRun, Point, Prices, RangeReport};
@@ -107,9 +108,9 @@ pub enum Ending<'a> {
         fault: u8,
         card: u32,
     },
-    /// A statement is refused, with a verb fault from 1 to 14.
+    /// A statement is refused.
     Verb {
-        fault: u8,
+        fault: VerbFault,
         card: u32,
     },
     /// The basis that a deck gives is singular. The dependency has a coefficient for each variable.
@@ -130,12 +131,8 @@ pub enum Ending<'a> {
         number: Option<u8>,
         column: Option<u8>,
     },
-    /// The cards of the job are refused: there are too many of them (fault 2, without a card), or one is too long (3) or has a
-    /// byte that isn't printable (4).
-    CardFault {
-        fault: u8,
-        card: Option<u32>,
-    },
+    /// The cards of the job are refused.
+    Card(CardFault),
     /// The statement of this card has made as many steps as the limit allows.
     Limit {
         limit: u32,

@@ -1,18 +1,13 @@
 -- The revision by a whole deck, by its parts: the first faulty card, its end and its name.
-use Rattle.std.proofs.Common.{◌≡◌, ℕ, ◌-◌, Bool, true, false, not, List, [], Option, None, Result, Ok, Err, refl, ap, sym, subst, ◌∙◌, unwrap_or}
-use Rattle.std.specs.Option.{option_or}
-use Rattle.card_definitions.specs.Words.{unless, ◌⟹◌}
-use Rattle.card_definitions.specs.Cards.{Card, live, last_number}
+use Rattle.std.proofs.Common.{◌≡◌, ℕ, List, [], Option, None, Ok, refl, ap, sym, subst, ◌∙◌, unwrap_or}
+use Rattle.card_definitions.specs.Words.{unless}
+use Rattle.card_definitions.specs.Cards.{Card, live}
 use Rattle.card_definitions.proofs.FirstFaults.{no_first}
 use Rattle.problem_definitions.specs.Names.{Name}
 use Rattle.problem_definitions.specs.Problem.{Problem}
 use Rattle.problem_definitions.specs.Numbering.{numbered, by_names}
 use Rattle.problem_definitions.specs.Valid.{IsName, IsProblem}
 use Rattle.problem_definitions.proofs.Lawful.{lawful-numbered}
-use Rattle.deck_definitions.specs.declared.DeckFault.{DeckFault}
-use Rattle.deck_definitions.specs.declared.DeckFaultKind.TheVariants.{NoEndata}
-use Rattle.deck_definitions.specs.declared.Section.TheVariants.{Endata}
-use Rattle.deck_definitions.specs.Sections.{is_section_after}
 use Rattle.deck_definitions.specs.Conversion.{first_faulty, fault_by, deck_name}
 use Rattle.deck_definitions.proofs.Converted.{ArePrintable, printable_live}
 use Rattle.deck_fields.specs.declared.stop.DeckStop.{DeckStop}

@@ -16,7 +16,7 @@ use Rattle.listing_definitions.specs.Report.{BcdOut}
 use Rattle.listing_definitions.specs.Text.{report_text}
 use Rattle.question_definitions.specs.Solving.{Solving}
 use Rattle.run_definitions.specs.State.{State, problem_of}
-use Rattle.run_definitions.specs.Moves.{Gain, Punches, punched_by, Outcome, next, Does, Gives}
+use Rattle.run_definitions.specs.Moves.{Gain, Punches, punched_by, Outcome, next, Does, Gives, gain_of}
 use Rattle.run_definitions.specs.Verbs.{max_counted, verb_move}
 use Rattle.run_machine.specs.declared.act.Act.{Act}
 use Rattle.run_machine.specs.declared.act.Act.TheVariants.{Next, Ends}
@@ -26,7 +26,7 @@ use Rattle.run_machine.specs.declared.end.End.TheVariants as ends
 use Rattle.run_machine.specs.Machines.{Machine}
 use Rattle.answer_definitions.specs.Real.{linear_programming}
 use Rattle.run_machine.specs.Standing.{filed, Stands}
-use Rattle.run_machine.specs.Statements.{gain_of, Executes}
+use Rattle.run_machine.specs.Statements.{Executes}
 use Rattle.run_machine.specs.Punching.{gain_cards, Performs}
 use Rattle.run_machine.proofs.Giving.{problem_shown, gives_fault, gives_found, quietly}
 

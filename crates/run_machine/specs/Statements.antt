@@ -10,7 +10,7 @@ use Rattle.control_definitions.specs.Program.{Verb, MoveLimit, Mvadr, Goto}
 use Rattle.listing_definitions.specs.Text.{report_text}
 use Rattle.question_definitions.specs.Solving.{Solving}
 use Rattle.run_definitions.specs.State.{State}
-use Rattle.run_definitions.specs.Moves.{Gain, Nothing, Prints, Punches, punched_by, Outcome, Goes, Ends, next, jump, Move, Gives}
+use Rattle.run_definitions.specs.Moves.{Gain, Nothing, Prints, Punches, punched_by, Outcome, Goes, Ends, gain_of, next, jump, Move, Gives}
 use Rattle.run_definitions.specs.Verbs.{verb_move}
 use Rattle.run_machine.specs.declared.act.Act.{Act}
 use Rattle.run_machine.specs.declared.act.Act.TheVariants as act
@@ -32,10 +32,6 @@ abbrev pub gain_text : Gain → List ℕ
 gain_text Nothing = []
 gain_text (Prints report) = report_text report
 gain_text (Punches report cards) = report_text report
-
-abbrev pub gain_of : Outcome → Gain
-gain_of (Goes gain state) = gain
-gain_of (Ends gain ending) = gain
 
 -- the run goes on with a state that the machine shows, or it ends
 abbrev pub Follows : Solving → ℕ → Move → List (List ℕ) → Machine → ℕ → ℕ → Gain → Act → Type 0

@@ -1,6 +1,6 @@
 // What is printed of an end of a run.
 ghost use Rattle.std.specs.Prelude.{◌≡◌};
-ghost use Rattle.report_text.specs.Shown.{IsEnding, ending_shown, verb_fault, IsVerbFault};
+ghost use Rattle.report_text.specs.Shown.{IsEnding, ending_shown};
 ghost use Rattle.run_definitions.specs.Verbs.{deck_fault_number, number_fault_of, column_of};
 ghost use Rattle.run_machine.specs.declared.end.End.TheVariants as ends;
 ghost use Rattle.run_machine.specs.Ends.{end_shown};
@@ -8,35 +8,9 @@ ghost use Rattle.run_machine.specs.Ends.{end_shown};
 use crate::end::{End, Place, SingularBasis};
 use card_definitions::NumberFault;
 use deck_definitions::DeckFaultKind;
-use listing_definitions::VerbFault;
 use listing_tables::Sheet;
 use lp_definitions::Evidence;
 use report_text::Ending;
-
-// The number of a verb fault.
-fn verb_fault_number(fault: VerbFault) -> u8
-    ensures number { verb_fault result ≡ fault }
-    ensures lawful { IsVerbFault result }
-{
-    match fault {
-        VerbFault::DeckNotFound => 1,
-        VerbFault::NoProblem => 2,
-        VerbFault::NoSetup => 3,
-        VerbFault::NotSolved => 4,
-        VerbFault::NotOptimal => 5,
-        VerbFault::NoChangeRow => 6,
-        VerbFault::NoChangeSet => 7,
-        VerbFault::NoParmax => 8,
-        VerbFault::ParmaxBelow => 9,
-        VerbFault::NoObjective => 10,
-        VerbFault::ObjectiveNotFree => 11,
-        VerbFault::NoRhsSet => 12,
-        VerbFault::NoRangeSet => 13,
-        VerbFault::NoBoundSet => 14,
-        VerbFault::Singular => 15,
-        VerbFault::WrongPrices => 16,
-    }
-}
 
 // The number of a deck fault.
 fn deck_fault_number(kind: DeckFaultKind) -> u8
@@ -149,7 +123,7 @@ pub fn ending_of(end: &End) -> Ending<'_>
         End::Infeasible => Ending::Code(1),
         End::Unbounded => Ending::Code(2),
         End::Verb { fault, card } => Ending::Verb {
-            fault: verb_fault_number(*fault),
+            fault: *fault,
             card: *card,
         },
         End::Singular { card, basis } => singular_of(*card, basis),

@@ -20,11 +20,11 @@ use Rattle.written_laws.proofs.Cards.{no_section, reassoc}
 use Rattle.written_laws.proofs.Whole.{name_card, after_word, name_card-is, begun_by, header-is}
 
 -- whether a text begins this section
-abbrev starts : Section → List ℕ → Bool
+abbrev pub starts : Section → List ℕ → Bool
 starts section text = unwrap_or (option_map (is_section section) (section_begun text)) false
 
 -- a card that isn't the last of a deck
-abbrev GoesOn : List ℕ → Type 0
+abbrev pub GoesOn : List ℕ → Type 0
 GoesOn text = starts Endata text ≡ false
 
 -- ---- cards up to the first that ends a deck
@@ -39,7 +39,7 @@ one-part n (text ∷ texts) last each ends =
 
 -- ---- the cards before ENDATA
 
-data-goes-on : (kind name1 name2 value : List ℕ) → GoesOn (data_card kind name1 name2 value)
+pub data-goes-on : (kind name1 name2 value : List ℕ) → GoesOn (data_card kind name1 name2 value)
 unfolding data_card
 data-goes-on kind name1 name2 value =
     let K = padded 2 kind in
@@ -51,7 +51,7 @@ data-goes-on kind name1 name2 value =
     blank : (xs : List ℕ) → GoesOn (without_trailing is_blank (32 ∷ xs))
     blank xs = ap (λ b. unwrap_or (option_map (is_section Endata) (cond b (named section_words (section_word (without_trailing is_blank (32 ∷ xs)))) None)) false) (no_section xs)
 
-mapped : {X : Type 0} (f : X → List ℕ) → ((x : X) → GoesOn (f x)) → (xs : List X) → AllByRecursion GoesOn (map f xs)
+pub mapped : {X : Type 0} (f : X → List ℕ) → ((x : X) → GoesOn (f x)) → (xs : List X) → AllByRecursion GoesOn (map f xs)
 mapped f goes [] = tt
 mapped f goes (x ∷ xs) = (goes x, mapped f goes xs)
 
@@ -76,55 +76,66 @@ column-goes-on rows column = by (is_empty column.items)
 bounds-go-on : (set : Group (Bound Name)) → AllByRecursion GoesOn (bound_cards set)
 bounds-go-on set = mapped (λ (bound : Bound Name). data_card (bound_kind_text bound.kind) set.name bound.column (bound_text bound)) (λ bound. data-goes-on (bound_kind_text bound.kind) set.name bound.column (bound_text bound)) set.items
 
-module _ (q : Problem Name) where
-  abbrev before_last : List (List ℕ)
-  before_last = name_card q.name ∷ codes "ROWS" ∷ (map row_card q.rows ++ codes "COLUMNS" ∷ (flat_map (column_cards q.rows) q.columns ++ set_section (codes "RHS") entry_cards q.rhs ++ set_section (codes "RANGES") entry_cards q.ranges ++ set_section (codes "BOUNDS") bound_cards q.bounds))
+-- ---- a deck of data cards or sections
 
-  written-is : written q ≡ before_last ++ codes "ENDATA" ∷ []
+named-goes-on : (name : Name) → GoesOn (name_card name)
+named-goes-on name =
+    let more = without_trailing is_blank (after_word name) in
+    ap (starts Endata) (name_card-is name) ∙ ap (λ o. unwrap_or (option_map (is_section Endata) o) false) (begun_by (is_empty more) more)
+
+-- a NAME card, cards that don't end a deck, and ENDATA are one deck
+pub one-deck-of : (name : Name) (texts : List (List ℕ)) → AllByRecursion GoesOn texts → (n : ℕ)
+    → decks_of (numbered_from n (name_card name ∷ (texts ++ codes "ENDATA" ∷ []))) ≡ numbered_from n (name_card name ∷ (texts ++ codes "ENDATA" ∷ [])) ∷ []
+unfolding decks_of
+one-deck-of name texts each n =
+    ap (λ parts. filter (λ deck. not (is_empty deck)) (map (without_leading (λ (card : Card). is_skipped card.bytes)) parts)) (one-part n (name_card name ∷ texts) (codes "ENDATA") (named-goes-on name, each) refl)
+    ∙ kept (numbered_from (n + 1) (texts ++ codes "ENDATA" ∷ []))
+  where
+    first : Card
+    first = record { number = n; bytes = name_card name }
+
+    kept : (rest : List Card) → filter (λ deck. not (is_empty deck)) (drop (cond (is_skipped (name_card name)) (1 + prefix_len (λ (card : Card). is_skipped card.bytes) rest) 0) (first ∷ rest) ∷ []) ≡ (first ∷ rest) ∷ []
+    kept rest = ap (λ b. filter (λ deck. not (is_empty deck)) (drop (cond b (1 + prefix_len (λ (card : Card). is_skipped card.bytes) rest) 0) (first ∷ rest) ∷ [])) (ap is_skipped (name_card-is name))
+
+-- it has the name on its NAME card
+pub called-by : (name : Name) (texts : List (List ℕ)) (n : ℕ) → IsName name → name_of_deck (numbered_from n (name_card name ∷ texts)) ≡ Some name
+called-by name texts n is =
+    let more = without_trailing is_blank (after_word name) in
+    ap (λ b. cond b (Some (header_name (name_card name))) None) (ap (starts Header) (name_card-is name) ∙ ap (λ o. unwrap_or (option_map (is_section Header) o) false) (begun_by (is_empty more) more))
+    ∙ ap Some (header-is name is)
+
+module _ (q : Problem Name) where
+  abbrev between : List (List ℕ)
+  between = codes "ROWS" ∷ (map row_card q.rows ++ codes "COLUMNS" ∷ (flat_map (column_cards q.rows) q.columns ++ set_section (codes "RHS") entry_cards q.rhs ++ set_section (codes "RANGES") entry_cards q.ranges ++ set_section (codes "BOUNDS") bound_cards q.bounds))
+
+  written-is : written q ≡ name_card q.name ∷ (between ++ codes "ENDATA" ∷ [])
   unfolding written
   written-is = ap (λ texts. name_card q.name ∷ codes "ROWS" ∷ texts) (sym (append_assoc (map row_card q.rows) (codes "COLUMNS" ∷ (flat_map (column_cards q.rows) q.columns ++ set_section (codes "RHS") entry_cards q.rhs ++ set_section (codes "RANGES") entry_cards q.ranges ++ set_section (codes "BOUNDS") bound_cards q.bounds)) (codes "ENDATA" ∷ [])))
 
-  all-go-on : AllByRecursion GoesOn before_last
+  all-go-on : AllByRecursion GoesOn between
   all-go-on =
       let C = flat_map (column_cards q.rows) q.columns in
       let S1 = set_section (codes "RHS") entry_cards q.rhs in
       let S2 = set_section (codes "RANGES") entry_cards q.ranges in
-      let S3 = set_section (codes "BOUNDS") bound_cards q.bounds in
-      let more = without_trailing is_blank (after_word q.name) in (
-        ap (starts Endata) (name_card-is q.name) ∙ ap (λ o. unwrap_or (option_map (is_section Endata) o) false) (begun_by (is_empty more) more),
-        (
+      let S3 = set_section (codes "BOUNDS") bound_cards q.bounds in (
+        refl,
+        each-append GoesOn (map row_card q.rows) (codes "COLUMNS" ∷ (C ++ S1 ++ S2 ++ S3)) (mapped row_card (λ row. data-goes-on _ row.name [] []) q.rows) (
           refl,
-          each-append GoesOn (map row_card q.rows) (codes "COLUMNS" ∷ (C ++ S1 ++ S2 ++ S3)) (mapped row_card (λ row. data-goes-on _ row.name [] []) q.rows) (
-            refl,
-            each-append GoesOn (C ++ S1 ++ S2) S3
-                (each-append GoesOn (C ++ S1) S2
-                (each-append GoesOn C S1 (flat (column_cards q.rows) (column-goes-on q.rows) q.columns)
-                (section (codes "RHS") entry_cards refl entries-go-on q.rhs))
-                (section (codes "RANGES") entry_cards refl entries-go-on q.ranges))
-                (section (codes "BOUNDS") bound_cards refl bounds-go-on q.bounds),
-          ),
+          each-append GoesOn (C ++ S1 ++ S2) S3
+              (each-append GoesOn (C ++ S1) S2
+              (each-append GoesOn C S1 (flat (column_cards q.rows) (column-goes-on q.rows) q.columns)
+              (section (codes "RHS") entry_cards refl entries-go-on q.rhs))
+              (section (codes "RANGES") entry_cards refl entries-go-on q.ranges))
+              (section (codes "BOUNDS") bound_cards refl bounds-go-on q.bounds),
         ),
       )
 
   -- one deck, from its first card on
   one : (n : ℕ) → decks_of (numbered_from n (written q)) ≡ numbered_from n (written q) ∷ []
-  unfolding decks_of
-  one n = subst (λ texts. decks_of (numbered_from n texts) ≡ numbered_from n texts ∷ []) (sym written-is)
-      (ap (λ parts. filter (λ deck. not (is_empty deck)) (map (without_leading (λ (card : Card). is_skipped card.bytes)) parts)) (one-part n before_last (codes "ENDATA") all-go-on refl)
-      ∙ kept (numbered_from (n + 1) (codes "ROWS" ∷ (map row_card q.rows ++ codes "COLUMNS" ∷ (flat_map (column_cards q.rows) q.columns ++ set_section (codes "RHS") entry_cards q.rhs ++ set_section (codes "RANGES") entry_cards q.ranges ++ set_section (codes "BOUNDS") bound_cards q.bounds) ++ codes "ENDATA" ∷ []))))
-    where
-      first : Card
-      first = record { number = n; bytes = name_card q.name }
-
-      kept : (rest : List Card) → filter (λ deck. not (is_empty deck)) (drop (cond (is_skipped (name_card q.name)) (1 + prefix_len (λ (card : Card). is_skipped card.bytes) rest) 0) (first ∷ rest) ∷ []) ≡ (first ∷ rest) ∷ []
-      kept rest = ap (λ b. filter (λ deck. not (is_empty deck)) (drop (cond b (1 + prefix_len (λ (card : Card). is_skipped card.bytes) rest) 0) (first ∷ rest) ∷ [])) (ap is_skipped (name_card-is q.name))
+  one n = subst (λ texts. decks_of (numbered_from n texts) ≡ numbered_from n texts ∷ []) (sym written-is) (one-deck-of q.name between all-go-on n)
 
   called : (n : ℕ) → IsName q.name → name_of_deck (numbered_from n (written q)) ≡ Some q.name
-  unfolding written
-  called n is =
-      let more = without_trailing is_blank (after_word q.name) in
-      ap (λ b. cond b (Some (header_name (name_card q.name))) None) (ap (starts Header) (name_card-is q.name) ∙ ap (λ o. unwrap_or (option_map (is_section Header) o) false) (begun_by (is_empty more) more))
-      ∙ ap Some (header-is q.name is)
+  called n is = subst (λ texts. name_of_deck (numbered_from n texts) ≡ Some q.name) (sym written-is) (called-by q.name (between ++ codes "ENDATA" ∷ []) n is)
 
 -- The cards that are written for a problem are one deck.
 pub one-deck : (problem : Problem ℕ) (first : ℕ) → decks_of (numbered_from first (written (by_names problem))) ≡ numbered_from first (written (by_names problem)) ∷ []

@@ -29,9 +29,9 @@ use Rattle.written_laws.proofs.Facts.{from-map, label-of}
 use Rattle.written_laws.proofs.Printable.{ArePrintable, number-printable}
 
 -- a card of printable bytes, of which the last isn't a blank
-record IsCard (card : List ℕ) : Type 0 where
-  printable : ArePrintable card
-  trimmed : without_trailing is_blank card ≡ card
+pub record IsCard (card : List ℕ) : Type 0 where
+  pub printable : ArePrintable card
+  pub trimmed : without_trailing is_blank card ≡ card
 
 -- ---- cards come back from their text
 
@@ -90,13 +90,13 @@ all-trimmed : (cards : List (List ℕ)) → AllByRecursion IsCard cards → map 
 all-trimmed [] each = refl
 all-trimmed (card ∷ cards) each = ap₂ (λ a b. a ∷ b) (same-trailing card each.0.printable ∙ each.0.trimmed) (all-trimmed cards each.1)
 
-read-back : (cards : List (List ℕ)) → AllByRecursion IsCard cards → cards_of (card_text cards) ≡ cards
+pub read-back : (cards : List (List ℕ)) → AllByRecursion IsCard cards → cards_of (card_text cards) ≡ cards
 unfolding cards_of
 read-back cards each = ap (λ parts. map (without_trailing is_trailing) (without_empty_last parts)) (split-text cards each) ∙ ap (map (without_trailing is_trailing)) (last-left-out cards) ∙ all-trimmed cards each
 
 -- ---- the cards of a deck
 
-append-printable : (xs ys : List ℕ) → ArePrintable xs → ArePrintable ys → ArePrintable (xs ++ ys)
+pub append-printable : (xs ys : List ℕ) → ArePrintable xs → ArePrintable ys → ArePrintable (xs ++ ys)
 append-printable xs ys px py = list_all-append is_printable xs ys ∙ ap₂ (λ a b. a && b) px py
 
 blanks-printable : (n : ℕ) → ArePrintable (replicate n 32)
@@ -106,10 +106,10 @@ blanks-printable (suc n) = blanks-printable n
 padded-printable : (width : ℕ) (text : List ℕ) → ArePrintable text → ArePrintable (padded width text)
 padded-printable width text h = append-printable text (replicate (width - length text) 32) h (blanks-printable (width - length text))
 
-trimmed-card : (xs : List ℕ) → ArePrintable xs → IsCard (without_trailing is_blank xs)
+pub trimmed-card : (xs : List ℕ) → ArePrintable xs → IsCard (without_trailing is_blank xs)
 trimmed-card xs h = record { printable = part_passes is_printable 0 (length xs - suffix_len is_blank xs) xs h; trimmed = trimmed_twice is_blank xs }
 
-data-is : (kind name1 name2 value : List ℕ) → ArePrintable kind → ArePrintable name1 → ArePrintable name2 → ArePrintable value → IsCard (data_card kind name1 name2 value)
+pub data-is : (kind name1 name2 value : List ℕ) → ArePrintable kind → ArePrintable name1 → ArePrintable name2 → ArePrintable value → IsCard (data_card kind name1 name2 value)
 unfolding data_card
 data-is kind name1 name2 value pk p1 p2 pv =
     let K = padded 2 kind in

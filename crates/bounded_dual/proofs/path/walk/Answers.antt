@@ -69,7 +69,7 @@ pub kept_prices-requires-clause-carried : goal.kept_prices-requires-clause-carri
 kept_prices-requires-clause-carried g c carried =
     let moves = rw c.in-Moves.is at c.in_ok-outcome.ensures.turn in
     carried_prices c.args.lp.now c.requires.lawful c.requires.no_change (g.R.Rates.matrix c.loop-outcome.rates) (g.R.Rates.basics c.loop-outcome.rates) c.loop-outcome.basis c.loop-outcome.invariant.rates (value_at c.next_turn.new.direction) (value_at c.next_turn.new.row) (value_at c.loop-outcome.prices) (value_at c.prices_over-carried.new.prices) c.in-Moves.q c.in-Moves.by (c.args.limit - c.loop-outcome.steps) (length c.next_turn.new.row) moves
-    c.loop-outcome.invariant.prices (search rules) (c.prices_over-carried.ensures carried) c.step_over.new.basis c.in_ok-kept-in-Moves.ensures.basis
+    c.loop-outcome.invariant.prices (search rules) (c.prices_over-carried.ensures.prices carried) c.step_over.new.basis c.in_ok-kept-in-Moves.ensures.basis
 
 pub returns-in_err-kept_prices-in-Moves-clause-stops : goal.returns-in_err-kept_prices-in-Moves-clause-stops
 returns-in_err-kept_prices-in-Moves-clause-stops g c =

@@ -1,13 +1,13 @@
-use Rattle.std.proofs.Common.{◌≡◌, ◌+◌, ◌≤◌, ◌++◌, ◌∷◌, [], sym, ap, subst, ◌∙◌, arith}
+use Rattle.std.proofs.Common.{◌≡◌, ◌+◌, ◌≤◌, ◌∷◌, [], sym, ap, subst, ◌∙◌, arith}
 use Rattle.std.proofs.lemmas.Result.{err_from_is_err_and}
-use Rattle.card_definitions.specs.Cards.{live, cards_between}
+use Rattle.card_definitions.specs.Cards.{live}
 use Rattle.card_definitions.proofs.Numbered.{live-append}
 use Rattle.deck_definitions.specs.declared.Section.TheVariants.{Endata}
 use Rattle.deck_definitions.specs.Sections.{is_section_after}
 use Rattle.deck_definitions.specs.Conversion.{first_faulty}
 use Rattle.deck_definitions.proofs.Converted.{ArePrintable}
 use Rattle.deck_cards.proofs.Between.{cards_up_to, cards_more, nothing_yet, next_printable}
-use Rattle.deck_cards.proofs.FirstFaulty.{next_fine, stop_at, unended, ended_fine}
+use Rattle.deck_cards.proofs.FirstFaulty.{next_fine, stop_at, unended}
 use Rattle.deck_cards.proofs.reader.read_cards.Goals as goal
 
 pub loop-number-init : goal.loop-number-init

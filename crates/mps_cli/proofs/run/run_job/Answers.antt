@@ -1,4 +1,4 @@
-use Rattle.std.proofs.Common.{map, string_bytes, refl, ap, subst, ◌∙◌, Some, Err}
+use Rattle.std.proofs.Common.{map, string_bytes, refl, ap, subst, arith, ◌∙◌, Some, Err}
 use Rattle.command_line.specs.Requests.{asked}
 use Rattle.command_line.specs.declared.request.Request.{Request}
 use Rattle.mps_cli.specs.declared.stop.EarlyStop.{EarlyStop}
@@ -7,7 +7,8 @@ use Rattle.stop_laws.proofs.Standing.{stands_after}
 use Rattle.answer_definitions.specs.Real.{linear_programming}
 use Rattle.mps_cli.specs.Causes.{nothing}
 use Rattle.mps_cli.proofs.Why.{why_words, ending_cause, same_cause, same_punch}
-use Rattle.mps_cli.proofs.Truth.{complete_answer, stopped_headline, same_headline}
+use Rattle.mps_cli.proofs.Reported.{reported_stop, still_stop}
+use Rattle.mps_cli.proofs.Truth.{complete_answer, decided_answer, stopped_headline, same_headline}
 use Rattle.mps_cli.proofs.run.run_job.Goals as goal
 
 -- ---- a job is asked for
@@ -18,6 +19,9 @@ returns-in-Ok-clause-headline g c =
 
 pub returns-in-Ok-clause-complete : goal.returns-in-Ok-clause-complete
 returns-in-Ok-clause-complete g c job is = complete_answer (returns-in-Ok-clause-headline g c job is)
+
+pub returns-in-Ok-clause-decided : goal.returns-in-Ok-clause-decided
+returns-in-Ok-clause-decided g c job is = decided_answer (returns-in-Ok-clause-headline g c job is)
 
 pub returns-in-Ok-clause-stands : goal.returns-in-Ok-clause-stands
 returns-in-Ok-clause-stands g c job is = stands_after linear_programming (returns-in-Ok-clause-headline g c job is)
@@ -42,6 +46,9 @@ returns-in-Err-clause-headline g c =
 pub returns-in-Err-clause-complete : goal.returns-in-Err-clause-complete
 returns-in-Err-clause-complete g c job is = complete_answer (returns-in-Err-clause-headline g c job is)
 
+pub returns-in-Err-clause-decided : goal.returns-in-Err-clause-decided
+returns-in-Err-clause-decided g c job is = decided_answer (returns-in-Err-clause-headline g c job is)
+
 pub returns-in-Err-clause-stands : goal.returns-in-Err-clause-stands
 returns-in-Err-clause-stands g c job is = stands_after linear_programming (returns-in-Err-clause-headline g c job is)
 
@@ -52,4 +59,14 @@ pub returns-in-Err-clause-cause : goal.returns-in-Err-clause-cause
 returns-in-Err-clause-cause g c =
     ending_cause (asked (map string_bytes c.args.words.now)) _ _ _ g.P.Sink.written g.P.Sink.stopped_at g.P.Sink.faults g.P.Sink.refusals _ c.end_job.result
     (why_words (asked (map string_bytes c.args.words.now)) _ _ c.in-Err.stop (λ e. c.in-Err.ensures.refused (ap (λ s. Err s) e)))
+    (subst (λ (stop : EarlyStop). EndsWith g.P.Sink.written g.P.Sink.stopped_at g.P.Sink.faults g.P.Sink.refusals c.args.print.now c.end_job.new.print stop c.end_job.result) c.from.ensures c.end_job.ensures)
+
+pub returns-in-Err-clause-reported : goal.returns-in-Err-clause-reported
+returns-in-Err-clause-reported g c =
+    reported_stop g.P.Sink.written g.P.Sink.stopped_at g.P.Sink.faults g.P.Sink.refusals g.U.Sink.written g.U.Sink.stopped_at g.U.Sink.faults g.U.Sink.refusals c.args.punch.now (g.S.Source.faults c.args.job.now) (g.S.Source.faults c.args.job.now) _ c.end_job.result (λ more. absurd (omega (arith, more)))
+    (subst (λ (stop : EarlyStop). EndsWith g.P.Sink.written g.P.Sink.stopped_at g.P.Sink.faults g.P.Sink.refusals c.args.print.now c.end_job.new.print stop c.end_job.result) c.from.ensures c.end_job.ensures)
+
+pub returns-in-Err-clause-still : goal.returns-in-Err-clause-still
+returns-in-Err-clause-still g c =
+    still_stop g.P.Sink.written g.P.Sink.stopped_at g.P.Sink.faults g.P.Sink.refusals g.U.Sink.written g.U.Sink.stopped_at g.U.Sink.faults g.U.Sink.refusals c.args.punch.now _ c.end_job.result
     (subst (λ (stop : EarlyStop). EndsWith g.P.Sink.written g.P.Sink.stopped_at g.P.Sink.faults g.P.Sink.refusals c.args.print.now c.end_job.new.print stop c.end_job.result) c.from.ensures c.end_job.ensures)

@@ -7,6 +7,7 @@ use Rattle.mps_cli.specs.declared.stop.EarlyStop.TheVariants.{Memory}
 use Rattle.mps_cli.proofs.Ending_answers.{ending_answer}
 use Rattle.mps_cli.proofs.May_end.{answered_too}
 use Rattle.mps_cli.specs.Causes.{nothing}
+use Rattle.mps_cli.proofs.Reported.{reported_stop, still_stop}
 use Rattle.mps_cli.proofs.Why.{ending_cause, source_cause, source_punch}
 use Rattle.mps_cli.proofs.run.run_made.Goals as goal
 
@@ -31,3 +32,9 @@ returns-in-Ok-clause-punch g c = source_punch c.args.size _ _ _ _ _ c.run_source
 
 pub returns-in-Err-clause-punch : goal.returns-in-Err-clause-punch
 returns-in-Err-clause-punch g c = nothing refl
+
+pub returns-in-Err-clause-reported : goal.returns-in-Err-clause-reported
+returns-in-Err-clause-reported g c = reported_stop g.P.Sink.written g.P.Sink.stopped_at g.P.Sink.faults g.P.Sink.refusals g.U.Sink.written g.U.Sink.stopped_at g.U.Sink.faults g.U.Sink.refusals c.args.punch.now 0 0 Memory c.end_job.result (λ more. absurd (omega (arith, more))) c.end_job.ensures
+
+pub returns-in-Err-clause-still : goal.returns-in-Err-clause-still
+returns-in-Err-clause-still g c = still_stop g.P.Sink.written g.P.Sink.stopped_at g.P.Sink.faults g.P.Sink.refusals g.U.Sink.written g.U.Sink.stopped_at g.U.Sink.faults g.U.Sink.refusals c.args.punch.now Memory c.end_job.result c.end_job.ensures

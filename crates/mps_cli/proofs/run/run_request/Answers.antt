@@ -1,6 +1,7 @@
-use Rattle.std.proofs.Common.{ap, Some}
+use Rattle.std.proofs.Common.{ap, refl, Some}
 use Rattle.command_line.specs.declared.request.Request.{Request}
 use Rattle.mps_cli.proofs.Why.{read_cause, made_cause, read_punch, made_punch}
+use Rattle.mps_cli.proofs.Reported.{reported_unread}
 use Rattle.mps_cli.proofs.Truth.{read_headline, made_headline}
 use Rattle.mps_cli.proofs.run.run_request.Goals as goal
 
@@ -30,3 +31,6 @@ returns-in-Read-clause-punch g c = read_punch _ _ _ c.run_source.result c.in-Rea
 
 pub returns-in-Make-clause-punch : goal.returns-in-Make-clause-punch
 returns-in-Make-clause-punch g c = made_punch _ _ _ _ _ c.run_made.result c.in-Make.size c.in-Make.is c.run_made.ensures.punch
+
+pub returns-in-Make-clause-reported : goal.returns-in-Make-clause-reported
+returns-in-Make-clause-reported g c = reported_unread _ _ _ _ _ refl c.run_made.ensures.reported

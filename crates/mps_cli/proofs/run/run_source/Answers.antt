@@ -5,6 +5,7 @@ use Rattle.mps_cli.proofs.Ending_answers.{ending_answer}
 use Rattle.mps_cli.specs.Causes.{nothing, in_run}
 use Rattle.mps_cli.proofs.May_end.{may_stop, prepared_of, program_of, answered_too}
 use Rattle.mps_cli.proofs.Why.{why, ending_cause, run_cause}
+use Rattle.mps_cli.proofs.Reported.{reported_stop, reported_unread, still_stop, stops_reading}
 use Rattle.mps_cli.proofs.run.run_source.Goals as goal
 
 pub returns-in-Ok-clause-answer : goal.returns-in-Ok-clause-answer
@@ -30,3 +31,13 @@ returns-in-Ok-clause-punch g c = in_run c.in-Ok.prepared.program c.in-Ok.ensures
 
 pub returns-in-Err-clause-punch : goal.returns-in-Err-clause-punch
 returns-in-Err-clause-punch g c = nothing refl
+
+pub returns-in-Ok-clause-reported : goal.returns-in-Ok-clause-reported
+returns-in-Ok-clause-reported g c = reported_unread _ _ _ _ _ (c.in-Ok.ensures.quiet (λ e. absurd (cc e))) c.run_program.ensures.reported
+
+pub returns-in-Err-clause-reported : goal.returns-in-Err-clause-reported
+returns-in-Err-clause-reported g c =
+    reported_stop g.P.Sink.written g.P.Sink.stopped_at g.P.Sink.faults g.P.Sink.refusals g.U.Sink.written g.U.Sink.stopped_at g.U.Sink.faults g.U.Sink.refusals c.args.punch.now _ _ c.in-Err.stop c.end_job.result (stops_reading c.in-Err.stop _ _ (λ other. c.in-Err.ensures.quiet (λ e. other (cc e)))) c.end_job.ensures
+
+pub returns-in-Err-clause-still : goal.returns-in-Err-clause-still
+returns-in-Err-clause-still g c = still_stop g.P.Sink.written g.P.Sink.stopped_at g.P.Sink.faults g.P.Sink.refusals g.U.Sink.written g.U.Sink.stopped_at g.U.Sink.faults g.U.Sink.refusals c.args.punch.now c.in-Err.stop c.end_job.result c.end_job.ensures

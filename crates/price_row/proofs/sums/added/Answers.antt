@@ -1,6 +1,5 @@
-use Rattle.std.proofs.Common.{◌≡◌, ◌∙◌, ap, sym, refl}
-use Rattle.exact_values.specs.Rational.{zero_ℚ, ◌+ℚ◌, ◌-ℚ◌, ◌*ℚ◌}
-use Rattle.exact_values.proofs.Ring.{by_ring3, ◌⊕◌, ◌⊖◌, ◌⊗◌, ◌≐◌, opposite}
+use Rattle.std.proofs.Common.{◌≡◌, ◌∙◌, ap, sym}
+use Rattle.exact_values.specs.Rational.{zero_ℚ, ◌+ℚ◌, ◌*ℚ◌}
 use Rattle.exact_values.proofs.Ring_laws.{zero-mul, add-zero}
 use Rattle.price_row.proofs.sums.added.Goals as goal
 
@@ -8,8 +7,3 @@ pub returns-then-is_zero-clause-value : goal.returns-then-is_zero-clause-value
 returns-then-is_zero-clause-value c =
     let none : c.args.x ≡ zero_ℚ = c.is_zero.ensures.0 c.if-is_zero.true in
     sym (ap (λ x. c.args.sum +ℚ x *ℚ c.args.y) none ∙ ap (λ v. c.args.sum +ℚ v) (zero-mul c.args.y) ∙ add-zero c.args.sum)
-
-pub returns-in-Some-clause-value : goal.returns-in-Some-clause-value
-returns-in-Some-clause-value c =
-    c.in-Some.ensures.exact.1 ∙ ap (λ x. c.args.sum -ℚ x *ℚ c.args.y) c.neg.ensures
-    ∙ by_ring3 c.args.sum c.args.x c.args.y (λ s x y. s ⊖ opposite x ⊗ y ≐ s ⊕ x ⊗ y) refl

@@ -1,5 +1,4 @@
-use Rattle.std.proofs.Common.{◌≡◌, ◌≤◌, Some, length, ap, ◌∙◌, arith}
-use Rattle.problem_definitions.specs.Problem.{group_names}
+use Rattle.std.proofs.Common.{ap, ◌∙◌, arith}
 use Rattle.name_table.specs.Numbers.{number_of}
 use Rattle.basis_deck.proofs.Variables.{none_or_not, column_missing, column_there, column_few, column_number, column_variable_of}
 use Rattle.basis_deck.proofs.draft.BasisDraft.column_variable.Goals as goal

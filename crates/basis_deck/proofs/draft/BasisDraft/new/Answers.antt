@@ -1,4 +1,4 @@
-use Rattle.std.proofs.Common.{◌≡◌, None, false, length, replicate, map, refl, sym, ap, ◌∙◌, rules}
+use Rattle.std.proofs.Common.{◌≡◌, None, false, length, replicate, map, refl, ap, ◌∙◌}
 use Rattle.std.proofs.lemmas.List.{length-map, length-replicate}
 use Rattle.lp_definitions.specs.LinearProgram.{size, variables}
 use Rattle.lp_laws.proofs.Opening.{length-numbers_from}

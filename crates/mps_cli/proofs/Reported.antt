@@ -1,0 +1,61 @@
+-- What the status reports of the devices, and what stands in them.
+use Rattle.std.proofs.Common.{◌≡◌, ◌⊎◌, inl, inr, ℕ, ◌<◌, List, Option, Ok, Err, refl, ap, ◌∙◌}
+use Rattle.control_run.specs.declared.status.Status.{Status}
+use Rattle.control_run.specs.Statuses.{code_of}
+use Rattle.control_run.specs.Devices.{Counts, StopsAtPrint, print_failed, print_wants_memory, IsReported, IsStill}
+use Rattle.control_run.proofs.Reported.{none_more, left, stands_still, still_as_before, reported_print, reported_other}
+use Rattle.mps_cli.specs.declared.stop.EarlyStop.{EarlyStop}
+use Rattle.mps_cli.specs.declared.stop.EarlyStop.TheVariants.{Words, ReadFault, Card, Control, Memory}
+use Rattle.mps_cli.specs.Stops.{status_at}
+use Rattle.mps_cli.specs.Endings.{EndsWith, printed, cut_off}
+
+-- where the count of faults of a source has grown, a read has failed
+pub stops_reading : (stop : EarlyStop) (before now : ℕ) → ((stop ≡ ReadFault → ⊥) → now ≡ before) → before < now → stop ≡ ReadFault
+stops_reading ReadFault before now quiet more = refl
+stops_reading Words before now quiet more = none_more before now (quiet (λ e. cc e)) more
+stops_reading (Card fault) before now quiet more = none_more before now (quiet (λ e. cc e)) more
+stops_reading (Control fault) before now quiet more = none_more before now (quiet (λ e. cc e)) more
+stops_reading Memory before now quiet more = none_more before now (quiet (λ e. cc e)) more
+
+-- ---- a job whose listing is the end of a stop alone
+
+module _ {P U : Type 0} (written stopped_at : P → Option (List ℕ)) (faults refusals : P → ℕ)
+    (punch_written punch_stopped_at : U → Option (List ℕ)) (punch_faults punch_refusals : U → ℕ) (punch : U) where
+  abbrev counts : ℕ → P → Counts
+  counts read print = record { read = read; print = faults print; print_memory = refusals print; punch = punch_faults punch; punch_memory = punch_refusals punch }
+
+  module _ {old new : P} where
+    pub reported_stop : (read_before read_now : ℕ) (stop : EarlyStop) (ended : Status) → (read_before < read_now → stop ≡ ReadFault) → EndsWith written stopped_at faults refusals old new stop ended →
+        IsReported (counts read_before old) (counts read_now new) (code_of ended)
+    reported_stop read_before read_now stop ended read (printed is w) =
+        reported_other (counts read_before old) (counts read_now new) (code_of ended) w.cause (λ more. ap code_of (is ∙ ap status_at (read more)))
+        (λ more. none_more (punch_faults punch) (punch_faults punch) refl more) (λ more. none_more (punch_refusals punch) (punch_refusals punch) refl more)
+    reported_stop read_before read_now stop ended read (cut_off cause is w) = reported_print (counts read_before old) (counts read_now new) cause (code_of ended) (ap code_of is) w.cause
+
+    still_print : (stop : EarlyStop) (ended : Status) → EndsWith written stopped_at faults refusals old new stop ended → IsStill (faults old) (faults new) (refusals old) (refusals new) (stopped_at new) (written new)
+    still_print stop ended (printed is w) = stands_still (Ok tt) (left w)
+    still_print stop ended (cut_off cause is w) = stands_still (Err cause) (left w)
+
+    pub still_stop : (stop : EarlyStop) (ended : Status) → EndsWith written stopped_at faults refusals old new stop ended →
+        IsStill (faults old) (faults new) (refusals old) (refusals new) (stopped_at new) (written new) × IsStill (punch_faults punch) (punch_faults punch) (punch_refusals punch) (punch_refusals punch) (punch_stopped_at punch) (punch_written punch)
+    still_stop stop ended ends = (still_print stop ended ends, still_as_before punch_written punch_stopped_at punch_faults punch_refusals punch)
+
+-- ---- a job of which no read has failed
+
+module _ (before now : Counts) (code first last : ℕ) where
+  stops_likewise : StopsAtPrint before now code → StopsAtPrint (record before { read = first }) (record now { read = last }) code
+  stops_likewise (print_failed is rose) = print_failed is rose
+  stops_likewise (print_wants_memory is rose) = print_wants_memory is rose
+
+  pub reported_unread : last ≡ first → IsReported before now code → IsReported (record before { read = first }) (record now { read = last }) code
+  reported_unread same r = record {
+    print_fault = r.print_fault;
+    print_memory = r.print_memory;
+    read_fault = λ more. none_more first last same more;
+    punch_fault = λ more. either (r.punch_fault more);
+    punch_memory = λ more. either (r.punch_memory more);
+  }
+    where
+      either : {A : Type 0} → A ⊎ StopsAtPrint before now code → A ⊎ StopsAtPrint (record before { read = first }) (record now { read = last }) code
+      either (inl is) = inl is
+      either (inr stops) = inr (stops_likewise stops)
