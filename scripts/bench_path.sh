@@ -5,18 +5,20 @@
 # processor time of five runs, in seconds, and the peak memory. Then it prints how many of fifty problems of 15 rows and 30 columns,
 # with numbers of two decimals, end without an overflow by each engine, and how long the fifty take together. Where the proved
 # program is built, or named, it also times whole jobs: the one of 60 by 60 from its bytes to its verdict, without and with RANGE;
-# SOLUTION of a problem of 1,000 rows and 5,000 columns; and a parametric run on it, up to 0.1 and up to 0.3, which is 22 and 99
-# intervals.
+# SOLUTION of a problem of 1,000 rows and 5,000 columns; a parametric run on it, up to 0.1 and up to 0.3, which is 22 and 99
+# intervals; and, where one in twenty of the right-hand sides has changed since an optimum, PRIMAL from the opening basis against
+# PRIMAL and DUAL from the basis of that optimum, which INSERT takes.
 # Usage: scripts/bench_path.sh [--instructions] [PROGRAM [WHOLE]], a program that takes the words `path table` and `path product`, and
 # the one of whole jobs; with --instructions it counts the instructions of one run of each by valgrind, in place of time and memory; or
 # scripts/bench_path.sh --dense N or --queens N or --wide, which print a deck: the N-th of the fifty, that of N queens, and the one
 # of the parametric run.
 set -eu
-case ${1:-} in -h | --help) sed -n '2,14s/^# //p' "$0"; exit 0 ;; esac
+case ${1:-} in -h | --help) sed -n '2,16s/^# //p' "$0"; exit 0 ;; esac
 here=$(cd "$(dirname "$0")" && pwd)
 deck=$(mktemp)
 counts=$(mktemp)
-trap 'rm -f "$deck" "$counts"' EXIT
+folder=$(mktemp -d)
+trap 'rm -rf "$deck" "$counts" "$folder"' EXIT
 
 # Each of N sources has 10 to send and each of N destinations wants 10; a unit from i to j costs ((7i + 11j) mod 19) + 1.
 transport() {
@@ -144,6 +146,21 @@ wide() {
         }'
 }
 
+# The deck that the words make, with a second right-hand side NEXT: every 20th row of type L or G has 2 more or 2 less, so that no plan is lost.
+replanned() {
+    "$@" | awk '
+        /^[A-Z]/ { section = $1 }
+        section == "ROWS" { kind[$2] = $1 }
+        section == "RHS" && NF == 3 { row[++count] = $2; value[count] = $3 }
+        /^ENDATA/ {
+            for (k = 1; k <= count; k++) {
+                moves = kind[row[k]] != "E" && ++limited % 20 == 0 ? (kind[row[k]] == "L" ? 2 : -2) : 0
+                printf "    NEXT      %-8s  %d\n", row[k], value[k] + moves
+            }
+        }
+        { print }'
+}
+
 case ${1:-} in
 --dense) dense "$2"; exit 0 ;;
 --queens) queens "$2"; exit 0 ;;
@@ -228,5 +245,15 @@ if [ -x "$whole" ]; then
         job "MOVE(XCHROW,'CHANGE')" "MOVE(XPARMAX,$most)" SETUP PARAOBJ -- wide >"$deck"
         echo "1,000 rows and 5,000 columns, PARAOBJ up to $most, $("$whole" <"$deck" | wc -l) lines:"
         measured "$whole"
+    done
+    for problem in "transport 40" "transport 60" sparse; do
+        # (words of a command)
+        job SETUP PRIMAL PUNCH -- $problem >"$deck"
+        (cd "$folder" && rm -f PUNCH && "$whole" <"$deck" >"$counts")
+        for way in PRIMAL "INSERT PRIMAL" "INSERT DUAL"; do
+            { job "MOVE(XRHS,'NEXT')" SETUP $way -- replanned $problem && cat "$folder/PUNCH"; } >"$deck"
+            echo "$problem, one in twenty of the right-hand sides changed, $way: $("$whole" <"$deck" | grep -o ' STEPS.*OBJECTIVE [^ ]*')"
+            measured "$whole"
+        done
     done
 fi

@@ -32,7 +32,9 @@ use Rattle.revise_laws.proofs.ByNames.{named-lawful}
 use Rattle.revise_laws.proofs.Places.{name_at-there, number_in-name_at}
 use Rattle.written_laws.proofs.Cards.{IsWritten, fields, written-card}
 use Rattle.written_laws.proofs.Facts.{none_found, not_found, fits-name, label-of}
-use Rattle.basis_deck_definitions.specs.Placings.{Code, Exchanges, Stands, code_words, HasNames, Placing, placings_by, row_variable, column_variable}
+use Rattle.basis_deck_definitions.specs.declared.Code.{Code}
+use Rattle.basis_deck_definitions.specs.declared.Code.TheVariants.{Exchanges, Stands}
+use Rattle.basis_deck_definitions.specs.Placings.{code_words, HasNames, Placing, placings_by, row_variable, column_variable}
 use Rattle.basis_deck_definitions.specs.Reading.{has_limit_of, placings_on, placings_of, is_named_in, filled_after, code_fault, by_code, basis_data_fault, basis_card_fault}
 use Rattle.basis_deck_definitions.specs.Writing.{is_up, exchange_card, limit_card}
 use Rattle.basis_deck_laws.proofs.Lawful.{places}

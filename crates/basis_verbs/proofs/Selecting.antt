@@ -1,9 +1,9 @@
 -- A statement that needs a setup, and goes on with what is selected of it.
-use Rattle.std.proofs.Common.{◌≡◌, ℕ, List, Option, Some, None, Ok, Err, inr, refl, sym, ap, subst, ◌∙◌}
+use Rattle.std.proofs.Common.{◌≡◌, ℕ, List, Option, Some, None, Ok, Err, IfSome, inr, refl, sym, ap, subst, ◌∙◌}
 use Rattle.lp_definitions.specs.LinearProgram.{LinearProgram}
 use Rattle.lp_definitions.specs.declared.Evidence.{Evidence}
 use Rattle.problem_definitions.specs.Problem.{Problem}
-use Rattle.problem_file.specs.Filed.{filed_under}
+use Rattle.problem_file.specs.Filed.{Filed, filed_under}
 use Rattle.control_definitions.specs.Program.{Verb}
 use Rattle.control_definitions.specs.Cells.{Cells}
 use Rattle.selection_definitions.specs.Selection.{selected}
@@ -19,10 +19,18 @@ use Rattle.run_machine.specs.declared.selecting.Refusal.TheVariants.{Fault, Over
 use Rattle.run_machine.specs.Choosing.{HasSelectionFault, HasSelectionOverflow, IsUnselected, refused_act}
 use Rattle.run_machine.specs.Kept.{Setup}
 use Rattle.run_machine.specs.Machines.{Machine}
-use Rattle.run_machine.specs.Standing.{ShowsSetup, Stands}
+use Rattle.run_machine.specs.Standing.{IsReady, ShowsSetup, Stands}
 use Rattle.run_machine.specs.Statements.{Executes}
 use Rattle.run_machine.proofs.Giving.{gives_fault, gives_found, gives_unselected, gives_selected, quietly}
 use Rattle.run_machine.proofs.Present.{present_with, IsPresentOf, present_at}
+
+-- the setup of a machine is ready
+pub ready_of : (file : Filed) (kept : Option Setup) (setup : Setup) → kept ≡ Some setup → IfSome kept (IsReady file) → IsReady file setup
+ready_of file kept setup is h = subst (λ (o : Option Setup). IfSome o (IsReady file)) is h
+
+-- its problem is on file
+pub stays_on_file : (file : Filed) (setup : Setup) → IsReady file setup → filed_under setup.name file ≡ None → ⊥
+stays_on_file file setup ready none = let on = ready.on_file in cc
 
 -- the state has no setup where the machine has none
 pub setup_gone : (cards : List (List ℕ)) (machine : Machine) → machine.setup ≡ None → {position executed : ℕ} {state : State} → Stands cards machine position executed state → state.setup ≡ None

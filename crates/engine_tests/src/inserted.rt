@@ -48,11 +48,15 @@ fn exchange(lp: &Lp, basis: &mut Basis, r: u32, q: u32) -> bool
         basis.replace(r, q, Status::Ll);
         return true;
     }
+    if lp.upper_limit(r).is_some() {
+        basis.replace(r, q, Status::Ul);
+        return true;
+    }
     false
 }
 
-/// The opening basis with these columns in place of rows, which stand at their lower limits.
-fn placed(alloc: Global, lp: &Lp, pairs: &[(u32, u32)]) -> Result<Basis, Fail>
+/// The opening basis with these columns in place of rows, which stand at a limit.
+pub fn placed(alloc: Global, lp: &Lp, pairs: &[(u32, u32)]) -> Result<Basis, Fail>
     ensures { IfOk result (IsBasis lp.now) }
 {
     let mut basis = Basis::opening(alloc, lp)?;

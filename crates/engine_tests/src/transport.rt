@@ -75,7 +75,7 @@ fn transportation_deck(alloc: Global) -> Result<Vec<u8>, Fail> {
 }
 
 /// The problem of a deck.
-fn problem_of(alloc: Global, deck: &[u8]) -> Result<Problem, Fail> {
+pub fn problem_of(alloc: Global, deck: &[u8]) -> Result<Problem, Fail> {
     let mut source = SureSource::new(alloc, deck)?;
     let cards = read_job(alloc, &mut source)?;
     let last = cards.count();

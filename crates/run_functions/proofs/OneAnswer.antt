@@ -77,7 +77,7 @@ installed_once sheet t (DependsBy lines) Installed first second = absurd (depend
 installed_once sheet t (DependsBy lines) (DependsBy others) first second =
     let one = one_dependency sheet.lp.matrix (basics_of t) first.0 second.0 first.1 second.1 first.2 second.2 in
     let alike : listed sheet.lp.matrix first.1 ≡ listed sheet.lp.matrix second.1 =
-        map_same first.1 second.1 (size sheet.lp.matrix) 1 (λ k low high. one.1 k (low, omega (arith, high))) in
+    map_same first.1 second.1 (size sheet.lp.matrix) 1 (λ k low high. one.1 k (low, omega (arith, high))) in
     ap DependsBy (first.3 ∙ ap (ray_lines sheet) alike ∙ sym second.3)
 
 -- ---- the lines of SOLUTION

@@ -256,10 +256,13 @@ module _ (S : Solving) (solving : KnowsSolving S) where
         bases = goes_to present state.cells.xobj state.cells.xrhs lp bases is there;
       })
   dual_pathed limit card present state lp lawful is set has PathLimit solved = (tt, tt)
-  dual_pathed limit card present state lp lawful is set has (PricesWrong j) solved = (tt, record {
-    program = present_program state.setup state.cells present lp lawful set is;
-    is_wrong = solving.solves ByDual (record { problem = present.problem; lp = lp }) (present_basis present) limit (PricesWrong j) solved;
-  })
+  dual_pathed limit card present state lp lawful is set has (PricesWrong j) solved = (
+    tt,
+    record {
+      program = present_program state.setup state.cells present lp lawful set is;
+      is_wrong = solving.solves ByDual (record { problem = present.problem; lp = lp }) (present_basis present) limit (PricesWrong j) solved;
+    },
+  )
 
   dual_kept : (limit : Option ℕ) (card : ℕ) (state : State) → HasProblem state.setup → Knows state → IsKept S state card (solves ByDual limit card state)
   dual_kept limit card state lawful knows =
@@ -273,12 +276,15 @@ module _ (S : Solving) (solving : KnowsSolving S) where
   punches_basis_kept card state lawful knows =
       unless_fault S state card VerbFault.NoSetup state.setup _ (λ present e.
       selecting S state card present.problem _ _ (λ lp is.
-      answered S state card OfPunch _ _ _ (λ cards punched. (record {
-        program = present_program state.setup state.cells present lp lawful e is;
-        is_basis = (knows.bases present e).in_each state.cells.xobj state.cells.xrhs lp is;
-        is_name = refl;
-        is_count = ap (λ (deck : List (List ℕ)). min (length deck) max_counted) (solving.punches (record { problem = present.problem; lp = lp }) (present_basis present) cards punched);
-      }, record { marked = knows.marked; bases = knows.bases }))))
+      answered S state card OfPunch _ _ _ (λ cards punched. (
+        record {
+          program = present_program state.setup state.cells present lp lawful e is;
+          is_basis = (knows.bases present e).in_each state.cells.xobj state.cells.xrhs lp is;
+          is_name = refl;
+          is_count = ap (λ (deck : List (List ℕ)). min (length deck) max_counted) (solving.punches (record { problem = present.problem; lp = lp }) (present_basis present) cards punched);
+        },
+        record { marked = knows.marked; bases = knows.bases },
+      ))))
 
   installed : (card : ℕ) (lp : LinearProgram) (s : Basis) (taken : List Card × List (List Card)) (present : Present) (state : State) → HasProblem state.setup → state.setup ≡ Some present →
       selected present.problem (choice_of state.cells present.options) ≡ Ok lp → deck_taken state.cells.xdata state.decks ≡ Some taken → basis_reading present.problem lp taken.0 ≡ Ok s →
@@ -299,19 +305,22 @@ module _ (S : Solving) (solving : KnowsSolving S) where
         record { marked = unmarked _ _ _; bases = with_basis (record present { opening = s; steps = [] }) state.cells.xobj state.cells.xrhs lp is at },
       )
   installed card lp s taken present state held set is took read (DependsBy lines) installs =
-      let depends = solving.installs (record { problem = present.problem; lp = lp }) s (DependsBy lines) installs in (tt, record {
-        gives = record {
-          program = present_program state.setup state.cells present lp held set is;
-          taken = taken;
-          is_taken = took;
-          basis = s;
-          is_read = read;
-        };
-        column = depends.0;
-        coefficients = depends.1;
-        is_dependency = depends.2;
-        are_lines = depends.3;
-      })
+      let depends = solving.installs (record { problem = present.problem; lp = lp }) s (DependsBy lines) installs in (
+        tt,
+        record {
+          gives = record {
+            program = present_program state.setup state.cells present lp held set is;
+            taken = taken;
+            is_taken = took;
+            basis = s;
+            is_read = read;
+          };
+          column = depends.0;
+          coefficients = depends.1;
+          is_dependency = depends.2;
+          are_lines = depends.3;
+        },
+      )
 
   inserts_kept : (card : ℕ) (state : State) → HasProblem state.setup → Knows state → IsKept S state card (inserts card state)
   inserts_kept card state held knows =
