@@ -287,8 +287,8 @@ def check_hand():
         check_refused(text, line, words, model)
     said = basis_file.read_text(CARDS.format("HAND", " UL B"), model).said
     check(f"a limit that isn't there is said: {said}", said == ["line 2: column B has no upper limit; it stands at its lower one"])
-    blanks = mps_file.read_text("NAME\nROWS\n N  COST\n L  A B\n L  B\nCOLUMNS\n    X         COST      1              A B       1\n    X A       B         1\nRHS\nENDATA\n",
-                                mps_file.Reading(form="fixed"))
+    text = "NAME\nROWS\n N  COST\n L  A B\n L  B\nCOLUMNS\n    X         COST      1              A B       1\n    X A       B         1\nRHS\nENDATA\n"
+    blanks = mps_file.read_text(text, mps_file.Reading(form="fixed"))
     check("names with blanks", basis_file.read_text("NAME\n XU X A       B\nENDATA\n", blanks).columns == {"X": "LL", "X A": "BS"})
     check_refused("NAME\n XU X A B\nENDATA\n", 2, "in two ways", blanks)
 
