@@ -110,8 +110,8 @@ def steps_of(listing):
 
 def counts(prove, options):
     "a line for each kind of model"
-    print("| Rows | Decimals | Models | Inserted, solved and printed | in no step | Stopped at INSERT | at PRIMAL | at SOLUTION | the objective itself doesn't fit | "
-          "singular | no basis | no end | By PRIMAL from the opening basis |")
+    print("| Rows | Decimals | Models | Inserted, solved and printed | in no step | Stopped at INSERT | at PRIMAL | at SOLUTION | "
+          "the objective itself doesn't fit | singular | no basis | no end | By PRIMAL from the opening basis |")
     print("|" + "---|" * 13)
     for rows in options.rows:
         for decimals in DECIMALS:
@@ -153,8 +153,9 @@ def times(prove, options):
         alone, begun = job.text.replace("         PRIMAL\n", ""), inserted.replace("         PRIMAL\n", "")
         parts = [least(options.program, text, options.seconds) for text in (alone, begun, inserted, job.text)]
         shown = [f"{seconds:.3f}" if status == 0 else f"status {status}" for status, _, seconds in parts]
-        print(f"| {words} | {sum(status == basis_file.BASIC for status in basis.columns.values())} | {shown[0]} | {shown[1]} | {shown[2]} | {steps_of(parts[2][1])} | {shown[3]} | {steps_of(parts[3][1])} |",
-              flush=True)
+        basic = sum(status == basis_file.BASIC for status in basis.columns.values())
+        cells = [words, basic, *shown[:3], steps_of(parts[2][1]), shown[3], steps_of(parts[3][1])]
+        print("| " + " | ".join(str(cell) for cell in cells) + " |", flush=True)
 
 
 def main():

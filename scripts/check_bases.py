@@ -287,8 +287,8 @@ def check_hand():
         check_refused(text, line, words, model)
     said = basis_file.read_text(CARDS.format("HAND", " UL B"), model).said
     check(f"a limit that isn't there is said: {said}", said == ["line 2: column B has no upper limit; it stands at its lower one"])
-    blanks = mps_file.read_text("NAME\nROWS\n N  COST\n L  A B\n L  B\nCOLUMNS\n    X         COST      1              A B       1\n    X A       B         1\nRHS\nENDATA\n",
-                                mps_file.Reading(form="fixed"))
+    text = "NAME\nROWS\n N  COST\n L  A B\n L  B\nCOLUMNS\n    X         COST      1              A B       1\n    X A       B         1\nRHS\nENDATA\n"
+    blanks = mps_file.read_text(text, mps_file.Reading(form="fixed"))
     check("names with blanks", basis_file.read_text("NAME\n XU X A       B\nENDATA\n", blanks).columns == {"X": "LL", "X A": "BS"})
     check_refused("NAME\n XU X A B\nENDATA\n", 2, "in two ways", blanks)
 
@@ -415,10 +415,16 @@ def check_solvers(folder, program):
     "a solver that is asked, of a model to maximize whose objective has a constant: X is 1/2, Y 4 and Z -3"
     model = folder / "most.mps"
     model.write_text(MOST)
-    for solver in (solver for solver in SOLVERS if shutil.which(solver)):
+    there = [solver for solver in SOLVERS if shutil.which(solver)]
+    for solver in there:
         ended = call(SCRIPTS / "prove", "--program", program, "--with", solver, model)
         line = f"OPTIMAL, objective 17/2, 9/2 with the file's constant, by INSERT of {solver}'s basis and PRIMAL in 0 steps"
         check(f"prove --with {solver}: {ended}", ended[0] == 0 and ended[2][-1].endswith(line))
+    if {"esolver", "clp"} <= set(there):
+        # (QSopt_ex writes no basis of a model without a plan)
+        model.write_text(MOST.replace(" UP W Z -1\n", " UP W Z -1\n UP W Y 1\n"))
+        ended = call(SCRIPTS / "prove", "--program", program, "--with", "esolver,clp", model)
+        check(f"prove --with esolver,clp: {ended}", ended[0] == 1 and "INFEASIBLE, by INSERT of clp's basis" in ended[2][-1])
 
 
 def main(words):
