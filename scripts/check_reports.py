@@ -479,6 +479,8 @@ def main():
         print(__doc__)
         return 0 if sys.argv[1] in ("-h", "--help") else 64
     begun = time.monotonic()
+    # (a shell that starts this in the background has it ignore Ctrl-C, and all that it starts)
+    signal.signal(signal.SIGINT, signal.default_int_handler)
     with tempfile.TemporaryDirectory() as folder:
         folder = pathlib.Path(folder)
         program = stub(folder, "program", f"exec {sys.executable} {SCRIPTS}/expected_listing.py\n")
