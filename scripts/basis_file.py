@@ -310,3 +310,9 @@ def deck_of(basis, job):
         if status == UPPER and opening_of(model.column_limits(column)) != UPPER:
             cards.append(f" UL {job.columns[column]}")
     return "\n".join([*cards, "ENDATA"]) + "\n"
+
+
+def with_insert(job, basis):
+    "the job of a model with the basis taken in before PRIMAL"
+    statements, primal, decks = job.text.partition("         PRIMAL\n")
+    return f"{statements}         INSERT\n{primal}{decks}{deck_of(basis, job)}"

@@ -370,6 +370,15 @@ def try_readme(folder, program):
     check_page("README.md", next((folder / word).read_text(encoding="utf-8") for word in command if word.endswith(".html")))
 
 
+def try_basis(folder, program):
+    "a basis of another solver is taken in, and the answer is the same"
+    basis, whole = folder / "basis", folder / "taken"
+    basis.write_text("NAME\n XU windows_batches plant_2_hours\nENDATA\n")
+    told = call(SCRIPTS / "solve", "--program", program, "--basis", basis, "--keep", whole, folder / "glass.mps")
+    check(f"solve --basis: {told}", told.returncode == 0 and "the greatest total_profit is 36" in told.stdout.decode())
+    check("solve --basis: the job", "         INSERT\n         PRIMAL\n" in (whole / "glass.job").read_text())
+
+
 def try_statuses(folder, program):
     silent, other = stub(folder, "silent", "exit 3\n"), stub(folder, "other", f"cat {EXAMPLES}/ranging.listing\n")
     refused = folder / "refused.mps"
@@ -380,6 +389,8 @@ def try_statuses(folder, program):
              (64, (), ""), (64, ("a", "b"), ""),
              (64, ("--max", EXAMPLES / "first.job"), ""), (64, ("--names", folder / "kept/glass.names", folder / "glass.mps"), ""),
              (73, ("--keep", refused / "x", EXAMPLES / "first.job"), ""),
+             (64, ("--from", "clp", folder / "glass.mps"), ""), (64, ("--basis", refused, EXAMPLES / "first.job"), ""),
+             (65, ("--basis", refused, folder / "glass.mps"), ""), (66, ("--basis", folder / "nothing", folder / "glass.mps"), ""),
              (70, ("--program", silent, EXAMPLES / "first.job"), ""), (70, ("--program", other, EXAMPLES / "first.job"), ""),
              (70, ("--program", folder / "nothing", EXAMPLES / "first.job"), ""))
     for status, words, said in cases:
@@ -419,6 +430,7 @@ def try_interrupt(folder):
 def try_models(folder, program):
     try_solve(folder, program)
     try_readme(folder, program)
+    try_basis(folder, program)
     try_statuses(folder, program)
     try_browser(folder, [try_hostile(folder, program), folder / "glass.html"])
 
