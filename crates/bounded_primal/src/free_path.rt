@@ -7,7 +7,7 @@ ghost use Rattle.lp_definitions.specs.declared.Status.{Status};
 ghost use Rattle.method_definitions.specs.Path.{PathEnding};
 ghost use Rattle.termination_laws.specs.Laws.{lists_of};
 ghost use Rattle.basis_values.specs.Calls.{HasRates, KeepsRates};
-ghost use Rattle.bounded_primal.specs.Calls.{CallEnds, WaypointsFollow};
+ghost use Rattle.bounded_primal.specs.Calls.{CallEnds, NeverReturned, WaypointsFollow};
 ghost use Rattle.bounded_primal.specs.KeptPoints.{all_kept, AgreesWithPoint};
 ghost use Rattle.bounded_primal.specs.Complete.{EndsFreely, IsFreeEndOrMemory};
 ghost use Rattle.bounded_primal.specs.Outcomes.{IsTrueOutcome};
@@ -140,6 +140,8 @@ pub fn primal_free<R: Rates>(
     ensures waypoints { WaypointsFollow lp.now basis.old basis.new
         (R.waypoints rates.old) (R.waypoints rates.new) }
     ensures truth { IfOk result (IsTrueOutcome lp.now) }
+    // No basis comes twice.
+    ensures apart { NeverReturned lp.now basis.old basis.new }
     ensures complete { (bases : List (List Status)) (ending : PathEnding) →
         EndsFreely lp.now basis.old (R.waypoints rates.old) bases ending →
         IsFreeEndOrMemory basis.old bases ending basis.new result }

@@ -5,7 +5,7 @@ ghost use Rattle.lp_definitions.specs.LinearProgram.{size, value_at, IsLinearPro
 ghost use Rattle.lp_definitions.specs.declared.Status.{Status};
 ghost use Rattle.method_definitions.specs.Path.{PathEnding};
 ghost use Rattle.basis_values.specs.Calls.{HasRates};
-ghost use Rattle.bounded_primal.specs.Calls.{CallEnds, WaypointsFollow};
+ghost use Rattle.bounded_primal.specs.Calls.{CallEnds, NeverReturned, WaypointsFollow};
 ghost use Rattle.bounded_primal.specs.Complete.{EndsUnhindered, IsEndOrMemory};
 ghost use Rattle.bounded_primal.specs.Outcomes.{IsTrueOutcome};
 ghost use Rattle.bounded_primal.specs.Stops.{PrimalStops};
@@ -113,6 +113,8 @@ pub fn primal<R: Rates>(
     ensures waypoints { WaypointsFollow lp.now basis.old basis.new (R.waypoints rates.old)
         (R.waypoints rates.new) }
     ensures truth { IfOk result (IsTrueOutcome lp.now) }
+    // No basis comes twice.
+    ensures apart { NeverReturned lp.now basis.old basis.new }
     // No path has as many steps as there are status lists, three for each variable.
     ensures limited { IsErrOf result PrimalStop.Limit → limit < lists_of lp.now }
     ensures complete { (bases : List (List Status)) (ending : PathEnding) →
