@@ -18,7 +18,8 @@ use Rattle.deck_definitions.specs.declared.DeckFaultKind.TheVariants.{NoEndata}
 use Rattle.deck_definitions.specs.declared.Section.{Section}
 use Rattle.deck_definitions.specs.declared.Section.TheVariants.{Header, Rows, Columns, Rhs, Ranges, Bounds, Endata}
 use Rattle.deck_definitions.specs.Sections.{is_section_card, section_after, is_section_after}
-use Rattle.deck_definitions.specs.DataCards.{Style, style_of, form_on}
+use Rattle.deck_definitions.specs.declared.Style.{Style}
+use Rattle.deck_definitions.specs.DataCards.{style_of, form_on}
 use Rattle.deck_definitions.specs.Conversion.{section_card_fault, form_fault, first_faulty, deck_name}
 use Rattle.deck_definitions.proofs.CardTexts.{IsReading, reading-lawful}
 use Rattle.deck_definitions.proofs.Converted.{ArePrintable, printable_live, deck_name-name}
@@ -89,15 +90,14 @@ inner-passes seen before (Some Endata) card h = record { place = Endata; stands 
 record DataPasses (seen : Problem Name) (style : Style) (place : Section) (action : Option Action) (under : List Reading) (card : List ℕ) : Type 0 where
   by_action : Action
   holds : action ≡ Some by_action
-  formed : form_fault (form_on style place (deletes by_action) card) card ≡ None
+  formed : form_fault style place (deletes by_action) card ≡ None
   fine : edit_fault seen place by_action under (reading_of (form_on style place (deletes by_action) card) card) ≡ None
 
 data-passes : (seen : Problem Name) (style : Style) (place : Section) (action : Option Action) (under : List Reading) (card : List ℕ) → action_data_fault seen style place action under card ≡ None
     → DataPasses seen style place action under card
 data-passes seen style place None under card h = absurd (cc h)
 data-passes seen style place (Some action) under card h =
-    let form = form_on style place (deletes action) card in
-    let both = passes (form_fault form card ∷ edit_fault seen place action under (reading_of form card) ∷ []) h in
+    let both = passes (form_fault style place (deletes action) card ∷ edit_fault seen place action under (reading_of (form_on style place (deletes action) card) card) ∷ []) h in
     record { by_action = action; holds = refl; formed = both.0; fine = both.1.0 }
 
 -- a section card or an action card edits nothing
@@ -126,7 +126,7 @@ module _ (old : Problem Name) where
           let pass = data-passes (revised old before) (style_of before) place (action_after before) (under_after before) card.bytes h in
           let form = form_on (style_of before) place (deletes pass.by_action) card.bytes in
           subst (λ edit. IsLawful (with_edit edit (revised old before))) (sym (one-edit before card place pass.by_action (rw (e, a) refl) stands pass.holds))
-          (edit-step (revised old before) lawful place pass.by_action (anchor_after before) (under_after before) (reading_of form card.bytes) (reading-lawful form card.bytes printable pass.formed) pass.fine)
+          (edit-step (revised old before) lawful place pass.by_action (anchor_after before) (under_after before) (reading_of form card.bytes) (reading-lawful place (deletes pass.by_action) card.bytes (style_of before) printable pass.formed) pass.fine)
 
       by : (b : Bool) → is_section_card card.bytes ≡ b → cond b (section_card_fault may_come_after (section_after before) card.bytes) (inner_card_fault (revised old before) before (section_after before) card.bytes) ≡ None
           → IsLawful (with_edit (edit_of before card) (revised old before))
