@@ -1,5 +1,5 @@
 -- What a REVISE deck makes of a lawful problem is lawful.
-use Rattle.std.proofs.Common.{◌≡◌, ℕ, Bool, true, false, cond, not, List, [], ◌∷◌, ◌++◌, Option, Some, None, Result, Ok, Err, refl, ap, sym, subst, unwrap_or}
+use Rattle.std.proofs.Common.{◌≡◌, ℕ, Bool, true, false, cond, not, List, [], ◌∷◌, ◌++◌, Option, Some, None, Result, Ok, Err, refl, ap, sym, ◌∙◌, subst, unwrap_or}
 use Rattle.std.specs.List.{list_all}
 use Rattle.std.specs.Option.{option_map, option_or, IfSome}
 use Rattle.std.proofs.lemmas.List.{append_assoc, append-nil}
@@ -25,7 +25,7 @@ use Rattle.deck_definitions.proofs.CardTexts.{IsReading, reading-lawful}
 use Rattle.deck_definitions.proofs.Converted.{ArePrintable, printable_live, deck_name-name}
 use Rattle.revise_definitions.specs.declared.Action.{Action}
 use Rattle.revise_definitions.specs.declared.Action.TheVariants.{Modify, Delete, Before, After}
-use Rattle.revise_definitions.specs.Actions.{deletes, is_action_card, action_on, anchor_on, action_after, anchor_after, under_after, edit_of, is_heading}
+use Rattle.revise_definitions.specs.Actions.{deletes, is_action_card, action_on, anchor_on, action_after, anchor_after, under_after, edit_in, edit_of, is_heading}
 use Rattle.revise_definitions.specs.Edits.{edited, delete_column, without_row}
 use Rattle.revise_definitions.specs.Tests.{action_fault, edit_fault, action_data_fault}
 use Rattle.revise_definitions.specs.Revision.{revised, may_come_after, inner_card_fault, revise_card_fault, revise_fault, revision}
@@ -107,7 +107,15 @@ no-edit before card heading = rw heading refl
 -- a data card stands for an edit
 one-edit : (before : List Card) (card : Card) (section : Section) (action : Action) → is_heading (style_of before) card.bytes ≡ false → section_after before ≡ Some section → action_after before ≡ Some action
     → edit_of before card ≡ Some (record { section = section; action = action; anchor = anchor_after before; under = under_after before; card = reading_of (form_on (style_of before) section (deletes action) card.bytes) card.bytes })
-one-edit before card section action heading stands holds = rw (heading, stands, holds) refl
+one-edit before card section action heading stands holds =
+    (λ i. cond (heading i) None (edit_in before card (stands i) (holds i)))
+    ∙ (λ i. Some (record {
+      section = section;
+      action = action;
+      anchor = anchor_after before;
+      under = under_after before;
+      card = reading_of (form_on (style_of before) (unwrap_or (stands i) Header) (unwrap_or (option_map deletes (holds i)) false) card.bytes) card.bytes;
+    }))
 
 module _ (old : Problem Name) where
   -- an accepted card keeps the revised problem lawful
