@@ -45,3 +45,6 @@ pub returns-clause-complete : goal.returns-clause-complete
 returns-clause-complete g c bases ending goes =
     let lawful : IsLinearProgram c.args.lp.now = search rules in
     path_answered c.args.lp.now lawful (g.R.Rates.matrix c.args.rates.now) (g.R.Rates.basics c.args.rates.now) c.args.basis.now c.requires c.walk.new.basis bases ending c.args.limit (g.R.Rates.waypoints c.args.rates.now) (g.R.Rates.waypoints c.walk.new.rates) c.walk.result c.walk.ensures.ends c.walk.ensures.stops goes
+
+pub returns-in_err-wanted-clause-waypoints : goal.returns-in_err-wanted-clause-waypoints
+returns-in_err-wanted-clause-waypoints g c = stays turn c.args.lp.now c.args.basis.now (g.R.Rates.waypoints c.args.rates.now)
