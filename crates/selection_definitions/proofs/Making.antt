@@ -63,7 +63,7 @@ made_first op x y steps e = by (refuses op x y) e
     by true e = cc
     by false e = (refl, e)
 
-make_first : (op : Op) (x y : ℚ) (steps : List Step) → refuses op x y ≡ false → verdict_of steps ≡ Checked → verdict_of (operation op x y ∷ steps) ≡ Checked
+pub make_first : (op : Op) (x y : ℚ) (steps : List Step) → refuses op x y ≡ false → verdict_of steps ≡ Checked → verdict_of (operation op x y ∷ steps) ≡ Checked
 make_first op x y steps made rest = ap (λ b. if b then Unchecked (record { op = op; left = x; right = y }) else verdict_of steps) made ∙ rest
 
 -- an operation that evidence shows to be refused isn't made
@@ -114,6 +114,26 @@ module _ (problem : Problem ℕ) (choice : Choice) where
 
   abbrev column_part : Group (Entry ℕ) → ℕ × Row ℕ → List Step
   column_part column row = combination_steps (take row.0 problem.rows) column.items row.1.parts
+
+  -- it is made where what each row makes is checked, and what each row makes in each column
+  pub made_by_parts : ((place : ℕ) (row : Row ℕ) → slice_get problem.rows place ≡ Some row → verdict_of (range_steps row.kind (rhs_of problem choice (place + 1)) (range_of problem choice (place + 1))) ≡ Checked) →
+      ((column_place : ℕ) (column : Group (Entry ℕ)) → slice_get problem.columns column_place ≡ Some column → (place : ℕ) (row : Row ℕ) → slice_get problem.rows place ≡ Some row →
+      verdict_of (combination_steps (take place problem.rows) column.items row.parts) ≡ Checked) →
+      is_made problem choice ≡ true
+  unfolding is_made
+  made_by_parts each_row each_column = ap is_checked (append-checked (row_steps problem choice) (flat_map (column_steps problem) problem.columns) rows_made columns_made)
+    where
+      rows_made : verdict_of (row_steps problem choice) ≡ Checked
+      rows_made = all_of row_part (enumerate_from 1 problem.rows) (λ place entry is.
+          let at = of_numbered 1 problem.rows place entry is in
+          let number : place + 1 ≡ entry.0 = omega (arith, at.0) in
+          subst (λ n. verdict_of (range_steps entry.1.kind (rhs_of problem choice n) (range_of problem choice n)) ≡ Checked) number (each_row place entry.1 at.1))
+
+      columns_made : verdict_of (flat_map (column_steps problem) problem.columns) ≡ Checked
+      columns_made = all_of (column_steps problem) problem.columns (λ column_place column is_column. all_of (column_part column) (enumerate_from 0 problem.rows) (λ place entry is.
+          let at = of_numbered 0 problem.rows place entry is in
+          let number : place ≡ entry.0 = omega (arith, at.0) in
+          subst (λ n. verdict_of (combination_steps (take n problem.rows) column.items entry.1.parts) ≡ Checked) number (each_column column_place column is_column place entry.1 at.1)))
 
   -- ---- where it is made, nothing is shown to be refused
 
@@ -238,21 +258,8 @@ module _ (problem : Problem ℕ) (choice : Choice) where
             no_theta = no_theta;
           }))
 
-    rows_made : verdict_of (row_steps problem choice) ≡ Checked
-    rows_made = all_of row_part (enumerate_from 1 problem.rows) (λ place entry is.
-        let at = of_numbered 1 problem.rows place entry is in
-        let number : place + 1 ≡ entry.0 = omega (arith, at.0) in
-        subst (λ n. verdict_of (range_steps entry.1.kind (rhs_of problem choice n) (range_of problem choice n)) ≡ Checked) number (range_made place entry.1 at.1))
-
-    columns_made : verdict_of (flat_map (column_steps problem) problem.columns) ≡ Checked
-    columns_made = all_of (column_steps problem) problem.columns (λ column_place column is_column. all_of (column_part column) (enumerate_from 0 problem.rows) (λ place entry is.
-        let at = of_numbered 0 problem.rows place entry is in
-        let number : place ≡ entry.0 = omega (arith, at.0) in
-        subst (λ n. verdict_of (combination_steps (take n problem.rows) column.items entry.1.parts) ≡ Checked) number (combination_made column_place column is_column place entry.1 at.1 entry.1.parts refl)))
-
     pub made_if_none : is_made problem choice ≡ true
-    unfolding is_made
-    made_if_none = ap is_checked (append-checked (row_steps problem choice) (flat_map (column_steps problem) problem.columns) rows_made columns_made)
+    made_if_none = made_by_parts range_made (λ column_place column is_column place row is_row. combination_made column_place column is_column place row is_row row.parts refl)
 
 pub made_iff : (problem : Problem ℕ) (choice : Choice) → (is_made problem choice ≡ true) ↔ ((e : Evidence) → IsSelectionRefusal problem choice e → ⊥)
 made_iff problem choice = (to problem choice, made_if_none problem choice)
