@@ -4,6 +4,7 @@
 mod blanks;
 mod card_fields;
 mod decimal;
+mod free_card;
 mod reading;
 mod stop;
 mod texts;
@@ -11,6 +12,7 @@ mod texts;
 pub use card_definitions::NumberFault;
 pub use card_fields::fields;
 pub use decimal::Decimal;
+pub use free_card::{Word, Words, free_words};
 pub use deck_definitions::{DeckFault, DeckFaultKind};
 pub use reading::number;
 pub use stop::DeckStop;
