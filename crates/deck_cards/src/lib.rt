@@ -5,8 +5,11 @@
 mod card_reading;
 mod card_stop;
 mod data_card;
+mod field_lists;
+mod free_card;
 mod reader;
 mod sections;
+mod style;
 mod words;
 
 pub use card_reading::{first_pair, name_in, read_data_card, second_pair};

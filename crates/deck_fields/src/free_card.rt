@@ -1,11 +1,13 @@
 // The words of a card.
-ghost use Rattle.std.specs.Prelude.{◌≡◌, ◌≤◌, ◌<◌, ◌+◌, ℕ, length, get_or, slice_get, unwrap_or, set, if◌then◌else◌, nat_lt};
+ghost use Rattle.std.specs.Prelude.{◌≡◌, ◌≤◌, ◌<◌, ◌+◌, ◌==◌, ℕ, List, IfSome, length, position, set, if◌then◌else◌, nat_lt};
 ghost use Rattle.std.specs.List.{position_or_len};
 ghost use Rattle.card_definitions.specs.Cards.{is_blank};
 ghost use Rattle.card_reader.specs.Card.{card_bytes};
-ghost use Rattle.deck_fields.specs.CardWords.{words, no_word};
-ghost use Rattle.deck_fields.specs.WordsShown.{word_shown, IsColumn, AreWordsBefore};
+ghost use Rattle.card_definitions.specs.Fields.{word_text, word_of, words, read_words};
+ghost use Rattle.deck_fields.specs.Readings.{ShowsFields};
+ghost use Rattle.deck_fields.specs.WordsShown.{word_shown, IsColumn, ShowsWords, AreWordsBefore};
 
+use crate::texts::Fields;
 use card_reader::Card;
 
 // The most fields that a data card has.
@@ -67,9 +69,7 @@ fn next_word<'a>(found: &mut Words<'a>, card: &'a [u8], start: usize) -> usize
 
 /// The words of a card. Nothing is copied.
 pub fn free_words(card: Card<'_>) -> Words<'_>
-    ensures count { result.count ≡ length (words (card_bytes card.entry)) }
-    ensures each { (k : ℕ) → (d : Word) → k < 6 → word_shown (get_or result.words k d) ≡ unwrap_or (slice_get (words (card_bytes card.entry)) k) no_word }
-    ensures columns { (k : ℕ) → (d : Word) → k < 6 → IsColumn (get_or result.words k d).column }
+    ensures { ShowsWords result (card_bytes card.entry) }
 {
     let bytes = card.bytes();
     let none = Word {
@@ -85,4 +85,55 @@ pub fn free_words(card: Card<'_>) -> Words<'_>
         start = next_word(&mut found, bytes, start);
     }
     found
+}
+
+/// The text of a word by its place, from 0; empty where the card has fewer words.
+pub fn word_text<'a>(found: &Words<'a>, place: usize) -> &'a [u8]
+    requires { place < 6 }
+    ensures { (card : List ℕ) → ShowsWords found.now card → result.now ≡ word_text card place }
+{
+    found.words[place].text
+}
+
+// Where a field stands among others.
+fn place_of(fields: &[u8], field: u8) -> Option<usize>
+    ensures place { result ≡ position (λ other. other == field) fields.now }
+    ensures bound { IfSome result (λ place. place < length fields.now) }
+{
+    fields.iter().position(|other| *other == field)
+}
+
+// The word that is a field, where the words are these fields in order.
+fn word_of<'a>(found: &Words<'a>, fields: &[u8], field: u8) -> Word<'a>
+    requires { length fields.now ≤ 6 }
+    ensures word { (card : List ℕ) → ShowsWords found.now card → word_shown result ≡ word_of fields.now (words card) field }
+    ensures column { (card : List ℕ) → ShowsWords found.now card → IsColumn result.column }
+{
+    let Some(place) = place_of(fields, field) else {
+        return Word {
+            column: 1,
+            text: &[],
+        };
+    };
+    found.words[place]
+}
+
+/// What is read of words that are these fields in order.
+pub fn read_words<'a>(found: &Words<'a>, fields: &[u8]) -> Fields<'a>
+    requires { length fields.now ≤ 6 }
+    ensures reading { (card : List ℕ) → ShowsWords found.now card → ShowsFields result (read_words fields.now (words card)) }
+    ensures columns { (card : List ℕ) → ShowsWords found.now card → IsColumn result.value1_column × IsColumn result.value2_column }
+{
+    let value1 = word_of(found, fields, 4);
+    let value2 = word_of(found, fields, 6);
+    Fields {
+        kind: word_of(found, fields, 1).text,
+        name1: word_of(found, fields, 2).text,
+        name2: word_of(found, fields, 3).text,
+        value1: value1.text,
+        name3: word_of(found, fields, 5).text,
+        value2: value2.text,
+        value1_column: value1.column,
+        value2_column: value2.column,
+    }
 }

@@ -12,7 +12,7 @@ mod texts;
 pub use card_definitions::NumberFault;
 pub use card_fields::fields;
 pub use decimal::Decimal;
-pub use free_card::{Word, Words, free_words};
+pub use free_card::{Word, Words, free_words, read_words, word_text};
 pub use deck_definitions::{DeckFault, DeckFaultKind};
 pub use reading::number;
 pub use stop::DeckStop;
