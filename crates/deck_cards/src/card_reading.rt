@@ -3,6 +3,7 @@ ghost use Rattle.std.specs.Prelude.{◌≡◌, ◌≤◌, ◌∷◌, [], None, S
 ghost use Rattle.card_definitions.specs.Fields.{Fixed, reading_of};
 ghost use Rattle.card_reader.specs.Card.{card_bytes};
 ghost use Rattle.problem_definitions.specs.Valid.{IsName};
+ghost use Rattle.deck_definitions.specs.declared.Style.TheVariants.{FreeFields};
 ghost use Rattle.deck_definitions.specs.Conversion.{gaps_fault, form_fault};
 ghost use Rattle.deck_definitions.specs.DataCards.{form_on, pairs_of};
 ghost use Rattle.deck_definitions.proofs.CardTexts.{IsReading};

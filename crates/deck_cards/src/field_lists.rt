@@ -7,15 +7,25 @@ use crate::words::takes_number;
 use deck_definitions::Section;
 
 const TYPE_NAME: &[u8] = &[1, 2];
+
 const NAME_PAIR: &[u8] = &[2, 3, 4];
+
 const NAME_PAIRS: &[u8] = &[2, 3, 4, 5, 6];
+
 const PAIR: &[u8] = &[3, 4];
+
 const PAIRS: &[u8] = &[3, 4, 5, 6];
+
 const TYPE_COLUMN: &[u8] = &[1, 3];
+
 const TYPE_SET_COLUMN: &[u8] = &[1, 2, 3];
+
 const TYPE_COLUMN_NUMBER: &[u8] = &[1, 3, 4];
+
 const TYPE_SET_COLUMN_NUMBER: &[u8] = &[1, 2, 3, 4];
+
 const NAME: &[u8] = &[2];
+
 const NAMES: &[u8] = &[2, 3];
 
 // Whether a list has so many fields.
@@ -74,8 +84,16 @@ fn bound_fields(takes_number: bool, count: u8) -> Option<&'static [u8]>
     ensures fields { option_map (λ f. f.now) result ≡ fields_for (bound_words takes_number) count }
     ensures few { IfSome result (λ f. length f.now ≤ 6) }
 {
-    let bare = if takes_number { TYPE_COLUMN_NUMBER } else { TYPE_COLUMN };
-    let named = if takes_number { TYPE_SET_COLUMN_NUMBER } else { TYPE_SET_COLUMN };
+    let bare = if takes_number {
+        TYPE_COLUMN_NUMBER
+    } else {
+        TYPE_COLUMN
+    };
+    let named = if takes_number {
+        TYPE_SET_COLUMN_NUMBER
+    } else {
+        TYPE_SET_COLUMN
+    };
     if has_count(bare, count) {
         Some(bare)
     } else if has_count(named, count) {
@@ -144,12 +162,7 @@ fn fields_deleted(section: Section, count: u8) -> Option<&'static [u8]>
 }
 
 /// The fields that so many words are in order, on a card of this section with this first word, if it takes so many.
-pub fn fields_on(
-    section: Section,
-    deletes: bool,
-    word: &[u8],
-    count: u8,
-) -> Option<&'static [u8]>
+pub fn fields_on(section: Section, deletes: bool, word: &[u8], count: u8) -> Option<&'static [u8]>
     ensures fields { option_map (λ f. f.now) result ≡ fields_for (words_on section deletes word.now) count }
     ensures few { IfSome result (λ f. length f.now ≤ 6) }
 {

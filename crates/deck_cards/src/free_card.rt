@@ -19,6 +19,7 @@ use deck_fields::{Fields, free_words, read_words, word_text};
 
 // The longest name and the longest text of a number.
 const NAME: usize = 8;
+
 const NUMBER: usize = 12;
 
 // The fault of a card's first word, where it tells a type.

@@ -52,7 +52,7 @@ next_words start card rest len is_rest is_len bound =
     let later : drop (len + 1) rest ≡ drop (start + len + 1) card = ap (drop (len + 1)) is_rest ∙ drop_twice (len + 1) start card ∙ ap (λ n. drop n card) order in
     ap (λ xs. words_from (start + 1) (slice_split is_blank xs)) (sym is_rest)
     ∙ subst (λ n. words_from (start + 1) (slice_split is_blank rest) ≡ word_if_any (start + 1) (take n rest) ++ words_from (start + 1 + n + 1) (slice_split is_blank (drop (n + 1) rest))) (sym is_len)
-        (next_part (start + 1) rest (subst (λ n. n ≤ length rest) is_len bound))
+    (next_part (start + 1) rest (subst (λ n. n ≤ length rest) is_len bound))
     ∙ ap₂ (λ n xs. word_if_any (start + 1) (take len rest) ++ words_from n (slice_split is_blank xs)) column later
 
 -- what is left of a card, as a slice shows it
