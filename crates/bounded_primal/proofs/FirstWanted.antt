@@ -1,13 +1,13 @@
 -- What the first wanted rate of a row tells: what brings a basic back, and what betters the objective.
-use Rattle.std.proofs.Common.{◌≡◌, ◌≤◌, ℕ, List, Bool, refl, sym, ap, ap₂, ◌∙◌, subst, arith}
+use Rattle.std.proofs.Common.{◌≡◌, ℕ, List, Bool, sym, ap, ◌∙◌, subst, arith}
 use Rattle.std.specs.Prelude.{Option, Some, None, not, option_map}
 use Rattle.exact_values.specs.Rational.{ℚ}
 use Rattle.lp_definitions.specs.LinearProgram.{LinearProgram, Vector, IsVariable, for_min}
 use Rattle.lp_definitions.specs.Basis.{basics_of, IsBasis, ArePricesOf}
 use Rattle.lp_definitions.specs.declared.Status.{Status}
-use Rattle.lp_model.specs.Wanted.{IsFirstWanted, IsLeastWanted, IsUpTo}
+use Rattle.lp_model.specs.Wanted.{IsFirstWanted, IsUpTo}
 use Rattle.lp_model.specs.declared.wanted.Wanted.{Wanted}
-use Rattle.method_definitions.specs.Moves.{signed, goes_up, entering}
+use Rattle.method_definitions.specs.Moves.{signed, entering}
 use Rattle.method_definitions.specs.Path.{after}
 use Rattle.basis_values.specs.Motions.{motion}
 use Rattle.basis_values.specs.Prices.{worth_by}

@@ -1,9 +1,6 @@
-use Rattle.std.proofs.Common.{sym, ap, ◌∙◌}
-use Rattle.std.specs.Prelude.{option_map}
+use Rattle.std.proofs.Common.{sym, ◌∙◌}
 use Rattle.lp_definitions.specs.LinearProgram.{value_at}
 use Rattle.basis_values.specs.Prices.{worth_by}
-use Rattle.bounded_primal.specs.Turns.{moved_by}
-use Rattle.bounded_primal.specs.declared.turns.Mover.{Mover}
 use Rattle.bounded_primal.proofs.TurnChoices.{entering_within, some_betters}
 use Rattle.bounded_primal.proofs.turns.bettering.Goals as goal
 

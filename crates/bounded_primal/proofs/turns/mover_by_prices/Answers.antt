@@ -1,5 +1,3 @@
-use Rattle.std.proofs.Common.{◌≡◌}
-use Rattle.std.specs.Prelude.{Option}
 use Rattle.lp_definitions.specs.LinearProgram.{value_at}
 use Rattle.bounded_primal.proofs.FirstWanted.{mover_found}
 use Rattle.bounded_primal.proofs.turns.mover_by_prices.Goals as goal

@@ -1,5 +1,3 @@
-use Rattle.std.proofs.Common.{◌≡◌, Err, rules, subst}
-use Rattle.std.specs.Prelude.{not}
 use Rattle.lp_definitions.specs.LinearProgram.{value_at}
 use Rattle.basis_values.proofs.RatesStops.{row_refused}
 use Rattle.basis_values.proofs.Kept.{kept_by}
