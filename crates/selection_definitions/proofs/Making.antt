@@ -224,13 +224,13 @@ module _ (problem : Problem ℕ) (choice : Choice) where
       combination_made None is = refl
       combination_made (Some parts) is = make_sum zero_ℚ products (λ term product is_product. (
         made_if_unshown Mul product.left product.right (λ refused.
-        shows term product is_product (evidence combination_formula (place + 1) (length problem.rows + (column_place + 1)) term Mul product.left product.right)
-        (record { is_formula = refl; is_p = refl; is_q = refl; is_i = refl; is_j = refl; is_term = refl }) refl refl
-        (inl (record { is_op = refl; is_left = refl; is_right = refl; refused = refused }))),
+            shows term product is_product (evidence combination_formula (place + 1) (length problem.rows + (column_place + 1)) term Mul product.left product.right)
+            (record { is_formula = refl; is_p = refl; is_q = refl; is_i = refl; is_j = refl; is_term = refl }) refl refl
+            (inl (record { is_op = refl; is_left = refl; is_right = refl; refused = refused }))),
         made_if_unshown Add (sum_of zero_ℚ (take term products)) (product_of product) (λ refused.
-        shows term product is_product (evidence combination_formula (place + 1) (length problem.rows + (column_place + 1)) term Add (sum_of zero_ℚ (take term products)) (product_of product))
-        (record { is_formula = refl; is_p = refl; is_q = refl; is_i = refl; is_j = refl; is_term = refl }) refl refl
-        (inr (record { is_op = refl; is_left = refl; is_right = refl; refused = refused }))),
+            shows term product is_product (evidence combination_formula (place + 1) (length problem.rows + (column_place + 1)) term Add (sum_of zero_ℚ (take term products)) (product_of product))
+            (record { is_formula = refl; is_p = refl; is_q = refl; is_i = refl; is_j = refl; is_term = refl }) refl refl
+            (inr (record { is_op = refl; is_left = refl; is_right = refl; refused = refused }))),
       ))
         where
           products : List Product

@@ -9,8 +9,7 @@ use Rattle.lp_setup.proofs.parts.limits_by_row.Goals as goal
 pub loop-place-preserved : goal.loop-place-preserved
 loop-place-preserved c =
     let all : List Limits = limits_of_rows c.args.rows.now c.args.sides.now c.args.ranges.now in
-    let pushed : c.push.new.self.items ≡ c.loop-place.limits.items ++ (c.in_ok-pair.pair ∷ []) = search rules in
-    (
+    let pushed : c.push.new.self.items ≡ c.loop-place.limits.items ++ (c.in_ok-pair.pair ∷ []) = search rules in (
       pushed ∙ grown all c.loop-place.limits.items c.loop-place.place c.in_ok-pair.pair c.loop-place.invariant.0 c.in_ok-pair.ensures.limits,
       next_made c.args.rows.now c.args.sides.now c.args.ranges.now c.loop-place.place c.loop-place.invariant.1 c.in_ok-pair.ensures.made,
     )
