@@ -36,9 +36,15 @@ with_word of reads rest = option_and_then (λ x. reads x (drop (length (word_in 
 abbrev pub is_slash : ℕ → Bool
 is_slash byte = byte == 47
 
--- the digits before the slash over those after it, or over 1
+-- the number before the slash, and the one after it, or 1
+abbrev pub top_of : List ℕ → ℕ
+top_of word = digits_value (before_first is_slash word)
+
+abbrev pub bottom_of : List ℕ → ℕ
+bottom_of word = if list_any is_slash word then digits_value (after_first is_slash word) else 1
+
 abbrev pub spelled_size : List ℕ → ℚ
-spelled_size word = fraction (pos (digits_value (before_first is_slash word))) (if list_any is_slash word then digits_value (after_first is_slash word) else 1)
+spelled_size word = fraction (pos (top_of word)) (bottom_of word)
 
 -- its opposite after a minus
 abbrev pub spelled : List ℕ → ℚ
