@@ -12,7 +12,7 @@ program as it stands, where no proved one is. --no-parametric: without PARAOBJ a
 DUAL, PUNCH and INSERT. --itself: no program runs; what expected_listing.py says is checked by the meaning of the words, where a job is small
 enough (scripts/every_basis.py)."""
 import collections, random, re, sys
-import every_basis, expected_listing, runner
+import every_basis, expected_decks, expected_listing, runner
 
 
 def number(chance):
@@ -120,7 +120,7 @@ def revision(chance, problem):
             tried = cards + ([section] if begun != section else []) + edit
             try:
                 candidate = problem.revised([*tried, "ENDATA"])
-            except (expected_listing.Fault, KeyError, ValueError):
+            except expected_decks.DeckFault:
                 continue
             if kind and is_lawful(candidate):
                 cards, revised, begun = tried, candidate, section
