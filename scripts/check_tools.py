@@ -74,7 +74,7 @@ BOUNDS
  PL BND X1
 ENDATA
 """
-MODULES = ("runner.py", "mps_file.py", "basis_file.py", "every_basis.py", "expected_bases.py", "expected_postoptimal.py", "strangers_text.py", "follow_listing.py",
+MODULES = ("runner.py", "mps_file.py", "basis_file.py", "every_basis.py", "expected_bases.py", "expected_decks.py", "expected_postoptimal.py", "strangers_text.py", "follow_listing.py",
            "parametric_svg.py", "readable.py")
 DOOMED = {
     "a MARKER": ("    M1  'MARKER'  'INTORG'\n", "MARKER"),
