@@ -56,8 +56,8 @@ class Deck:
         entries = {(column, row): chance.randint(-9, 9) if is_friendly else number(chance)
                    for column in plan for _, row in self.rows if chance.random() < 0.7}
         self.entries = [(column, row, value) for (column, row), value in entries.items()]
-        self.values, self.bounds = [], []
-        for name in ("B1", "B2"):
+        self.values, self.bounds, self.bound_set = [], [], chance.choice(("BD", "BD", "BD", ""))
+        for name in (chance.choice(("B1", "B1", "B1", "")), "B2"):
             for kind, row in self.rows:
                 if chance.random() < 0.8:
                     kept = sum(value * plan[column] for (column, other), value in entries.items() if other == row) if is_friendly else 0
@@ -69,7 +69,7 @@ class Deck:
                 for kind in ["LO", "UP"] if is_boxed else chance.choice((["UP"], ["LO"], ["FX"], ["FR"], ["MI"], ["LO", "UP"])):
                     room = {"LO": -chance.randint(0, 5), "UP": chance.randint(0, 5)}.get(kind, 0)
                     value = "" if kind in ("FR", "MI") else plan[column] + room if is_friendly else number(chance)
-                    self.bounds.append(f" {kind} {'BD':<10}{column:<10}{value}".rstrip())
+                    self.bounds.append(f" {kind} {self.bound_set:<10}{column:<10}{value}".rstrip())
 
     def cards(self):
         cards = ["NAME          RANDOM", "ROWS", *(f" {kind}  {row}" for kind, row in self.rows), "COLUMNS"]
@@ -202,14 +202,19 @@ def decks_of(cards):
 
 
 def in_words(chance, deck):
-    "the same deck free, its words here and there on their cards; a basis deck is fixed, whatever stands behind its name"
-    if deck[1].startswith(" "):
+    """the same deck free, its words here and there on their cards; a basis deck is fixed, whatever stands behind its name, and one that has a
+    fault may look like another deck that can't be said in words"""
+    try:
+        words = free_deck.turned("\n".join(deck), True, print).split("\n")
+    except free_deck.Refused:
+        return deck
+    if words == deck:
         return [f"{deck[0]:<24}FREE", *deck[1:]]
 
     def spread(card):
-        words = "".join(" " * chance.choice((1, 1, 2, 5)) + word for word in card.split())
-        return words if card.startswith(" ") and len(words) <= 80 else card
-    return [spread(card) for card in free_deck.turned("\n".join(deck), True, print).split("\n")]
+        wide = "".join(" " * chance.choice((1, 1, 2, 5)) + word for word in card.split())
+        return wide if card.startswith(" ") and len(wide) <= 80 else card
+    return [spread(card) for card in words]
 
 
 def spoiled(chance, deck):
@@ -248,11 +253,11 @@ SENSES = ("'MIN'", "'MAX'")
 def job(seed, is_parametric, revises, has_bases, has_free, has_faults):
     chance = random.Random(seed)
     deck = Deck(chance)
-    words = (["'RANGE','RG'"] if deck.ranges else []) + (["'BOUND','BD'"] if deck.bounds else []) + [chance.choice(SENSES)]
+    words = (["'RANGE','RG'"] if deck.ranges else []) + ([f"'BOUND','{deck.bound_set}'"] if deck.bounds else []) + [chance.choice(SENSES)]
     setup = f"SETUP({','.join(words)})"
     program = statements("CONVERT", "MOVE(XOBJ,'OBJ')", setup) + solving("A")
     names = {name for name, _, _ in deck.values}
-    if names == {"B1", "B2"}:
+    if len(names) == 2:
         program += statements("MOVE(XRHS,'B2')") + solving("B")
     if is_parametric:
         program += sweeping(chance, "PARAOBJ", "MOVE(XCHROW,'CHG')")
