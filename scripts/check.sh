@@ -54,6 +54,7 @@ if command -v python3 >/dev/null; then
     # The page of faults is that of examples/faults, and the listings of examples/ are those that are worked out apart.
     python3 scripts/faults.py --check || fail "scripts/faults.py --write makes docs/FAULTS.md"
     bash scripts/examples.sh --expected || fail "a listing of examples/"
+    python3 scripts/check_decks.py || fail "free_deck.py changes a deck, or free decks are read otherwise than they are to be"
     # The five that take longest run side by side.
     python3 scripts/check_installed.py &
     installed=$!

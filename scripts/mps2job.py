@@ -13,7 +13,7 @@ usage: mps2job.py [OPTIONS] [-o JOB] [--names MAP] FILE.mps      FILE.mps may be
   --relax          takes columns of whole numbers (MARKER, BV, LI, UI) as columns of any numbers; without it such a file is refused
   --ranging        RANGE after SOLUTION
   --free, --fixed  fields are words, or stand at their columns, as in old files whose names have blanks; without it fields are words,
-                   and a line that says another thing by its columns is refused
+                   and a line that says another thing by its columns is refused. The deck of the job is fixed in any case
 
 Where programs differ, a file is refused until you say what it means:
   --negative-up keep|free      a negative UP where nothing is said of the lower limit: keep leaves it at 0 (no plan), free takes it away
