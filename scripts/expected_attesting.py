@@ -20,6 +20,7 @@ from job_rules import (BasisDeck, DataDeck, GREATEST, LinearProgram, Program, Re
 MOST_LISTING, MOST_STATEMENTS = 64_000_000, 100_000
 ATTESTED, WRONG, OPEN, UNCHECKED, LONG = 0, 40, 41, 42, 43
 DEFAULTS = {"XPARAM": Fraction(0)}
+DEMAND_OF = {"INFEASIBLE": "XDONFS", "UNBOUNDED": "XDOUNB"}
 FRACTION = r"-?\d+(?:/\d+)?"
 OPEN_STOPS = re.compile(r"STOP (?:16 ITERATION LIMIT \d+ CARD \d+|24 READ FAULT|26 PUNCH FAULT|28 MEMORY|10 VERB FAULT 15 CARD \d+"
                         r"|10 VERB FAULT 16 CARD \d+ VARIABLE \d+"
@@ -259,6 +260,29 @@ def check_interval(changing, is_first, first, last, most, columns):
                 ask(all(point[k] == (lp.lower if for_min(lp, price) > 0 else lp.upper)[k] for lp, point, _ in ends))
 
 
+# ---- verdicts
+
+class Claim:
+    "a verdict as it is read: its kind, whether its word is CHECKED, and its numbers"
+    def __init__(self, kind, is_checked, objective=None, crossed=None, ray=None, point=None, direction=None, prices=None):
+        self.kind, self.is_checked, self.objective, self.crossed = kind, is_checked, objective, crossed
+        self.ray, self.point, self.direction, self.prices = ray, point, direction, prices
+
+    def test(self, lp):
+        "the test of its proof; an optimal one is tested at SOLUTION"
+        if self.kind == "OPTIMAL":
+            return
+        if self.crossed is not None:
+            check_crossed(lp, self.crossed)
+        elif self.kind == "INFEASIBLE":
+            ask(ray_sum(lp, self.ray) < 0)
+        else:
+            check_direction(lp, self.point, self.direction)
+            ask(worth_of(lp, self.direction) < 0)
+            ask(self.objective == self.point[lp.objective])
+        ask(self.is_checked)
+
+
 # ---- the walk
 
 class Walk:
@@ -284,7 +308,7 @@ class Walk:
         "a line on which nothing is left to the listing"
         self.open_stop()
         if self.listing.peek() != text:
-            raise Found(WRONG, self.listing.line())
+            raise self.wrong()
         self.listing.at += 1
 
     def ends(self, text):
@@ -439,41 +463,40 @@ class Walk:
 
     # -- verdicts
 
-    def claim(self, verb, lp, is_opening):
-        "a verdict, read and, but for an optimal one, tested; its kind, and of an optimal one the objective and the word"
-        words = self.listing.peek().split(" ") if self.listing.peek() is not None else [""]
-        ask(words[0] == verb and len(words) > 4)
-        kind, sheet = words[1], Sheet(lp)
-        ask(words[2] == "STEPS")
-        count(words[3])
-        if kind == "OPTIMAL" and not is_opening:
-            ask(words[4] == "OBJECTIVE" and len(words) > 6)
-            claim = fraction(words[5]), is_checked(words[6:])
-            self.listing.take()
-            return kind, claim, None
-        if kind == "INFEASIBLE" and words[4] == "CROSSED":
-            ask(words[3] == "0" and len(words) > 6)
-            k, word = count(words[5]), is_checked(words[6:])
-            self.listing.take()
-            ask(1 <= k <= sheet.size)
-            return kind, None, lambda made: (check_crossed(made, k - 1), ask(word))
-        if kind == "INFEASIBLE":
-            ask(words[4] == "RAY")
+    def claim(self, verb, lp, kinds):
+        "a verdict of one of these kinds, read"
+        words, sheet = (self.listing.peek() or "").split(" "), Sheet(lp)
+        ask(len(words) > 5 and words[0] == verb and words[1] in kinds and words[2] == "STEPS")
+        kind, steps, end = words[1], count(words[3]), words[4]
+        if kind == "INFEASIBLE" and end == "RAY":
             word = is_checked(words[5:])
             self.listing.take()
-            ray = sheet.ray(self.listing)
-            return kind, None, lambda made: (ask(ray_sum(made, ray) < 0), ask(word))
-        ask(kind == "UNBOUNDED" and verb != "DUAL" and words[4] == "OBJECTIVE" and len(words) > 6)
-        value, word = fraction(words[5]), is_checked(words[6:])
+            return Claim(kind, word, ray=sheet.ray(self.listing))
+        word = is_checked(words[6:])
+        if kind == "INFEASIBLE":
+            ask(end == "CROSSED" and steps == 0)
+            crossed = count(words[5])
+            ask(1 <= crossed <= sheet.size)
+            self.listing.take()
+            return Claim(kind, word, crossed=crossed - 1)
+        ask(end == "OBJECTIVE")
+        objective = fraction(words[5])
         self.listing.take()
+        if kind == "OPTIMAL":
+            return Claim(kind, word, objective=objective)
         point, direction = sheet.table(self.listing, 0, 0)
+        return Claim(kind, word, objective=objective, point=point, direction=direction)
 
-        def test(made):
-            check_direction(made, point, direction)
-            ask(worth_of(made, direction) < 0)
-            ask(value == point[made.objective])
-            ask(word)
-        return kind, None, test
+    def tested_claim(self, verb, lp, kinds, made):
+        "a verdict that passes its test in a linear program, which is made once the verdict is read"
+        line, claim = self.listing.line(), self.claim(verb, lp, kinds)
+        lp = made()
+        claim.test(lp)
+        self.met(line, lp, claim)
+        return claim
+
+    def met(self, line, lp, claim):
+        "what follows of a claim that has passed its test; nothing here"
 
     def primal(self):
         return self.solve("PRIMAL")
@@ -486,16 +509,10 @@ class Walk:
         self.open_stop()
         self.open_pending()
         self.not_refused(lp)
-        line = self.listing.line()
-
-        def reading():
-            kind, claim, test = self.claim(verb, lp, False)
-            if test:
-                test(lp)
-            return kind, claim
-        self.mark, claim = self.read(reading)
-        self.pending = (line, *claim) if claim else None
-        return {"OPTIMAL": None, "INFEASIBLE": "XDONFS", "UNBOUNDED": "XDOUNB"}[self.mark]
+        line, kinds = self.listing.line(), ("OPTIMAL", "INFEASIBLE") + (("UNBOUNDED",) if verb == "PRIMAL" else ())
+        claim = self.read(lambda: self.tested_claim(verb, lp, kinds, lambda: lp))
+        self.mark, self.pending = claim.kind, (line, claim) if claim.kind == "OPTIMAL" else None
+        return DEMAND_OF.get(claim.kind)
 
     # -- SOLUTION, and what can't be read without a basis
 
@@ -506,13 +523,16 @@ class Walk:
     def solution(self):
         self.needs_mark("OPTIMAL", "INFEASIBLE", "UNBOUNDED")
         self.open_stop()
-        lp = self.setup_lp(self.setup)
-        objective = self.read(lambda: self.tested_solution(lp))
-        if self.mark == "OPTIMAL" and self.pending:
-            line, told, word = self.pending
-            if told != objective or not word:
-                raise Found(WRONG, line)
+        lp, line = self.setup_lp(self.setup), self.listing.line()
+        shown = self.read(lambda: self.tested_solution(lp))
+        if self.mark != "OPTIMAL":
+            return
+        if self.pending:
+            first, claim = self.pending
+            if claim.objective != shown.objective or not claim.is_checked:
+                raise Found(WRONG, first)
             self.pending = None
+        self.met(line, lp, shown)
 
     def tested_solution(self, lp):
         listing, sheet = self.listing, Sheet(lp)
@@ -541,24 +561,33 @@ class Walk:
             ask(subtract(right, value) == slack)
         if self.mark == "OPTIMAL":
             check_optimal(lp, point, prices)
-        return point[lp.objective]
+        return Claim("OPTIMAL", True, objective=point[lp.objective], point=point, prices=prices)
 
-    def open_report(self, form):
-        "a report that needs the basis: open where its line is due there, and else wrong"
+    def is_by_basis(self, form):
+        "whether the line of a report that needs the basis is due there, which then is open"
         self.open_stop()
-        if form.fullmatch(self.listing.peek() or ""):
-            raise Found(OPEN, self.listing.line())
+        if not re.fullmatch(form, self.listing.peek() or ""):
+            return False
+        self.untold()
+        return True
+
+    def untold(self):
+        "the report that can't be tested begins at the next line"
+        raise Found(OPEN, self.listing.line())
+
+    def wrong(self):
+        return Found(WRONG, self.listing.line())
 
     def range(self):
         self.needs_mark("OPTIMAL")
-        self.open_report(re.compile("RANGE"))
-        raise Found(WRONG, self.listing.line())
+        if not self.is_by_basis("RANGE"):
+            raise self.wrong()
 
     def punch(self):
         lp = self.select()
-        self.open_report(re.compile(re.escape(f"PUNCH   {self.setup[0].name:<8} CARDS ") + r"\d+"))
-        self.not_refused(lp)
-        raise Found(WRONG, self.listing.line())
+        if not self.is_by_basis(re.escape(f"PUNCH   {self.setup[0].name:<8} CARDS ") + r"\d+"):
+            self.not_refused(lp)
+            raise self.wrong()
 
     def insert(self):
         lp = self.select()
@@ -569,9 +598,10 @@ class Walk:
         cards, first, name = self.deck()
         deck = BasisDeck(lp, cards, first, len(self.cards))
         deck.read()
-        self.open_report(re.compile(re.escape(f"INSERT  {name:<8} BASIC {deck.basic_columns}")))
-        self.open_pending()
-        raise Found(WRONG, self.listing.line())
+        if not self.is_by_basis(re.escape(f"INSERT  {name:<8} BASIC {deck.basic_columns}")):
+            self.open_pending()
+            raise self.wrong()
+        self.clear_mark()
 
     # -- parametric runs
 
@@ -607,9 +637,8 @@ class Walk:
         return self.read(lambda: self.chain(verb, changing) if self.listing.peek() == head else self.opening(verb, changing))
 
     def opening(self, verb, changing):
-        kind, _, test = self.claim(verb, changing.lp, True)
-        test(changing.at(self.cells["XPARAM"]))
-        return {"INFEASIBLE": "XDONFS", "UNBOUNDED": "XDOUNB"}[kind]
+        made = lambda: changing.at(self.cells["XPARAM"])
+        return DEMAND_OF[self.tested_claim(verb, changing.lp, tuple(DEMAND_OF), made).kind]
 
     def chain(self, verb, changing):
         listing, sheet, last, most, number = self.listing, Sheet(changing.lp), self.cells["XPARAM"], self.cells["XPARMAX"], 0

@@ -79,16 +79,15 @@ def write(path, text):
         raise Ended(73, f"can't write {path}: {cause.strerror}") from None
 
 
-def run(words):
-    words, listing, solution = own_words(words)
-    options = mps2job.parsed_options(words)
-    if not options.job:
-        raise Ended(64, "-o JOB is needed")
-    mps2job.check_places(options)
-    places = [os.path.realpath(path) for path in (options.job, options.names, listing, options.file, solution) if path]
+def check_places(*paths):
+    "nothing is written over another file of this call"
+    places = [os.path.realpath(path) for path in paths if path]
     if len(set(places)) < len(places):
-        raise Ended(64, "JOB, LISTING, MAP, MODEL.mps and SOLUTION are different files")
-    job, text = made(options, solution)
+        raise Ended(64, "the files of this call are different files")
+
+
+def put(job, listing, options):
+    "the job, its table of names and the listing go where they are wanted"
     if job.renamed and not options.names:
         raise Ended(64, "names were shortened; say by --names MAP where the table of names goes")
     for sentence in job.said:
@@ -96,10 +95,20 @@ def run(words):
     write(options.job, job.text)
     if options.names:
         write(options.names, json.dumps(job.name_map(), indent=1) + "\n")
-    if listing:
-        write(listing, text)
+    if options.listing:
+        write(options.listing, listing)
     else:
-        sys.stdout.write(text)
+        sys.stdout.write(listing)
+
+
+def run(words):
+    words, listing, solution = own_words(words)
+    options = mps2job.parsed_options(words)
+    options.listing = listing
+    if not options.job:
+        raise Ended(64, "-o JOB is needed")
+    check_places(options.job, options.names, listing, options.file, solution)
+    put(*made(options, solution), options)
     return 0
 
 
