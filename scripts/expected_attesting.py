@@ -21,6 +21,8 @@ MOST_LISTING, MOST_STATEMENTS = 64_000_000, 100_000
 ATTESTED, WRONG, OPEN, UNCHECKED, LONG = 0, 40, 41, 42, 43
 DEFAULTS = {"XPARAM": Fraction(0)}
 DEMAND_OF = {"INFEASIBLE": "XDONFS", "UNBOUNDED": "XDOUNB"}
+# more than a fraction of 128 bits has
+MOST_DIGITS = 100
 FRACTION = r"-?\d+(?:/\d+)?"
 OPEN_STOPS = re.compile(r"STOP (?:16 ITERATION LIMIT \d+ CARD \d+|24 READ FAULT|26 PUNCH FAULT|28 MEMORY|10 VERB FAULT 15 CARD \d+"
                         r"|10 VERB FAULT 16 CARD \d+ VARIABLE \d+"
@@ -72,7 +74,7 @@ class Listing:
 
 def fraction(word):
     "a fraction as it is written in lowest terms, of 128 bits"
-    ask(re.fullmatch(FRACTION, word, re.ASCII))
+    ask(len(word) <= MOST_DIGITS and re.fullmatch(FRACTION, word, re.ASCII))
     parts = word.split("/")
     ask(len(parts) == 1 or int(parts[1]))
     value = Fraction(int(parts[0]), int(parts[1]) if len(parts) == 2 else 1)
@@ -81,7 +83,7 @@ def fraction(word):
 
 
 def count(word, most=2 ** 32 - 1):
-    ask(re.fullmatch(r"0|[1-9]\d*", word, re.ASCII) and int(word) <= most)
+    ask(len(word) <= MOST_DIGITS and re.fullmatch(r"0|[1-9]\d*", word, re.ASCII) and int(word) <= most)
     return int(word)
 
 

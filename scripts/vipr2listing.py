@@ -46,10 +46,13 @@ class Program:
             model.rhs_set = "RHS"
 
     def distinct(self, names, kind):
-        "names that differ: one that comes again gets its number"
-        taken, listed = set(names), []
+        "names that differ: one that comes again gets its kind and number behind it"
+        taken, listed = set(), []
         for k, name in enumerate(names):
-            listed.append(name if names.index(name) == k else next(one for one in (f"{name}_{kind}{k}{'_' * n}" for n in range(len(names))) if one not in taken))
+            while name in taken:
+                name = f"{name}_{kind}{k}"
+            taken.add(name)
+            listed.append(name)
         return listed
 
     def limits(self, index, one):
