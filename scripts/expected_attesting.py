@@ -1,14 +1,15 @@
 #!/usr/bin/env python3
-"""Prints what a checker of listings answers of a job and a listing, worked out apart from any program, by the rules of attesting over
-Python's exact fractions: one line, and the exit code is its status.
+"""Says whether the numbers of a listing prove what it says of a job, and all else in it is what the job prints: worked out apart from the
+program, over Python's exact fractions, without a path and without a basis. A script, tested and not proved.
 
-usage: expected_attesting.py JOB LISTING
+usage: expected_attesting.py JOB LISTING      it prints one line, and ends with its status
 
-  0 ATTESTED n REPORTS   every claim of the listing is proved by its numbers, and all else is what the job prints
+  0 ATTESTED n REPORTS   all of it
  40 WRONG LINE n         what is due at line n isn't of its form, or fails a test
- 41 OPEN LINE n          line n can't be attested: a RANGE, PUNCH or INSERT, a stop whose cause needs a path, an optimum without SOLUTION
+ 41 OPEN LINE n          line n can't be attested: RANGE, PUNCH or INSERT, a stop whose cause needs a path, an optimum without SOLUTION
  42 UNCHECKED LINE n     an operation of a test doesn't fit 127 bits
- 43 LONG LISTING"""
+ 43 LONG LISTING         of more than 64,000,000 bytes
+ 64 wrong use; 66 a file can't be read"""
 from fractions import Fraction
 import pathlib
 import re

@@ -23,6 +23,14 @@ from mps2job import say
 NAME = "solution2listing.py"
 
 
+def told(message):
+    say(f"{NAME}: {message}")
+
+
+def wrong_use(message):
+    raise Ended(64, message)
+
+
 class Ended(Exception):
     "the status with which this ends, and what is said"
     def __init__(self, status, message):
@@ -86,12 +94,12 @@ def check_places(*paths):
         raise Ended(64, "the files of this call are different files")
 
 
-def put(job, listing, options):
-    "the job, its table of names and the listing go where they are wanted"
+def put(job, listing, options, say):
+    "the job, its table of names and the listing go where they are wanted; what was changed is said"
     if job.renamed and not options.names:
         raise Ended(64, "names were shortened; say by --names MAP where the table of names goes")
     for sentence in job.said:
-        say(f"{NAME}: {sentence}")
+        say(sentence)
     write(options.job, job.text)
     if options.names:
         write(options.names, json.dumps(job.name_map(), indent=1) + "\n")
@@ -103,12 +111,12 @@ def put(job, listing, options):
 
 def run(words):
     words, listing, solution = own_words(words)
-    options = mps2job.parsed_options(words)
+    options = mps2job.parsed_options(words, wrong_use)
     options.listing = listing
     if not options.job:
         raise Ended(64, "-o JOB is needed")
     check_places(options.job, options.names, listing, options.file, solution)
-    put(*made(options, solution), options)
+    put(*made(options, solution), options, told)
     return 0
 
 
@@ -119,7 +127,7 @@ def main(words):
     try:
         return run(words)
     except Ended as end:
-        say(f"{NAME}: {end}")
+        told(end)
         return end.status
 
 

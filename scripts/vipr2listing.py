@@ -21,8 +21,11 @@ from mps2job import say
 
 NAME = "vipr2listing.py"
 SET = "LIMITS"
-solution2listing.NAME = NAME
 Ended, write = solution2listing.Ended, solution2listing.write
+
+
+def told(message):
+    say(f"{NAME}: {message}")
 
 
 class Program:
@@ -148,7 +151,7 @@ def made(path):
 
 def run(words):
     parser = argparse.ArgumentParser(add_help=False, allow_abbrev=False)
-    parser.error = lambda message: (say(f"{NAME}: {message}"), sys.exit(64))
+    parser.error = lambda message: (told(message), sys.exit(64))
     parser.add_argument("-o", dest="job", required=True)
     parser.add_argument("--listing")
     parser.add_argument("--names")
@@ -156,7 +159,7 @@ def run(words):
     options = parser.parse_args(words)
     solution2listing.check_places(options.job, options.names, options.listing, options.certificate)
     job, listing = made(options.certificate)
-    solution2listing.put(job, listing, options)
+    solution2listing.put(job, listing, options, told)
     return 0
 
 
@@ -167,7 +170,7 @@ def main(words):
     try:
         return run(words)
     except Ended as end:
-        say(f"{NAME}: {end}")
+        told(end)
         return end.status
 
 
