@@ -387,7 +387,8 @@ def try_listings(folder):
     check(f"listing2vipr.py: {written} certificates", written >= 18)
     place = EXAMPLES / "store"
     (folder / "bad").write_text(place.with_suffix(".listing").read_text().replace("LL 0 3 0 NONE 3", "LL 0 3 0 NONE 4"))
-    for words, wanted in (((place.with_suffix(".job"), folder / "bad"), "line 5: "), (("--line", 4, place.with_suffix(".job"), place.with_suffix(".listing")), "begins at line 4"),
+    for words, wanted in (((place.with_suffix(".job"), folder / "bad"), "line 5: "),
+                          (("--line", 4, place.with_suffix(".job"), place.with_suffix(".listing")), "begins at line 4"),
                           ((EXAMPLES / "endless.job", EXAMPLES / "endless.listing"), "UNBOUNDED")):
         status, _, told = called(listing2vipr, *words)
         check(f"listing2vipr.py {words}: {told}", status == 65 and wanted in told)
@@ -400,7 +401,8 @@ def try_esolver(folder):
     if not shutil.which("esolver"):
         print("check_answers: esolver isn't installed; its solutions aren't tried")
         return
-    small = "NAME T\nROWS\n N C\n L A\n G B\n E D\nCOLUMNS\n x C 1 A 1\n x B 1\n y C 4 A 1\n y D -1\n z C 9 B 1\n z D 1\nRHS\n R A 5 B 10\n R D 7\nRANGES\n R A 2.5 B 4\nBOUNDS\n UP B x 4\n LO B y -1\n UP B y 1\nENDATA\n"
+    small = ("NAME T\nROWS\n N C\n L A\n G B\n E D\nCOLUMNS\n x C 1 A 1\n x B 1\n y C 4 A 1\n y D -1\n z C 9 B 1\n z D 1\nRHS\n R A 5 B 10\n R D 7\n"
+             "RANGES\n R A 2.5 B 4\nBOUNDS\n UP B x 4\n LO B y -1\n UP B y 1\nENDATA\n")
     for model in (MODEL.replace("OBJSENSE MAX", "OBJSENSE\n MAX").replace("BOUNDS\n UP doors 1e30\n", ""), small):
         (folder / "asked.mps").write_text(model)
         subprocess.run(["esolver", "-O", "asked.sol", "asked.mps"], cwd=folder, stdout=subprocess.DEVNULL, stderr=subprocess.DEVNULL, timeout=60)
