@@ -41,9 +41,9 @@ def wrong_use(message):
     sys.exit(64)
 
 
-def parsed_options(words):
+def parsed_options(words, refuse=wrong_use):
     parser = argparse.ArgumentParser(add_help=False, allow_abbrev=False, usage="mps2job.py --help says what there is")
-    parser.error = wrong_use
+    parser.error = refuse
     sense, form = parser.add_mutually_exclusive_group(), parser.add_mutually_exclusive_group()
     sense.add_argument("--max", dest="sense", action="store_const", const="MAX")
     sense.add_argument("--min", dest="sense", action="store_const", const="MIN")
