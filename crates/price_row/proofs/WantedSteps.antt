@@ -25,13 +25,13 @@ filled_next f n r xs v below h rate_is k less = at (eqb_tells k n)
         subst (λ x. IsRateOf f r (k + 1) x) (sym (get_or-set_other xs n k v zero_ℚ apart)) (h k (omega (arith, less, apart)))
 
 module _ (ws : List Wanted) (up : Bool) (n : ℕ) (xs : List ℚ) (v : ℚ) (below : n < length xs) (within : n < length ws) where
-  -- what is told of the rate that is written
+  -- the test at the place that is written
   meets_here : meets ws up (value_at (set xs n v)) (n + 1) ≡ is_wanted (wanted_at ws (n + 1)) (turned up v)
   meets_here =
       let place : n + 1 - 1 ≡ n = omega arith in
       ap (λ (y : ℚ). is_wanted (wanted_at ws (n + 1)) (turned up y)) (ap (λ i. get_or (set xs n v) i zero_ℚ) place ∙ get_or-set_same xs n v zero_ℚ below)
 
-  -- and of those before it
+  -- and those before it
   meets_before : (k : ℕ) → 1 ≤ k → k ≤ n → meets ws up (value_at (set xs n v)) k ≡ meets ws up (value_at xs) k
   meets_before k low high =
       let other : k - 1 ≢ n = omega (arith, low, high) in
@@ -59,25 +59,25 @@ module _ (f : Inverse) (r : ℕ) (ws : List Wanted) (up : Bool) (xs : Vector) (a
   rate_here : (k : ℕ) → IsRateOf f r k (xs k) → xs k ≡ rates k
   rate_here k h = h.is_rate (rates_are f are passed).0 (rates_are f are passed).1
 
-  told : (k : ℕ) → IsRateOf f r k (xs k) → meets ws up rates k ≡ meets ws up xs k
-  told k h = ap (λ (y : ℚ). is_wanted (wanted_at ws k) (turned up y)) (sym (rate_here k h))
+  same_test : (k : ℕ) → IsRateOf f r k (xs k) → meets ws up rates k ≡ meets ws up xs k
+  same_test k h = ap (λ (y : ℚ). is_wanted (wanted_at ws k) (turned up y)) (sym (rate_here k h))
 
-  least_told : (found : Option ℕ) → ((k : ℕ) → IsVariable f.matrix k → IsUpTo found k → IsRateOf f r k (xs k)) → IsLeastWanted ws up xs found → IsLeastWanted ws up rates found
-  least_told None filled least = λ k low high. told k (filled k (low, omega (arith, high, counted)) tt) ∙ least k low high
-  least_told (Some q) filled least =
+  least_same : (found : Option ℕ) → ((k : ℕ) → IsVariable f.matrix k → IsUpTo found k → IsRateOf f r k (xs k)) → IsLeastWanted ws up xs found → IsLeastWanted ws up rates found
+  least_same None filled least = λ k low high. same_test k (filled k (low, omega (arith, high, counted)) tt) ∙ least k low high
+  least_same (Some q) filled least =
       let high : q ≤ size f.matrix = omega (arith, least.high, counted) in
       record {
         low = least.low;
         high = least.high;
-        met = told q (filled q (least.low, high) (omega arith)) ∙ least.met;
-        before = λ k low less. told k (filled k (low, omega (arith, less, high)) (omega (arith, less))) ∙ least.before k low less;
+        met = same_test q (filled q (least.low, high) (omega arith)) ∙ least.met;
+        before = λ k low less. same_test k (filled k (low, omega (arith, less, high)) (omega (arith, less))) ∙ least.before k low less;
       }
 
   pub first_is : (found : Option ℕ) → ((k : ℕ) → IsVariable f.matrix k → IsUpTo found k → IsRateOf f r k (xs k)) → IsLeastWanted ws up xs found → IsFirstWanted f.matrix f.basics r ws up xs found
   first_is found filled least = record {
     rates = rates;
     is_row = record { rate = (rates_are f are passed).0; are_rates = (rates_are f are passed).1; entries = λ k is. refl };
-    least = least_told found filled least;
+    least = least_same found filled least;
     filled = λ k is upto. rate_here k (filled k is upto);
   }
 

@@ -1,5 +1,4 @@
 use Rattle.std.proofs.Common.{◌<◌, length, sym, ◌∙◌, arith, rules}
-use Rattle.lp_definitions.specs.LinearProgram.{size}
 use Rattle.price_row.proofs.WantedSteps.{filled_next, none_next, found_here, first_none, first_some}
 use Rattle.price_row.proofs.fill_to_wanted.Goals as goal
 
