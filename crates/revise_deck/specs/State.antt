@@ -20,8 +20,8 @@ use Rattle.revise_definitions.specs.Tests.{action_fault}
 use Rattle.revise_definitions.specs.Revision.{revised, may_come_after}
 use Rattle.revise_parts.specs.Summary.{Under, under_of, edit_test, edited_by, with_card_under}
 
--- the deck's style, the section and the action that go on, what is known of the data cards under the action, and the revised problem
--- so far
+-- the deck's style, the section and the action that go on, what is known of the data cards under the action, and the
+-- revised problem so far
 pub record State : Type 0 where
   pub style : Style
   pub section : Option Section

@@ -14,8 +14,8 @@ use revise_lists::NamedProblem;
 use revise_parts::{UnderAction, edit, edit_fault_of};
 use std::alloc::Global;
 
-/// A problem under revision: the deck's style, the section and the action that go on, what is known of the data cards under the action, and the
-/// problem after the cards so far.
+/// A problem under revision: the deck's style, the section and the action that go on, what is known of the data cards under the
+/// action, and the problem after the cards so far.
 #[derive(Drop)]
 pub struct ReviseDraft {
     alloc: Global,
