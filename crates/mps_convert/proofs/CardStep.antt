@@ -11,7 +11,7 @@ use Rattle.deck_definitions.specs.Sections.{is_section_card, section_begun, sect
 use Rattle.deck_definitions.specs.Described.{described}
 use Rattle.deck_definitions.specs.Conversion.{card_fault, data_card_fault}
 use Rattle.deck_definitions.proofs.Steps.{with_card, section_after-push, style_of-push, described-data, described-section}
-use Rattle.mps_convert.specs.State.{State, state_of, state_with, with_data, fault_at}
+use Rattle.mps_convert.specs.State.{state_of, state_with, with_data, fault_at}
 
 -- the fault of a card after others is that at the state after them
 pub fault-state : (cards : List Card) (card : List ℕ) → card_fault cards card ≡ fault_at (state_of cards) card
