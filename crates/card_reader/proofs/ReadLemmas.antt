@@ -1,13 +1,15 @@
 -- How far a job is read.
-use Rattle.std.proofs.Common.{◌≡◌, ℕ, ◌≤◌, ◌<◌, List, subst, [], ◌++◌, length, take, drop, Option, Some, None, IfSome, sym, ◌∙◌, ap, arith, append_assoc}
-use Rattle.std.specs.Io.KnownBytes.{Consumes, IsAtEnd}
-use Rattle.std.proofs.lemmas.List.{append-nil, take_all, length-take, take-append-drop}
-use Rattle.std.proofs.Math.Seq.{take-append_seam, drop-append_seam}
-use Rattle.std.proofs.Math.ListN.{drop_of_length-le}
+use Rattle.std.proofs.Common.{◌≡◌, ℕ, ◌≤◌, ◌<◌, List, subst, length, Option, Some, None, IfSome, ◌∙◌, ap, arith}
+use Rattle.std.specs.Io.KnownBytes.{IsAtEnd}
+use Rattle.std.proofs.lemmas.List.{take_all, length-take}
+use Rattle.job_devices.specs.declared.reading.SourceStop.{SourceStop}
+use Rattle.job_devices.specs.declared.reading.SourceStop.TheVariants as source
+use Rattle.job_devices.proofs.SourceLemmas.{front_of_whole, IsKept}
 use Rattle.card_definitions.specs.Cards.{job_fault}
 use Rattle.card_definitions.specs.declared.CardFault.TheVariants as fault
 use Rattle.card_reader.proofs.FaultLemmas.{job_fault-bytes}
 use Rattle.card_reader.specs.Reading.{EndsAtStop, ReadsAtStop, ReadsFront, ReadsJob, read_limit}
+use Rattle.card_reader.specs.Stop.{stop_of_source}
 use Rattle.card_reader.specs.declared.stop.ReadStop.{ReadStop}
 use Rattle.card_reader.specs.declared.stop.ReadStop.TheVariants.{ReadFault, NoMemory, TooLong, CardTooLong, NotPrintable}
 
@@ -29,17 +31,13 @@ ends_at_stop TooLong new end = tt
 ends_at_stop (CardTooLong number) new end = end
 ends_at_stop (NotPrintable number) new end = end
 
--- the kept bytes are the front of the job, up to the limit
-abbrev pub IsKeptOf : Option (List ℕ) → List ℕ → Type 0
-IsKeptOf old bytes = IsKept read_limit old bytes
-
 -- how far the job was read where its source stopped, and why it did
 pub reads_at_source_stop : (stop : SourceStop) (old new : Option (List ℕ)) → ReadsFront old new → ReadsAtStop (stop_of_source stop) old new
 reads_at_source_stop source.Failed old new front = front
 reads_at_source_stop source.NoMemory old new front = front
 
 -- what holds of the kept bytes holds of a job that isn't too long
-pub holds_of_job : (P : List ℕ → Type 0) (old : Option (List ℕ)) (bytes : List ℕ) → IsKeptOf old bytes → length bytes ≤ 16400000 → P bytes → IfSome old P
+pub holds_of_job : (P : List ℕ → Type 0) (old : Option (List ℕ)) (bytes : List ℕ) → IsKept read_limit old bytes → length bytes ≤ 16400000 → P bytes → IfSome old P
 holds_of_job P None bytes kept short p = tt
 holds_of_job P (Some job) bytes kept short p =
     let small : length job ≤ read_limit = omega (arith, ap length kept, length-take read_limit job) in
@@ -47,6 +45,6 @@ holds_of_job P (Some job) bytes kept short p =
     subst P same p
 
 -- a job of which more bytes were kept than it may have is too long
-pub too_long_by_bytes : (old : Option (List ℕ)) (bytes : List ℕ) → IsKeptOf old bytes → 16400000 < length bytes → IfSome old (λ job. job_fault job ≡ Some fault.TooLong)
+pub too_long_by_bytes : (old : Option (List ℕ)) (bytes : List ℕ) → IsKept read_limit old bytes → 16400000 < length bytes → IfSome old (λ job. job_fault job ≡ Some fault.TooLong)
 too_long_by_bytes None bytes kept long = tt
 too_long_by_bytes (Some job) bytes kept long = job_fault-bytes job (omega (arith, ap length kept, length-take read_limit job))

@@ -1,5 +1,5 @@
 -- What reading a job answers, and how far it reads.
-use Rattle.std.specs.Prelude.{◌≡◌, ℕ, ◌+◌, ◌≤◌, List, Option, Some, Result, Ok, Err, IfSome, IsErrOf}
+use Rattle.std.specs.Prelude.{◌≡◌, ℕ, ◌+◌, ◌≤◌, List, Option, Some, None, Result, Ok, Err, IfSome, IsErrOf}
 use Rattle.std.specs.Io.KnownBytes.{IsAtEnd}
 use Rattle.job_devices.specs.Causes.{Rose}
 use Rattle.job_devices.specs.Reading.{ReadsUpTo, ReadsWhole}
