@@ -3,6 +3,7 @@
 #![tactic(auto)]
 
 mod cursor;
+mod lines;
 mod numbers;
 
 pub use cursor::Cursor;

@@ -5,6 +5,7 @@ use Rattle.std.specs.List.{list_all, position_or_len, before_first, after_first}
 use Rattle.std.proofs.lemmas.Slice.Eq.{bytes_eq-Decides}
 use Rattle.std.proofs.lemmas.Bool.{and_parts}
 use Rattle.walk_definitions.specs.Words.{left_after}
+use Rattle.walk_definitions.specs.Forms.{Piece, left_by_piece, left_by}
 
 -- two options are equal where each has what the other has
 pub same_options : {X : Type 0} (o p : Option X) → ((x : X) → o ≡ Some x → p ≡ Some x) → ((x : X) → p ≡ Some x → o ≡ Some x) → o ≡ p
@@ -86,3 +87,12 @@ pub cut_after : (p : ℕ → Bool) (a : List ℕ) (c : ℕ) (rest : List ℕ) �
 cut_after p a c rest free is =
     let next : position_or_len p (a ++ c ∷ rest) + 1 ≡ suc (length a) = ap (λ n. n + 1) (cut_length p a c rest free is) ∙ omega arith in
     ap (λ n. drop n (a ++ c ∷ rest)) next ∙ drop_past a c rest
+
+-- one form after another
+pub left_by_both : (ps qs : List Piece) (rest : List ℕ) → left_by (ps ++ qs) rest ≡ option_and_then (left_by qs) (left_by ps rest)
+left_by_both [] qs rest = refl
+left_by_both (p ∷ ps) qs rest = by (left_by_piece p rest) (λ left. left_by_both ps qs left)
+  where
+    by : (o : Option (List ℕ)) → ((left : List ℕ) → left_by (ps ++ qs) left ≡ option_and_then (left_by qs) (left_by ps left)) → option_and_then (left_by (ps ++ qs)) o ≡ option_and_then (left_by qs) (option_and_then (left_by ps) o)
+    by None later = refl
+    by (Some left) later = later left

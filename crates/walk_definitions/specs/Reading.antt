@@ -21,7 +21,7 @@ use Rattle.answer_definitions.specs.Lines.{row_numbers, column_numbers}
 use Rattle.answer_definitions.specs.Sweeps.{sheet_at}
 use Rattle.walk_definitions.specs.Words.{Parsed, left_after, with_text, with_word, fraction_in, count_in, max_count}
 use Rattle.walk_definitions.specs.Forms.{all_operations}
-use Rattle.walk_definitions.specs.Tables.{Slot, AnyCode, AnyNumber, Known, table_in, ray_in}
+use Rattle.walk_definitions.specs.Tables.{Slot, AnyCode, AnyNumber, Known, pair_slots, part_slots, table_in, ray_in}
 use Rattle.walk_definitions.specs.Tests.{verdict_test, solution_test, making_steps, interval_test, close_test}
 
 pub data Judged (X : Type 0) : Type 0 where
@@ -75,7 +75,7 @@ module _ (sheet : Sheet) where
   abbrev pub unbounded_in : List ℕ → Parsed Claim
   unbounded_in = with_text (codes "UNBOUNDED STEPS ") (with_word (count_in max_count) (λ steps. with_text (codes " OBJECTIVE ") (with_word fraction_in (λ objective.
       with_text (codes " ") (with_check (λ check rest.
-      option_map (λ got. ((UnboundedBy steps objective got.0, check), got.1)) (table_in sheet (λ k. AnyNumber ∷ AnyNumber ∷ []) (variables p.matrix) rest)))))))
+      option_map (λ got. ((UnboundedBy steps objective got.0, check), got.1)) (table_in sheet pair_slots (variables p.matrix) rest)))))))
 
   -- DUAL never finds that there is no best point; a parametric opening that is reported isn't optimal
   abbrev pub claim_in : Solver → List ℕ → Parsed Claim
@@ -106,7 +106,7 @@ module _ (sheet : Sheet) where
   abbrev pub interval_in : ℕ → ℚ → List ℕ → Parsed Interval
   interval_in number from =
       with_text (codes "INTERVAL " ++ (digits number ++ (codes " FROM " ++ (rational_text from ++ codes " TO ")))) (with_word fraction_in (λ to. with_text (codes "\n") (λ rest.
-      option_map (λ got. (record { from = from; to = to; lines = got.0 }, got.1)) (table_in sheet (λ k. AnyCode ∷ AnyNumber ∷ AnyNumber ∷ AnyNumber ∷ AnyNumber ∷ []) (variables p.matrix) rest))))
+      option_map (λ got. (record { from = from; to = to; lines = got.0 }, got.1)) (table_in sheet part_slots (variables p.matrix) rest))))
 
   -- a run of the objective may end unbounded, and one of the right-hand side infeasible
   abbrev pub close_in : Solver → List ℕ → Parsed ChainEnd
@@ -115,7 +115,7 @@ module _ (sheet : Sheet) where
     where
       by : Solver → List ℕ → Parsed ChainEnd
       by Paraobj left = with_text (codes " UNBOUNDED PAST ") (with_word fraction_in (λ t. with_text (codes "\n") (λ after.
-          option_map (λ got. (UnboundedPast t got.0, got.1)) (table_in sheet (λ k. AnyNumber ∷ AnyNumber ∷ []) (variables p.matrix) after)))) left
+          option_map (λ got. (UnboundedPast t got.0, got.1)) (table_in sheet pair_slots (variables p.matrix) after)))) left
       by Pararhs left = with_text (codes " INFEASIBLE PAST ") (with_word fraction_in (λ t. with_text (codes "\n") (λ after.
           option_map (λ got. (InfeasiblePast t got.0, got.1)) (ray_in sheet (variables p.matrix) after)))) left
       by solver left = None

@@ -69,6 +69,13 @@ abbrev pub begins_table_line : List ℕ → Bool
 begins_table_line rest =
     let digits_on = without_leading is_blank rest in begins is_digit digits_on && begins is_blank (without_leading is_digit digits_on)
 
+-- two numbers; and where a variable stands in an interval of a parametric run, with its value and price and their rates
+abbrev pub pair_slots : ℕ → List Slot
+pair_slots k = AnyNumber ∷ AnyNumber ∷ []
+
+abbrev pub part_slots : ℕ → List Slot
+part_slots k = AnyCode ∷ AnyNumber ∷ AnyNumber ∷ AnyNumber ∷ AnyNumber ∷ []
+
 module _ (sheet : Sheet) where
   -- the head of a line: its number in 5 places, a blank, its name in 8 places. It is taken off before anything is split, since a name may
   -- have blanks.
