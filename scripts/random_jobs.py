@@ -5,12 +5,14 @@ solved from by DUAL; basis decks made at random, with their faults. Some of the 
 which mostly makes a fault. Outside the gate: a run of 300 takes some minutes unproved, a few seconds else.
 
 usage: random_jobs.py [--unproved | --itself] [--no-parametric] [--no-revise] [--no-bases] [--no-free] [--no-faults] [FIRST [COUNT]]
+       random_jobs.py [--unproved | --itself] --decks [--no-free] [FIRST [COUNT]]
        jobs FIRST, FIRST + 1, ..; 0 and 300 where nothing is said
 
 It prints how many differ, and the first of them whole; ends with 1 where one does, with 70 where there is no program. --unproved: the
 program as it stands, where no proved one is. --no-parametric: without PARAOBJ and PARARHS; --no-revise: without REVISE; --no-bases: without
-DUAL, PUNCH and INSERT; --no-free: fixed decks alone; --no-faults: no card is changed. --itself: no program runs; what expected_listing.py says is checked by the meaning of the words, where a job is small
-enough (scripts/every_basis.py)."""
+DUAL, PUNCH and INSERT; --no-free: fixed decks alone; --no-faults: no card is changed. --decks: a deck and its revision alone, both written
+out, and in each job a card of one of them is changed. --itself: no program runs; what expected_listing.py says is checked by the meaning of
+the words, where a job is small enough (scripts/every_basis.py)."""
 import collections, random, re, sys
 import every_basis, expected_decks, expected_listing, free_deck, runner
 
@@ -219,9 +221,13 @@ def in_words(chance, deck):
 
 def spoiled(chance, deck):
     "the deck with a card changed, left out, put in twice or elsewhere"
+    return [card[:80].rstrip() for card in changed(chance, deck)]
+
+
+def changed(chance, deck):
     place, how = chance.randrange(len(deck)), chance.random()
     card, others = deck[place], deck[:place] + deck[place + 1:]
-    if how < 0.1:
+    if how < 0.1 or not card:
         return others
     if how < 0.2:
         return deck[:place] + [card] + deck[place:]
@@ -229,13 +235,13 @@ def spoiled(chance, deck):
         other = chance.randrange(len(deck))
         return others[:other] + [card] + others[other:]
     if how < 0.4:
-        return deck[:place] + [f"{card} {chance.choice(WRONG)}".rstrip()] + deck[place + 1:]
+        return deck[:place] + [f"{card} {chance.choice(WRONG)}"] + deck[place + 1:]
     if how < 0.5:
         column = chance.randrange(len(card) + 1)
         return deck[:place] + [card[:column] + chance.choice(("", " ", "X", "-")) + card[column + chance.randint(0, 1):]] + deck[place + 1:]
     begin, end = chance.choice([found.span() for found in re.finditer("[^ ]+", card)])
     word = chance.choice((chance.choice(WRONG), chance.choice(" ".join(deck).split())))
-    return deck[:place] + [f"{card[:begin]}{word:<{end - begin}}{card[end:]}".rstrip()] + deck[place + 1:]
+    return deck[:place] + [f"{card[:begin]}{word:<{end - begin}}{card[end:]}"] + deck[place + 1:]
 
 
 def retold(chance, cards, has_free, has_faults):
@@ -274,6 +280,19 @@ def job(seed, is_parametric, revises, has_bases, has_free, has_faults):
     return "\n".join([*statements("PROGRAM"), *program, *statements("EXIT", "PEND"), *cards]) + "\n"
 
 
+def job_of_decks(seed, has_free):
+    "a deck and its revision, which are written out, one of them with a card or two that are changed"
+    chance = random.Random(f"deck and revision {seed}")
+    cards = Deck(chance).cards()
+    decks = [in_words(chance, deck) if has_free and chance.random() < 0.7 else deck
+             for deck in (cards, revision(chance, expected_listing.Problem(cards))[0])]
+    at = chance.choice((0, 1, 1))
+    for _ in range(chance.choice((1, 1, 2))):
+        decks[at] = spoiled(chance, decks[at])
+    program = statements("PROGRAM", "CONVERT", "BCDOUT", "REVISE", "BCDOUT", "EXIT", "PEND")
+    return "\n".join([*program, *decks[0], *decks[1]]) + "\n"
+
+
 def kind_of(line):
     "what is counted of a listing: verdicts, RANGE, ends of parametric runs, faults"
     if line == "RANGE":
@@ -300,14 +319,15 @@ PARTS = ("--no-parametric", "--no-revise", "--no-bases", "--no-free", "--no-faul
 
 
 def main(words):
-    modes = {word for word in words if word in ("--unproved", "--itself", *PARTS)}
+    modes = {word for word in words if word in ("--unproved", "--itself", "--decks", *PARTS)}
     numbers = [word for word in words if word not in modes]
     if any(not word.isdigit() for word in numbers) or len(numbers) > 2 or {"--unproved", "--itself"} <= modes:
         print(__doc__)
         return 0 if words in (["-h"], ["--help"]) else 64
     first, count = [int(word) for word in numbers] + [0, 300][len(numbers):]
     parts = [word not in modes for word in PARTS]
-    jobs = {str(seed): job(seed, *parts) for seed in range(first, first + count)}
+    made = (lambda seed: job_of_decks(seed, "--no-free" not in modes)) if "--decks" in modes else (lambda seed: job(seed, *parts))
+    jobs = {str(seed): made(seed) for seed in range(first, first + count)}
     expected, verdicts, looked, wrong = {}, collections.Counter(), 0, {}
     for name, text in jobs.items():
         run = every_basis.Watched(text) if "--itself" in modes else expected_listing.Run(text)
