@@ -1,0 +1,15 @@
+-- The opening basis is a basis with nonsingular basics, and the rates are those of the rows.
+use Rattle.std.proofs.Common.{sym, ◌∙◌}
+use Rattle.lp_laws.proofs.Statuses.{basics_of-opening}
+use Rattle.path_laws.proofs.Steps.{opening_is}
+use Rattle.solving_tests.proofs.dual_tests.solve.Goals as goal
+
+pub dual-requires-clause-rates : goal.dual-requires-clause-rates
+dual-requires-clause-rates c =
+    let at = opening_is c.args.lp.now in
+    rw c.in_ok-basis.ensures (record {
+      is_basis = at.is_basis;
+      nonsingular = at.nonsingular;
+      same_matrix = c.in_ok-rates.ensures.matrix;
+      same_basics = c.in_ok-rates.ensures.basics ∙ sym (basics_of-opening c.args.lp.now);
+    })
