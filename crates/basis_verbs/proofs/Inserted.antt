@@ -44,14 +44,15 @@ use Rattle.run_machine.specs.declared.selecting.Refusal.{Refusal}
 use Rattle.run_machine.specs.declared.selecting.Refusal.TheVariants.{Fault, Overflow, NoMemory}
 use Rattle.run_machine.specs.Choosing.{IsUnselected}
 use Rattle.run_machine.specs.Ends.{end_shown}
-use Rattle.run_machine.specs.Kept.{Setup}
-use Rattle.run_machine.specs.Machines.{Machine}
+use Rattle.run_setup.specs.Kept.{Setup}
+use Rattle.run_setup.specs.Machines.{Machine}
 use Rattle.run_machine.specs.Singular.{IsSheetOf, lines_shown}
-use Rattle.run_machine.specs.Standing.{IsReady, IsSolved, IsPresent, Stands, IsSound}
-use Rattle.run_machine.specs.Statements.{Executes}
-use Rattle.run_machine.proofs.Giving.{gives_fault, gives_found, quietly, loudly, cut_off}
-use Rattle.run_machine.proofs.Selected.{same_matrix}
-use Rattle.run_machine.proofs.Present.{present_with, ready_solved}
+use Rattle.run_setup.specs.Standing.{IsReady, IsSolved, IsPresent, Stands, IsSound}
+use Rattle.run_setup.specs.Statements.{Executes}
+use Rattle.run_machine.proofs.Giving.{quietly, loudly, cut_off}
+use Rattle.run_setup.proofs.Giving.{gives_fault, gives_found}
+use Rattle.run_setup.proofs.Selected.{same_matrix}
+use Rattle.run_setup.proofs.Present.{present_with, ready_solved}
 use Rattle.basis_verbs.specs.declared.insert.Given.{Given}
 use Rattle.basis_verbs.specs.declared.insert.Given.TheVariants as given
 use Rattle.basis_verbs.specs.declared.insert.Found.TheVariants as found

@@ -25,10 +25,10 @@ use Rattle.run_machine.specs.declared.act.Halt.TheVariants as halt
 use Rattle.run_machine.specs.declared.selecting.Refusal.{Refusal}
 use Rattle.run_machine.specs.declared.selecting.Refusal.TheVariants.{Fault}
 use Rattle.run_machine.specs.Choosing.{IsUnselected, refused_act}
-use Rattle.run_machine.specs.Kept.{Setup}
-use Rattle.run_machine.specs.Machines.{Machine}
-use Rattle.run_machine.specs.Standing.{Stands}
-use Rattle.run_machine.specs.Punching.{Performs}
+use Rattle.run_setup.specs.Kept.{Setup}
+use Rattle.run_setup.specs.Machines.{Machine}
+use Rattle.run_setup.specs.Standing.{Stands}
+use Rattle.run_setup.specs.Statements.{Performs}
 use Rattle.run_machine.proofs.Punching.{punches_nothing, wrote, stopped}
 use Rattle.basis_verbs.proofs.Selecting.{without_setup, shown, selected_gives, unselected}
 

@@ -17,12 +17,13 @@ use Rattle.run_definitions.specs.Verbs.{or_selection_fault, selects_present, ver
 use Rattle.run_machine.specs.declared.selecting.Refusal.{Refusal}
 use Rattle.run_machine.specs.declared.selecting.Refusal.TheVariants.{Fault, Overflow, NoMemory}
 use Rattle.run_machine.specs.Choosing.{HasSelectionFault, HasSelectionOverflow, IsUnselected, refused_act}
-use Rattle.run_machine.specs.Kept.{Setup}
-use Rattle.run_machine.specs.Machines.{Machine}
-use Rattle.run_machine.specs.Standing.{IsReady, ShowsSetup, Stands}
-use Rattle.run_machine.specs.Statements.{Executes}
-use Rattle.run_machine.proofs.Giving.{gives_fault, gives_found, gives_unselected, gives_selected, quietly}
-use Rattle.run_machine.proofs.Present.{present_with, IsPresentOf, present_at}
+use Rattle.run_setup.specs.Kept.{Setup}
+use Rattle.run_setup.specs.Machines.{Machine}
+use Rattle.run_setup.specs.Standing.{IsReady, ShowsSetup, Stands}
+use Rattle.run_setup.specs.Statements.{Executes}
+use Rattle.run_machine.proofs.Giving.{quietly}
+use Rattle.run_setup.proofs.Giving.{gives_fault, gives_found, gives_unselected, gives_selected}
+use Rattle.run_setup.proofs.Present.{present_with, IsPresentOf, present_at}
 
 -- the setup of a machine is ready
 pub ready_of : (file : Filed) (kept : Option Setup) (setup : Setup) → kept ≡ Some setup → IfSome kept (IsReady file) → IsReady file setup

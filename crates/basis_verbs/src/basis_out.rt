@@ -2,8 +2,8 @@
 ghost use Rattle.std.specs.Prelude.{ℕ, List, IfSome};
 ghost use Rattle.control_definitions.specs.Program as program;
 ghost use Rattle.answer_definitions.specs.Real.{linear_programming};
-ghost use Rattle.run_machine.specs.Standing.{IsReady};
-ghost use Rattle.run_machine.specs.Punching.{Performs};
+ghost use Rattle.run_setup.specs.Standing.{IsReady};
+ghost use Rattle.run_setup.specs.Statements.{Performs};
 
 use basis_deck::punch_basis;
 use job_devices::Sink;

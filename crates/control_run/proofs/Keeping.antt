@@ -5,9 +5,10 @@ use Rattle.listing_definitions.specs.declared.Mark.{Mark}
 use Rattle.control_definitions.specs.Cells.{Cells}
 use Rattle.run_machine.specs.declared.finding.Finding.{Finding}
 use Rattle.run_machine.specs.declared.finding.Finding.TheVariants.{Refused, Overflow, WrongPrices, Limit, Ended, Shown, Swept}
-use Rattle.run_machine.specs.Machines.{Machine}
-use Rattle.run_machine.specs.Kept.{Setup}
-use Rattle.run_machine.specs.Standing.{AreDemands, IsReady, IsSolved, IsSound}
+use Rattle.run_setup.specs.Machines.{Machine}
+use Rattle.run_setup.specs.Kept.{Setup}
+use Rattle.run_machine.specs.Standing.{AreDemands}
+use Rattle.run_setup.specs.Standing.{IsReady, IsSolved, IsSound}
 use Rattle.run_machine.specs.Findings.{IfEnded, mark_left}
 use Rattle.control_run.specs.Sweeping.{cells_left}
 

@@ -24,11 +24,11 @@ use Rattle.report_text.specs.Verdicts.{verdict_shown, check_shown}
 use Rattle.present_answers.specs.declared.path.PathReport.{PathReport}
 use Rattle.present_answers.specs.Reports.{sheet_shown, RuleIsReached, IsReached, IsDualReached}
 use Rattle.run_definitions.specs.State.{Present, gone_through}
-use Rattle.run_machine.specs.Kept.{Setup}
-use Rattle.run_machine.specs.Standing.{IsPresent}
+use Rattle.run_setup.specs.Kept.{Setup}
+use Rattle.run_setup.specs.Standing.{IsPresent}
 use Rattle.control_run.specs.Found.{PathReaches}
 use Rattle.sweep_laws.proofs.Runs.{last_of-append}
-use Rattle.run_machine.proofs.Present.{IsPresentOf, present_with}
+use Rattle.run_setup.proofs.Present.{IsPresentOf, present_with}
 
 module _ (problem : Problem ℕ) (setup : Setup) (shown : Option Present) (p : IsPresentOf problem setup shown) (lp : LinearProgram) (same : matrix_of problem ≡ lp.matrix) where
   -- the present basis after a path

@@ -35,21 +35,23 @@ use Rattle.run_machine.specs.declared.act.Halt.TheVariants as halt
 use Rattle.run_machine.specs.declared.end.Place.{Place as OwnPlace}
 use Rattle.run_machine.specs.declared.finding.Finding.{Finding}
 use Rattle.run_machine.specs.declared.finding.Finding.TheVariants.{Overflow, Shown}
-use Rattle.run_machine.specs.Machines.{Machine}
-use Rattle.run_machine.specs.Kept.{Setup}
+use Rattle.run_setup.specs.Machines.{Machine}
+use Rattle.run_setup.specs.Kept.{Setup}
 use Rattle.run_machine.specs.declared.selecting.Refusal.TheVariants.{Fault}
 use Rattle.run_machine.specs.Ends.{place_shown}
 use Rattle.answer_definitions.specs.Real.{linear_programming}
-use Rattle.run_machine.specs.Standing.{IsSelected, IsSolved, ShowsSetup, Stands}
-use Rattle.run_machine.specs.Statements.{Comes, Executes}
+use Rattle.run_machine.specs.Standing.{IsSelected}
+use Rattle.run_setup.specs.Standing.{IsSolved, ShowsSetup, Stands}
+use Rattle.run_setup.specs.Statements.{Comes, Executes}
 use Rattle.run_machine.specs.Choosing.{refused_act}
 use Rattle.run_machine.specs.Findings.{TellsFinding, act_of}
 use Rattle.control_run.specs.Found.{LinesFound, shown, overflows, Shows}
-use Rattle.run_machine.proofs.Selected.{same_matrix}
-use Rattle.run_machine.proofs.Giving.{gives_fault, gives_found, gives_selected, quietly}
+use Rattle.run_setup.proofs.Selected.{same_matrix}
+use Rattle.run_machine.proofs.Giving.{quietly}
+use Rattle.run_setup.proofs.Giving.{gives_fault, gives_found, gives_selected}
 use Rattle.control_run.proofs.Telling.{told_executes, cut_executes}
 use Rattle.control_run.proofs.Present.{lie_later}
-use Rattle.run_machine.proofs.Present.{IsPresentOf, lie_up_to, one_problem, present_at, present_with}
+use Rattle.run_setup.proofs.Present.{IsPresentOf, lie_up_to, one_problem, present_at, present_with}
 
 -- ---- the lines of a basis
 

@@ -3,9 +3,9 @@ ghost use Rattle.std.specs.Prelude.{◌≡◌, ◌≤◌, length};
 ghost use Rattle.control_verbs.specs.Shown.{shown};
 ghost use Rattle.control_compiler.specs.Valid.{IsProgram};
 ghost use Rattle.answer_definitions.specs.Real.{linear_programming};
-ghost use Rattle.run_machine.specs.Standing.{IsSound};
+ghost use Rattle.run_setup.specs.Standing.{IsSound};
 ghost use Rattle.run_machine.specs.Statements.{IsSoundVerb};
-ghost use Rattle.run_machine.specs.Punching.{Performs};
+ghost use Rattle.run_setup.specs.Statements.{Performs};
 ghost use Rattle.control_run.specs.Running.{Steps};
 
 use crate::parametric::{sweep_objective, sweep_rhs};

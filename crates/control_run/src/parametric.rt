@@ -14,8 +14,9 @@ ghost use Rattle.report_text.specs.Parametric.{IsParametric};
 ghost use Rattle.answer_definitions.specs.Real.{linear_programming};
 ghost use Rattle.present_answers.specs.Reports.{sheet_shown};
 ghost use Rattle.present_answers.specs.RunReports.{IsAnswered, IsPrintable};
-ghost use Rattle.run_machine.specs.Standing.{AreDemands, IsReady, IsSound};
-ghost use Rattle.run_machine.specs.Statements.{Executes};
+ghost use Rattle.run_machine.specs.Standing.{AreDemands};
+ghost use Rattle.run_setup.specs.Standing.{IsReady, IsSound};
+ghost use Rattle.run_setup.specs.Statements.{Executes};
 ghost use Rattle.run_machine.specs.Findings.{TellsFinding};
 ghost use Rattle.control_run.specs.Sweeping.{verb_of, sweep_shown, Serves, StopsSweep, SweepFinds, Sweeps, IsRunOverflow, value_left, cells_left};
 

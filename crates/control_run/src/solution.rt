@@ -11,8 +11,8 @@ ghost use Rattle.basis_values.specs.Calls.{HasRates, KeepsRates};
 ghost use Rattle.answer_definitions.specs.Sections.{IsShown};
 ghost use Rattle.present_answers.specs.Answers.{sheet_shown, AreShown};
 ghost use Rattle.answer_definitions.specs.Real.{linear_programming};
-ghost use Rattle.run_machine.specs.Standing.{IsReady, IsSolved, IsSound};
-ghost use Rattle.run_machine.specs.Statements.{Executes};
+ghost use Rattle.run_setup.specs.Standing.{IsReady, IsSolved, IsSound};
+ghost use Rattle.run_setup.specs.Statements.{Executes};
 ghost use Rattle.run_machine.specs.Findings.{TellsFinding};
 ghost use Rattle.control_run.specs.Found.{LinesFound, Shows};
 

@@ -14,8 +14,9 @@ ghost use Rattle.report_text.specs.Verdicts.{IsOutcome, verdict_shown, check_sho
 ghost use Rattle.present_answers.specs.Reports.{sheet_shown};
 ghost use Rattle.run_definitions.specs.Verbs.{mark_of};
 ghost use Rattle.answer_definitions.specs.Real.{linear_programming};
-ghost use Rattle.run_machine.specs.Standing.{AreDemands, IsReady, IsSolved, IsSound};
-ghost use Rattle.run_machine.specs.Statements.{Executes};
+ghost use Rattle.run_machine.specs.Standing.{AreDemands};
+ghost use Rattle.run_setup.specs.Standing.{IsReady, IsSolved, IsSound};
+ghost use Rattle.run_setup.specs.Statements.{Executes};
 ghost use Rattle.run_machine.specs.Findings.{TellsFinding, IfEnded};
 ghost use Rattle.control_run.specs.Found.{verb_of, solver_of, limit_of, PathReaches, PathFinds, Finds};
 

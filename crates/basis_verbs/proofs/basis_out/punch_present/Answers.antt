@@ -1,7 +1,7 @@
 -- PUNCH punches the deck of the present basis, and prints its line.
 use Rattle.std.proofs.Common.{Some, sym, ap, ◌∙◌}
 use Rattle.std.proofs.lemmas.Result.{err_from_is_err_and}
-use Rattle.run_machine.proofs.Present.{ready_rates}
+use Rattle.run_setup.proofs.Present.{ready_rates}
 use Rattle.basis_verbs.proofs.Selecting.{ready_of, stays_on_file}
 use Rattle.basis_verbs.proofs.Punched.{no_setup, not_selected, deck_cut, deck_punched, deck_line_cut}
 use Rattle.basis_verbs.proofs.basis_out.punch_present.Goals as goal

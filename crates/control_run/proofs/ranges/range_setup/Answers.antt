@@ -1,8 +1,8 @@
 use Rattle.std.proofs.Common.{sym, subst}
-use Rattle.run_machine.specs.Standing.{IsReady}
+use Rattle.run_setup.specs.Standing.{IsReady}
 use Rattle.control_run.proofs.Ranging.{ranges_at}
 use Rattle.control_run.proofs.ranges.range_setup.Goals as goal
-use Rattle.run_machine.proofs.Present.{ready_columns, ready_rows, ready_unchanged}
+use Rattle.run_setup.proofs.Present.{ready_columns, ready_rows, ready_unchanged}
 
 pub range_basis-requires-clause-sheet : goal.range_basis-requires-clause-sheet
 range_basis-requires-clause-sheet g c =

@@ -4,13 +4,13 @@ use Rattle.std.proofs.lemmas.Result.{err_from_is_err_and}
 use Rattle.lp_definitions.specs.LinearProgram.{IsLinearProgram}
 use Rattle.question_definitions.specs.Answers.{Sheet}
 use Rattle.run_definitions.specs.State.{choice_of}
-use Rattle.run_machine.specs.Kept.{Setup}
-use Rattle.run_machine.specs.Standing.{IsReady, IsSolved}
-use Rattle.run_machine.proofs.Selected.{no_change}
+use Rattle.run_setup.specs.Kept.{Setup}
+use Rattle.run_setup.specs.Standing.{IsReady, IsSolved}
+use Rattle.run_setup.proofs.Selected.{no_change}
 use Rattle.control_run.specs.Found.{solver_of, limit_of}
 use Rattle.control_run.proofs.Solving_steps.{refusal_told, refusal_ends, solved_ends, path_told}
 use Rattle.control_run.proofs.solving.find.Goals as goal
-use Rattle.run_machine.proofs.Present.{as_many_columns, as_many_rows, now_selected, ready_again, ready_rates, ready_solved}
+use Rattle.run_setup.proofs.Present.{as_many_columns, as_many_rows, now_selected, ready_again, ready_rates, ready_solved}
 
 pub returns-in-Err-clause-tells : goal.returns-in-Err-clause-tells
 returns-in-Err-clause-tells g c =
