@@ -27,7 +27,7 @@ use Rattle.run_machine.specs.Choosing.{HasSelectionFault, HasSelectionOverflow, 
 use Rattle.run_machine.specs.Ends.{place_shown}
 use Rattle.answer_definitions.specs.Real.{linear_programming}
 use Rattle.run_machine.specs.Standing.{AreDemands}
-use Rattle.run_setup.specs.Standing.{IsReady, ShowsSetup, Stands}
+use Rattle.run_setup.specs.Standing.{IsPresent, IsReady, ShowsSetup, Stands}
 use Rattle.run_setup.specs.Statements.{Comes, Executes}
 use Rattle.run_machine.specs.Findings.{TellsFinding, act_of, mark_left}
 use Rattle.control_run.specs.declared.solving.SolvingVerb.{SolvingVerb}
@@ -75,7 +75,7 @@ solving_without verb card state none =
 pub solving_no_setup : (verb : SolvingVerb) (card : ℕ) {P : Type 0} (written stopped_at : P → Option (List ℕ)) (faults refusals : P → ℕ) (cards : List (List ℕ)) (machine : Machine) (print : P) → machine.setup ≡ None →
     Executes linear_programming (verb_of verb) card written stopped_at faults refusals print print cards machine machine (refused_act card (Fault NoSetup))
 solving_no_setup verb card written stopped_at faults refusals cards machine print none =
-    quietly linear_programming (verb_of verb) card written stopped_at faults refusals cards machine print (λ position executed state s.
+    quietly IsPresent (Gives linear_programming) (verb_of verb) card written stopped_at faults refusals cards machine print (λ position executed state s.
     solving_without verb card state (subst (λ (kept : Option Setup). ShowsSetup machine.file kept state.setup) none s.setup))
 
 -- with a setup, whose problem is on file

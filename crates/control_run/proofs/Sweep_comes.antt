@@ -30,7 +30,7 @@ use Rattle.control_run.specs.declared.sweep.SweepVerb.TheVariants.{Paraobj, Para
 use Rattle.run_machine.specs.Choosing.{HasSelectionFault, HasSelectionOverflow, refused_act}
 use Rattle.run_machine.specs.Ends.{place_shown}
 use Rattle.run_machine.specs.Standing.{AreDemands}
-use Rattle.run_setup.specs.Standing.{IsReady, ShowsSetup, Stands}
+use Rattle.run_setup.specs.Standing.{IsPresent, IsReady, ShowsSetup, Stands}
 use Rattle.run_setup.specs.Statements.{Comes, Executes}
 use Rattle.run_machine.specs.Findings.{TellsFinding, act_of}
 use Rattle.control_run.specs.Sweeping.{verb_of, name_moved, change_of, change_fault, IsAsked, no_last, below, IsAskFault, no_change, no_value, SweepReaches, SweepOverflows, opened, chained, at_limit, overflows, Sweeps, unselected, too_large, not_asked, swept, cells_left}
@@ -110,7 +110,7 @@ sweep_gives Pararhs card state outcome g = g
 pub sweep_no_setup : (verb : SweepVerb) (card : ℕ) {P : Type 0} (written stopped_at : P → Option (List ℕ)) (faults refusals : P → ℕ) (cards : List (List ℕ)) (machine : Machine) (print : P) → machine.setup ≡ None →
     Executes linear_programming (verb_of verb) card written stopped_at faults refusals print print cards machine machine (refused_act card (Fault NoSetup))
 sweep_no_setup verb card written stopped_at faults refusals cards machine print none =
-    quietly linear_programming (verb_of verb) card written stopped_at faults refusals cards machine print (λ position executed state s.
+    quietly IsPresent (Gives linear_programming) (verb_of verb) card written stopped_at faults refusals cards machine print (λ position executed state s.
     sweep_gives verb card state (stops (endings.VerbStop (record { fault = NoSetup; card = card })))
     (gives_fault card NoSetup state.setup (with_setup verb card state) (subst (λ (kept : Option Setup). ShowsSetup machine.file kept state.setup) none s.setup)))
 

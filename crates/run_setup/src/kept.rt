@@ -39,6 +39,8 @@ impl<E: Engine> Kept for Setup<E> {
     ghost use Rattle.run_setup.specs.Standing.{IsPresent, IsReady, IsSolved};
 
     ghost shows = { IsPresent };
+
     ghost ready = { IsReady };
+
     ghost solved = { IsSolved };
 }
