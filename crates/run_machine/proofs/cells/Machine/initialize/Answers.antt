@@ -1,5 +1,5 @@
 use Rattle.run_machine.proofs.Deciding.{initialz_decides, initialz_sound}
-use Rattle.run_machine.proofs.cells.Machine+S.initialize.Goals as goal
+use Rattle.run_machine.proofs.cells.Machine.initialize.Goals as goal
 
 pub returns-clause-acts : goal.returns-clause-acts
 returns-clause-acts g c = λ card. initialz_decides g.S.Kept.shows card c.args.self.now c.new-self.result c.new-self.ensures

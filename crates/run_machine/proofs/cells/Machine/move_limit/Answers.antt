@@ -1,5 +1,5 @@
 use Rattle.run_machine.proofs.Deciding.{limit_decides, limit_sound}
-use Rattle.run_machine.proofs.cells.Machine+S.move_limit.Goals as goal
+use Rattle.run_machine.proofs.cells.Machine.move_limit.Goals as goal
 
 pub returns-clause-acts : goal.returns-clause-acts
 returns-clause-acts g c = λ card. limit_decides g.S.Kept.shows c.args.limit card c.args.self.now _ c.move_limit.ensures

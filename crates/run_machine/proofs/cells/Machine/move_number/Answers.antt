@@ -1,5 +1,5 @@
 use Rattle.run_machine.proofs.Deciding.{number_decides, number_sound}
-use Rattle.run_machine.proofs.cells.Machine+S.move_number.Goals as goal
+use Rattle.run_machine.proofs.cells.Machine.move_number.Goals as goal
 
 pub returns-clause-acts : goal.returns-clause-acts
 returns-clause-acts g c = λ card. number_decides g.S.Kept.shows c.args.cell c.args.value card c.args.self.now _ c.move_number.ensures

@@ -1,5 +1,5 @@
 use Rattle.run_machine.proofs.Deciding.{demand_decides, demand_sound}
-use Rattle.run_machine.proofs.cells.Machine+S.set_demand.Goals as goal
+use Rattle.run_machine.proofs.cells.Machine.set_demand.Goals as goal
 
 pub returns-clause-acts : goal.returns-clause-acts
 returns-clause-acts g c = λ card. demand_decides g.S.Kept.shows c.args.demand c.args.position card c.args.self.now _ c.set_demand.ensures
