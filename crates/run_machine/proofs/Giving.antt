@@ -13,13 +13,13 @@ use Rattle.listing_definitions.specs.Report.{Report}
 use Rattle.listing_definitions.specs.Text.{report_text}
 use Rattle.listing_definitions.specs.Ending.{VerbStop}
 use Rattle.run_definitions.specs.State.{Present, State, problem_of}
-use Rattle.run_definitions.specs.Moves.{Gain, Nothing, Prints, punched_by, Outcome, stops, Move, Settles, or_fault, gain_of}
+use Rattle.run_definitions.specs.Moves.{Gain, Nothing, Prints, punched_by, Outcome, stops, Move, Settles, or_fault, gain_of, gain_text}
 use Rattle.run_definitions.specs.Verbs.{verb_move}
 use Rattle.run_machine.specs.declared.act.Act.{Act}
 use Rattle.run_machine.specs.declared.act.Halt.TheVariants as halt
 use Rattle.run_machine.specs.declared.machine.Machine.{Machine}
 use Rattle.run_machine.specs.Standing.{filed, Stands}
-use Rattle.run_machine.specs.Statements.{Comes, Executes, gain_text}
+use Rattle.run_machine.specs.Statements.{Comes, Executes}
 
 -- the problem that a cell names, or the one filed last, is the same in the state
 pub problem_shown : {K : Type 0} {Shows : Filed → K → Present → Type 0} {cards : List (List ℕ)} {machine : Machine K} {position executed : ℕ} {state : State} → Stands Shows cards machine position executed state →
