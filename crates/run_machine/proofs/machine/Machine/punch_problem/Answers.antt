@@ -2,7 +2,7 @@
 use Rattle.std.proofs.Common.{sym}
 use Rattle.std.proofs.lemmas.Result.{err_from_is_err_and}
 use Rattle.run_machine.proofs.Punching.{no_problem_punched, deck_cut, deck_punched, deck_line_cut}
-use Rattle.run_machine.proofs.bcdout.Machine.punch_problem.Goals as goal
+use Rattle.run_machine.proofs.machine.Machine.punch_problem.Goals as goal
 
 pub returns-in_default : goal.returns-in_default
 returns-in_default g c = λ cards.

@@ -1,7 +1,7 @@
 -- What REVISE finds.
 use Rattle.std.proofs.Common.{sym}
 use Rattle.run_machine.proofs.Revising.{finds_no_problem, finds_no_revision, finds_a_revision}
-use Rattle.run_machine.proofs.revise.Machine.revised.Goals as goal
+use Rattle.run_machine.proofs.machine.Machine.revised.Goals as goal
 
 pub returns-in_default : goal.returns-in_default
 returns-in_default g c = finds_no_problem g.S.Kept.shows c.args.card c.args.cards.now c.args.self.now (sym c.in_default.ensures)

@@ -1,6 +1,6 @@
 use Rattle.std.proofs.lemmas.Result.{err_from_is_err_and}
 use Rattle.run_machine.proofs.Titling.{title_done, title_cut}
-use Rattle.run_machine.proofs.title.Machine.print_title.Goals as goal
+use Rattle.run_machine.proofs.machine.Machine.print_title.Goals as goal
 
 pub returns-in_err-text_of : goal.returns-in_err-text_of
 returns-in_err-text_of g c = λ card cards.

@@ -4,7 +4,7 @@ use Rattle.run_definitions.specs.Moves.{Settles}
 use Rattle.run_machine.specs.Describing.{verb_of}
 use Rattle.run_machine.proofs.Giving.{quietly}
 use Rattle.run_machine.proofs.Filing.{filed_done, filed_cut}
-use Rattle.run_machine.proofs.taking.Machine.file_described.Goals as goal
+use Rattle.run_machine.proofs.machine.Machine.file_described.Goals as goal
 
 pub returns-in-Ends-clause-acts : goal.returns-in-Ends-clause-acts
 returns-in-Ends-clause-acts g c =
