@@ -44,14 +44,15 @@ use Rattle.run_machine.specs.declared.selecting.Refusal.{Refusal}
 use Rattle.run_machine.specs.declared.selecting.Refusal.TheVariants.{Fault, Overflow, NoMemory}
 use Rattle.run_machine.specs.Choosing.{IsUnselected}
 use Rattle.run_machine.specs.Ends.{end_shown}
-use Rattle.run_machine.specs.Kept.{Setup}
-use Rattle.run_machine.specs.Machines.{Machine}
+use Rattle.run_setup.specs.Kept.{Setup}
+use Rattle.run_setup.specs.Machines.{Machine}
 use Rattle.run_machine.specs.Singular.{IsSheetOf, lines_shown}
-use Rattle.run_machine.specs.Standing.{IsReady, IsSolved, IsPresent, Stands, IsSound}
-use Rattle.run_machine.specs.Statements.{Executes}
-use Rattle.run_machine.proofs.Giving.{gives_fault, gives_found, quietly, loudly, cut_off}
-use Rattle.run_machine.proofs.Selected.{same_matrix}
-use Rattle.run_machine.proofs.Present.{present_with, ready_solved}
+use Rattle.run_setup.specs.Standing.{IsReady, IsSolved, IsPresent, Stands, IsSound}
+use Rattle.run_setup.specs.Statements.{Executes}
+use Rattle.run_machine.proofs.Giving.{quietly, loudly, cut_off}
+use Rattle.run_setup.proofs.Giving.{gives_fault, gives_found}
+use Rattle.run_setup.proofs.Selected.{same_matrix}
+use Rattle.run_setup.proofs.Present.{present_with, ready_solved}
 use Rattle.basis_verbs.specs.declared.insert.Given.{Given}
 use Rattle.basis_verbs.specs.declared.insert.Given.TheVariants as given
 use Rattle.basis_verbs.specs.declared.insert.Found.TheVariants as found
@@ -181,15 +182,16 @@ module _ (card : ℕ) (cards : List (List ℕ)) (machine : Machine) where
               cells = s.cells;
               file = s.file;
               decks = ap (λ (n : ℕ). decks_of (drop n (numbered_cards cards))) (one_before i);
-              setup = record {
-                problem = problem;
-                on_file = ap (λ (n : Name). filed_under n machine.file) i.name ∙ on_file;
-                opening = t;
-                steps = [];
-                is_shown = ap (λ o. Some (present_with problem o t [])) (sym i.options);
-                reached = sym i.same_basis;
-                lie = subst (λ (a : Matrix). LieIn a new.engine.waypoints (t ∷ [])) (sym (same_matrix problem (choice_of machine.cells setup.options) lp ok)) (lies lp.matrix t new.engine.waypoints i.within);
-              };
+              setup = (
+                record (there s) { opening = t; steps = [] },
+                refl,
+                record {
+                  on_file = ap (λ (n : Name). filed_under n machine.file) i.name ∙ on_file;
+                  has_options = sym i.options;
+                  reached = sym i.same_basis;
+                  lie = subst (λ (a : Matrix). LieIn a new.engine.waypoints (t ∷ [])) (sym (same_matrix problem (choice_of machine.cells setup.options) lp ok)) (lies lp.matrix t new.engine.waypoints i.within);
+                },
+              );
               mark = refl;
             },
           );
@@ -230,7 +232,7 @@ module _ (card : ℕ) (cards : List (List ℕ)) (machine : Machine) where
 -- ---- what is found decides what the statement does
 
 -- without a setup nothing is solved
-nothing_solved : (cells : Cells) (file : Filed) (mark : Option Mark) → IfSome mark (λ m. IfSome None (IsSolved m cells file))
+nothing_solved : (cells : Cells) (file : Filed) (mark : Option Mark) → IfSome mark (λ m. IfSome None (IsSolved m cells.xobj cells.xrhs file))
 nothing_solved cells file None = tt
 nothing_solved cells file (Some mark) = tt
 
@@ -241,18 +243,18 @@ module _ (card : ℕ) {P : Type 0} (written stopped_at : P → Option (List ℕ)
   pub ends_quietly : (print : P) (new : Machine) (end : End) (ending : endings.Ending) → end_shown end ≡ ending → EndsSo card cards machine ending →
       Executes linear_programming Insert card written stopped_at faults refusals print print cards machine new (Ok (act.Ends end))
   ends_quietly print new end ending is ends =
-      quietly linear_programming Insert card written stopped_at faults refusals cards machine print
+      quietly IsPresent (Gives linear_programming) Insert card written stopped_at faults refusals cards machine print
       (λ position executed state s. subst (λ (e : endings.Ending). Gives linear_programming card (verb_move Insert card state) (stops e)) (sym is) (ends position executed state s))
 
   module _ (setup : Setup) (deck : Name) (basic next_card : ℕ) (i : IsInserted card cards machine setup deck basic next_card) where
     pub inserted_done : {from to : P} → Writes {T = Unit {0}} written stopped_at faults refusals from to (Ok tt) (report_text (Inserted deck basic)) →
         Executes linear_programming Insert card written stopped_at faults refusals from to cards machine (record machine { setup = Some setup; decks_from = next_card; mark = None }) (Ok act.Next)
-    inserted_done writes = loudly linear_programming Insert card written stopped_at faults refusals cards machine (Inserted deck basic) i.comes writes
+    inserted_done writes = loudly IsPresent (Gives linear_programming) Insert card written stopped_at faults refusals cards machine (Inserted deck basic) i.comes writes
 
     pub inserted_cut : {from to : P} (new : Machine) (stop : WriteStop) → Writes {T = Unit {0}} written stopped_at faults refusals from to (Err stop) (report_text (Inserted deck basic)) →
         Executes linear_programming Insert card written stopped_at faults refusals from to cards machine new (Err (halt.Print stop))
     inserted_cut new stop writes =
-        cut_off linear_programming Insert card written stopped_at faults refusals cards machine new stop (Inserted deck basic)
+        cut_off IsPresent (Gives linear_programming) Insert card written stopped_at faults refusals cards machine new stop (Inserted deck basic)
         (λ position executed state s. let c = i.comes position executed state s in (next (Prints (Inserted deck basic)) c.0, c.1, refl)) writes
 
     pub sound_inserted : IsSound cards machine → IsSound cards (record machine { setup = Some setup; decks_from = next_card; mark = None })

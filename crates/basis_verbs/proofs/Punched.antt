@@ -25,10 +25,10 @@ use Rattle.run_machine.specs.declared.act.Halt.TheVariants as halt
 use Rattle.run_machine.specs.declared.selecting.Refusal.{Refusal}
 use Rattle.run_machine.specs.declared.selecting.Refusal.TheVariants.{Fault}
 use Rattle.run_machine.specs.Choosing.{IsUnselected, refused_act}
-use Rattle.run_machine.specs.Kept.{Setup}
-use Rattle.run_machine.specs.Machines.{Machine}
-use Rattle.run_machine.specs.Standing.{Stands}
-use Rattle.run_machine.specs.Punching.{Performs}
+use Rattle.run_setup.specs.Kept.{Setup}
+use Rattle.run_setup.specs.Machines.{Machine}
+use Rattle.run_setup.specs.Standing.{IsPresent, Stands}
+use Rattle.run_setup.specs.Statements.{Performs}
 use Rattle.run_machine.proofs.Punching.{punches_nothing, wrote, stopped}
 use Rattle.basis_verbs.proofs.Selecting.{without_setup, shown, selected_gives, unselected}
 
@@ -47,14 +47,14 @@ module _ (card : ℕ) {P U : Type 0} (written stopped_at : P → Option (List �
   pub no_setup : (print : P) (punch : U) → machine.setup ≡ None →
       Performs linear_programming Punch card written stopped_at faults refusals print print punch_written punch_stopped_at punch_faults punch_refusals punch punch cards machine machine (refused_act card (Fault NoSetup))
   no_setup print punch none =
-      punches_nothing punch_written punch_stopped_at punch_faults punch_refusals punch linear_programming Punch card written stopped_at faults refusals print print cards machine machine (refused_act card (Fault NoSetup))
+      punches_nothing punch_written punch_stopped_at punch_faults punch_refusals punch IsPresent (Gives linear_programming) Punch card written stopped_at faults refusals print print cards machine machine (refused_act card (Fault NoSetup))
       (without_setup Punch card go (begins card) written stopped_at faults refusals cards machine print none)
 
   module _ (setup : Setup) (is_setup : machine.setup ≡ Some setup) (problem : Problem ℕ) (on_file : filed_under setup.name machine.file ≡ Some problem) where
     pub not_selected : (print : P) (punch : U) (refusal : Refusal) → IsUnselected problem (choice_of machine.cells setup.options) refusal →
         Performs linear_programming Punch card written stopped_at faults refusals print print punch_written punch_stopped_at punch_faults punch_refusals punch punch cards machine machine (refused_act card refusal)
     not_selected print punch refusal u =
-        punches_nothing punch_written punch_stopped_at punch_faults punch_refusals punch linear_programming Punch card written stopped_at faults refusals print print cards machine machine (refused_act card refusal)
+        punches_nothing punch_written punch_stopped_at punch_faults punch_refusals punch IsPresent (Gives linear_programming) Punch card written stopped_at faults refusals print print cards machine machine (refused_act card refusal)
         (unselected Punch card go (begins card) cards machine setup is_setup problem on_file written stopped_at faults refusals print refusal u)
 
     module _ (lp : LinearProgram) (ok : selected problem (choice_of machine.cells setup.options) ≡ Ok lp) where

@@ -17,20 +17,13 @@ use Rattle.run_definitions.specs.Verbs.{or_selection_fault, selects_present, ver
 use Rattle.run_machine.specs.declared.selecting.Refusal.{Refusal}
 use Rattle.run_machine.specs.declared.selecting.Refusal.TheVariants.{Fault, Overflow, NoMemory}
 use Rattle.run_machine.specs.Choosing.{HasSelectionFault, HasSelectionOverflow, IsUnselected, refused_act}
-use Rattle.run_machine.specs.Kept.{Setup}
-use Rattle.run_machine.specs.Machines.{Machine}
-use Rattle.run_machine.specs.Standing.{IsReady, ShowsSetup, Stands}
-use Rattle.run_machine.specs.Statements.{Executes}
-use Rattle.run_machine.proofs.Giving.{gives_fault, gives_found, gives_unselected, gives_selected, quietly}
-use Rattle.run_machine.proofs.Present.{present_with, IsPresentOf, present_at}
-
--- the setup of a machine is ready
-pub ready_of : (file : Filed) (kept : Option Setup) (setup : Setup) → kept ≡ Some setup → IfSome kept (IsReady file) → IsReady file setup
-ready_of file kept setup is h = subst (λ (o : Option Setup). IfSome o (IsReady file)) is h
-
--- its problem is on file
-pub stays_on_file : (file : Filed) (setup : Setup) → IsReady file setup → filed_under setup.name file ≡ None → ⊥
-stays_on_file file setup ready none = let on = ready.on_file in cc
+use Rattle.run_setup.specs.Kept.{Setup}
+use Rattle.run_setup.specs.Machines.{Machine}
+use Rattle.run_setup.specs.Standing.{IsPresent, ShowsSetup, Stands}
+use Rattle.run_setup.specs.Statements.{Executes}
+use Rattle.run_machine.proofs.Giving.{quietly}
+use Rattle.run_setup.proofs.Giving.{gives_fault, gives_found, gives_unselected, gives_selected}
+use Rattle.run_setup.proofs.Present.{present_with, IsPresentOf, present_at}
 
 -- the state has no setup where the machine has none
 pub setup_gone : (cards : List (List ℕ)) (machine : Machine) → machine.setup ≡ None → {position executed : ℕ} {state : State} → Stands cards machine position executed state → state.setup ≡ None
@@ -48,7 +41,7 @@ module _ (verb : Verb ℕ) (card : ℕ) (go : State → Present → LinearProgra
   pub without_setup : {P : Type 0} (written stopped_at : P → Option (List ℕ)) (faults refusals : P → ℕ) (cards : List (List ℕ)) (machine : Machine) (print : P) → machine.setup ≡ None →
       Executes linear_programming verb card written stopped_at faults refusals print print cards machine machine (refused_act card (Fault NoSetup))
   without_setup written stopped_at faults refusals cards machine print none =
-      quietly linear_programming verb card written stopped_at faults refusals cards machine print (λ position executed state s.
+      quietly IsPresent (Gives linear_programming) verb card written stopped_at faults refusals cards machine print (λ position executed state s.
       begins state (stops (endings.VerbStop (record { fault = NoSetup; card = card })))
       (gives_fault card NoSetup state.setup (with_setup state) (setup_gone cards machine none s)))
 
@@ -86,7 +79,7 @@ module _ (verb : Verb ℕ) (card : ℕ) (go : State → Present → LinearProgra
     pub unselected : {P : Type 0} (written stopped_at : P → Option (List ℕ)) (faults refusals : P → ℕ) (print : P) (refusal : Refusal) → IsUnselected problem (choice_of old.cells setup.options) refusal →
         Executes linear_programming verb card written stopped_at faults refusals print print cards old old (refused_act card refusal)
     unselected written stopped_at faults refusals print (Fault fault) u =
-        quietly linear_programming verb card written stopped_at faults refusals cards old print (λ position executed state s. fault_gives s fault u)
+        quietly IsPresent (Gives linear_programming) verb card written stopped_at faults refusals cards old print (λ position executed state s. fault_gives s fault u)
     unselected written stopped_at faults refusals print (Overflow e) u =
-        quietly linear_programming verb card written stopped_at faults refusals cards old print (λ position executed state s. overflow_gives s e u)
+        quietly IsPresent (Gives linear_programming) verb card written stopped_at faults refusals cards old print (λ position executed state s. overflow_gives s e u)
     unselected written stopped_at faults refusals print NoMemory u = refl

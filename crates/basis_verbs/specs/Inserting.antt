@@ -38,11 +38,11 @@ use Rattle.run_machine.specs.declared.end.End.TheVariants as ends
 use Rattle.run_machine.specs.declared.selecting.Refusal.{Refusal}
 use Rattle.run_machine.specs.declared.selecting.Refusal.TheVariants as refusals
 use Rattle.run_machine.specs.Ends.{end_shown}
-use Rattle.run_machine.specs.Kept.{Setup}
-use Rattle.run_machine.specs.Machines.{Machine}
+use Rattle.run_setup.specs.Kept.{Setup}
+use Rattle.run_setup.specs.Machines.{Machine}
 use Rattle.run_machine.specs.Singular.{IsSheetOf, lines_shown}
-use Rattle.run_machine.specs.Standing.{IsReady, Stands}
-use Rattle.run_machine.specs.Statements.{Comes}
+use Rattle.run_setup.specs.Standing.{IsReady, Stands}
+use Rattle.run_setup.specs.Statements.{Comes}
 use Rattle.basis_verbs.specs.declared.insert.Given.{Given}
 use Rattle.basis_verbs.specs.declared.insert.Given.TheVariants as given
 use Rattle.basis_verbs.specs.declared.insert.Found as founds

@@ -2,15 +2,16 @@
 ghost use Rattle.std.specs.Prelude.{ℕ, List, IfSome};
 ghost use Rattle.control_definitions.specs.Program as program;
 ghost use Rattle.answer_definitions.specs.Real.{linear_programming};
-ghost use Rattle.run_machine.specs.Standing.{IsReady};
-ghost use Rattle.run_machine.specs.Punching.{Performs};
+ghost use Rattle.run_setup.specs.Standing.{IsReady};
+ghost use Rattle.run_setup.specs.Statements.{Performs};
 
 use basis_deck::punch_basis;
 use job_devices::Sink;
 use listing_definitions::VerbFault;
 use lp_model::Engine;
 use report_text::{Report, text_of};
-use run_machine::{Act, Halt, Machine, Refusal, Setup, select_present};
+use run_machine::{Act, Halt, Machine, Refusal, select_present};
+use run_setup::Setup;
 use std::alloc::Global;
 
 /// PUNCH: selects by the cells as they stand, punches the deck of the present basis, and prints the number of its cards.
@@ -35,7 +36,7 @@ pub fn punch_present<E: Engine, P: Sink, U: Sink>(
     };
     // a setup's problem stays on file
     let Some(problem) = machine.file.get(&setup.name) else {
-        return Refusal::Fault(VerbFault::NoSetup).act(card);
+        unreachable!();
     };
     let lp = match select_present(alloc, problem, &machine.cells, setup.options) {
         Ok(lp) => lp,

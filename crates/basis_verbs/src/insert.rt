@@ -7,8 +7,8 @@ ghost use Rattle.basis_deck_definitions.specs.Placings.{HasNames};
 ghost use Rattle.basis_deck_definitions.specs.Writing.{basic_columns};
 ghost use Rattle.control_definitions.specs.Program as program;
 ghost use Rattle.answer_definitions.specs.Real.{linear_programming};
-ghost use Rattle.run_machine.specs.Standing.{IsReady, IsSound};
-ghost use Rattle.run_machine.specs.Statements.{Executes};
+ghost use Rattle.run_setup.specs.Standing.{IsReady, IsSound};
+ghost use Rattle.run_setup.specs.Statements.{Executes};
 ghost use Rattle.problem_file.specs.Filed.{filed_under};
 ghost use Rattle.listing_definitions.specs.Ending.{SingularStop};
 ghost use Rattle.lp_definitions.specs.Basis.{IsBasis};
@@ -29,9 +29,8 @@ use mps_convert::problem_name;
 use name_table::Name;
 use problem_file::{Problem, ProblemFile};
 use report_text::{Report, text_of};
-use run_machine::{
-    Act, End, Halt, Machine, Refusal, Setup, SingularBasis, place_at, select_present,
-};
+use run_machine::{Act, End, Halt, Machine, Refusal, SingularBasis, select_present};
+use run_setup::{Setup, place_at};
 use std::alloc::Global;
 use std::mem::replace;
 

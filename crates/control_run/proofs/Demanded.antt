@@ -12,10 +12,11 @@ use Rattle.run_definitions.specs.Verbs.{by_verdict, demanded}
 use Rattle.run_machine.specs.declared.end.End.{End}
 use Rattle.run_machine.specs.declared.end.End.TheVariants as end
 use Rattle.run_machine.specs.declared.finding.Finding.TheVariants.{Ended}
-use Rattle.run_machine.specs.Machines.{Machine}
+use Rattle.run_setup.specs.Machines.{Machine}
 use Rattle.run_machine.specs.Ends.{end_shown}
-use Rattle.run_machine.specs.Standing.{AreDemands, Stands}
-use Rattle.run_machine.specs.Statements.{Follows}
+use Rattle.run_machine.specs.Standing.{AreDemands}
+use Rattle.run_setup.specs.Standing.{Stands}
+use Rattle.run_setup.specs.Statements.{Follows}
 use Rattle.run_machine.specs.Findings.{demanded_act, act_of}
 
 module _ (card : ℕ) (cards : List (List ℕ)) (machine : Machine) (position executed : ℕ) (move : Move) (report : Report) (then : State) (t : Stands cards machine position executed then) where

@@ -5,27 +5,25 @@ use Rattle.listing_definitions.specs.declared.Mark.{Mark}
 use Rattle.control_definitions.specs.Cells.{Cells}
 use Rattle.run_machine.specs.declared.finding.Finding.{Finding}
 use Rattle.run_machine.specs.declared.finding.Finding.TheVariants.{Refused, Overflow, WrongPrices, Limit, Ended, Shown, Swept}
-use Rattle.run_machine.specs.Machines.{Machine}
-use Rattle.run_machine.specs.Kept.{Setup}
-use Rattle.run_machine.specs.Standing.{AreDemands, IsReady, IsSolved, IsSound}
+use Rattle.run_setup.specs.Machines.{Machine}
+use Rattle.run_setup.specs.Kept.{Setup}
+use Rattle.run_machine.specs.Standing.{AreDemands}
+use Rattle.run_setup.specs.Standing.{IsReady, IsSolved, IsSound}
 use Rattle.run_machine.specs.Findings.{IfEnded, mark_left}
 use Rattle.control_run.specs.Sweeping.{cells_left}
 
-pub ready_of : (file : Filed) (kept : Option Setup) (setup : Setup) → kept ≡ Some setup → IfSome kept (IsReady file) → IsReady file setup
-ready_of file kept setup is h = subst (λ (o : Option Setup). IfSome o (IsReady file)) is h
-
 pub solved_of : (cells : Cells) (file : Filed) (mark : Option Mark) (kept : Option Setup) (own : Mark) (setup : Setup) → mark ≡ Some own → kept ≡ Some setup →
-    IfSome mark (λ m. IfSome kept (IsSolved m cells file)) → IsSolved own cells file setup
+    IfSome mark (λ m. IfSome kept (IsSolved m cells.xobj cells.xrhs file)) → IsSolved own cells.xobj cells.xrhs file setup
 solved_of cells file mark kept own setup marked is h =
-    subst (λ (o : Option Setup). IfSome o (IsSolved own cells file)) is (subst (λ (m : Option Mark). IfSome m (λ n. IfSome kept (IsSolved n cells file))) marked h)
+    subst (λ (o : Option Setup). IfSome o (IsSolved own cells.xobj cells.xrhs file)) is (subst (λ (m : Option Mark). IfSome m (λ n. IfSome kept (IsSolved n cells.xobj cells.xrhs file))) marked h)
 
 module _ (cells : Cells) (file : Filed) (setup new : Setup) where
-  while_marked : (mark : Option Mark) (kept : Option Setup) → kept ≡ Some setup → ((m : Mark) → IsSolved m cells file setup → IsSolved m cells file new) →
-      IfSome mark (λ m. IfSome kept (IsSolved m cells file)) → IfSome mark (λ m. IsSolved m cells file new)
+  while_marked : (mark : Option Mark) (kept : Option Setup) → kept ≡ Some setup → ((m : Mark) → IsSolved m cells.xobj cells.xrhs file setup → IsSolved m cells.xobj cells.xrhs file new) →
+      IfSome mark (λ m. IfSome kept (IsSolved m cells.xobj cells.xrhs file)) → IfSome mark (λ m. IsSolved m cells.xobj cells.xrhs file new)
   while_marked None kept is keeps h = tt
-  while_marked (Some mark) kept is keeps h = keeps mark (subst (λ (o : Option Setup). IfSome o (IsSolved mark cells file)) is h)
+  while_marked (Some mark) kept is keeps h = keeps mark (subst (λ (o : Option Setup). IfSome o (IsSolved mark cells.xobj cells.xrhs file)) is h)
 
-  after_finding : (finding : Finding) → IfEnded finding (λ m. IsSolved m cells file new) → IfSome (mark_left finding) (λ m. IsSolved m cells file new)
+  after_finding : (finding : Finding) → IfEnded finding (λ m. IsSolved m cells.xobj cells.xrhs file new) → IfSome (mark_left finding) (λ m. IsSolved m cells.xobj cells.xrhs file new)
   after_finding (Ended own) ends = ends
   after_finding (Refused fault) ends = tt
   after_finding (Overflow e place) ends = tt
@@ -36,7 +34,7 @@ module _ (cells : Cells) (file : Filed) (setup new : Setup) where
 
 module _ (cards : List (List ℕ)) (old : Machine) (setup new : Setup) (ready : IsReady old.file new) (s : IsSound cards old) where
   -- the mark stays
-  pub sound_kept : old.setup ≡ Some setup → ((m : Mark) → IsSolved m old.cells old.file setup → IsSolved m old.cells old.file new) → IsSound cards (record old { setup = Some new })
+  pub sound_kept : old.setup ≡ Some setup → ((m : Mark) → IsSolved m old.cells.xobj old.cells.xrhs old.file setup → IsSolved m old.cells.xobj old.cells.xrhs old.file new) → IsSound cards (record old { setup = Some new })
   sound_kept is keeps = record { first = s.first; last = s.last; demands = s.demands; ready = ready; solved = while_marked old.cells old.file setup new old.mark old.setup is keeps s.solved }
 
   -- there is none
@@ -57,11 +55,11 @@ module _ (cards : List (List ℕ)) (old : Machine) (setup new : Setup) (ready : 
   sound_swept finding cells e = record { first = s.first; last = s.last; demands = subst AreDemands (sym e) (demands_left finding); ready = ready; solved = tt }
 
   -- it is that of a finding
-  pub sound_found : (finding : Finding) (mark : Option Mark) → mark ≡ mark_left finding → IfEnded finding (λ m. IsSolved m old.cells old.file new) → IsSound cards (record old { setup = Some new; mark = mark })
+  pub sound_found : (finding : Finding) (mark : Option Mark) → mark ≡ mark_left finding → IfEnded finding (λ m. IsSolved m old.cells.xobj old.cells.xrhs old.file new) → IsSound cards (record old { setup = Some new; mark = mark })
   sound_found finding mark left ends = record {
     first = s.first;
     last = s.last;
     demands = s.demands;
     ready = ready;
-    solved = subst (λ (m : Option Mark). IfSome m (λ n. IsSolved n old.cells old.file new)) (sym left) (after_finding old.cells old.file setup new finding ends);
+    solved = subst (λ (m : Option Mark). IfSome m (λ n. IsSolved n old.cells.xobj old.cells.xrhs old.file new)) (sym left) (after_finding old.cells old.file setup new finding ends);
   }

@@ -1,5 +1,5 @@
 -- The path of bases since SETUP or INSERT, and the waypoints that lie in it.
-use Rattle.std.proofs.Common.{◌≡◌, ℕ, List, [], ◌∷◌, ◌++◌, Option, Some, map, get_or, inl, inr, sym, ap, subst, ◌∙◌}
+use Rattle.std.proofs.Common.{◌≡◌, ℕ, List, [], ◌∷◌, ◌++◌, Option, Some, map, get_or, inl, inr, refl, sym, ap, subst, ◌∙◌}
 use Rattle.std.proofs.lemmas.List.{append_assoc}
 use Rattle.std.proofs.lemmas.List.Elements.{All-contains}
 use Rattle.lp_definitions.specs.LinearProgram.{Matrix, LinearProgram, IsLinearProgram}
@@ -24,27 +24,28 @@ use Rattle.report_text.specs.Verdicts.{verdict_shown, check_shown}
 use Rattle.present_answers.specs.declared.path.PathReport.{PathReport}
 use Rattle.present_answers.specs.Reports.{sheet_shown, RuleIsReached, IsReached, IsDualReached}
 use Rattle.run_definitions.specs.State.{Present, gone_through}
-use Rattle.run_machine.specs.Kept.{Setup}
-use Rattle.run_machine.specs.Standing.{IsPresent}
+use Rattle.run_setup.specs.Kept.{Setup}
+use Rattle.run_setup.specs.Standing.{ShowsSetup}
 use Rattle.control_run.specs.Found.{PathReaches}
 use Rattle.sweep_laws.proofs.Runs.{last_of-append}
-use Rattle.run_machine.proofs.Present.{IsPresentOf, present_with}
+use Rattle.run_setup.proofs.Present.{IsPresentOf, present_with}
 
 module _ (problem : Problem ℕ) (setup : Setup) (shown : Option Present) (p : IsPresentOf problem setup shown) (lp : LinearProgram) (same : matrix_of problem ≡ lp.matrix) where
   -- the present basis after a path
   pub goes_through : (file : Filed) (new : Setup) (bases : List Basis) → filed_under setup.name file ≡ Some problem → new.name ≡ setup.name → new.options ≡ setup.options →
       last_of setup.basis bases ≡ new.basis → LieIn lp.matrix new.engine.waypoints (p.initial ++ setup.basis ∷ bases) →
-      IsPresent file new (Some (gone_through bases (present_with problem setup.options p.opening p.steps)))
-  goes_through file new bases on_file same_name same_options leads lie = record {
-    problem = problem;
-    on_file = ap (λ name. filed_under name file) same_name ∙ on_file;
-    opening = p.opening;
-    steps = p.steps ++ bases;
-    is_shown = ap (λ (o : SetupOptions). Some (present_with problem o p.opening (p.steps ++ bases))) (sym same_options);
-    reached = last_of-append p.opening p.steps bases ∙ ap (λ s. last_of s bases) p.reached ∙ leads;
-    lie = subst (λ (a : Matrix). LieIn a new.engine.waypoints (p.opening ∷ p.steps ++ bases)) (sym same)
-        (subst (λ (bs : List Basis). LieIn lp.matrix new.engine.waypoints bs) (sym (append_assoc p.initial (setup.basis ∷ []) bases) ∙ ap (λ bs. bs ++ bases) (sym p.ends)) lie);
-  }
+      ShowsSetup file (Some new) (Some (gone_through bases (present_with problem setup.options p.opening p.steps)))
+  goes_through file new bases on_file same_name same_options leads lie = (
+    gone_through bases (present_with problem setup.options p.opening p.steps),
+    refl,
+    record {
+      on_file = ap (λ name. filed_under name file) same_name ∙ on_file;
+      has_options = sym same_options;
+      reached = last_of-append p.opening p.steps bases ∙ ap (λ s. last_of s bases) p.reached ∙ leads;
+      lie = subst (λ (a : Matrix). LieIn a new.engine.waypoints (p.opening ∷ p.steps ++ bases)) (sym same)
+          (subst (λ (bs : List Basis). LieIn lp.matrix new.engine.waypoints bs) (sym (append_assoc p.initial (setup.basis ∷ []) bases) ∙ ap (λ bs. bs ++ bases) (sym p.ends)) lie);
+    },
+  )
 
 -- ---- the waypoints after calls at the present basis
 

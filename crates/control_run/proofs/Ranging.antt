@@ -38,21 +38,22 @@ use Rattle.run_machine.specs.declared.act.Halt.TheVariants as halt
 use Rattle.run_machine.specs.declared.end.Place.{Place as OwnPlace}
 use Rattle.run_machine.specs.declared.finding.Finding.{Finding}
 use Rattle.run_machine.specs.declared.finding.Finding.TheVariants.{Overflow, Shown}
-use Rattle.run_machine.specs.Machines.{Machine}
-use Rattle.run_machine.specs.Kept.{Setup}
+use Rattle.run_setup.specs.Machines.{Machine}
+use Rattle.run_setup.specs.Kept.{Setup}
 use Rattle.run_machine.specs.declared.selecting.Refusal.TheVariants.{Fault}
 use Rattle.run_machine.specs.Ends.{place_shown}
 use Rattle.answer_definitions.specs.Real.{linear_programming}
-use Rattle.run_machine.specs.Standing.{ShowsSetup, Stands}
-use Rattle.run_machine.specs.Statements.{Comes, Executes}
+use Rattle.run_setup.specs.Standing.{IsPresent, ShowsSetup, Stands}
+use Rattle.run_setup.specs.Statements.{Comes, Executes}
 use Rattle.run_machine.specs.Choosing.{refused_act}
 use Rattle.run_machine.specs.Findings.{TellsFinding, act_of}
 use Rattle.control_run.specs.Found.{RangesFound, ranged, stopped, ShowsRanges, range_fault}
-use Rattle.run_machine.proofs.Selected.{same_matrix}
-use Rattle.run_machine.proofs.Giving.{gives_fault, gives_found, gives_selected, quietly}
+use Rattle.run_setup.proofs.Selected.{same_matrix}
+use Rattle.run_machine.proofs.Giving.{quietly}
+use Rattle.run_setup.proofs.Giving.{gives_fault, gives_found, gives_selected}
 use Rattle.control_run.proofs.Telling.{told_executes, cut_executes}
 use Rattle.control_run.proofs.Showing.{IsSameSetup, still_stands}
-use Rattle.run_machine.proofs.Present.{IsPresentOf, lie_up_to, one_problem, present_at, present_with}
+use Rattle.run_setup.proofs.Present.{IsPresentOf, lie_up_to, one_problem, present_at, present_with}
 
 -- ---- the intervals of a basis
 
@@ -150,7 +151,7 @@ module _ (card : ℕ) (state : State) where
 pub ranges_no_setup : (card : ℕ) {P : Type 0} (written stopped_at : P → Option (List ℕ)) (faults refusals : P → ℕ) (cards : List (List ℕ)) (machine : Machine) (print : P) → machine.setup ≡ None →
     Executes linear_programming Ranging card written stopped_at faults refusals print print cards machine machine (refused_act card (Fault verb_fault.NoSetup))
 ranges_no_setup card written stopped_at faults refusals cards machine print none =
-    quietly linear_programming Ranging card written stopped_at faults refusals cards machine print (λ position executed state s.
+    quietly IsPresent (Gives linear_programming) Ranging card written stopped_at faults refusals cards machine print (λ position executed state s.
     gives_no_setup card state (subst (λ (kept : Option Setup). ShowsSetup machine.file kept state.setup) none s.setup))
 
 module _ (card : ℕ) (cards : List (List ℕ)) (old : Machine) (setup : Setup) (is_setup : old.setup ≡ Some setup) (problem : Problem ℕ) (on_file : filed_under setup.name old.file ≡ Some problem) where
@@ -194,7 +195,7 @@ module _ (card : ℕ) (cards : List (List ℕ)) (old : Machine) (setup : Setup) 
   module _ {P : Type 0} (written stopped_at : P → Option (List ℕ)) (faults refusals : P → ℕ) where
     pub ranges_refused : (print : P) (any : Machine) (fault : VerbFault) → range_fault old.mark ≡ Some fault → Executes linear_programming Ranging card written stopped_at faults refusals print print cards old any (refused_act card (Fault fault))
     ranges_refused print any fault is =
-        quietly linear_programming Ranging card written stopped_at faults refusals cards old print {new = any} (λ position executed state s. not_optimal position executed state s fault is)
+        quietly IsPresent (Gives linear_programming) Ranging card written stopped_at faults refusals cards old print {new = any} (λ position executed state s. not_optimal position executed state s fault is)
 
     module _ (print_old print_new : P) (new : Setup) (is_mark : old.mark ≡ Some Optimal) (ok : selected problem (choice_of old.cells setup.options) ≡ Ok setup.lp) (k : IsSameSetup setup new) where
       pub ranges_found : (finding : Finding) (then : Act) → then ≡ act_of old.cells card finding → TellsFinding (ShowsRanges problem setup) written stopped_at faults refusals print_old print_new (Ok finding) →

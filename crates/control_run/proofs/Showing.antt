@@ -35,21 +35,22 @@ use Rattle.run_machine.specs.declared.act.Halt.TheVariants as halt
 use Rattle.run_machine.specs.declared.end.Place.{Place as OwnPlace}
 use Rattle.run_machine.specs.declared.finding.Finding.{Finding}
 use Rattle.run_machine.specs.declared.finding.Finding.TheVariants.{Overflow, Shown}
-use Rattle.run_machine.specs.Machines.{Machine}
-use Rattle.run_machine.specs.Kept.{Setup}
+use Rattle.run_setup.specs.Machines.{Machine}
+use Rattle.run_setup.specs.Kept.{Setup}
 use Rattle.run_machine.specs.declared.selecting.Refusal.TheVariants.{Fault}
 use Rattle.run_machine.specs.Ends.{place_shown}
 use Rattle.answer_definitions.specs.Real.{linear_programming}
-use Rattle.run_machine.specs.Standing.{IsSelected, IsSolved, ShowsSetup, Stands}
-use Rattle.run_machine.specs.Statements.{Comes, Executes}
-use Rattle.run_machine.specs.Choosing.{refused_act}
+use Rattle.run_setup.specs.Standing.{IsPresent, IsSolved, ShowsSetup, Stands}
+use Rattle.run_setup.specs.Statements.{Comes, Executes}
+use Rattle.run_machine.specs.Choosing.{refused_act, IsSelected}
 use Rattle.run_machine.specs.Findings.{TellsFinding, act_of}
 use Rattle.control_run.specs.Found.{LinesFound, shown, overflows, Shows}
-use Rattle.run_machine.proofs.Selected.{same_matrix}
-use Rattle.run_machine.proofs.Giving.{gives_fault, gives_found, gives_selected, quietly}
+use Rattle.run_setup.proofs.Selected.{same_matrix}
+use Rattle.run_machine.proofs.Giving.{quietly}
+use Rattle.run_setup.proofs.Giving.{gives_fault, gives_found, gives_selected}
 use Rattle.control_run.proofs.Telling.{told_executes, cut_executes}
 use Rattle.control_run.proofs.Present.{lie_later}
-use Rattle.run_machine.proofs.Present.{IsPresentOf, lie_up_to, one_problem, present_at, present_with}
+use Rattle.run_setup.proofs.Present.{IsPresentOf, lie_up_to, one_problem, present_at, present_with}
 
 -- ---- the lines of a basis
 
@@ -88,11 +89,11 @@ pub record IsSameSetup (setup new : Setup) : Type 0 where
   pub basis : new.basis ≡ setup.basis
   pub keeps : KeepsWaypoints setup.lp.matrix (basics_of setup.basis) setup.engine.waypoints (basics_of setup.basis) new.engine.waypoints
 
-pub still_selected : (cells : Cells) (file : Filed) (setup new : Setup) → IsSameSetup setup new → IsSelected cells file setup → IsSelected cells file new
+pub still_selected : (cells : Cells) (file : Filed) (setup new : Setup) → IsSameSetup setup new → IsSelected file setup.name (choice_of cells setup.options) setup.lp → IsSelected file new.name (choice_of cells new.options) new.lp
 still_selected cells file setup new k h = λ problem on_file.
     ap (λ (o : SetupOptions). selected problem (choice_of cells o)) k.options ∙ h problem (ap (λ name. filed_under name file) (sym k.name) ∙ on_file) ∙ ap Ok (sym k.lp)
 
-pub still_solved : (cells : Cells) (file : Filed) (setup new : Setup) (mark : Mark) → IsSameSetup setup new → IsSolved mark cells file setup → IsSolved mark cells file new
+pub still_solved : (cells : Cells) (file : Filed) (setup new : Setup) (mark : Mark) → IsSameSetup setup new → IsSolved mark cells.xobj cells.xrhs file setup → IsSolved mark cells.xobj cells.xrhs file new
 still_solved cells file setup new mark k h = record {
   is_selected = still_selected cells file setup new k h.is_selected;
   optimal = λ is. subst (λ (p : LinearProgram). IsOptimalBasis p new.basis) (sym k.lp) (subst (λ (b : Basis). IsOptimalBasis setup.lp b) (sym k.basis) (h.optimal is));
@@ -142,7 +143,7 @@ module _ (card : ℕ) (state : State) where
 pub solution_no_setup : (card : ℕ) {P : Type 0} (written stopped_at : P → Option (List ℕ)) (faults refusals : P → ℕ) (cards : List (List ℕ)) (machine : Machine) (print : P) → machine.setup ≡ None →
     Executes linear_programming SolutionVerb card written stopped_at faults refusals print print cards machine machine (refused_act card (Fault verb_fault.NoSetup))
 solution_no_setup card written stopped_at faults refusals cards machine print none =
-    quietly linear_programming SolutionVerb card written stopped_at faults refusals cards machine print (λ position executed state s.
+    quietly IsPresent (Gives linear_programming) SolutionVerb card written stopped_at faults refusals cards machine print (λ position executed state s.
     gives_no_setup card state (subst (λ (kept : Option Setup). ShowsSetup machine.file kept state.setup) none s.setup))
 
 module _ (card : ℕ) (cards : List (List ℕ)) (old : Machine) (setup : Setup) (is_setup : old.setup ≡ Some setup) (problem : Problem ℕ) (on_file : filed_under setup.name old.file ≡ Some problem) where
@@ -177,15 +178,16 @@ module _ (card : ℕ) (cards : List (List ℕ)) (old : Machine) (setup : Setup) 
             cells = s.cells;
             file = s.file;
             decks = s.decks;
-            setup = record {
-              problem = problem;
-              on_file = ap (λ name. filed_under name old.file) k.name ∙ on_file;
-              opening = p.opening;
-              steps = p.steps;
-              is_shown = p.is_shown ∙ ap (λ (o : SetupOptions). Some (present_with problem o p.opening p.steps)) (sym k.options);
-              reached = p.reached ∙ sym k.basis;
-              lie = subst (λ (bs : List Basis). LieIn (matrix_of problem) new.engine.waypoints bs) (sym p.ends) (subst (λ (a : Matrix). LieIn a new.engine.waypoints (p.initial ++ setup.basis ∷ [])) (sym same) lie);
-            };
+            setup = (
+              present,
+              p.is_shown,
+              record {
+                on_file = ap (λ name. filed_under name old.file) k.name ∙ on_file;
+                has_options = sym k.options;
+                reached = p.reached ∙ sym k.basis;
+                lie = subst (λ (bs : List Basis). LieIn (matrix_of problem) new.engine.waypoints bs) (sym p.ends) (subst (λ (a : Matrix). LieIn a new.engine.waypoints (p.initial ++ setup.basis ∷ [])) (sym same) lie);
+              },
+            );
             mark = s.mark;
           }
 
@@ -207,7 +209,7 @@ module _ (card : ℕ) (cards : List (List ℕ)) (old : Machine) (setup : Setup) 
   module _ {P : Type 0} (written stopped_at : P → Option (List ℕ)) (faults refusals : P → ℕ) where
     pub solution_not_solved : (print : P) (any : Machine) → old.mark ≡ None → Executes linear_programming SolutionVerb card written stopped_at faults refusals print print cards old any (refused_act card (Fault verb_fault.NotSolved))
     solution_not_solved print any none =
-        quietly linear_programming SolutionVerb card written stopped_at faults refusals cards old print {new = any} (λ position executed state s. not_solved position executed state s none)
+        quietly IsPresent (Gives linear_programming) SolutionVerb card written stopped_at faults refusals cards old print {new = any} (λ position executed state s. not_solved position executed state s none)
 
     module _ (print_old print_new : P) (new : Setup) (mark : Mark) (is_mark : old.mark ≡ Some mark) (ok : selected problem (choice_of old.cells setup.options) ≡ Ok setup.lp) (k : IsSameSetup setup new) where
       pub solution_found : (finding : Finding) (then : Act) → then ≡ act_of old.cells card finding → TellsFinding (Shows problem setup mark) written stopped_at faults refusals print_old print_new (Ok finding) →

@@ -20,24 +20,26 @@ use Rattle.run_definitions.specs.Verbs.{mark_of, or_selection_fault, after_path,
 use Rattle.run_machine.specs.declared.act.Act.{Act}
 use Rattle.run_machine.specs.declared.act.Halt.{Halt}
 use Rattle.run_machine.specs.declared.finding.Finding.{Finding}
-use Rattle.run_machine.specs.Machines.{Machine}
-use Rattle.run_machine.specs.Kept.{Setup}
+use Rattle.run_setup.specs.Machines.{Machine}
+use Rattle.run_setup.specs.Kept.{Setup}
 use Rattle.run_machine.specs.declared.selecting.Refusal.TheVariants.{Fault}
 use Rattle.run_machine.specs.Choosing.{HasSelectionFault, HasSelectionOverflow, refused_act}
 use Rattle.run_machine.specs.Ends.{place_shown}
 use Rattle.answer_definitions.specs.Real.{linear_programming}
-use Rattle.run_machine.specs.Standing.{AreDemands, IsReady, ShowsSetup, Stands}
-use Rattle.run_machine.specs.Statements.{Comes, Executes}
+use Rattle.run_machine.specs.Standing.{AreDemands}
+use Rattle.run_setup.specs.Standing.{IsPresent, IsReady, ShowsSetup, Stands}
+use Rattle.run_setup.specs.Statements.{Comes, Executes}
 use Rattle.run_machine.specs.Findings.{TellsFinding, act_of, mark_left}
 use Rattle.control_run.specs.declared.solving.SolvingVerb.{SolvingVerb}
 use Rattle.control_run.specs.declared.solving.SolvingVerb.TheVariants.{Primal, Dual}
 use Rattle.control_run.specs.Found.{verb_of, solver_of, limit_of, PathReaches, PathOverflows, reached, wrong_prices, at_limit, overflows, Finds, unselected, too_large, solved}
-use Rattle.run_machine.proofs.Selected.{same_matrix}
-use Rattle.run_machine.proofs.Giving.{gives_fault, gives_found, gives_unselected, gives_selected, quietly}
+use Rattle.run_setup.proofs.Selected.{same_matrix}
+use Rattle.run_machine.proofs.Giving.{quietly}
+use Rattle.run_setup.proofs.Giving.{gives_fault, gives_found, gives_unselected, gives_selected}
 use Rattle.control_run.proofs.Telling.{told_executes, cut_executes}
 use Rattle.control_run.proofs.Demanded.{verdict_comes}
 use Rattle.control_run.proofs.Present.{goes_through}
-use Rattle.run_machine.proofs.Present.{IsPresentOf, lie_up_to, present_at, present_with}
+use Rattle.run_setup.proofs.Present.{IsPresentOf, lie_up_to, present_at, present_with}
 
 pub no_cards_by : (verb : SolvingVerb) (problem : Problem ℕ) (cells : Cells) (setup new : Setup) (gain : Gain) (finding : Finding) → Finds verb problem cells setup new gain finding → punched_by gain ≡ []
 no_cards_by verb problem cells setup new _ _ (unselected h) = refl
@@ -73,7 +75,7 @@ solving_without verb card state none =
 pub solving_no_setup : (verb : SolvingVerb) (card : ℕ) {P : Type 0} (written stopped_at : P → Option (List ℕ)) (faults refusals : P → ℕ) (cards : List (List ℕ)) (machine : Machine) (print : P) → machine.setup ≡ None →
     Executes linear_programming (verb_of verb) card written stopped_at faults refusals print print cards machine machine (refused_act card (Fault NoSetup))
 solving_no_setup verb card written stopped_at faults refusals cards machine print none =
-    quietly linear_programming (verb_of verb) card written stopped_at faults refusals cards machine print (λ position executed state s.
+    quietly IsPresent (Gives linear_programming) (verb_of verb) card written stopped_at faults refusals cards machine print (λ position executed state s.
     solving_without verb card state (subst (λ (kept : Option Setup). ShowsSetup machine.file kept state.setup) none s.setup))
 
 -- with a setup, whose problem is on file

@@ -38,7 +38,7 @@ use Rattle.run_machine.specs.declared.act.Halt.TheVariants as halt
 use Rattle.run_machine.specs.declared.end.Place.{Place as OwnPlace}
 use Rattle.run_machine.specs.declared.finding.Finding.{Finding}
 use Rattle.run_machine.specs.declared.finding.Finding.TheVariants.{Ended, Overflow}
-use Rattle.run_machine.specs.Kept.{Setup}
+use Rattle.run_setup.specs.Kept.{Setup}
 use Rattle.run_machine.specs.declared.selecting.Refusal.{Refusal}
 use Rattle.run_machine.specs.declared.selecting.Refusal.TheVariants.{Fault, NoMemory}
 use Rattle.run_machine.specs.declared.selecting.Refusal.TheVariants as refusals
@@ -47,9 +47,9 @@ use Rattle.run_machine.specs.Ends.{place_shown}
 use Rattle.run_machine.specs.Findings.{TellsFinding, refused_finding, IfEnded}
 use Rattle.control_run.specs.declared.solving.SolvingVerb.{SolvingVerb}
 use Rattle.control_run.specs.Found.{solver_of, limit_of, PathReaches, PathFinds, reached, wrong_prices, at_limit, overflows, Finds, unselected, too_large, solved}
-use Rattle.run_machine.proofs.Selected.{no_change}
+use Rattle.run_setup.proofs.Selected.{no_change}
 use Rattle.control_run.proofs.Telling.{tells_more, tells_quietly}
-use Rattle.run_machine.proofs.Present.{one_problem}
+use Rattle.run_setup.proofs.Present.{one_problem}
 
 -- ---- the path
 

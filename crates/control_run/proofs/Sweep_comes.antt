@@ -22,23 +22,25 @@ use Rattle.run_definitions.specs.Verbs.{mark_of, last_value, not_less, or_select
 use Rattle.run_machine.specs.declared.act.Act.{Act}
 use Rattle.run_machine.specs.declared.act.Halt.{Halt}
 use Rattle.run_machine.specs.declared.finding.Finding.{Finding}
-use Rattle.run_machine.specs.Machines.{Machine}
-use Rattle.run_machine.specs.Kept.{Setup}
+use Rattle.run_setup.specs.Machines.{Machine}
+use Rattle.run_setup.specs.Kept.{Setup}
 use Rattle.run_machine.specs.declared.selecting.Refusal.TheVariants.{Fault}
 use Rattle.control_run.specs.declared.sweep.SweepVerb.{SweepVerb}
 use Rattle.control_run.specs.declared.sweep.SweepVerb.TheVariants.{Paraobj, Pararhs}
 use Rattle.run_machine.specs.Choosing.{HasSelectionFault, HasSelectionOverflow, refused_act}
 use Rattle.run_machine.specs.Ends.{place_shown}
-use Rattle.run_machine.specs.Standing.{AreDemands, IsReady, ShowsSetup, Stands}
-use Rattle.run_machine.specs.Statements.{Comes, Executes}
+use Rattle.run_machine.specs.Standing.{AreDemands}
+use Rattle.run_setup.specs.Standing.{IsPresent, IsReady, ShowsSetup, Stands}
+use Rattle.run_setup.specs.Statements.{Comes, Executes}
 use Rattle.run_machine.specs.Findings.{TellsFinding, act_of}
 use Rattle.control_run.specs.Sweeping.{verb_of, name_moved, change_of, change_fault, IsAsked, no_last, below, IsAskFault, no_change, no_value, SweepReaches, SweepOverflows, opened, chained, at_limit, overflows, Sweeps, unselected, too_large, not_asked, swept, cells_left}
-use Rattle.run_machine.proofs.Selected.{same_matrix}
-use Rattle.run_machine.proofs.Giving.{gives_fault, gives_found, gives_unselected, gives_selected, quietly}
+use Rattle.run_setup.proofs.Selected.{same_matrix}
+use Rattle.run_machine.proofs.Giving.{quietly}
+use Rattle.run_setup.proofs.Giving.{gives_fault, gives_found, gives_unselected, gives_selected}
 use Rattle.control_run.proofs.Telling.{told_executes, cut_executes}
 use Rattle.control_run.proofs.Present.{goes_through}
 use Rattle.control_run.proofs.Demanded.{verdict_comes}
-use Rattle.run_machine.proofs.Present.{IsPresentOf, lie_up_to, present_at, present_with}
+use Rattle.run_setup.proofs.Present.{IsPresentOf, lie_up_to, present_at, present_with}
 
 no_cards_by : (problem : Problem ℕ) (cells : Cells) (verb : SweepVerb) (setup new : Setup) (gain : Gain) (finding : Finding) → Sweeps problem cells verb setup new gain finding → punched_by gain ≡ []
 no_cards_by problem cells verb setup new _ _ (unselected h) = refl
@@ -108,7 +110,7 @@ sweep_gives Pararhs card state outcome g = g
 pub sweep_no_setup : (verb : SweepVerb) (card : ℕ) {P : Type 0} (written stopped_at : P → Option (List ℕ)) (faults refusals : P → ℕ) (cards : List (List ℕ)) (machine : Machine) (print : P) → machine.setup ≡ None →
     Executes linear_programming (verb_of verb) card written stopped_at faults refusals print print cards machine machine (refused_act card (Fault NoSetup))
 sweep_no_setup verb card written stopped_at faults refusals cards machine print none =
-    quietly linear_programming (verb_of verb) card written stopped_at faults refusals cards machine print (λ position executed state s.
+    quietly IsPresent (Gives linear_programming) (verb_of verb) card written stopped_at faults refusals cards machine print (λ position executed state s.
     sweep_gives verb card state (stops (endings.VerbStop (record { fault = NoSetup; card = card })))
     (gives_fault card NoSetup state.setup (with_setup verb card state) (subst (λ (kept : Option Setup). ShowsSetup machine.file kept state.setup) none s.setup)))
 

@@ -44,7 +44,7 @@ use Rattle.run_machine.specs.declared.act.Halt.TheVariants as halt
 use Rattle.run_machine.specs.declared.end.Place.{Place as OwnPlace}
 use Rattle.run_machine.specs.declared.finding.Finding.{Finding}
 use Rattle.run_machine.specs.declared.finding.Finding.TheVariants.{Ended, Overflow, Swept}
-use Rattle.run_machine.specs.Kept.{Setup}
+use Rattle.run_setup.specs.Kept.{Setup}
 use Rattle.run_machine.specs.declared.selecting.Refusal.{Refusal}
 use Rattle.run_machine.specs.declared.selecting.Refusal.TheVariants.{Fault, NoMemory}
 use Rattle.run_machine.specs.declared.selecting.Refusal.TheVariants as refusal
@@ -58,7 +58,7 @@ use Rattle.control_run.specs.Sweeping.{IsNotAsked, IsAsked, IsOf, Serves, value_
 use Rattle.control_run.proofs.Telling.{tells_more, tells_quietly, overflow_tells}
 use Rattle.control_run.proofs.Limit_formula.{placed_apart, unplaced_limit}
 use Rattle.control_run.proofs.Sweep_lines.{last_same, chain_same}
-use Rattle.run_machine.proofs.Present.{as_many_rows, one_problem}
+use Rattle.run_setup.proofs.Present.{as_many_rows, one_problem}
 
 -- ---- what is printed of a run
 

@@ -18,12 +18,13 @@ use Rattle.run_machine.specs.declared.act.Halt.TheVariants as halt
 use Rattle.run_machine.specs.declared.end.Place.{Place as OwnPlace}
 use Rattle.run_machine.specs.declared.finding.Finding.{Finding}
 use Rattle.run_machine.specs.declared.finding.Finding.TheVariants.{Overflow}
-use Rattle.run_machine.specs.Machines.{Machine}
+use Rattle.run_setup.specs.Machines.{Machine}
 use Rattle.run_machine.specs.Ends.{end_shown, place_shown}
 use Rattle.answer_definitions.specs.Real.{linear_programming}
-use Rattle.run_machine.specs.Standing.{Stands}
-use Rattle.run_machine.specs.Statements.{Comes, Executes, Follows}
-use Rattle.run_machine.specs.Findings.{IsOverflowAt, told, no_memory, TellsFinding}
+use Rattle.run_setup.specs.Standing.{Stands}
+use Rattle.run_setup.specs.Statements.{Comes, Executes, Follows}
+use Rattle.run_machine.specs.Findings.{TellsFinding}
+use Rattle.run_setup.specs.Overflows.{IsOverflowAt, told, no_memory}
 
 module _ {P : Type 0} (written stopped_at : P → Option (List ℕ)) (faults refusals : P → ℕ) where
   pub tells_more : (F G : Gain → Finding → Type 0) (print_old print_new : P) → ((gain : Gain) (finding : Finding) → F gain finding → G gain finding) → (result : Result Finding Halt) →

@@ -28,9 +28,9 @@ use Rattle.run_machine.specs.declared.act.Halt.TheVariants as halt
 use Rattle.run_machine.specs.declared.act.AfterStatement.{AfterStatement}
 use Rattle.run_machine.specs.declared.act.AfterStatement.TheVariants.{Goes, Ends}
 use Rattle.run_machine.specs.declared.end.End.{End}
-use Rattle.run_machine.specs.Machines.{Machine}
+use Rattle.run_setup.specs.Machines.{Machine}
 use Rattle.run_machine.specs.Ends.{end_shown}
-use Rattle.run_machine.specs.Standing.{Stands}
+use Rattle.run_setup.specs.Standing.{Stands}
 use Rattle.run_machine.specs.Punching.{gain_cards}
 use Rattle.control_run.specs.Devices.{Leaves}
 

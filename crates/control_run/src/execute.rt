@@ -3,21 +3,23 @@ ghost use Rattle.std.specs.Prelude.{◌≡◌, ◌≤◌, length};
 ghost use Rattle.control_verbs.specs.Shown.{shown};
 ghost use Rattle.control_compiler.specs.Valid.{IsProgram};
 ghost use Rattle.answer_definitions.specs.Real.{linear_programming};
-ghost use Rattle.run_machine.specs.Standing.{IsSound};
+ghost use Rattle.run_setup.specs.Standing.{IsSound};
 ghost use Rattle.run_machine.specs.Statements.{IsSoundVerb};
-ghost use Rattle.run_machine.specs.Punching.{Performs};
+ghost use Rattle.run_setup.specs.Statements.{Performs};
 ghost use Rattle.control_run.specs.Running.{Steps};
 
-use crate::parametric::{sweep_objective, sweep_rhs};
+use crate::parametric::sweep;
 use crate::ranges::show_ranges;
 use crate::solution::show_solution;
-use crate::solving::{solve_dual, solve_primal};
+use crate::solving::{SolvingVerb, solve};
+use crate::sweep::SweepVerb;
 use basis_verbs::{insert_basis, punch_present};
 use card_reader::Cards;
 use control_compiler::{Program, Verb};
 use job_devices::Sink;
 use lp_model::Engine;
-use run_machine::{Act, AfterStatement, Halt, Machine, Setup, print_title, set_up};
+use run_machine::{Act, AfterStatement, Halt, Machine};
+use run_setup::{Setup, set_up};
 use std::alloc::Global;
 
 /// Does what the statement of a verb on a card says.
@@ -40,7 +42,7 @@ fn execute<E: Engine, P: Sink, U: Sink>(
 {
     match verb {
         Verb::Initialz => Ok(machine.initialize()),
-        Verb::Title(text) => print_title(print, text),
+        Verb::Title(text) => machine.print_title(print, text),
         Verb::MoveName(cell, name) => Ok(machine.move_name(*cell, *name)),
         Verb::MoveNumber(cell, value) => Ok(machine.move_number(*cell, *value)),
         Verb::MoveLimit(limit) => Ok(machine.move_limit(*limit)),
@@ -48,13 +50,13 @@ fn execute<E: Engine, P: Sink, U: Sink>(
         Verb::Goto(position) => Ok(machine.jump(*position)),
         Verb::Convert => machine.convert(alloc, cards, print, card),
         Verb::Setup(options) => set_up(alloc, machine, print, card, options),
-        Verb::Primal => solve_primal(alloc, machine, print, card),
-        Verb::Dual => solve_dual(alloc, machine, print, card),
+        Verb::Primal => solve(alloc, machine, print, card, SolvingVerb::Primal),
+        Verb::Dual => solve(alloc, machine, print, card, SolvingVerb::Dual),
         Verb::Solution => show_solution(alloc, machine, print, card),
         Verb::Revise => machine.revise(alloc, cards, print, card),
         Verb::Ranging => show_ranges(alloc, machine, print, card),
-        Verb::Paraobj => sweep_objective(alloc, machine, print, card),
-        Verb::Pararhs => sweep_rhs(alloc, machine, print, card),
+        Verb::Paraobj => sweep(alloc, machine, print, card, SweepVerb::Paraobj),
+        Verb::Pararhs => sweep(alloc, machine, print, card, SweepVerb::Pararhs),
         Verb::Bcdout => machine.punch_problem(print, punch, card),
         Verb::Punch => punch_present(alloc, machine, print, punch, card),
         Verb::Insert => insert_basis(alloc, machine, cards, print, card),

@@ -2,7 +2,6 @@
 ghost use Rattle.std.specs.Prelude.{◌≡◌, ◌≢◌, ◌≤◌, ℕ, List, Option, None, IfSome, IfOk, IfErr, length};
 ghost use Rattle.problem_definitions.specs.Problem.{Problem};
 ghost use Rattle.problem_file.specs.Filed.{filed_under};
-ghost use Rattle.control_definitions.specs.Program as program;
 ghost use Rattle.frac128.specs.declared.Refused.{Refused as RefusedOperation};
 ghost use Rattle.lp_definitions.specs.Basis.{Basics};
 ghost use Rattle.lp_model.specs.declared.reports.ParaReport.TheVariants as para_reports;
@@ -14,8 +13,9 @@ ghost use Rattle.report_text.specs.Parametric.{IsParametric};
 ghost use Rattle.answer_definitions.specs.Real.{linear_programming};
 ghost use Rattle.present_answers.specs.Reports.{sheet_shown};
 ghost use Rattle.present_answers.specs.RunReports.{IsAnswered, IsPrintable};
-ghost use Rattle.run_machine.specs.Standing.{AreDemands, IsReady, IsSound};
-ghost use Rattle.run_machine.specs.Statements.{Executes};
+ghost use Rattle.run_machine.specs.Standing.{AreDemands};
+ghost use Rattle.run_setup.specs.Standing.{IsReady, IsSound};
+ghost use Rattle.run_setup.specs.Statements.{Executes};
 ghost use Rattle.run_machine.specs.Findings.{TellsFinding};
 ghost use Rattle.control_run.specs.Sweeping.{verb_of, sweep_shown, Serves, StopsSweep, SweepFinds, Sweeps, IsRunOverflow, value_left, cells_left};
 
@@ -32,9 +32,8 @@ use present_answers::{RunReport, objective_run_of, rhs_run_of};
 use problem_file::ProblemFile;
 use report_text::{Report, text_of};
 use run_cells::{Cells, NumberCell};
-use run_machine::{
-    Act, Finding, Halt, Machine, Refusal, Setup, act_of, overflow_at, refused, select_present,
-};
+use run_machine::{Act, Finding, Halt, Machine, Refusal, act_of, refused, select_present};
+use run_setup::{Setup, overflow_at};
 use std::alloc::Global;
 
 // The number of the formula of a row's limit at a value of the parameter.
@@ -217,7 +216,7 @@ fn find<E: Engine, P: Sink>(
 {
     // a setup's problem stays on file
     let Some(problem) = file.get(&setup.name) else {
-        return Ok(Finding::Refused(VerbFault::NoSetup));
+        unreachable!();
     };
     let lp = match select_present(alloc, problem, cells, setup.options) {
         Ok(lp) => lp,
@@ -249,10 +248,14 @@ fn leave_value(cells: &mut Cells, finding: &Finding)
     }
 }
 
-// Selects by the cells as they stand, and makes the run from XPARAM to XPARMAX, from the present basis. Its intervals and its end are
-// printed, its last value is left in XPARAM, and the next statement follows. An opening that isn't optimal prints its verdict and goes
-// by the demand, if that is set. Neither leaves a mark.
-fn sweep<E: Engine, P: Sink>(
+/// PARAOBJ and PARARHS: selects again by the cells as they stand, and makes the run of the objective or of the right-hand side from
+/// XPARAM to XPARMAX, from the present basis. Its intervals and its end are printed, its last value is left in XPARAM, and the next
+/// statement follows. An opening that isn't optimal prints its verdict and goes by the demand, if that is set. Neither leaves a mark.
+///
+/// The statement is refused where there is no setup, where the cells select nothing, where XCHROW names no N row or XCHCOL no
+/// right-hand side set, and where XPARMAX isn't set or is less than XPARAM. It ends the run where the run along the parameter goes on
+/// past the limit of steps, and where an operation is refused. Where there is no memory, nothing is printed.
+pub fn sweep<E: Engine, P: Sink>(
     alloc: Global,
     machine: &mut Machine<Setup<E>>,
     print: &mut P,
@@ -274,46 +277,4 @@ fn sweep<E: Engine, P: Sink>(
     let finding = find(alloc, &machine.cells, &machine.file, setup, verb, print)?;
     leave_value(&mut machine.cells, &finding);
     Ok(act_of(&machine.cells, card, finding))
-}
-
-/// PARAOBJ: selects again by the cells as they stand, and makes the run of the objective from XPARAM to XPARMAX, from the present basis.
-/// Its intervals and its end are printed, its last value is left in XPARAM, and the next statement follows. An opening that isn't
-/// optimal prints its verdict and goes by the demand, if that is set. Neither leaves a mark.
-///
-/// The statement is refused where there is no setup, where the cells select nothing, where XCHROW names no N row, and where XPARMAX
-/// isn't set or is less than XPARAM. It ends the run where the run along the parameter goes on past the limit of steps, and where an
-/// operation is refused. Where there is no memory, nothing is printed.
-pub fn sweep_objective<E: Engine, P: Sink>(
-    alloc: Global,
-    machine: &mut Machine<Setup<E>>,
-    print: &mut P,
-    card: u32,
-) -> Result<Act, Halt>
-    requires demands { AreDemands machine.old.cells }
-    requires ready { IfSome machine.old.setup (IsReady machine.old.file) }
-    ensures acts { (cards : List (List ℕ)) →
-        Executes linear_programming program.Paraobj card P.written P.stopped_at P.faults P.refusals print.old
-        print.new cards machine.old machine.new result }
-    ensures sound { (cards : List (List ℕ)) → IsSound cards machine.old →
-        IsSound cards machine.new }
-{
-    sweep(alloc, machine, print, card, SweepVerb::Paraobj)
-}
-
-/// PARARHS: the same of the right-hand side, where XCHCOL names the set that is added to it.
-pub fn sweep_rhs<E: Engine, P: Sink>(
-    alloc: Global,
-    machine: &mut Machine<Setup<E>>,
-    print: &mut P,
-    card: u32,
-) -> Result<Act, Halt>
-    requires demands { AreDemands machine.old.cells }
-    requires ready { IfSome machine.old.setup (IsReady machine.old.file) }
-    ensures acts { (cards : List (List ℕ)) →
-        Executes linear_programming program.Pararhs card P.written P.stopped_at P.faults P.refusals print.old
-        print.new cards machine.old machine.new result }
-    ensures sound { (cards : List (List ℕ)) → IsSound cards machine.old →
-        IsSound cards machine.new }
-{
-    sweep(alloc, machine, print, card, SweepVerb::Pararhs)
 }

@@ -18,7 +18,8 @@ use control_compiler::Program;
 use job_devices::Sink;
 use lp_model::Engine;
 use reinversion::ProductForm;
-use run_machine::{AfterStatement, End, Halt, Machine, Setup};
+use run_machine::{AfterStatement, End, Halt, Machine};
+use run_setup::Setup;
 use std::alloc::Global;
 
 /// What keeps the rates of a run.

@@ -11,8 +11,8 @@ ghost use Rattle.basis_values.specs.Calls.{HasRates, KeepsRates};
 ghost use Rattle.answer_definitions.specs.Sections.{IsShown};
 ghost use Rattle.present_answers.specs.Answers.{sheet_shown, AreShown};
 ghost use Rattle.answer_definitions.specs.Real.{linear_programming};
-ghost use Rattle.run_machine.specs.Standing.{IsReady, IsSolved, IsSound};
-ghost use Rattle.run_machine.specs.Statements.{Executes};
+ghost use Rattle.run_setup.specs.Standing.{IsReady, IsSolved, IsSound};
+ghost use Rattle.run_setup.specs.Statements.{Executes};
 ghost use Rattle.run_machine.specs.Findings.{TellsFinding};
 ghost use Rattle.control_run.specs.Found.{LinesFound, Shows};
 
@@ -23,7 +23,8 @@ use lp_model::{Basis, Engine, Rates, Stop};
 use present_answers::{Shown, solution_of};
 use problem_file::ProblemFile;
 use report_text::{Report, text_of};
-use run_machine::{Act, Finding, Halt, Machine, Refusal, Setup, act_of, overflow_at};
+use run_machine::{Act, Finding, Halt, Machine, Refusal, act_of};
+use run_setup::{Setup, overflow_at};
 use std::alloc::Global;
 
 // Prints the point and the prices of a basis.
@@ -104,7 +105,7 @@ fn show_setup<E: Engine, P: Sink>(
 {
     // a setup's problem stays on file
     let Some(problem) = file.get(&setup.name) else {
-        return Ok(Finding::Refused(VerbFault::NoSetup));
+        unreachable!();
     };
     let sheet = Sheet {
         problem,
@@ -123,7 +124,7 @@ pub fn show_solution<E: Engine, P: Sink>(
 ) -> Result<Act, Halt>
     requires ready { IfSome machine.old.setup (IsReady machine.old.file) }
     requires solved { IfSome machine.old.mark
-        (λ mark. IfSome machine.old.setup (IsSolved mark machine.old.cells machine.old.file)) }
+        (λ mark. IfSome machine.old.setup (IsSolved mark machine.old.cells.xobj machine.old.cells.xrhs machine.old.file)) }
     ensures acts { (cards : List (List ℕ)) →
         Executes linear_programming program.Solution card P.written P.stopped_at P.faults P.refusals print.old
         print.new cards machine.old machine.new result }

@@ -2,7 +2,6 @@
 ghost use Rattle.std.specs.Prelude.{◌≡◌, ℕ, List, Option, None, Some, IfSome, IfOk};
 ghost use Rattle.problem_definitions.specs.Problem.{Problem};
 ghost use Rattle.problem_file.specs.Filed.{filed_under};
-ghost use Rattle.control_definitions.specs.Program as program;
 ghost use Rattle.lp_definitions.specs.LinearProgram.{IsLinearProgram};
 ghost use Rattle.lp_definitions.specs.Basis.{Basics};
 ghost use Rattle.question_definitions.specs.Answers as answers;
@@ -14,8 +13,9 @@ ghost use Rattle.report_text.specs.Verdicts.{IsOutcome, verdict_shown, check_sho
 ghost use Rattle.present_answers.specs.Reports.{sheet_shown};
 ghost use Rattle.run_definitions.specs.Verbs.{mark_of};
 ghost use Rattle.answer_definitions.specs.Real.{linear_programming};
-ghost use Rattle.run_machine.specs.Standing.{AreDemands, IsReady, IsSolved, IsSound};
-ghost use Rattle.run_machine.specs.Statements.{Executes};
+ghost use Rattle.run_machine.specs.Standing.{AreDemands};
+ghost use Rattle.run_setup.specs.Standing.{IsReady, IsSolved, IsSound};
+ghost use Rattle.run_setup.specs.Statements.{Executes};
 ghost use Rattle.run_machine.specs.Findings.{TellsFinding, IfEnded};
 ghost use Rattle.control_run.specs.Found.{verb_of, solver_of, limit_of, PathReaches, PathFinds, Finds};
 
@@ -30,9 +30,9 @@ use problem_file::ProblemFile;
 use report_text::{Report, text_of};
 use run_cells::Cells;
 use run_machine::{
-    Act, Finding, Halt, Machine, Refusal, Setup, act_of, mark_left, overflow_at, refused,
-    select_present,
+    Act, Finding, Halt, Machine, Refusal, act_of, mark_left, refused, select_present,
 };
+use run_setup::{Setup, overflow_at};
 use std::alloc::Global;
 
 /// A verb that follows a path.
@@ -178,11 +178,11 @@ fn find<E: Engine, P: Sink>(
         print.new result }
     ensures ready { IsReady file.now setup.new }
     ensures solved { IfOk result
-        (λ finding. IfEnded finding (λ mark. IsSolved mark cells.now file.now setup.new)) }
+        (λ finding. IfEnded finding (λ mark. IsSolved mark cells.now.xobj cells.now.xrhs file.now setup.new)) }
 {
     // a setup's problem stays on file
     let Some(problem) = file.get(&setup.name) else {
-        return Ok(Finding::Refused(VerbFault::NoSetup));
+        unreachable!();
     };
     let lp = match select_present(alloc, problem, cells, setup.options) {
         Ok(lp) => lp,
@@ -202,9 +202,14 @@ fn find<E: Engine, P: Sink>(
     Ok(finding)
 }
 
-// Selects by the cells as they stand, follows the path of the verb from the present basis to its end, and prints the verdict, which
-// leaves its mark and decides what follows.
-fn solve<E: Engine, P: Sink>(
+/// PRIMAL and DUAL: selects again by the cells as they stand, follows the path of the verb from the present basis to its end, and prints
+/// the verdict, which leaves its mark. An optimal verdict goes on with the next statement, and any other with the position of its
+/// demand, if that is set.
+///
+/// The statement is refused where there is no setup, and where the cells select nothing. It ends the run where the path goes on past
+/// the limit of steps, which PRIMAL alone may be without; where DUAL finds that a price of the present basis is wrong; and where an
+/// operation is refused. Where there is no memory, nothing is printed.
+pub fn solve<E: Engine, P: Sink>(
     alloc: Global,
     machine: &mut Machine<Setup<E>>,
     print: &mut P,
@@ -226,44 +231,4 @@ fn solve<E: Engine, P: Sink>(
     let finding = find(alloc, &machine.cells, &machine.file, setup, verb, print)?;
     machine.mark = mark_left(&finding);
     Ok(act_of(&machine.cells, card, finding))
-}
-
-/// PRIMAL: selects again by the cells as they stand, follows the path from the present basis to its end, and prints the verdict, which
-/// leaves its mark. An optimal verdict goes on with the next statement, and any other with the position of its demand, if that is set.
-///
-/// The statement is refused where there is no setup, and where the cells select nothing. It ends the run where the path goes on past
-/// the limit of steps, if there is one, and where an operation is refused. Where there is no memory, nothing is printed.
-pub fn solve_primal<E: Engine, P: Sink>(
-    alloc: Global,
-    machine: &mut Machine<Setup<E>>,
-    print: &mut P,
-    card: u32,
-) -> Result<Act, Halt>
-    requires demands { AreDemands machine.old.cells }
-    requires ready { IfSome machine.old.setup (IsReady machine.old.file) }
-    ensures acts { (cards : List (List ℕ)) →
-        Executes linear_programming program.Primal card P.written P.stopped_at P.faults P.refusals print.old
-        print.new cards machine.old machine.new result }
-    ensures sound { (cards : List (List ℕ)) → IsSound cards machine.old →
-        IsSound cards machine.new }
-{
-    solve(alloc, machine, print, card, SolvingVerb::Primal)
-}
-
-/// DUAL: the same of the dual path, which always has a limit of steps. The run ends where a price of the present basis is wrong.
-pub fn solve_dual<E: Engine, P: Sink>(
-    alloc: Global,
-    machine: &mut Machine<Setup<E>>,
-    print: &mut P,
-    card: u32,
-) -> Result<Act, Halt>
-    requires demands { AreDemands machine.old.cells }
-    requires ready { IfSome machine.old.setup (IsReady machine.old.file) }
-    ensures acts { (cards : List (List ℕ)) →
-        Executes linear_programming program.Dual card P.written P.stopped_at P.faults P.refusals print.old
-        print.new cards machine.old machine.new result }
-    ensures sound { (cards : List (List ℕ)) → IsSound cards machine.old →
-        IsSound cards machine.new }
-{
-    solve(alloc, machine, print, card, SolvingVerb::Dual)
 }

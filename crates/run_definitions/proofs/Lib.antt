@@ -1,3 +1,4 @@
 mod Courses
 mod Runs
 mod Answers
+pub mod Settling

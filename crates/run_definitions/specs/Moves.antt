@@ -4,6 +4,7 @@
 --     Refusals              where an operation may be refused
 --     Move                  an outcome, a place where the run may stop for an overflow, or a question
 --     Gives S card move outcome    the statement of a card comes to this
+--     Settles card move outcome    so it does, whatever is right of linear programming
 use Rattle.std.specs.Prelude.{◌≡◌, ◌⊎◌, ◌+◌, ℕ, List, [], ◌∷◌, Option, Some, None}
 use Rattle.lp_definitions.specs.declared.Evidence.{Evidence}
 use Rattle.problem_definitions.specs.Problem.{Problem}
@@ -92,6 +93,12 @@ abbrev pub Gives : Solving → ℕ → Move → Outcome → Type 0
 Gives S card (Does outcome) given = given ≡ outcome
 Gives S card (MayStop refusals move) given = Gives S card move given ⊎ StopsBy card (Shows S refusals) given
 Gives S card (Asks question sheet s go) given = (answer : Answer question) × IsRight S question sheet s answer × (given ≡ go answer)
+
+-- What a move comes to, whatever is right of linear programming: it asks nothing, and isn't stopped by an overflow.
+abbrev pub Settles : ℕ → Move → Outcome → Type 0
+Settles card (Does outcome) given = given ≡ outcome
+Settles card (MayStop refusals move) given = Settles card move given
+Settles card (Asks question sheet s go) given = ⊥
 
 -- a verb fault on a card, or else what is done with the value
 abbrev pub or_fault : {X : Type 0} → ℕ → VerbFault → Option X → (X → Move) → Move

@@ -20,8 +20,8 @@ use Rattle.listing_definitions.specs.declared.VerbFault.TheVariants.{DeckNotFoun
 use Rattle.listing_definitions.specs.Ending.{VerbStop}
 use Rattle.listing_definitions.specs.Report as reports
 use Rattle.listing_definitions.specs.Text.{report_text}
-use Rattle.run_definitions.specs.State.{State, problem_of}
-use Rattle.run_definitions.specs.Moves.{Prints, Outcome, next, stops, Move, Gives, or_fault}
+use Rattle.run_definitions.specs.State.{Present, State, problem_of}
+use Rattle.run_definitions.specs.Moves.{Prints, Outcome, next, stops, Move, Settles, or_fault}
 use Rattle.run_definitions.specs.Verbs.{deck_stop, or_deck_fault, size_of, files, verb_move}
 use Rattle.run_machine.specs.declared.act.Act.TheVariants.{Next}
 use Rattle.run_machine.specs.declared.act.Halt.TheVariants as halt
@@ -29,12 +29,11 @@ use Rattle.run_machine.specs.declared.taking.DeckVerb.{DeckVerb}
 use Rattle.run_machine.specs.declared.taking.DeckVerb.TheVariants.{Convert}
 use Rattle.run_machine.specs.declared.taking.Described.TheVariants as described
 use Rattle.run_machine.specs.declared.end.End.TheVariants.{Verb}
-use Rattle.run_machine.specs.Machines.{Machine}
-use Rattle.answer_definitions.specs.Real.{linear_programming}
+use Rattle.run_machine.specs.declared.machine.Machine.{Machine}
 use Rattle.run_machine.specs.Standing.{filed, Stands}
 use Rattle.run_machine.specs.Statements.{Comes, Executes}
 use Rattle.run_machine.specs.Describing.{verb_of, report_of, decks_from, with_problem, IsDescribed, Describes, described_as}
-use Rattle.run_machine.proofs.Giving.{gives_fault, gives_found, loudly, cut_off}
+use Rattle.run_machine.proofs.Giving.{settles_fault, settles_found, loudly, cut_off}
 
 -- the problem put last stands in front of those that are on file
 pub put_in_front : (old new : Filed) (problem : Problem ℕ) (problems : List (Problem ℕ)) → ((wanted : Option Name) → problem_of wanted problems ≡ filed wanted old) →
@@ -50,12 +49,12 @@ put_in_front old new problem problems held put last (Some name) =
     ap by_test (same_sym name problem.name) ∙ ap by_rest (held (Some name)) ∙ sym (put name)
 
 -- a deck fault
-gives_deck_fault : (card : ℕ) (found : Result (Problem ℕ) DeckFault) (go : Problem ℕ → Move) (fault : DeckFault) → found ≡ Err fault → Gives linear_programming card (or_deck_fault found go) (stops (deck_stop fault))
-gives_deck_fault card found go fault err = subst (λ r. Gives linear_programming card (or_deck_fault r go) (stops (deck_stop fault))) (sym err) refl
+settles_deck_fault : (card : ℕ) (found : Result (Problem ℕ) DeckFault) (go : Problem ℕ → Move) (fault : DeckFault) → found ≡ Err fault → Settles card (or_deck_fault found go) (stops (deck_stop fault))
+settles_deck_fault card found go fault err = subst (λ r. Settles card (or_deck_fault r go) (stops (deck_stop fault))) (sym err) refl
 
-gives_problem : (card : ℕ) (found : Result (Problem ℕ) DeckFault) (go : Problem ℕ → Move) (problem : Problem ℕ) (outcome : Outcome) → found ≡ Ok problem → Gives linear_programming card (go problem) outcome →
-    Gives linear_programming card (or_deck_fault found go) outcome
-gives_problem card found go problem outcome ok given = subst (λ r. Gives linear_programming card (or_deck_fault r go) outcome) (sym ok) given
+settles_problem : (card : ℕ) (found : Result (Problem ℕ) DeckFault) (go : Problem ℕ → Move) (problem : Problem ℕ) (outcome : Outcome) → found ≡ Ok problem → Settles card (go problem) outcome →
+    Settles card (or_deck_fault found go) outcome
+settles_problem card found go problem outcome ok given = subst (λ r. Settles card (or_deck_fault r go) outcome) (sym ok) given
 
 -- ---- a deck is taken
 
@@ -64,37 +63,37 @@ abbrev pub takes : ℕ → (List Card → Result (Problem ℕ) DeckFault) → (r
 takes card gives report state =
     or_fault card DeckNotFound (deck_taken state.cells.xdata state.decks) (λ taken. or_deck_fault (gives taken.0) (files report taken.1 state))
 
-module _ (card : ℕ) (cards : List (List ℕ)) (machine : Machine) (wanted : Option Name) (same_name : wanted ≡ machine.cells.xdata) {position executed : ℕ} {state : State}
-    (s : Stands cards machine position executed state) (gives : List Card → Result (Problem ℕ) DeckFault) (report : reports.Filed → reports.Report) where
+module _ {K : Type 0} (Shows : Filed → K → Present → Type 0) (card : ℕ) (cards : List (List ℕ)) (machine : Machine K) (wanted : Option Name) (same_name : wanted ≡ machine.cells.xdata) {position executed : ℕ} {state : State}
+    (s : Stands Shows cards machine position executed state) (gives : List Card → Result (Problem ℕ) DeckFault) (report : reports.Filed → reports.Report) where
   -- the deck that the machine takes is the one that the state gives
   deck_shown : deck_taken state.cells.xdata state.decks ≡ deck_taken wanted (decks_from machine.decks_from cards)
   deck_shown =
       ap (λ (c : Cells). deck_taken c.xdata state.decks) s.cells ∙ ap (deck_taken machine.cells.xdata) s.decks ∙
       ap (λ (w : Option Name). deck_taken w (decks_from machine.decks_from cards)) (sym same_name)
 
-  pub takes_nothing : deck_taken wanted (decks_from machine.decks_from cards) ≡ None → Gives linear_programming card (takes card gives report state) (stops (VerbStop (record { fault = DeckNotFound; card = card })))
-  takes_nothing none = gives_fault card DeckNotFound (deck_taken state.cells.xdata state.decks) _ (deck_shown ∙ none)
+  pub takes_nothing : deck_taken wanted (decks_from machine.decks_from cards) ≡ None → Settles card (takes card gives report state) (stops (VerbStop (record { fault = DeckNotFound; card = card })))
+  takes_nothing none = settles_fault card DeckNotFound (deck_taken state.cells.xdata state.decks) _ (deck_shown ∙ none)
 
   pub takes_refused : (deck : List Card) (rest : List (List Card)) (fault : DeckFault) → deck_taken wanted (decks_from machine.decks_from cards) ≡ Some (deck, rest) →
-      gives deck ≡ Err fault → Gives linear_programming card (takes card gives report state) (stops (deck_stop fault))
+      gives deck ≡ Err fault → Settles card (takes card gives report state) (stops (deck_stop fault))
   takes_refused deck rest fault taken err =
-      gives_found card DeckNotFound (deck_taken state.cells.xdata state.decks) _ (deck, rest) _ (deck_shown ∙ taken) (gives_deck_fault card (gives deck) _ fault err)
+      settles_found card DeckNotFound (deck_taken state.cells.xdata state.decks) _ (deck, rest) _ (deck_shown ∙ taken) (settles_deck_fault card (gives deck) _ fault err)
 
   pub takes_problem : (deck : List Card) (rest : List (List Card)) (problem : Problem ℕ) → deck_taken wanted (decks_from machine.decks_from cards) ≡ Some (deck, rest) →
-      gives deck ≡ Ok problem → Gives linear_programming card (takes card gives report state) (next (Prints (report (size_of problem))) (with_problem problem rest state))
+      gives deck ≡ Ok problem → Settles card (takes card gives report state) (next (Prints (report (size_of problem))) (with_problem problem rest state))
   takes_problem deck rest problem taken ok =
-      gives_found card DeckNotFound (deck_taken state.cells.xdata state.decks) _ (deck, rest) _ (deck_shown ∙ taken) (gives_problem card (gives deck) _ problem _ ok refl)
+      settles_found card DeckNotFound (deck_taken state.cells.xdata state.decks) _ (deck, rest) _ (deck_shown ∙ taken) (settles_problem card (gives deck) _ problem _ ok refl)
 
 -- the decks after a card are those from the next card on
-pub filed_after : (verb : DeckVerb) (card : ℕ) (cards : List (List ℕ)) (machine : Machine) (problem : Problem ℕ) (last from_card : ℕ) → last ≤ length cards → from_card ≡ last + 1 →
-    ((position executed : ℕ) (state : State) → Stands cards machine position executed state →
-    Gives linear_programming card (verb_move (verb_of verb) card state) (next (Prints (report_of verb (size_of problem))) (with_problem problem (decks_of (drop last (numbered_cards cards))) state))) →
-    IsDescribed linear_programming verb card cards machine problem from_card
-filed_after verb card cards machine problem last from_card within is given =
+pub filed_after : {K : Type 0} (Shows : Filed → K → Present → Type 0) (verb : DeckVerb) (card : ℕ) (cards : List (List ℕ)) (machine : Machine K) (problem : Problem ℕ) (last from_card : ℕ) → last ≤ length cards → from_card ≡ last + 1 →
+    ((position executed : ℕ) (state : State) → Stands Shows cards machine position executed state →
+    Settles card (verb_move (verb_of verb) card state) (next (Prints (report_of verb (size_of problem))) (with_problem problem (decks_of (drop last (numbered_cards cards))) state))) →
+    IsDescribed Shows verb card cards machine problem from_card
+filed_after Shows verb card cards machine problem last from_card within is given =
     let one_before : last ≡ from_card - 1 = omega (arith, is) in
     record {
       files = λ position executed state s.
-          subst (λ (n : ℕ). Gives linear_programming card (verb_move (verb_of verb) card state) (next (Prints (report_of verb (size_of problem))) (with_problem problem (decks_of (drop n (numbered_cards cards))) state)))
+          subst (λ (n : ℕ). Settles card (verb_move (verb_of verb) card state) (next (Prints (report_of verb (size_of problem))) (with_problem problem (decks_of (drop n (numbered_cards cards))) state)))
           one_before (given position executed state s);
       first = omega (arith, is);
       last = omega (arith, is, within);
@@ -102,33 +101,33 @@ filed_after verb card cards machine problem last from_card within is given =
 
 -- ---- what CONVERT finds
 
-module _ (card : ℕ) (cards : List (List ℕ)) (machine : Machine) (wanted : Option Name) (same_name : wanted ≡ machine.cells.xdata) where
-  pub finds_no_deck : deck_taken wanted (decks_from machine.decks_from cards) ≡ None → Describes linear_programming Convert card cards machine (Ok (described.Ends (Verb DeckNotFound card)))
-  unfolding linear_programming verb_move
-  finds_no_deck none = λ position executed state s. takes_nothing card cards machine wanted same_name s (λ deck. conversion deck state.cells.xpbname) reports.Converted none
+module _ {K : Type 0} (Shows : Filed → K → Present → Type 0) (card : ℕ) (cards : List (List ℕ)) (machine : Machine K) (wanted : Option Name) (same_name : wanted ≡ machine.cells.xdata) where
+  pub finds_no_deck : deck_taken wanted (decks_from machine.decks_from cards) ≡ None → Describes Shows Convert card cards machine (Ok (described.Ends (Verb DeckNotFound card)))
+  unfolding verb_move
+  finds_no_deck none = λ position executed state s. takes_nothing Shows card cards machine wanted same_name s (λ deck. conversion deck state.cells.xpbname) reports.Converted none
 
   pub finds_a_deck : (given : Result (Problem ℕ) DeckStop) (deck : List Card) (last from_card : ℕ) →
       deck_taken wanted (decks_from machine.decks_from cards) ≡ Some (deck, decks_of (drop last (numbered_cards cards))) →
       IfOk given (λ problem. conversion deck machine.cells.xpbname ≡ Ok problem) → IfErr given (Refuses deck machine.cells.xpbname) →
-      last ≤ length cards → from_card ≡ last + 1 → Describes linear_programming Convert card cards machine (described_as given from_card)
-  unfolding linear_programming verb_move
+      last ≤ length cards → from_card ≡ last + 1 → Describes Shows Convert card cards machine (described_as given from_card)
+  unfolding verb_move
   finds_a_deck (Ok problem) deck last from_card taken ok err within is =
-      filed_after Convert card cards machine problem last from_card within is
+      filed_after Shows Convert card cards machine problem last from_card within is
       (λ position executed state s.
-      takes_problem card cards machine wanted same_name s (λ deck. conversion deck state.cells.xpbname) reports.Converted deck (decks_of (drop last (numbered_cards cards))) problem taken
+      takes_problem Shows card cards machine wanted same_name s (λ deck. conversion deck state.cells.xpbname) reports.Converted deck (decks_of (drop last (numbered_cards cards))) problem taken
       (ap (λ (c : Cells). conversion deck c.xpbname) s.cells ∙ ok))
   finds_a_deck (Err (Fault fault)) deck last from_card taken ok err within is = λ position executed state s.
-      takes_refused card cards machine wanted same_name s (λ deck. conversion deck state.cells.xpbname) reports.Converted deck (decks_of (drop last (numbered_cards cards))) fault taken
+      takes_refused Shows card cards machine wanted same_name s (λ deck. conversion deck state.cells.xpbname) reports.Converted deck (decks_of (drop last (numbered_cards cards))) fault taken
       (ap (λ (c : Cells). conversion deck c.xpbname) s.cells ∙ err)
   finds_a_deck (Err NoMemory) deck last from_card taken ok err within is = refl
 
 -- ---- the statement
 
-module _ {P : Type 0} (written stopped_at : P → Option (List ℕ)) (faults refusals : P → ℕ) (verb : DeckVerb) (card : ℕ) (cards : List (List ℕ)) (machine : Machine) where
-  module _ (problem : Problem ℕ) (from_card : ℕ) (file : Filed) (described : IsDescribed linear_programming verb card cards machine problem from_card)
+module _ {K : Type 0} (Shows : Filed → K → Present → Type 0) {P : Type 0} (written stopped_at : P → Option (List ℕ)) (faults refusals : P → ℕ) (verb : DeckVerb) (card : ℕ) (cards : List (List ℕ)) (machine : Machine K) where
+  module _ (problem : Problem ℕ) (from_card : ℕ) (file : Filed) (described : IsDescribed Shows verb card cards machine problem from_card)
       (put : (name : Name) → filed_under name file ≡ (if same problem.name name then Some problem else filed_under name machine.file)) (last : file.last ≡ Some problem.name) where
-    comes_filed : (position executed : ℕ) (state : State) → Stands cards machine position executed state →
-        Comes linear_programming (verb_of verb) card cards position executed state (record machine { file = file; decks_from = from_card; setup = None; mark = None }) (Prints (report_of verb (size_of problem))) Next
+    comes_filed : (position executed : ℕ) (state : State) → Stands Shows cards machine position executed state →
+        Comes Shows Settles (verb_of verb) card cards position executed state (record machine { file = file; decks_from = from_card; setup = None; mark = None }) (Prints (report_of verb (size_of problem))) Next
     comes_filed position executed state s = (
       with_problem problem (decks_from from_card cards) state,
       described.files position executed state s,
@@ -144,11 +143,11 @@ module _ {P : Type 0} (written stopped_at : P → Option (List ℕ)) (faults ref
     )
 
     pub filed_done : {from to : P} → Writes {T = Unit {0}} written stopped_at faults refusals from to (Ok tt) (report_text (report_of verb (size_of problem))) →
-        Executes linear_programming (verb_of verb) card written stopped_at faults refusals from to cards machine (record machine { file = file; decks_from = from_card; setup = None; mark = None }) (Ok Next)
-    filed_done writes = loudly linear_programming (verb_of verb) card written stopped_at faults refusals cards machine (report_of verb (size_of problem)) comes_filed writes
+        Executes Shows Settles (verb_of verb) card written stopped_at faults refusals from to cards machine (record machine { file = file; decks_from = from_card; setup = None; mark = None }) (Ok Next)
+    filed_done writes = loudly Shows Settles (verb_of verb) card written stopped_at faults refusals cards machine (report_of verb (size_of problem)) comes_filed writes
 
-    pub filed_cut : {from to : P} (new : Machine) (stop : WriteStop) → Writes {T = Unit {0}} written stopped_at faults refusals from to (Err stop) (report_text (report_of verb (size_of problem))) →
-        Executes linear_programming (verb_of verb) card written stopped_at faults refusals from to cards machine new (Err (halt.Print stop))
+    pub filed_cut : {from to : P} (new : Machine K) (stop : WriteStop) → Writes {T = Unit {0}} written stopped_at faults refusals from to (Err stop) (report_text (report_of verb (size_of problem))) →
+        Executes Shows Settles (verb_of verb) card written stopped_at faults refusals from to cards machine new (Err (halt.Print stop))
     filed_cut new stop writes =
-        cut_off linear_programming (verb_of verb) card written stopped_at faults refusals cards machine new stop (report_of verb (size_of problem))
+        cut_off Shows Settles (verb_of verb) card written stopped_at faults refusals cards machine new stop (report_of verb (size_of problem))
         (λ position executed state s. let c = comes_filed position executed state s in (next (Prints (report_of verb (size_of problem))) c.0, c.1, refl)) writes

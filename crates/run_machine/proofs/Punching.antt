@@ -14,21 +14,20 @@ use Rattle.control_definitions.specs.Cells.{Cells}
 use Rattle.listing_definitions.specs.declared.VerbFault.TheVariants.{NoProblem}
 use Rattle.listing_definitions.specs.Report.{BcdOut}
 use Rattle.listing_definitions.specs.Text.{report_text}
-use Rattle.question_definitions.specs.Solving.{Solving}
-use Rattle.run_definitions.specs.State.{State, problem_of}
-use Rattle.run_definitions.specs.Moves.{Gain, Punches, punched_by, Outcome, next, Does, Gives, gain_of}
+use Rattle.problem_file.specs.Filed.{Filed}
+use Rattle.run_definitions.specs.State.{Present, State, problem_of}
+use Rattle.run_definitions.specs.Moves.{Gain, Punches, punched_by, Outcome, next, Move, Does, Settles, gain_of}
 use Rattle.run_definitions.specs.Verbs.{max_counted, verb_move}
 use Rattle.run_machine.specs.declared.act.Act.{Act}
 use Rattle.run_machine.specs.declared.act.Act.TheVariants.{Next, Ends}
 use Rattle.run_machine.specs.declared.act.Halt.{Halt}
 use Rattle.run_machine.specs.declared.act.Halt.TheVariants as halt
 use Rattle.run_machine.specs.declared.end.End.TheVariants as ends
-use Rattle.run_machine.specs.Machines.{Machine}
-use Rattle.answer_definitions.specs.Real.{linear_programming}
+use Rattle.run_machine.specs.declared.machine.Machine.{Machine}
 use Rattle.run_machine.specs.Standing.{filed, Stands}
 use Rattle.run_machine.specs.Statements.{Executes}
 use Rattle.run_machine.specs.Punching.{gain_cards, Performs}
-use Rattle.run_machine.proofs.Giving.{problem_shown, gives_fault, gives_found, quietly}
+use Rattle.run_machine.proofs.Giving.{problem_shown, settles_fault, settles_found, quietly}
 
 module _ {U : Type 0} (punch_written punch_stopped_at : U → Option (List ℕ)) (punch_faults punch_refusals : U → ℕ) (punch : U) where
   -- no card is punched
@@ -36,17 +35,17 @@ module _ {U : Type 0} (punch_written punch_stopped_at : U → Option (List ℕ))
   no_cards_written gain none = writes_same (sym (ap card_text none)) (writes_nothing punch_written punch_stopped_at punch_faults punch_refusals punch tt)
 
   -- a statement that punches nothing leaves the punch as it is
-  pub punches_nothing : (S : Solving) (verb : Verb ℕ) (card : ℕ) {P : Type 0} (written stopped_at : P → Option (List ℕ)) (faults refusals : P → ℕ) (print_old print_new : P) (cards : List (List ℕ)) (old new : Machine) (result : Result Act Halt) →
-      Executes S verb card written stopped_at faults refusals print_old print_new cards old new result →
-      Performs S verb card written stopped_at faults refusals print_old print_new punch_written punch_stopped_at punch_faults punch_refusals punch punch cards old new result
-  punches_nothing S verb card written stopped_at faults refusals print_old print_new cards old new (Ok act) executes = λ position executed state s.
+  pub punches_nothing : {K : Type 0} (Shows : Filed → K → Present → Type 0) (Given : ℕ → Move → Outcome → Type 0) (verb : Verb ℕ) (card : ℕ) {P : Type 0} (written stopped_at : P → Option (List ℕ)) (faults refusals : P → ℕ) (print_old print_new : P) (cards : List (List ℕ)) (old new : Machine K) (result : Result Act Halt) →
+      Executes Shows Given verb card written stopped_at faults refusals print_old print_new cards old new result →
+      Performs Shows Given verb card written stopped_at faults refusals print_old print_new punch_written punch_stopped_at punch_faults punch_refusals punch punch cards old new result
+  punches_nothing Shows Given verb card written stopped_at faults refusals print_old print_new cards old new (Ok act) executes = λ position executed state s.
       let a = executes position executed state s in
       record { gain = a.gain; comes = a.comes; prints = a.writes; punches = no_cards_written a.gain a.no_cards }
-  punches_nothing S verb card written stopped_at faults refusals print_old print_new cards old new (Err (halt.Print stop)) executes = λ position executed state s.
+  punches_nothing Shows Given verb card written stopped_at faults refusals print_old print_new cards old new (Err (halt.Print stop)) executes = λ position executed state s.
       let a = executes position executed state s in
       record { outcome = a.outcome; gives = a.gives; prints = a.writes; punches = no_cards_written (gain_of a.outcome) a.no_cards }
-  punches_nothing S verb card written stopped_at faults refusals print_old print_new cards old new (Err (halt.Punch stop)) executes = absurd executes
-  punches_nothing S verb card written stopped_at faults refusals print_old print_new cards old new (Err halt.NoMemory) executes = (executes, refl)
+  punches_nothing Shows Given verb card written stopped_at faults refusals print_old print_new cards old new (Err (halt.Punch stop)) executes = absurd executes
+  punches_nothing Shows Given verb card written stopped_at faults refusals print_old print_new cards old new (Err halt.NoMemory) executes = (executes, refl)
 
 -- ---- BCDOUT
 
@@ -86,26 +85,26 @@ cards_of problem = deck_cards (by_names problem)
 abbrev punches_it : State → Problem ℕ → Outcome
 punches_it state problem = next (Punches (BcdOut problem.name (min (length (cards_of problem)) max_counted)) (cards_of problem)) state
 
-punch_gives : (card : ℕ) (state : State) (problem : Problem ℕ) → problem_of state.cells.xpbname state.file ≡ Some problem → Gives linear_programming card (verb_move Bcdout card state) (punches_it state problem)
-unfolding linear_programming verb_move
-punch_gives card state problem is = gives_found card NoProblem (problem_of state.cells.xpbname state.file) (λ (p : Problem ℕ). Does (punches_it state p)) problem (punches_it state problem) is refl
+punch_gives : (card : ℕ) (state : State) (problem : Problem ℕ) → problem_of state.cells.xpbname state.file ≡ Some problem → Settles card (verb_move Bcdout card state) (punches_it state problem)
+unfolding verb_move
+punch_gives card state problem is = settles_found card NoProblem (problem_of state.cells.xpbname state.file) (λ (p : Problem ℕ). Does (punches_it state p)) problem (punches_it state problem) is refl
 
-module _ (card : ℕ) {P U : Type 0} (written stopped_at : P → Option (List ℕ)) (faults refusals : P → ℕ) (punch_written punch_stopped_at : U → Option (List ℕ)) (punch_faults punch_refusals : U → ℕ) (cards : List (List ℕ)) (machine : Machine) where
+module _ {K : Type 0} (Shows : Filed → K → Present → Type 0) (card : ℕ) {P U : Type 0} (written stopped_at : P → Option (List ℕ)) (faults refusals : P → ℕ) (punch_written punch_stopped_at : U → Option (List ℕ)) (punch_faults punch_refusals : U → ℕ) (cards : List (List ℕ)) (machine : Machine K) where
   pub no_problem_punched : (print : P) (punch : U) → filed machine.cells.xpbname machine.file ≡ None →
-      Performs linear_programming Bcdout card written stopped_at faults refusals print print punch_written punch_stopped_at punch_faults punch_refusals punch punch cards machine machine (Ok (Ends (ends.Verb NoProblem card)))
-  unfolding linear_programming verb_move
+      Performs Shows Settles Bcdout card written stopped_at faults refusals print print punch_written punch_stopped_at punch_faults punch_refusals punch punch cards machine machine (Ok (Ends (ends.Verb NoProblem card)))
+  unfolding verb_move
   no_problem_punched print punch none =
-      punches_nothing punch_written punch_stopped_at punch_faults punch_refusals punch linear_programming Bcdout card written stopped_at faults refusals print print cards machine machine (Ok (Ends (ends.Verb NoProblem card)))
-      (quietly linear_programming Bcdout card written stopped_at faults refusals cards machine print
-      (λ position executed state s. gives_fault card NoProblem (problem_of state.cells.xpbname state.file) _ (problem_shown s (λ (c : Cells). c.xpbname) None none)))
+      punches_nothing punch_written punch_stopped_at punch_faults punch_refusals punch Shows Settles Bcdout card written stopped_at faults refusals print print cards machine machine (Ok (Ends (ends.Verb NoProblem card)))
+      (quietly Shows Settles Bcdout card written stopped_at faults refusals cards machine print
+      (λ position executed state s. settles_fault card NoProblem (problem_of state.cells.xpbname state.file) _ (problem_shown s (λ (c : Cells). c.xpbname) None none)))
 
   module _ (problem : Problem ℕ) (on_file : filed machine.cells.xpbname machine.file ≡ Some problem) where
-    gives_at : {position executed : ℕ} {state : State} → Stands cards machine position executed state → Gives linear_programming card (verb_move Bcdout card state) (punches_it state problem)
+    gives_at : {position executed : ℕ} {state : State} → Stands Shows cards machine position executed state → Settles card (verb_move Bcdout card state) (punches_it state problem)
     gives_at {state = state} s = punch_gives card state problem (problem_shown s (λ (c : Cells). c.xpbname) (Some problem) on_file)
 
     -- the punch stops in the deck
     pub deck_cut : (print : P) {punch_old punch_new : U} {T : Type 0} (stop : WriteStop) → Writes {T = T} punch_written punch_stopped_at punch_faults punch_refusals punch_old punch_new (Err stop) (card_text (cards_of problem)) →
-        Performs linear_programming Bcdout card written stopped_at faults refusals print print punch_written punch_stopped_at punch_faults punch_refusals punch_old punch_new cards machine machine (Err (halt.Punch stop))
+        Performs Shows Settles Bcdout card written stopped_at faults refusals print print punch_written punch_stopped_at punch_faults punch_refusals punch_old punch_new cards machine machine (Err (halt.Punch stop))
     deck_cut print stop punches = λ position executed state s. record {
       report = BcdOut problem.name (min (length (cards_of problem)) max_counted);
       deck = cards_of problem;
@@ -123,7 +122,7 @@ module _ (card : ℕ) {P U : Type 0} (written stopped_at : P → Option (List �
       own_line result prints = writes_same (ap (λ (n : Name). report_text (BcdOut n count)) is_name ∙ ap (λ (k : ℕ). report_text (BcdOut problem.name k)) is_count) prints
 
       pub deck_punched : Writes {T = Unit {0}} written stopped_at faults refusals print_old print_new (Ok tt) (report_text (BcdOut name count)) →
-          Performs linear_programming Bcdout card written stopped_at faults refusals print_old print_new punch_written punch_stopped_at punch_faults punch_refusals punch_old punch_new cards machine machine (Ok Next)
+          Performs Shows Settles Bcdout card written stopped_at faults refusals print_old print_new punch_written punch_stopped_at punch_faults punch_refusals punch_old punch_new cards machine machine (Ok Next)
       deck_punched prints = λ position executed state s. record {
         gain = Punches (BcdOut problem.name (min (length (cards_of problem)) max_counted)) (cards_of problem);
         comes = (state, gives_at s, s);
@@ -133,7 +132,7 @@ module _ (card : ℕ) {P U : Type 0} (written stopped_at : P → Option (List �
 
       -- the deck is punched, and the print stops in its line
       pub deck_line_cut : (stop : WriteStop) → Writes {T = Unit {0}} written stopped_at faults refusals print_old print_new (Err stop) (report_text (BcdOut name count)) →
-          Performs linear_programming Bcdout card written stopped_at faults refusals print_old print_new punch_written punch_stopped_at punch_faults punch_refusals punch_old punch_new cards machine machine (Err (halt.Print stop))
+          Performs Shows Settles Bcdout card written stopped_at faults refusals print_old print_new punch_written punch_stopped_at punch_faults punch_refusals punch_old punch_new cards machine machine (Err (halt.Print stop))
       deck_line_cut stop prints = λ position executed state s. record {
         outcome = punches_it state problem;
         gives = gives_at s;

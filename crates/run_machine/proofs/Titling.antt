@@ -5,29 +5,29 @@ use Rattle.job_devices.specs.Text.{Writes}
 use Rattle.control_definitions.specs.Program.{Title}
 use Rattle.listing_definitions.specs.Report.{Titled}
 use Rattle.listing_definitions.specs.Text.{report_text}
-use Rattle.run_definitions.specs.State.{State}
-use Rattle.run_definitions.specs.Moves.{Prints, next, Gives}
+use Rattle.problem_file.specs.Filed.{Filed}
+use Rattle.run_definitions.specs.State.{Present, State}
+use Rattle.run_definitions.specs.Moves.{Prints, next, Settles}
 use Rattle.run_definitions.specs.Verbs.{verb_move}
 use Rattle.run_machine.specs.declared.act.Act.TheVariants.{Next}
 use Rattle.run_machine.specs.declared.act.Halt.TheVariants as halt
-use Rattle.run_machine.specs.Machines.{Machine}
-use Rattle.answer_definitions.specs.Real.{linear_programming}
+use Rattle.run_machine.specs.declared.machine.Machine.{Machine}
 use Rattle.run_machine.specs.Statements.{Executes}
 use Rattle.run_machine.proofs.Giving.{loudly, cut_off}
 
-titles : (text : List ℕ) (card : ℕ) (state : State) → Gives linear_programming card (verb_move (Title text) card state) (next (Prints (Titled text)) state)
-unfolding linear_programming verb_move
+titles : (text : List ℕ) (card : ℕ) (state : State) → Settles card (verb_move (Title text) card state) (next (Prints (Titled text)) state)
+unfolding verb_move
 titles text card state = refl
 
-module _ {P : Type 0} (written stopped_at : P → Option (List ℕ)) (faults refusals : P → ℕ) {print_old print_new : P} (text : List ℕ) (card : ℕ) (cards : List (List ℕ)) (machine : Machine) where
+module _ {K : Type 0} (Shows : Filed → K → Present → Type 0) {P : Type 0} (written stopped_at : P → Option (List ℕ)) (faults refusals : P → ℕ) {print_old print_new : P} (text : List ℕ) (card : ℕ) (cards : List (List ℕ)) (machine : Machine K) where
   pub title_done : (printed : List ℕ) → printed ≡ text → Writes {T = Unit {0}} written stopped_at faults refusals print_old print_new (Ok tt) (report_text (Titled printed)) →
-      Executes linear_programming (Title text) card written stopped_at faults refusals print_old print_new cards machine machine (Ok Next)
+      Executes Shows Settles (Title text) card written stopped_at faults refusals print_old print_new cards machine machine (Ok Next)
   title_done printed same writes =
-      loudly linear_programming (Title text) card written stopped_at faults refusals cards machine (Titled text) (λ position executed state s. (state, titles text card state, s))
+      loudly Shows Settles (Title text) card written stopped_at faults refusals cards machine (Titled text) (λ position executed state s. (state, titles text card state, s))
       (subst (λ (t : List ℕ). Writes {T = Unit {0}} written stopped_at faults refusals print_old print_new (Ok tt) (report_text (Titled t))) same writes)
 
   pub title_cut : (stop : WriteStop) (printed : List ℕ) → printed ≡ text → Writes {T = Unit {0}} written stopped_at faults refusals print_old print_new (Err stop) (report_text (Titled printed)) →
-      Executes linear_programming (Title text) card written stopped_at faults refusals print_old print_new cards machine machine (Err (halt.Print stop))
+      Executes Shows Settles (Title text) card written stopped_at faults refusals print_old print_new cards machine machine (Err (halt.Print stop))
   title_cut stop printed same writes =
-      cut_off linear_programming (Title text) card written stopped_at faults refusals cards machine machine stop (Titled text) (λ position executed state s. (next (Prints (Titled text)) state, titles text card state, refl))
+      cut_off Shows Settles (Title text) card written stopped_at faults refusals cards machine machine stop (Titled text) (λ position executed state s. (next (Prints (Titled text)) state, titles text card state, refl))
       (subst (λ (t : List ℕ). Writes {T = Unit {0}} written stopped_at faults refusals print_old print_new (Err stop) (report_text (Titled t))) same writes)

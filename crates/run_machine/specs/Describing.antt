@@ -7,9 +7,9 @@ use Rattle.deck_fields.specs.declared.stop.DeckStop.TheVariants.{Fault, NoMemory
 use Rattle.problem_definitions.specs.Problem.{Problem}
 use Rattle.control_definitions.specs.Program as program
 use Rattle.listing_definitions.specs.Report as reports
-use Rattle.question_definitions.specs.Solving.{Solving}
-use Rattle.run_definitions.specs.State.{State}
-use Rattle.run_definitions.specs.Moves.{Nothing, Prints, next, Gives}
+use Rattle.problem_file.specs.Filed.{Filed as Problems}
+use Rattle.run_definitions.specs.State.{Present, State}
+use Rattle.run_definitions.specs.Moves.{Nothing, Prints, next, Settles}
 use Rattle.run_definitions.specs.Verbs.{size_of, verb_move}
 use Rattle.run_machine.specs.declared.act.Act.TheVariants as act
 use Rattle.run_machine.specs.declared.act.Halt.{Halt}
@@ -19,7 +19,7 @@ use Rattle.run_machine.specs.declared.taking.DeckVerb.TheVariants.{Convert, Revi
 use Rattle.run_machine.specs.declared.taking.Described.{Described}
 use Rattle.run_machine.specs.declared.taking.Described.TheVariants.{Filed, Ends}
 use Rattle.run_machine.specs.declared.end.End.TheVariants as ends
-use Rattle.run_machine.specs.Machines.{Machine}
+use Rattle.run_machine.specs.declared.machine.Machine.{Machine}
 use Rattle.run_machine.specs.Standing.{Stands}
 use Rattle.run_machine.specs.Statements.{Comes}
 
@@ -41,23 +41,25 @@ decks_from number cards = decks_of (drop (number - 1) (numbered_cards cards))
 abbrev pub with_problem : Problem ℕ → List (List Card) → State → State
 with_problem problem decks state = record state { file = problem ∷ state.file; decks = decks; setup = None; mark = None }
 
--- From each state that the machine shows, the statement files and prints this problem; the decks that are left are those from the
--- next card on.
-pub record IsDescribed (S : Solving) (verb : DeckVerb) (card : ℕ) (cards : List (List ℕ)) (machine : Machine) (problem : Problem ℕ) (from_card : ℕ) : Type 0 where
-  pub files : (position executed : ℕ) (state : State) → Stands cards machine position executed state →
-      Gives S card (verb_move (verb_of verb) card state) (next (Prints (report_of verb (size_of problem))) (with_problem problem (decks_from from_card cards) state))
-  pub first : 1 ≤ from_card
-  pub last : from_card ≤ length cards + 1
-
 -- the problem that a deck gives is to be filed, and a fault of the deck ends the run; else there is no memory
 abbrev pub described_as : Result (Problem ℕ) DeckStop → ℕ → Result Described Halt
 described_as (Ok problem) from_card = Ok (Filed problem from_card)
 described_as (Err (Fault fault)) from_card = Ok (Ends (ends.Deck fault))
 described_as (Err NoMemory) from_card = Err halt.NoMemory
 
--- A problem is to be filed, or from each state that the machine shows the statement ends the run, or there is no memory.
-abbrev pub Describes : Solving → DeckVerb → ℕ → List (List ℕ) → Machine → Result Described Halt → Type 0
-Describes S verb card cards machine (Ok (Filed problem from_card)) = IsDescribed S verb card cards machine problem from_card
-Describes S verb card cards machine (Ok (Ends end)) =
-    (position executed : ℕ) (state : State) → Stands cards machine position executed state → Comes S (verb_of verb) card cards position executed state machine Nothing (act.Ends end)
-Describes S verb card cards machine (Err stop) = stop ≡ halt.NoMemory
+module _ {K : Type 0} (Shows : Problems → K → Present → Type 0) (verb : DeckVerb) (card : ℕ) (cards : List (List ℕ)) (machine : Machine K) where
+  -- From each state that the machine shows, the statement files and prints this problem; the decks that are left are those from the
+  -- next card on.
+  pub record IsDescribed (problem : Problem ℕ) (from_card : ℕ) : Type 0 where
+    pub files : (position executed : ℕ) (state : State) → Stands Shows cards machine position executed state →
+        Settles card (verb_move (verb_of verb) card state) (next (Prints (report_of verb (size_of problem))) (with_problem problem (decks_from from_card cards) state))
+    pub first : 1 ≤ from_card
+    pub last : from_card ≤ length cards + 1
+
+  -- A problem is to be filed, or from each state that the machine shows the statement ends the run, or there is no memory.
+  abbrev pub Describes : Result Described Halt → Type 0
+  Describes (Ok (Filed problem from_card)) = IsDescribed problem from_card
+  Describes (Ok (Ends end)) =
+      (position executed : ℕ) (state : State) → Stands Shows cards machine position executed state →
+      Comes Shows Settles (verb_of verb) card cards position executed state machine Nothing (act.Ends end)
+  Describes (Err stop) = stop ≡ halt.NoMemory

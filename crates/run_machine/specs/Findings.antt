@@ -1,5 +1,4 @@
 -- What the verbs that ask of linear programming find, and what follows.
---     IsOverflowAt result          an operation is refused at a basis, or there is no memory
 --     refused_finding refusal      what a refusal comes to
 --     TellsFinding result          what is found is told, with its report printed; or it is cut off
 --     act_of cells card finding    what follows
@@ -7,13 +6,9 @@
 use Rattle.std.specs.Prelude.{◌≡◌, ℕ, List, Option, Some, None, Result, Ok, Err}
 use Rattle.job_devices.specs.declared.device.WriteStop.{WriteStop}
 use Rattle.job_devices.specs.Text.{Writes}
-use Rattle.lp_definitions.specs.Basis.{Basics, basics_of}
-use Rattle.lp_definitions.specs.Waypoints.{waypoint}
-use Rattle.lp_definitions.specs.declared.Evidence.{Evidence}
 use Rattle.listing_definitions.specs.declared.Mark.{Mark}
 use Rattle.listing_definitions.specs.declared.Mark.TheVariants.{Optimal, Infeasible, Unbounded}
 use Rattle.control_definitions.specs.Cells.{Cells, steps_allowed}
-use Rattle.question_definitions.specs.Answers.{Basis}
 use Rattle.run_definitions.specs.Moves.{Gain, gain_text}
 use Rattle.run_machine.specs.declared.act.Act.{Act}
 use Rattle.run_machine.specs.declared.act.Act.TheVariants.{Next, Jump, Ends}
@@ -21,22 +16,13 @@ use Rattle.run_machine.specs.declared.act.Halt.{Halt}
 use Rattle.run_machine.specs.declared.act.Halt.TheVariants as halt
 use Rattle.run_machine.specs.declared.end.End.{End}
 use Rattle.run_machine.specs.declared.end.End.TheVariants as end
-use Rattle.run_machine.specs.declared.end.Place.{Place as OwnPlace}
 use Rattle.run_machine.specs.declared.finding.Finding.{Finding}
 use Rattle.run_machine.specs.declared.finding.Finding.TheVariants.{Refused, Overflow, WrongPrices, Limit, Ended, Shown, Swept}
 use Rattle.run_machine.specs.declared.selecting.Refusal.{Refusal}
 use Rattle.run_machine.specs.declared.selecting.Refusal.TheVariants.{Fault, NoMemory}
 use Rattle.run_machine.specs.declared.selecting.Refusal.TheVariants as refusals
-use Rattle.run_machine.specs.Ends.{place_shown}
 
 -- ---- what stops a call
-
--- an operation is refused, at this basis and this waypoint; or there is no memory
-pub data IsOverflowAt (s : Basis) (after : List Basics) (e : Evidence) : Result Finding Halt → Type 0 where
-  told : (place : OwnPlace) →
-      place_shown place ≡ record { basis = s; way = waypoint (basics_of s) after e.way } →
-      IsOverflowAt s after e (Ok (Overflow e (Some place)))
-  no_memory : IsOverflowAt s after e (Err halt.NoMemory)
 
 -- a refusal is found, or there is no memory
 abbrev pub refused_finding : Refusal → Result Finding Halt

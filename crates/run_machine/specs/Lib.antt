@@ -1,6 +1,4 @@
 pub mod Singular
-pub mod Kept
-pub mod Machines
 pub mod Ends
 pub mod Standing
 pub mod Statements

@@ -6,14 +6,14 @@ use Rattle.job_devices.specs.Text.{Writes}
 use Rattle.deck_definitions.specs.Written.{card_text}
 use Rattle.control_definitions.specs.Program.{Verb}
 use Rattle.listing_definitions.specs.Report.{Report}
-use Rattle.question_definitions.specs.Solving.{Solving}
-use Rattle.run_definitions.specs.State.{State}
-use Rattle.run_definitions.specs.Moves.{Gain, Punches, punched_by, Outcome, Goes, gain_of, Gives, gain_text}
+use Rattle.problem_file.specs.Filed.{Filed}
+use Rattle.run_definitions.specs.State.{Present, State}
+use Rattle.run_definitions.specs.Moves.{Gain, Punches, punched_by, Outcome, Goes, gain_of, gain_text, Move}
 use Rattle.run_definitions.specs.Verbs.{verb_move}
 use Rattle.run_machine.specs.declared.act.Act.{Act}
 use Rattle.run_machine.specs.declared.act.Halt.{Halt}
 use Rattle.run_machine.specs.declared.act.Halt.TheVariants as halt
-use Rattle.run_machine.specs.Machines.{Machine}
+use Rattle.run_machine.specs.declared.machine.Machine.{Machine}
 use Rattle.run_machine.specs.Standing.{Stands}
 use Rattle.run_machine.specs.Statements.{Comes}
 
@@ -21,19 +21,19 @@ use Rattle.run_machine.specs.Statements.{Comes}
 abbrev pub gain_cards : Gain → List ℕ
 gain_cards gain = card_text (punched_by gain)
 
-module _ (S : Solving) (verb : Verb ℕ) (card : ℕ) {P U : Type 0} (written stopped_at : P → Option (List ℕ)) (faults refusals : P → ℕ) (print_old print_new : P)
+module _ {K : Type 0} (Shows : Filed → K → Present → Type 0) (Given : ℕ → Move → Outcome → Type 0) (verb : Verb ℕ) (card : ℕ) {P U : Type 0} (written stopped_at : P → Option (List ℕ)) (faults refusals : P → ℕ) (print_old print_new : P)
     (punch_written punch_stopped_at : U → Option (List ℕ)) (punch_faults punch_refusals : U → ℕ) (punch_old punch_new : U) where
   -- with some gain, which is printed and punched, the statement comes to this act
-  pub record ActsWith (cards : List (List ℕ)) (position executed : ℕ) (state : State) (new : Machine) (act : Act) : Type 0 where
+  pub record ActsWith (cards : List (List ℕ)) (position executed : ℕ) (state : State) (new : Machine K) (act : Act) : Type 0 where
     pub gain : Gain
-    pub comes : Comes S verb card cards position executed state new gain act
+    pub comes : Comes Shows Given verb card cards position executed state new gain act
     pub prints : Writes {T = Unit {0}} written stopped_at faults refusals print_old print_new (Ok tt) (gain_text gain)
     pub punches : Writes {T = Unit {0}} punch_written punch_stopped_at punch_faults punch_refusals punch_old punch_new (Ok tt) (gain_cards gain)
 
   -- the statement comes to something, and the print stops before all that it gains is printed; what it punches is punched before
   pub record IsPrintCut (state : State) (stop : WriteStop) : Type 0 where
     pub outcome : Outcome
-    pub gives : Gives S card (verb_move verb card state) outcome
+    pub gives : Given card (verb_move verb card state) outcome
     pub prints : Writes {T = Unit {0}} written stopped_at faults refusals print_old print_new (Err stop) (gain_text (gain_of outcome))
     pub punches : Writes {T = Unit {0}} punch_written punch_stopped_at punch_faults punch_refusals punch_old punch_new (Ok tt) (gain_cards (gain_of outcome))
 
@@ -42,14 +42,14 @@ module _ (S : Solving) (verb : Verb ℕ) (card : ℕ) {P U : Type 0} (written st
     pub report : Report
     pub deck : List (List ℕ)
     pub after : State
-    pub gives : Gives S card (verb_move verb card state) (Goes (Punches report deck) after)
+    pub gives : Given card (verb_move verb card state) (Goes (Punches report deck) after)
     pub punches : Writes {T = Unit {0}} punch_written punch_stopped_at punch_faults punch_refusals punch_old punch_new (Err stop) (card_text deck)
     pub is_quiet : print_new ≡ print_old
 
   -- What a statement does from each state that the machine showed. Where it finds no memory, nothing is printed and nothing is
   -- punched.
-  abbrev pub Performs : List (List ℕ) → Machine → Machine → Result Act Halt → Type 0
-  Performs cards old new (Ok act) = (position executed : ℕ) (state : State) → Stands cards old position executed state → ActsWith cards position executed state new act
-  Performs cards old new (Err (halt.Print stop)) = (position executed : ℕ) (state : State) → Stands cards old position executed state → IsPrintCut state stop
-  Performs cards old new (Err (halt.Punch stop)) = (position executed : ℕ) (state : State) → Stands cards old position executed state → IsPunchCut state stop
+  abbrev pub Performs : List (List ℕ) → Machine K → Machine K → Result Act Halt → Type 0
+  Performs cards old new (Ok act) = (position executed : ℕ) (state : State) → Stands Shows cards old position executed state → ActsWith cards position executed state new act
+  Performs cards old new (Err (halt.Print stop)) = (position executed : ℕ) (state : State) → Stands Shows cards old position executed state → IsPrintCut state stop
+  Performs cards old new (Err (halt.Punch stop)) = (position executed : ℕ) (state : State) → Stands Shows cards old position executed state → IsPunchCut state stop
   Performs cards old new (Err halt.NoMemory) = (print_new ≡ print_old) × (punch_new ≡ punch_old)

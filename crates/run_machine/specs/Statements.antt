@@ -1,5 +1,5 @@
--- What a statement does with a machine.
---     Follows S move gain act      the move comes to this act with this gain
+-- What a statement does with a machine. Shows says what a setup shows, and Given which outcomes a move may come to.
+--     Follows move gain act        the move comes to this act with this gain
 --     Comes state gain act         from this state the statement comes to this act with this gain
 --     Decides old new act          the statement prints nothing, and comes to this act
 --     Executes result              the statement punches nothing, and comes to this act, with its report printed; or it is cut off
@@ -7,15 +7,15 @@ use Rattle.std.specs.Prelude.{◌≡◌, ℕ, ◌≤◌, List, [], Option, Resul
 use Rattle.job_devices.specs.declared.device.WriteStop.{WriteStop}
 use Rattle.job_devices.specs.Text.{Writes}
 use Rattle.control_definitions.specs.Program.{Verb, MoveLimit, Mvadr, Goto}
-use Rattle.question_definitions.specs.Solving.{Solving}
-use Rattle.run_definitions.specs.State.{State}
-use Rattle.run_definitions.specs.Moves.{Gain, Nothing, punched_by, gain_text, Outcome, Goes, Ends, gain_of, next, jump, Move, Gives}
+use Rattle.problem_file.specs.Filed.{Filed}
+use Rattle.run_definitions.specs.State.{Present, State}
+use Rattle.run_definitions.specs.Moves.{Gain, Nothing, punched_by, gain_text, Outcome, Ends, gain_of, next, jump, Move}
 use Rattle.run_definitions.specs.Verbs.{verb_move}
 use Rattle.run_machine.specs.declared.act.Act.{Act}
 use Rattle.run_machine.specs.declared.act.Act.TheVariants as act
 use Rattle.run_machine.specs.declared.act.Halt.{Halt}
 use Rattle.run_machine.specs.declared.act.Halt.TheVariants as halt
-use Rattle.run_machine.specs.Machines.{Machine}
+use Rattle.run_machine.specs.declared.machine.Machine.{Machine}
 use Rattle.run_machine.specs.Ends.{end_shown}
 use Rattle.run_machine.specs.Standing.{Stands}
 
@@ -26,40 +26,41 @@ IsSoundVerb (Mvadr demand position) = 1 ≤ position
 IsSoundVerb (Goto position) = 1 ≤ position
 IsSoundVerb _ = Unit {0}
 
--- the run goes on with a state that the machine shows, or it ends
-abbrev pub Follows : Solving → ℕ → Move → List (List ℕ) → Machine → ℕ → ℕ → Gain → Act → Type 0
-Follows S card move cards new position executed gain act.Next = (after : State) × Gives S card move (next gain after) × Stands cards new position executed after
-Follows S card move cards new position executed gain (act.Jump to) = (after : State) × Gives S card move (jump gain to after) × Stands cards new position executed after × (1 ≤ to)
-Follows S card move cards new position executed gain (act.Ends end) = Gives S card move (Ends gain (end_shown end))
+module _ {K : Type 0} (Shows : Filed → K → Present → Type 0) (Given : ℕ → Move → Outcome → Type 0) where
+  -- the run goes on with a state that the machine shows, or it ends
+  abbrev pub Follows : ℕ → Move → List (List ℕ) → Machine K → ℕ → ℕ → Gain → Act → Type 0
+  Follows card move cards new position executed gain act.Next = (after : State) × Given card move (next gain after) × Stands Shows cards new position executed after
+  Follows card move cards new position executed gain (act.Jump to) = (after : State) × Given card move (jump gain to after) × Stands Shows cards new position executed after × (1 ≤ to)
+  Follows card move cards new position executed gain (act.Ends end) = Given card move (Ends gain (end_shown end))
 
-module _ (S : Solving) (verb : Verb ℕ) (card : ℕ) where
-  abbrev pub Comes : List (List ℕ) → ℕ → ℕ → State → Machine → Gain → Act → Type 0
-  Comes cards position executed state new gain act = Follows S card (verb_move verb card state) cards new position executed gain act
+  module _ (verb : Verb ℕ) (card : ℕ) where
+    abbrev pub Comes : List (List ℕ) → ℕ → ℕ → State → Machine K → Gain → Act → Type 0
+    Comes cards position executed state new gain act = Follows card (verb_move verb card state) cards new position executed gain act
 
-  -- from each state that the machine showed, the statement comes to this act, and prints nothing
-  abbrev pub Decides : Machine → Machine → Act → Type 0
-  Decides old new act =
-      (cards : List (List ℕ)) (position executed : ℕ) (state : State) → Stands cards old position executed state → Comes cards position executed state new Nothing act
+    -- from each state that the machine showed, the statement comes to this act, and prints nothing
+    abbrev pub Decides : Machine K → Machine K → Act → Type 0
+    Decides old new act =
+        (cards : List (List ℕ)) (position executed : ℕ) (state : State) → Stands Shows cards old position executed state → Comes cards position executed state new Nothing act
 
-  module _ {P : Type 0} (written stopped_at : P → Option (List ℕ)) (faults refusals : P → ℕ) (print_old print_new : P) where
-    -- with some gain, which is printed, the statement comes to this act
-    pub record Acts (cards : List (List ℕ)) (position executed : ℕ) (state : State) (new : Machine) (act : Act) : Type 0 where
-      pub gain : Gain
-      pub no_cards : punched_by gain ≡ []
-      pub comes : Comes cards position executed state new gain act
-      pub writes : Writes {T = Unit {0}} written stopped_at faults refusals print_old print_new (Ok tt) (gain_text gain)
+    module _ {P : Type 0} (written stopped_at : P → Option (List ℕ)) (faults refusals : P → ℕ) (print_old print_new : P) where
+      -- with some gain, which is printed, the statement comes to this act
+      pub record Acts (cards : List (List ℕ)) (position executed : ℕ) (state : State) (new : Machine K) (act : Act) : Type 0 where
+        pub gain : Gain
+        pub no_cards : punched_by gain ≡ []
+        pub comes : Comes cards position executed state new gain act
+        pub writes : Writes {T = Unit {0}} written stopped_at faults refusals print_old print_new (Ok tt) (gain_text gain)
 
-    -- the statement comes to something, and the print stops before all that it gains is printed
-    pub record IsCutOff (state : State) (stop : WriteStop) : Type 0 where
-      pub outcome : Outcome
-      pub no_cards : punched_by (gain_of outcome) ≡ []
-      pub gives : Gives S card (verb_move verb card state) outcome
-      pub writes : Writes {T = Unit {0}} written stopped_at faults refusals print_old print_new (Err stop) (gain_text (gain_of outcome))
+      -- the statement comes to something, and the print stops before all that it gains is printed
+      pub record IsCutOff (state : State) (stop : WriteStop) : Type 0 where
+        pub outcome : Outcome
+        pub no_cards : punched_by (gain_of outcome) ≡ []
+        pub gives : Given card (verb_move verb card state) outcome
+        pub writes : Writes {T = Unit {0}} written stopped_at faults refusals print_old print_new (Err stop) (gain_text (gain_of outcome))
 
-    -- What a statement that punches nothing does from each state that the machine showed. Where it finds no memory, nothing is
-    -- printed.
-    abbrev pub Executes : List (List ℕ) → Machine → Machine → Result Act Halt → Type 0
-    Executes cards old new (Ok act) = (position executed : ℕ) (state : State) → Stands cards old position executed state → Acts cards position executed state new act
-    Executes cards old new (Err (halt.Print stop)) = (position executed : ℕ) (state : State) → Stands cards old position executed state → IsCutOff state stop
-    Executes cards old new (Err (halt.Punch stop)) = ⊥
-    Executes cards old new (Err halt.NoMemory) = print_new ≡ print_old
+      -- What a statement that punches nothing does from each state that the machine showed. Where it finds no memory, nothing is
+      -- printed.
+      abbrev pub Executes : List (List ℕ) → Machine K → Machine K → Result Act Halt → Type 0
+      Executes cards old new (Ok act) = (position executed : ℕ) (state : State) → Stands Shows cards old position executed state → Acts cards position executed state new act
+      Executes cards old new (Err (halt.Print stop)) = (position executed : ℕ) (state : State) → Stands Shows cards old position executed state → IsCutOff state stop
+      Executes cards old new (Err (halt.Punch stop)) = ⊥
+      Executes cards old new (Err halt.NoMemory) = print_new ≡ print_old

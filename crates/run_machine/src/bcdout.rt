@@ -1,20 +1,20 @@
 // BCDOUT.
 ghost use Rattle.std.specs.Prelude.{◌≡◌, ℕ, List};
 ghost use Rattle.control_definitions.specs.Program as program;
-ghost use Rattle.answer_definitions.specs.Real.{linear_programming};
+ghost use Rattle.run_definitions.specs.Moves.{Settles};
 ghost use Rattle.run_machine.specs.Punching.{Performs};
 
 use crate::act::{Act, Halt};
 use crate::end::End;
-use crate::machine::{Machine, Setup};
+use crate::kept::Kept;
+use crate::machine::Machine;
 use bcd_out::deck_of;
 use control_definitions::NameCell;
 use job_devices::Sink;
 use listing_definitions::VerbFault;
-use lp_model::Engine;
 use report_text::{Report, text_of};
 
-impl<E: Engine> Machine<Setup<E>> {
+impl<S: Kept> Machine<S> {
     /// BCDOUT: punches the deck of the problem that XPBNAME names, or else of the one filed last, and prints the number of its
     /// cards.
     pub fn punch_problem<P: Sink, U: Sink>(
@@ -24,7 +24,7 @@ impl<E: Engine> Machine<Setup<E>> {
         card: u32,
     ) -> Result<Act, Halt>
         ensures { (cards : List (List ℕ)) →
-            Performs linear_programming program.Bcdout card P.written P.stopped_at P.faults P.refusals print.old
+            Performs S.shows Settles program.Bcdout card P.written P.stopped_at P.faults P.refusals print.old
             print.new U.written U.stopped_at U.faults U.refusals punch.old punch.new cards self.now self.now
             result }
     {

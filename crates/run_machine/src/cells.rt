@@ -2,17 +2,17 @@
 ghost use Rattle.std.specs.Prelude.{◌≡◌, ◌≤◌, ℕ, List, IfSome};
 ghost use Rattle.control_definitions.specs.Program as program;
 ghost use Rattle.run_definitions.specs.Verbs.{mark_after};
-ghost use Rattle.answer_definitions.specs.Real.{linear_programming};
+ghost use Rattle.run_definitions.specs.Moves.{Settles};
 ghost use Rattle.run_machine.specs.Standing.{IsSound};
 ghost use Rattle.run_machine.specs.Statements.{Decides};
 
 use crate::act::Act;
 use crate::end::End;
-use crate::machine::{Machine, Setup};
+use crate::kept::Kept;
+use crate::machine::Machine;
 use control_definitions::{Demand, NameCell, NumberCell};
 use frac128::Frac;
 use listing_definitions::Mark;
-use lp_model::Engine;
 use name_table::Name;
 use run_cells::Cells;
 
@@ -30,12 +30,13 @@ fn mark_after(cell: NameCell, mark: Option<Mark>) -> Option<Mark>
     }
 }
 
-impl<E: Engine> Machine<Setup<E>> {
+impl<S: Kept> Machine<S> {
     /// INITIALZ: the cells and demands become what they were at the start of the run, and the mark is cleared.
     pub fn initialize(&mut self) -> Act
-        ensures acts { (card : ℕ) → Decides linear_programming program.Initialz card self.old
+        ensures acts { (card : ℕ) → Decides S.shows Settles program.Initialz card self.old
             self.new result }
-        ensures sound { (cards : List (List ℕ)) → IsSound cards self.old → IsSound cards self.new }
+        ensures sound { (cards : List (List ℕ)) → IsSound S.ready S.solved cards self.old →
+            IsSound S.ready S.solved cards self.new }
     {
         self.cells = Cells::new();
         self.mark = None;
@@ -44,9 +45,10 @@ impl<E: Engine> Machine<Setup<E>> {
 
     /// MOVE of a name. Another objective or right-hand side clears the mark.
     pub fn move_name(&mut self, cell: NameCell, name: Name) -> Act
-        ensures acts { (card : ℕ) → Decides linear_programming (program.MoveName cell name) card
+        ensures acts { (card : ℕ) → Decides S.shows Settles (program.MoveName cell name) card
             self.old self.new result }
-        ensures sound { (cards : List (List ℕ)) → IsSound cards self.old → IsSound cards self.new }
+        ensures sound { (cards : List (List ℕ)) → IsSound S.ready S.solved cards self.old →
+            IsSound S.ready S.solved cards self.new }
     {
         self.cells.move_name(cell, name);
         self.mark = mark_after(cell, self.mark);
@@ -55,9 +57,10 @@ impl<E: Engine> Machine<Setup<E>> {
 
     /// MOVE of a number.
     pub fn move_number(&mut self, cell: NumberCell, value: Frac) -> Act
-        ensures acts { (card : ℕ) → Decides linear_programming (program.MoveNumber cell value) card
+        ensures acts { (card : ℕ) → Decides S.shows Settles (program.MoveNumber cell value) card
             self.old self.new result }
-        ensures sound { (cards : List (List ℕ)) → IsSound cards self.old → IsSound cards self.new }
+        ensures sound { (cards : List (List ℕ)) → IsSound S.ready S.solved cards self.old →
+            IsSound S.ready S.solved cards self.new }
     {
         self.cells.move_number(cell, value);
         Act::Next
@@ -66,9 +69,10 @@ impl<E: Engine> Machine<Setup<E>> {
     /// MOVE of the number of steps that a verb may take, or of no limit on them.
     pub fn move_limit(&mut self, limit: Option<u32>) -> Act
         requires { IfSome limit (λ steps. steps ≤ 1000000) }
-        ensures acts { (card : ℕ) → Decides linear_programming (program.MoveLimit limit) card
+        ensures acts { (card : ℕ) → Decides S.shows Settles (program.MoveLimit limit) card
             self.old self.new result }
-        ensures sound { (cards : List (List ℕ)) → IsSound cards self.old → IsSound cards self.new }
+        ensures sound { (cards : List (List ℕ)) → IsSound S.ready S.solved cards self.old →
+            IsSound S.ready S.solved cards self.new }
     {
         self.cells.move_limit(limit);
         Act::Next
@@ -77,9 +81,10 @@ impl<E: Engine> Machine<Setup<E>> {
     /// MVADR: sets a demand to a position.
     pub fn set_demand(&mut self, demand: Demand, position: u32) -> Act
         requires { 1 ≤ position }
-        ensures acts { (card : ℕ) → Decides linear_programming (program.Mvadr demand position) card
+        ensures acts { (card : ℕ) → Decides S.shows Settles (program.Mvadr demand position) card
             self.old self.new result }
-        ensures sound { (cards : List (List ℕ)) → IsSound cards self.old → IsSound cards self.new }
+        ensures sound { (cards : List (List ℕ)) → IsSound S.ready S.solved cards self.old →
+            IsSound S.ready S.solved cards self.new }
     {
         self.cells.set_demand(demand, position);
         Act::Next
@@ -88,7 +93,7 @@ impl<E: Engine> Machine<Setup<E>> {
     /// GOTO: the statement at a position follows.
     pub fn jump(&self, position: u32) -> Act
         requires { 1 ≤ position }
-        ensures { (card : ℕ) → Decides linear_programming (program.Goto position) card self.now
+        ensures { (card : ℕ) → Decides S.shows Settles (program.Goto position) card self.now
             self.now result }
     {
         Act::Jump(position)
@@ -96,7 +101,7 @@ impl<E: Engine> Machine<Setup<E>> {
 
     /// EXIT: the run ends.
     pub fn exit(&self) -> Act
-        ensures { (card : ℕ) → Decides linear_programming program.Exit card self.now self.now
+        ensures { (card : ℕ) → Decides S.shows Settles program.Exit card self.now self.now
             result }
     {
         Act::Ends(End::Done)

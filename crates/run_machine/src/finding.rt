@@ -1,10 +1,6 @@
 // What the verbs that ask of linear programming find, and what follows.
-ghost use Rattle.std.specs.Prelude.{◌≡◌, ◌≤◌, length, IfOk};
-ghost use Rattle.lp_definitions.specs.Basis.{basics_of};
-ghost use Rattle.lp_definitions.specs.Waypoints.{waypoint};
-ghost use Rattle.basis_values.specs.Calls.{HasRates};
-ghost use Rattle.run_machine.specs.Ends.{place_shown};
-ghost use Rattle.run_machine.specs.Findings.{IsOverflowAt, refused_finding, demanded_act, act_of, mark_left};
+ghost use Rattle.std.specs.Prelude.{◌≡◌};
+ghost use Rattle.run_machine.specs.Findings.{refused_finding, demanded_act, act_of, mark_left};
 
 use crate::act::{Act, Halt};
 use crate::end::{End, Place};
@@ -13,9 +9,7 @@ use control_definitions::Demand;
 use frac128::Frac;
 use listing_definitions::{Mark, VerbFault};
 use lp_definitions::Evidence;
-use lp_model::{Basis, Lp, NoMemory, Rates};
 use run_cells::Cells;
-use std::alloc::Global;
 
 /// What the verbs that ask of linear programming find.
 #[derive(Drop)]
@@ -39,32 +33,6 @@ pub enum Finding {
     Swept(Frac),
 }
 
-/// The place of an evidence: a basis, and the set that has this number among the waypoints of rates of the same matrix.
-pub fn place_at<R: Rates>(
-    alloc: Global,
-    lp: &Lp,
-    basis: &Basis,
-    rates: &R,
-    way: u32,
-) -> Result<Place, NoMemory>
-    requires matrix { R.matrix rates.now ≡ lp.now.matrix }
-    requires way { way ≤ length (R.waypoints rates.now) }
-    ensures { IfOk result (λ place. place_shown place ≡
-        record {
-          basis = basis.now;
-          way = waypoint (R.basics rates.now)
-              (R.waypoints rates.now) way;
-        }) }
-{
-    let size = lp.number_of_variables() as usize;
-    let mut marks = vec![in alloc; false; size].map_err(|_| NoMemory)?;
-    rates.way_basics(way, &mut marks);
-    Ok(Place {
-        basis: basis.copy(alloc)?,
-        way: marks,
-    })
-}
-
 /// What a refusal comes to.
 pub fn refused(refusal: Refusal) -> Result<Finding, Halt>
     ensures { result ≡ refused_finding refusal }
@@ -76,27 +44,6 @@ pub fn refused(refusal: Refusal) -> Result<Finding, Halt>
             place: None,
         }),
         Refusal::NoMemory => Err(Halt::NoMemory),
-    }
-}
-
-/// An operation is refused at a basis.
-pub fn overflow_at<R: Rates>(
-    alloc: Global,
-    lp: &Lp,
-    basis: &Basis,
-    rates: &R,
-    evidence: Evidence,
-) -> Result<Finding, Halt>
-    requires rates { HasRates (R.matrix rates.now) (R.basics rates.now) lp.now basis.now }
-    requires way { evidence.way ≤ length (R.waypoints rates.now) }
-    ensures { IsOverflowAt basis.now (R.waypoints rates.now) evidence result }
-{
-    match place_at(alloc, lp, basis, rates, evidence.way) {
-        Ok(place) => Ok(Finding::Overflow {
-            evidence,
-            place: Some(place),
-        }),
-        Err(NoMemory) => Err(Halt::NoMemory),
     }
 }
 

@@ -1,5 +1,6 @@
-//! The machine of a run: its cells, the problems on file, the setup and the mark; the statements that ask nothing of linear programming,
-//! as CONVERT, REVISE, SETUP and BCDOUT; what the present cells select; what follows a finding; and how a run ends.
+//! The machine of a run, over whatever SETUP keeps: its cells, the problems on file, the setup and the mark; the statements that ask
+//! nothing of linear programming, as TITLE, MOVE, CONVERT, REVISE and BCDOUT; what the present cells select; what follows a finding; and
+//! how a run ends.
 #![tactic(auto)]
 
 mod act;
@@ -9,18 +10,17 @@ mod convert;
 mod end;
 mod ending;
 mod finding;
+mod kept;
 mod machine;
 mod revise;
 mod selecting;
-mod setup;
 mod taking;
 mod title;
 
 pub use act::{Act, AfterStatement, Halt};
 pub use end::{End, Place, SingularBasis};
 pub use ending::ending_of;
-pub use finding::{Finding, act_of, mark_left, overflow_at, place_at, refused};
-pub use machine::{Machine, Setup};
-pub use selecting::{Refusal, select_present};
-pub use setup::set_up;
-pub use title::print_title;
+pub use finding::{Finding, act_of, mark_left, refused};
+pub use kept::Kept;
+pub use machine::{Machine, wanted_name};
+pub use selecting::{Refusal, select_present, setup_choice};

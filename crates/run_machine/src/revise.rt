@@ -1,7 +1,7 @@
 // REVISE.
 ghost use Rattle.std.specs.Prelude.{◌≡◌, ◌≤◌, length};
 ghost use Rattle.control_definitions.specs.Program as program;
-ghost use Rattle.answer_definitions.specs.Real.{linear_programming};
+ghost use Rattle.run_definitions.specs.Moves.{Settles};
 ghost use Rattle.run_machine.specs.Standing.{IsSound};
 ghost use Rattle.run_machine.specs.Statements.{Executes};
 ghost use Rattle.run_machine.specs.Describing.{Describes};
@@ -9,22 +9,22 @@ ghost use Rattle.run_machine.specs.declared.taking.DeckVerb.TheVariants as deck_
 
 use crate::act::{Act, Halt};
 use crate::end::End;
-use crate::machine::{Machine, Setup};
+use crate::kept::Kept;
+use crate::machine::Machine;
 use crate::taking::{DeckVerb, Described, described_as, next_card};
 use card_reader::Cards;
 use control_definitions::NameCell;
 use job_decks::take_deck;
 use job_devices::Sink;
 use listing_definitions::VerbFault;
-use lp_model::Engine;
 use revise_deck::revise;
 use std::alloc::Global;
 
-impl<E: Engine> Machine<Setup<E>> {
+impl<S: Kept> Machine<S> {
     // Takes a deck, and revises the old problem by it.
     fn revised(&self, alloc: Global, cards: &Cards, card: u32) -> Result<Described, Halt>
-        requires { IsSound cards.now self.now }
-        ensures { Describes linear_programming deck_verb.Revise card cards.now self.now result }
+        requires { IsSound S.ready S.solved cards.now self.now }
+        ensures { Describes S.shows deck_verb.Revise card cards.now self.now result }
     {
         let Some(old) = self.problem_in(NameCell::Xoldname) else {
             return Ok(Described::Ends(End::Verb {
@@ -54,10 +54,10 @@ impl<E: Engine> Machine<Setup<E>> {
         print: &mut P,
         card: u32,
     ) -> Result<Act, Halt>
-        requires { IsSound cards.now self.old }
-        ensures acts { Executes linear_programming program.Revise card P.written P.stopped_at P.faults P.refusals
+        requires { IsSound S.ready S.solved cards.now self.old }
+        ensures acts { Executes S.shows Settles program.Revise card P.written P.stopped_at P.faults P.refusals
             print.old print.new cards.now self.old self.new result }
-        ensures sound { IsSound cards.now self.new }
+        ensures sound { IsSound S.ready S.solved cards.now self.new }
     {
         let described = self.revised(alloc, cards, card)?;
         self.file_described(DeckVerb::Revise, described, cards, print, card)

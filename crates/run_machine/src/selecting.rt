@@ -2,11 +2,13 @@
 ghost use Rattle.std.specs.Prelude.{◌≡◌, Ok, IfOk, IfErr};
 ghost use Rattle.selection_definitions.specs.Selection.{selected};
 ghost use Rattle.lp_setup.specs.Stops.{fault_of, IsOverflowOf};
+ghost use Rattle.control_verbs.specs.Shown.{options_shown};
 ghost use Rattle.run_definitions.specs.State.{choice_of};
 ghost use Rattle.run_machine.specs.Choosing.{refusal_of, IsUnselected};
 
 use crate::act::{Act, Halt};
 use crate::end::End;
+use control_verbs::SetupOptions;
 use listing_definitions::VerbFault;
 use lp_definitions::Evidence;
 use lp_model::Lp;
@@ -58,6 +60,17 @@ fn refusal_of(stop: SelectStop) -> Refusal
         SelectStop::NoBoundSet => Refusal::Fault(VerbFault::NoBoundSet),
         SelectStop::Overflow(evidence) => Refusal::Overflow(evidence),
         SelectStop::NoMemory => Refusal::NoMemory,
+    }
+}
+
+/// The options that stand on a card.
+pub fn setup_choice(options: &SetupOptions) -> SetupChoice
+    ensures { result ≡ options_shown options.now }
+{
+    SetupChoice {
+        bound: options.bound,
+        range: options.range,
+        sense: options.sense,
     }
 }
 

@@ -4,18 +4,18 @@ ghost use Rattle.problem_definitions.specs.Problem.{entry_count};
 ghost use Rattle.listing_definitions.specs.Text.{report_text};
 ghost use Rattle.report_text.specs.Shown.{IsReport, text_shown};
 ghost use Rattle.run_definitions.specs.Verbs.{size_of};
-ghost use Rattle.answer_definitions.specs.Real.{linear_programming};
+ghost use Rattle.run_definitions.specs.Moves.{Settles};
 ghost use Rattle.run_machine.specs.Standing.{IsSound};
 ghost use Rattle.run_machine.specs.Statements.{Executes};
 ghost use Rattle.run_machine.specs.Describing.{verb_of, report_of, Describes, described_as};
 
 use crate::act::{Act, Halt};
 use crate::end::End;
-use crate::machine::{Machine, Setup};
+use crate::kept::Kept;
+use crate::machine::Machine;
 use card_reader::Cards;
 use deck_fields::DeckStop;
 use job_devices::Sink;
-use lp_model::Engine;
 use problem_file::Problem;
 use report_text::{Report, text_of};
 
@@ -90,7 +90,7 @@ pub fn described_as(given: Result<Problem, DeckStop>, next: u32) -> Result<Descr
     }
 }
 
-impl<E: Engine> Machine<Setup<E>> {
+impl<S: Kept> Machine<S> {
     /// Files the problem that a statement found, and prints its size. Setup and mark are cleared.
     pub fn file_described<P: Sink>(
         &mut self,
@@ -100,12 +100,12 @@ impl<E: Engine> Machine<Setup<E>> {
         print: &mut P,
         card: u32,
     ) -> Result<Act, Halt>
-        requires sound { IsSound cards.now self.old }
-        requires described { Describes linear_programming verb card cards.now self.old
+        requires sound { IsSound S.ready S.solved cards.now self.old }
+        requires described { Describes S.shows verb card cards.now self.old
             (Ok described) }
-        ensures acts { Executes linear_programming (verb_of verb) card P.written P.stopped_at P.faults P.refusals
+        ensures acts { Executes S.shows Settles (verb_of verb) card P.written P.stopped_at P.faults P.refusals
             print.old print.new cards.now self.old self.new result }
-        ensures sound { IsSound cards.now self.new }
+        ensures sound { IsSound S.ready S.solved cards.now self.new }
     {
         match described {
             Described::Ends(end) => Ok(Act::Ends(end)),

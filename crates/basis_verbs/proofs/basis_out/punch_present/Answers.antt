@@ -1,16 +1,15 @@
 -- PUNCH punches the deck of the present basis, and prints its line.
 use Rattle.std.proofs.Common.{Some, sym, ap, ◌∙◌}
 use Rattle.std.proofs.lemmas.Result.{err_from_is_err_and}
-use Rattle.run_machine.proofs.Present.{ready_rates}
-use Rattle.basis_verbs.proofs.Selecting.{ready_of, stays_on_file}
+use Rattle.run_setup.proofs.Present.{ready_rates, ready_of, stays_on_file}
 use Rattle.basis_verbs.proofs.Punched.{no_setup, not_selected, deck_cut, deck_punched, deck_line_cut}
 use Rattle.basis_verbs.proofs.basis_out.punch_present.Goals as goal
 
 pub returns-in_default : goal.returns-in_default
 returns-in_default g c = λ cards. rw c.act.ensures (no_setup c.args.card g.P.Sink.written g.P.Sink.stopped_at g.P.Sink.faults g.P.Sink.refusals g.U.Sink.written g.U.Sink.stopped_at g.U.Sink.faults g.U.Sink.refusals cards c.args.machine.now c.args.print.now c.args.punch.now c.in_default.is)
 
-pub returns-in_default-get : goal.returns-in_default-get
-returns-in_default-get g c = λ cards. absurd (stays_on_file c.args.machine.now.file _ (ready_of c.args.machine.now.file c.args.machine.now.setup _ (c.in-Some.is ∙ ap Some (sym c.setup.view_is)) c.requires) (sym c.in_default-get.ensures))
+pub unreachable-unreachable : goal.unreachable-unreachable
+unreachable-unreachable g c = absurd (stays_on_file c.args.machine.now.file _ (ready_of c.args.machine.now.file c.args.machine.now.setup _ (c.in-Some.is ∙ ap Some (sym c.setup.view_is)) c.requires) (sym c.in_default-get.ensures))
 
 pub returns-in-Err : goal.returns-in-Err
 returns-in-Err g c = λ cards.

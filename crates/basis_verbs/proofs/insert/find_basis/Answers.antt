@@ -1,11 +1,10 @@
 -- INSERT with the setup of a machine.
 use Rattle.std.proofs.Common.{◌-◌, Some, Ok, drop, sym, ap, subst, ◌∙◌}
 use Rattle.card_definitions.specs.Cards.{numbered_cards}
-use Rattle.run_machine.proofs.Present.{as_many_rows, as_many_columns}
+use Rattle.run_setup.proofs.Present.{as_many_rows, as_many_columns, ready_of, stays_on_file}
 use Rattle.run_definitions.specs.State.{choice_of}
-use Rattle.run_machine.specs.Kept.{Setup}
+use Rattle.run_setup.specs.Kept.{Setup}
 use Rattle.basis_verbs.specs.Inserting.{IsGiven, IsInstalledFor}
-use Rattle.basis_verbs.proofs.Selecting.{ready_of, stays_on_file}
 use Rattle.basis_verbs.proofs.Inserted.{no_setup, not_selected, deck_ends, basis_found}
 use Rattle.basis_verbs.proofs.insert.find_basis.Goals as goal
 

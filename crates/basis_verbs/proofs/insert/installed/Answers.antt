@@ -3,7 +3,7 @@ use Rattle.std.proofs.Common.{List, refl, sym, ap, subst}
 use Rattle.exact_values.specs.Rational.{ℚ}
 use Rattle.lp_definitions.specs.Waypoints.{waypoint}
 use Rattle.basis_deck.specs.Installing.{InstallStops}
-use Rattle.run_machine.specs.Kept.{Setup}
+use Rattle.run_setup.specs.Kept.{Setup}
 use Rattle.basis_verbs.specs.Inserting.{IsSingularFor}
 use Rattle.basis_verbs.proofs.Inserted.{ended_at}
 use Rattle.basis_verbs.proofs.insert.installed.Goals as goal

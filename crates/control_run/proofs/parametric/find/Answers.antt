@@ -2,12 +2,15 @@
 use Rattle.std.proofs.Common.{Ok, Err, refl, sym, subst}
 use Rattle.std.proofs.lemmas.Result.{err_from_is_err_and}
 use Rattle.run_definitions.specs.State.{choice_of}
-use Rattle.run_machine.specs.Standing.{IsReady}
+use Rattle.run_setup.specs.Standing.{IsReady}
 use Rattle.control_run.specs.Sweeping.{sweep_shown}
-use Rattle.run_machine.proofs.Selected.{no_change}
+use Rattle.run_setup.proofs.Selected.{no_change}
 use Rattle.control_run.proofs.Sweep_steps.{unselected_told, unasked_told, run_told, serves}
 use Rattle.control_run.proofs.parametric.find.Goals as goal
-use Rattle.run_machine.proofs.Present.{as_many_columns, as_many_rows, ready_again, ready_rates, ready_solved}
+use Rattle.run_setup.proofs.Present.{as_many_columns, as_many_rows, ready_again, ready_rates, ready_solved, stays_on_file}
+
+pub unreachable-unreachable : goal.unreachable-unreachable
+unreachable-unreachable g c = absurd (stays_on_file c.args.file.now _ (subst (IsReady c.args.file.now) (sym c.setup.view_is) c.requires) (sym c.in_default.ensures))
 
 pub returns-in-Err-clause-tells : goal.returns-in-Err-clause-tells
 returns-in-Err-clause-tells g c =

@@ -1,7 +1,8 @@
 -- What is found decides what follows.
 use Rattle.std.proofs.Common.{None, Some}
 use Rattle.std.proofs.lemmas.Result.{err_from_is_err_and}
-use Rattle.control_run.proofs.Keeping.{ready_of, sound_cleared, sound_swept}
+use Rattle.control_run.proofs.Keeping.{sound_cleared, sound_swept}
+use Rattle.run_setup.proofs.Present.{ready_of}
 use Rattle.control_run.proofs.Sweep_comes.{sweep_no_setup, sweep_found, sweep_cut}
 use Rattle.control_run.proofs.parametric.sweep.Goals as goal
 

@@ -3,7 +3,7 @@ use Rattle.lp_model.specs.RatesCalls.{IfOverflow}
 use Rattle.present_answers.specs.Answers.{sheet_shown}
 use Rattle.present_answers.specs.Stops.{RangesRefused}
 use Rattle.lp_definitions.specs.declared.Evidence.{Evidence}
-use Rattle.run_machine.specs.Findings.{IsOverflowAt}
+use Rattle.run_setup.specs.Overflows.{IsOverflowAt}
 use Rattle.control_run.specs.Found.{RangesFound}
 use Rattle.control_run.proofs.Telling.{overflow_tells}
 use Rattle.control_run.proofs.Ranging.{ranges_overflow}

@@ -1,8 +1,11 @@
 use Rattle.std.proofs.Common.{sym, subst}
-use Rattle.run_machine.specs.Standing.{IsReady}
+use Rattle.run_setup.specs.Standing.{IsReady}
 use Rattle.control_run.proofs.Ranging.{ranges_at}
 use Rattle.control_run.proofs.ranges.range_setup.Goals as goal
-use Rattle.run_machine.proofs.Present.{ready_columns, ready_rows, ready_unchanged}
+use Rattle.run_setup.proofs.Present.{ready_columns, ready_rows, ready_unchanged, stays_on_file}
+
+pub unreachable-unreachable : goal.unreachable-unreachable
+unreachable-unreachable g c = absurd (stays_on_file c.args.file.now _ (subst (IsReady c.args.file.now) (sym c.setup.view_is) c.requires.ready) (sym c.in_default.ensures))
 
 pub range_basis-requires-clause-sheet : goal.range_basis-requires-clause-sheet
 range_basis-requires-clause-sheet g c =

@@ -1,7 +1,8 @@
 -- What is shown decides what follows.
 use Rattle.std.proofs.Common.{Some, refl, sym, ◌∙◌}
 use Rattle.std.proofs.lemmas.Result.{err_from_is_err_and}
-use Rattle.control_run.proofs.Keeping.{ready_of, solved_of, sound_kept}
+use Rattle.control_run.proofs.Keeping.{solved_of, sound_kept}
+use Rattle.run_setup.proofs.Present.{ready_of}
 use Rattle.control_run.proofs.Showing.{IsSameSetup, still_solved}
 use Rattle.control_run.proofs.Ranging.{without_fault, ranges_no_setup, ranges_refused, ranges_found, ranges_broken}
 use Rattle.listing_definitions.specs.declared.Mark.TheVariants.{Optimal}

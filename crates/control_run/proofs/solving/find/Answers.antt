@@ -4,13 +4,16 @@ use Rattle.std.proofs.lemmas.Result.{err_from_is_err_and}
 use Rattle.lp_definitions.specs.LinearProgram.{IsLinearProgram}
 use Rattle.question_definitions.specs.Answers.{Sheet}
 use Rattle.run_definitions.specs.State.{choice_of}
-use Rattle.run_machine.specs.Kept.{Setup}
-use Rattle.run_machine.specs.Standing.{IsReady, IsSolved}
-use Rattle.run_machine.proofs.Selected.{no_change}
+use Rattle.run_setup.specs.Kept.{Setup}
+use Rattle.run_setup.specs.Standing.{IsReady, IsSolved}
+use Rattle.run_setup.proofs.Selected.{no_change}
 use Rattle.control_run.specs.Found.{solver_of, limit_of}
 use Rattle.control_run.proofs.Solving_steps.{refusal_told, refusal_ends, solved_ends, path_told}
 use Rattle.control_run.proofs.solving.find.Goals as goal
-use Rattle.run_machine.proofs.Present.{as_many_columns, as_many_rows, now_selected, ready_again, ready_rates, ready_solved}
+use Rattle.run_setup.proofs.Present.{as_many_columns, as_many_rows, now_selected, ready_again, ready_rates, ready_solved, stays_on_file}
+
+pub unreachable-unreachable : goal.unreachable-unreachable
+unreachable-unreachable g c = absurd (stays_on_file c.args.file.now _ (subst (IsReady c.args.file.now) (sym c.setup.view_is) c.requires) (sym c.in_default.ensures))
 
 pub returns-in-Err-clause-tells : goal.returns-in-Err-clause-tells
 returns-in-Err-clause-tells g c =
@@ -65,4 +68,4 @@ returns-clause-solved g c =
     solved_ends (solver_of c.args.verb) sheet c.setup.inside.basis c.follow.new.basis (limit_of c.args.verb c.args.cells.now) (g.E.Rates.waypoints c.setup.inside.engine) (g.E.Rates.waypoints c.follow.new.rates) c.in_ok-finding.ensures.tells.gain c.in_ok-finding.finding
     (subst IsLinearProgram c.lp.view_is c.lp.invariant) (no_change c.in-Some.problem.now (choice_of c.args.cells.now c.setup.inside.options) c.in-Ok.lp c.in-Ok.ensures.selected)
     (record { is_basis = from.is_basis; nonsingular = from.nonsingular }) (record { is_basis = c.follow.ensures.rates.is_basis; nonsingular = c.follow.ensures.rates.nonsingular }) c.in_ok-finding.ensures.tells.holds
-    (λ mark. IsSolved mark c.args.cells.now c.args.file.now after) (λ mark optimal. record { is_selected = now_selected c.args.file.now _ ready c.in-Some.problem.now (sym c.in-Some.ensures) c.args.cells.now c.in-Ok.lp c.in-Ok.ensures.selected after refl refl refl; optimal = optimal })
+    (λ mark. IsSolved mark c.args.cells.now.xobj c.args.cells.now.xrhs c.args.file.now after) (λ mark optimal. record { is_selected = now_selected c.args.file.now _ ready c.in-Some.problem.now (sym c.in-Some.ensures) c.args.cells.now c.in-Ok.lp c.in-Ok.ensures.selected after refl refl refl; optimal = optimal })

@@ -1,5 +1,5 @@
 use Rattle.run_definitions.specs.State.{choice_of}
-use Rattle.run_machine.proofs.Selected.{unselected_by}
+use Rattle.run_machine.proofs.Unselected.{unselected_by}
 use Rattle.run_machine.proofs.selecting.select_present.Goals as goal
 
 pub returns-in-Err-clause-refused : goal.returns-in-Err-clause-refused

@@ -1,5 +1,0 @@
-use Rattle.run_machine.proofs.Deciding.{exit_decides}
-use Rattle.run_machine.proofs.cells.Machine+Setup+E.exit.Goals as goal
-
-pub returns : goal.returns
-returns g c = λ card. exit_decides card c.args.self.now

@@ -1,8 +1,0 @@
-use Rattle.run_machine.proofs.Deciding.{name_decides, name_sound}
-use Rattle.run_machine.proofs.cells.Machine+Setup+E.move_name.Goals as goal
-
-pub returns-clause-acts : goal.returns-clause-acts
-returns-clause-acts g c = λ card. name_decides c.args.cell c.args.name card c.args.self.now _ _ c.move_name.ensures c.mark_after-self.ensures
-
-pub returns-clause-sound : goal.returns-clause-sound
-returns-clause-sound g c = λ cards sound. name_sound c.args.cell c.args.name c.args.self.now _ _ c.move_name.ensures c.mark_after-self.ensures sound

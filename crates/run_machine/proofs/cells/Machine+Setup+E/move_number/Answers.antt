@@ -1,8 +1,0 @@
-use Rattle.run_machine.proofs.Deciding.{number_decides, number_sound}
-use Rattle.run_machine.proofs.cells.Machine+Setup+E.move_number.Goals as goal
-
-pub returns-clause-acts : goal.returns-clause-acts
-returns-clause-acts g c = λ card. number_decides c.args.cell c.args.value card c.args.self.now _ c.move_number.ensures
-
-pub returns-clause-sound : goal.returns-clause-sound
-returns-clause-sound g c = λ cards sound. number_sound c.args.cell c.args.value c.args.self.now _ c.move_number.ensures sound

@@ -1,0 +1,46 @@
+// What SETUP keeps for a run.
+
+use lp_model::{Basis, Engine, Lp};
+use lp_setup::SetupChoice;
+use name_table::Name;
+use run_machine::Kept;
+use std::marker::Model;
+
+/// What SETUP keeps, and PRIMAL goes on with: the name under which the problem is on file, the options, the linear program that was
+/// selected last, the present basis, and the engine with its rates. Contracts see the engine by what the trait promises of it.
+#[derive(Drop)]
+pub struct Setup<E: Engine> {
+    pub name: Name,
+    pub options: SetupChoice,
+    pub lp: Lp,
+    pub basis: Basis,
+    pub engine: E,
+}
+
+impl<E: Engine> Model for Setup<E> {
+    ghost use Rattle.run_setup.specs.Kept.{Setup as Seen};
+
+    ghost Value = { Seen };
+
+    ghost view = { λ s. record {
+      name = s.name;
+      options = s.options;
+      lp = s.lp;
+      basis = s.basis;
+      engine = record {
+        matrix = E.matrix s.engine;
+        basics = E.basics s.engine;
+        waypoints = E.waypoints s.engine;
+      };
+    } };
+}
+
+impl<E: Engine> Kept for Setup<E> {
+    ghost use Rattle.run_setup.specs.Standing.{IsPresent, IsReady, IsSolved};
+
+    ghost shows = { IsPresent };
+
+    ghost ready = { IsReady };
+
+    ghost solved = { IsSolved };
+}
