@@ -1,12 +1,12 @@
 -- Lines and tables of numbers, read one after another.
-use Rattle.std.proofs.Common.{◌≡◌, ℕ, ◌+◌, ◌-◌, ◌<◌, List, [], ◌∷◌, ◌++◌, map, Option, Some, None, refl, sym, ap, ap₂, ◌∙◌, subst, append-nil, arith}
+use Rattle.std.proofs.Common.{◌≡◌, ℕ, ◌+◌, ◌-◌, ◌<◌, List, [], ◌∷◌, ◌++◌, map, Some, None, refl, sym, ap, ap₂, ◌∙◌}
 use Rattle.std.specs.Prelude.{codes}
 use Rattle.std.proofs.lemmas.List.{map_push}
 use Rattle.lp_definitions.specs.LinearProgram.{numbers_from}
-use Rattle.listing_definitions.specs.Report.{Value, Line}
+use Rattle.listing_definitions.specs.Report.{Line}
 use Rattle.question_definitions.specs.Answers.{Sheet}
-use Rattle.walk_definitions.specs.Words.{Parsed, left_after}
-use Rattle.walk_definitions.specs.Tables.{values_in, line_head, line_of, line_in, table_in}
+use Rattle.walk_definitions.specs.Words.{left_after}
+use Rattle.walk_definitions.specs.Tables.{line_head, line_of, table_in}
 use Rattle.walk_definitions.proofs.Lines.{prefixed, prefixed_none, whole_line, no_head, no_values, no_end, one_more, no_more, all_read, next_number}
 use Rattle.listing_readers.specs.declared.tables.Numbers.{Numbers}
 use Rattle.listing_readers.specs.declared.tables.Shape.{Shape}

@@ -3,19 +3,19 @@
 --     numbers_of shape values      the numbers of a line that aren't known before
 --     AreRead, IsLineRead, IsTableRead     values, a line, and the lines of variables were read, and these are their numbers; or none are there
 --     IsRayRead                    the multipliers of a ray were read, or it isn't there
-use Rattle.std.specs.Prelude.{◌≡◌, ◌<◌, ℕ, ◌-◌, List, [], ◌∷◌, Option, Some, None, map, slice_get}
+use Rattle.std.specs.Prelude.{◌≡◌, ◌<◌, ℕ, List, [], ◌∷◌, Option, Some, None, map, slice_get}
 use Rattle.exact_values.specs.Rational.{ℚ, zero_ℚ}
-use Rattle.lp_definitions.specs.LinearProgram.{IsVariable, numbers_from, variables}
+use Rattle.lp_definitions.specs.LinearProgram.{IsVariable, variables}
 use Rattle.listing_definitions.specs.Report.{Value, Line}
 use Rattle.question_definitions.specs.Answers as questions
 use Rattle.listing_tables.specs.declared.sheet.Sheet.{Sheet}
 use Rattle.listing_tables.specs.Sheets.{IsSheet}
-use Rattle.walk_definitions.specs.Tables.{Slot, AnyNumber, pair_slots, part_slots, number_of, values_in, line_in, table_in, ray_in, multipliers}
+use Rattle.walk_definitions.specs.Tables.{Slot, AnyNumber, pair_slots, part_slots, number_of, number_at, values_in, line_head, line_in, table_in, multiplier_in, ray_in, multipliers}
+use Rattle.walk_definitions.specs.Words.{left_after}
 use Rattle.walk_definitions.specs.Reading.{row_slots, column_slots}
 use Rattle.listing_readers.specs.declared.tables.Numbers.{Numbers}
 use Rattle.listing_readers.specs.declared.tables.Shape.{Shape}
 use Rattle.listing_readers.specs.declared.tables.Shape.TheVariants.{Multiplier, Pair, Part, Row, Column}
-use Rattle.listing_readers.specs.Read.{sheet_shown}
 
 abbrev pub slots_of : Shape → questions.Sheet → ℕ → List Slot
 slots_of Multiplier sheet k = AnyNumber ∷ []
@@ -63,3 +63,14 @@ module _ (sheet : questions.Sheet) where
   abbrev pub IsRayRead : List ℕ → List ℕ → Option (List ℚ) → Type 0
   IsRayRead old new None = ray_in sheet (variables sheet.lp.matrix) old ≡ None
   IsRayRead old new (Some ray) = (lines : List Line) × (ray_in sheet (variables sheet.lp.matrix) old ≡ Some (lines, new)) × (ray ≡ multipliers sheet lines)
+
+-- the multiplier of variable k was read of its line, or it is 0 where it has none here
+pub data IsMultiplier (sheet : questions.Sheet) (k : ℕ) (old new : List ℕ) (x : ℚ) : Type 0 where
+  of_line : (line : Line) (left : List ℕ) → left_after (line_head sheet k) old ≡ Some left → multiplier_in sheet k old ≡ Some (line, new) → line.number ≡ k → x ≡ number_at 0 line →
+      IsMultiplier sheet k old new x
+  without_line : left_after (line_head sheet k) old ≡ None → new ≡ old → x ≡ zero_ℚ → IsMultiplier sheet k old new x
+
+-- or its line isn't of the form
+abbrev pub IsMultiplierRead : questions.Sheet → ℕ → List ℕ → List ℕ → Option ℚ → Type 0
+IsMultiplierRead sheet k old new None = (left : List ℕ) × (left_after (line_head sheet k) old ≡ Some left) × (multiplier_in sheet k old ≡ None)
+IsMultiplierRead sheet k old new (Some x) = IsMultiplier sheet k old new x

@@ -82,7 +82,11 @@ fn number_after_limit(cursor: &mut Cursor<'_>, high: Option<Frac>) -> Option<Fra
 }
 
 // These limits and a number.
-fn number_after_limits(cursor: &mut Cursor<'_>, low: Option<Frac>, high: Option<Frac>) -> Option<Frac>
+fn number_after_limits(
+    cursor: &mut Cursor<'_>,
+    low: Option<Frac>,
+    high: Option<Frac>,
+) -> Option<Frac>
     ensures { values_in (Known (limit_value low) ∷ Known (limit_value high) ∷ AnyNumber ∷ []) cursor.old
         ≡ option_map (λ x. (limit_value low ∷ limit_value high ∷ Number x ∷ [], cursor.new)) result }
 {
@@ -93,7 +97,12 @@ fn number_after_limits(cursor: &mut Cursor<'_>, low: Option<Frac>, high: Option<
 }
 
 // This cost and these limits, and a number.
-fn number_after_cost(cursor: &mut Cursor<'_>, cost: Frac, low: Option<Frac>, high: Option<Frac>) -> Option<Frac>
+fn number_after_cost(
+    cursor: &mut Cursor<'_>,
+    cost: Frac,
+    low: Option<Frac>,
+    high: Option<Frac>,
+) -> Option<Frac>
     ensures { values_in (Known (Number cost) ∷ Known (limit_value low) ∷ Known (limit_value high) ∷ AnyNumber ∷ []) cursor.old
         ≡ option_map (λ x. (Number cost ∷ limit_value low ∷ limit_value high ∷ Number x ∷ [], cursor.new)) result }
 {
@@ -104,7 +113,11 @@ fn number_after_cost(cursor: &mut Cursor<'_>, cost: Frac, low: Option<Frac>, hig
 }
 
 // The slack and the multiplier of a row, with these limits between them.
-fn slack_and_price(cursor: &mut Cursor<'_>, low: Option<Frac>, high: Option<Frac>) -> Option<(Frac, Frac)>
+fn slack_and_price(
+    cursor: &mut Cursor<'_>,
+    low: Option<Frac>,
+    high: Option<Frac>,
+) -> Option<(Frac, Frac)>
     ensures { values_in (AnyNumber ∷ Known (limit_value low) ∷ Known (limit_value high) ∷ AnyNumber ∷ []) cursor.old
         ≡ option_map (λ two. (Number two.0 ∷ limit_value low ∷ limit_value high ∷ Number two.1 ∷ [], cursor.new)) result }
 {
@@ -114,7 +127,11 @@ fn slack_and_price(cursor: &mut Cursor<'_>, low: Option<Frac>, high: Option<Frac
 }
 
 // The activity of a row, and its slack and its multiplier with these limits between them.
-fn row_numbers(cursor: &mut Cursor<'_>, low: Option<Frac>, high: Option<Frac>) -> Option<(Frac, (Frac, Frac))>
+fn row_numbers(
+    cursor: &mut Cursor<'_>,
+    low: Option<Frac>,
+    high: Option<Frac>,
+) -> Option<(Frac, (Frac, Frac))>
     ensures { values_in (AnyNumber ∷ AnyNumber ∷ Known (limit_value low) ∷ Known (limit_value high) ∷ AnyNumber ∷ []) cursor.old
         ≡ option_map (λ row. (Number row.0 ∷ Number row.1.0 ∷ limit_value low ∷ limit_value high ∷ Number row.1.1 ∷ [], cursor.new)) result }
 {
@@ -124,7 +141,12 @@ fn row_numbers(cursor: &mut Cursor<'_>, low: Option<Frac>, high: Option<Frac>) -
 }
 
 // The activity and the reduced cost of a column, with this cost and these limits between them.
-fn column_numbers(cursor: &mut Cursor<'_>, cost: Frac, low: Option<Frac>, high: Option<Frac>) -> Option<(Frac, Frac)>
+fn column_numbers(
+    cursor: &mut Cursor<'_>,
+    cost: Frac,
+    low: Option<Frac>,
+    high: Option<Frac>,
+) -> Option<(Frac, Frac)>
     ensures { values_in (AnyNumber ∷ Known (Number cost) ∷ Known (limit_value low) ∷ Known (limit_value high) ∷ AnyNumber ∷ []) cursor.old
         ≡ option_map (λ two. (Number two.0 ∷ Number cost ∷ limit_value low ∷ limit_value high ∷ Number two.1 ∷ [], cursor.new)) result }
 {
@@ -144,7 +166,11 @@ fn coded_numbers(cursor: &mut Cursor<'_>) -> Option<(At, ((Frac, Frac), (Frac, F
 }
 
 // A place and the numbers of a row.
-fn coded_row(cursor: &mut Cursor<'_>, low: Option<Frac>, high: Option<Frac>) -> Option<(At, (Frac, (Frac, Frac)))>
+fn coded_row(
+    cursor: &mut Cursor<'_>,
+    low: Option<Frac>,
+    high: Option<Frac>,
+) -> Option<(At, (Frac, (Frac, Frac)))>
     ensures { values_in (AnyCode ∷ AnyNumber ∷ AnyNumber ∷ Known (limit_value low) ∷ Known (limit_value high) ∷ AnyNumber ∷ []) cursor.old
         ≡ option_map (λ row. (Code row.0 ∷ Number row.1.0 ∷ Number row.1.1.0 ∷ limit_value low ∷ limit_value high ∷ Number row.1.1.1 ∷ [], cursor.new)) result }
 {
@@ -154,7 +180,12 @@ fn coded_row(cursor: &mut Cursor<'_>, low: Option<Frac>, high: Option<Frac>) -> 
 }
 
 // A place and the numbers of a column.
-fn coded_column(cursor: &mut Cursor<'_>, cost: Frac, low: Option<Frac>, high: Option<Frac>) -> Option<(At, (Frac, Frac))>
+fn coded_column(
+    cursor: &mut Cursor<'_>,
+    cost: Frac,
+    low: Option<Frac>,
+    high: Option<Frac>,
+) -> Option<(At, (Frac, Frac))>
     ensures { values_in (AnyCode ∷ AnyNumber ∷ Known (Number cost) ∷ Known (limit_value low) ∷ Known (limit_value high) ∷ AnyNumber ∷ []) cursor.old
         ≡ option_map (λ column. (Code column.0 ∷ Number column.1.0 ∷ Number cost ∷ limit_value low ∷ limit_value high ∷ Number column.1.1 ∷ [], cursor.new)) result }
 {
@@ -233,7 +264,12 @@ fn row_values(cursor: &mut Cursor<'_>, lp: &Lp, k: u32) -> Option<Numbers>
 }
 
 // The values of a column of this cost between these limits.
-fn column_between(cursor: &mut Cursor<'_>, cost: Frac, low: Option<Frac>, high: Option<Frac>) -> Option<Numbers>
+fn column_between(
+    cursor: &mut Cursor<'_>,
+    cost: Frac,
+    low: Option<Frac>,
+    high: Option<Frac>,
+) -> Option<Numbers>
     ensures { AreRead Shape.Column (AnyCode ∷ AnyNumber ∷ Known (Number cost) ∷ Known (limit_value low) ∷ Known (limit_value high) ∷ AnyNumber ∷ [])
         cursor.old cursor.new result }
 {
@@ -312,4 +348,32 @@ pub fn table(
         table.push(numbers).map_err(|_| NoMemory)?;
     }
     Ok(Some(table))
+}
+
+/// The first numbers of a table's lines.
+pub fn firsts(alloc: Global, table: &[Numbers]) -> Result<Vec<Frac>, NoMemory>
+    ensures { IfOk result (λ values. values.items ≡ map (λ numbers. numbers.first) table.now) }
+{
+    Ok(table.iter().map(|numbers| numbers.first).collect(alloc)?)
+}
+
+/// The second numbers of a table's lines.
+pub fn seconds(alloc: Global, table: &[Numbers]) -> Result<Vec<Frac>, NoMemory>
+    ensures { IfOk result (λ values. values.items ≡ map (λ numbers. numbers.second) table.now) }
+{
+    Ok(table.iter().map(|numbers| numbers.second).collect(alloc)?)
+}
+
+/// The third numbers of a table's lines.
+pub fn thirds(alloc: Global, table: &[Numbers]) -> Result<Vec<Frac>, NoMemory>
+    ensures { IfOk result (λ values. values.items ≡ map (λ numbers. numbers.third) table.now) }
+{
+    Ok(table.iter().map(|numbers| numbers.third).collect(alloc)?)
+}
+
+/// The fourth numbers of a table's lines.
+pub fn fourths(alloc: Global, table: &[Numbers]) -> Result<Vec<Frac>, NoMemory>
+    ensures { IfOk result (λ values. values.items ≡ map (λ numbers. numbers.fourth) table.now) }
+{
+    Ok(table.iter().map(|numbers| numbers.fourth).collect(alloc)?)
 }

@@ -1,4 +1,4 @@
-use Rattle.std.proofs.Common.{Option, List, ℕ, ◌∷◌, [], subst, sym, ap, ◌∙◌, None, Some, ◌≡◌, rules}
+use Rattle.std.proofs.Common.{Option, ◌∷◌, [], subst, sym, None, Some, ◌≡◌, rules}
 use Rattle.std.specs.Prelude.{IfNone}
 use Rattle.exact_values.specs.Rational.{ℚ}
 use Rattle.walk_definitions.specs.Words.{left_after, fraction_in}

@@ -1,4 +1,4 @@
-use Rattle.std.proofs.Common.{List, ℕ, [], ◌∷◌, ◌-◌, Option, subst, subst₂, ap, ◌∙◌}
+use Rattle.std.proofs.Common.{[], ◌∷◌, ◌-◌, Option, subst, subst₂, ap, ◌∙◌}
 use Rattle.exact_values.specs.Rational.{ℚ}
 use Rattle.lp_definitions.specs.LinearProgram.{cost, lower_of, upper_of}
 use Rattle.listing_definitions.specs.Report.{limit_value, Number}

@@ -1,5 +1,4 @@
-use Rattle.std.proofs.Common.{◌≡◌, List, ℕ, Option, Some, None, subst, sym, ap, ◌∙◌}
-use Rattle.std.specs.Prelude.{codes}
+use Rattle.std.proofs.Common.{◌≡◌, Option, Some, subst, sym, ap, ◌∙◌}
 use Rattle.walk_definitions.specs.Words.{left_after}
 use Rattle.walk_definitions.specs.Tables.{line_head}
 use Rattle.listing_readers.specs.declared.tables.Numbers.{Numbers}

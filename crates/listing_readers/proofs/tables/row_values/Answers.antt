@@ -1,4 +1,4 @@
-use Rattle.std.proofs.Common.{List, ℕ, [], ◌∷◌, Option, subst₂}
+use Rattle.std.proofs.Common.{[], ◌∷◌, Option, subst₂}
 use Rattle.exact_values.specs.Rational.{ℚ}
 use Rattle.listing_definitions.specs.Report.{limit_value}
 use Rattle.walk_definitions.specs.Tables.{AnyCode, AnyNumber, Known}
