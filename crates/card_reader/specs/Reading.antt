@@ -1,7 +1,8 @@
 -- What reading a job answers, and how far it reads.
-use Rattle.std.specs.Prelude.{◌≡◌, ℕ, ◌+◌, ◌≤◌, List, length, drop, Option, Some, None, Result, Ok, Err, IfSome, IsErrOf}
-use Rattle.std.specs.Io.KnownBytes.{Consumes, IsAtEnd}
+use Rattle.std.specs.Prelude.{◌≡◌, ℕ, ◌+◌, ◌≤◌, List, Option, Some, None, Result, Ok, Err, IfSome, IsErrOf}
+use Rattle.std.specs.Io.KnownBytes.{IsAtEnd}
 use Rattle.job_devices.specs.Causes.{Rose}
+use Rattle.job_devices.specs.Reading.{ReadsUpTo, ReadsWhole}
 use Rattle.card_definitions.specs.Cards.{job_fault}
 use Rattle.card_definitions.specs.declared.CardFault.{CardFault}
 use Rattle.card_definitions.specs.declared.CardFault.TheVariants as fault
@@ -22,13 +23,11 @@ read_limit = MAX_JOB_BYTES + 1
 
 -- the job was read as far as the limit, or to its end
 abbrev pub ReadsJob : Option (List ℕ) → Option (List ℕ) → Type 0
-ReadsJob None new = Unit {0}
-ReadsJob (Some job) None = ⊥
-ReadsJob (Some job) (Some rest) = rest ≡ drop read_limit job
+ReadsJob old new = ReadsWhole read_limit old new
 
 -- some of the job was read, and no more than to the limit
 abbrev pub ReadsFront : Option (List ℕ) → Option (List ℕ) → Type 0
-ReadsFront old new = (front : List ℕ) × (length front ≤ read_limit) × Consumes old new front
+ReadsFront old new = ReadsUpTo read_limit old new
 
 -- how far a job was read that isn't given: a fault of the source or want of memory may come before the end
 abbrev pub ReadsAtStop : ReadStop → Option (List ℕ) → Option (List ℕ) → Type 0

@@ -9,10 +9,8 @@ use crate::ReadStop;
 use crate::cards::Cards;
 use crate::cut::cut_cards;
 use card_definitions::MAX_JOB_BYTES;
-use job_devices::Source;
+use job_devices::{Source, read_up_to};
 use std::alloc::Global;
-
-const PIECE: usize = 65_536;
 
 // The bytes of the source, and one at most after those that a job may have. A fault of the source and want of memory
 // stop it, and nothing else.
@@ -28,17 +26,7 @@ fn read_bytes<S: Source>(alloc: Global, source: &mut S) -> Result<Vec<u8>, ReadS
         TellsCardFault stop found) }
     ensures no_end { IfErr result (λ stop. EndsAtStop stop (S.left source.new)) }
 {
-    let mut bytes = Vec::new(alloc);
-    let mut piece = [0; PIECE];
-    while bytes.len() <= MAX_JOB_BYTES {
-        let room = PIECE.min(MAX_JOB_BYTES + 1 - bytes.len());
-        let count = source.read(&mut piece[..room])?;
-        if count == 0 {
-            return Ok(bytes);
-        }
-        bytes.extend_from_slice(&piece[..count])?;
-    }
-    Ok(bytes)
+    Ok(read_up_to(alloc, source, MAX_JOB_BYTES + 1)?)
 }
 
 /// Reads the job to its end and cuts it into cards. Of a job that is too long, no byte after 16,400,001 is read.

@@ -2,7 +2,7 @@
 ghost use Rattle.std.specs.Prelude.{◌≡◌};
 
 use card_definitions::CardFault;
-use job_devices::Failed;
+use job_devices::SourceStop;
 use std::alloc::{AllocError, AllocFailed};
 use thiserror::Error;
 
@@ -46,13 +46,16 @@ impl<T: Drop> From<AllocFailed<T>> for ReadStop {
     }
 }
 
-impl From<Failed> for ReadStop {
-    ghost use Rattle.card_reader.specs.declared.stop.ReadStop.TheVariants.{ReadFault};
+impl From<SourceStop> for ReadStop {
+    ghost use Rattle.card_reader.specs.Stop.{stop_of_source};
 
-    ghost from_gives = { λ _ stop. stop ≡ ReadFault };
+    ghost from_gives = { λ source_stop stop. stop ≡ stop_of_source source_stop };
 
-    fn from(_: Failed) -> Self {
-        ReadStop::ReadFault
+    fn from(stop: SourceStop) -> Self {
+        match stop {
+            SourceStop::Failed => ReadStop::ReadFault,
+            SourceStop::NoMemory => ReadStop::NoMemory,
+        }
     }
 }
 

@@ -25,6 +25,7 @@ use Rattle.check_definitions.proofs.Passing.{checked-append, holds_if_checked, e
 use Rattle.lp_laws.proofs.Entries.{sum_of_entries}
 use Rattle.lp_laws.proofs.Duality.{below_of_test}
 use Rattle.lp_laws.proofs.Rays.{limit_of_positive, limit_of_negative}
+use Rattle.certificate_check.specs.Parts.{AreReducedCosts, VanishesOnColumns, MeetsLimits, IsFreeDirection}
 use Rattle.certificate_check.proofs.Products.{sum_of-all, sum_of-filtered, sum_of-entries}
 
 -- ---- tests
@@ -92,8 +93,7 @@ module _ (p : LinearProgram) where
     pub products_of_column : (y : Vector) (start : ℚ) (j : ℕ) → IsColumn p.matrix j → sum_of start (column_products p y j) ≡ start +ℚ sum_up_to p.rows (λ i. y i *ℚ entry p.matrix i j)
     products_of_column y start j is = sum_of-entries start y (column p.matrix j) ∙ sum_of_entries p.matrix matrix y start j is
 
-    pub reduced_if_checked : (y : Vector) → verdict_of (reduced_costs p y) ≡ Checked
-        → (j : ℕ) → IsColumn p.matrix j → y (p.rows + j) ≡ cost p j -ℚ sum_up_to p.rows (λ i. y i *ℚ entry p.matrix i j)
+    pub reduced_if_checked : (y : Vector) → verdict_of (reduced_costs p y) ≡ Checked → AreReducedCosts p y
     reduced_if_checked y e j is =
         let here = each_checked (reduced_cost p y) 1 p.cols j e is.0 (omega (arith, is.1)) in
         let priced = checked-append (combined_steps p (λ i. entry p.matrix i j)) _ here in
@@ -103,8 +103,7 @@ module _ (p : LinearProgram) where
         sym (same_from_test _ _ holds)
         ∙ ap (λ s. cost p j -ℚ s) (products_of_column y zero_ℚ j is ∙ zero-add (sum_up_to p.rows (λ i. y i *ℚ entry p.matrix i j)))
 
-    pub vanishes_if_checked : (w : Vector) → verdict_of (ray_columns p w) ≡ Checked
-        → (j : ℕ) → IsColumn p.matrix j → w (p.rows + j) +ℚ sum_up_to p.rows (λ i. w i *ℚ entry p.matrix i j) ≡ zero_ℚ
+    pub vanishes_if_checked : (w : Vector) → verdict_of (ray_columns p w) ≡ Checked → VanishesOnColumns p w
     vanishes_if_checked w e j is =
         let here = each_checked (ray_column p w) 1 p.cols j e is.0 (omega (arith, is.1)) in
         let holds = holds_if_checked 1 (p.rows + j) _ (checked-append (sum_steps (w (p.rows + j)) (column_products p w j)) _ here).1 in
@@ -119,6 +118,12 @@ module _ (p : LinearProgram) where
   moves : (d : Vector) → verdict_of (free_direction p d) ≡ Checked → (k : ℕ) → IsVariable p.matrix k
       → by_sign (compare_ℚ (d k) zero_ℚ) (is_none (lower_of p k)) (is_none (upper_of p k)) ≡ true
   moves d e k is = holds_if_checked 4 k _ (each_checked (free_to_move p d) 1 (size p.matrix) k e is.0 (omega (arith, is.1)))
+
+  pub free_if_checked : (d : Vector) → verdict_of (free_direction p d) ≡ Checked → IsFreeDirection p d
+  free_if_checked d e = record {
+    falls = λ k is below. no_limit (lower_of p k) (asked_negative _ _ _ (moves d e k is) below);
+    rises = λ k is above. no_limit (upper_of p k) (asked_positive _ _ _ (moves d e k is) above);
+  }
 
   -- ---- limits of a ray
 
@@ -151,6 +156,14 @@ module _ (p : LinearProgram) where
       by_test false is e (yes same) later = absurd (apart (ap w (sym same) ∙ same_from_test (w first) zero_ℚ (not-false (eq_ℚ (w first) zero_ℚ) is)))
       by_test false is e (no other) later = later sum e (omega arith) (omega arith) apart
 
+  pub meets_if_checked : (w : Vector) → verdict_of (ray_limits p w zero_ℚ (multiplied p w)) ≡ Checked → MeetsLimits p w
+  meets_if_checked w e =
+      let met = λ (k : ℕ) (is : IsVariable p.matrix k). met_if_checked w 1 (size p.matrix) k zero_ℚ e is.0 (omega (arith, is.1)) in
+      record {
+        meets_upper = λ k is above. ap is_some (sym (limit_of_positive p w k above)) ∙ met k is (apart_from_above above);
+        meets_lower = λ k is below. ap is_some (sym (limit_of_negative p w k below)) ∙ met k is (apart_from_below below);
+      }
+
   -- the products of the multipliers that are not 0 add up to those of all
   pub sum_of_met : (w : Vector) → sum_of zero_ℚ (map (limit_product p w) (multiplied p w)) ≡ sum_up_to (size p.matrix) (λ k. w k *ℚ unwrap_or (limit_against p w k) zero_ℚ)
   sum_of_met w =
@@ -166,11 +179,11 @@ module _ (p : LinearProgram) where
   infeasible_ray_if_checked matrix w e =
       let columns = checked-append (ray_columns p w) _ e in
       let limits = checked-append (ray_limits p w zero_ℚ (multiplied p w)) (ray_sum p w) columns.1 in
-      let met = λ (k : ℕ) (is : IsVariable p.matrix k). met_if_checked w 1 (size p.matrix) k zero_ℚ limits.0 is.0 (omega (arith, is.1)) in
+      let meets = meets_if_checked w limits.0 in
       record {
         vanishes = vanishes_if_checked matrix w columns.0;
-        meets_upper = λ k is above. ap is_some (sym (limit_of_positive p w k above)) ∙ met k is (apart_from_above above);
-        meets_lower = λ k is below. ap is_some (sym (limit_of_negative p w k below)) ∙ met k is (apart_from_below below);
+        meets_upper = meets.meets_upper;
+        meets_lower = meets.meets_lower;
         negative = negative_if_checked w limits.1;
       }
 
@@ -192,11 +205,12 @@ module _ (p : LinearProgram) where
       let kept = checked-append (equations p 3 d) _ point.1 in
       let free = checked-append (free_direction p d) (bettering p d) kept.1 in
       let better = checked-append (combined_steps p d) _ free.1 in
+      let moves = free_if_checked d free.0 in
       record {
         feasible = feasible_if_checked z point.0;
         keeps = keeps_if_checked 3 d kept.0;
-        falls = λ k is below. no_limit (lower_of p k) (asked_negative _ _ _ (moves d free.0 k is) below);
-        rises = λ k is above. no_limit (upper_of p k) (asked_positive _ _ _ (moves d free.0 k is) above);
+        falls = moves.falls;
+        rises = moves.rises;
         betters = below_of_test (holds_if_checked 5 0 _ better.1);
       }
 

@@ -21,9 +21,10 @@ use Rattle.lp_laws.proofs.Duality.{test_of_below}
 use Rattle.lp_laws.proofs.Rays.{limit_of_positive, limit_of_negative}
 use Rattle.check_definitions.specs.declared.Verdict.{Verdict}
 use Rattle.check_definitions.specs.declared.Verdict.TheVariants.{Checked, Failed, Unchecked}
-use Rattle.check_definitions.specs.Steps.{Step, operation, comparison, verdict_of, Product, product_of, sum_steps, sum_of}
+use Rattle.check_definitions.specs.Steps.{Step, operation, comparison, verdict_of, Product, product_of, sum_steps, sum_of, followed_by}
 use Rattle.check_definitions.specs.Checks.{is_not_below, is_not_above, is_at, is_crossed, by_sign, change_steps, combined_steps, row_products, equation, equations, within_limit, within_limits, feasible_point, column_products, reduced_cost, reduced_costs, standing_price, standing_prices, ray_column, ray_columns, multiplied, limit_product, ray_limits, ray_sum, free_to_move, free_direction, bettering, crossed_check}
-use Rattle.check_definitions.proofs.Passing.{followed_by, verdict-append}
+use Rattle.check_definitions.proofs.Passing.{verdict-append}
+use Rattle.certificate_check.specs.Parts.{AreReducedCosts, VanishesOnColumns, MeetsLimits, IsFreeDirection}
 use Rattle.certificate_check.proofs.Products.{sum_of-all}
 use Rattle.certificate_check.proofs.Meaning.{multiplied_from, products_of_column, sum_of_met}
 
@@ -101,7 +102,7 @@ module _ (p : LinearProgram) where
       at None = never_none
       at (Some c) = never_sum (f p.objective) (record { left = c.theta; right = f c.row } ∷ [])
 
-  never_equations : (part : ℕ) (z : Vector) → KeepsEquations p.matrix z → NeverFails (equations p part z)
+  pub never_equations : (part : ℕ) (z : Vector) → KeepsEquations p.matrix z → NeverFails (equations p part z)
   never_equations part z keeps = never_each (equation p part z) 1 p.rows (λ i low high.
       never-append (sum_steps zero_ℚ (row_products p z i)) (comparison part i (eq_ℚ (sum_of zero_ℚ (row_products p z i)) (z i)) ∷ [])
       (never_sum zero_ℚ (row_products p z i))
@@ -114,10 +115,10 @@ module _ (p : LinearProgram) where
       never_comparison 2 k (is_not_below (lower_of p k) (z k) && is_not_above (upper_of p k) (z k))
       (and_from (is_not_below (lower_of p k) (z k)) (is_not_above (upper_of p k) (z k)) (is_above (lower_of p k) (z k) both.0) (is_below (upper_of p k) (z k) both.1)))
 
-  never_point : (z : Vector) → IsFeasible p z → NeverFails (feasible_point p z)
+  pub never_point : (z : Vector) → IsFeasible p z → NeverFails (feasible_point p z)
   never_point z h = never-append (equations p 1 z) (within_limits p z) (never_equations 1 z h.keeps) (never_limits z h.within)
 
-  never_costs : IsMatrix p.matrix → (y : Vector) → ((j : ℕ) → IsColumn p.matrix j → y (p.rows + j) ≡ cost p j -ℚ sum_up_to p.rows (λ i. y i *ℚ entry p.matrix i j)) → NeverFails (reduced_costs p y)
+  pub never_costs : IsMatrix p.matrix → (y : Vector) → AreReducedCosts p y → NeverFails (reduced_costs p y)
   never_costs matrix y reduced = never_each (reduced_cost p y) 1 p.cols (λ j low high.
       let total = sum_of zero_ℚ (column_products p y j) in
       let is : IsColumn p.matrix j = (low, omega arith) in
@@ -138,15 +139,17 @@ module _ (p : LinearProgram) where
       let holds = sign_holds (for_min p.sense (y k)) (is_at (upper_of p k) (z k)) (is_at (lower_of p k) (z k)) (λ below. stands (upper_of p k) (z k) (proving.at_upper k is below)) (λ above. stands (lower_of p k) (z k) (proving.at_lower k is above)) in
       never_comparison 4 k (by_sign (compare_ℚ (for_min p.sense (y k)) zero_ℚ) (is_at (upper_of p k) (z k)) (is_at (lower_of p k) (z k))) holds)))
 
+  pub never_free : (d : Vector) → IsFreeDirection p d → NeverFails (free_direction p d)
+  never_free d free = never_each (free_to_move p d) 1 (size p.matrix) (λ k low high.
+      let is : IsVariable p.matrix k = (low, omega arith) in
+      let holds = sign_holds (d k) (is_none (lower_of p k)) (is_none (upper_of p k)) (λ below. absent (lower_of p k) (free.falls k is below)) (λ above. absent (upper_of p k) (free.rises k is above)) in
+      never_comparison 4 k (by_sign (compare_ℚ (d k) zero_ℚ) (is_none (lower_of p k)) (is_none (upper_of p k))) holds)
+
   pub never_unbounded : (z d : Vector) → ProvesUnbounded p z d → NeverFails (feasible_point p z ++ (equations p 3 d ++ (free_direction p d ++ bettering p d)))
   never_unbounded z d h =
       never-append (feasible_point p z) (equations p 3 d ++ (free_direction p d ++ bettering p d)) (never_point z h.feasible)
       (never-append (equations p 3 d) (free_direction p d ++ bettering p d) (never_equations 3 d h.keeps)
-      (never-append (free_direction p d) (bettering p d)
-      (never_each (free_to_move p d) 1 (size p.matrix) (λ k low high.
-      let is : IsVariable p.matrix k = (low, omega arith) in
-      let holds = sign_holds (d k) (is_none (lower_of p k)) (is_none (upper_of p k)) (λ below. absent (lower_of p k) (h.falls k is below)) (λ above. absent (upper_of p k) (h.rises k is above)) in
-      never_comparison 4 k (by_sign (compare_ℚ (d k) zero_ℚ) (is_none (lower_of p k)) (is_none (upper_of p k))) holds))
+      (never-append (free_direction p d) (bettering p d) (never_free d (record { falls = h.falls; rises = h.rises }))
       (never-append (combined_steps p d) _ (never_combined d) (never_comparison 5 0 _ (test_of_below h.betters)))))
 
   pub crossed_holds : (k : ℕ) → IsCrossed p k → crossed_check p k ≡ Checked
@@ -157,7 +160,7 @@ module _ (p : LinearProgram) where
 
   -- ---- rays
 
-  never_columns : IsMatrix p.matrix → (w : Vector) → ((j : ℕ) → IsColumn p.matrix j → w (p.rows + j) +ℚ sum_up_to p.rows (λ i. w i *ℚ entry p.matrix i j) ≡ zero_ℚ) → NeverFails (ray_columns p w)
+  pub never_columns : IsMatrix p.matrix → (w : Vector) → VanishesOnColumns p w → NeverFails (ray_columns p w)
   never_columns matrix w vanishes = never_each (ray_column p w) 1 p.cols (λ j low high.
       let is : IsColumn p.matrix j = (low, omega arith) in
       let total = sum_of (w (p.rows + j)) (column_products p w j) in
@@ -166,14 +169,14 @@ module _ (p : LinearProgram) where
       (never_comparison 1 (p.rows + j) (eq_ℚ total zero_ℚ) (test_from_same _ _ (products_of_column p matrix w (w (p.rows + j)) j is ∙ vanishes j is))))
 
   -- each multiplier that is not 0 meets a limit
-  met : (w : Vector) → IsRay p w → (k : ℕ) → IsVariable p.matrix k → w k ≢ zero_ℚ → is_some (limit_against p w k) ≡ true
-  met w ray k is apart = at (compare_ℚ (w k) zero_ℚ) (λ less. below (lt_from_compare less)) (λ equal. apart (same_from_compare equal)) (λ greater. above (gt_from_compare greater))
+  met : (w : Vector) → MeetsLimits p w → (k : ℕ) → IsVariable p.matrix k → w k ≢ zero_ℚ → is_some (limit_against p w k) ≡ true
+  met w meets k is apart = at (compare_ℚ (w k) zero_ℚ) (λ less. below (lt_from_compare less)) (λ equal. apart (same_from_compare equal)) (λ greater. above (gt_from_compare greater))
     where
       below : w k <ℚ zero_ℚ → is_some (limit_against p w k) ≡ true
-      below h = ap is_some (limit_of_negative p w k h) ∙ ray.meets_lower k is h
+      below h = ap is_some (limit_of_negative p w k h) ∙ meets.meets_lower k is h
 
       above : zero_ℚ <ℚ w k → is_some (limit_against p w k) ≡ true
-      above h = ap is_some (limit_of_positive p w k h) ∙ ray.meets_upper k is h
+      above h = ap is_some (limit_of_positive p w k h) ∙ meets.meets_upper k is h
 
       at : (o : Ordering) → (o ≡ Less → is_some (limit_against p w k) ≡ true) → (o ≡ Equal → ⊥) → (o ≡ Greater → is_some (limit_against p w k) ≡ true) → is_some (limit_against p w k) ≡ true
       at Less less equal greater = less refl
@@ -197,9 +200,12 @@ module _ (p : LinearProgram) where
           (never_sum sum (limit_product p w first ∷ [])) (later (sum +ℚ product_of (limit_product p w first))))
       by_test false here later = later sum
 
+  pub never_limits_met : (w : Vector) → MeetsLimits p w → NeverFails (ray_limits p w zero_ℚ (multiplied p w))
+  never_limits_met w meets = never_met w 1 (size p.matrix) zero_ℚ (λ k low high. met w meets k (low, omega arith))
+
   pub never_infeasible : IsMatrix p.matrix → (w : Vector) → IsRay p w → NeverFails (ray_columns p w ++ (ray_limits p w zero_ℚ (multiplied p w) ++ ray_sum p w))
   never_infeasible matrix w ray =
       never-append (ray_columns p w) (ray_limits p w zero_ℚ (multiplied p w) ++ ray_sum p w) (never_columns matrix w ray.vanishes)
       (never-append (ray_limits p w zero_ℚ (multiplied p w)) (ray_sum p w)
-      (never_met w 1 (size p.matrix) zero_ℚ (λ k low high. met w ray k (low, omega arith)))
+      (never_limits_met w (record { meets_upper = ray.meets_upper; meets_lower = ray.meets_lower }))
       (never_comparison 3 0 (lt_ℚ (sum_of zero_ℚ (map (limit_product p w) (multiplied p w))) zero_ℚ) (test_of_below (subst (λ (s : ℚ). s <ℚ zero_ℚ) (sym (sum_of_met p w)) ray.negative))))

@@ -1,5 +1,6 @@
 //! Checks of what a solver says of a linear program: that a point is best, that no point is feasible, or that feasible points better
-//! without end. Each check is exact arithmetic on the claim's own numbers; it trusts nothing of how they were found, and takes no memory.
+//! without end. Each check is exact arithmetic on the claim's own numbers; it trusts nothing of how they were found, and takes no memory. Its
+//! parts can be made by themselves too.
 #![tactic(auto)]
 
 ghost use Rattle.std.specs.Prelude.{◌≡◌, ◌≢◌, ◌↔◌, length};
@@ -11,6 +12,7 @@ ghost use Rattle.certificate_check.specs.Results.{verdict_from, IsNotFailed};
 
 mod comparisons;
 mod direction;
+mod parts;
 mod point;
 mod prices;
 mod ray;
@@ -22,6 +24,10 @@ use comparisons::is_crossed_by;
 use direction::{direction_betters, direction_is_free};
 use frac128::Frac;
 use lp_model::Lp;
+pub use parts::{
+    check_combination, check_direction, check_direction_limits, check_equations, check_point,
+    check_prices, check_ray_limits,
+};
 use point::{equations_hold, point_is_feasible};
 use prices::{are_reduced_costs, prices_stand};
 use ray::{limits_contradict, vanishes};

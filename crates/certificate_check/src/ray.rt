@@ -88,6 +88,16 @@ fn limit_sum(lp: &Lp, ray: &[Frac]) -> Result<Frac, Stopped>
     Ok(sum)
 }
 
+/// Each multiplier that is not 0 meets a limit, and the products can be added up.
+pub fn limits_are_met(lp: &Lp, ray: &[Frac]) -> Result<(), Stopped>
+    requires { length ray.now ≡ size lp.now.matrix }
+    ensures { let w = value_at ray.now in verdict_from result ≡ verdict_of
+        (ray_limits lp.now w zero_ℚ (multiplied lp.now w)) }
+{
+    let _sum = limit_sum(lp, ray)?;
+    Ok(())
+}
+
 /// Each multiplier that is not 0 meets a limit, and the sum of these products is negative.
 pub fn limits_contradict(lp: &Lp, ray: &[Frac]) -> Result<(), Stopped>
     requires { length ray.now ≡ size lp.now.matrix }

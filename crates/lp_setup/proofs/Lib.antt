@@ -5,6 +5,7 @@ pub mod Sets
 pub mod Faults
 pub mod Lawful
 pub mod Program
+mod Made
 pub mod Selecting
 pub mod FreeRows
 pub mod ValuesInSets

@@ -5,8 +5,9 @@
 --     IsRangeSumRefusal kind side range refused    the range sum of a row that is refused
 --     limits_of_rows rows sides ranges         the limits of each row
 --     IsRowOverflow rows sides ranges stop     the range sum of one of the rows is refused
+--     AreRowsMade rows sides ranges count      that of none of so many rows is
 --     program_with problem ..                  the linear program of an objective row and the items of the sets that apply
-use Rattle.std.specs.Prelude.{◌≡◌, ℕ, ◌+◌, List, [], ◌∷◌, ◌++◌, Option, Some, None, map, unwrap_or, slice_get, IsTrue}
+use Rattle.std.specs.Prelude.{◌≡◌, ℕ, ◌+◌, ◌<◌, List, [], ◌∷◌, ◌++◌, Option, Some, None, map, unwrap_or, slice_get, IsTrue}
 use Rattle.std.specs.List.{enumerate_from, range_with_len}
 use Rattle.exact_values.specs.Rational.{ℚ, zero_ℚ}
 use Rattle.exact_values.specs.Tests.{magnitude}
@@ -17,6 +18,8 @@ use Rattle.lp_definitions.specs.declared.Sense.{Sense}
 use Rattle.lp_definitions.specs.declared.Evidence.{Evidence}
 use Rattle.lp_definitions.specs.LinearProgram.{LinearProgram}
 use Rattle.lp_definitions.specs.RatesEvidence.{Names}
+use Rattle.check_definitions.specs.declared.Verdict.TheVariants.{Checked}
+use Rattle.check_definitions.specs.Steps.{verdict_of}
 use Rattle.lp_model.specs.declared.Stop.{Stop}
 use Rattle.lp_model.specs.declared.Stop.TheVariants.{Overflow, NoMemory}
 use Rattle.problem_definitions.specs.declared.RowKind.{RowKind}
@@ -24,6 +27,7 @@ use Rattle.problem_definitions.specs.Problem.{Row, Entry, Bound, Problem}
 use Rattle.selection_definitions.specs.Limits.{Limits, value_on, range_operation, row_limits, column_limits}
 use Rattle.selection_definitions.specs.Selection.{matrix_of}
 use Rattle.selection_definitions.specs.RangeSums.{range_formula}
+use Rattle.selection_definitions.specs.Making.{range_steps}
 
 -- what f gives of each number from 1 to count
 abbrev pub by_number : {X : Type 0} → (ℕ → X) → ℕ → List X
@@ -70,6 +74,15 @@ pub record IsRowRefusal (rows : List (Row ℕ)) (sides : List ℚ) (ranges : Lis
 abbrev pub IsRowOverflow : List (Row ℕ) → List ℚ → List (Option ℚ) → Stop → Type 0
 IsRowOverflow rows sides ranges (Overflow e) = IsRowRefusal rows sides ranges e
 IsRowOverflow rows sides ranges NoMemory = Unit {0}
+
+-- the range sum of the row at a place is made
+abbrev pub IsRowMade : List (Row ℕ) → List ℚ → List (Option ℚ) → ℕ → Type 0
+IsRowMade rows sides ranges place =
+    (row : Row ℕ) (side : ℚ) (range : Option ℚ) → slice_get rows place ≡ Some row → slice_get sides place ≡ Some side → slice_get ranges place ≡ Some range →
+    verdict_of (range_steps row.kind side range) ≡ Checked
+
+abbrev pub AreRowsMade : List (Row ℕ) → List ℚ → List (Option ℚ) → ℕ → Type 0
+AreRowsMade rows sides ranges count = (place : ℕ) → place < count → IsRowMade rows sides ranges place
 
 -- ---- the program
 

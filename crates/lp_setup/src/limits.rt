@@ -1,7 +1,11 @@
 // The limits of a row and of a column.
-ghost use Rattle.std.specs.Prelude.{◌≡◌, ◌<◌, IfOk, IfErr, option_map};
+ghost use Rattle.std.specs.Prelude.{◌≡◌, ◌<◌, false, IfOk, IfErr, option_map};
 ghost use Rattle.exact_values.specs.Rational.{ℚ, zero_ℚ};
 ghost use Rattle.exact_values.specs.Tests.{lt_ℚ, magnitude as the_magnitude};
+ghost use Rattle.frac128.specs.Operations.{refuses};
+ghost use Rattle.check_definitions.specs.declared.Verdict.TheVariants.{Checked};
+ghost use Rattle.check_definitions.specs.Steps.{verdict_of};
+ghost use Rattle.selection_definitions.specs.Making.{range_steps};
 ghost use Rattle.selection_definitions.specs.Limits.{with_range, without_range as limits_without, row_limits as limits_of, bounded as limits_by, unbounded as standing};
 ghost use Rattle.lp_setup.specs.Parts.{IsSumRefusal, IsRangeSumRefusal};
 
@@ -50,6 +54,7 @@ fn magnitude(value: Frac) -> Frac
 /// From the right-hand side up to so much above it.
 fn up_from(side: Frac, size: Frac) -> Result<Limits, Refused>
     ensures limits { IfOk result (λ limits. limits ≡ with_range Op.Add side size) }
+    ensures made { IfOk result (λ _. refuses Op.Add side size ≡ false) }
     ensures refused { IfErr result (IsSumRefusal Op.Add side size) }
 {
     let sum = side.add(size)?;
@@ -62,6 +67,7 @@ fn up_from(side: Frac, size: Frac) -> Result<Limits, Refused>
 /// From so much below the right-hand side up to it.
 fn down_from(side: Frac, size: Frac) -> Result<Limits, Refused>
     ensures limits { IfOk result (λ limits. limits ≡ with_range Op.Sub side size) }
+    ensures made { IfOk result (λ _. refuses Op.Sub side size ≡ false) }
     ensures refused { IfErr result (IsSumRefusal Op.Sub side size) }
 {
     let difference = side.sub(size)?;
@@ -99,6 +105,7 @@ fn without_range(kind: RowKind, side: Frac) -> Limits
 /// magnitude; for an E row its sign says to which side.
 pub fn row_limits(kind: RowKind, side: Frac, range: Option<Frac>) -> Result<Limits, Refused>
     ensures limits { IfOk result (λ limits. limits ≡ limits_of kind side range) }
+    ensures made { IfOk result (λ _. verdict_of (range_steps kind side range) ≡ Checked) }
     ensures refused { IfErr result (IsRangeSumRefusal kind side range) }
 {
     let Some(range) = range else {

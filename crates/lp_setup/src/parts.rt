@@ -7,7 +7,7 @@ ghost use Rattle.problem_definitions.specs.Valid.{AreEntries, AreBounds};
 ghost use Rattle.selection_definitions.specs.Limits.{value_on, column_limits};
 ghost use Rattle.selection_definitions.specs.Selection.{entered};
 ghost use Rattle.selection_definitions.specs.RangeSums.{range_formula};
-ghost use Rattle.lp_setup.specs.Parts.{by_number, side_on, limits_of_rows, IsRowOverflow};
+ghost use Rattle.lp_setup.specs.Parts.{by_number, side_on, limits_of_rows, IsRowOverflow, IsRowMade, AreRowsMade};
 
 use crate::limits::{Limits, bounded, row_limits, unbounded};
 use frac128::{Frac, Refused};
@@ -105,6 +105,7 @@ fn limits_at(
     requires range { length ranges.now ≡ length rows.now }
     ensures limits { IfOk result (λ limits. slice_get (limits_of_rows rows.now sides.now ranges.now)
         place ≡ Some limits) }
+    ensures made { IfOk result (λ _. IsRowMade rows.now sides.now ranges.now place) }
     ensures overflow { IfErr result (IsRowOverflow rows.now sides.now ranges.now) }
 {
     let row = &rows[place];
@@ -126,6 +127,7 @@ pub fn limits_by_row(
     requires range { length ranges.now ≡ length rows.now }
     ensures limits { IfOk result (λ limits. limits.items ≡ limits_of_rows rows.now sides.now
         ranges.now) }
+    ensures made { IfOk result (λ _. AreRowsMade rows.now sides.now ranges.now (length rows.now)) }
     ensures overflow { IfErr result (IsRowOverflow rows.now sides.now ranges.now) }
 {
     let mut limits = Vec::new(alloc);

@@ -1,11 +1,12 @@
 // The linear program of a selection.
-ghost use Rattle.std.specs.Prelude.{◌≡◌, ◌++◌, IfOk, IfErr, Ok, length};
+ghost use Rattle.std.specs.Prelude.{◌≡◌, ◌++◌, true, IfOk, IfErr, Ok, length};
 ghost use Rattle.lp_definitions.specs.LinearProgram.{IsLinearProgram};
 ghost use Rattle.problem_definitions.specs.Valid.{AreEntries, AreBounds};
 ghost use Rattle.selection_definitions.specs.Choice.{selection_fault};
 ghost use Rattle.selection_definitions.specs.Limits.{value_on, column_limits};
 ghost use Rattle.selection_definitions.specs.Selection.{selected};
-ghost use Rattle.lp_setup.specs.Parts.{by_number, side_on, limits_of_rows, program_with, IsRowOverflow};
+ghost use Rattle.selection_definitions.specs.Making.{is_made};
+ghost use Rattle.lp_setup.specs.Parts.{by_number, side_on, limits_of_rows, program_with, IsRowOverflow, AreRowsMade};
 ghost use Rattle.lp_setup.specs.Stops.{fault_of, IsOverflowOf};
 
 use crate::choice::Choice;
@@ -36,6 +37,8 @@ fn all_limits(
     ensures limits { IfOk result (λ limits. limits.items ≡ limits_of_rows problem.now.rows sides.now
         (by_number (value_on ranges.now) (length problem.now.rows)) ++ by_number
         (column_limits bounds.now) (length problem.now.columns)) }
+    ensures made { IfOk result (λ _. AreRowsMade problem.now.rows sides.now
+        (by_number (value_on ranges.now) (length problem.now.rows)) (length problem.now.rows)) }
     ensures overflow { IfErr result (IsRowOverflow problem.now.rows sides.now
         (by_number (value_on ranges.now) (length problem.now.rows))) }
 {
@@ -66,6 +69,9 @@ fn program(
     requires bound { AreBounds (length problem.now.columns) bounds.now }
     ensures program { IfOk result (λ lp. lp ≡ program_with problem.now objective rhs.now ranges.now
         bounds.now sense) }
+    ensures made { IfOk result
+        (λ _. AreRowsMade problem.now.rows (by_number (side_on rhs.now) (length problem.now.rows))
+        (by_number (value_on ranges.now) (length problem.now.rows)) (length problem.now.rows)) }
     ensures overflow { IfErr result
         (IsRowOverflow problem.now.rows (by_number (side_on rhs.now) (length problem.now.rows))
         (by_number (value_on ranges.now) (length problem.now.rows))) }
@@ -92,9 +98,11 @@ fn program(
 ///
 /// The faults of the choice come first, in the order of `SelectStop`: an objective row, a right-hand side set, a range set or a
 /// bound set that is chosen and isn't there, no N row where no objective is chosen, or an objective of another type. Without a
-/// fault only two things stop: the sum that a range makes of a row's right-hand side is too large a number, or there is no memory.
+/// fault only two things stop: the sum that a range makes of a row's right-hand side is too large a number, or there is no memory. Where
+/// there is a linear program, no operation that it takes is refused.
 pub fn select(alloc: Global, problem: &Problem, choice: &Choice) -> Result<Lp, SelectStop>
     ensures program { IfOk result (λ lp. selected problem.now choice.now ≡ Ok lp) }
+    ensures made { IfOk result (λ _. is_made problem.now choice.now ≡ true) }
     ensures fault { IfErr result (λ stop. fault_of stop ≡ selection_fault problem.now choice.now) }
     ensures overflow { IfErr result (IsOverflowOf problem.now choice.now) }
 {

@@ -5,3 +5,4 @@ pub mod Selection
 pub mod RangeSums
 pub mod CombinationSums
 pub mod Refusals
+pub mod Making

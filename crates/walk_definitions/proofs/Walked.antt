@@ -18,7 +18,7 @@ use Rattle.run_definitions.specs.Verbs.{verb_move}
 use Rattle.walk_definitions.specs.Words.{fraction_in, count_in}
 use Rattle.walk_definitions.specs.Forms.{is_open_stop}
 use Rattle.walk_definitions.specs.Walker.{Walker, Walks, Finds, Attested, Wrong, Open, turn}
-use Rattle.walk_definitions.specs.Selecting.{is_made}
+use Rattle.selection_definitions.specs.Making.{is_made}
 use Rattle.walk_definitions.specs.Found.{first_walker, answer_text}
 
 -- ---- a title and the end

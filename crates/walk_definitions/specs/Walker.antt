@@ -22,7 +22,7 @@ use Rattle.walk_definitions.specs.Words.{left_after}
 use Rattle.walk_definitions.specs.Forms.{is_open_stop, is_ranges, is_punched, is_inserted}
 use Rattle.walk_definitions.specs.Tests.{says_checked, point_of}
 use Rattle.walk_definitions.specs.Reading.{Judged, Right, Fails, Refuses, judged}
-use Rattle.walk_definitions.specs.Selecting.{is_made}
+use Rattle.selection_definitions.specs.Making.{is_made}
 
 -- an optimal verdict that no SOLUTION has shown yet: what was left of the listing where it stands, its objective, and its check
 pub record Pending : Type 0 where

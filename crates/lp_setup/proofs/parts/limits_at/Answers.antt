@@ -6,6 +6,10 @@ use Rattle.problem_definitions.specs.Problem.{Row}
 use Rattle.selection_definitions.specs.Limits.{row_limits}
 use Rattle.lp_setup.specs.Parts.{IsRangeSumRefusal}
 use Rattle.lp_setup.proofs.Lists.{limits_at, standing}
+use Rattle.check_definitions.specs.declared.Verdict.TheVariants.{Checked}
+use Rattle.check_definitions.specs.Steps.{verdict_of}
+use Rattle.selection_definitions.specs.Making.{range_steps}
+use Rattle.lp_setup.proofs.Made.{row_made}
 use Rattle.lp_setup.proofs.parts.limits_at.Goals as goal
 
 pub returns-in-Ok-clause-limits : goal.returns-in-Ok-clause-limits
@@ -19,6 +23,18 @@ returns-in-Ok-clause-limits c =
     (standing c.args.sides.now c.args.place side (omega (arith, c.requires.side)) c.index-sides-place.is)
     (standing c.args.ranges.now c.args.place range (omega (arith, c.requires.range)) c.index-ranges-place.is)
     ∙ ap Some (sym (c.in-Ok.ensures.limits ∙ ap (λ (kind : RowKind). row_limits kind side range) is_kind))
+
+pub returns-in-Ok-clause-made : goal.returns-in-Ok-clause-made
+returns-in-Ok-clause-made c =
+    let row : Row ℕ = c.index-rows-place.result in
+    let side : ℚ = c.index-sides-place.result in
+    let range : Option ℚ = c.index-ranges-place.result in
+    let is_kind : c.row.inside.kind ≡ row.kind = ap (λ (r : Row ℕ). r.kind) c.row.view_is in
+    row_made c.args.rows.now c.args.sides.now c.args.ranges.now c.args.place row side range
+    (standing c.args.rows.now c.args.place row c.requires.row c.index-rows-place.is)
+    (standing c.args.sides.now c.args.place side (omega (arith, c.requires.side)) c.index-sides-place.is)
+    (standing c.args.ranges.now c.args.place range (omega (arith, c.requires.range)) c.index-ranges-place.is)
+    (subst (λ (kind : RowKind). verdict_of (range_steps kind side range) ≡ Checked) is_kind c.in-Ok.ensures.made)
 
 pub returns-in-Err-clause-overflow : goal.returns-in-Err-clause-overflow
 returns-in-Err-clause-overflow c =

@@ -5,7 +5,8 @@ use Rattle.control_definitions.specs.Program.{SetupOptions}
 use Rattle.selection_definitions.specs.Choice.{Choice}
 use Rattle.lp_setup.specs.Parts.{program_with}
 use Rattle.lp_setup.proofs.Faults.{missing-objective, limited-objective, missing-rhs, missing-range, missing-bound, faultless}
-use Rattle.lp_setup.proofs.Lawful.{free_objective, lawful_program}
+use Rattle.lp_setup.proofs.Lawful.{free_objective, lawful_program, plain}
+use Rattle.lp_setup.proofs.Made.{selection_made}
 use Rattle.lp_setup.proofs.Program.{program_selected, refusal_of_row}
 use Rattle.lp_setup.proofs.Selecting.{number_found, free_found, miss_found, items_found, rhs_found}
 use Rattle.lp_setup.proofs.Sets.{rhs-entries, range-entries, bound-items}
@@ -101,6 +102,15 @@ returns-in-Ok-clause-program c =
     let is_lp = c.in-Ok.ensures.program ∙ ap (program_with c.args.problem.now c.in-Some.objective c.in-Some-rhs_items.rhs.now c.in-Some-range_items.ranges.now c.in-Some-bound_items.bounds.now) sense in
     program_selected c.args.problem.now c.args.choice.now c.in-Some-rhs_items.rhs.now c.in-Some-range_items.ranges.now is_rhs is_ranges c.in-Some.objective c.in-Some-bound_items.bounds.now c.in-Ok.lp is_bounds number
     (faultless c.args.problem.now c.args.choice.now c.in-Some.objective number free no_rhs no_range no_bound) is_lp
+
+pub returns-in-Ok-clause-made : goal.returns-in-Ok-clause-made
+returns-in-Ok-clause-made c =
+    let rhs = ap (λ (chosen : Choice). chosen.rhs) c.choice.view_is in
+    let range = ap (λ (options : SetupOptions). options.range) c.options.view_is ∙ ap (λ (chosen : Choice). chosen.options.range) c.choice.view_is in
+    let is_rhs = rhs_found c.args.problem.now.rhs c.rhs.result.now c.args.choice.now.rhs c.choice.inside.rhs c.rhs.ensures.rhs rhs c.in-Some-rhs_items.rhs.now c.in-Some-rhs_items.ensures.found.1 in
+    let is_ranges = items_found c.args.problem.now.ranges c.ranges-2.result.now c.args.choice.now.options.range c.options.inside.range c.ranges-2.ensures.ranges range c.in-Some-range_items.ranges.now c.in-Some-range_items.ensures.found.1 in
+    selection_made c.args.problem.now c.args.choice.now c.in-Some-rhs_items.rhs.now c.in-Some-range_items.ranges.now is_rhs is_ranges
+    (plain c.args.problem.now c.rows-rows.ensures.is_problem) c.in-Ok.ensures.made
 
 pub returns-in-Err-Overflow-clause-fault : goal.returns-in-Err-Overflow-clause-fault
 returns-in-Err-Overflow-clause-fault c =

@@ -1,0 +1,5 @@
+mod Affine
+mod Limits
+mod Between
+mod Families
+mod Past

@@ -1,0 +1,24 @@
+-- What a call that reads a source as far as a number of bytes leaves in it.
+--     ReadsUpTo most old new       some of the bytes were read, and no more than so many
+--     ReadsWhole most old new      all of them were read, or so many
+--     HasSourceCause               why such a call stops
+use Rattle.std.specs.Prelude.{◌≡◌, ℕ, ◌≤◌, List, length, drop, Option, Some, None, Result, IsErrOf}
+use Rattle.std.specs.Io.KnownBytes.{Consumes}
+use Rattle.job_devices.specs.Causes.{Rose}
+use Rattle.job_devices.specs.declared.reading.SourceStop.{SourceStop}
+use Rattle.job_devices.specs.declared.reading.SourceStop.TheVariants.{Failed}
+
+abbrev pub ReadsUpTo : ℕ → Option (List ℕ) → Option (List ℕ) → Type 0
+ReadsUpTo most old new = (front : List ℕ) × (length front ≤ most) × Consumes old new front
+
+abbrev pub ReadsWhole : ℕ → Option (List ℕ) → Option (List ℕ) → Type 0
+ReadsWhole most None new = Unit {0}
+ReadsWhole most (Some bytes) None = ⊥
+ReadsWhole most (Some bytes) (Some rest) = rest ≡ drop most bytes
+
+-- `Failed` is answered only where the source's count of faults rose, and the count never falls. Where anything else is answered, it is
+-- what it was.
+pub record HasSourceCause {T : Type 0} (before now : ℕ) (result : Result T SourceStop) : Type 0 where
+  pub later : before ≤ now
+  pub failed : IsErrOf result Failed → Rose before now
+  pub quiet : (IsErrOf result Failed → ⊥) → now ≡ before

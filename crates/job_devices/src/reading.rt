@@ -1,0 +1,69 @@
+// Reads a source as far as it is asked to.
+ghost use Rattle.std.specs.Prelude.{◌≡◌, ◌<◌, length, take, IfOk, IfSome, OnOk};
+ghost use Rattle.std.specs.Io.KnownBytes.{IsAtEnd};
+ghost use Rattle.job_devices.specs.Reading.{ReadsUpTo, ReadsWhole, HasSourceCause};
+
+use crate::{Failed, Source};
+use std::alloc::{AllocError, Global};
+use thiserror::Error;
+
+const PIECE: usize = 65_536;
+
+/// Why a source isn't read as far as was asked.
+#[derive(Clone, Copy, Debug, PartialEq, Eq, Error)]
+pub enum SourceStop {
+    /// A read failed, and the source has counted it.
+    #[error("a read failed")]
+    Failed,
+    /// Memory ran out.
+    #[error("out of memory")]
+    NoMemory,
+}
+
+impl From<Failed> for SourceStop {
+    ghost use Rattle.std.specs.Prelude.{◌≡◌};
+    ghost use Rattle.job_devices.specs.declared.reading.SourceStop.TheVariants as stops;
+
+    ghost from_gives = { λ _ stop. stop ≡ stops.Failed };
+
+    fn from(_: Failed) -> Self {
+        SourceStop::Failed
+    }
+}
+
+impl From<AllocError> for SourceStop {
+    ghost use Rattle.std.specs.Prelude.{◌≡◌};
+    ghost use Rattle.job_devices.specs.declared.reading.SourceStop.TheVariants as stops;
+
+    ghost from_gives = { λ _ stop. stop ≡ stops.NoMemory };
+
+    fn from(_: AllocError) -> Self {
+        SourceStop::NoMemory
+    }
+}
+
+/// Reads the source to its end, or as far as `most` bytes, in pieces. At a stop no more has been read either.
+pub fn read_up_to<S: Source>(
+    alloc: Global,
+    source: &mut S,
+    most: usize,
+) -> Result<Vec<u8>, SourceStop>
+    ensures bytes { IfOk result (λ bytes. IfSome (S.left source.old)
+        (λ left. bytes.items ≡ take most left)) }
+    ensures whole { OnOk result (ReadsWhole most (S.left source.old) (S.left source.new)) }
+    ensures no_further { ReadsUpTo most (S.left source.old) (S.left source.new) }
+    ensures end { IfOk result (λ bytes. length bytes.items < most → IsAtEnd (S.left source.new)) }
+    ensures cause { HasSourceCause (S.faults source.old) (S.faults source.new) result }
+{
+    let mut bytes = Vec::new(alloc);
+    let mut piece = [0; PIECE];
+    while bytes.len() < most {
+        let room = PIECE.min(most - bytes.len());
+        let count = source.read(&mut piece[..room])?;
+        if count == 0 {
+            return Ok(bytes);
+        }
+        bytes.extend_from_slice(&piece[..count])?;
+    }
+    Ok(bytes)
+}
