@@ -1,0 +1,147 @@
+// The parts of table lines, and the words of other lines.
+ghost use Rattle.std.specs.Prelude.{◌≡◌, ◌++◌, codes, Some, None, option_map, bytes_eq, if◌then◌else◌};
+ghost use Rattle.lp_definitions.specs.LinearProgram.{IsVariable};
+ghost use Rattle.card_definitions.specs.Words.{named};
+ghost use Rattle.listing_definitions.specs.Report.{limit_value, Number, Code};
+ghost use Rattle.listing_definitions.specs.Text.{number5, name8};
+ghost use Rattle.listing_tables.specs.Sheets.{IsSheet};
+ghost use Rattle.walk_definitions.specs.Words.{left_after};
+ghost use Rattle.walk_definitions.specs.Forms.{all_operations};
+ghost use Rattle.walk_definitions.specs.Tables.{all_codes, AnyCode, AnyNumber, Known, slot_in, line_head};
+ghost use Rattle.listing_readers.specs.Read.{taken, sheet_shown};
+
+use crate::cursor::Cursor;
+use crate::numbers::fraction_in;
+use frac128::{Frac, Op};
+use itoa::Buffer;
+use listing_definitions::At;
+use listing_tables::{NAME_PLACES, NUMBER_PLACES, Sheet, blanks, decimal, fraction, name_of};
+use name_table::Name;
+
+// Takes two texts, one after the other.
+#[tactic(auto, using(walk_definitions::proofs::Texts::left_after_both))]
+fn take_both(cursor: &mut Cursor<'_>, first: &[u8], second: &[u8]) -> bool
+    ensures { left_after (first.now ++ second.now) cursor.old ≡ taken result cursor.new }
+{
+    cursor.take(first) && cursor.take(second)
+}
+
+// Takes a number at the right of its places.
+fn take_number(cursor: &mut Cursor<'_>, number: u32) -> bool
+    ensures { left_after (number5 number) cursor.old ≡ taken result cursor.new }
+{
+    let mut buffer = Buffer::new();
+    let digits = decimal(&mut buffer, number).as_bytes();
+    take_both(cursor, blanks(NUMBER_PLACES, digits.len()), digits)
+}
+
+/// Takes a name at the left of its places.
+pub fn take_name(cursor: &mut Cursor<'_>, name: Name) -> bool
+    ensures { left_after (name8 name) cursor.old ≡ taken result cursor.new }
+{
+    let letters = name.bytes();
+    take_both(cursor, letters, blanks(NAME_PLACES, letters.len()))
+}
+
+// Takes a name after a blank.
+#[tactic(auto, using(walk_definitions::proofs::Texts::left_after_both))]
+fn take_name_after_blank(cursor: &mut Cursor<'_>, name: Name) -> bool
+    ensures { left_after (codes " " ++ name8 name) cursor.old ≡ taken result cursor.new }
+{
+    cursor.take(b" ") && take_name(cursor, name)
+}
+
+/// Takes the number and the name of variable `k`.
+#[tactic(auto, using(walk_definitions::proofs::Texts::left_after_both))]
+pub fn take_head(cursor: &mut Cursor<'_>, sheet: Sheet<'_>, k: u32) -> bool
+    requires sheet { IsSheet sheet }
+    requires variable { IsVariable sheet.lp.now.matrix k }
+    ensures { left_after (line_head (sheet_shown sheet.entry) k) cursor.old ≡ taken result cursor.new }
+{
+    take_number(cursor, k) && take_name_after_blank(cursor, name_of(sheet, k))
+}
+
+// Whether a word is this text.
+fn is_word(text: &[u8], word: &[u8]) -> bool
+    ensures { result ≡ bytes_eq text.now word.now }
+{
+    text == word
+}
+
+// Where a variable stands, as a word says it.
+fn code_of(word: &[u8]) -> Option<At>
+    ensures { result ≡ named all_codes word.now }
+{
+    if is_word(b"BS", word) {
+        Some(At::Basic)
+    } else if is_word(b"**", word) {
+        Some(At::Outside)
+    } else if is_word(b"EQ", word) {
+        Some(At::Equal)
+    } else if is_word(b"LL", word) {
+        Some(At::Lower)
+    } else if is_word(b"UL", word) {
+        Some(At::Upper)
+    } else if is_word(b"FR", word) {
+        Some(At::Free)
+    } else {
+        None
+    }
+}
+
+/// The operation that a word says.
+pub fn operation_of(word: &[u8]) -> Option<Op>
+    ensures { result ≡ named all_operations word.now }
+{
+    if is_word(b"ADD", word) {
+        Some(Op::Add)
+    } else if is_word(b"SUB", word) {
+        Some(Op::Sub)
+    } else if is_word(b"MUL", word) {
+        Some(Op::Mul)
+    } else if is_word(b"DIV", word) {
+        Some(Op::Div)
+    } else {
+        None
+    }
+}
+
+/// Where a variable stands, after a blank.
+pub fn code(cursor: &mut Cursor<'_>) -> Option<At>
+    ensures { slot_in AnyCode cursor.old ≡ option_map (λ at. (Code at, cursor.new)) result }
+{
+    if !cursor.take(b" ") {
+        return None;
+    }
+    code_of(cursor.word())
+}
+
+/// A number after a blank.
+pub fn number(cursor: &mut Cursor<'_>) -> Option<Frac>
+    ensures { slot_in AnyNumber cursor.old ≡ option_map (λ x. (Number x, cursor.new)) result }
+{
+    if !cursor.take(b" ") {
+        return None;
+    }
+    fraction_in(cursor.word())
+}
+
+/// This number after a blank.
+pub fn known_number(cursor: &mut Cursor<'_>, value: Frac) -> bool
+    ensures { slot_in (Known (Number value)) cursor.old
+        ≡ (if result then Some (Number value, cursor.new) else None) }
+{
+    let text = fraction(value);
+    cursor.take(b" ") && is_word(text.as_str().as_bytes(), cursor.word())
+}
+
+/// This limit after a blank.
+pub fn known_limit(cursor: &mut Cursor<'_>, limit: Option<Frac>) -> bool
+    ensures { slot_in (Known (limit_value limit)) cursor.old
+        ≡ (if result then Some (limit_value limit, cursor.new) else None) }
+{
+    match limit {
+        Some(value) => known_number(cursor, value),
+        None => cursor.take(b" ") && is_word(b"NONE", cursor.word()),
+    }
+}
