@@ -1,6 +1,6 @@
 use job_devices::{
-    Failed, MemorySink, MemorySource, PunchFile, Sink, Source, StreamSink, StreamSource, SureSink,
-    WriteStop, put_all, put_each,
+    Discard, Failed, ListingFile, MemorySink, MemorySource, PunchFile, Sink, Source, SourceStop,
+    StreamSink, StreamSource, SureSink, WriteStop, put_all, put_each, read_up_to,
 };
 use std::fs;
 use std::io::{self, ErrorKind, Read, Write};
@@ -93,6 +93,44 @@ fn a_read_gives_a_piece_at_most(rt: HostRuntime) -> Result<(), Fail> {
     assert_eq!(rt; source.read(&mut buf), Ok(2));
     assert_eq!(rt; buf, *b"dsr.");
     assert_eq!(rt; source.read(&mut buf), Ok(0));
+    Ok(())
+}
+
+#[test]
+fn a_source_is_read_as_far_as_is_asked(rt: HostRuntime) -> Result<(), Fail> {
+    let mut source = MemorySource::in_pieces(rt.alloc(), b"cards", &[4], 2)?;
+    assert_eq!(rt;
+        read_up_to(rt.alloc(), &mut source, 3)?.as_slice(),
+        b"car".as_slice()
+    );
+    assert_eq!(rt;
+        read_up_to(rt.alloc(), &mut source, 0)?.as_slice(),
+        b"".as_slice()
+    );
+    // The third read gives the rest, and the fourth, at the end, fails.
+    let stopped = read_up_to(rt.alloc(), &mut source, 9);
+    assert!(rt; matches!(&stopped, Err(SourceStop::Failed)));
+    Ok(())
+}
+
+#[test]
+fn the_listing_file_is_opened_at_the_first_read(rt: HostRuntime) -> Result<(), Fail> {
+    let mut listing = ListingFile::new(&rt);
+    let mut buf = [b'.'; 4];
+    assert_eq!(rt; listing.read(&mut buf), Err(Failed));
+    fs::write(&rt, "LISTING", b"END 0\n")?;
+    assert_eq!(rt; listing.read(&mut buf), Ok(4));
+    assert_eq!(rt; buf, *b"END ");
+    assert_eq!(rt; listing.read(&mut buf), Ok(2));
+    assert_eq!(rt; buf, *b"0\nD ");
+    assert_eq!(rt; listing.read(&mut buf), Ok(0));
+    fs::remove_file(&rt, "LISTING")?;
+    Ok(())
+}
+
+#[test]
+fn what_is_discarded_is_taken_whole(_rt: HostRuntime) -> Result<(), Fail> {
+    put_each(&mut Discard, &[b"NAME\n", b"ENDATA\n"])?;
     Ok(())
 }
 
