@@ -16,7 +16,7 @@ use Rattle.control_compiler.specs.declared.stop.CompileStop.TheVariants as compi
 use Rattle.listing_definitions.specs.Ending.{Ending}
 use Rattle.listing_definitions.specs.Ending as endings
 use Rattle.run_definitions.specs.Answer.{IsProgramOf}
-use Rattle.job_program.specs.declared.prepare.Prepared.{Prepared}
+use Rattle.job_program.specs.declared.reading.Prepared.{Prepared}
 use Rattle.job_program.specs.declared.stop.EarlyStop.{EarlyStop}
 use Rattle.job_program.specs.declared.stop.EarlyStop.TheVariants.{Words, ReadFault, Card, Control, Memory}
 
