@@ -54,7 +54,8 @@ if command -v python3 >/dev/null; then
     # The page of faults is that of examples/faults, and the listings of examples/ are those that are worked out apart.
     python3 scripts/faults.py --check || fail "scripts/faults.py --write makes docs/FAULTS.md"
     bash scripts/examples.sh --expected || fail "a listing of examples/"
-    # The five that take longest run side by side.
+    python3 scripts/check_decks.py || fail "free_deck.py changes a deck, or free decks are read otherwise than they are to be"
+    # The six that take longest run side by side.
     python3 scripts/check_installed.py &
     installed=$!
     python3 scripts/check_mps2job.py &
@@ -63,9 +64,12 @@ if command -v python3 >/dev/null; then
     reports=$!
     python3 scripts/check_bases.py &
     bases=$!
+    python3 scripts/check_answers.py &
+    answers=$!
     python3 scripts/check_tools.py || fail "a script does otherwise than it is to do"
     wait "$reports" || fail "solve, listing2html.py, listing2json.py or the page of reference answers does otherwise than it is to do"
     wait "$bases" || fail "basis2deck.py or prove takes another basis than a solver wrote"
+    wait "$answers" || fail "a solution, a listing or a certificate becomes another than it is, or is taken where it should be refused"
     wait "$files" || fail "mps2job.py changes a problem, or takes a file that it should refuse"
     wait "$installed" || fail "build.sh, install.sh, an installed command or mps360-batch does otherwise than it is to do"
     if scripts/program.sh --fresh >/dev/null; then

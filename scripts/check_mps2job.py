@@ -237,6 +237,7 @@ SAID = [
     ("the N rows", (), small(MORE, rows=" N COST\n N MORE\n G R1"), "2 N rows; the objective is COST"),
     ("another name", (), small(MORE, rows=" N COST\n G R1\n L A_LONG_NAME"), "1 row has another name"),
     ("the problem's name", (), small(MORE).replace("SMALL", "A long name"), "name is PROBLEM"),
+    ("a free deck of a job", (), small(MORE, " B R1 4").replace("NAME SMALL", "NAME          SMALL     FREE"), "the file is a free deck"),
     ("what old cards have past column 72", ("--fixed",), mps(F[:-1], f"{FIXED('X', 'COST', '1'):<72}00010", "ENDATA"),
      "line 6: what stands past column 61"),
     ("Latin-1", (), small(" Zürich COST 1").encode("latin-1"), "isn't UTF-8"),
@@ -275,6 +276,8 @@ def try_said(house):
         check(f"{what}: in the table of names: {names.get('said')}", any(part in sentence for sentence in names.get("said", [])))
         remarks = " ".join(card.lstrip("* ") for card in job.split("\n") if card.startswith("*"))
         check(f"{what}: in the job: {remarks}", part[:40] in remarks)
+    _, job, _, _ = house.convert(small(MORE, " B R1 4").replace("NAME SMALL", "NAME          SMALL     FREE").encode(), ())
+    check(f"the name of a free deck: {job}", "\nNAME          SMALL\n" in job)
     _, _, names, _ = house.convert(small(" X COST 1 R1 1", " B R1 .123456789016", rows=" N COST\n G R1").encode(), ("--round",))
     check(f"the table of rounded numbers: {names}", names.get("rounded") == [{"line": 8, "from": ".123456789016", "to": ".12345678902"}])
 

@@ -74,8 +74,8 @@ BOUNDS
  PL BND X1
 ENDATA
 """
-MODULES = ("runner.py", "mps_file.py", "basis_file.py", "every_basis.py", "expected_bases.py", "expected_postoptimal.py", "strangers_text.py", "follow_listing.py",
-           "parametric_svg.py", "readable.py")
+MODULES = ("runner.py", "mps_file.py", "basis_file.py", "every_basis.py", "expected_bases.py", "expected_decks.py", "expected_postoptimal.py", "strangers_text.py", "follow_listing.py",
+           "parametric_svg.py", "readable.py", "job_rules.py", "solution_file.py", "answer_listing.py")
 DOOMED = {
     "a MARKER": ("    M1  'MARKER'  'INTORG'\n", "MARKER"),
     "a long number": ("    X  COST  0.1234567890123\n", "12 columns"),
@@ -138,10 +138,11 @@ def try_expected(folder):
     made = call(SCRIPTS / "expected_listing.py", "--make", "2").stdout
     check("expected_listing.py --make", made == b"CONVERT TRANSP   ROWS 5 COLUMNS 4 ENTRIES 12\nSETUP   TRANSP   MIN\n"
           b"PRIMAL OPTIMAL STEPS 4 OBJECTIVE 180 CHECKED\nEND 0\n")
-    for words, count in ((("--itself", "40", "8"), 8), (("--itself", "--no-parametric", "--no-revise", "0", "12"), 12)):
+    for words, count, told_of in ((("--itself", "40", "8"), 8, "optimal"), (("--itself", "--no-parametric", "--no-revise", "0", "12"), 12, "optimal"),
+                                  (("--itself", "--decks", "0", "60"), 60, "deck 25")):
         told = call(SCRIPTS / "random_jobs.py", *words)
         said = told.stdout.decode()
-        check(f"random_jobs.py {words}: {said}", told.returncode == 0 and said.startswith(f"{count} jobs, 0 differ") and "optimal" in said)
+        check(f"random_jobs.py {words}: {said}", told.returncode == 0 and said.startswith(f"{count} jobs, 0 differ") and told_of in said)
     for words in (("x",), ("1", "2", "3"), ("--itself", "--unproved"), ("--revise",)):
         check(f"random_jobs.py: wrong use {words}", call(SCRIPTS / "random_jobs.py", *words).returncode == 64)
     check("random_jobs.py --help", call(SCRIPTS / "random_jobs.py", "--help").returncode == 0)
@@ -315,6 +316,29 @@ MISTAKES = (
     ("no PEND", ("         PEND\n", ""), "STOP 8 CONTROL FAULT 3 CARD 10", ("A card NAME begins a deck: PEND is missing",), ()),
     ("a byte order mark", ("* A week", "\xef\xbb\xbf* A week"), "STOP 13 CARD FAULT 4 CARD 1", ("byte order mark (BOM) of UTF-8", "    ???* A week"), ("\xef",)),
 )
+# the same of the store's free deck
+FREE_MISTAKES = (
+    ("an unknown row of a free deck", (" FLOUR  MONEY 3", " FLOUR  MONY 3"), "STOP 12 DECK FAULT 6 CARD 21",
+     ("     FLOUR  MONY 3\n     2      3    4  (fields)\n", "It is read as column 'FLOUR', row 'MONY', entry '3'.", "Near to 'MONY': 'MONEY'"), ("(fields 1 to 6)",)),
+    ("a remark on a free card", (" FLOUR  MONEY 3", " FLOUR  MONEY 3 a remark"), "STOP 12 DECK FAULT 6 CARD 21", ("row 'a', entry 'remark'",), ()),
+    ("a missing word", (" FLOUR  MONEY 3", " FLOUR  MONEY"), "STOP 12 DECK FAULT 25 CARD 21",
+     ("The card has 2 words, and a card of COLUMNS has 3 (column, row, entry) or 5 (column, row, entry, row, entry).",), ("It is read as",)),
+    ("a long name of a free deck", (" FLOUR  MONEY 3", " FLOURSACKS MONEY 3"), "STOP 12 DECK FAULT 26 CARD 21",
+     ("FLOURSACKS MONEY 3\n     ^\n", "FLOURSACKS has 10 characters, and a name has 8 at most."), ()),
+    ("a long number of a free deck", (" FLOUR  MONEY 3", " FLOUR  MONEY 3.00000000000"), "STOP 12 DECK FAULT 27 CARD 21",
+     ("\n                  ^\n", "3.00000000000 has 13 characters, and a number has 12 at most: 3 is the same number."), ()),
+    ("FREE in other columns", ("STORE     FREE", "STORE FREE"), "STOP 12 DECK FAULT 20 CARD 16",
+     ("(fields 1 to 6)", "The deck is fixed: FREE counts in columns 25 to 28 of the NAME card", "and it stands in 21 to 24."), ("It is read as",)),
+    ("FREE with a remark", ("STORE     FREE", "STORE     FREE  again"), "STOP 12 DECK FAULT 20 CARD 16", ("and something else stands behind the name.",), ()),
+)
+# the same of a free revision of the joiner's week
+REVISE_MISTAKES = (
+    ("a column that isn't there", (" WEEK SHELF\n", " WEEK SHELVES\n"), "STOP 12 DECK FAULT 11 CARD 44",
+     ("It is read as set 'WEEK', column 'SHELVES'.", "Known columns: 'TABLE', 'CHAIR', 'SHELF', 'STOOL'\n", "Near to 'SHELVES': 'SHELF'"), ()),
+    ("an action at nothing", (" AFTER CHAIR\n", " AFTER CHAIRS\n"), "STOP 12 DECK FAULT 22 CARD 36", ("It is read as action 'AFTER', name 'CHAIRS'.",), ()),
+    ("too many words under DELETE", (" WEEK SHELF\n", " UP WEEK SHELF\n"), "STOP 12 DECK FAULT 25 CARD 44",
+     ("The card has 3 words, and a card of BOUNDS under DELETE has 1 (set) or 2 (set, column).",), ()),
+)
 # what a SETUP took, and what was perhaps forgotten: a job, its rows, what explain says; each best plan is worth 0
 FORGOTTEN = """         PROGRAM
          CONVERT
@@ -357,14 +381,16 @@ TAKEN = (
 
 def try_mistakes(folder):
     "what explain says of mistakes that are easily made, in the job or beside it"
-    first, job, listing = (runner.TOP / "examples/first.job").read_text(), folder / "mistake.job", folder / "mistake.listing"
-    for what, (old, new), stop, wanted, unwanted in MISTAKES:
-        job.write_text(first.replace(old, new, 1), encoding="latin-1")
-        listing.write_text(stop + "\n")
-        told = call(SCRIPTS / "explain", job, listing).stdout.decode()
-        for text in wanted:
-            check(f"explain: {what}: no {text!r} in {told}", text in told)
-        check(f"explain: {what}: {told}", not any(text in told for text in unwanted))
+    job, listing, examples = folder / "mistake.job", folder / "mistake.listing", runner.TOP / "examples"
+    free = call(SCRIPTS / "free_deck.py", examples / "revise.job").stdout.decode()
+    for base, mistakes in (((examples / "first.job").read_text(), MISTAKES), ((examples / "free.job").read_text(), FREE_MISTAKES), (free, REVISE_MISTAKES)):
+        for what, (old, new), stop, wanted, unwanted in mistakes:
+            job.write_text(base.replace(old, new, 1), encoding="latin-1")
+            listing.write_text(stop + "\n")
+            told = call(SCRIPTS / "explain", job, listing).stdout.decode()
+            for text in wanted:
+                check(f"explain: {what}: no {text!r} in {told}", text in told)
+            check(f"explain: {what}: {told}", not any(text in told for text in unwanted))
     job.write_text(TESTPROB)
     listing.write_text("STOP 8 CONTROL FAULT 1 CARD 1\n")
     check("explain: an MPS file", b"mps2job.py makes a job of it" in call(SCRIPTS / "explain", job, listing).stdout)

@@ -3,17 +3,9 @@
 A table (expected_listing.Table) has the present basis; variables are numbered from 0, rows before columns."""
 from fractions import Fraction
 
+from expected_decks import GAPS, SECTIONS, DeckFault
+
 CODES = {"XU": "UL", "XL": "LL", "UL": "UL", "LL": "LL"}
-SECTIONS = ("NAME", "ROWS", "COLUMNS", "RHS", "RANGES", "BOUNDS", "ENDATA")
-# the columns of a data card that no field has
-GAPS = (1, 4, 13, 14, 23, 24, 37, 38, 39, 48, 49)
-
-
-class DeckFault(Exception):
-    "a deck that has a fault, with its number and the place of its card in the deck, from 0"
-    def __init__(self, number, place):
-        super().__init__(number)
-        self.number, self.place = number, place
 
 
 class Singular(Exception):

@@ -6,17 +6,15 @@ usage: expected_listing.py [--punch FILE] [--make N | FILE.job]      without a f
 run's status. With --make N the job is the generated one: N sources with 10 each, and N destinations that want 10 each.
 
 It knows every verb (RANGE, PARAOBJ and PARARHS are worked out in expected_postoptimal.py, DUAL, PUNCH and INSERT in expected_bases.py), the
-faults of statements, and those of basis decks. It looks for few other faults, and ends with 70 where it meets one. With --punch the punched
-cards go to FILE, where there are any."""
+faults of statements, and those of decks (expected_decks.py). It looks for few other faults, and ends with 70 where it meets one. With --punch
+the punched cards go to FILE, where there are any."""
 import copy
 from fractions import Fraction
 import re
 import sys
 
 import expected_bases, expected_postoptimal
-
-SECTIONS = ("NAME", "ROWS", "COLUMNS", "RHS", "RANGES", "BOUNDS", "ENDATA")
-NUMBER = re.compile(r"([+-]?(?:\d+\.?\d*|\.\d+))(?:[EeDd]([+-]?\d+))?$")
+from expected_decks import NUMBER, DeckFault, Problem, deck_name, fields, is_skipped, number
 
 
 class Fault(Exception):
@@ -28,215 +26,6 @@ class VerbFault(Exception):
     def __init__(self, number, more="", lines=()):
         super().__init__(number)
         self.more, self.lines = more, lines
-
-
-class DeckFault(Exception):
-    "a basis deck that has a fault, with its number and its card"
-
-
-def number(text):
-    found = NUMBER.match(text.strip())
-    if not found:
-        raise Fault(f"not a number: {text!r}")
-    return Fraction(found[1].rstrip(".") if found[1].endswith(".") else found[1]) * Fraction(10) ** int(found[2] or 0)
-
-
-class Written(Fraction):
-    "a number as a card has it: its value, and its text"
-    def __new__(cls, text):
-        self = super().__new__(cls, number(text))
-        self.text = text.strip()
-        return self
-
-    def __deepcopy__(self, _):
-        return self
-
-
-def is_skipped(card):
-    return not card or card.startswith("*")
-
-
-# ---- a deck: what it says, by names
-
-def fields(card):
-    return [card[a:b].rstrip() for a, b in ((1, 3), (4, 12), (14, 22), (24, 36), (39, 47), (49, 61))]
-
-
-def pairs(field):
-    "the rows and values of a card"
-    both = [(field[2], field[3])] + ([(field[4], field[5])] if field[4] or field[5] else [])
-    return {row: Written(text) for row, text in both}
-
-
-def bound(field):
-    kind = field[0].strip()
-    return kind, field[2], Written(field[3]) if kind in ("UP", "LO", "FX") else None
-
-
-def ends(kind):
-    "the ends that a bound touches"
-    return {"LO": "L", "MI": "L", "UP": "U", "PL": "U"}.get(kind, "LU")
-
-
-def deck_name(cards):
-    "the name on the first card, where that is a NAME card"
-    first = next((card for card in cards if not is_skipped(card)), "")
-    return first[14:22].rstrip() if first.split(" ")[0] == "NAME" else None
-
-
-class Problem:
-    def __init__(self, cards):
-        self.name, self.rows, self.columns = "", {}, {}
-        self.sets = {"RHS": {}, "RANGES": {}, "BOUNDS": {}}
-        section = None
-        for card in cards:
-            if is_skipped(card):
-                continue
-            if card[0] != " ":
-                section = card.split()[0]
-                if section not in SECTIONS:
-                    raise Fault(f"section {section}")
-                if section == "NAME":
-                    self.name = card[14:22].rstrip()
-                continue
-            field = fields(card)
-            if section == "ROWS":
-                self.rows[field[1]] = field[0].strip()
-            elif section == "COLUMNS":
-                self.columns.setdefault(field[1], {}).update(pairs(field))
-            elif section in ("RHS", "RANGES"):
-                self.sets[section].setdefault(field[1], {}).update(pairs(field))
-            elif section == "BOUNDS":
-                self.sets["BOUNDS"].setdefault(field[1], []).append(bound(field))
-        self.look()
-
-    def look(self):
-        for entries in self.columns.values():
-            if any(row not in self.rows for row in entries):
-                raise Fault("an unknown row")
-
-    def entries(self):
-        return sum(len(entries) for entries in self.columns.values())
-
-    def deck(self):
-        "the cards that BCDOUT punches"
-        def card(kind, *names, value=None):
-            text = " {:<2} {:<10}{:<10}".format(kind, *names, *[""] * (2 - len(names))) + (value.text if value is not None else "")
-            return text.rstrip()
-
-        yield f"NAME          {self.name}".rstrip()
-        yield "ROWS"
-        yield from (card(kind, name) for name, kind in self.rows.items())
-        yield "COLUMNS"
-        for name, entries in self.columns.items():
-            if not entries and self.rows:
-                entries = {next(iter(self.rows)): Written("0")}
-            yield from (card("", name, row, value=value) for row, value in entries.items())
-        for section in ("RHS", "RANGES"):
-            if self.sets[section]:
-                yield section
-            yield from (card("", name, row, value=value) for name, items in self.sets[section].items() for row, value in items.items())
-        if self.sets["BOUNDS"]:
-            yield "BOUNDS"
-        yield from (card(kind, name, column, value=value) for name, items in self.sets["BOUNDS"].items() for kind, column, value in items)
-        yield "ENDATA"
-
-    def revised(self, cards):
-        "what the deck of a revision makes of it; the problem itself stays as it is"
-        return Revision(copy.deepcopy(self), cards).problem
-
-
-class Revision:
-    "the edits of a deck, card by card"
-    def __init__(self, problem, cards):
-        self.problem, self.action, self.place, section = problem, None, 0, None
-        problem.name = deck_name(cards)
-        for card in cards:
-            if is_skipped(card):
-                continue
-            if card[0] != " ":
-                section, self.action = card.split()[0], None
-            elif re.match(r" [^ ]{3}", card):
-                self.begin(section, card[1:].split(" ")[0], card[14:22].rstrip())
-            elif section in ("RHS", "RANGES", "BOUNDS"):
-                self.edit_set(section, problem.sets[section], fields(card))
-            else:
-                self.edit(section, fields(card))
-        problem.look()
-
-    def begin(self, section, word, name):
-        "an action card; BEFORE and AFTER have a place in the list of rows or columns"
-        if word not in ("MODIFY", "DELETE", "BEFORE", "AFTER") or word in ("BEFORE", "AFTER") and section not in ("ROWS", "COLUMNS"):
-            raise Fault("an unknown action")
-        self.action, listed = word, list(self.problem.rows if section == "ROWS" else self.problem.columns)
-        if word == "BEFORE":
-            self.place = listed.index(name) if name else 0
-        elif word == "AFTER":
-            self.place = listed.index(name) + 1 if name else len(listed)
-
-    def insert(self, things, name, value):
-        listed = list(things.items())
-        if name in things:
-            raise Fault("a name that is there already")
-        listed.insert(self.place, (name, value))
-        things.clear()
-        things.update(listed)
-        self.place += 1
-
-    def edit(self, section, field):
-        problem, name = self.problem, field[1]
-        items = [*problem.columns.values(), *problem.sets["RHS"].values(), *problem.sets["RANGES"].values()]
-        if self.action is None:
-            raise Fault("a card without an action")
-        if self.action == "DELETE" and section == "ROWS":
-            del problem.rows[name]
-            for entries in items:
-                entries.pop(name, None)
-        elif self.action == "DELETE" and field[2]:
-            del problem.columns[name][field[2]]
-        elif self.action == "DELETE":
-            del problem.columns[name]
-            for group, listed in problem.sets["BOUNDS"].items():
-                problem.sets["BOUNDS"][group] = [item for item in listed if item[1] != name]
-        elif section == "ROWS" and self.action == "MODIFY":
-            if name not in problem.rows:
-                raise Fault("a row that isn't there")
-            problem.rows[name] = field[0].strip()
-        elif section == "ROWS":
-            self.insert(problem.rows, name, field[0].strip())
-        elif self.action == "MODIFY":
-            problem.columns[name].update(pairs(field))
-        elif self.place and list(problem.columns)[self.place - 1] == name:
-            problem.columns[name].update(pairs(field))
-        else:
-            self.insert(problem.columns, name, pairs(field))
-        self.drop_empty()
-
-    def edit_set(self, section, sets, field):
-        name, row = field[1], field[2]
-        if self.action == "DELETE" and not row:
-            del sets[name]
-        elif self.action == "DELETE" and section == "BOUNDS":
-            if not any(item[1] == row for item in sets[name]):
-                raise Fault("a column without a bound in that set")
-            sets[name] = [item for item in sets[name] if item[1] != row]
-        elif self.action == "DELETE":
-            del sets[name][row]
-        elif self.action == "MODIFY" and section == "BOUNDS":
-            new = bound(field)
-            kept = [item for item in sets.get(name, []) if item[1] != row or not set(ends(item[0])) & set(ends(new[0]))]
-            sets[name] = kept + [new]
-        elif self.action == "MODIFY":
-            sets.setdefault(name, {}).update(pairs(field))
-        else:
-            raise Fault("a card without an action")
-        self.drop_empty()
-
-    def drop_empty(self):
-        "a set that has lost its last item goes"
-        for sets in self.problem.sets.values():
-            for name in [name for name, items in sets.items() if not items]:
-                del sets[name]
 
 
 # ---- a linear program: variables are numbered from 0, rows before columns
@@ -502,6 +291,13 @@ class Run:
             if self.cells.get("XDATA", deck_name(taken)) == deck_name(taken):
                 return taken
 
+    def read_deck(self, read, cards):
+        "what is read of the deck just taken; its fault names a card of the job"
+        try:
+            return read(cards)
+        except DeckFault as fault:
+            raise DeckFault(fault.number, self.place - len(cards) + fault.place + 1, fault.more) from None
+
     def table_line(self, k, values):
         return f"{k + 1:5} {self.lp.names[k]:<8} " + " ".join(str(value) if isinstance(value, str) else shown(value) for value in values)
 
@@ -625,7 +421,7 @@ class Run:
     def file(self, verb):
         "CONVERT and REVISE"
         old = self.filed("XOLDNAME") if verb == "REVISE" else None
-        problem = old.revised(self.deck()) if old else Problem(self.deck())
+        problem = self.read_deck(old.revised if old else Problem, self.deck())
         problem.name = self.cells.get("XPBNAME", problem.name)
         self.problems[problem.name], self.last, self.setup, self.mark = problem, problem.name, None, None
         counts = len(problem.rows), len(problem.columns), problem.entries()
@@ -660,11 +456,8 @@ class Run:
     def basis_taken(self):
         "the deck that INSERT takes, and where each variable stands by it"
         self.select()
-        cards = self.deck()
-        try:
-            return cards, expected_bases.stands_for(cards, self.lp, Table(self.lp).at, is_skipped, fields)
-        except expected_bases.DeckFault as fault:
-            raise DeckFault(fault.number, self.place - len(cards) + fault.place + 1) from None
+        cards, opening = self.deck(), Table(self.lp).at
+        return cards, self.read_deck(lambda cards: expected_bases.stands_for(cards, self.lp, opening, is_skipped, fields), cards)
 
     def inserted(self, cards, at):
         self.mark = None
@@ -711,7 +504,7 @@ class Run:
                 self.lines += [f"STOP 10 VERB FAULT {fault} CARD {card}{fault.more}", *fault.lines]
                 return 10
             except DeckFault as fault:
-                self.lines.append("STOP 12 DECK FAULT {} CARD {}".format(*fault.args))
+                self.lines.append(f"STOP 12 DECK FAULT {fault} CARD {fault.place}{fault.more}")
                 return 12
         self.lines.append("END 0")
         return 0
@@ -773,7 +566,7 @@ def main(words):
     try:
         run = Run(text)
         status = run.run()
-    except (Fault, KeyError, IndexError) as fault:
+    except (Fault, LookupError, ValueError) as fault:
         print(f"expected_listing.py: not a job that is known here: {fault}", file=sys.stderr)
         return 70
     print("\n".join(run.lines))

@@ -33,7 +33,8 @@ install -m 644 "$scripts/../examples/faults/INDEX" "$home/faults"
 # the scripts, each with its command, and the modules that they import, and those that these do
 commands=(mps360:mps360 mps360-batch:mps360-batch explain:mps360-explain plot_parametric.py:mps360-plot mps2job.py:mps2job
     listing2json.py:listing2json listing2html.py:listing2html solve:mps360-solve
-    basis2deck.py:basis2deck prove:mps360-prove)
+    basis2deck.py:basis2deck prove:mps360-prove free_deck.py:free_deck solution2listing.py:solution2listing listing2vipr.py:listing2vipr
+    vipr2listing.py:vipr2listing check_vipr.py:check_vipr)
 files=()
 for pair in "${commands[@]}"; do
     [ -e "$scripts/${pair%%:*}" ] || continue

@@ -13,7 +13,7 @@ usage: mps2job.py [OPTIONS] [-o JOB] [--names MAP] FILE.mps      FILE.mps may be
   --relax          takes columns of whole numbers (MARKER, BV, LI, UI) as columns of any numbers; without it such a file is refused
   --ranging        RANGE after SOLUTION
   --free, --fixed  fields are words, or stand at their columns, as in old files whose names have blanks; without it fields are words,
-                   and a line that says another thing by its columns is refused
+                   and a line that says another thing by its columns is refused. The deck of the job is fixed in any case
 
 Where programs differ, a file is refused until you say what it means:
   --negative-up keep|free      a negative UP where nothing is said of the lower limit: keep leaves it at 0 (no plan), free takes it away
@@ -41,9 +41,9 @@ def wrong_use(message):
     sys.exit(64)
 
 
-def parsed_options(words):
+def parsed_options(words, refuse=wrong_use):
     parser = argparse.ArgumentParser(add_help=False, allow_abbrev=False, usage="mps2job.py --help says what there is")
-    parser.error = wrong_use
+    parser.error = refuse
     sense, form = parser.add_mutually_exclusive_group(), parser.add_mutually_exclusive_group()
     sense.add_argument("--max", dest="sense", action="store_const", const="MAX")
     sense.add_argument("--min", dest="sense", action="store_const", const="MIN")

@@ -17,7 +17,7 @@ A Job has text; rows, columns and sets {name: name in the job}; problem, the pro
 listing2json.py puts the file's names back: the names that were changed by those in the job, the objective, the sense, the sets taken, the
 constants, the rounded numbers, the relaxed columns, and all that was said."""
 import codecs, gzip, io, re, sys, textwrap, zlib
-from dataclasses import dataclass, field
+from dataclasses import dataclass, field, replace
 from fractions import Fraction
 from functools import lru_cache
 
@@ -38,6 +38,8 @@ BOUNDS = {"UP": ("upper", True, False), "LO": ("lower", True, False), "FX": ("bo
           "UI": ("upper", True, True)}
 FIRST_REMARK = {"ROWS": 2, "COLUMNS": 1, "RHS": 1, "RANGES": 1, "BOUNDS": 2}
 NUMBER = re.compile(r"([+-]?)(?:([0-9]+)(?:\.([0-9]*))?|\.([0-9]+))(?:[EeDd]([+-]?[0-9]+))?")
+# the NAME line of a free deck of a job; the name stands in columns 15 to 22
+FREE_DECK = re.compile(r"NAME.{18}  FREE")
 ENDLESS = re.compile(r"[+-]?inf(inity)?", re.I)
 
 
@@ -364,6 +366,9 @@ class Reader:
                 raise Refused("a second NAME", 0)
             self.named = True
             self.model.name = line.text[4:].strip(" \t")
+            if FREE_DECK.fullmatch(line.text) and self.reading.form != "fixed":
+                self.model.name, self.reading = line.text[14:22].strip(), replace(self.reading, form="free")
+                self.model.said.append("the file is a free deck, as its NAME line says: fields are words")
         elif section in ("OBJSENSE", "OBJNAME"):
             self.section = section
             if rest:

@@ -1,18 +1,20 @@
 #!/usr/bin/env python3
 """Compares the program with scripts/expected_listing.py on small jobs made at random: rows of each type, ranges, bounds of each type,
 MIN and MAX, RANGE, two right-hand sides in one run, PARAOBJ and PARARHS, REVISE, the deck written out; the basis punched, taken in again and
-solved from by DUAL; basis decks made at random, with their faults. Outside the gate: a run of 300 takes some minutes unproved, a few seconds
-else.
+solved from by DUAL; basis decks made at random, with their faults. Some of the decks are free, and in some jobs a card of a deck is changed,
+which mostly makes a fault. Outside the gate: a run of 300 takes some minutes unproved, a few seconds else.
 
-usage: random_jobs.py [--unproved | --itself] [--no-parametric] [--no-revise] [--no-bases] [FIRST [COUNT]]
+usage: random_jobs.py [--unproved | --itself] [--no-parametric] [--no-revise] [--no-bases] [--no-free] [--no-faults] [FIRST [COUNT]]
+       random_jobs.py [--unproved | --itself] --decks [--no-free] [FIRST [COUNT]]
        jobs FIRST, FIRST + 1, ..; 0 and 300 where nothing is said
 
 It prints how many differ, and the first of them whole; ends with 1 where one does, with 70 where there is no program. --unproved: the
 program as it stands, where no proved one is. --no-parametric: without PARAOBJ and PARARHS; --no-revise: without REVISE; --no-bases: without
-DUAL, PUNCH and INSERT. --itself: no program runs; what expected_listing.py says is checked by the meaning of the words, where a job is small
-enough (scripts/every_basis.py)."""
+DUAL, PUNCH and INSERT; --no-free: fixed decks alone; --no-faults: no card is changed. --decks: a deck and its revision alone, both written
+out, and in each job a card of one of them is changed. --itself: no program runs; what expected_listing.py says is checked by the meaning of
+the words, where a job is small enough (scripts/every_basis.py)."""
 import collections, random, re, sys
-import every_basis, expected_listing, runner
+import every_basis, expected_decks, expected_listing, free_deck, runner
 
 
 def number(chance):
@@ -56,8 +58,8 @@ class Deck:
         entries = {(column, row): chance.randint(-9, 9) if is_friendly else number(chance)
                    for column in plan for _, row in self.rows if chance.random() < 0.7}
         self.entries = [(column, row, value) for (column, row), value in entries.items()]
-        self.values, self.bounds = [], []
-        for name in ("B1", "B2"):
+        self.values, self.bounds, self.bound_set = [], [], chance.choice(("BD", "BD", "BD", ""))
+        for name in (chance.choice(("B1", "B1", "B1", "")), "B2"):
             for kind, row in self.rows:
                 if chance.random() < 0.8:
                     kept = sum(value * plan[column] for (column, other), value in entries.items() if other == row) if is_friendly else 0
@@ -69,7 +71,7 @@ class Deck:
                 for kind in ["LO", "UP"] if is_boxed else chance.choice((["UP"], ["LO"], ["FX"], ["FR"], ["MI"], ["LO", "UP"])):
                     room = {"LO": -chance.randint(0, 5), "UP": chance.randint(0, 5)}.get(kind, 0)
                     value = "" if kind in ("FR", "MI") else plan[column] + room if is_friendly else number(chance)
-                    self.bounds.append(f" {kind} {'BD':<10}{column:<10}{value}".rstrip())
+                    self.bounds.append(f" {kind} {self.bound_set:<10}{column:<10}{value}".rstrip())
 
     def cards(self):
         cards = ["NAME          RANDOM", "ROWS", *(f" {kind}  {row}" for kind, row in self.rows), "COLUMNS"]
@@ -120,7 +122,7 @@ def revision(chance, problem):
             tried = cards + ([section] if begun != section else []) + edit
             try:
                 candidate = problem.revised([*tried, "ENDATA"])
-            except (expected_listing.Fault, KeyError, ValueError):
+            except expected_decks.DeckFault:
                 continue
             if kind and is_lawful(candidate):
                 cards, revised, begun = tried, candidate, section
@@ -190,17 +192,78 @@ def basing(chance, setup, program, cards):
     return statements(setup, "INSERT", "PUNCH", *others) + solve + statements("PUNCH"), basis_cards(chance, run_of([*program, *statements(setup)], cards).lp)
 
 
+# what is put in the place of a word of a card
+WRONG = ("", "Q", "LONGNAME9", "1234567890123", "1.2.3", "1E19", "E5", ".", "1E", "-", "0", "DN", "DL", "BV", "FR", "UP", "N", "'MARKER'", "NOBODY", "MODIFY",
+         "DELETE", "BEFORE", "AFTER", "CHANGE", "ROWS", "BOUNDS", "ENDATA", "C0", "R0", "OBJ", "B1", "BD")
+
+
+def decks_of(cards):
+    "the cards of each deck"
+    ends = [place for place, card in enumerate(cards, 1) if card == "ENDATA" or place == len(cards)]
+    return [cards[begin:end] for begin, end in zip([0, *ends], ends)]
+
+
+def in_words(chance, deck):
+    """the same deck free, its words here and there on their cards; a basis deck is fixed, whatever stands behind its name, and one that has a
+    fault may look like another deck that can't be said in words"""
+    try:
+        words = free_deck.turned("\n".join(deck), True, print).split("\n")
+    except free_deck.Refused:
+        return deck
+    if words == deck:
+        return [f"{deck[0]:<24}FREE", *deck[1:]]
+
+    def spread(card):
+        wide = "".join(" " * chance.choice((1, 1, 2, 5)) + word for word in card.split())
+        return wide if card.startswith(" ") and len(wide) <= 80 else card
+    return [spread(card) for card in words]
+
+
+def spoiled(chance, deck):
+    "the deck with a card changed, left out, put in twice or elsewhere"
+    return [card[:80].rstrip() for card in changed(chance, deck)]
+
+
+def changed(chance, deck):
+    place, how = chance.randrange(len(deck)), chance.random()
+    card, others = deck[place], deck[:place] + deck[place + 1:]
+    if how < 0.1 or not card:
+        return others
+    if how < 0.2:
+        return deck[:place] + [card] + deck[place:]
+    if how < 0.3:
+        other = chance.randrange(len(deck))
+        return others[:other] + [card] + others[other:]
+    if how < 0.4:
+        return deck[:place] + [f"{card} {chance.choice(WRONG)}"] + deck[place + 1:]
+    if how < 0.5:
+        column = chance.randrange(len(card) + 1)
+        return deck[:place] + [card[:column] + chance.choice(("", " ", "X", "-")) + card[column + chance.randint(0, 1):]] + deck[place + 1:]
+    begin, end = chance.choice([found.span() for found in re.finditer("[^ ]+", card)])
+    word = chance.choice((chance.choice(WRONG), chance.choice(" ".join(deck).split())))
+    return deck[:place] + [f"{card[:begin]}{word:<{end - begin}}{card[end:]}"] + deck[place + 1:]
+
+
+def retold(chance, cards, has_free, has_faults):
+    "the decks of a job, some of them free, now and then one with a card that is changed"
+    decks = [in_words(chance, deck) if has_free and chance.random() < 0.4 else deck for deck in decks_of(cards)]
+    if has_faults and chance.random() < 0.2:
+        at = chance.randrange(len(decks))
+        decks[at] = spoiled(chance, decks[at])
+    return [card for deck in decks for card in deck]
+
+
 SENSES = ("'MIN'", "'MAX'")
 
 
-def job(seed, is_parametric, revises, has_bases):
+def job(seed, is_parametric, revises, has_bases, has_free, has_faults):
     chance = random.Random(seed)
     deck = Deck(chance)
-    words = (["'RANGE','RG'"] if deck.ranges else []) + (["'BOUND','BD'"] if deck.bounds else []) + [chance.choice(SENSES)]
+    words = (["'RANGE','RG'"] if deck.ranges else []) + ([f"'BOUND','{deck.bound_set}'"] if deck.bounds else []) + [chance.choice(SENSES)]
     setup = f"SETUP({','.join(words)})"
     program = statements("CONVERT", "MOVE(XOBJ,'OBJ')", setup) + solving("A")
     names = {name for name, _, _ in deck.values}
-    if names == {"B1", "B2"}:
+    if len(names) == 2:
         program += statements("MOVE(XRHS,'B2')") + solving("B")
     if is_parametric:
         program += sweeping(chance, "PARAOBJ", "MOVE(XCHROW,'CHG')")
@@ -213,7 +276,21 @@ def job(seed, is_parametric, revises, has_bases):
     if has_bases:
         more, basis = basing(chance, revised[2], program, cards)
         program, cards = program + more, cards + basis
+    cards = retold(random.Random(f"decks of {seed}"), cards, has_free, has_faults)
     return "\n".join([*statements("PROGRAM"), *program, *statements("EXIT", "PEND"), *cards]) + "\n"
+
+
+def job_of_decks(seed, has_free):
+    "a deck and its revision, which are written out, one of them with a card or two that are changed"
+    chance = random.Random(f"deck and revision {seed}")
+    cards = Deck(chance).cards()
+    decks = [in_words(chance, deck) if has_free and chance.random() < 0.7 else deck
+             for deck in (cards, revision(chance, expected_listing.Problem(cards))[0])]
+    at = chance.choice((0, 1, 1))
+    for _ in range(chance.choice((1, 1, 2))):
+        decks[at] = spoiled(chance, decks[at])
+    program = statements("PROGRAM", "CONVERT", "BCDOUT", "REVISE", "BCDOUT", "EXIT", "PEND")
+    return "\n".join([*program, *decks[0], *decks[1]]) + "\n"
 
 
 def kind_of(line):
@@ -238,15 +315,19 @@ def by_program(jobs, expected, unproved):
             if (status, listing.decode("latin-1"), *(deck and deck.decode("latin-1") for deck in punch)) != expected[name][:2 + len(punch)]}
 
 
+PARTS = ("--no-parametric", "--no-revise", "--no-bases", "--no-free", "--no-faults")
+
+
 def main(words):
-    modes = {word for word in words if word in ("--unproved", "--itself", "--no-parametric", "--no-revise", "--no-bases")}
+    modes = {word for word in words if word in ("--unproved", "--itself", "--decks", *PARTS)}
     numbers = [word for word in words if word not in modes]
     if any(not word.isdigit() for word in numbers) or len(numbers) > 2 or {"--unproved", "--itself"} <= modes:
         print(__doc__)
         return 0 if words in (["-h"], ["--help"]) else 64
     first, count = [int(word) for word in numbers] + [0, 300][len(numbers):]
-    parts = [word not in modes for word in ("--no-parametric", "--no-revise", "--no-bases")]
-    jobs = {str(seed): job(seed, *parts) for seed in range(first, first + count)}
+    parts = [word not in modes for word in PARTS]
+    made = (lambda seed: job_of_decks(seed, "--no-free" not in modes)) if "--decks" in modes else (lambda seed: job(seed, *parts))
+    jobs = {str(seed): made(seed) for seed in range(first, first + count)}
     expected, verdicts, looked, wrong = {}, collections.Counter(), 0, {}
     for name, text in jobs.items():
         run = every_basis.Watched(text) if "--itself" in modes else expected_listing.Run(text)

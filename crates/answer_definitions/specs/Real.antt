@@ -10,7 +10,7 @@ unfoldable pub linear_programming : Solving
 linear_programming = record {
   Solves = IsSolvedBy;
   Sweeps = IsSwept;
-  Shows = IsShown;
+  Shows = λ mark. IsShown;
   Ranges = IsRanged;
   Punches = ArePunched;
   Installs = IsInstalled;

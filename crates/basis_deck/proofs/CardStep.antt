@@ -20,7 +20,7 @@ use Rattle.deck_definitions.specs.declared.DeckFaultKind.TheVariants.{SectionOrd
 use Rattle.deck_definitions.specs.declared.Section.{Section}
 use Rattle.deck_definitions.specs.declared.Section.TheVariants.{Header}
 use Rattle.deck_definitions.specs.Sections.{is_section_card, section_word, section_words, section_after, is_section_after}
-use Rattle.deck_definitions.specs.Conversion.{section_card_fault, form_fault}
+use Rattle.deck_definitions.specs.Conversion.{section_card_fault, gaps_fault}
 use Rattle.deck_definitions.proofs.Steps.{section_after-push}
 use Rattle.basis_deck_definitions.specs.declared.Code.{Code}
 use Rattle.basis_deck_definitions.specs.declared.Code.TheVariants.{Exchanges, Stands}
@@ -92,7 +92,7 @@ module _ (problem : Problem ℕ) (lp : LinearProgram) (names : HasNames problem 
   unfolding basis_card_fault
   fault-state seen card =
       ap (λ o. cond (is_section_card card) (section_card_fault ends_after (section_after seen) card)
-      (cond (is_section_after Header seen) (option_or (form_fault Fixed card) (option_or o None)) (Some SectionOrder)))
+      (cond (is_section_after Header seen) (option_or (gaps_fault card) (option_or o None)) (Some SectionOrder)))
       (read-same seen (reading_of Fixed card) (named code_words ((reading_of Fixed card).kind)))
 
   -- ---- one more card
@@ -160,7 +160,7 @@ module _ (problem : Problem ℕ) (lp : LinearProgram) (names : HasNames problem 
         ∙ code-state seen read code _ _ refl (code-marks seen read code fine)
 
     step-by : (b header : Bool) → is_section_card card.bytes ≡ b → cond b (section_card_fault ends_after (section_after seen) card.bytes)
-        (cond header (option_or (form_fault Fixed card.bytes) (option_or (read_test (state_of problem lp seen) read (named code_words read.kind)) None)) (Some SectionOrder)) ≡ None
+        (cond header (option_or (gaps_fault card.bytes) (option_or (read_test (state_of problem lp seen) read (named code_words read.kind)) None)) (Some SectionOrder)) ≡ None
         → state_of problem lp (seen ++ card ∷ [])
         ≡ cond b (record (state_of problem lp seen) { section = option_or (cond b (named section_words (section_word card.bytes)) None) (section_after seen) }) (with_read (state_of problem lp seen) read (named code_words read.kind))
     step-by true header e fine =
@@ -168,7 +168,7 @@ module _ (problem : Problem ℕ) (lp : LinearProgram) (names : HasNames problem 
         ∙ ap (λ list. record (state_of problem lp seen) { section = option_or (named section_words (section_word card.bytes)) (section_after seen); marks = marks_of lp list }) (append-nil (placings_of problem seen))
     step-by false false e fine = absurd (cc fine)
     step-by false true e fine =
-        data-step (named code_words read.kind) e refl (no_first (read_test (state_of problem lp seen) read (named code_words read.kind)) None (no_second (form_fault Fixed card.bytes) _ fine))
+        data-step (named code_words read.kind) e refl (no_first (read_test (state_of problem lp seen) read (named code_words read.kind)) None (no_second (gaps_fault card.bytes) _ fine))
 
     -- one more card takes the state one step on
     pub state-step : fault_at (state_of problem lp seen) card.bytes ≡ None → state_of problem lp (seen ++ card ∷ []) ≡ state_with (state_of problem lp seen) card.bytes

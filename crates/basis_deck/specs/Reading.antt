@@ -14,7 +14,7 @@ use Rattle.deck_definitions.specs.declared.DeckFaultKind.TheVariants.{SectionOrd
 use Rattle.deck_definitions.specs.declared.Section.{Section}
 use Rattle.deck_definitions.specs.declared.Section.TheVariants.{Header, Endata}
 use Rattle.deck_definitions.specs.Sections.{is_section, is_section_card, section_begun, section_after}
-use Rattle.deck_definitions.specs.Conversion.{section_card_fault, form_fault}
+use Rattle.deck_definitions.specs.Conversion.{section_card_fault, gaps_fault}
 use Rattle.deck_fields.specs.declared.stop.DeckStop.{DeckStop}
 use Rattle.deck_fields.specs.declared.stop.DeckStop.TheVariants.{Fault, NoMemory}
 use Rattle.basis_deck_definitions.specs.declared.Code.{Code}
@@ -59,7 +59,7 @@ read_test state card (Some code) = code_test state card code
 
 -- the fault of a data card after NAME
 abbrev pub data_test : State → List ℕ → Option DeckFaultKind
-data_test state card = first_fault (form_fault Fixed card ∷ read_test state (reading_of Fixed card) (named code_words ((reading_of Fixed card).kind)) ∷ [])
+data_test state card = first_fault (gaps_fault card ∷ read_test state (reading_of Fixed card) (named code_words ((reading_of Fixed card).kind)) ∷ [])
 
 -- the fault of a data card
 abbrev pub inner_test : State → List ℕ → Option DeckFaultKind

@@ -10,7 +10,7 @@ use basis_deck_definitions::Code;
 use card_reader::Card;
 use deck_cards::{
     CardStop, DataCard, Draft, SectionOrder, begins_section, is_header, is_last, next_section,
-    read_data_card,
+    read_fixed_card,
 };
 use deck_definitions::{DeckFaultKind, Section};
 use lp_model::{Basis, Lp, NoMemory, Status};
@@ -252,7 +252,7 @@ impl<'a> BasisDraft<'a> {
         if !is_header(section) {
             return Err(CardStop::Refused(DeckFaultKind::SectionOrder));
         }
-        match read_data_card(card) {
+        match read_fixed_card(card) {
             Ok(data) => self.take_read(&data),
             Err(kind) => Err(CardStop::Refused(kind)),
         }

@@ -19,7 +19,7 @@ use Rattle.deck_definitions.specs.declared.DeckFaultKind.TheVariants.{SectionOrd
 use Rattle.deck_definitions.specs.declared.Section.TheVariants.{Header, Endata}
 use Rattle.deck_definitions.specs.Sections.{is_section, is_section_card, section_after, is_section_after}
 use Rattle.deck_definitions.specs.Tests.{filled_from_3, filled_from_4}
-use Rattle.deck_definitions.specs.Conversion.{section_card_fault, form_fault, fault_by}
+use Rattle.deck_definitions.specs.Conversion.{section_card_fault, gaps_fault, fault_by}
 use Rattle.basis_deck_definitions.specs.declared.Code.{Code}
 use Rattle.basis_deck_definitions.specs.declared.Code.TheVariants.{Exchanges, Stands}
 use Rattle.basis_deck_definitions.specs.Placings.{code_words, Placing, placings_by}
@@ -80,7 +80,7 @@ module _ (problem : Problem ℕ) (lp : LinearProgram) where
   abbrev pub basis_data_fault : List Placing → List ℕ → Option DeckFaultKind
   basis_data_fault before card =
       let read = reading_of Fixed card in
-      first_fault (form_fault Fixed card ∷ by_code before read (named code_words read.kind) ∷ [])
+      first_fault (gaps_fault card ∷ by_code before read (named code_words read.kind) ∷ [])
 
   -- The fault of a card, as a condition on it and on the cards before it: after NAME come data cards, and then ENDATA.
   unfoldable pub basis_card_fault : List Card → List ℕ → Option DeckFaultKind

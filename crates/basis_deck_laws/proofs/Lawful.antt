@@ -26,7 +26,7 @@ use Rattle.deck_definitions.specs.declared.DeckFaultKind.{DeckFaultKind}
 use Rattle.deck_definitions.specs.declared.Section.TheVariants.{Header, Endata}
 use Rattle.deck_definitions.specs.declared.DeckFaultKind.TheVariants.{SectionOrder, UnknownRow, UnknownColumn, NamedTwice, NoSuchLimit}
 use Rattle.deck_definitions.specs.Sections.{is_section, is_section_card, section_after, is_section_after}
-use Rattle.deck_definitions.specs.Conversion.{section_card_fault, form_fault, first_faulty, fault_by}
+use Rattle.deck_definitions.specs.Conversion.{section_card_fault, gaps_fault, first_faulty, fault_by}
 use Rattle.basis_deck_definitions.specs.declared.Code.{Code}
 use Rattle.basis_deck_definitions.specs.declared.Code.TheVariants.{Exchanges, Stands}
 use Rattle.basis_deck_definitions.specs.Placings.{code_words, HasNames, Placing, placings_by, row_variable, column_variable}
@@ -265,7 +265,7 @@ module _ (problem : Problem ℕ) (lp : LinearProgram) (names : HasNames problem 
       by_section true c e h' = said before card [] (nothing_said e) (subst (IsSoFar lp (stands_for problem lp before)) (sym (append-nil (placings_of problem before))) h)
       by_section false false e h' = absurd (cc h')
       by_section false true e h' =
-          let coded = no_second (form_fault Fixed card.bytes) _ h' in
+          let coded = no_second (gaps_fault card.bytes) _ h' in
           by_known (named code_words ((reading_of Fixed card.bytes).kind)) refl e (no_first (by_code problem lp (placings_of problem before) (reading_of Fixed card.bytes) (named code_words ((reading_of Fixed card.bytes).kind))) None coded)
 
   -- and any number of them

@@ -25,7 +25,7 @@ use Rattle.deck_definitions.specs.declared.DeckFaultKind.{DeckFaultKind}
 use Rattle.deck_definitions.specs.declared.DeckFaultKind.TheVariants.{SectionOrder, UnknownRow, UnknownColumn, NamedTwice, NoSuchLimit, ExtraField}
 use Rattle.deck_definitions.specs.declared.Section.TheVariants.{Header, Endata}
 use Rattle.deck_definitions.specs.Sections.{is_section, is_section_card, section_words, section_word, section_after, is_section_after}
-use Rattle.deck_definitions.specs.Conversion.{section_card_fault, form_fault, first_faulty}
+use Rattle.deck_definitions.specs.Conversion.{section_card_fault, gaps_fault, first_faulty}
 use Rattle.deck_definitions.proofs.WrittenCards.{FitsField}
 use Rattle.deck_definitions.proofs.Steps.{section_after-push, first_faulty-append}
 use Rattle.revise_laws.proofs.ByNames.{named-lawful}
@@ -110,7 +110,7 @@ module _ (problem : Problem ℕ) (lp : LinearProgram) where
         ∙ ap (λ (r : Reading). unwrap_or (option_map (placings_by problem r) (named code_words r.kind)) []) is.reads
         ∙ ap (λ o. unwrap_or (option_map (placings_by problem read) o) []) known ∙ says;
     fine = λ before free.
-        two (form_fault Fixed text) (by_code problem lp before (reading_of Fixed text) (named code_words ((reading_of Fixed text).kind))) (ap (λ b. not b ⟹ ExtraField) is.spaced)
+        two (gaps_fault text) (by_code problem lp before (reading_of Fixed text) (named code_words ((reading_of Fixed text).kind))) (ap (λ b. not b ⟹ ExtraField) is.spaced)
         (ap (λ (r : Reading). by_code problem lp before r (named code_words r.kind)) is.reads ∙ ap (by_code problem lp before read) known ∙ fine before free);
   }
     where

@@ -10,3 +10,4 @@ pub mod RatesStops
 pub mod Refusals
 pub mod Skips
 pub mod TermLaws
+pub mod WantLaws

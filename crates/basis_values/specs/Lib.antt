@@ -5,3 +5,4 @@ pub mod Formulas
 pub mod Reach
 pub mod Points
 pub mod Prices
+pub mod Wants

@@ -108,7 +108,7 @@ pub fn outside(lp: &Lp, basis: &Basis, point: &[Frac]) -> Option<u32>
 }
 
 /// Whether both limits are there, and equal.
-fn stands_fixed(lp: &Lp, k: u32) -> bool
+pub fn stands_fixed(lp: &Lp, k: u32) -> bool
     requires { IsVariable lp.now.matrix k }
     ensures { result ≡ is_fixed lp.now k }
 {

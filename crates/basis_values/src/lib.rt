@@ -8,6 +8,7 @@ mod formula;
 mod point;
 mod prices;
 pub mod reach;
+mod wants;
 
 pub use choices::{
     counted, crossed, enterer, is_less, is_minimized, lies_below, may_lower, outside, stands_basic,
@@ -16,3 +17,4 @@ pub use choices::{
 pub use formula::{Formula, plus_product};
 pub use point::point_of;
 pub use prices::{fill_prices, prices_of};
+pub use wants::{renew_wants, wants_of};

@@ -3,3 +3,4 @@ pub mod Returning
 pub mod Ending
 pub mod WalkSteps
 pub mod CompleteDual
+pub mod Returns

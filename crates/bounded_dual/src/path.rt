@@ -1,6 +1,6 @@
 //! The path of the dual simplex method.
 
-ghost use Rattle.std.specs.Prelude.{◌≡◌, None, List, length, OnOk, IfOk, IfErr, IsTrue};
+ghost use Rattle.std.specs.Prelude.{◌≡◌, ◌<◌, None, List, length, OnOk, IfOk, IfErr, IsErrOf, IsTrue};
 ghost use Rattle.lp_definitions.specs.LinearProgram.{size, value_at, IsLinearProgram};
 ghost use Rattle.lp_definitions.specs.Basis.{ArePricesOf};
 ghost use Rattle.lp_definitions.specs.declared.Status.{Status};
@@ -9,10 +9,11 @@ ghost use Rattle.method_definitions.specs.DualPath.{dual_turn, HasRightPrices};
 ghost use Rattle.method_definitions.specs.Statements.{Dual};
 ghost use Rattle.basis_values.specs.Calls.{HasRates, KeepsRates};
 ghost use Rattle.basis_values.specs.Stops.{PointOverflow};
-ghost use Rattle.bounded_primal.specs.Calls.{RuleCallEnds, RuleWaypointsFollow};
+ghost use Rattle.bounded_primal.specs.Calls.{RuleCallEnds, RuleNeverReturned, RuleWaypointsFollow};
 ghost use Rattle.bounded_primal.specs.Complete.{RuleEndsUnhindered, IsEndOr};
 ghost use Rattle.bounded_primal.specs.Outcomes.{IsTrueOutcome};
 ghost use Rattle.bounded_primal.specs.Turns.{IsUncrossed};
+ghost use Rattle.termination_laws.specs.Laws.{lists_of};
 ghost use Rattle.bounded_dual.specs.Stops.{DualEnds, DualStops, IsNotUnbounded};
 
 use crate::moves::DualStop;
@@ -134,6 +135,10 @@ pub fn dual<R: Rates>(
         (R.waypoints rates.old) (R.waypoints rates.new) }
     ensures truth { IfOk result (IsTrueOutcome lp.now) }
     ensures bounded { IfOk result IsNotUnbounded }
+    // From right prices no basis comes twice, and so no path has as many steps as there are status lists, three for each variable.
+    ensures apart { HasRightPrices lp.now basis.old →
+        RuleNeverReturned dual_turn lp.now basis.old basis.new }
+    ensures limited { IsErrOf result DualStop.Limit → limit < lists_of lp.now }
     ensures complete { (bases : List (List Status)) (ending : PathEnding) →
         HasRightPrices lp.now basis.old →
         RuleEndsUnhindered dual_turn (Dual lp.now) lp.now basis.old limit (R.waypoints rates.old)

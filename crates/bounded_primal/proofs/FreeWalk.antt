@@ -8,14 +8,14 @@ use Rattle.lp_model.specs.declared.Stop.{Stop}
 use Rattle.lp_model.specs.declared.Stop.TheVariants as stop
 use Rattle.path_laws.specs.Laws.{IsNonsingularBasis}
 use Rattle.termination_laws.specs.Laws.{lists_of}
-use Rattle.termination_laws.proofs.Ending.{short, limited}
+use Rattle.termination_laws.proofs.Ending.{apart, short, limited}
 use Rattle.lp_definitions.specs.declared.Evidence.{Evidence}
 use Rattle.lp_model.specs.declared.reports.Outcome.{Outcome}
 use Rattle.method_definitions.specs.Counts.{counted_steps}
 use Rattle.method_definitions.specs.Statements.{SolvingStatement}
 use Rattle.method_definitions.specs.Evidence.{IsAhead}
 use Rattle.basis_values.specs.Calls.{HasRates, job_of}
-use Rattle.bounded_primal.specs.Calls.{CallEnds}
+use Rattle.bounded_primal.specs.Calls.{CallEnds, NeverReturned, WaypointsFollow}
 use Rattle.bounded_primal.specs.Stops.{primal_stop_of, PrimalStops, FreeStops}
 use Rattle.bounded_primal.specs.Turns.{EndsHere, EvidenceAt, TurnStops}
 use Rattle.bounded_primal.specs.declared.moves.PrimalStop.{PrimalStop}
@@ -30,6 +30,10 @@ module _ (p : LinearProgram) (lawful : IsLinearProgram p) (a : Matrix) (b : Basi
   -- so far there are fewer steps than status lists
   pub reached_short : (before : List Basics) (now : List Status) (ways : List Basics) (steps : ℕ) → HasReached turn p s before now ways steps → steps < lists_of p
   reached_short before now ways steps h = subst (λ n. n < lists_of p) h.taken (short p lawful s h.bases begun h.path.0)
+
+  -- no basis comes twice on the path of a call
+  pub never_returned : (now : List Status) (before after : List Basics) → WaypointsFollow p s now before after → NeverReturned p s now
+  never_returned now before after h = record { bases = h.bases; is_path = h.is_path; reaches = h.reaches; apart = apart p lawful s h.bases begun h.is_path }
 
   -- a path that goes on after as many steps as the limit allows
   pub limit_below : {T : Type 0} (now : List Status) (limit : ℕ) (before after : List Basics) (result : Result T PrimalStop) → IfErr result (PrimalStops p s now limit before after) → IsErrOf result Limit → limit < lists_of p

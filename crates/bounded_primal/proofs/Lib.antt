@@ -17,3 +17,4 @@ pub mod StopperFacts
 pub mod Inside
 pub mod AtOnce
 pub mod Still
+pub mod FirstWanted

@@ -291,7 +291,9 @@ pub entering_within : (p : LinearProgram) (s : List Status) (f : Vector) (q : �
 entering_within p s f q e = let found = find_some (lowers p s f) (size p.matrix) 1 q (sym e) in (found.low, omega (arith, found.high))
 
 -- the variable whose price is wrong, with the way in which it moves
-pub some_betters : (p : LinearProgram) (s : List Status) (y : Vector) (min up : Bool) (q : ℕ) → ((v : ℚ) → for_min p.sense v ≡ signed min v) → Some q ≡ entering p s (worth_by p y) → up ≡ lt_ℚ (signed min (y q)) zero_ℚ →
-    Some (record { q = q; up = up }) ≡ mover_by p s y
-some_betters p s y min up q is found up_is =
-    ap (λ (b : Bool). Some (record { q = q; up = b })) (up_is ∙ ap (λ x. lt_ℚ x zero_ℚ) (sym (is (y q)))) ∙ ap (option_map (moved_by p y)) found
+pub some_betters : (p : LinearProgram) (s : List Status) (y : Vector) (q : ℕ) (m : Mover) → Some q ≡ entering p s (worth_by p y) → m ≡ moved_by p y q → Some m ≡ mover_by p s y
+some_betters p s y q m found is = ap (λ (x : Mover). Some x) is ∙ ap (option_map (moved_by p y)) found
+
+-- how the price of q says which way it moves
+pub moved_at : (p : LinearProgram) (y : Vector) (min up : Bool) (q : ℕ) → ((v : ℚ) → for_min p.sense v ≡ signed min v) → up ≡ lt_ℚ (signed min (y q)) zero_ℚ → moved_by p y q ≡ record { q = q; up = up }
+moved_at p y min up q is up_is = ap (λ (b : Bool). record { q = q; up = b }) (ap (λ x. lt_ℚ x zero_ℚ) (is (y q)) ∙ sym up_is)

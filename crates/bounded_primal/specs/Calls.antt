@@ -1,6 +1,7 @@
 -- What the calls that follow a path ask and give.
 --     PathEnds, PathGoesOn         the path of a call, ended within the limit or still going on there
 --     WaypointsFollow              where the waypoints lie after the path of a call
+--     NeverReturned                the path of a call, on which no basis comes twice
 --     StopsOnPath                  the path of a call up to an overflow, and its evidence
 --     EvidenceHere                 evidence at a basis, whatever bases led there
 use Rattle.std.specs.Prelude.{◌≡◌, ℕ, ◌-◌, ◌≤◌, List, [], ◌∷◌, ◌++◌, length, Option, None}
@@ -17,6 +18,7 @@ use Rattle.method_definitions.specs.Counts.{counted_steps}
 use Rattle.method_definitions.specs.Statements.{SolvingStatement}
 use Rattle.method_definitions.specs.Evidence.{EvidenceHolds}
 use Rattle.basis_values.specs.Calls.{LieIn, job_of}
+use Rattle.termination_laws.specs.Laws.{NeverReturns}
 
 -- the outcome that a call gives for an ending after so many steps
 abbrev pub outcome_of : ℕ → PathEnding → Outcome
@@ -47,6 +49,13 @@ pub record RuleWaypointsFollow (rule : Rule) (p : LinearProgram) (s now : List S
   pub reaches : last_of s bases ≡ now
   pub lie : (earlier : List (List Status)) → LieIn p.matrix before (earlier ++ s ∷ []) → LieIn p.matrix after (earlier ++ s ∷ bases)
 
+-- the path from s to now, on which no basis comes twice
+pub record RuleNeverReturned (rule : Rule) (p : LinearProgram) (s now : List Status) : Type 0 where
+  pub bases : List (List Status)
+  pub is_path : RulePath rule p s bases
+  pub reaches : last_of s bases ≡ now
+  pub apart : NeverReturns s bases
+
 -- the path from s to now, within the limit; and for every list of bases that ends with s, in which the waypoints lay before the
 -- call, the evidence holds on that list followed by this path
 pub record RuleStopsOnPath (rule : Rule) (statement : SolvingStatement) (p : LinearProgram) (s now : List Status) (limit : ℕ) (before after : List Basics) (e : Evidence) : Type 0 where
@@ -75,6 +84,9 @@ PathGoesOn = RuleCallGoesOn turn
 
 abbrev pub WaypointsFollow : LinearProgram → List Status → List Status → List Basics → List Basics → Type 0
 WaypointsFollow = RuleWaypointsFollow turn
+
+abbrev pub NeverReturned : LinearProgram → List Status → List Status → Type 0
+NeverReturned = RuleNeverReturned turn
 
 abbrev pub StopsOnPath : LinearProgram → List Status → List Status → ℕ → List Basics → List Basics → Evidence → Type 0
 StopsOnPath p = RuleStopsOnPath turn (job_of p p.change) p

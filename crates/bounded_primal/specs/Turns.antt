@@ -2,18 +2,21 @@
 --     IsUncrossed p                no variable is crossed
 --     least_outside p s z          the least-numbered basic outside its limits
 --     ray_from xs r below          the multipliers that show why r cannot come back, from the rates xs of r
+--     IsReturner p s r below xs q  q is what brings r back, if something does
 --     mover_by p s y               the variable that betters the objective, by the prices y, and whether it rises
+--     IsMoverFound p s xs m        m is that variable at the basis s, if there is one
 --     RuleEndsHere rule            the path by a rule ends at s, after so many steps; EndsHere: that of the simplex method
 --     EvidenceAt                   the evidence of a turn at s, whatever path led there
 --     TurnFound result             the path ends at s, or moves a variable, or the call stops
 --     FreeTurnFound result         the same where a step is always left
-use Rattle.std.specs.Prelude.{◌≡◌, ◌≢◌, ℕ, Bool, ◌≤◌, ◌&&◌, List, [], ◌∷◌, ◌++◌, length, Option, Some, None, option_map, Result, Ok, Err, nat_eq, if◌then◌else◌}
+use Rattle.std.specs.Prelude.{◌≡◌, ◌≢◌, ℕ, Bool, not, ◌≤◌, ◌&&◌, List, [], ◌∷◌, ◌++◌, length, Option, Some, None, option_map, Result, Ok, Err, nat_eq, if◌then◌else◌}
 use Rattle.exact_values.specs.Rational.{ℚ, zero_ℚ, one_ℚ, neg_ℚ}
 use Rattle.lp_definitions.specs.LinearProgram.{LinearProgram, Vector, size, value_at, IsVariable}
 use Rattle.lp_definitions.specs.Basis.{Basics, basics_of, is_in, IsNonbasic, IsDirectionOf, IsPointOf, ArePricesOf}
 use Rattle.lp_definitions.specs.Waypoints.{waypoint}
 use Rattle.lp_definitions.specs.declared.Evidence.{Evidence}
 use Rattle.lp_definitions.specs.declared.Status.{Status}
+use Rattle.lp_model.specs.RatesCalls.{IsRowOf}
 use Rattle.lp_model.specs.declared.reports.Outcome.{Outcome}
 use Rattle.lp_model.specs.declared.reports.Outcome.TheVariants.{Unbounded}
 use Rattle.method_definitions.specs.Moves.{least, is_crossed, is_outside, signed, goes_up, entering}
@@ -50,11 +53,23 @@ moved_by p y q = record { q = q; up = goes_up (worth_by p y) q }
 abbrev pub mover_by : LinearProgram → List Status → Vector → Option Mover
 mover_by p s y = option_map (moved_by p y) (entering p s (worth_by p y))
 
+-- q lowers the excess of the basic r, and nothing before it does; where nothing does, xs has the rates of r
+pub record IsReturner (p : LinearProgram) (s : List Status) (r : ℕ) (below : Bool) (xs : Vector) (q : Option ℕ) : Type 0 where
+  pub rates : Vector
+  pub is_row : IsRowOf p.matrix (basics_of s) r rates
+  pub enters : q ≡ entering p s (motion rates (not below))
+  pub at_end : q ≡ None → (k : ℕ) → IsVariable p.matrix k → xs k ≡ rates k
+
 -- it is that variable
 pub record Betters (p : LinearProgram) (s : List Status) (m : Mover) : Type 0 where
   pub price : Vector
   pub prices : ArePricesOf p s price
   pub chosen : Some m ≡ mover_by p s price
+
+-- what betters the objective, if something does; where nothing does, xs are the prices
+abbrev pub IsMoverFound : LinearProgram → List Status → Vector → Option Mover → Type 0
+IsMoverFound p s xs None = ArePricesOf p s xs × (None ≡ mover_by p s xs)
+IsMoverFound p s xs (Some m) = Betters p s m
 
 -- the outcome has the motion of what has the direction d
 pub record IsEndless (p : LinearProgram) (zs : List ℚ) (d : Vector) (up : Bool) (steps : ℕ) (outcome : Outcome) : Type 0 where

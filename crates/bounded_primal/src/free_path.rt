@@ -7,7 +7,8 @@ ghost use Rattle.lp_definitions.specs.declared.Status.{Status};
 ghost use Rattle.method_definitions.specs.Path.{PathEnding};
 ghost use Rattle.termination_laws.specs.Laws.{lists_of};
 ghost use Rattle.basis_values.specs.Calls.{HasRates, KeepsRates};
-ghost use Rattle.bounded_primal.specs.Calls.{CallEnds, WaypointsFollow};
+ghost use Rattle.basis_values.specs.Wants.{AreWants};
+ghost use Rattle.bounded_primal.specs.Calls.{CallEnds, NeverReturned, WaypointsFollow};
 ghost use Rattle.bounded_primal.specs.KeptPoints.{all_kept, AgreesWithPoint};
 ghost use Rattle.bounded_primal.specs.Complete.{EndsFreely, IsFreeEndOrMemory};
 ghost use Rattle.bounded_primal.specs.Outcomes.{IsTrueOutcome};
@@ -19,9 +20,9 @@ use crate::moves::PrimalStop;
 use crate::path::{outside_after, room};
 use crate::step::step_over;
 use crate::turns::{Turn, next_turn};
-use basis_values::{crossed, outside, point_of};
+use basis_values::{crossed, outside, point_of, renew_wants, wants_of};
 use frac128::Frac;
-use lp_model::{Basis, Lp, Outcome, Rates, Stop};
+use lp_model::{Basis, Lp, Outcome, Rates, Stop, Wanted};
 use std::alloc::Global;
 use std::marker::Brand;
 use std::sync::ledger::{Blank, Ledger};
@@ -38,8 +39,8 @@ fn unlimited(stop: PrimalStop) -> Stop
     }
 }
 
-/// What the path does at the basis, where `broken` is the least-numbered basic outside its limits, and a step is always left. `point`
-/// and `kept` are those of `next_turn`; `row` and `direction` are room.
+/// What the path does at the basis, where `broken` is the least-numbered basic outside its limits, and a step is always left. `point`,
+/// `kept` and `wanted` are those of `next_turn`; `row` and `direction` are room.
 fn free_turn<R: Rates>(
     alloc: Global,
     lp: &Lp,
@@ -47,6 +48,7 @@ fn free_turn<R: Rates>(
     rates: &mut R,
     point: &[Frac],
     kept: Kept,
+    wanted: &[Wanted],
     row: &mut [Frac],
     direction: &mut [Frac],
     broken: Option<u32>,
@@ -54,6 +56,7 @@ fn free_turn<R: Rates>(
 ) -> Result<Turn, Stop>
     requires lawful { IsLinearProgram lp.now }
     requires rates { HasRates (R.matrix rates.old) (R.basics rates.old) lp.now basis.now }
+    requires wants { AreWants lp.now basis.now wanted.now }
     requires point_places { length point.now ≡ size lp.now.matrix }
     requires row_places { length row.old ≡ size lp.now.matrix }
     requires direction_places { length direction.old ≡ size lp.now.matrix }
@@ -67,15 +70,15 @@ fn free_turn<R: Rates>(
         (R.waypoints rates.old) (R.waypoints rates.new) }
 {
     match next_turn(
-        alloc, lp, basis, rates, point, kept, row, direction, broken, steps, 1,
+        alloc, lp, basis, rates, point, kept, wanted, row, direction, broken, steps, 1,
     ) {
         Ok(turn) => Ok(turn),
         Err(stop) => Err(unlimited(stop)),
     }
 }
 
-/// Makes the basis's point, and goes from basis to basis with it, or with the values that steps need, until the path ends. `point`,
-/// `row` and `direction` are room.
+/// Makes the basis's point, and goes from basis to basis with it, or with the values that steps need, until the path ends. `wanted`
+/// has the signs of the rates that let a nonbasic lower a quantity; `point`, `row` and `direction` are room.
 /// The ledger of `blank` counts the steps for the proof that this comes to an end, since no basis comes twice; it takes no bytes.
 fn walk_free<R: Rates, L: Ledger>(
     alloc: Global,
@@ -83,6 +86,7 @@ fn walk_free<R: Rates, L: Ledger>(
     basis: &mut Basis,
     rates: &mut R,
     point: &mut [Frac],
+    wanted: &mut [Wanted],
     row: &mut [Frac],
     direction: &mut [Frac],
     blank: Blank,
@@ -92,6 +96,7 @@ fn walk_free<R: Rates, L: Ledger>(
     requires some { 0 < blank.parts }
     requires lawful { IsLinearProgram lp.now }
     requires rates { HasRates (R.matrix rates.old) (R.basics rates.old) lp.now basis.old }
+    requires wants { AreWants lp.now basis.old wanted.old }
     requires point_places { length point.old ≡ size lp.now.matrix }
     requires row_places { length row.old ≡ size lp.now.matrix }
     requires direction_places { length direction.old ≡ size lp.now.matrix }
@@ -110,11 +115,12 @@ fn walk_free<R: Rates, L: Ledger>(
     let mut steps: u32 = 0;
     loop {
         match free_turn(
-            alloc, lp, basis, rates, point, kept, row, direction, broken, steps,
+            alloc, lp, basis, rates, point, kept, wanted, row, direction, broken, steps,
         )? {
             Turn::Ends(outcome) => return Ok(outcome),
             Turn::Moves { q, by } => {
                 kept = step_over(lp, basis, rates, point, direction, q, &by, kept)?;
+                renew_wants(lp, basis, wanted, by.p, q);
             }
         }
         broken = outside_after(lp, basis, point, broken);
@@ -140,6 +146,8 @@ pub fn primal_free<R: Rates>(
     ensures waypoints { WaypointsFollow lp.now basis.old basis.new
         (R.waypoints rates.old) (R.waypoints rates.new) }
     ensures truth { IfOk result (IsTrueOutcome lp.now) }
+    // No basis comes twice.
+    ensures apart { NeverReturned lp.now basis.old basis.new }
     ensures complete { (bases : List (List Status)) (ending : PathEnding) →
         EndsFreely lp.now basis.old (R.waypoints rates.old) bases ending →
         IsFreeEndOrMemory basis.old bases ending basis.new result }
@@ -151,12 +159,14 @@ pub fn primal_free<R: Rates>(
     let mut point = room(alloc, size)?;
     let mut row = room(alloc, size)?;
     let mut direction = room(alloc, size)?;
+    let mut wanted = wants_of(alloc, lp, basis)?;
     walk_free::<R, Brand>(
         alloc,
         lp,
         basis,
         rates,
         &mut point,
+        &mut wanted,
         &mut row,
         &mut direction,
         Blank::new(1),

@@ -5,7 +5,8 @@ ghost use Rattle.lp_definitions.specs.LinearProgram.{size, value_at, IsLinearPro
 ghost use Rattle.lp_definitions.specs.declared.Status.{Status};
 ghost use Rattle.method_definitions.specs.Path.{PathEnding};
 ghost use Rattle.basis_values.specs.Calls.{HasRates};
-ghost use Rattle.bounded_primal.specs.Calls.{CallEnds, WaypointsFollow};
+ghost use Rattle.basis_values.specs.Wants.{AreWants};
+ghost use Rattle.bounded_primal.specs.Calls.{CallEnds, NeverReturned, WaypointsFollow};
 ghost use Rattle.bounded_primal.specs.Complete.{EndsUnhindered, IsEndOrMemory};
 ghost use Rattle.bounded_primal.specs.Outcomes.{IsTrueOutcome};
 ghost use Rattle.bounded_primal.specs.Stops.{PrimalStops};
@@ -16,9 +17,9 @@ use crate::kept::Kept;
 use crate::moves::PrimalStop;
 use crate::step::step_over;
 use crate::turns::{Turn, next_turn};
-use basis_values::{crossed, outside, point_of};
+use basis_values::{crossed, outside, point_of, renew_wants, wants_of};
 use frac128::Frac;
-use lp_model::{Basis, Lp, NoMemory, Outcome, Rates};
+use lp_model::{Basis, Lp, NoMemory, Outcome, Rates, Wanted};
 use std::alloc::Global;
 
 /// Room for so many values.
@@ -42,19 +43,21 @@ pub fn outside_after(lp: &Lp, basis: &Basis, point: &[Frac], broken: Option<u32>
 }
 
 /// Makes the basis's point, and goes from basis to basis with it, or with the values that steps need, where another is refused.
-/// `point`, `row` and `direction` are room.
+/// `wanted` has the signs of the rates that let a nonbasic lower a quantity; `point`, `row` and `direction` are room.
 fn walk<R: Rates>(
     alloc: Global,
     lp: &Lp,
     basis: &mut Basis,
     rates: &mut R,
     point: &mut [Frac],
+    wanted: &mut [Wanted],
     row: &mut [Frac],
     direction: &mut [Frac],
     limit: u32,
 ) -> Result<Outcome, PrimalStop>
     requires lawful { IsLinearProgram lp.now }
     requires rates { HasRates (R.matrix rates.old) (R.basics rates.old) lp.now basis.old }
+    requires wants { AreWants lp.now basis.old wanted.old }
     requires point_places { length point.old ≡ size lp.now.matrix }
     requires row_places { length row.old ≡ size lp.now.matrix }
     requires direction_places { length direction.old ≡ size lp.now.matrix }
@@ -78,6 +81,7 @@ fn walk<R: Rates>(
             rates,
             point,
             kept,
+            wanted,
             row,
             direction,
             broken,
@@ -87,6 +91,7 @@ fn walk<R: Rates>(
             Turn::Ends(outcome) => return Ok(outcome),
             Turn::Moves { q, by } => {
                 kept = step_over(lp, basis, rates, point, direction, q, &by, kept)?;
+                renew_wants(lp, basis, wanted, by.p, q);
             }
         }
         broken = outside_after(lp, basis, point, broken);
@@ -113,6 +118,8 @@ pub fn primal<R: Rates>(
     ensures waypoints { WaypointsFollow lp.now basis.old basis.new (R.waypoints rates.old)
         (R.waypoints rates.new) }
     ensures truth { IfOk result (IsTrueOutcome lp.now) }
+    // No basis comes twice.
+    ensures apart { NeverReturned lp.now basis.old basis.new }
     // No path has as many steps as there are status lists, three for each variable.
     ensures limited { IsErrOf result PrimalStop.Limit → limit < lists_of lp.now }
     ensures complete { (bases : List (List Status)) (ending : PathEnding) →
@@ -126,12 +133,14 @@ pub fn primal<R: Rates>(
     let mut point = room(alloc, size)?;
     let mut row = room(alloc, size)?;
     let mut direction = room(alloc, size)?;
+    let mut wanted = wants_of(alloc, lp, basis)?;
     walk(
         alloc,
         lp,
         basis,
         rates,
         &mut point,
+        &mut wanted,
         &mut row,
         &mut direction,
         limit,

@@ -5,24 +5,27 @@ ghost use Rattle.exact_values.specs.Rational.{ℚ, zero_ℚ};
 ghost use Rattle.lp_definitions.specs.LinearProgram.{size, value_at, for_min, IsVariable, IsLinearProgram};
 ghost use Rattle.lp_definitions.specs.Solutions.{IsWithinLimits};
 ghost use Rattle.lp_definitions.specs.Basis.{basics_of, IsBasic, IsNonbasic, IsDirectionOf, IsPointOf};
-ghost use Rattle.lp_model.specs.RatesCalls.{IsRowOf, IfOverflow};
-ghost use Rattle.method_definitions.specs.Moves.{signed, entering};
+ghost use Rattle.lp_model.specs.RatesCalls.{IfOverflow};
+ghost use Rattle.method_definitions.specs.Moves.{signed};
 ghost use Rattle.method_definitions.specs.Formulas.{limit_numbered, number_of_limit};
 ghost use Rattle.basis_values.specs.Calls.{HasRates, KeepsRates, PointRefused};
 ghost use Rattle.basis_values.specs.Motions.{may_move, motion};
+ghost use Rattle.basis_values.specs.Wants.{AreWants};
 ghost use Rattle.bounded_primal.specs.KeptPoints.{all_kept, AgreesWithPoint};
 ghost use Rattle.bounded_primal.specs.Moves.{return_by, stopper_of as stopper_by};
-ghost use Rattle.bounded_primal.specs.Turns.{IsUncrossed, least_outside, ray_from, mover_by, Betters, IsEndless, ReturnStops, RunStopsAtPoint, TurnFound};
+ghost use Rattle.bounded_primal.specs.Turns.{IsUncrossed, least_outside, ray_from, IsReturner, moved_by, mover_by, Betters, IsMoverFound, IsEndless, ReturnStops, RunStopsAtPoint, TurnFound};
 
 use crate::kept::Kept;
 use crate::moves::{PrimalStop, Stopper};
 use crate::step::returning;
 use crate::stopping::stopper_from;
 use basis_values::{
-    counted, enterer, fill_prices, is_less, is_minimized, lies_below, point_of, wrong_price,
+    counted, fill_prices, is_less, is_minimized, lies_below, point_of, wrong_price,
 };
 use frac128::Frac;
-use lp_model::{Basis, Direction, Lp, NoMemory, Outcome, Point, Prices, Rates, Ray, Status, Stop};
+use lp_model::{
+    Basis, Direction, Lp, NoMemory, Outcome, Point, Prices, Rates, Ray, Status, Stop, Wanted,
+};
 use std::alloc::Global;
 
 /// The multiplier of `k` in what shows that `r` can't come back, from the rates of `r`.
@@ -99,28 +102,32 @@ pub fn limit_broken(below: bool) -> Status
     if below { Status::Ll } else { Status::Ul }
 }
 
-/// The nonbasic that brings the basic `r` back, if there is one. `row` takes the rates of `r`.
+/// The nonbasic that brings the basic `r` back, if there is one; `wanted` has the signs of the rates that let a nonbasic lower a
+/// quantity. Where there is none, `row` takes the rates of `r`.
 fn returner<R: Rates>(
     lp: &Lp,
     basis: &Basis,
     rates: &mut R,
+    wanted: &[Wanted],
     row: &mut [Frac],
     r: u32,
     below: bool,
 ) -> Result<Option<u32>, Stop>
     requires rates { HasRates (R.matrix rates.old) (R.basics rates.old) lp.now basis.now }
+    requires wants { AreWants lp.now basis.now wanted.now }
     requires places { length row.old ≡ size lp.now.matrix }
     requires basic { IsBasic lp.now.matrix (basics_of basis.now) r }
-    ensures row { OnOk result (IsRowOf lp.now.matrix (basics_of basis.now) r (value_at row.new)) }
-    ensures found { IfOk result (λ found. found ≡ entering lp.now basis.now
-        (motion (value_at row.new) (not below))) }
+    ensures found { IfOk result (IsReturner lp.now basis.now r below (value_at row.new)) }
     ensures rates { KeepsRates (R.matrix rates.new) (R.basics rates.new) lp.now basis.now
         (R.waypoints rates.old) (R.waypoints rates.new) }
     ensures overflow { IfErr result (λ stop. IfOverflow stop
         (PointRefused lp.now (R.waypoints rates.old) basis.now (R.waypoints rates.new))) }
 {
-    rates.row(r, row)?;
-    Ok(enterer(lp, basis, row, !below))
+    let _size = lp.number_of_variables();
+    match rates.first_wanted(r, wanted, !below, row) {
+        Ok(found) => Ok(found),
+        Err(stop) => Err(stop),
+    }
 }
 
 /// What brings `p` to the limit of the status `to` by a move of `q`. `direction` takes the direction of `q`.
@@ -200,6 +207,17 @@ struct Mover {
     up: bool,
 }
 
+/// The variable with the way in which it betters the objective, by its price.
+fn mover_at(lp: &Lp, prices: &[Frac], q: u32) -> Mover
+    requires variable { IsVariable lp.now.matrix q }
+    requires places { length prices.now ≡ size lp.now.matrix }
+    ensures { result ≡ moved_by lp.now (value_at prices.now) q }
+{
+    let price = prices[q as usize - 1];
+    let up = is_less(counted(price, is_minimized(lp)), Frac::whole(0));
+    Mover { q, up }
+}
+
 /// The variable that betters the objective with these prices, if there is one.
 fn bettering(lp: &Lp, basis: &Basis, prices: &[Frac]) -> Option<Mover>
     requires counted { length basis.now ≡ size lp.now.matrix }
@@ -207,9 +225,84 @@ fn bettering(lp: &Lp, basis: &Basis, prices: &[Frac]) -> Option<Mover>
     ensures { result ≡ mover_by lp.now basis.now (value_at prices.now) }
 {
     let q = wrong_price(lp, basis, prices)?;
-    let price = prices[q as usize - 1];
-    let up = is_less(counted(price, is_minimized(lp)), Frac::whole(0));
-    Some(Mover { q, up })
+    Some(mover_at(lp, prices, q))
+}
+
+/// The variable that betters the objective, if there is one, by the prices of all variables, which `prices` takes. `change` is
+/// room.
+fn mover_by_prices<R: Rates>(
+    lp: &Lp,
+    basis: &Basis,
+    rates: &mut R,
+    change: &mut [Frac],
+    prices: &mut [Frac],
+) -> Result<Option<Mover>, Stop>
+    requires rates { HasRates (R.matrix rates.old) (R.basics rates.old) lp.now basis.now }
+    requires lawful { IsLinearProgram lp.now }
+    requires change { length change.old ≡ size lp.now.matrix }
+    requires places { length prices.old ≡ size lp.now.matrix }
+    ensures found { IfOk result (IsMoverFound lp.now basis.now (value_at prices.new)) }
+    ensures rates { KeepsRates (R.matrix rates.new) (R.basics rates.new) lp.now basis.now
+        (R.waypoints rates.old) (R.waypoints rates.new) }
+    ensures overflow { IfErr result (λ stop. IfOverflow stop
+        (PointRefused lp.now (R.waypoints rates.old) basis.now (R.waypoints rates.new))) }
+{
+    match fill_prices(lp, basis, rates, change, prices) {
+        Ok(()) => Ok(bettering(lp, basis, prices)),
+        Err(stop) => Err(stop),
+    }
+}
+
+/// The same where there is no change row: the prices are the rates of the objective, and no more of them are had than are needed.
+fn mover_by_row<R: Rates>(
+    lp: &Lp,
+    basis: &Basis,
+    rates: &mut R,
+    wanted: &[Wanted],
+    prices: &mut [Frac],
+) -> Result<Option<Mover>, Stop>
+    requires rates { HasRates (R.matrix rates.old) (R.basics rates.old) lp.now basis.now }
+    requires lawful { IsLinearProgram lp.now }
+    requires wants { AreWants lp.now basis.now wanted.now }
+    requires unchanged { lp.now.change ≡ None }
+    requires places { length prices.old ≡ size lp.now.matrix }
+    ensures found { IfOk result (IsMoverFound lp.now basis.now (value_at prices.new)) }
+    ensures rates { KeepsRates (R.matrix rates.new) (R.basics rates.new) lp.now basis.now
+        (R.waypoints rates.old) (R.waypoints rates.new) }
+    ensures overflow { IfErr result (λ stop. IfOverflow stop
+        (PointRefused lp.now (R.waypoints rates.old) basis.now (R.waypoints rates.new))) }
+{
+    match rates.first_wanted(lp.objective, wanted, is_minimized(lp), prices) {
+        Ok(None) => Ok(None),
+        Ok(Some(q)) => Ok(Some(mover_at(lp, prices, q))),
+        Err(stop) => Err(stop),
+    }
+}
+
+/// The variable that betters the objective, if there is one. Where there is none, `prices` takes the prices; `change` is room.
+fn mover_of<R: Rates>(
+    lp: &Lp,
+    basis: &Basis,
+    rates: &mut R,
+    wanted: &[Wanted],
+    change: &mut [Frac],
+    prices: &mut [Frac],
+) -> Result<Option<Mover>, Stop>
+    requires rates { HasRates (R.matrix rates.old) (R.basics rates.old) lp.now basis.now }
+    requires lawful { IsLinearProgram lp.now }
+    requires wants { AreWants lp.now basis.now wanted.now }
+    requires change { length change.old ≡ size lp.now.matrix }
+    requires places { length prices.old ≡ size lp.now.matrix }
+    ensures found { IfOk result (IsMoverFound lp.now basis.now (value_at prices.new)) }
+    ensures rates { KeepsRates (R.matrix rates.new) (R.basics rates.new) lp.now basis.now
+        (R.waypoints rates.old) (R.waypoints rates.new) }
+    ensures overflow { IfErr result (λ stop. IfOverflow stop
+        (PointRefused lp.now (R.waypoints rates.old) basis.now (R.waypoints rates.new))) }
+{
+    match lp.change {
+        None => mover_by_row(lp, basis, rates, wanted, prices),
+        Some(_) => mover_by_prices(lp, basis, rates, change, prices),
+    }
 }
 
 /// What the path does at a basis: it ends, or `q` moves by `by`, and its direction is at hand.
@@ -226,6 +319,7 @@ fn first_phase<R: Rates>(
     basis: &Basis,
     rates: &mut R,
     point: &[Frac],
+    wanted: &[Wanted],
     row: &mut [Frac],
     direction: &mut [Frac],
     r: u32,
@@ -233,6 +327,7 @@ fn first_phase<R: Rates>(
     left: u32,
 ) -> Result<Turn, PrimalStop>
     requires rates { HasRates (R.matrix rates.old) (R.basics rates.old) lp.now basis.now }
+    requires wants { AreWants lp.now basis.now wanted.now }
     requires point_places { length point.now ≡ size lp.now.matrix }
     requires row_places { length row.old ≡ size lp.now.matrix }
     requires direction_places { length direction.old ≡ size lp.now.matrix }
@@ -245,7 +340,7 @@ fn first_phase<R: Rates>(
         (R.waypoints rates.old) (R.waypoints rates.new) }
 {
     let below = lies_below(lp, point, r);
-    let Some(q) = returner(lp, basis, rates, row, r, below)? else {
+    let Some(q) = returner(lp, basis, rates, wanted, row, r, below)? else {
         let ray = ray_of(alloc, lp, row, r, below)?;
         return Ok(Turn::Ends(Outcome::Infeasible { steps, ray }));
     };
@@ -382,6 +477,7 @@ fn second_phase<R: Rates>(
     rates: &mut R,
     point: &[Frac],
     kept: Kept,
+    wanted: &[Wanted],
     row: &mut [Frac],
     direction: &mut [Frac],
     steps: u32,
@@ -389,6 +485,7 @@ fn second_phase<R: Rates>(
 ) -> Result<Turn, PrimalStop>
     requires lawful { IsLinearProgram lp.now }
     requires rates { HasRates (R.matrix rates.old) (R.basics rates.old) lp.now basis.now }
+    requires wants { AreWants lp.now basis.now wanted.now }
     requires point_places { length point.now ≡ size lp.now.matrix }
     requires row_places { length row.old ≡ size lp.now.matrix }
     requires direction_places { length direction.old ≡ size lp.now.matrix }
@@ -401,8 +498,7 @@ fn second_phase<R: Rates>(
     ensures rates { KeepsRates (R.matrix rates.new) (R.basics rates.new) lp.now basis.now
         (R.waypoints rates.old) (R.waypoints rates.new) }
 {
-    fill_prices(lp, basis, rates, direction, row)?;
-    match bettering(lp, basis, row) {
+    match mover_of(lp, basis, rates, wanted, direction, row)? {
         None => {
             let point = whole_point(alloc, lp, basis, rates, point, kept)?;
             Ok(Turn::Ends(best(alloc, point, row, steps)?))
@@ -414,7 +510,8 @@ fn second_phase<R: Rates>(
 }
 
 /// What the path does at the basis, where `broken` is the least-numbered basic outside its limits. The values of `point` that are
-/// `kept` are those of the basis, and so are those of the variables with a limit in any case. `row` and `direction` are room.
+/// `kept` are those of the basis, and so are those of the variables with a limit in any case. `wanted` has the signs of the rates
+/// that let a nonbasic lower a quantity. `row` and `direction` are room.
 pub fn next_turn<R: Rates>(
     alloc: Global,
     lp: &Lp,
@@ -422,6 +519,7 @@ pub fn next_turn<R: Rates>(
     rates: &mut R,
     point: &[Frac],
     kept: Kept,
+    wanted: &[Wanted],
     row: &mut [Frac],
     direction: &mut [Frac],
     broken: Option<u32>,
@@ -430,6 +528,7 @@ pub fn next_turn<R: Rates>(
 ) -> Result<Turn, PrimalStop>
     requires lawful { IsLinearProgram lp.now }
     requires rates { HasRates (R.matrix rates.old) (R.basics rates.old) lp.now basis.now }
+    requires wants { AreWants lp.now basis.now wanted.now }
     requires point_places { length point.now ≡ size lp.now.matrix }
     requires row_places { length row.old ≡ size lp.now.matrix }
     requires direction_places { length direction.old ≡ size lp.now.matrix }
@@ -444,10 +543,10 @@ pub fn next_turn<R: Rates>(
 {
     match broken {
         Some(r) => first_phase(
-            alloc, lp, basis, rates, point, row, direction, r, steps, left,
+            alloc, lp, basis, rates, point, wanted, row, direction, r, steps, left,
         ),
         None => second_phase(
-            alloc, lp, basis, rates, point, kept, row, direction, steps, left,
+            alloc, lp, basis, rates, point, kept, wanted, row, direction, steps, left,
         ),
     }
 }

@@ -6,8 +6,8 @@ use Rattle.std.proofs.lemmas.Result.{err_from_is_err_and}
 use Rattle.frac128.specs.declared.Refused.{Refused}
 use Rattle.lp_definitions.specs.LinearProgram.{numbers_from}
 use Rattle.check_definitions.specs.declared.Verdict.TheVariants.{Checked, Unchecked}
-use Rattle.check_definitions.specs.Steps.{Step, verdict_of}
-use Rattle.check_definitions.proofs.Passing.{followed_by, verdict-append, each-next, each-end}
+use Rattle.check_definitions.specs.Steps.{Step, verdict_of, followed_by}
+use Rattle.check_definitions.proofs.Passing.{verdict-append, each-next, each-end}
 use Rattle.certificate_check.specs.declared.stops.Stopped.{Stopped}
 use Rattle.certificate_check.specs.declared.stops.Stopped.TheVariants.{Comparison, Operation}
 use Rattle.certificate_check.specs.Results.{verdict_from}

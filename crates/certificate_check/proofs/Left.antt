@@ -10,9 +10,9 @@ use Rattle.std.proofs.Math.Seq.{drop-cons}
 use Rattle.lp_definitions.specs.declared.Entry.{Entry}
 use Rattle.lp_definitions.specs.LinearProgram.{LinearProgram, Vector, numbers_from, column, on_row, entry}
 use Rattle.check_definitions.specs.declared.Verdict.TheVariants.{Checked, Unchecked}
-use Rattle.check_definitions.specs.Steps.{operation, Product, product_of, verdict_of, sum_steps, sum_of}
+use Rattle.check_definitions.specs.Steps.{operation, Product, product_of, verdict_of, sum_steps, sum_of, followed_by}
 use Rattle.check_definitions.specs.Checks.{entry_products}
-use Rattle.check_definitions.proofs.Passing.{followed_by, verdict-append, numbers-next}
+use Rattle.check_definitions.proofs.Passing.{verdict-append, numbers-next}
 use Rattle.certificate_check.proofs.No_refusal.{mul_taken_left, mul_taken_right, add_zero_taken}
 use Rattle.certificate_check.specs.Results.{SumsTo}
 

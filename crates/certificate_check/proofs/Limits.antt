@@ -7,9 +7,9 @@ use Rattle.exact_values.specs.Tests.{eq_ℚ, is_equal}
 use Rattle.exact_values.proofs.Compare.{compare_from_same, same_from_compare}
 use Rattle.lp_definitions.specs.LinearProgram.{LinearProgram, Vector, size, numbers_from}
 use Rattle.lp_definitions.specs.Solutions.{limit_against}
-use Rattle.check_definitions.specs.Steps.{comparison, verdict_of, product_of, sum_steps, sum_of}
+use Rattle.check_definitions.specs.Steps.{comparison, verdict_of, product_of, sum_steps, sum_of, followed_by}
 use Rattle.check_definitions.specs.Checks.{ray_limits, multiplied, multiplied_among, limit_product}
-use Rattle.check_definitions.proofs.Passing.{followed_by, verdict-append, numbers-next, numbers-end}
+use Rattle.check_definitions.proofs.Passing.{verdict-append, numbers-next, numbers-end}
 use Rattle.certificate_check.specs.declared.stops.Stopped.{Stopped}
 use Rattle.certificate_check.specs.declared.stops.Stopped.TheVariants.{Comparison, Operation}
 use Rattle.certificate_check.specs.Results.{verdict_from, Leads}

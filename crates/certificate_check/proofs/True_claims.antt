@@ -21,9 +21,9 @@ use Rattle.lp_laws.proofs.Duality.{test_of_below}
 use Rattle.lp_laws.proofs.Rays.{limit_of_positive, limit_of_negative}
 use Rattle.check_definitions.specs.declared.Verdict.{Verdict}
 use Rattle.check_definitions.specs.declared.Verdict.TheVariants.{Checked, Failed, Unchecked}
-use Rattle.check_definitions.specs.Steps.{Step, operation, comparison, verdict_of, Product, product_of, sum_steps, sum_of}
+use Rattle.check_definitions.specs.Steps.{Step, operation, comparison, verdict_of, Product, product_of, sum_steps, sum_of, followed_by}
 use Rattle.check_definitions.specs.Checks.{is_not_below, is_not_above, is_at, is_crossed, by_sign, change_steps, combined_steps, row_products, equation, equations, within_limit, within_limits, feasible_point, column_products, reduced_cost, reduced_costs, standing_price, standing_prices, ray_column, ray_columns, multiplied, limit_product, ray_limits, ray_sum, free_to_move, free_direction, bettering, crossed_check}
-use Rattle.check_definitions.proofs.Passing.{followed_by, verdict-append}
+use Rattle.check_definitions.proofs.Passing.{verdict-append}
 use Rattle.certificate_check.specs.Parts.{AreReducedCosts, VanishesOnColumns, MeetsLimits, IsFreeDirection}
 use Rattle.certificate_check.proofs.Products.{sum_of-all}
 use Rattle.certificate_check.proofs.Meaning.{multiplied_from, products_of_column, sum_of_met}

@@ -7,13 +7,7 @@ use Rattle.frac128.specs.Operations.{refuses}
 use Rattle.lp_definitions.specs.LinearProgram.{numbers_from}
 use Rattle.check_definitions.specs.declared.Verdict.{Verdict}
 use Rattle.check_definitions.specs.declared.Verdict.TheVariants.{Checked, Failed, Unchecked}
-use Rattle.check_definitions.specs.Steps.{Step, operation, comparison, verdict_of}
-
--- the first verdict where it stops, and else the second
-abbrev pub followed_by : Verdict → Verdict → Verdict
-followed_by Checked w = w
-followed_by (Failed part number) w = Failed part number
-followed_by (Unchecked r) w = Unchecked r
+use Rattle.check_definitions.specs.Steps.{Step, operation, comparison, verdict_of, followed_by}
 
 pub verdict-append : (xs ys : List Step) → verdict_of (xs ++ ys) ≡ followed_by (verdict_of xs) (verdict_of ys)
 verdict-append [] ys = refl

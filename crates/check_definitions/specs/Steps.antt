@@ -1,6 +1,7 @@
 -- A check as the list of what it does, in order, and its verdict.
 --     Step                         an operation on two values, or a comparison
 --     verdict_of steps             what the first step that stops says, or Checked
+--     in_turn verdicts             what the first verdict that stops says, or Checked
 --     sum_steps start ts           adds up products from the left, each made before it is added
 --     sum_of start ts              what that sum comes to
 use Rattle.std.specs.Prelude.{ℕ, Bool, List, [], ◌∷◌, map, if◌then◌else◌}
@@ -22,6 +23,17 @@ abbrev pub verdict_of : List Step → Verdict
 verdict_of [] = Checked
 verdict_of (operation op x y ∷ steps) = if refuses op x y then Unchecked (record { op = op; left = x; right = y }) else verdict_of steps
 verdict_of (comparison part number holds ∷ steps) = if holds then verdict_of steps else Failed part number
+
+-- the first verdict where it stops, and else the second
+abbrev pub followed_by : Verdict → Verdict → Verdict
+followed_by Checked w = w
+followed_by (Failed part number) w = Failed part number
+followed_by (Unchecked r) w = Unchecked r
+
+-- the first verdict that stops, or Checked
+abbrev pub in_turn : List Verdict → Verdict
+in_turn [] = Checked
+in_turn (v ∷ vs) = followed_by v (in_turn vs)
 
 -- two values that are to be multiplied
 pub record Product : Type 0 where

@@ -26,7 +26,7 @@ use Rattle.control_run.specs.declared.status.Status.TheVariants.{PrintFault, Pun
 use Rattle.run_machine.specs.Ends.{end_shown}
 use Rattle.control_run.specs.Statuses.{code_of}
 use Rattle.control_run.specs.Finishing.{cut_status, Finishes, FinishesHalted, printed, cut_off}
-use Rattle.control_run.specs.Devices.{Counts, IsReported, IsStill}
+use Rattle.control_run.specs.Devices.{Counts, counts, IsReported, IsStill}
 use Rattle.control_run.proofs.Reported.{none_more, left, stands_still, reported_print, reported_punch}
 use Rattle.control_run.specs.Running.{CanEnd, by_itself, for_memory, for_memory_of_punch, for_punch_fault, punch_end, IsCut, in_report, in_end, RunsTo, IsRunCut, Runs, IsRunAnswer, whole, print_fails, print_wants_memory}
 
@@ -108,28 +108,28 @@ module _ (S : Solving) (program : Program) (cards : List (List ℕ)) {P U : Type
   -- ---- by what the run's result is
 
   -- how often print and punch have failed or found no memory; no job is read
-  abbrev pub counts : P → U → Counts
-  counts print punch = record { read = 0; print = faults print; print_memory = refusals print; punch = punch_faults punch; punch_memory = punch_refusals punch }
+  abbrev counted : P → U → Counts
+  counted print punch = counts faults refusals punch_faults punch_refusals 0 print punch
 
   -- the status reports what has failed, and nothing was written after
   pub record IsNoted (old later : P) (punch_old punch_now : U) (status : Status) : Type 0 where
-    pub reported : IsReported (counts old punch_old) (counts later punch_now) (code_of status)
-    pub print_still : IsStill (faults old) (faults later) (refusals old) (refusals later) (stopped_at later) (written later)
-    pub punch_still : IsStill (punch_faults punch_old) (punch_faults punch_now) (punch_refusals punch_old) (punch_refusals punch_now) (punch_stopped_at punch_now) (punch_written punch_now)
+    pub reported : IsReported (counted old punch_old) (counted later punch_now) (code_of status)
+    pub print_still : IsStill written stopped_at faults refusals old later
+    pub punch_still : IsStill punch_written punch_stopped_at punch_faults punch_refusals punch_old punch_now
 
   noted_by_end : {old now later : P} {punch_old punch_now : U} (result : Result (Unit {0}) WriteStop) {ending : Ending} {status : Status} → IfErr result (λ stop. ending ≡ punch_end stop) →
       RunsTo S program cards written stopped_at faults refusals old now punch_written punch_stopped_at punch_faults punch_refusals punch_old punch_now result ending → Finishes written stopped_at faults refusals now later ending status → IsNoted old later punch_old punch_now status
   noted_by_end {old = old} {later = later} {punch_old = punch_old} {punch_now = punch_now} result {ending = ending} {status = status} ends r (printed e w) =
       let l = left (writes_then r.prints w) in
       record {
-        reported = reported_punch (counts old punch_old) (counts later punch_now) result (code_of status) (code_at result ending status ends e) l.cause r.leaves.cause (λ more. none_more 0 0 refl more);
+        reported = reported_punch (counted old punch_old) (counted later punch_now) result (code_of status) (code_at result ending status ends e) l.cause r.leaves.cause (λ more. none_more 0 0 refl more);
         print_still = stands_still (Ok tt) l;
         punch_still = stands_still result r.leaves;
       }
   noted_by_end {old = old} {later = later} {punch_old = punch_old} {punch_now = punch_now} result {status = status} ends r (cut_off stop e w) =
       let l = left (writes_then r.prints w) in
       record {
-        reported = reported_print (counts old punch_old) (counts later punch_now) stop (code_of status) (ap code_of e) l.cause;
+        reported = reported_print (counted old punch_old) (counted later punch_now) stop (code_of status) (ap code_of e) l.cause;
         print_still = stands_still (Err stop) l;
         punch_still = stands_still result r.leaves;
       }
@@ -139,7 +139,7 @@ module _ (S : Solving) (program : Program) (cards : List (List ℕ)) {P U : Type
   noted_by_cut {old = old} {now = now} later {punch_old = punch_old} {punch_now = punch_now} stop {status = status} r e same =
       subst (λ (p : P). IsNoted old p punch_old punch_now status) (sym same)
       (record {
-        reported = reported_print (counts old punch_old) (counts now punch_now) stop (code_of status) (ap code_of e) r.leaves.cause;
+        reported = reported_print (counted old punch_old) (counted now punch_now) stop (code_of status) (ap code_of e) r.leaves.cause;
         print_still = stands_still (Err stop) r.leaves;
         punch_still = stands_still (Ok tt) (left r.punches);
       })

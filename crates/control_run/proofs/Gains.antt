@@ -8,9 +8,8 @@ use Rattle.listing_definitions.specs.Report.{Report}
 use Rattle.listing_definitions.specs.Ending.{Ending, Ended, WordsRefused, ControlStop, VerbStop, SingularStop, PriceStop, DeckStop, CardStop, LimitStop, StatementLimit, OverflowStop, ReadFault, PrintFault, PunchFault, Memory}
 use Rattle.listing_definitions.specs.Text.{report_text}
 use Rattle.listing_definitions.specs.Listing.{reports_text}
-use Rattle.run_definitions.specs.Moves.{Gain, Nothing, Prints, Punches, printed_by}
+use Rattle.run_definitions.specs.Moves.{Gain, Nothing, Prints, Punches, printed_by, gain_text}
 use Rattle.run_definitions.specs.Answer.{Gains}
-use Rattle.run_machine.specs.Statements.{gain_text}
 use Rattle.control_run.specs.Running.{GainsBy}
 
 pub printed_text : (gain : Gain) → reports_text (printed_by gain) ≡ gain_text gain

@@ -22,7 +22,7 @@ module _ {P : Type 0} {written stopped_at : P → Option (List ℕ)} {faults ref
 
   -- after a stop nothing was written
   pub stands_still : (result : Result (Unit {0}) WriteStop) → Leaves written stopped_at faults refusals old new result →
-      IsStill (faults old) (faults new) (refusals old) (refusals new) (stopped_at new) (written new)
+      IsStill written stopped_at faults refusals old new
   stands_still (Ok done) l = record {
     after_fault = λ more. none_more (faults old) (faults new) l.cause.no_fault more;
     after_refusal = λ more. none_more (refusals old) (refusals new) l.cause.no_refusal more;
@@ -31,7 +31,7 @@ module _ {P : Type 0} {written stopped_at : P → Option (List ℕ)} {faults ref
 
 -- nothing was written at all
 pub still_as_before : {P : Type 0} (written stopped_at : P → Option (List ℕ)) (faults refusals : P → ℕ) (device : P) →
-    IsStill (faults device) (faults device) (refusals device) (refusals device) (stopped_at device) (written device)
+    IsStill written stopped_at faults refusals device device
 still_as_before written stopped_at faults refusals device = record {
   after_fault = λ more. none_more (faults device) (faults device) refl more;
   after_refusal = λ more. none_more (refusals device) (refusals device) refl more;

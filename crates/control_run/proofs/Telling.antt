@@ -9,7 +9,7 @@ use Rattle.lp_definitions.specs.declared.Evidence.{Evidence}
 use Rattle.control_definitions.specs.Program.{Verb}
 use Rattle.question_definitions.specs.Answers.{Basis}
 use Rattle.run_definitions.specs.State.{State}
-use Rattle.run_definitions.specs.Moves.{Gain, Nothing, punched_by, Outcome, Ends as EndsRun, next, jump, Move, Gives, gain_of}
+use Rattle.run_definitions.specs.Moves.{Gain, Nothing, punched_by, Outcome, Ends as EndsRun, next, jump, Move, Gives, gain_of, gain_text}
 use Rattle.run_definitions.specs.Verbs.{verb_move}
 use Rattle.run_machine.specs.declared.act.Act.{Act}
 use Rattle.run_machine.specs.declared.act.Act.TheVariants as act
@@ -22,7 +22,7 @@ use Rattle.run_machine.specs.Machines.{Machine}
 use Rattle.run_machine.specs.Ends.{end_shown, place_shown}
 use Rattle.answer_definitions.specs.Real.{linear_programming}
 use Rattle.run_machine.specs.Standing.{Stands}
-use Rattle.run_machine.specs.Statements.{Comes, Executes, Follows, gain_text}
+use Rattle.run_machine.specs.Statements.{Comes, Executes, Follows}
 use Rattle.run_machine.specs.Findings.{IsOverflowAt, told, no_memory, TellsFinding}
 
 module _ {P : Type 0} (written stopped_at : P → Option (List ℕ)) (faults refusals : P → ℕ) where

@@ -1,7 +1,8 @@
 -- What the status of a call reports of its devices, and what stands in them where a write has stopped.
 --     Counts                        how often each device has failed or found no memory
+--     counts .. read print punch    the counts of these devices, where so many reads have failed
 --     IsReported before now status  each count that has grown is reported by the status
---     IsStill ..                    nothing was written after a write that stopped
+--     IsStill .. old new            nothing was written after a write that stopped
 --     Leaves .. result              what a device counts and holds where the last write to it came to this result
 use Rattle.std.specs.Prelude.{◌≡◌, ◌⊎◌, ◌<◌, ℕ, List, Option, Result}
 use Rattle.job_devices.specs.declared.device.WriteStop.{WriteStop}
@@ -15,6 +16,11 @@ pub record Counts : Type 0 where
   pub print_memory : ℕ
   pub punch : ℕ
   pub punch_memory : ℕ
+
+-- the counts of a print and a punch by what each counts, where so many reads have failed
+abbrev pub counts : {P U : Type 0} → (P → ℕ) → (P → ℕ) → (U → ℕ) → (U → ℕ) → ℕ → P → U → Counts
+counts faults refusals punch_faults punch_refusals read print punch =
+    record { read = read; print = faults print; print_memory = refusals print; punch = punch_faults punch; punch_memory = punch_refusals punch }
 
 module _ (before now : Counts) where
   -- the print has failed, and the status is 25; or it has found no memory, and the status is 28
@@ -34,9 +40,9 @@ module _ (before now : Counts) where
     pub punch_memory : before.punch_memory < now.punch_memory → (status ≡ 28) ⊎ StopsAtPrint status
 
 -- Where a device has failed or found no memory, what it holds is what it held then: nothing was written after.
-pub record IsStill (faults_before faults_now refusals_before refusals_now : ℕ) (stopped_at written : Option (List ℕ)) : Type 0 where
-  pub after_fault : faults_before < faults_now → written ≡ stopped_at
-  pub after_refusal : refusals_before < refusals_now → written ≡ stopped_at
+pub record IsStill {P : Type 0} (written stopped_at : P → Option (List ℕ)) (faults refusals : P → ℕ) (old new : P) : Type 0 where
+  pub after_fault : faults old < faults new → written new ≡ stopped_at new
+  pub after_refusal : refusals old < refusals new → written new ≡ stopped_at new
 
 -- what a device counts where the last write to it came to this result, and what it held when a write last stopped
 pub record Leaves {P : Type 0} (written stopped_at : P → Option (List ℕ)) (faults refusals : P → ℕ) (old new : P) (result : Result (Unit {0}) WriteStop) : Type 0 where

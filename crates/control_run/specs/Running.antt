@@ -20,7 +20,7 @@ use Rattle.listing_definitions.specs.Ending.{Ending, PrintFault, PunchFault, Mem
 use Rattle.listing_definitions.specs.Listing.{ending_text, reports_text, listing}
 use Rattle.question_definitions.specs.Solving.{Solving}
 use Rattle.run_definitions.specs.State.{State}
-use Rattle.run_definitions.specs.Moves.{Gain, printed_by, punched_by, Outcome, Goes as GoesOn, Ends as EndsRun, gain_of}
+use Rattle.run_definitions.specs.Moves.{Gain, printed_by, punched_by, Outcome, Goes as GoesOn, Ends as EndsRun, gain_of, gain_text}
 use Rattle.run_definitions.specs.Run.{max_executed, Step, Reaches, IsRun}
 use Rattle.run_definitions.specs.Answer.{Gains, IsPunching}
 use Rattle.run_machine.specs.declared.act.Halt.{Halt}
@@ -31,7 +31,6 @@ use Rattle.run_machine.specs.declared.end.End.{End}
 use Rattle.run_machine.specs.Machines.{Machine}
 use Rattle.run_machine.specs.Ends.{end_shown}
 use Rattle.run_machine.specs.Standing.{Stands}
-use Rattle.run_machine.specs.Statements.{gain_text}
 use Rattle.run_machine.specs.Punching.{gain_cards}
 use Rattle.control_run.specs.Devices.{Leaves}
 

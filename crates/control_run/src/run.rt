@@ -6,7 +6,7 @@ ghost use Rattle.job_devices.specs.Causes.{Rose};
 ghost use Rattle.run_definitions.specs.Answer.{Job, bytes_of, IsProgramOf, IsAnswered};
 ghost use Rattle.answer_definitions.specs.Real.{linear_programming};
 ghost use Rattle.control_run.specs.Statuses.{code_of, IsStatusOfRun};
-ghost use Rattle.control_run.specs.Devices.{IsReported, IsStill};
+ghost use Rattle.control_run.specs.Devices.{counts, IsReported, IsStill};
 ghost use Rattle.control_run.specs.Finishing.{failures_in_run};
 ghost use Rattle.control_run.specs.Running.{Runs, IsRunAnswer};
 
@@ -87,25 +87,11 @@ fn run_to_end<E: Engine, P: Sink, U: Sink>(
     ensures punch_fault { result ≡ Status.PunchFault →
         Rose (U.faults punch.old) (U.faults punch.new) }
     ensures reported { IsReported
-        (record {
-          read = 0;
-          print = P.faults print.old;
-          print_memory = P.refusals print.old;
-          punch = U.faults punch.old;
-          punch_memory = U.refusals punch.old;
-        })
-        (record {
-          read = 0;
-          print = P.faults print.new;
-          print_memory = P.refusals print.new;
-          punch = U.faults punch.new;
-          punch_memory = U.refusals punch.new;
-        })
+        (counts P.faults P.refusals U.faults U.refusals 0 print.old punch.old)
+        (counts P.faults P.refusals U.faults U.refusals 0 print.new punch.new)
         (code_of result) }
-    ensures still { IsStill (P.faults print.old) (P.faults print.new) (P.refusals print.old)
-        (P.refusals print.new) (P.stopped_at print.new) (P.written print.new) ×
-        IsStill (U.faults punch.old) (U.faults punch.new) (U.refusals punch.old)
-        (U.refusals punch.new) (U.stopped_at punch.new) (U.written punch.new) }
+    ensures still { IsStill P.written P.stopped_at P.faults P.refusals print.old print.new ×
+        IsStill U.written U.stopped_at U.faults U.refusals punch.old punch.new }
     ensures own { IsStatusOfRun result }
 {
     match run::<E, P, U>(alloc, program, cards, print, punch) {
@@ -119,7 +105,7 @@ fn run_to_end<E: Engine, P: Sink, U: Sink>(
 ///
 /// A run ends by itself; where memory is wanted, or a write to the punch fails, the listing ends with that, if it can. After a
 /// fault of the print, or where the print itself wants memory, nothing more is printed. After a fault of the punch, or where it
-/// wants memory, nothing more is punched: it has gained all that was punched so far, and a front of the deck in hand. The
+/// wants memory, nothing more is punched: it has gained all that was punched so far, and a prefix of the deck in hand. The
 /// status reports whichever of these came.
 pub fn run_on<E: Engine, P: Sink, U: Sink>(
     alloc: Global,
@@ -150,25 +136,11 @@ pub fn run_on<E: Engine, P: Sink, U: Sink>(
     ensures punch_fault { result ≡ Status.PunchFault →
         Rose (U.faults punch.old) (U.faults punch.new) }
     ensures reported { IsReported
-        (record {
-          read = 0;
-          print = P.faults print.old;
-          print_memory = P.refusals print.old;
-          punch = U.faults punch.old;
-          punch_memory = U.refusals punch.old;
-        })
-        (record {
-          read = 0;
-          print = P.faults print.new;
-          print_memory = P.refusals print.new;
-          punch = U.faults punch.new;
-          punch_memory = U.refusals punch.new;
-        })
+        (counts P.faults P.refusals U.faults U.refusals 0 print.old punch.old)
+        (counts P.faults P.refusals U.faults U.refusals 0 print.new punch.new)
         (code_of result) }
-    ensures still { IsStill (P.faults print.old) (P.faults print.new) (P.refusals print.old)
-        (P.refusals print.new) (P.stopped_at print.new) (P.written print.new) ×
-        IsStill (U.faults punch.old) (U.faults punch.new) (U.refusals punch.old)
-        (U.refusals punch.new) (U.stopped_at punch.new) (U.written punch.new) }
+    ensures still { IsStill P.written P.stopped_at P.faults P.refusals print.old print.new ×
+        IsStill U.written U.stopped_at U.faults U.refusals punch.old punch.new }
     ensures own { IsStatusOfRun result }
 {
     run_to_end::<E, P, U>(alloc, program, cards, print, punch)
@@ -179,7 +151,7 @@ pub fn run_on<E: Engine, P: Sink, U: Sink>(
 ///
 /// A run ends by itself; where memory is wanted, or a write to the punch fails, the listing ends with that, if it can. After a
 /// fault of the print, or where the print itself wants memory, nothing more is printed. After a fault of the punch, or where it
-/// wants memory, nothing more is punched: it has gained all that was punched so far, and a front of the deck in hand. The
+/// wants memory, nothing more is punched: it has gained all that was punched so far, and a prefix of the deck in hand. The
 /// status reports whichever of these came.
 pub fn run_program<P: Sink, U: Sink>(
     alloc: Global,
@@ -210,25 +182,11 @@ pub fn run_program<P: Sink, U: Sink>(
     ensures punch_fault { result ≡ Status.PunchFault →
         Rose (U.faults punch.old) (U.faults punch.new) }
     ensures reported { IsReported
-        (record {
-          read = 0;
-          print = P.faults print.old;
-          print_memory = P.refusals print.old;
-          punch = U.faults punch.old;
-          punch_memory = U.refusals punch.old;
-        })
-        (record {
-          read = 0;
-          print = P.faults print.new;
-          print_memory = P.refusals print.new;
-          punch = U.faults punch.new;
-          punch_memory = U.refusals punch.new;
-        })
+        (counts P.faults P.refusals U.faults U.refusals 0 print.old punch.old)
+        (counts P.faults P.refusals U.faults U.refusals 0 print.new punch.new)
         (code_of result) }
-    ensures still { IsStill (P.faults print.old) (P.faults print.new) (P.refusals print.old)
-        (P.refusals print.new) (P.stopped_at print.new) (P.written print.new) ×
-        IsStill (U.faults punch.old) (U.faults punch.new) (U.refusals punch.old)
-        (U.refusals punch.new) (U.stopped_at punch.new) (U.written punch.new) }
+    ensures still { IsStill P.written P.stopped_at P.faults P.refusals print.old print.new ×
+        IsStill U.written U.stopped_at U.faults U.refusals punch.old punch.new }
     ensures own { IsStatusOfRun result }
 {
     run_on::<RunEngine, P, U>(alloc, program, cards, print, punch)

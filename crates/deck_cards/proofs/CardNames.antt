@@ -1,26 +1,28 @@
--- The names and numbers in the fields of a printable card.
-use Rattle.std.proofs.Common.{◌≡◌, ℕ, ◌≤◌, true, List, length, sym, subst, lit≤}
-use Rattle.std.specs.List.{list_all}
-use Rattle.card_definitions.specs.Cards.{is_printable}
-use Rattle.card_definitions.specs.Fields.{Fixed, reading_of}
-use Rattle.problem_definitions.specs.Valid.{IsName}
-use Rattle.deck_definitions.proofs.CardTexts.{columns-name, fixed-lawful}
+-- Fields that show what a card reads as, which is a reading.
+use Rattle.std.proofs.Common.{◌≡◌, ℕ, List, sym, subst, arith}
+use Rattle.card_definitions.specs.Fields.{Fixed, Reading, reading_of}
+use Rattle.deck_definitions.proofs.CardTexts.{IsReading}
 use Rattle.deck_fields.specs.declared.texts.Fields.{Fields}
-use Rattle.deck_fields.specs.Readings.{ShowsFields}
+use Rattle.deck_fields.specs.Readings.{ShowsFields, fields_shown}
+use Rattle.deck_fields.specs.WordsShown.{IsColumn}
 
-module _ (f : Fields) (card : List ℕ) (shows : ShowsFields f (reading_of Fixed card)) (printable : list_all is_printable card ≡ true) where
-  pub name1_named : IsName f.name1.now
-  name1_named = subst IsName (sym shows.name1) (fixed-lawful card printable).name1
+module _ (f : Fields) (read : Reading) (shows : ShowsFields f read) where
+  pub shown_is : fields_shown f ≡ read
+  shown_is = λ i. record {
+    kind = shows.kind i;
+    name1 = shows.name1 i;
+    name2 = shows.name2 i;
+    value1 = shows.value1 i;
+    name3 = shows.name3 i;
+    value2 = shows.value2 i;
+    value1_column = shows.value1_column i;
+    value2_column = shows.value2_column i;
+  }
 
-  pub name2_named : IsName f.name2.now
-  name2_named = subst IsName (sym shows.name2) (fixed-lawful card printable).name2
+  pub is_reading : IsReading read → IsReading (fields_shown f)
+  is_reading reads = subst IsReading (sym shown_is) reads
 
-  pub name3_named : IsName f.name3.now
-  unfolding reading_of
-  name3_named = subst IsName (sym shows.name3) (columns-name 40 47 card (lit≤ tt) printable)
-
-  pub value1_short : length f.value1.now ≤ 12
-  value1_short = subst (λ (text : List ℕ). length text ≤ 12) (sym shows.value1) (fixed-lawful card printable).value1
-
-  pub value2_short : length f.value2.now ≤ 12
-  value2_short = subst (λ (text : List ℕ). length text ≤ 12) (sym shows.value2) (fixed-lawful card printable).value2
+-- those at fixed columns begin in columns of the card
+pub fixed_columns : (f : Fields) (card : List ℕ) → ShowsFields f (reading_of Fixed card) → IsColumn f.value1_column × IsColumn f.value2_column
+unfolding reading_of
+fixed_columns f card shows = ((omega (arith, shows.value1_column), omega (arith, shows.value1_column)), (omega (arith, shows.value2_column), omega (arith, shows.value2_column)))

@@ -1,4 +1,5 @@
 mod CardNames
 pub mod Between
 pub mod FirstFaulty
+mod FreeForm
 pub mod States

@@ -12,8 +12,8 @@ shown card = record {
   value1 = card.value1.now;
   name3 = card.name3;
   value2 = card.value2.now;
-  value1_column = 25;
-  value2_column = 50;
+  value1_column = card.value1_column;
+  value2_column = card.value2_column;
 }
 
 abbrev pub pair_shown : PairText → Pair

@@ -3,15 +3,20 @@ ghost use Rattle.std.specs.Prelude.{◌≡◌, ◌≤◌, ◌∷◌, [], None, S
 ghost use Rattle.card_definitions.specs.Fields.{Fixed, reading_of};
 ghost use Rattle.card_reader.specs.Card.{card_bytes};
 ghost use Rattle.problem_definitions.specs.Valid.{IsName};
-ghost use Rattle.deck_definitions.specs.Conversion.{form_fault};
-ghost use Rattle.deck_definitions.specs.DataCards.{pairs_of};
+ghost use Rattle.deck_definitions.specs.declared.Style.TheVariants.{FreeFields};
+ghost use Rattle.deck_definitions.specs.Conversion.{gaps_fault, form_fault};
+ghost use Rattle.deck_definitions.specs.DataCards.{form_on, pairs_of};
+ghost use Rattle.deck_definitions.proofs.CardTexts.{IsReading};
+ghost use Rattle.deck_fields.specs.Readings.{fields_shown};
+ghost use Rattle.deck_fields.specs.WordsShown.{IsColumn};
 ghost use Rattle.deck_cards.specs.Shown.{shown, pair_shown};
 
 use crate::data_card::{DataCard, PairText};
+use crate::free_card::free_fields;
 use crate::words::is_blank;
 use card_reader::Card;
-use deck_definitions::DeckFaultKind;
-use deck_fields::fields;
+use deck_definitions::{DeckFaultKind, Section, Style};
+use deck_fields::{Fields, fields};
 use name_table::Name;
 
 /// The name in a field that holds one.
@@ -25,24 +30,70 @@ pub fn name_in(field: &[u8]) -> Name
     }
 }
 
-/// Reads a data card.
-#[tactic(auto, unfolding(card_definitions::specs::Fields::reading_of))]
-pub fn read_data_card<'a>(card: Card<'a>) -> Result<DataCard<'a>, DeckFaultKind>
-    ensures reading { IfOk result (λ d. shown d ≡ reading_of Fixed (card_bytes card.entry)) }
-    ensures no_fault { OnOk result (form_fault Fixed (card_bytes card.entry) ≡ None) }
-    ensures fault { IfErr result (λ kind. form_fault Fixed (card_bytes card.entry) ≡ Some kind) }
+// The data card with these fields.
+fn card_with<'a>(f: Fields<'a>) -> DataCard<'a>
+    requires reading { IsReading (fields_shown f) }
+    requires column1 { IsColumn f.value1_column }
+    requires column2 { IsColumn f.value2_column }
+    ensures { shown result ≡ fields_shown f.entry }
 {
-    let Some(f) = fields(card) else {
-        return Err(DeckFaultKind::ExtraField);
-    };
-    Ok(DataCard {
+    DataCard {
         kind: f.kind,
         name1: name_in(f.name1),
         name2: name_in(f.name2),
         value1: f.value1,
         name3: name_in(f.name3),
         value2: f.value2,
-    })
+        value1_column: f.value1_column,
+        value2_column: f.value2_column,
+    }
+}
+
+/// Reads a data card whose fields stand at fixed columns.
+pub fn read_fixed_card<'a>(card: Card<'a>) -> Result<DataCard<'a>, DeckFaultKind>
+    ensures reading { IfOk result (λ d. shown d ≡ reading_of Fixed (card_bytes card.entry)) }
+    ensures no_fault { OnOk result (gaps_fault (card_bytes card.entry) ≡ None) }
+    ensures fault { IfErr result (λ kind. gaps_fault (card_bytes card.entry) ≡ Some kind) }
+{
+    match fields(card) {
+        Some(f) => Ok(card_with(f)),
+        None => Err(DeckFaultKind::ExtraField),
+    }
+}
+
+// Reads a data card of a free deck.
+fn read_free_card<'a>(
+    card: Card<'a>,
+    section: Section,
+    deletes: bool,
+) -> Result<DataCard<'a>, DeckFaultKind>
+    ensures reading { IfOk result (λ d. shown d ≡ reading_of
+        (form_on FreeFields section deletes (card_bytes card.entry)) (card_bytes card.entry)) }
+    ensures no_fault { OnOk result (form_fault FreeFields section deletes (card_bytes card.entry) ≡ None) }
+    ensures fault { IfErr result (λ kind. form_fault FreeFields section deletes (card_bytes card.entry) ≡ Some kind) }
+{
+    match free_fields(card, section, deletes) {
+        Ok(f) => Ok(card_with(f)),
+        Err(kind) => Err(kind),
+    }
+}
+
+/// Reads a data card of this section in a deck of this style, where it may name what is to be deleted.
+pub fn read_data_card<'a>(
+    card: Card<'a>,
+    style: Style,
+    section: Section,
+    deletes: bool,
+) -> Result<DataCard<'a>, DeckFaultKind>
+    ensures reading { IfOk result (λ d. shown d ≡ reading_of
+        (form_on style section deletes (card_bytes card.entry)) (card_bytes card.entry)) }
+    ensures no_fault { OnOk result (form_fault style section deletes (card_bytes card.entry) ≡ None) }
+    ensures fault { IfErr result (λ kind. form_fault style section deletes (card_bytes card.entry) ≡ Some kind) }
+{
+    match style {
+        Style::FixedFields => read_fixed_card(card),
+        Style::FreeFields => read_free_card(card, section, deletes),
+    }
 }
 
 // The pair in fields 3 and 4.
@@ -51,23 +102,23 @@ pub fn first_pair<'a>(card: &DataCard<'a>) -> PairText<'a>
       row = (shown card.now).name2;
       value =
           (shown card.now).value1;
-      column = 25;
+      column = (shown card.now).value1_column;
     } }
 {
     PairText {
         row: card.name2,
         value: card.value1,
-        column: 25,
+        column: card.value1_column,
     }
 }
 
 // The pair in fields 5 and 6, where one of these isn't blank.
 pub fn second_pair<'a>(card: &DataCard<'a>) -> Option<PairText<'a>>
     ensures some { IfSome result (λ second. pairs_of (shown card.now) ≡ record
-        { row = (shown card.now).name2; value = (shown card.now).value1; column = 25 } ∷ pair_shown
+        { row = (shown card.now).name2; value = (shown card.now).value1; column = (shown card.now).value1_column } ∷ pair_shown
         second ∷ []) }
     ensures none { IfNone result (pairs_of (shown card.now) ≡ record
-        { row = (shown card.now).name2; value = (shown card.now).value1; column = 25 } ∷ []) }
+        { row = (shown card.now).name2; value = (shown card.now).value1; column = (shown card.now).value1_column } ∷ []) }
 {
     if is_blank(card.name3.bytes()) && is_blank(card.value2) {
         return None;
@@ -75,6 +126,6 @@ pub fn second_pair<'a>(card: &DataCard<'a>) -> Option<PairText<'a>>
     Some(PairText {
         row: card.name3,
         value: card.value2,
-        column: 50,
+        column: card.value2_column,
     })
 }

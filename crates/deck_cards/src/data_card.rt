@@ -3,7 +3,8 @@ ghost use Rattle.std.specs.Prelude.{◌≤◌, length};
 
 use name_table::Name;
 
-/// What is read of a data card: field 1, the names in fields 2, 3 and 5, and the texts of the numbers in fields 4 and 6.
+/// What is read of a data card: field 1, the names in fields 2, 3 and 5, the texts of the numbers in fields 4 and 6, and the
+/// columns where these begin.
 #[derive(Clone, Copy)]
 pub struct DataCard<'a> {
     pub kind: &'a [u8],
@@ -12,8 +13,14 @@ pub struct DataCard<'a> {
     pub value1: &'a [u8],
     pub name3: Name,
     pub value2: &'a [u8],
+    pub value1_column: u8,
+    pub value2_column: u8,
     pub ghost short1: { length value1.now ≤ 12 },
     pub ghost short2: { length value2.now ≤ 12 },
+    pub ghost from_one1: { 1 ≤ value1_column },
+    pub ghost in_card1: { value1_column ≤ 80 },
+    pub ghost from_one2: { 1 ≤ value2_column },
+    pub ghost in_card2: { value2_column ≤ 80 },
 }
 
 /// A row's name with the text of a number, and the column where that field begins.

@@ -1,5 +1,6 @@
 // Words on cards.
-ghost use Rattle.std.specs.Prelude.{◌≡◌, ◌≤◌, length, bytes_eq};
+ghost use Rattle.std.specs.Prelude.{◌≡◌, ◌≤◌, false, length, bytes_eq, unwrap_or, option_map};
+ghost use Rattle.problem_definitions.specs.Kinds.{takes_value};
 ghost use Rattle.std.specs.List.{position_or_len};
 ghost use Rattle.card_definitions.specs.Cards.{is_blank as is_blank_byte};
 ghost use Rattle.card_definitions.specs.Words.{is_empty, named};
@@ -85,6 +86,30 @@ pub fn bound_kind(word: &[u8]) -> Option<BoundKind>
         Some(BoundKind::Pl)
     } else {
         None
+    }
+}
+
+// Whether a word names a type of bounds that takes a number.
+pub fn takes_number(word: &[u8]) -> bool
+    ensures { result ≡ unwrap_or (option_map takes_value (named bound_kinds word.now)) false }
+{
+    match bound_kind(word) {
+        Some(kind) => has_value(kind),
+        None => false,
+    }
+}
+
+/// Whether a bound of this type has a value.
+pub fn has_value(kind: BoundKind) -> bool
+    ensures { result ≡ takes_value kind }
+{
+    match kind {
+        BoundKind::Up => true,
+        BoundKind::Lo => true,
+        BoundKind::Fx => true,
+        BoundKind::Fr => false,
+        BoundKind::Mi => false,
+        BoundKind::Pl => false,
     }
 }
 

@@ -1,16 +1,23 @@
 -- What a printable card reads as: names, and fields of numbers.
-use Rattle.std.proofs.Common.{◌≡◌, ℕ, ◌+◌, ◌-◌, ◌≤◌, Bool, true, false, cond, ◌&&◌, List, [], ◌∷◌, None, length, take, drop, arith, lit≤}
-use Rattle.std.specs.List.{AllByRecursion, list_all, suffix_len}
+use Rattle.std.proofs.Common.{◌≡◌, ℕ, ◌+◌, ◌-◌, ◌≤◌, Bool, true, false, cond, ◌&&◌, ◌||◌, List, [], ◌∷◌, None, length, take, drop, arith, lit≤, unwrap_or, refl, ◌∙◌, nat_lt, ltb-false, is_none, if◌then◌else◌}
+use Rattle.std.specs.List.{AllByRecursion, list_all, list_any, suffix_len}
 use Rattle.std.proofs.lemmas.List.{length-take}
-use Rattle.card_definitions.specs.Words.{is_empty}
+use Rattle.card_definitions.specs.Words.{is_empty, ◌⟹◌}
 use Rattle.card_definitions.specs.Cards.{is_blank, is_printable}
-use Rattle.card_definitions.specs.Fields.{Form, Fixed, Reading, reading_of, columns}
+use Rattle.card_definitions.specs.Fields.{Fixed, Reading, reading_of, columns, words, word_of, fields_for, first_word}
 use Rattle.card_definitions.specs.Numbers.{number_fault, decimal_of}
 use Rattle.card_definitions.proofs.Trailing.{part_passes, trimmed_twice, length-trimmed}
+use Rattle.card_definitions.proofs.FirstFaults.{passes}
+use Rattle.card_definitions.proofs.FreeWords.{IsWordText, words-texts, field-passes, word-printable, word-trimmed}
 use Rattle.card_definitions.proofs.Trimmed.{length-field, number_of-trimmed}
 use Rattle.problem_definitions.specs.Valid.{IsName, IsDecimal}
-use Rattle.deck_definitions.specs.DataCards.{Pair, pairs_of}
-use Rattle.deck_definitions.specs.Conversion.{form_fault}
+use Rattle.deck_definitions.specs.declared.DeckFaultKind.{DeckFaultKind}
+use Rattle.deck_definitions.specs.declared.DeckFaultKind.TheVariants.{WordCount, LongName, LongNumber}
+use Rattle.deck_definitions.specs.declared.Section.{Section}
+use Rattle.deck_definitions.specs.declared.Style.{Style}
+use Rattle.deck_definitions.specs.declared.Style.TheVariants.{FixedFields, FreeFields}
+use Rattle.deck_definitions.specs.DataCards.{Pair, pairs_of, form_on, words_on}
+use Rattle.deck_definitions.specs.Conversion.{is_longer, type_fault, words_fault, form_fault}
 
 -- columns of a card are no more than so many
 short_columns : (from to n : ℕ) (card : List ℕ) → to + 1 - from ≤ n → length (columns from to card) ≤ n
@@ -33,6 +40,7 @@ columns-name from to card few printable = record {
 pub record IsReading (card : Reading) : Type 0 where
   pub name1 : IsName card.name1
   pub name2 : IsName card.name2
+  pub name3 : IsName card.name3
   pub value1 : length card.value1 ≤ 12
   pub value2 : length card.value2 ≤ 12
 
@@ -42,13 +50,83 @@ unfolding reading_of
 fixed-lawful card printable = record {
   name1 = columns-name 5 12 card (lit≤ tt) printable;
   name2 = columns-name 15 22 card (lit≤ tt) printable;
+  name3 = columns-name 40 47 card (lit≤ tt) printable;
   value1 = short_columns 25 36 12 card (lit≤ tt);
   value2 = short_columns 50 61 12 card (lit≤ tt);
 }
 
--- a printable card that has its form reads as names and fields of numbers
-pub reading-lawful : (form : Form) (card : List ℕ) → list_all is_printable card ≡ true → form_fault form card ≡ None → IsReading (reading_of form card)
-reading-lawful Fixed card printable formed = fixed-lawful card printable
+-- a word of a printable card is a name, if it isn't longer than names are
+word-name : (text : List ℕ) → length text ≤ 8 → IsWordText text → IsName text
+word-name text short is = record { short = short; printable = word-printable text is; trimmed = word-trimmed text is }
+
+-- no text of a list is longer
+short-each : (most : ℕ) (texts : List (List ℕ)) → list_any (is_longer most) texts ≡ false → AllByRecursion (λ text. length text ≤ most) texts
+short-each most [] none = tt
+short-each most (text ∷ texts) none = (short (is_longer most text) refl (first (is_longer most text) (list_any (is_longer most) texts) none), short-each most texts (second (is_longer most text) (list_any (is_longer most) texts) none))
+  where
+    first : (a b : Bool) → (a || b) ≡ false → a ≡ false
+    first true b none = none
+    first false b none = refl
+
+    second : (a b : Bool) → (a || b) ≡ false → b ≡ false
+    second true true none = none
+    second true false none = refl
+    second false b none = none
+
+    short : (b : Bool) → nat_lt most (length text) ≡ b → b ≡ false → length text ≤ most
+    short b is none = ltb-false most (length text) (is ∙ none)
+
+-- words in which no fault of form was found aren't too long
+record AreShort (read : Reading) : Type 0 where
+  names : list_any (is_longer 8) (read.name1 ∷ read.name2 ∷ read.name3 ∷ []) ≡ false
+  numbers : list_any (is_longer 12) (read.value1 ∷ read.value2 ∷ []) ≡ false
+
+untold : (b : Bool) (kind : DeckFaultKind) → (b ⟹ kind) ≡ None → b ≡ false
+untold true kind none = absurd (cc none)
+untold false kind none = refl
+
+words-short : (lists : List (List ℕ)) (card : List ℕ) (read : Reading) → words_fault lists card read ≡ None → AreShort read
+words-short lists card read formed =
+    let told = passes (
+    (is_none (fields_for lists (length (words card))) ⟹ WordCount) ∷
+    (list_any (is_longer 8) (read.name1 ∷ read.name2 ∷ read.name3 ∷ []) ⟹ LongName) ∷
+    (list_any (is_longer 12) (read.value1 ∷ read.value2 ∷ []) ⟹ LongNumber) ∷ []) formed in
+    record { names = untold _ LongName told.1.0; numbers = untold _ LongNumber told.1.1.0 }
+
+module _ (section : Section) (deletes : Bool) (card : List ℕ) where
+  free-lawful : list_all is_printable card ≡ true → form_fault FreeFields section deletes card ≡ None → IsReading (reading_of (form_on FreeFields section deletes card) card)
+  unfolding reading_of
+  free-lawful printable formed = record {
+    name1 = word-name (text 2) names.0 (is 2);
+    name2 = word-name (text 3) names.1.0 (is 3);
+    name3 = word-name (text 5) names.1.1.0 (is 5);
+    value1 = numbers.0;
+    value2 = numbers.1.0;
+  }
+    where
+      fields : List ℕ
+      fields = unwrap_or (fields_for (words_on section deletes (first_word card)) (length (words card))) []
+
+      text : ℕ → List ℕ
+      text k = (word_of fields (words card) k).text
+
+      is : (k : ℕ) → IsWordText (text k)
+      is k = field-passes IsWordText fields (words card) k refl (words-texts card printable)
+
+      short : AreShort (reading_of (form_on FreeFields section deletes card) card)
+      short = words-short (words_on section deletes (first_word card)) card (reading_of (form_on FreeFields section deletes card) card)
+          (passes ((if deletes then None else type_fault section (first_word card)) ∷ words_fault (words_on section deletes (first_word card)) card (reading_of (form_on FreeFields section deletes card) card) ∷ []) formed).1.0
+
+      names : AllByRecursion (λ text. length text ≤ 8) (text 2 ∷ text 3 ∷ text 5 ∷ [])
+      names = short-each 8 (text 2 ∷ text 3 ∷ text 5 ∷ []) short.names
+
+      numbers : AllByRecursion (λ text. length text ≤ 12) (text 4 ∷ text 6 ∷ [])
+      numbers = short-each 12 (text 4 ∷ text 6 ∷ []) short.numbers
+
+  -- a printable card that has its form reads as names and fields of numbers
+  pub reading-lawful : (style : Style) → list_all is_printable card ≡ true → form_fault style section deletes card ≡ None → IsReading (reading_of (form_on style section deletes card) card)
+  reading-lawful FixedFields printable formed = fixed-lawful card printable
+  reading-lawful FreeFields printable formed = free-lawful printable formed
 
 -- a field of a number in which no fault was found
 pub text_is_decimal : (field : List ℕ) → length field ≤ 12 → number_fault field ≡ None → IsDecimal (decimal_of field)

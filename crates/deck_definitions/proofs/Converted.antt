@@ -17,7 +17,8 @@ use Rattle.deck_definitions.specs.declared.DeckFaultKind.TheVariants.{NoEndata}
 use Rattle.deck_definitions.specs.declared.Section.{Section}
 use Rattle.deck_definitions.specs.declared.Section.TheVariants.{Header, Rows, Columns, Rhs, Ranges, Bounds, Endata}
 use Rattle.deck_definitions.specs.Sections.{is_section_card, section_after, is_section_after}
-use Rattle.deck_definitions.specs.DataCards.{Style, style_of, form_on, read_after}
+use Rattle.deck_definitions.specs.declared.Style.{Style}
+use Rattle.deck_definitions.specs.DataCards.{style_of, form_on, read_after}
 use Rattle.deck_definitions.specs.Described.{described}
 use Rattle.deck_definitions.specs.Conversion.{section_card_fault, form_fault, section_fault, data_card_fault, card_fault, first_faulty, deck_fault, deck_name, conversion}
 use Rattle.deck_definitions.specs.Sections.{may_follow}
@@ -33,16 +34,16 @@ ArePrintable cards = AllByRecursion (λ (card : Card). list_all is_printable car
 record DataPasses (seen : Problem Name) (style : Style) (section : Option Section) (card : List ℕ) : Type 0 where
   place : Section
   stands : section ≡ Some place
-  formed : form_fault (form_on style place false card) card ≡ None
+  formed : form_fault style place false card ≡ None
   fine : section_fault seen place (reading_of (form_on style place false card) card) ≡ None
 
 data-passes : (seen : Problem Name) (style : Style) (section : Option Section) (card : List ℕ) → data_card_fault seen style section card ≡ None → DataPasses seen style section card
 data-passes seen style section card = by section
   where
-    in_place : (place : Section) → first_fault (form_fault (form_on style place false card) card ∷ section_fault seen place (reading_of (form_on style place false card) card) ∷ []) ≡ None
+    in_place : (place : Section) → first_fault (form_fault style place false card ∷ section_fault seen place (reading_of (form_on style place false card) card) ∷ []) ≡ None
         → DataPasses seen style (Some place) card
     in_place place h =
-        let both = passes (form_fault (form_on style place false card) card ∷ section_fault seen place (reading_of (form_on style place false card) card) ∷ []) h in
+        let both = passes (form_fault style place false card ∷ section_fault seen place (reading_of (form_on style place false card) card) ∷ []) h in
         record { place = place; stands = refl; formed = both.0; fine = both.1.0 }
 
     by : (section : Option Section) → data_card_fault seen style section card ≡ None → DataPasses seen style section card
@@ -65,11 +66,10 @@ accepted-card before card printable lawful fine = by (is_section_card card.bytes
     by true e h = subst IsLawful (sym (described-section [] before card e)) lawful
     by false e h =
         let pass = data-passes (described [] before) (style_of before) (section_after before) card.bytes h in
-        let form = form_on (style_of before) pass.place false card.bytes in
-        let read = reading_of form card.bytes in
+        let read = reading_of (form_on (style_of before) pass.place false card.bytes) card.bytes in
         let read_so : read_after before card ≡ read = ap (λ section. reading_of (form_on (style_of before) (unwrap_or section Header) false card.bytes) card.bytes) pass.stands in
         subst IsLawful (sym (described-data [] before card pass.place e pass.stands ∙ ap (λ reading. with_card pass.place reading (described [] before)) read_so))
-        (card-step (described [] before) lawful read (reading-lawful form card.bytes printable pass.formed) pass.place pass.fine)
+        (card-step (described [] before) lawful read (reading-lawful pass.place false card.bytes (style_of before) printable pass.formed) pass.place pass.fine)
 
 no_kind : {A B : Type 0} (f : A → B) (o : Option A) → option_map f o ≡ None → o ≡ None
 no_kind f None h = refl

@@ -1,5 +1,6 @@
 pub mod Examples
 mod Faults
+mod FreeDecks
 pub mod Steps
 pub mod Pairs
 pub mod WrittenCards

@@ -1,6 +1,6 @@
 -- What one more card does to the section, to the problem described and to the faults of the cards before it: the steps
 -- of a reader that goes card by card.
-use Rattle.std.proofs.Common.{◌≡◌, ℕ, true, false, cond, List, [], ◌∷◌, ◌++◌, Option, Some, None, refl, ap, ◌∙◌}
+use Rattle.std.proofs.Common.{◌≡◌, ℕ, true, false, cond, List, [], ◌∷◌, ◌++◌, Option, Some, None, unwrap_or, refl, ap, ◌∙◌}
 use Rattle.std.specs.List.{filter_map, last_or}
 use Rattle.std.specs.Option.{option_or, option_map, option_to_list}
 use Rattle.std.proofs.lemmas.List.Elements.{filter_map-append}
@@ -16,7 +16,9 @@ use Rattle.deck_definitions.specs.declared.DeckFaultKind.{DeckFaultKind}
 use Rattle.deck_definitions.specs.declared.Section.{Section}
 use Rattle.deck_definitions.specs.declared.Section.TheVariants.{Header, Rows, Columns, Rhs, Ranges, Bounds, Endata}
 use Rattle.deck_definitions.specs.Sections.{is_section, section_begun, is_section_card, section_after}
-use Rattle.deck_definitions.specs.DataCards.{read_after, given_by, given, row_of, entry_group, entries_of, bound_group}
+use Rattle.deck_definitions.specs.declared.Style.{Style}
+use Rattle.deck_definitions.specs.declared.Style.TheVariants.{FixedFields}
+use Rattle.deck_definitions.specs.DataCards.{style_begun, style_of, read_after, given_by, given, row_of, entry_group, entries_of, bound_group}
 use Rattle.deck_definitions.specs.Described.{described}
 use Rattle.deck_definitions.specs.Conversion.{first_faulty}
 
@@ -30,6 +32,24 @@ pub section_after-push : (cards : List Card) (card : Card) → section_after (ca
 section_after-push cards card =
     ap (last_or None) (filter_map-append (λ c. section_begun c.bytes) cards (card ∷ []) ∙ ap (λ list. filter_map (λ c. section_begun c.bytes) cards ++ list) (cons_option-nil (section_begun card.bytes)))
     ∙ last_or-push None (filter_map (λ c. section_begun c.bytes) cards) (section_begun card.bytes)
+
+-- the style that holds after one more card is the one that it gives, or else the one before
+pub style_of-push : (cards : List Card) (card : Card) → style_of (cards ++ card ∷ []) ≡ unwrap_or (style_begun card.bytes) (style_of cards)
+style_of-push cards card =
+    ap (λ list. unwrap_or (last_or None list) FixedFields) (filter_map-append (λ c. style_begun c.bytes) cards (card ∷ []) ∙ ap (λ list. filter_map (λ c. style_begun c.bytes) cards ++ list) (cons_option-nil (style_begun card.bytes)))
+    ∙ ap (λ o. unwrap_or o FixedFields) (last_or-push None (filter_map (λ c. style_begun c.bytes) cards) (style_begun card.bytes))
+    ∙ by (style_begun card.bytes)
+  where
+    by : (o : Option Style) → unwrap_or (option_or o (last_or None (filter_map (λ c. style_begun c.bytes) cards))) FixedFields ≡ unwrap_or o (style_of cards)
+    by None = refl
+    by (Some style) = refl
+
+-- a card of another section than NAME leaves it, and so does a data card
+pub style_of-section : (cards : List Card) (card : Card) (section : Section) → section_begun card.bytes ≡ Some section → is_section Header section ≡ false → style_of (cards ++ card ∷ []) ≡ style_of cards
+style_of-section cards card section begun other = style_of-push cards card ∙ rw (begun, other) refl
+
+pub style_of-data : (cards : List Card) (card : Card) → is_section_card card.bytes ≡ false → style_of (cards ++ card ∷ []) ≡ style_of cards
+style_of-data cards card plain = style_of-push cards card ∙ rw plain refl
 
 -- what a section gives with one more card
 pub given-push : {X : Type 0} (section : Section) (give : Reading → Option X) (cards : List Card) (card : Card)

@@ -1,20 +1,23 @@
 -- The first fault of a data deck, and the problem of a deck without one.
-use Rattle.std.specs.Prelude.{ℕ, Bool, false, not, List, [], ◌∷◌, Option, Some, None, Result, if◌then◌else◌, unwrap_or, option_map}
+use Rattle.std.specs.Prelude.{ℕ, Bool, false, not, List, [], ◌∷◌, nat_lt, length, is_none, Option, Some, None, Result, if◌then◌else◌, unwrap_or, option_map}
+use Rattle.std.specs.List.{list_any}
 use Rattle.card_definitions.specs.Words.{named, each_after, ◌⟹◌, first_fault, unless}
 use Rattle.card_definitions.specs.Cards.{Card, live, last_number}
-use Rattle.card_definitions.specs.Fields.{Form, Fixed, Reading, reading_of, gaps_are_blank}
-use Rattle.problem_definitions.specs.Names.{Name}
+use Rattle.card_definitions.specs.Fields.{Reading, reading_of, gaps_are_blank, words, first_word, fields_for}
+use Rattle.problem_definitions.specs.Names.{Name, has_name}
 use Rattle.problem_definitions.specs.Problem.{Problem}
 use Rattle.problem_definitions.specs.Numbering.{numbered}
 use Rattle.deck_definitions.specs.declared.DeckFault.{DeckFault}
 use Rattle.deck_definitions.specs.declared.DeckFaultKind.{DeckFaultKind}
-use Rattle.deck_definitions.specs.declared.DeckFaultKind.TheVariants.{SectionOrder, UnknownSection, NoEndata, ExtraField}
+use Rattle.deck_definitions.specs.declared.DeckFaultKind.TheVariants.{SectionOrder, UnknownSection, BadBoundType, NoEndata, CombinationRow, ExtraField, WordCount, LongName, LongNumber}
 use Rattle.deck_definitions.specs.declared.Section.{Section}
 use Rattle.deck_definitions.specs.declared.Section.TheVariants.{Header, Rows, Columns, Rhs, Ranges, Bounds, Endata}
+use Rattle.deck_definitions.specs.declared.Style.{Style}
+use Rattle.deck_definitions.specs.declared.Style.TheVariants.{FixedFields, FreeFields}
 use Rattle.deck_definitions.specs.Sections.{may_follow, section_words, section_word, is_section_card, section_after, is_section_after, header_name}
-use Rattle.deck_definitions.specs.DataCards.{Style, style_of, form_on}
+use Rattle.deck_definitions.specs.DataCards.{style_of, form_on, words_on, bound_kinds}
 use Rattle.deck_definitions.specs.Described.{described}
-use Rattle.deck_definitions.specs.Tests.{rows_fault, columns_fault, set_fault, bounds_fault}
+use Rattle.deck_definitions.specs.Tests.{combination_kinds, rows_fault, columns_fault, set_fault, bounds_fault}
 
 -- The tests of a section card, by a rule that says what may follow: the first card of a deck is a NAME card, and every
 -- other begins a known section that may follow the one before.
@@ -27,9 +30,34 @@ section_card_fault follows before card = by before (named section_words (section
     by (Some before) None = Some UnknownSection
     by (Some before) (Some section) = not (follows before section) ⟹ SectionOrder
 
--- whether the card has its form: at fixed columns, the gaps between the fields are blank
-abbrev pub form_fault : Form → List ℕ → Option DeckFaultKind
-form_fault Fixed card = not (gaps_are_blank card) ⟹ ExtraField
+-- the test of a card whose fields stand at fixed columns: the gaps between them are blank
+abbrev pub gaps_fault : List ℕ → Option DeckFaultKind
+gaps_fault card = not (gaps_are_blank card) ⟹ ExtraField
+
+-- the test of a free card's first word, where it tells a type
+abbrev pub type_fault : Section → List ℕ → Option DeckFaultKind
+type_fault Rows word = has_name combination_kinds word ⟹ CombinationRow
+type_fault Bounds word = is_none (named bound_kinds word) ⟹ BadBoundType
+type_fault _ word = None
+
+-- whether a text has more bytes than so many
+abbrev pub is_longer : ℕ → List ℕ → Bool
+is_longer most text = nat_lt most (length text)
+
+-- the tests of the words of a free card, where its section takes these lists of fields
+abbrev pub words_fault : List (List ℕ) → List ℕ → Reading → Option DeckFaultKind
+words_fault lists card read = first_fault (
+    (is_none (fields_for lists (length (words card))) ⟹ WordCount) ∷
+    (list_any (is_longer 8) (read.name1 ∷ read.name2 ∷ read.name3 ∷ []) ⟹ LongName) ∷
+    (list_any (is_longer 12) (read.value1 ∷ read.value2 ∷ []) ⟹ LongNumber) ∷ [])
+
+-- Whether a data card has its form: at fixed columns the gaps are blank; by words their type, their number and their lengths
+-- are lawful, tested in this order. A card that names what is to be deleted has no type.
+abbrev pub form_fault : Style → Section → Bool → List ℕ → Option DeckFaultKind
+form_fault FixedFields section deletes card = gaps_fault card
+form_fault FreeFields section deletes card = first_fault (
+    (if deletes then None else type_fault section (first_word card)) ∷
+    words_fault (words_on section deletes (first_word card)) card (reading_of (form_on FreeFields section deletes card) card) ∷ [])
 
 -- the tests of a data card in its section
 abbrev pub section_fault : Problem Name → Section → Reading → Option DeckFaultKind
@@ -46,10 +74,9 @@ abbrev pub data_card_fault : Problem Name → Style → Option Section → List 
 data_card_fault seen style None card = Some SectionOrder
 data_card_fault seen style (Some Header) card = Some SectionOrder
 data_card_fault seen style (Some section) card =
-    let form = form_on style section false card in
     first_fault (
-    form_fault form card ∷
-    section_fault seen section (reading_of form card) ∷ [])
+    form_fault style section false card ∷
+    section_fault seen section (reading_of (form_on style section false card) card) ∷ [])
 
 -- The fault of a card, as a condition on it and on the cards before it in the deck.
 unfoldable pub card_fault : List Card → List ℕ → Option DeckFaultKind

@@ -19,6 +19,15 @@ pub enum Section {
     Endata,
 }
 
+/// How a deck tells which fields of its data cards are which.
+#[derive(Clone, Copy, Debug, PartialEq, Eq)]
+pub enum Style {
+    /// By their columns.
+    FixedFields,
+    /// By their order: each word is a field.
+    FreeFields,
+}
+
 /// Why a card of a deck is refused.
 #[derive(Clone, Copy, Debug, PartialEq, Eq, Error)]
 pub enum DeckFaultKind {

@@ -36,7 +36,7 @@ fn has_blank_gaps(card: &[u8]) -> bool
         && has_blank(card, 49)
 }
 
-/// The six fields of a data card, or none where a column between them isn't blank. Nothing is copied.
+/// The six fields at the fixed columns of a data card, or none where a column between them isn't blank. Nothing is copied.
 #[tactic(auto, unfolding(card_definitions::specs::Fields::reading_of))]
 pub fn fields(card: Card<'_>) -> Option<Fields<'_>>
     ensures some { IfSome result (λ f. IsTrue (gaps_are_blank (card_bytes card.entry)) × ShowsFields
@@ -51,6 +51,8 @@ pub fn fields(card: Card<'_>) -> Option<Fields<'_>>
             value1: card.field(25, 36),
             name3: card.field(40, 47),
             value2: card.field(50, 61),
+            value1_column: 25,
+            value2_column: 50,
         })
     } else {
         None

@@ -16,7 +16,7 @@ use crate::bounds::{Bounds, NamedBound};
 use crate::fault_after::fault_after;
 use crate::groups::Groups;
 use crate::pairs::number_in;
-use deck_cards::{CardStop, DataCard, bound_kind, is_blank};
+use deck_cards::{CardStop, DataCard, bound_kind, has_value, is_blank};
 use deck_definitions::DeckFaultKind;
 use deck_fields::Decimal;
 use indexmap::IndexMap;
@@ -25,20 +25,6 @@ use problem_definitions::{BoundKind, MAX_COLUMNS};
 use problem_file::{BoundSet, NoMemory};
 use std::alloc::Global;
 use std::marker::Model;
-
-// Whether a bound of this type has a value.
-fn has_value(kind: BoundKind) -> bool
-    ensures { result ≡ takes_value kind }
-{
-    match kind {
-        BoundKind::Up => true,
-        BoundKind::Lo => true,
-        BoundKind::Fx => true,
-        BoundKind::Fr => false,
-        BoundKind::Mi => false,
-        BoundKind::Pl => false,
-    }
-}
 
 // The value on a card of BOUNDS, where its type takes one, or the fault of its value or of what stands after it.
 pub fn bound_value(kind: BoundKind, card: &DataCard<'_>) -> Result<Option<Decimal>, DeckFaultKind>
@@ -64,7 +50,7 @@ fn value_taken(kind: BoundKind, card: &DataCard<'_>) -> Result<Option<Decimal>, 
     if !has_value(kind) {
         return Ok(None);
     }
-    let value = number_in(25, card.value1)?;
+    let value = number_in(card.value1_column, card.value1)?;
     Ok(Some(value))
 }
 

@@ -140,6 +140,51 @@ fn faults_of_entries(rt: HostRuntime) -> Result<(), Fail> {
 }
 
 #[test]
+fn faults_of_free_decks(rt: HostRuntime) -> Result<(), Fail> {
+    let decks: [(&[u8], u32, DeckFaultKind); 7] = [
+        (
+            b"NAME          ONE       FREE\nROWS\n N COST\n G LOW\nCOLUMNS\n X COST\n",
+            6,
+            DeckFaultKind::WordCount,
+        ),
+        (
+            b"NAME          ONE       FREE\nROWS\n N COST\n G LOW\nCOLUMNS\n LONGNAME9 COST 1\n",
+            6,
+            DeckFaultKind::LongName,
+        ),
+        (
+            b"NAME          ONE       FREE\nROWS\n N COST\n G LOW\nCOLUMNS\n X COST 1234567890123\n",
+            6,
+            DeckFaultKind::LongNumber,
+        ),
+        (
+            b"NAME          ONE       FREE\nROWS\n N COST\n G LOW\nCOLUMNS\n X COST 1 LOW 1.2.3\n",
+            6,
+            DeckFaultKind::Number(NumberFault::BadCharacter(4), 18),
+        ),
+        (
+            b"NAME          ONE       FREE\nROWS\n N COST\n G LOW\nCOLUMNS\n X COST 1\nBOUNDS\n UP X\n",
+            8,
+            DeckFaultKind::WordCount,
+        ),
+        (
+            b"NAME          ONE       FREE\nROWS\n DN\n",
+            3,
+            DeckFaultKind::CombinationRow,
+        ),
+        (
+            b"NAME          ONE      FREE\nROWS\n N COST\n",
+            3,
+            DeckFaultKind::ExtraField,
+        ),
+    ];
+    for (deck, card, kind) in decks {
+        assert_eq!(rt; fault_of(rt.alloc(), deck)?, Some((card, kind)));
+    }
+    Ok(())
+}
+
+#[test]
 fn the_first_pair_of_a_card_is_there(rt: HostRuntime) -> Result<(), Fail> {
     let deck =
         b"NAME          T\nROWS\n N  COST\nCOLUMNS\n    X                                  COST      1\nENDATA\n";

@@ -25,3 +25,5 @@ mod problems;
 mod programs;
 #[cfg(test)]
 mod set_faults;
+#[cfg(test)]
+mod words_of_cards;

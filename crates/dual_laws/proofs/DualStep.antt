@@ -36,7 +36,7 @@ for_min_less : (s : Sense) (a c b : ℚ) → for_min s (a -ℚ c *ℚ b) ≡ for
 for_min_less Min a c b = refl
 for_min_less Max a c b = by_ring3 a c b (λ a c b. opposite (a ⊖ c ⊗ b) ≐ opposite a ⊖ c ⊗ opposite b) refl
 
-for_min_times : (s : Sense) (c b : ℚ) → for_min s (c *ℚ b) ≡ c *ℚ for_min s b
+pub for_min_times : (s : Sense) (c b : ℚ) → for_min s (c *ℚ b) ≡ c *ℚ for_min s b
 for_min_times Min c b = refl
 for_min_times Max c b = by_ring2 c b (λ c b. opposite (c ⊗ b) ≐ c ⊗ opposite b) refl
 
@@ -173,7 +173,7 @@ module _ (p : LinearProgram) (no_change : p.change ≡ None) (s : List Status) (
   pub pivot : t.rate r q ≢ zero_ℚ
   pivot zero = mover.rate_apart (ap (signed (not below)) zero ∙ signed_zero (not below))
 
-  rate_of : (rate : ℕ → ℕ → ℚ) (k : ℕ) → objective_rate p rate k ≡ rate p.objective k
+  pub rate_of : (rate : ℕ → ℕ → ℚ) (k : ℕ) → objective_rate p rate k ≡ rate p.objective k
   rate_of rate k = ap (λ c. with_change_row c (λ i. rate i k) (rate p.objective k)) no_change
 
   right_at : (k : ℕ) → IsVariable p.matrix k →
@@ -185,10 +185,10 @@ module _ (p : LinearProgram) (no_change : p.change ≡ None) (s : List Status) (
       ap (λ y. ratio p s t r k *ℚ y) (magnitude-signed (not below) (t.rate r k)) ∙ ratio_times (t.rate p.objective k) (t.rate r k) apart
       ∙ sym (magnitude-for_min p.sense (t.rate p.objective k))
 
-  some : zero_ℚ ≤ℚ ratio p s t r q
+  pub some : zero_ℚ ≤ℚ ratio p s t r q
   some = magnitude_least (t.rate p.objective q /ℚ t.rate r q)
 
-  own : ratio p s t r q *ℚ signed (not below) (t.rate r q) ≡ neg_ℚ (for_min p.sense (t.rate p.objective q))
+  pub own : ratio p s t r q *ℚ signed (not below) (t.rate r q) ≡ neg_ℚ (for_min p.sense (t.rate p.objective q))
   own =
       own_ratio (for_min p.sense (t.rate p.objective q)) (signed (not below) (t.rate r q)) (ratio p s t r q) (may_rise p s q) (may_fall p s q) (whole q pivot) (right_at q q_is) brings
 
@@ -199,7 +199,7 @@ module _ (p : LinearProgram) (no_change : p.change ≡ None) (s : List Status) (
       apart true e = cc
       apart false e = cc
 
-  same_basics : basics_of next ≡ exchanged (basics_of s) r q
+  pub same_basics : basics_of next ≡ exchanged (basics_of s) r q
   same_basics = basics_of-replaced s r q (if below then Ll else Ul) to_apart
 
   pub rates_after : AreRates p.matrix (basics_of next) (exchanged_rate t.rate r q)

@@ -54,12 +54,12 @@ module _ (p : LinearProgram) (s : List Status) (t u : Tableau) (lawful : IsLinea
 -- ---- what a turn tells
 
 -- the move of a turn brings r back, for the cheapest q
-record IsReturn (p : LinearProgram) (s : List Status) (t : Tableau) (m : Move) : Type 0 where
-  r : ℕ
-  q : ℕ
-  phase : IsFirstPhase p s t r
-  is_cheapest_of : cheapest p s t r (is_below p t.point r) ≡ Some q
-  gives : m ≡ record { enters = q; leaves = r; to = if is_below p t.point r then Ll else Ul }
+pub record IsReturn (p : LinearProgram) (s : List Status) (t : Tableau) (m : Move) : Type 0 where
+  pub r : ℕ
+  pub q : ℕ
+  pub phase : IsFirstPhase p s t r
+  pub is_cheapest_of : cheapest p s t r (is_below p t.point r) ≡ Some q
+  pub gives : m ≡ record { enters = q; leaves = r; to = if is_below p t.point r then Ll else Ul }
 
 module _ (p : LinearProgram) (s : List Status) (t : Tableau) where
   returned : (r : ℕ) → IsFirstPhase p s t r → (o : Option ℕ) → cheapest p s t r (is_below p t.point r) ≡ o → (m : Move) → bring_back p s t r o ≡ Moves m → IsReturn p s t m
@@ -71,7 +71,7 @@ module _ (p : LinearProgram) (s : List Status) (t : Tableau) where
   return_for None (Some r) found broken m e = returned r (record { uncrossed = found; broken = broken }) (cheapest p s t r (is_below p t.point r)) refl m e
   return_for None None found broken m e = cc
 
-  return_of : (m : Move) → dual_turn p s t ≡ Moves m → IsReturn p s t m
+  pub return_of : (m : Move) → dual_turn p s t ≡ Moves m → IsReturn p s t m
   unfolding dual_turn
   return_of m e = return_for (crossed p s t) (outside p s t) refl refl m e
 
@@ -95,10 +95,10 @@ dual_end p s ending lawful at right ends =
     record { tableau = ends.tableau; is_tableau = ends.is_tableau; turns = end_for p s ends.tableau here (crossed p s ends.tableau) (outside p s ends.tableau) ending ends.turns }
 
 module _ (p : LinearProgram) (s : List Status) (at : IsNonsingularBasis p s) (t : Tableau) (tab : IsTableau p s t) (m : Move) (h : IsReturn p s t m) where
-  cheapest_passes : IsVariable p.matrix h.q × ((brings_back p s t h.r (is_below p t.point h.r) h.q && is_cheapest p s t h.r (is_below p t.point h.r) h.q) ≡ true)
+  pub cheapest_passes : IsVariable p.matrix h.q × ((brings_back p s t h.r (is_below p t.point h.r) h.q && is_cheapest p s t h.r (is_below p t.point h.r) h.q) ≡ true)
   cheapest_passes = found_passes p (λ q. brings_back p s t h.r (is_below p t.point h.r) q && is_cheapest p s t h.r (is_below p t.point h.r) q) h.q h.is_cheapest_of
 
-  brings : brings_back p s t h.r (is_below p t.point h.r) h.q ≡ true
+  pub brings : brings_back p s t h.r (is_below p t.point h.r) h.q ≡ true
   brings = (and_parts (brings_back p s t h.r (is_below p t.point h.r) h.q) (is_cheapest p s t h.r (is_below p t.point h.r) h.q) cheapest_passes.1).0
 
   return_leads : LeadsTo p (after s m)
@@ -118,13 +118,13 @@ module _ (p : LinearProgram) (no_change : p.change ≡ None) (s : List Status) (
   abbrev below : Bool
   below = is_below p t.point h.r
 
-  least_ratio : (j : ℕ) → IsVariable p.matrix j → brings_back p s t h.r below j ≡ true → ratio p s t h.r h.q ≤ℚ ratio p s t h.r j
+  pub least_ratio : (j : ℕ) → IsVariable p.matrix j → brings_back p s t h.r below j ≡ true → ratio p s t h.r h.q ≤ℚ ratio p s t h.r j
   least_ratio j is brings_j =
       let parts = and_parts (brings_back p s t h.r below h.q) (is_cheapest p s t h.r below h.q) (cheapest_passes p s at t tab m h).1 in
       let no_cheaper = list_all_true (λ j. not (brings_back p s t h.r below j) || le_ℚ (ratio p s t h.r h.q) (ratio p s t h.r j)) (size p.matrix) 1 parts.1 j is.0 (omega (arith, is.1)) in
       le_from_test (ratio p s t h.r h.q) (ratio p s t h.r j) (not_or (brings_back p s t h.r below j) (le_ℚ (ratio p s t h.r h.q) (ratio p s t h.r j)) no_cheaper brings_j)
 
-  right_at : (k : ℕ) → IsVariable p.matrix k → lowers p s (worth_rate p s t) k ≡ false
+  pub right_at : (k : ℕ) → IsVariable p.matrix k → lowers p s (worth_rate p s t) k ≡ false
   right_at = none_passes p (lowers p s (worth_rate p s t)) right
 
   abbrev reached_basis : List Status

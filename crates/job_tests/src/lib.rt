@@ -8,6 +8,8 @@ mod devices;
 #[cfg(test)]
 mod engines;
 #[cfg(test)]
+mod free_decks;
+#[cfg(test)]
 mod jobs;
 #[cfg(test)]
 mod no_memory;

@@ -10,12 +10,18 @@ pub struct Row {
 }
 
 /// Plans that are solved, and programs that come to their end.
-pub const PLANS: [Row; 16] = [
+pub const PLANS: [Row; 17] = [
     Row {
         name: "testprob primal",
         job: b"         PROGRAM\n         CONVERT\n         SETUP('BOUND','BND1')\n         PRIMAL\n         SOLUTION\n         EXIT\n         PEND\nNAME          TESTPROB\nROWS\n N  COST\n L  LIM1\n G  LIM2\n E  MYEQN\nCOLUMNS\n    XONE      COST      1              LIM1      1\n    XONE      LIM2      1\n    YTWO      COST      4              LIM1      1\n    YTWO      MYEQN     -1\n    ZTHREE    COST      9              LIM2      1\n    ZTHREE    MYEQN     1\nRHS\n    RHS       LIM1      5              LIM2      10\n    RHS       MYEQN     7\nBOUNDS\n UP BND1      XONE      4\n LO BND1      YTWO      -1\n UP BND1      YTWO      1\nENDATA\n",
         status: 0,
         listing: b"CONVERT TESTPROB ROWS 4 COLUMNS 3 ENTRIES 9\nSETUP   TESTPROB MIN\nPRIMAL OPTIMAL STEPS 3 OBJECTIVE 54 CHECKED\nSOLUTION OPTIMAL\nSECTION 1 - ROWS\nNUMBER ROW AT ACTIVITY SLACK LOWER UPPER DUAL\n    1 COST     BS 54 -54 NONE NONE 0\n    2 LIM1     BS 3 2 NONE 5 0\n    3 LIM2     LL 10 0 10 NONE 1\n    4 MYEQN    EQ 7 0 7 7 8\nSECTION 2 - COLUMNS\nNUMBER COLUMN AT ACTIVITY COST LOWER UPPER REDUCED\n    5 XONE     BS 4 1 0 4 0\n    6 YTWO     LL -1 4 -1 1 12\n    7 ZTHREE   BS 6 9 0 NONE 0\nEND 0\n",
+    },
+    Row {
+        name: "free deck",
+        job: b"         PROGRAM\n         CONVERT\n         SETUP\n         PRIMAL\n         SOLUTION\n         EXIT\n         PEND\nNAME          ONE       FREE\nROWS\n N COST\n G LOW\nCOLUMNS\n X COST 1 LOW 1\nRHS\n LOW 1\nENDATA\n",
+        status: 0,
+        listing: b"CONVERT ONE      ROWS 2 COLUMNS 1 ENTRIES 2\nSETUP   ONE      MIN\nPRIMAL OPTIMAL STEPS 1 OBJECTIVE 1 CHECKED\nSOLUTION OPTIMAL\nSECTION 1 - ROWS\nNUMBER ROW AT ACTIVITY SLACK LOWER UPPER DUAL\n    1 COST     BS 1 -1 NONE NONE 0\n    2 LOW      LL 1 0 1 NONE 1\nSECTION 2 - COLUMNS\nNUMBER COLUMN AT ACTIVITY COST LOWER UPPER REDUCED\n    3 X        BS 1 1 0 NONE 0\nEND 0\n",
     },
     Row {
         name: "beale cycling",
@@ -490,10 +496,19 @@ pub struct DeckRow {
 }
 
 /// Programs that punch decks.
-pub const DECKS: [DeckRow; 1] = [DeckRow {
-    name: "bcdout one",
-    job: b"         PROGRAM\n         CONVERT\n         BCDOUT\n         EXIT\n         PEND\nNAME          ONE\nROWS\n N  COST\n G  LOW\nCOLUMNS\n    X         COST      1\n    X         LOW       1\nRHS\n    B         LOW       1\nENDATA\n",
-    status: 0,
-    listing: b"CONVERT ONE      ROWS 2 COLUMNS 1 ENTRIES 2\nBCDOUT  ONE      CARDS 10\nEND 0\n",
-    cards: b"NAME          ONE\nROWS\n N  COST\n G  LOW\nCOLUMNS\n    X         COST      1\n    X         LOW       1\nRHS\n    B         LOW       1\nENDATA\n",
-}];
+pub const DECKS: [DeckRow; 2] = [
+    DeckRow {
+        name: "bcdout one",
+        job: b"         PROGRAM\n         CONVERT\n         BCDOUT\n         EXIT\n         PEND\nNAME          ONE\nROWS\n N  COST\n G  LOW\nCOLUMNS\n    X         COST      1\n    X         LOW       1\nRHS\n    B         LOW       1\nENDATA\n",
+        status: 0,
+        listing: b"CONVERT ONE      ROWS 2 COLUMNS 1 ENTRIES 2\nBCDOUT  ONE      CARDS 10\nEND 0\n",
+        cards: b"NAME          ONE\nROWS\n N  COST\n G  LOW\nCOLUMNS\n    X         COST      1\n    X         LOW       1\nRHS\n    B         LOW       1\nENDATA\n",
+    },
+    DeckRow {
+        name: "free revision",
+        job: b"         PROGRAM\n         CONVERT\n         REVISE\n         SETUP('BOUND','BND')\n         PRIMAL\n         SOLUTION\n         BCDOUT\n         EXIT\n         PEND\nNAME          ONE\nROWS\n N  COST\n G  LOW\nCOLUMNS\n    X         COST      1              LOW       1\nRHS\n              LOW       1\nRANGES\n    R         LOW       2\nBOUNDS\n UP BND       X         9\nENDATA\nNAME          NEXT      FREE\nROWS\n AFTER LOW\n L CAP\nCOLUMNS\n MODIFY\n X COST 2\n AFTER\n Y COST 1.5  LOW .5\nRHS\n MODIFY\n LOW 4\n B LOW 3  CAP 5\nRANGES\n DELETE\n R\nBOUNDS\n MODIFY\n UP BND X 1\nENDATA\n",
+        status: 0,
+        listing: b"CONVERT ONE      ROWS 2 COLUMNS 1 ENTRIES 2\nREVISE  NEXT     ROWS 3 COLUMNS 2 ENTRIES 4\nSETUP   NEXT     MIN\nPRIMAL OPTIMAL STEPS 2 OBJECTIVE 11 CHECKED\nSOLUTION OPTIMAL\nSECTION 1 - ROWS\nNUMBER ROW AT ACTIVITY SLACK LOWER UPPER DUAL\n    1 COST     BS 11 -11 NONE NONE 0\n    2 LOW      LL 4 0 4 NONE 3\n    3 CAP      BS 0 0 NONE 0 0\nSECTION 2 - COLUMNS\nNUMBER COLUMN AT ACTIVITY COST LOWER UPPER REDUCED\n    4 X        UL 1 2 0 1 -1\n    5 Y        BS 6 3/2 0 NONE 0\nBCDOUT  NEXT     CARDS 17\nEND 0\n",
+        cards: b"NAME          NEXT\nROWS\n N  COST\n G  LOW\n L  CAP\nCOLUMNS\n    X         COST      2\n    X         LOW       1\n    Y         COST      1.5\n    Y         LOW       .5\nRHS\n              LOW       4\n    B         LOW       3\n    B         CAP       5\nBOUNDS\n UP BND       X         1\nENDATA\n",
+    },
+];

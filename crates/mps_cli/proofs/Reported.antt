@@ -2,7 +2,7 @@
 use Rattle.std.proofs.Common.{◌≡◌, ◌⊎◌, inl, inr, ℕ, ◌<◌, List, Option, Ok, Err, refl, ap, ◌∙◌}
 use Rattle.control_run.specs.declared.status.Status.{Status}
 use Rattle.control_run.specs.Statuses.{code_of}
-use Rattle.control_run.specs.Devices.{Counts, StopsAtPrint, print_failed, print_wants_memory, IsReported, IsStill}
+use Rattle.control_run.specs.Devices.{Counts, counts, StopsAtPrint, print_failed, print_wants_memory, IsReported, IsStill}
 use Rattle.control_run.proofs.Reported.{none_more, left, stands_still, still_as_before, reported_print, reported_other}
 use Rattle.job_program.specs.declared.stop.EarlyStop.{EarlyStop}
 use Rattle.job_program.specs.declared.stop.EarlyStop.TheVariants.{Words, ReadFault, Card, Control, Memory}
@@ -20,23 +20,23 @@ stops_reading Memory before now quiet more = none_more before now (quiet (λ e. 
 
 module _ {P U : Type 0} (written stopped_at : P → Option (List ℕ)) (faults refusals : P → ℕ)
     (punch_written punch_stopped_at : U → Option (List ℕ)) (punch_faults punch_refusals : U → ℕ) (punch : U) where
-  abbrev counts : ℕ → P → Counts
-  counts read print = record { read = read; print = faults print; print_memory = refusals print; punch = punch_faults punch; punch_memory = punch_refusals punch }
+  abbrev counted : ℕ → P → Counts
+  counted read print = counts faults refusals punch_faults punch_refusals read print punch
 
   module _ {old new : P} where
     pub reported_stop : (read_before read_now : ℕ) (stop : EarlyStop) (ended : Status) → (read_before < read_now → stop ≡ ReadFault) → EndsWith written stopped_at faults refusals old new stop ended →
-        IsReported (counts read_before old) (counts read_now new) (code_of ended)
+        IsReported (counted read_before old) (counted read_now new) (code_of ended)
     reported_stop read_before read_now stop ended read (printed is w) =
-        reported_other (counts read_before old) (counts read_now new) (code_of ended) w.cause (λ more. ap code_of (is ∙ ap status_at (read more)))
+        reported_other (counted read_before old) (counted read_now new) (code_of ended) w.cause (λ more. ap code_of (is ∙ ap status_at (read more)))
         (λ more. none_more (punch_faults punch) (punch_faults punch) refl more) (λ more. none_more (punch_refusals punch) (punch_refusals punch) refl more)
-    reported_stop read_before read_now stop ended read (cut_off cause is w) = reported_print (counts read_before old) (counts read_now new) cause (code_of ended) (ap code_of is) w.cause
+    reported_stop read_before read_now stop ended read (cut_off cause is w) = reported_print (counted read_before old) (counted read_now new) cause (code_of ended) (ap code_of is) w.cause
 
-    still_print : (stop : EarlyStop) (ended : Status) → EndsWith written stopped_at faults refusals old new stop ended → IsStill (faults old) (faults new) (refusals old) (refusals new) (stopped_at new) (written new)
+    still_print : (stop : EarlyStop) (ended : Status) → EndsWith written stopped_at faults refusals old new stop ended → IsStill written stopped_at faults refusals old new
     still_print stop ended (printed is w) = stands_still (Ok tt) (left w)
     still_print stop ended (cut_off cause is w) = stands_still (Err cause) (left w)
 
     pub still_stop : (stop : EarlyStop) (ended : Status) → EndsWith written stopped_at faults refusals old new stop ended →
-        IsStill (faults old) (faults new) (refusals old) (refusals new) (stopped_at new) (written new) × IsStill (punch_faults punch) (punch_faults punch) (punch_refusals punch) (punch_refusals punch) (punch_stopped_at punch) (punch_written punch)
+        IsStill written stopped_at faults refusals old new × IsStill punch_written punch_stopped_at punch_faults punch_refusals punch punch
     still_stop stop ended ends = (still_print stop ended ends, still_as_before punch_written punch_stopped_at punch_faults punch_refusals punch)
 
 -- ---- a job of which no read has failed

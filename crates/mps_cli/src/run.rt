@@ -15,7 +15,7 @@ ghost use Rattle.command_line.specs.Sizes.{max_size};
 ghost use Rattle.command_line.specs.Requests.{HasSize};
 ghost use Rattle.command_line.specs.Requests as requests;
 ghost use Rattle.control_run.specs.Statuses.{code_of};
-ghost use Rattle.control_run.specs.Devices.{IsReported, IsStill};
+ghost use Rattle.control_run.specs.Devices.{counts, IsReported, IsStill};
 ghost use Rattle.control_run.specs.Finishing.{failures_in_run};
 ghost use Rattle.mps_cli.specs.Asked.{IsAsked, IsGiven};
 ghost use Rattle.mps_cli.specs.Causes.{HasCause, IsPunched};
@@ -55,25 +55,11 @@ fn run_source<S: Source, P: Sink, U: Sink>(
         (AppendsFront (P.written print.old) (P.written print.new))
         result }
     ensures reported { IsReported
-        (record {
-          read = S.faults job.old;
-          print = P.faults print.old;
-          print_memory = P.refusals print.old;
-          punch = U.faults punch.old;
-          punch_memory = U.refusals punch.old;
-        })
-        (record {
-          read = S.faults job.new;
-          print = P.faults print.new;
-          print_memory = P.refusals print.new;
-          punch = U.faults punch.new;
-          punch_memory = U.refusals punch.new;
-        })
+        (counts P.faults P.refusals U.faults U.refusals (S.faults job.old) print.old punch.old)
+        (counts P.faults P.refusals U.faults U.refusals (S.faults job.new) print.new punch.new)
         (code_of result) }
-    ensures still { IsStill (P.faults print.old) (P.faults print.new) (P.refusals print.old)
-        (P.refusals print.new) (P.stopped_at print.new) (P.written print.new) ×
-        IsStill (U.faults punch.old) (U.faults punch.new) (U.refusals punch.old)
-        (U.refusals punch.new) (U.stopped_at punch.new) (U.written punch.new) }
+    ensures still { IsStill P.written P.stopped_at P.faults P.refusals print.old print.new ×
+        IsStill U.written U.stopped_at U.faults U.refusals punch.old punch.new }
     ensures no_further { ReadsFront (S.left job.old) (S.left job.new) }
     ensures punch { IsPunched (Some Request.Read) (S.left job.old)
         (ReadsJob (S.left job.old) (S.left job.new)) (punch.new ≡ punch.old) result }
@@ -111,25 +97,11 @@ fn run_made<P: Sink, U: Sink>(alloc: Global, size: u32, print: &mut P, punch: &m
         (AppendsFront (P.written print.old) (P.written print.new))
         result }
     ensures reported { IsReported
-        (record {
-          read = 0;
-          print = P.faults print.old;
-          print_memory = P.refusals print.old;
-          punch = U.faults punch.old;
-          punch_memory = U.refusals punch.old;
-        })
-        (record {
-          read = 0;
-          print = P.faults print.new;
-          print_memory = P.refusals print.new;
-          punch = U.faults punch.new;
-          punch_memory = U.refusals punch.new;
-        })
+        (counts P.faults P.refusals U.faults U.refusals 0 print.old punch.old)
+        (counts P.faults P.refusals U.faults U.refusals 0 print.new punch.new)
         (code_of result) }
-    ensures still { IsStill (P.faults print.old) (P.faults print.new) (P.refusals print.old)
-        (P.refusals print.new) (P.stopped_at print.new) (P.written print.new) ×
-        IsStill (U.faults punch.old) (U.faults punch.new) (U.refusals punch.old)
-        (U.refusals punch.new) (U.stopped_at punch.new) (U.written punch.new) }
+    ensures still { IsStill P.written P.stopped_at P.faults P.refusals print.old print.new ×
+        IsStill U.written U.stopped_at U.faults U.refusals punch.old punch.new }
     ensures punch { IsPunched (Some (Request.Make size)) None (Unit {0}) (punch.new ≡ punch.old)
         result }
 {
@@ -167,25 +139,11 @@ fn run_request<S: Source, P: Sink, U: Sink>(
         (AppendsFront (P.written print.old) (P.written print.new))
         result }
     ensures reported { IsReported
-        (record {
-          read = S.faults job.old;
-          print = P.faults print.old;
-          print_memory = P.refusals print.old;
-          punch = U.faults punch.old;
-          punch_memory = U.refusals punch.old;
-        })
-        (record {
-          read = S.faults job.new;
-          print = P.faults print.new;
-          print_memory = P.refusals print.new;
-          punch = U.faults punch.new;
-          punch_memory = U.refusals punch.new;
-        })
+        (counts P.faults P.refusals U.faults U.refusals (S.faults job.old) print.old punch.old)
+        (counts P.faults P.refusals U.faults U.refusals (S.faults job.new) print.new punch.new)
         (code_of result) }
-    ensures still { IsStill (P.faults print.old) (P.faults print.new) (P.refusals print.old)
-        (P.refusals print.new) (P.stopped_at print.new) (P.written print.new) ×
-        IsStill (U.faults punch.old) (U.faults punch.new) (U.refusals punch.old)
-        (U.refusals punch.new) (U.stopped_at punch.new) (U.written punch.new) }
+    ensures still { IsStill P.written P.stopped_at P.faults P.refusals print.old print.new ×
+        IsStill U.written U.stopped_at U.faults U.refusals punch.old punch.new }
     ensures no_further { ReadsFront (S.left job.old) (S.left job.new) }
     ensures unread { request ≢ Request.Read → job.new ≡ job.old }
     ensures punch { IsPunched (Some request) (S.left job.old)
@@ -208,9 +166,9 @@ fn run_request<S: Source, P: Sink, U: Sink>(
 /// fails, or in which the punch wants memory, is broken off, and ends the job. The status reports each of these. Want of
 /// memory may end a job at any time.
 ///
-/// It doesn't give up: a job whose run meets no evidence that a number is too large has one run, and gets the status, the
-/// whole listing and all the cards of this run, unless a read, a write to the print or one to the punch fails, or memory is
-/// wanted.
+/// A job whose run meets no evidence that a number is too large has one run, and gets the status, the whole listing and all the
+/// cards of this run, unless a read, a write to the print or one to the punch fails, or the status is 28. That is a free answer:
+/// no clause ties it to a refused allocation.
 pub fn run_job<S: Source, P: Sink, U: Sink>(
     alloc: Global,
     words: &[String],
@@ -219,13 +177,15 @@ pub fn run_job<S: Source, P: Sink, U: Sink>(
     punch: &mut U,
 ) -> Status
     // The headline. The printed bytes are the listing of a run of this job's control program, or of its early stop; or the print
-    // has stopped in a report or in the lines of an end, and all before stands with a prefix of it; and each report of this run holds of the state in which it was made: a SOLUTION
-    // OPTIMAL is a feasible point that no feasible point betters, with prices that prove it; a verdict OPTIMAL has the
-    // objective of such a point; a verdict of infeasibility prints a crossed variable or a ray, and one of unboundedness a
-    // feasible point with a direction, and these prove it; RANGE prints where the basis stays optimal; at every value in an
-    // interval of PARAOBJ or PARARHS the printed point is best and the printed prices prove it, each interval begins where the
-    // one before ended, and the last ends at the last value, or a proof for every greater value closes the run. So it is
-    // wherever the words, or the source, tell the job.
+    // has stopped in a report or in the lines of an end, and all before stands with a prefix of it. Each report of this run holds
+    // of the state in which it was made: a SOLUTION OPTIMAL is a feasible point that no feasible point betters, with prices that
+    // prove it; a verdict OPTIMAL has the objective of such a point; a verdict of infeasibility prints a crossed variable or a
+    // ray, and one of unboundedness a feasible point with a direction, and these prove it; RANGE prints where the basis stays
+    // optimal; at every value in an interval of PARAOBJ or PARARHS the printed point is best and the printed prices prove it, each
+    // interval begins where the one before ended, and the last ends at the last value, or a proof for every greater value closes
+    // the run; the cards of PUNCH are the deck of the present basis, and INSERT makes the basis of its deck the present one. An
+    // end that tells a singular deck or a wrong price shows the dependency, or the variable. So it is wherever the words, or the
+    // source, tell the job.
     ensures headline { (asked : Job) →
         IsAsked (requests.asked (map string_bytes words.now)) (S.left job.old) asked →
         IsTrueAnswer linear_programming asked
@@ -273,7 +233,7 @@ pub fn run_job<S: Source, P: Sink, U: Sink>(
 
     // What stands, by the status. With 0, 1, 2, 8, 10, 12, 13, 16, 17 and 20 the run of the job has this end; the whole
     // listing of the run stands, and all cards that it has punched; 8 and 13 leave their line alone, and so do 4 and 24. After
-    // 26 and 28 the reports so far stand with this line, and a front of the cards; and after 25, and where the print wanted
+    // 26 and 28 the reports so far stand with this line, and a prefix of the cards; and after 25, and where the print wanted
     // memory, the print has stopped in a report or in the lines of an end: all that comes before stands with a prefix of this
     // text, and the cards that are punched by then.
     ensures stands { (asked : Job) →
@@ -301,27 +261,13 @@ pub fn run_job<S: Source, P: Sink, U: Sink>(
     // What the status reports: a fault of the print by 25, and want of memory there by 28; a fault of a read by 24 and one of the
     // punch by 26, and want of memory there by 28, unless the print stops as well and the status is that of its stop.
     ensures reported { IsReported
-        (record {
-          read = S.faults job.old;
-          print = P.faults print.old;
-          print_memory = P.refusals print.old;
-          punch = U.faults punch.old;
-          punch_memory = U.refusals punch.old;
-        })
-        (record {
-          read = S.faults job.new;
-          print = P.faults print.new;
-          print_memory = P.refusals print.new;
-          punch = U.faults punch.new;
-          punch_memory = U.refusals punch.new;
-        })
+        (counts P.faults P.refusals U.faults U.refusals (S.faults job.old) print.old punch.old)
+        (counts P.faults P.refusals U.faults U.refusals (S.faults job.new) print.new punch.new)
         (code_of result) }
 
     // After a fault of the print or of the punch, or where one of them wants memory, nothing more is written to it.
-    ensures still { IsStill (P.faults print.old) (P.faults print.new) (P.refusals print.old)
-        (P.refusals print.new) (P.stopped_at print.new) (P.written print.new) ×
-        IsStill (U.faults punch.old) (U.faults punch.new) (U.refusals punch.old)
-        (U.refusals punch.new) (U.stopped_at punch.new) (U.written punch.new) }
+    ensures still { IsStill P.written P.stopped_at P.faults P.refusals print.old print.new ×
+        IsStill U.written U.stopped_at U.faults U.refusals punch.old punch.new }
 
     // How far the job is read, and what stays the same. Nothing is punched but in the run of the job's program.
     ensures no_further { ReadsFront (S.left job.old) (S.left job.new) }

@@ -2,7 +2,7 @@
 use Rattle.std.proofs.Common.{◌≡◌, ℕ, ◌+◌, ◌≤◌, true, false, not, ◌&&◌, List, [], ◌∷◌, Some, None, length, nat_le, refl, ap, sym, ◌∙◌}
 use Rattle.std.specs.Option.{option_or}
 use Rattle.card_definitions.specs.Words.{is_empty, ◌⟹◌}
-use Rattle.card_definitions.specs.Fields.{Fixed, Reading, reading_of}
+use Rattle.card_definitions.specs.Fields.{Reading, reading_of}
 use Rattle.card_definitions.proofs.FirstFaults.{passes, or_none}
 use Rattle.problem_definitions.specs.declared.TheConstants.{MAX_COLUMNS, MAX_ENTRIES}
 use Rattle.problem_definitions.specs.Names.{Name}
@@ -13,47 +13,54 @@ use Rattle.deck_definitions.specs.declared.DeckFaultKind.TheVariants.{SectionOrd
 use Rattle.deck_definitions.specs.declared.Section.{Section}
 use Rattle.deck_definitions.specs.declared.Section.TheVariants.{Header, Rows, Columns, Rhs, Ranges, Bounds, Endata}
 use Rattle.deck_definitions.specs.Sections.{is_section}
-use Rattle.deck_definitions.specs.DataCards.{FixedFields, entries_of, pairs_of}
+use Rattle.deck_definitions.specs.declared.Style.{Style}
+use Rattle.deck_definitions.specs.DataCards.{form_on, entries_of, pairs_of}
 use Rattle.deck_definitions.specs.Tests.{kind_filled, marks, all_but_last, columns_fault, pairs_fault}
 use Rattle.deck_definitions.specs.Conversion.{form_fault, section_fault, data_card_fault}
 use Rattle.deck_definitions.proofs.Accepted.{pairs-few}
 
--- a data card that has its form, in a section that has data cards, has the fault of its section
-pub fault_in_section : (seen : Problem Name) (section : Section) (card : List ℕ) (reading : Reading) → is_section Header section ≡ false → form_fault Fixed card ≡ None → reading ≡ reading_of Fixed card
-    → section_fault seen section reading ≡ data_card_fault seen FixedFields (Some section) card
-fault_in_section seen section card reading standing formed is = ap (section_fault seen section) is ∙ by section standing
-  where
-    by : (section : Section) → is_section Header section ≡ false → section_fault seen section (reading_of Fixed card) ≡ data_card_fault seen FixedFields (Some section) card
-    by Header e = absurd (cc e)
-    by Rows e = sym (ap (λ o. option_or o (option_or (section_fault seen Rows (reading_of Fixed card)) None)) formed ∙ or_none (section_fault seen Rows (reading_of Fixed card)))
-    by Columns e = sym (ap (λ o. option_or o (option_or (section_fault seen Columns (reading_of Fixed card)) None)) formed ∙ or_none (section_fault seen Columns (reading_of Fixed card)))
-    by Rhs e = sym (ap (λ o. option_or o (option_or (section_fault seen Rhs (reading_of Fixed card)) None)) formed ∙ or_none (section_fault seen Rhs (reading_of Fixed card)))
-    by Ranges e = sym (ap (λ o. option_or o (option_or (section_fault seen Ranges (reading_of Fixed card)) None)) formed ∙ or_none (section_fault seen Ranges (reading_of Fixed card)))
-    by Bounds e = sym (ap (λ o. option_or o (option_or (section_fault seen Bounds (reading_of Fixed card)) None)) formed ∙ or_none (section_fault seen Bounds (reading_of Fixed card)))
-    by Endata e = sym (ap (λ o. option_or o (Some SectionOrder)) formed)
+module _ (seen : Problem Name) (style : Style) (card : List ℕ) where
+  read : Section → Reading
+  read section = reading_of (form_on style section false card) card
 
--- a data card that hasn't its form has that fault
-pub fault_of_form : (seen : Problem Name) (section : Section) (card : List ℕ) (kind : DeckFaultKind) → is_section Header section ≡ false → form_fault Fixed card ≡ Some kind → data_card_fault seen FixedFields (Some section) card ≡ Some kind
-fault_of_form seen section card kind standing unformed = by section standing
-  where
-    by : (section : Section) → is_section Header section ≡ false → data_card_fault seen FixedFields (Some section) card ≡ Some kind
-    by Header e = absurd (cc e)
-    by Rows e = ap (λ o. option_or o (option_or (section_fault seen Rows (reading_of Fixed card)) None)) unformed
-    by Columns e = ap (λ o. option_or o (option_or (section_fault seen Columns (reading_of Fixed card)) None)) unformed
-    by Rhs e = ap (λ o. option_or o (option_or (section_fault seen Rhs (reading_of Fixed card)) None)) unformed
-    by Ranges e = ap (λ o. option_or o (option_or (section_fault seen Ranges (reading_of Fixed card)) None)) unformed
-    by Bounds e = ap (λ o. option_or o (option_or (section_fault seen Bounds (reading_of Fixed card)) None)) unformed
-    by Endata e = ap (λ o. option_or o (Some SectionOrder)) unformed
+  -- a data card that has its form, in a section that has data cards, has the fault of its section
+  pub fault_in_section : (section : Section) (reading : Reading) → is_section Header section ≡ false → form_fault style section false card ≡ None → reading ≡ reading_of (form_on style section false card) card
+      → section_fault seen section reading ≡ data_card_fault seen style (Some section) card
+  unfolding read
+  fault_in_section section reading standing formed is = ap (section_fault seen section) is ∙ by section standing formed
+    where
+      by : (section : Section) → is_section Header section ≡ false → form_fault style section false card ≡ None → section_fault seen section (read section) ≡ data_card_fault seen style (Some section) card
+      by Header e formed = absurd (cc e)
+      by Rows e formed = sym (ap (λ o. option_or o (option_or (section_fault seen Rows (read Rows)) None)) formed ∙ or_none (section_fault seen Rows (read Rows)))
+      by Columns e formed = sym (ap (λ o. option_or o (option_or (section_fault seen Columns (read Columns)) None)) formed ∙ or_none (section_fault seen Columns (read Columns)))
+      by Rhs e formed = sym (ap (λ o. option_or o (option_or (section_fault seen Rhs (read Rhs)) None)) formed ∙ or_none (section_fault seen Rhs (read Rhs)))
+      by Ranges e formed = sym (ap (λ o. option_or o (option_or (section_fault seen Ranges (read Ranges)) None)) formed ∙ or_none (section_fault seen Ranges (read Ranges)))
+      by Bounds e formed = sym (ap (λ o. option_or o (option_or (section_fault seen Bounds (read Bounds)) None)) formed ∙ or_none (section_fault seen Bounds (read Bounds)))
+      by Endata e formed = sym (ap (λ o. option_or o (Some SectionOrder)) formed)
 
--- a data card directly after NAME is out of order
-pub out_of_order : (seen : Problem Name) (section : Section) (card : List ℕ) → is_section Header section ≡ true → data_card_fault seen FixedFields (Some section) card ≡ Some SectionOrder
-out_of_order seen Header card e = refl
-out_of_order seen Rows card e = absurd (cc e)
-out_of_order seen Columns card e = absurd (cc e)
-out_of_order seen Rhs card e = absurd (cc e)
-out_of_order seen Ranges card e = absurd (cc e)
-out_of_order seen Bounds card e = absurd (cc e)
-out_of_order seen Endata card e = absurd (cc e)
+  -- a data card that hasn't its form has that fault
+  pub fault_of_form : (section : Section) (kind : DeckFaultKind) → is_section Header section ≡ false → form_fault style section false card ≡ Some kind → data_card_fault seen style (Some section) card ≡ Some kind
+  unfolding read
+  fault_of_form section kind standing unformed = by section standing unformed
+    where
+      by : (section : Section) → is_section Header section ≡ false → form_fault style section false card ≡ Some kind → data_card_fault seen style (Some section) card ≡ Some kind
+      by Header e unformed = absurd (cc e)
+      by Rows e unformed = ap (λ o. option_or o (option_or (section_fault seen Rows (read Rows)) None)) unformed
+      by Columns e unformed = ap (λ o. option_or o (option_or (section_fault seen Columns (read Columns)) None)) unformed
+      by Rhs e unformed = ap (λ o. option_or o (option_or (section_fault seen Rhs (read Rhs)) None)) unformed
+      by Ranges e unformed = ap (λ o. option_or o (option_or (section_fault seen Ranges (read Ranges)) None)) unformed
+      by Bounds e unformed = ap (λ o. option_or o (option_or (section_fault seen Bounds (read Bounds)) None)) unformed
+      by Endata e unformed = ap (λ o. option_or o (Some SectionOrder)) unformed
+
+  -- a data card directly after NAME is out of order
+  pub out_of_order : (section : Section) → is_section Header section ≡ true → data_card_fault seen style (Some section) card ≡ Some SectionOrder
+  out_of_order Header e = refl
+  out_of_order Rows e = absurd (cc e)
+  out_of_order Columns e = absurd (cc e)
+  out_of_order Rhs e = absurd (cc e)
+  out_of_order Ranges e = absurd (cc e)
+  out_of_order Bounds e = absurd (cc e)
+  out_of_order Endata e = absurd (cc e)
 
 -- the entries with those of an accepted card are no more than the limit allows
 pub few_left : (seen : Problem Name) (card : Reading) → columns_fault seen card ≡ None → entry_count seen ≤ MAX_ENTRIES → entry_count seen + length (entries_of card) ≤ MAX_ENTRIES

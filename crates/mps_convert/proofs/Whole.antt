@@ -8,6 +8,7 @@ use Rattle.problem_definitions.specs.Names.{Name}
 use Rattle.problem_definitions.specs.Problem.{Problem}
 use Rattle.problem_definitions.specs.Numbering.{numbered}
 use Rattle.problem_definitions.specs.Valid.{IsName, IsProblem}
+use Rattle.deck_definitions.specs.declared.Style.TheVariants.{FixedFields}
 use Rattle.deck_definitions.specs.Sections.{header_name}
 use Rattle.deck_definitions.specs.Described.{described}
 use Rattle.deck_definitions.specs.Conversion.{card_fault, first_faulty, fault_by, deck_fault, deck_name, conversion}
@@ -60,9 +61,9 @@ converts deck name own shown problem fine is own_is problem_is =
     ∙ ap (λ (p : Problem ℕ). Ok p) (ap (λ n. numbered (described n (live deck))) (sym own_is) ∙ ap numbered (sym (named_as own (live deck) shown is)) ∙ sym problem_is)
 
 -- after no card
-pub nothing_read : (state : State) → state.section ≡ None → state.problem ≡ record { name = []; rows = []; columns = []; rhs = []; ranges = []; bounds = [] } → state ≡ state_of []
+pub nothing_read : (state : State) → state.section ≡ None → state.style ≡ FixedFields → state.problem ≡ record { name = []; rows = []; columns = []; rhs = []; ranges = []; bounds = [] } → state ≡ state_of []
 unfolding described
-nothing_read state section problem = λ i. record { section = section i; problem = problem i }
+nothing_read state section style problem = λ i. record { section = section i; style = style i; problem = problem i }
 
 -- ---- the first card
 

@@ -12,6 +12,6 @@ problem_named name draft = record { name = name; rows = draft.rows; columns = dr
 abbrev pub problem_shown : DeckDraft → Problem Name
 problem_shown draft = problem_named [] draft
 
--- the section that goes on, and that problem
+-- the section that goes on, the style of the deck, and that problem
 abbrev pub state_shown : DeckDraft → State
-state_shown draft = record { section = draft.section; problem = problem_shown draft }
+state_shown draft = record { section = draft.section; style = draft.style; problem = problem_shown draft }

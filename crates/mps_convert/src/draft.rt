@@ -1,7 +1,8 @@
 // A problem in the making, card by card.
-ghost use Rattle.std.specs.Prelude.{◌≡◌, ◌≤◌, ◌++◌, None, Some, length, sum_by, IfOk, OnOk, IfErr};
+ghost use Rattle.std.specs.Prelude.{◌≡◌, ◌≤◌, ◌++◌, None, length, sum_by, unwrap_or, OnOk, IfErr};
+ghost use Rattle.card_reader.specs.Card.{card_bytes};
 ghost use Rattle.problem_definitions.specs.Groups.{in_set};
-ghost use Rattle.deck_definitions.specs.DataCards.{entries_of};
+ghost use Rattle.deck_definitions.specs.DataCards.{style_begun, entries_of};
 ghost use Rattle.deck_definitions.specs.Tests.{columns_fault};
 ghost use Rattle.deck_cards.specs.Told.{TellsDeckFault};
 ghost use Rattle.deck_parts.specs.Shown.{columns_alone};
@@ -10,8 +11,9 @@ ghost use Rattle.deck_cards.specs.Shown.{shown};
 use card_reader::Card;
 use deck_cards::{
     CardStop, DataCard, Draft, SectionOrder, begins_section, is_blank as is_empty_text, is_header,
-    is_last, next_section, read_data_card,
+    is_last, next_section, read_data_card, style_begun,
 };
+use deck_definitions::Style;
 use deck_parts::{
     BoundSets, DeckFaultKind, Groups, Rows, Section, follows, take_bound_card, take_column_card,
     take_row_card, take_set_card,
@@ -29,6 +31,16 @@ fn pair_count(card: &DataCard<'_>) -> u32
         return 1;
     }
     2
+}
+
+// The style of a deck after one more card.
+fn style_after(before: Style, card: Card<'_>) -> Style
+    ensures { result ≡ unwrap_or (style_begun (card_bytes card.entry)) before }
+{
+    match style_begun(card) {
+        Some(style) => style,
+        None => before,
+    }
 }
 
 // Takes a card of COLUMNS, and counts the entries. An `Err` leaves no column.
@@ -64,11 +76,12 @@ fn take_column(
     }
 }
 
-/// A problem in the making: the section that goes on, and what the cards so far describe.
+/// A problem in the making: the section that goes on, the style of the deck, and what the cards so far describe.
 #[derive(Drop)]
 pub struct DeckDraft {
     alloc: Global,
     section: Option<Section>,
+    style: Style,
     rows: Rows,
     columns: Groups,
     entries: u32,
@@ -81,9 +94,9 @@ pub struct DeckDraft {
 
 impl DeckDraft {
     ghost use Rattle.std.specs.Prelude.{◌≡◌, [], None, Some, IfOk, OnOk, IfErr};
-    ghost use Rattle.card_definitions.specs.Fields.{Fixed, reading_of};
     ghost use Rattle.card_reader.specs.Card.{card_bytes};
-    ghost use Rattle.deck_definitions.specs.DataCards.{FixedFields};
+    ghost use Rattle.deck_definitions.specs.declared.Style.TheVariants.{FixedFields};
+    ghost use Rattle.deck_definitions.specs.DataCards.{style_begun};
     ghost use Rattle.deck_definitions.specs.Conversion.{section_fault, data_card_fault};
     ghost use Rattle.deck_definitions.proofs.Steps.{with_card};
     ghost use Rattle.mps_convert.specs.State.{with_data, fault_at, state_with};
@@ -96,6 +109,7 @@ impl DeckDraft {
     /// A draft after no card, which grows in this memory.
     pub fn new(alloc: Global) -> DeckDraft
         ensures section { result.section ≡ None }
+        ensures style { result.style ≡ FixedFields }
         ensures problem { problem_shown result ≡ record {
           name = [];
           rows = [];
@@ -109,6 +123,7 @@ impl DeckDraft {
         DeckDraft {
             alloc,
             section: None,
+            style: Style::FixedFields,
             rows: Rows::new(alloc),
             columns: Groups::new(alloc),
             entries: 0,
@@ -137,6 +152,7 @@ impl DeckDraft {
         ensures no_fault { OnOk result (section_fault (problem_shown self.old) section
             (shown card.now) ≡ None) }
         ensures same_section { OnOk result (self.new.section ≡ self.old.section) }
+        ensures same_style { OnOk result (self.new.style ≡ self.old.style) }
         ensures step { OnOk result (problem_shown self.new ≡ with_card section (shown card.now)
             (problem_shown self.old)) }
         ensures stop { IfErr result (TellsDeckFault (section_fault (problem_shown self.old) section
@@ -173,13 +189,14 @@ impl DeckDraft {
 
     // Takes a data card.
     fn take_data(&mut self, card: Card<'_>) -> Result<(), CardStop>
-        ensures no_fault { OnOk result (data_card_fault (problem_shown self.old) FixedFields
+        ensures no_fault { OnOk result (data_card_fault (problem_shown self.old) self.old.style
             self.old.section (card_bytes card.entry) ≡ None) }
         ensures same_section { OnOk result (self.new.section ≡ self.old.section) }
+        ensures same_style { OnOk result (self.new.style ≡ self.old.style) }
         ensures step { OnOk result (problem_shown self.new ≡ with_data self.old.section
-            (reading_of Fixed (card_bytes card.entry)) (problem_shown self.old)) }
+            self.old.style (card_bytes card.entry) (problem_shown self.old)) }
         ensures stop { IfErr result
-            (TellsDeckFault (data_card_fault (problem_shown self.old) FixedFields
+            (TellsDeckFault (data_card_fault (problem_shown self.old) self.old.style
             self.old.section (card_bytes card.entry))) }
     {
         let Some(section) = self.section else {
@@ -188,7 +205,7 @@ impl DeckDraft {
         if is_header(section) {
             return Err(CardStop::Refused(DeckFaultKind::SectionOrder));
         }
-        match read_data_card(card) {
+        match read_data_card(card, self.style, section, false) {
             Ok(data) => self.take_in(section, &data),
             Err(kind) => Err(CardStop::Refused(kind)),
         }
@@ -206,6 +223,7 @@ impl DeckDraft {
         if begins_section(card.bytes()) {
             let section = next_section::<DeckDraft>(self.section, card.bytes())?;
             self.section = Some(section);
+            self.style = style_after(self.style, card);
             return Ok(());
         }
         self.take_data(card)

@@ -2,3 +2,4 @@ pub mod SumSteps
 pub mod OtherBasics
 pub mod CarriedBack
 pub mod RowSteps
+pub mod WantedSteps

@@ -24,7 +24,7 @@ use Rattle.eta_file.specs.Inverse.{Inverse, ways_of, IsRateAt, IsColumnStop}
 use Rattle.eta_file.proofs.ColumnLaws.{row_stop}
 use Rattle.eta_file.proofs.PrefixLaws.{rates_after}
 use Rattle.price_row.specs.Sums.{products}
-use Rattle.price_row.specs.Known.{set_of, IsKnown, IsRateOf, IsUnit, IsFilledFrom, IsMultiplierOf}
+use Rattle.price_row.specs.Known.{set_of, IsKnown, IsRateOf, IsUnit, HasMultipliers, IsFilledFrom, IsMultiplierOf}
 
 take_whole_etas : (es : List StoredEta) → take (length es) es ≡ es
 take_whole_etas [] = refl
@@ -75,6 +75,12 @@ filled_more f n r xs v below h rate_is = record {
         let other : k ≢ n = grind (arith, e) in
         subst (λ x. IsRateOf f r (k + 1) x) (sym (get_or-set_other xs n k v zero_ℚ other)) (h.filled k (omega (arith, from, other)) within)
 
+-- a file has rates
+pub rates_are : (f : Inverse) → f.basics ≡ after (row_basics f.matrix) f.etas → Passed f.matrix (row_basics f.matrix) f.etas → (rate : ℕ → ℕ → ℚ) × AreRates f.matrix f.basics rate
+rates_are f are passed =
+    subst (λ b. (rate : ℕ → ℕ → ℚ) × AreRates f.matrix b rate) (sym are)
+    (rates_after f.matrix (row_basics f.matrix) f.etas (opening_rate f.matrix) (length-row_basics f.matrix) (AreRates-opening f.matrix) passed)
+
 -- the rates at all variables are the row
 pub row_is : (f : Inverse) (r : ℕ) (xs : List ℚ) → f.basics ≡ after (row_basics f.matrix) f.etas → Passed f.matrix (row_basics f.matrix) f.etas → IsFilledFrom f 0 r xs → IsRowOf f.matrix f.basics r (value_at xs)
 row_is f r xs are passed h = record {
@@ -86,9 +92,7 @@ row_is f r xs are passed h = record {
 }
   where
     rates : (rate : ℕ → ℕ → ℚ) × AreRates f.matrix f.basics rate
-    rates =
-        subst (λ b. (rate : ℕ → ℕ → ℚ) × AreRates f.matrix b rate) (sym are)
-        (rates_after f.matrix (row_basics f.matrix) f.etas (opening_rate f.matrix) (length-row_basics f.matrix) (AreRates-opening f.matrix) passed)
+    rates = rates_are f are passed
 
 module _ (f : Inverse) (r place : ℕ) (xs : List ℚ) (v : ℚ) where
   -- the opposite of a nonbasic's multiplier is its rate
@@ -98,10 +102,10 @@ module _ (f : Inverse) (r place : ℕ) (xs : List ℚ) (v : ℚ) where
       ∙ by_ring1 (rate r (place + 1)) (λ y. opposite (opposite y) ≐ y) refl
       ∙ sym (ap (λ m. cond m zero_ℚ (rate r (place + 1))) out)
 
-  pub rate_of_row : is_in f.basics (place + 1) ≡ false → place < f.matrix.rows → IsFilledFrom f (place + 1) r xs → v ≡ neg_ℚ (get_or xs place zero_ℚ) → IsRateOf f r (place + 1) v
-  rate_of_row out low h is_v = record { is_rate = λ rate are. opposite_is rate out (is_v ∙ ap neg_ℚ (h.known rate are place (omega arith) low)) }
+  pub rate_of_row : is_in f.basics (place + 1) ≡ false → place < f.matrix.rows → HasMultipliers f (place + 1) r xs → v ≡ neg_ℚ (get_or xs place zero_ℚ) → IsRateOf f r (place + 1) v
+  rate_of_row out low h is_v = record { is_rate = λ rate are. opposite_is rate out (is_v ∙ ap neg_ℚ (h rate are place (omega arith) low)) }
 
-  pub rate_of_column : IsMatrix f.matrix → IsNonsingular f.matrix f.basics → IsBasic f.matrix f.basics r → is_in f.basics (place + 1) ≡ false → f.matrix.rows ≤ place → place < size f.matrix → IsFilledFrom f (place + 1) r xs
+  pub rate_of_column : IsMatrix f.matrix → IsNonsingular f.matrix f.basics → IsBasic f.matrix f.basics r → is_in f.basics (place + 1) ≡ false → f.matrix.rows ≤ place → place < size f.matrix → HasMultipliers f (place + 1) r xs
       → v ≡ sum_from zero_ℚ (products xs (column f.matrix (place + 1 - f.matrix.rows))) → IsRateOf f r (place + 1) v
   rate_of_column lawful one basic out high within h is_v = record { is_rate = λ rate are. opposite_is rate out (total rate are) }
     where
@@ -115,7 +119,7 @@ module _ (f : Inverse) (r place : ℕ) (xs : List ℚ) (v : ℚ) where
           is_v ∙ sum_of_entries f.matrix lawful (value_at xs) zero_ℚ (place + 1 - f.matrix.rows) is
           ∙ zero-add (sum_to f.matrix.rows (λ i. value_at xs (suc i) *ℚ entry f.matrix (suc i) (place + 1 - f.matrix.rows)))
           ∙ sum_to-same f.matrix.rows _ _ (λ i below. ap (λ y. y *ℚ entry f.matrix (suc i) (place + 1 - f.matrix.rows))
-          (ap (λ n. get_or xs n zero_ℚ) (let e : suc i - 1 ≡ i = omega arith in e) ∙ h.known rate are i (omega (arith, below, high)) below ∙ ap (multiplier f.basics rate r) (let e : i + 1 ≡ suc i = omega arith in e)))
+          (ap (λ n. get_or xs n zero_ℚ) (let e : suc i - 1 ≡ i = omega arith in e) ∙ h rate are i (omega (arith, below, high)) below ∙ ap (multiplier f.basics rate r) (let e : i + 1 ≡ suc i = omega arith in e)))
           ∙ opposite_of (multiplier f.basics rate r (f.matrix.rows + (place + 1 - f.matrix.rows))) (sum_to f.matrix.rows (λ i. multiplier f.basics rate r (suc i) *ℚ entry f.matrix (suc i) (place + 1 - f.matrix.rows))) vanishes
           ∙ ap (λ n. neg_ℚ (multiplier f.basics rate r n)) number
         where
@@ -148,7 +152,7 @@ rows_filled f r xs each = record {
 }
 
 -- a direction that is refused refuses the row
-pub row_refused : (f : Inverse) (result : Result (Unit {0}) Stop) → IfErr result (IsColumnStop f) → RowOverflow result f.matrix f.basics (ways_of f) (ways_of f)
+pub row_refused : {T : Type 0} (f : Inverse) (result : Result T Stop) → IfErr result (IsColumnStop f) → RowOverflow result f.matrix f.basics (ways_of f) (ways_of f)
 row_refused f (Ok v) h = tt
 row_refused f (Err stop) h = row_stop f stop h
 

@@ -5,21 +5,23 @@ ghost use Rattle.std.specs.Prelude.{◌≡◌, ◌≢◌, ℕ, ◌+◌, ◌-◌,
 ghost use Rattle.lp_definitions.specs.LinearProgram.{IsVariable, size, value_at};
 ghost use Rattle.lp_definitions.specs.Basis.{IsBasic};
 ghost use Rattle.lp_model.specs.RatesCalls.{IsRowOf, RowOverflow};
+ghost use Rattle.lp_model.specs.Wanted.{is_wanted, turned, wanted_at, IsFirstWanted};
 ghost use Rattle.eta_file.specs.Inverse.{ways_of, IsColumnStop};
-ghost use Rattle.price_row.specs.Known.{IsKnown, IsFilledFrom, IsRateOf, IsUnit, IsMultiplierAt, IsMultiplierOf};
+ghost use Rattle.price_row.specs.Known.{IsKnown, HasMultipliers, IsFilledFrom, IsRateOf, IsUnit, IsMultiplierAt, IsMultiplierOf};
 
 mod sums;
 
 use eta_file::{EtaFile, rate_by_column};
 use frac128::{Frac, Refused};
-use lp_model::{Lp, NoMemory, Stop};
+use lp_model::{Lp, NoMemory, Stop, Wanted};
 use std::alloc::Global;
 use std::marker::Model;
 use sums::{sum_of_column, sum_over};
 
-/// Rows of an inverse that is kept as an eta file, with room for a direction.
+/// Rows of an inverse that is kept as an eta file, with room for the multipliers of the rows and for a direction.
 #[derive(Drop)]
 pub struct PriceRow {
+    multipliers: Vec<Frac>,
     room: Vec<Frac>,
 }
 
@@ -28,9 +30,11 @@ impl Model for PriceRow {
 
     ghost Value = { ℕ };
 
-    ghost use Rattle.price_row.specs.Room.{room_of};
+    ghost use Rattle.price_row.specs.Room.{room_of, HasRoom};
 
     ghost view = { room_of };
+
+    ghost invariant = { HasRoom };
 }
 
 impl PriceRow {
@@ -40,6 +44,7 @@ impl PriceRow {
     {
         let size = lp.number_of_variables();
         Ok(PriceRow {
+            multipliers: vec![in alloc; Frac::whole(0); size as usize]?,
             room: vec![in alloc; Frac::whole(0); size as usize]?,
         })
     }
@@ -61,6 +66,33 @@ impl PriceRow {
         let _size = file.size();
         multipliers(file, i, out, &mut self.room)?;
         fill(file, i, out, &mut self.room)
+    }
+
+    /// The least-numbered variable whose rate in the row of the basic `i`, or the opposite of it where `up` is false, is wanted there.
+    /// `out`, which has a place for each variable, takes the row up to that variable, and where there is none all of it: no rate
+    /// after that is worked out. Else all is as in `row`.
+    pub fn first_wanted(
+        &mut self,
+        file: &EtaFile,
+        i: u32,
+        wanted: &[Wanted],
+        up: bool,
+        out: &mut [Frac],
+    ) -> Result<Option<u32>, Stop>
+        requires basic { IsBasic file.now.matrix file.now.basics i }
+        requires wanted_places { length wanted.now ≡ size file.now.matrix }
+        requires places { length out.old ≡ size file.now.matrix }
+        requires room { self.old ≡ size file.now.matrix }
+        ensures found { IfOk result (IsFirstWanted file.now.matrix file.now.basics i wanted.now up
+            (value_at out.new)) }
+        ensures overflow { RowOverflow result file.now.matrix file.now.basics (ways_of file.now)
+            (ways_of file.now) }
+        ensures never { IfErr result (λ stop. stop ≢ Stop.NoMemory) }
+        ensures same { self.new ≡ self.old }
+    {
+        let _size = file.size();
+        multipliers(file, i, &mut self.multipliers, &mut self.room)?;
+        fill_to_wanted(file, i, &self.multipliers, wanted, up, out, &mut self.room)
     }
 }
 
@@ -184,7 +216,7 @@ fn rate_by_multipliers(file: &EtaFile, place: u32, row: u32, out: &[Frac]) -> Re
     requires within { place < size file.now.matrix }
     requires basic { IsBasic file.now.matrix file.now.basics row }
     requires places { length out.now ≡ size file.now.matrix }
-    requires filled { IsFilledFrom file.now (place + 1) row out.now }
+    requires known { HasMultipliers file.now (place + 1) row out.now }
     ensures rate { IfOk result (IsRateOf file.now row (place + 1)) }
 {
     let _size = file.size();
@@ -211,7 +243,7 @@ fn rate_at(
     requires basic { IsBasic file.now.matrix file.now.basics row }
     requires places { length out.now ≡ size file.now.matrix }
     requires room { length room.old ≡ size file.now.matrix }
-    requires filled { IsFilledFrom file.now (place + 1) row out.now }
+    requires known { HasMultipliers file.now (place + 1) row out.now }
     ensures rate { IfOk result (IsRateOf file.now row (place + 1)) }
     ensures overflow { IfErr result (IsColumnStop file.now) }
     ensures never { IfErr result (λ stop. stop ≢ Stop.NoMemory) }
@@ -239,4 +271,43 @@ fn fill(file: &EtaFile, row: u32, out: &mut [Frac], room: &mut [Frac]) -> Result
         out[place as usize] = rate_at(file, place, row, out, room)?;
     }
     Ok(())
+}
+
+/// Whether the rate, or its opposite where `up` is false, is wanted at the variable of a place.
+fn is_wanted_at(wanted: &[Wanted], place: u32, up: bool, rate: Frac) -> bool
+    requires { place < length wanted.now }
+    ensures { result ≡ is_wanted (wanted_at wanted.now (place + 1)) (turned up rate) }
+{
+    wanted[place as usize].is_met(up, rate)
+}
+
+/// Fills in the rates from the multipliers of the rows, the first variable's first, up to the first that is wanted.
+fn fill_to_wanted(
+    file: &EtaFile,
+    row: u32,
+    multipliers: &[Frac],
+    wanted: &[Wanted],
+    up: bool,
+    out: &mut [Frac],
+    room: &mut [Frac],
+) -> Result<Option<u32>, Stop>
+    requires basic { IsBasic file.now.matrix file.now.basics row }
+    requires multiplier_places { length multipliers.now ≡ size file.now.matrix }
+    requires wanted_places { length wanted.now ≡ size file.now.matrix }
+    requires places { length out.old ≡ size file.now.matrix }
+    requires room { length room.old ≡ size file.now.matrix }
+    requires known { HasMultipliers file.now (size file.now.matrix) row multipliers.now }
+    ensures found { IfOk result (IsFirstWanted file.now.matrix file.now.basics row wanted.now up
+        (value_at out.new)) }
+    ensures overflow { IfErr result (IsColumnStop file.now) }
+    ensures never { IfErr result (λ stop. stop ≢ Stop.NoMemory) }
+{
+    for place in 0..file.size() {
+        let rate = rate_at(file, place, row, multipliers, room)?;
+        out[place as usize] = rate;
+        if is_wanted_at(wanted, place, up, rate) {
+            return Ok(Some(place + 1));
+        }
+    }
+    Ok(None)
 }

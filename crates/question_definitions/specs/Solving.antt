@@ -5,6 +5,7 @@
 -- Overflows is the evidence that holds.
 use Rattle.std.specs.Prelude.{ℕ, List, Option}
 use Rattle.lp_definitions.specs.declared.Evidence.{Evidence}
+use Rattle.listing_definitions.specs.declared.Mark.{Mark}
 use Rattle.listing_definitions.specs.declared.Solver.{Solver}
 use Rattle.listing_definitions.specs.Report.{SolutionLines, RangeLines}
 use Rattle.listing_definitions.specs.Ending.{Place}
@@ -15,8 +16,8 @@ pub record Solving : Type 1 where
   pub Solves : Solver → Sheet → Basis → Option ℕ → PathEnd → Type 0
   -- the parametric run from a basis ends so
   pub Sweeps : Sheet → Basis → Sweep → SweepEnd → Type 0
-  -- SOLUTION prints these lines of a basis
-  pub Shows : Sheet → Basis → SolutionLines → Type 0
+  -- SOLUTION under this mark prints these lines of a basis
+  pub Shows : Mark → Sheet → Basis → SolutionLines → Type 0
   -- RANGE prints these lines of a basis
   pub Ranges : Sheet → Basis → RangeLines → Type 0
   -- PUNCH punches these cards of a basis
@@ -29,7 +30,7 @@ pub record Solving : Type 1 where
 -- the answer to a question about a linear program at a basis is right
 abbrev pub IsRight : Solving → (question : Question) → Sheet → Basis → Answer question → Type 0
 IsRight S (OfPath solver limit) sheet s = S.Solves solver sheet s limit
-IsRight S (OfSolution mark) sheet s = S.Shows sheet s
+IsRight S (OfSolution mark) sheet s = S.Shows mark sheet s
 IsRight S OfRanges sheet s = S.Ranges sheet s
 IsRight S (OfSweep sweep) sheet s = S.Sweeps sheet s sweep
 IsRight S OfPunch sheet s = S.Punches sheet s

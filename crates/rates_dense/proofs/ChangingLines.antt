@@ -16,6 +16,7 @@ pub record ChangingTo (p q : ℕ) (lines : List Line) (slots : List ℕ) (n coun
   pub within : (place : ℕ) → place < count → get_or slots place 0 < n
   pub in_order : (one other : ℕ) → one < other → other < count → get_or slots one 0 < get_or slots other 0
   pub each : (slot : ℕ) (d : Line) → slot < n → ((place : ℕ) × (place < count) × (get_or slots place 0 ≡ slot)) ⊎ IsUnchanged p q (get_or lines slot d)
+  pub only : (place : ℕ) (d : Line) → place < count → IsUnchanged p q (get_or lines (get_or slots place 0) d) → ⊥
 
 module _ (p q : ℕ) (lines : List Line) (slots : List ℕ) (n count : ℕ) (so_far : ChangingTo p q lines slots n count) where
   pub changing_skipped : ((d : Line) → IsUnchanged p q (get_or lines n d)) → ChangingTo p q lines slots (n + 1) count
@@ -23,19 +24,21 @@ module _ (p q : ℕ) (lines : List Line) (slots : List ℕ) (n count : ℕ) (so_
     within = λ place below. omega (arith, so_far.within place below);
     in_order = so_far.in_order;
     each = λ slot d below. at slot d below (eqb_tells slot n);
+    only = so_far.only;
   }
     where
       at : (slot : ℕ) (d : Line) → slot < n + 1 → ((eqb slot n ≡ true) × (slot ≡ n)) ⊎ ((eqb slot n ≡ false) × (slot ≢ n)) → ((place : ℕ) × (place < count) × (get_or slots place 0 ≡ slot)) ⊎ IsUnchanged p q (get_or lines slot d)
       at slot d below (inl same) = inr (subst (λ (k : ℕ). IsUnchanged p q (get_or lines k d)) (sym same.1) (unchanged d))
       at slot d below (inr other) = so_far.each slot d (omega (arith, other.1, below))
 
-  pub changing_listed : count < length slots → ChangingTo p q lines (set slots count n) (n + 1) (count + 1)
-  changing_listed room = record {
+  pub changing_listed : count < length slots → ((d : Line) → IsUnchanged p q (get_or lines n d) → ⊥) → ChangingTo p q lines (set slots count n) (n + 1) (count + 1)
+  changing_listed room changes = record {
     within = below_more (λ place. get_or (set slots count n) place 0 < n + 1) count
         (λ place below. subst (λ (k : ℕ). k < n + 1) (sym (kept place below)) (omega (arith, so_far.within place below)))
         (subst (λ (k : ℕ). k < n + 1) (sym own) (omega arith));
     in_order = λ one other before below. ordered one other before below (eqb_tells other count);
     each = λ slot d below. at slot d below (eqb_tells slot n);
+    only = λ place d below. alone place d below (eqb_tells place count);
   }
     where
       own : get_or (set slots count n) count 0 ≡ n
@@ -43,6 +46,12 @@ module _ (p q : ℕ) (lines : List Line) (slots : List ℕ) (n count : ℕ) (so_
 
       kept : (place : ℕ) → place < count → get_or (set slots count n) place 0 ≡ get_or slots place 0
       kept place below = let other : place ≢ count = omega arith in get_or-set_other slots count place n 0 other
+
+      alone : (place : ℕ) (d : Line) → place < count + 1 → ((eqb place count ≡ true) × (place ≡ count)) ⊎ ((eqb place count ≡ false) × (place ≢ count)) → IsUnchanged p q (get_or lines (get_or (set slots count n) place 0) d) → ⊥
+      alone place d below (inl last) same = changes d (subst (λ (k : ℕ). IsUnchanged p q (get_or lines k d)) (ap (λ k. get_or (set slots count n) k 0) last.1 ∙ own) same)
+      alone place d below (inr apart) same =
+          let early : place < count = omega (arith, below, apart.1) in
+          so_far.only place d early (subst (λ (k : ℕ). IsUnchanged p q (get_or lines k d)) (kept place early) same)
 
       ordered : (one other : ℕ) → one < other → other < count + 1 → ((eqb other count ≡ true) × (other ≡ count)) ⊎ ((eqb other count ≡ false) × (other ≢ count)) → get_or (set slots count n) one 0 < get_or (set slots count n) other 0
       ordered one other before below (inl last) =
@@ -67,6 +76,9 @@ module _ (p q : ℕ) (lines : List Line) (slots : List ℕ) (n count : ℕ) (so_
         let early : other < count = omega (arith, counted, below) in
         omega (arith, read one (omega (arith, before, early)), read other early, so_far.in_order one other before early);
     each = λ slot d below. at slot d (so_far.each slot d (omega (arith, below, all)));
+    only = λ place d below same.
+        let early : place < count = omega (arith, counted, below) in
+        so_far.only place d early (subst (λ (k : ℕ). IsUnchanged p q (get_or lines k d)) (read place early) same);
   }
     where
       counted : length (take count slots) ≡ count

@@ -110,6 +110,7 @@ pub record AreChanging (p q : ℕ) (lines : List Line) (slots : List ℕ) : Type
   pub within : (place : ℕ) → place < length slots → slice_index slots place < length lines
   pub in_order : (one other : ℕ) → one < other → other < length slots → slice_index slots one < slice_index slots other
   pub each : (slot : ℕ) (d : Line) → slot < length lines → IsListed slots slot ⊎ IsUnchanged p q (slice_index_or lines slot d)
+  pub only : (place : ℕ) (d : Line) → place < length slots → IsUnchanged p q (slice_index_or lines (slice_index slots place) d) → ⊥
 
 -- what was ready has been taken over
 pub record Takes (js : List ℕ) (old new : Line) : Type 0 where

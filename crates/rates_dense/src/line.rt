@@ -1,6 +1,6 @@
 //! The lines of the table, and what an exchange makes of them.
 
-ghost use Rattle.std.specs.Prelude.{◌≡◌, ◌≢◌, ℕ, false, ◌<◌, ◌≤◌, ◌^◌, length, take, IfOk, IfErr, IfSome, OnOk, OnErr};
+ghost use Rattle.std.specs.Prelude.{◌≡◌, ◌≢◌, ℕ, true, false, ◌<◌, ◌≤◌, ◌^◌, length, take, IfOk, IfErr, IfSome, OnOk, OnErr};
 ghost use Rattle.exact_values.specs.Rational.{ℚ, zero_ℚ, one_ℚ, ◌-ℚ◌, ◌*ℚ◌, ◌/ℚ◌};
 ghost use Rattle.lp_definitions.specs.LinearProgram.{value_at};
 ghost use Rattle.lp_definitions.specs.RatesEvidence.{Names};
@@ -314,7 +314,8 @@ impl Line {
     pub fn changes(&self, p: u32, q: u32) -> bool
         requires q_low { 1 ≤ q }
         requires q_high { q ≤ length self.now.rates.items }
-        ensures { result ≡ false → IsUnchanged p q self.now }
+        ensures stays { result ≡ false → IsUnchanged p q self.now }
+        ensures moves { result ≡ true → IsUnchanged p q self.now → ⊥ }
     {
         self.basic == p || !self.rates[q as usize - 1].is_zero()
     }

@@ -1,10 +1,11 @@
 //! The product form: rates that are carried through an eta file, which is made anew from time to time.
 
-ghost use Rattle.std.specs.Prelude.{◌≡◌, ◌≢◌, ◌+◌, ◌<◌, ◌≤◌, false, length, All, IfOk, OnOk, OnErr};
+ghost use Rattle.std.specs.Prelude.{◌≡◌, ◌≢◌, ◌+◌, ◌<◌, ◌≤◌, ◌^◌, false, length, All, IfOk, OnOk, OnErr};
 ghost use Rattle.lp_definitions.specs.LinearProgram.{size, value_at};
 ghost use Rattle.lp_definitions.specs.Basis.{IsBasic, IsNonbasic, IsDirectionOf, exchanged, row_basics};
 ghost use Rattle.lp_definitions.specs.Waypoints.{KeepsWaypoints, waypoint};
 ghost use Rattle.lp_model.specs.RatesCalls.{IsRowOf, HasPivot, ColumnOverflow, RowOverflow, ExchangeOverflow};
+ghost use Rattle.lp_model.specs.Wanted.{IsFirstWanted};
 ghost use Rattle.eta_file.specs.Prefixes.{basic_columns};
 ghost use Rattle.eta_file.specs.Inverse.{ways_of, IsAppended};
 ghost use Rattle.reinversion.specs.Rebuilt.{KeptRefused};
@@ -14,7 +15,7 @@ use crate::last_column::LastColumn;
 use crate::rebuild::rebuild;
 use eta_file::EtaFile;
 use frac128::Frac;
-use lp_model::{Engine, Evidence, Lp, NoMemory, Rates, Stop};
+use lp_model::{Engine, Evidence, Lp, NoMemory, Rates, Stop, Wanted};
 use price_row::PriceRow;
 use std::alloc::Global;
 use std::marker::Model;
@@ -188,6 +189,29 @@ impl Rates for ProductForm {
             (ways_of self.old.file) self.new.file.basics (ways_of self.new.file) }
     {
         self.price.row(&self.file, i, out)
+    }
+
+    /// Takes no memory. The row is carried backwards through the file, and no rate is worked out after the first one that is wanted.
+    fn first_wanted(
+        &mut self,
+        i: u32,
+        wanted: &[Wanted],
+        up: bool,
+        out: &mut [Frac],
+    ) -> Result<Option<u32>, Stop>
+        requires basic { IsBasic self.old.file.matrix self.old.file.basics i }
+        requires wanted_places { length wanted.now ≡ size self.old.file.matrix }
+        requires places { length out.old ≡ size self.old.file.matrix }
+        requires small { size self.old.file.matrix < 2 ^ 32 }
+        ensures found { IfOk result (IsFirstWanted self.old.file.matrix self.old.file.basics i
+            wanted.now up (value_at out.new)) }
+        ensures overflow { RowOverflow result self.old.file.matrix self.old.file.basics
+            (ways_of self.old.file) (ways_of self.old.file) }
+        ensures same { self.new ≡ self.old }
+        ensures waypoints { KeepsWaypoints self.old.file.matrix self.old.file.basics
+            (ways_of self.old.file) self.new.file.basics (ways_of self.new.file) }
+    {
+        self.price.first_wanted(&self.file, i, wanted, up, out)
     }
 
     /// Each 50th exchange makes the file anew first. After a Stop the basics are as before.

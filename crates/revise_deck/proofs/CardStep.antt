@@ -6,25 +6,26 @@ use Rattle.std.proofs.lemmas.List.{length-append, map-append}
 use Rattle.indexmap.specs.IndexSet.{insert_key}
 use Rattle.card_definitions.specs.Words.{named}
 use Rattle.card_definitions.specs.Cards.{Card}
-use Rattle.card_definitions.specs.Fields.{Fixed, Reading, reading_of}
+use Rattle.card_definitions.specs.Fields.{Reading, reading_of}
 use Rattle.problem_definitions.specs.Names.{Name, same, different}
 use Rattle.problem_definitions.specs.Problem.{Problem}
 use Rattle.problem_definitions.proofs.Names.{has_name-different, different-push}
 use Rattle.deck_definitions.specs.declared.Section.{Section}
 use Rattle.deck_definitions.specs.declared.Section.TheVariants.{Header, Rows, Columns, Rhs, Ranges, Bounds, Endata}
 use Rattle.deck_definitions.specs.Sections.{is_section_card, section_after, section_words, section_word}
-use Rattle.deck_definitions.specs.DataCards.{FixedFields}
+use Rattle.deck_definitions.specs.declared.Style.{Style}
+use Rattle.deck_definitions.specs.DataCards.{style_begun, style_of, form_on}
 use Rattle.deck_definitions.specs.Conversion.{section_card_fault, form_fault}
-use Rattle.deck_definitions.proofs.Steps.{section_after-push, last_or-push}
+use Rattle.deck_definitions.proofs.Steps.{section_after-push, style_of-push, style_of-data, last_or-push}
 use Rattle.revise_definitions.specs.declared.Action.{Action}
 use Rattle.revise_definitions.specs.declared.Action.TheVariants.{Modify, Delete, Before, After}
-use Rattle.revise_definitions.specs.Actions.{is_action_card, is_heading, action_on, anchor_on, action_card_after, action_after, anchor_after, under_after, edit_of}
+use Rattle.revise_definitions.specs.Actions.{is_action_card, is_heading, deletes, action_on, anchor_on, action_card_after, action_after, anchor_after, under_after, edit_in, edit_of}
 use Rattle.revise_definitions.specs.Edits.{goes_on, edited}
 use Rattle.revise_definitions.specs.Tests.{action_fault, edit_fault, action_data_fault}
 use Rattle.revise_definitions.specs.Revision.{revised, may_come_after, inner_card_fault, revise_card_fault}
 use Rattle.revise_definitions.proofs.Steps.{action_card_after-push, under_after-push, revised-push, with_edit}
 use Rattle.revise_parts.specs.Summary.{under_of, with_card_under, goes_on_from, insert_columns_test, edit_test, edited_by}
-use Rattle.revise_deck.specs.State.{State, state_of, data_fault, inner_fault, fault_at, problem_with, state_with}
+use Rattle.revise_deck.specs.State.{State, state_of, read_at, data_fault, standing_fault, inner_fault, fault_at, problem_in, problem_with, state_with}
 
 -- ---- what is known of the cards under an action
 
@@ -104,21 +105,30 @@ edited-same problem Header action anchor under card = refl
 edited-same problem Endata action anchor under card = refl
 
 module _ (old : Problem Name) (cards : List Card) where
-  data-same : (section : Section) (s : Option Section) (action : Option Action) (card : List ℕ) → action_data_fault (revised old cards) FixedFields section action (under_after cards) card
-      ≡ data_fault (record { section = s; action = action; under = under_of (anchor_after cards) (under_after cards); problem = revised old cards }) section card
-  data-same section s None card = refl
-  data-same section s (Some action) card = ap (λ o. option_or (form_fault Fixed card) (option_or o None)) (edit-same (revised old cards) section action (anchor_after cards) (under_after cards) (reading_of Fixed card))
+  -- the state after these cards, but for the section and the action
+  abbrev state_in : Option Section → Option Action → State
+  state_in section action = record { style = style_of cards; section = section; action = action; under = under_of (anchor_after cards) (under_after cards); problem = revised old cards }
 
-  inner-same : (section : Option Section) (card : List ℕ) → inner_card_fault (revised old cards) cards section card
-      ≡ inner_fault (record { section = section; action = action_after cards; under = under_of (anchor_after cards) (under_after cards); problem = revised old cards }) card
+  data-same : (section : Section) (s : Option Section) (action : Option Action) (card : List ℕ) → action_data_fault (revised old cards) (style_of cards) section action (under_after cards) card ≡ data_fault (state_in s action) section card
+  data-same section s None card = refl
+  data-same section s (Some action) card =
+      ap (λ o. option_or (form_fault (style_of cards) section (deletes action) card) (option_or o None))
+      (edit-same (revised old cards) section action (anchor_after cards) (under_after cards) (reading_of (form_on (style_of cards) section (deletes action) card) card))
+
+  standing-same : (section : Section) (card : List ℕ)
+      → cond (is_action_card (style_of cards) card) (action_fault (revised old cards) section (action_on (style_of cards) card) (anchor_on (style_of cards) card)) (action_data_fault (revised old cards) (style_of cards) section (action_after cards) (under_after cards) card)
+      ≡ standing_fault (state_in (Some section) (action_after cards)) section card
+  standing-same section card = ap (cond (is_action_card (style_of cards) card) (action_fault (revised old cards) section (action_on (style_of cards) card) (anchor_on (style_of cards) card))) (data-same section (Some section) (action_after cards) card)
+
+  inner-same : (section : Option Section) (card : List ℕ) → inner_card_fault (revised old cards) cards section card ≡ inner_fault (state_in section (action_after cards)) card
   inner-same None card = refl
   inner-same (Some Header) card = refl
-  inner-same (Some Rows) card = ap (cond (is_action_card FixedFields card) (action_fault (revised old cards) Rows (action_on FixedFields card) (anchor_on FixedFields card))) (data-same Rows (Some Rows) (action_after cards) card)
-  inner-same (Some Columns) card = ap (cond (is_action_card FixedFields card) (action_fault (revised old cards) Columns (action_on FixedFields card) (anchor_on FixedFields card))) (data-same Columns (Some Columns) (action_after cards) card)
-  inner-same (Some Rhs) card = ap (cond (is_action_card FixedFields card) (action_fault (revised old cards) Rhs (action_on FixedFields card) (anchor_on FixedFields card))) (data-same Rhs (Some Rhs) (action_after cards) card)
-  inner-same (Some Ranges) card = ap (cond (is_action_card FixedFields card) (action_fault (revised old cards) Ranges (action_on FixedFields card) (anchor_on FixedFields card))) (data-same Ranges (Some Ranges) (action_after cards) card)
-  inner-same (Some Bounds) card = ap (cond (is_action_card FixedFields card) (action_fault (revised old cards) Bounds (action_on FixedFields card) (anchor_on FixedFields card))) (data-same Bounds (Some Bounds) (action_after cards) card)
-  inner-same (Some Endata) card = ap (cond (is_action_card FixedFields card) (action_fault (revised old cards) Endata (action_on FixedFields card) (anchor_on FixedFields card))) (data-same Endata (Some Endata) (action_after cards) card)
+  inner-same (Some Rows) card = standing-same Rows card
+  inner-same (Some Columns) card = standing-same Columns card
+  inner-same (Some Rhs) card = standing-same Rhs card
+  inner-same (Some Ranges) card = standing-same Ranges card
+  inner-same (Some Bounds) card = standing-same Bounds card
+  inner-same (Some Endata) card = standing-same Endata card
 
 -- the fault of a card after others is that at the state after them
 pub fault-state : (old : Problem Name) (cards : List Card) (card : List ℕ) → revise_card_fault old cards card ≡ fault_at (state_of old cards) card
@@ -131,60 +141,65 @@ module _ (old : Problem Name) (cards : List Card) (card : Card) where
   abbrev whole : List Card
   whole = cards ++ card ∷ []
 
-  abbrev read : Reading
-  read = reading_of Fixed card.bytes
-
-  state-is : (section : Option Section) (holder : Option Card) (under : List Reading) (problem : Problem Name) → section_after whole ≡ section → action_card_after whole ≡ holder → under_after whole ≡ under → revised old whole ≡ problem
-      → state_of old whole ≡ record {
-        section = section;
-        action = option_and_then (λ c. action_on FixedFields c.bytes) holder;
-        under = under_of (unwrap_or (option_map (λ c. anchor_on FixedFields c.bytes) holder) []) under;
-        problem = problem;
-      }
-  state-is section holder under problem s a u p = λ i. record {
-    section = s i;
-    action = option_and_then (λ (c : Card). action_on FixedFields c.bytes) (a i);
-    under = under_of (unwrap_or (option_map (λ (c : Card). anchor_on FixedFields c.bytes) (a i)) []) (u i);
-    problem = p i;
-  }
-
-  heading-edits : is_heading FixedFields card.bytes ≡ true → revised old whole ≡ revised old cards
-  heading-edits h = revised-push old cards card ∙ rw h refl
-
-  data-edits : is_heading FixedFields card.bytes ≡ false → with_edit (edit_of cards card) (revised old cards) ≡ problem_with (state_of old cards) read
-  data-edits h = by (section_after cards) (action_after cards) refl refl
-    where
-      by : (s : Option Section) (a : Option Action) → section_after cards ≡ s → action_after cards ≡ a → with_edit (edit_of cards card) (revised old cards) ≡ problem_with (state_of old cards) read
-      by None a es ea = rw (h, es) refl
-      by (Some s) None es ea = rw (h, es, ea) refl
-      by (Some s) (Some a) es ea = rw (h, es, ea) (edited-same (revised old cards) s a (anchor_after cards) (under_after cards) read)
-
   abbrev st : State
   st = state_of old cards
 
-  step-by : (b : Bool) → is_section_card card.bytes ≡ b → (a : Bool) → is_action_card FixedFields card.bytes ≡ a → state_of old whole
-      ≡ cond b (record st { section = option_or (cond b (named section_words (section_word card.bytes)) None) st.section; action = None; under = under_of [] [] })
-      (cond a (record st { action = action_on FixedFields card.bytes; under = under_of (anchor_on FixedFields card.bytes) [] }) (record st { under = with_card_under st.under read; problem = problem_with st read }))
+  abbrev read : Reading
+  read = read_at st card.bytes
+
+  state-is : (style : Style) (section : Option Section) (holder : Option Card) (under : List Reading) (problem : Problem Name)
+      → style_of whole ≡ style → section_after whole ≡ section → action_card_after whole ≡ holder → under_after whole ≡ under → revised old whole ≡ problem
+      → state_of old whole ≡ record {
+        style = style;
+        section = section;
+        action = option_and_then (λ c. action_on style c.bytes) holder;
+        under = under_of (unwrap_or (option_and_then (λ c. anchor_on style c.bytes) holder) []) under;
+        problem = problem;
+      }
+  state-is style section holder under problem f s a u p = λ i. record {
+    style = f i;
+    section = s i;
+    action = option_and_then (λ (c : Card). action_on (f i) c.bytes) (a i);
+    under = under_of (unwrap_or (option_and_then (λ (c : Card). anchor_on (f i) c.bytes) (a i)) []) (u i);
+    problem = p i;
+  }
+
+  heading-edits : is_heading (style_of cards) card.bytes ≡ true → revised old whole ≡ revised old cards
+  heading-edits h = revised-push old cards card ∙ rw h refl
+
+  data-edits : is_heading (style_of cards) card.bytes ≡ false → with_edit (edit_of cards card) (revised old cards) ≡ problem_with st read
+  data-edits h =
+      ap (λ b. with_edit (cond b None (edit_in cards card (section_after cards) (action_after cards))) (revised old cards)) h
+      ∙ by (section_after cards) (action_after cards)
+    where
+      by : (s : Option Section) (a : Option Action) → with_edit (edit_in cards card s a) (revised old cards) ≡ problem_in st read s a
+      by None a = refl
+      by (Some s) None = refl
+      by (Some s) (Some a) = edited-same (revised old cards) s a (anchor_after cards) (under_after cards) read
+
+  section-is : (b : Bool) → is_section_card card.bytes ≡ b → section_after whole ≡ option_or (cond b (named section_words (section_word card.bytes)) None) (section_after cards)
+  section-is b e = section_after-push cards card ∙ ap (λ b. option_or (cond b (named section_words (section_word card.bytes)) None) (section_after cards)) e
+
+  action-is : (b a : Bool) → is_section_card card.bytes ≡ b → is_action_card (style_of cards) card.bytes ≡ a → action_card_after whole ≡ cond b None (cond a (Some card) (action_card_after cards))
+  action-is b a e f = action_card_after-push cards card ∙ ap₂ (λ b a. cond b None (cond a (Some card) (action_card_after cards))) e f
+
+  under-is : (b a : Bool) → is_section_card card.bytes ≡ b → is_action_card (style_of cards) card.bytes ≡ a → under_after whole ≡ cond (b || a) [] (under_after cards ++ read ∷ [])
+  under-is b a e f = under_after-push cards card ∙ ap₂ (λ b a. cond (b || a) [] (under_after cards ++ read ∷ [])) e f
+
+  step-by : (b : Bool) → is_section_card card.bytes ≡ b → (a : Bool) → is_action_card (style_of cards) card.bytes ≡ a → state_of old whole
+      ≡ cond b (record st { style = unwrap_or (style_begun card.bytes) st.style; section = option_or (cond b (named section_words (section_word card.bytes)) None) st.section; action = None; under = under_of [] [] })
+      (cond a (record st { action = action_on (style_of cards) card.bytes; under = under_of (unwrap_or (anchor_on (style_of cards) card.bytes) []) [] }) (record st { under = with_card_under st.under read; problem = problem_with st read }))
   step-by true e a f =
-      state-is (option_or (named section_words (section_word card.bytes)) (section_after cards)) None [] (revised old cards)
-      (section_after-push cards card ∙ ap (λ b. option_or (cond b (named section_words (section_word card.bytes)) None) (section_after cards)) e)
-      (action_card_after-push cards card ∙ ap (λ b. cond b None (cond (is_action_card FixedFields card.bytes) (Some card) (action_card_after cards))) e)
-      (under_after-push cards card ∙ ap (λ b. cond (b || is_action_card FixedFields card.bytes) [] (under_after cards ++ read ∷ [])) e)
-      (heading-edits (rw e refl))
+      state-is (unwrap_or (style_begun card.bytes) (style_of cards)) (option_or (named section_words (section_word card.bytes)) (section_after cards)) None [] (revised old cards)
+      (style_of-push cards card) (section-is true e) (action-is true a e f) (under-is true a e f) (heading-edits (rw e refl))
   step-by false e true f =
-      state-is (section_after cards) (Some card) [] (revised old cards)
-      (section_after-push cards card ∙ ap (λ b. option_or (cond b (named section_words (section_word card.bytes)) None) (section_after cards)) e)
-      (action_card_after-push cards card ∙ ap₂ (λ b a. cond b None (cond a (Some card) (action_card_after cards))) e f)
-      (under_after-push cards card ∙ ap₂ (λ b a. cond (b || a) [] (under_after cards ++ read ∷ [])) e f)
-      (heading-edits (rw (e, f) refl))
+      state-is (style_of cards) (section_after cards) (Some card) [] (revised old cards)
+      (style_of-data cards card e) (section-is false e) (action-is false true e f) (under-is false true e f) (heading-edits (rw (e, f) refl))
   step-by false e false f =
-      state-is (section_after cards) (action_card_after cards) (under_after cards ++ read ∷ []) (problem_with st read)
-      (section_after-push cards card ∙ ap (λ b. option_or (cond b (named section_words (section_word card.bytes)) None) (section_after cards)) e)
-      (action_card_after-push cards card ∙ ap₂ (λ b a. cond b None (cond a (Some card) (action_card_after cards))) e f)
-      (under_after-push cards card ∙ ap₂ (λ b a. cond (b || a) [] (under_after cards ++ read ∷ [])) e f)
-      (revised-push old cards card ∙ data-edits (rw (e, f) refl))
-      ∙ ap (λ u. record { section = section_after cards; action = action_after cards; under = u; problem = problem_with st read }) (under-push (anchor_after cards) (under_after cards) read)
+      state-is (style_of cards) (section_after cards) (action_card_after cards) (under_after cards ++ read ∷ []) (problem_with st read)
+      (style_of-data cards card e) (section-is false e) (action-is false false e f) (under-is false false e f) (revised-push old cards card ∙ data-edits (rw (e, f) refl))
+      ∙ ap (λ u. record { style = style_of cards; section = section_after cards; action = action_after cards; under = u; problem = problem_with st read }) (under-push (anchor_after cards) (under_after cards) read)
 
   -- one more card takes the state one step on
   pub state-step : fault_at (state_of old cards) card.bytes ≡ None → state_of old (cards ++ card ∷ []) ≡ state_with (state_of old cards) card.bytes
-  state-step fine = step-by (is_section_card card.bytes) refl (is_action_card FixedFields card.bytes) refl
+  state-step fine = step-by (is_section_card card.bytes) refl (is_action_card (style_of cards) card.bytes) refl

@@ -8,6 +8,7 @@ use Rattle.problem_definitions.specs.Problem.{Problem}
 use Rattle.problem_definitions.specs.Numbering.{numbered, by_names}
 use Rattle.problem_definitions.specs.Valid.{IsName, IsProblem}
 use Rattle.problem_definitions.proofs.Lawful.{lawful-numbered}
+use Rattle.deck_definitions.specs.declared.Style.TheVariants.{FixedFields}
 use Rattle.deck_definitions.specs.Conversion.{first_faulty, fault_by, deck_name}
 use Rattle.deck_definitions.proofs.Converted.{ArePrintable, printable_live}
 use Rattle.deck_fields.specs.declared.stop.DeckStop.{DeckStop}
@@ -59,6 +60,6 @@ gives old deck name own shown problem fine is own_is problem_is =
     ∙ ap (λ (p : Problem ℕ). Ok p) (ap (λ n. numbered (record (revised (by_names old) (live deck)) { name = n })) (sym own_is) ∙ ap (λ (p : Problem Name). numbered (record p { name = own })) (sym is) ∙ sym problem_is)
 
 -- after no card
-pub nothing_read : (state : State) (problem : Problem Name) → state ≡ record { section = None; action = None; under = under_of [] []; problem = problem } → state ≡ state_of state.problem []
+pub nothing_read : (state : State) (problem : Problem Name) → state ≡ record { style = FixedFields; section = None; action = None; under = under_of [] []; problem = problem } → state ≡ state_of state.problem []
 unfolding revised
-nothing_read state problem e = e ∙ ap (λ p. record { section = None; action = None; under = under_of [] []; problem = p }) (ap (λ (s : State). s.problem) (sym e))
+nothing_read state problem e = e ∙ ap (λ p. record { style = FixedFields; section = None; action = None; under = under_of [] []; problem = p }) (ap (λ (s : State). s.problem) (sym e))

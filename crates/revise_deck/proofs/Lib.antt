@@ -2,3 +2,4 @@ pub mod CardStep
 pub mod Standing
 pub mod Ends
 pub mod ByParts
+mod FreeAnchors

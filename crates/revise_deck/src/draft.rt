@@ -1,23 +1,25 @@
 // A problem under revision, card by card.
 ghost use Rattle.std.specs.Prelude.{◌≡◌, [], None, Some, OnOk, IfErr};
 
-use crate::sections::{action_fault_of, action_of, anchor_of, comes_after, is_action};
+use crate::sections::{action_fault_of, action_of, anchor_of, comes_after, is_action, is_deletion};
 use card_reader::Card;
 use deck_cards::{
     CardStop, DataCard, Draft, SectionOrder, begins_section, is_header, is_last, name_in,
-    next_section, read_data_card,
+    next_section, read_data_card, style_begun,
 };
+use deck_definitions::Style;
 use deck_parts::{DeckFaultKind, Section};
 use revise_definitions::Action;
 use revise_lists::NamedProblem;
 use revise_parts::{UnderAction, edit, edit_fault_of};
 use std::alloc::Global;
 
-/// A problem under revision: the section and the action that go on, what is known of the data cards under the action, and the
-/// problem after the cards so far.
+/// A problem under revision: the deck's style, the section and the action that go on, what is known of the data cards under the
+/// action, and the problem after the cards so far.
 #[derive(Drop)]
 pub struct ReviseDraft {
     alloc: Global,
+    style: Style,
     section: Option<Section>,
     action: Option<Action>,
     under: UnderAction,
@@ -25,13 +27,13 @@ pub struct ReviseDraft {
 }
 
 impl ReviseDraft {
-    ghost use Rattle.std.specs.Prelude.{◌≡◌, [], ◌∷◌, None, Some, OnOk, IfErr};
+    ghost use Rattle.std.specs.Prelude.{◌≡◌, [], ◌∷◌, None, Some, OnOk, IfErr, unwrap_or};
     ghost use Rattle.std.specs.Option.{option_or};
     ghost use Rattle.card_definitions.specs.Words.{first_fault, named};
-    ghost use Rattle.card_definitions.specs.Fields.{Fixed, reading_of};
     ghost use Rattle.card_reader.specs.Card.{card_bytes};
     ghost use Rattle.deck_definitions.specs.Sections.{section_words, section_word};
-    ghost use Rattle.deck_definitions.specs.DataCards.{FixedFields};
+    ghost use Rattle.deck_definitions.specs.declared.Style.TheVariants.{FixedFields};
+    ghost use Rattle.deck_definitions.specs.DataCards.{style_begun};
     ghost use Rattle.deck_definitions.specs.Conversion.{form_fault, section_card_fault};
     ghost use Rattle.revise_definitions.specs.Revision.{may_come_after};
     ghost use Rattle.deck_cards.specs.Told.{TellsDeckFault};
@@ -39,12 +41,13 @@ impl ReviseDraft {
     ghost use Rattle.revise_definitions.specs.Actions.{is_action_card, action_on, anchor_on};
     ghost use Rattle.revise_definitions.specs.Tests.{action_fault};
     ghost use Rattle.revise_parts.specs.Summary.{under_of, with_card_under, edit_test, edited_by};
-    ghost use Rattle.revise_deck.specs.State.{data_fault, standing_fault, inner_fault, inner_with, problem_with, fault_at, state_with};
+    ghost use Rattle.revise_deck.specs.State.{read_at, data_fault, standing_fault, inner_fault, inner_with, problem_with, fault_at, state_with};
     ghost use Rattle.revise_deck.specs.Draft_shown.{state_shown};
 
     /// A draft after no card, of this problem.
     pub fn new(alloc: Global, problem: NamedProblem) -> ReviseDraft
         ensures { state_shown result ≡ record {
+          style = FixedFields;
           section = None;
           action = None;
           under = under_of []
@@ -54,6 +57,7 @@ impl ReviseDraft {
     {
         ReviseDraft {
             alloc,
+            style: Style::FixedFields,
             section: None,
             action: None,
             under: UnderAction::new(alloc, name_in(b"")),
@@ -106,8 +110,9 @@ impl ReviseDraft {
         ensures no_fault { OnOk result (data_fault (state_shown self.old) section
             (card_bytes card.entry) ≡ None) }
         ensures step { OnOk result (state_shown self.new ≡ record (state_shown self.old) {
-          under = with_card_under self.old.under (reading_of Fixed (card_bytes card.entry));
-          problem = problem_with (state_shown self.old) (reading_of Fixed
+          under = with_card_under self.old.under (read_at (state_shown self.old)
+              (card_bytes card.entry));
+          problem = problem_with (state_shown self.old) (read_at (state_shown self.old)
               (card_bytes card.entry));
         }) }
         ensures stop { IfErr result (TellsDeckFault (data_fault (state_shown self.old) section
@@ -116,7 +121,7 @@ impl ReviseDraft {
         let Some(action) = self.action else {
             return Err(CardStop::Refused(DeckFaultKind::UnknownAction));
         };
-        match read_data_card(card) {
+        match read_data_card(card, self.style, section, is_deletion(action)) {
             Ok(data) => self.take_in(section, action, &data),
             Err(kind) => Err(CardStop::Refused(kind)),
         }
@@ -125,24 +130,28 @@ impl ReviseDraft {
     // Takes an action card of this section.
     fn take_action(&mut self, section: Section, card: Card<'_>) -> Result<(), CardStop>
         ensures no_fault { OnOk result
-            (action_fault self.old.problem section (action_on FixedFields (card_bytes card.entry))
-            (anchor_on FixedFields (card_bytes card.entry)) ≡ None) }
+            (action_fault self.old.problem section (action_on self.old.style (card_bytes card.entry))
+            (anchor_on self.old.style (card_bytes card.entry)) ≡ None) }
         ensures step { OnOk result (state_shown self.new ≡ record (state_shown self.old) {
-          action = action_on FixedFields (card_bytes card.entry);
+          action = action_on self.old.style (card_bytes card.entry);
           under = under_of
-              (anchor_on FixedFields (card_bytes card.entry)) [];
+              (unwrap_or (anchor_on self.old.style (card_bytes card.entry)) []) [];
         }) }
         ensures stop { IfErr result (TellsDeckFault
-            (action_fault self.old.problem section (action_on FixedFields (card_bytes card.entry))
-            (anchor_on FixedFields (card_bytes card.entry)))) }
+            (action_fault self.old.problem section (action_on self.old.style (card_bytes card.entry))
+            (anchor_on self.old.style (card_bytes card.entry)))) }
     {
-        let action = action_of(card.bytes());
-        let anchor = anchor_of(card);
+        let action = action_of(card, self.style);
+        let anchor = anchor_of(card, self.style);
         if let Some(kind) = action_fault_of(&self.problem, section, action, &anchor) {
             return Err(CardStop::Refused(kind));
         }
+        let name = match anchor {
+            Some(name) => name,
+            None => name_in(b""),
+        };
         self.action = action;
-        self.under = UnderAction::new(self.alloc, anchor);
+        self.under = UnderAction::new(self.alloc, name);
         Ok(())
     }
 
@@ -156,7 +165,7 @@ impl ReviseDraft {
         ensures stop { IfErr result (TellsDeckFault (standing_fault (state_shown self.old) section
             (card_bytes card.entry))) }
     {
-        if is_action(card.bytes()) {
+        if is_action(card, self.style) {
             return self.take_action(section, card);
         }
         self.take_data(section, card)
@@ -185,6 +194,7 @@ impl ReviseDraft {
         ensures no_fault { OnOk result (section_card_fault may_come_after self.old.section
             (card_bytes card.entry) ≡ None) }
         ensures step { OnOk result (state_shown self.new ≡ record (state_shown self.old) {
+          style = unwrap_or (style_begun (card_bytes card.entry)) self.old.style;
           section = option_or (named section_words (section_word (card_bytes card.entry)))
               self.old.section;
           action = None;
@@ -195,6 +205,7 @@ impl ReviseDraft {
             (card_bytes card.entry))) }
     {
         let section = next_section::<ReviseDraft>(self.section, card.bytes())?;
+        self.style = style_begun(card).unwrap_or(self.style);
         self.section = Some(section);
         self.action = None;
         self.under = UnderAction::new(self.alloc, name_in(b""));

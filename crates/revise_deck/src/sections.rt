@@ -2,18 +2,19 @@
 ghost use Rattle.std.specs.Prelude.{◌≡◌, ◌≤◌, ◌||◌, drop};
 ghost use Rattle.card_definitions.specs.Cards.{is_blank as is_blank_byte};
 ghost use Rattle.card_definitions.specs.Words.{named};
-ghost use Rattle.card_definitions.specs.Fields.{is_blank_column};
-ghost use Rattle.deck_definitions.specs.DataCards.{FixedFields};
+ghost use Rattle.card_definitions.specs.Fields.{is_blank_column, columns};
+ghost use Rattle.deck_definitions.specs.declared.Style.TheVariants.{FixedFields, FreeFields};
 ghost use Rattle.card_reader.specs.Card.{card_bytes};
-ghost use Rattle.problem_definitions.specs.Valid.{IsName};
 ghost use Rattle.deck_definitions.specs.declared.Section.TheVariants.{Rows, Columns};
 ghost use Rattle.deck_definitions.specs.Sections.{is_section};
-ghost use Rattle.revise_definitions.specs.Actions.{action_words, action_on, anchor_on, is_action_card};
-ghost use Rattle.revise_definitions.specs.Tests.{has_anchor, action_fault, inserts};
+ghost use Rattle.revise_definitions.specs.Actions.{action_words, action_on, anchor_on, deletes, is_action_card};
+ghost use Rattle.revise_definitions.specs.Tests.{has_anchor, lacks_anchor, action_fault, inserts};
 ghost use Rattle.revise_definitions.specs.Revision.{may_come_after};
 
 use card_reader::Card;
 use deck_cards::{first_word, is_blank, is_word, name_in, rank_of};
+use deck_definitions::Style;
+use deck_fields::{free_words, word_text};
 use deck_parts::{DeckFaultKind, Section};
 use name_table::Name;
 use revise_definitions::Action;
@@ -37,11 +38,29 @@ fn has_blank(card: &[u8], column: usize) -> bool
     }
 }
 
-// Whether a card is an action card.
-pub fn is_action(card: &[u8]) -> bool
+// Whether a card of a fixed deck is an action card.
+fn is_fixed_action(card: &[u8]) -> bool
     ensures { result ≡ is_action_card FixedFields card.now }
 {
     has_blank(card, 1) && !has_blank(card, 2) && !has_blank(card, 3) && !has_blank(card, 4)
+}
+
+// Whether a card of a free deck is an action card.
+fn is_free_action(card: Card<'_>) -> bool
+    ensures { result ≡ is_action_card FreeFields (card_bytes card.entry) }
+{
+    let words = free_words(card);
+    action_named(word_text(&words, 0)).is_some() && words.count <= 2
+}
+
+// Whether a card of a deck of this style is an action card.
+pub fn is_action(card: Card<'_>, style: Style) -> bool
+    ensures { result ≡ is_action_card style (card_bytes card.entry) }
+{
+    match style {
+        Style::FixedFields => is_fixed_action(card.bytes()),
+        Style::FreeFields => is_free_action(card),
+    }
 }
 
 // The action that a word names.
@@ -62,7 +81,7 @@ fn action_named(word: &[u8]) -> Option<Action>
 }
 
 // A text without its first byte.
-fn after_first_word(text: &[u8]) -> &[u8]
+fn after_first_byte(text: &[u8]) -> &[u8]
     ensures { result.now ≡ drop 1 text.now }
 {
     if text.is_empty() {
@@ -72,17 +91,44 @@ fn after_first_word(text: &[u8]) -> &[u8]
 }
 
 // The action on an action card.
-pub fn action_of(card: &[u8]) -> Option<Action>
-    ensures { result ≡ action_on FixedFields card.now }
+pub fn action_of(card: Card<'_>, style: Style) -> Option<Action>
+    ensures { result ≡ action_on style (card_bytes card.entry) }
 {
-    action_named(first_word(after_first_word(card)))
+    match style {
+        Style::FixedFields => action_named(first_word(after_first_byte(card.bytes()))),
+        Style::FreeFields => action_named(word_text(&free_words(card), 0)),
+    }
 }
 
-// The name on an action card.
-pub fn anchor_of(card: Card<'_>) -> Name
-    ensures { result ≡ anchor_on FixedFields (card_bytes card.entry) }
+// The name on an action card of a fixed deck.
+fn fixed_anchor(card: Card<'_>) -> Name
+    ensures { result ≡ columns 15 22 (card_bytes card.entry) }
 {
     name_in(card.field(15, 22))
+}
+
+// The name on an action card of a free deck, if it isn't longer than names are.
+fn free_anchor(card: Card<'_>) -> Option<Name>
+    ensures { result ≡ anchor_on FreeFields (card_bytes card.entry) }
+{
+    Name::of(word_text(&free_words(card), 1))
+}
+
+// The name on an action card of a deck of this style.
+pub fn anchor_of(card: Card<'_>, style: Style) -> Option<Name>
+    ensures { result ≡ anchor_on style (card_bytes card.entry) }
+{
+    match style {
+        Style::FixedFields => Some(fixed_anchor(card)),
+        Style::FreeFields => free_anchor(card),
+    }
+}
+
+// Whether the data cards under an action name what is to be deleted.
+pub fn is_deletion(action: Action) -> bool
+    ensures { result ≡ deletes action }
+{
+    matches!(action, Action::Delete)
 }
 
 // Whether an action puts new things in.
@@ -127,12 +173,22 @@ fn finds_anchor(seen: &NamedProblem, section: Section, anchor: &Name) -> bool
     }
 }
 
+// Whether a name isn't that of a thing that is there, or empty.
+fn has_no_anchor(seen: &NamedProblem, section: Section, anchor: &Option<Name>) -> bool
+    ensures { result ≡ lacks_anchor seen.now section anchor.now }
+{
+    match anchor {
+        Some(name) => !is_blank(name.bytes()) && !finds_anchor(seen, section, name),
+        None => true,
+    }
+}
+
 // The fault of an action card in a section.
 pub fn action_fault_of(
     seen: &NamedProblem,
     section: Section,
     action: Option<Action>,
-    anchor: &Name,
+    anchor: &Option<Name>,
 ) -> Option<DeckFaultKind>
     ensures { result ≡ action_fault seen.now section action anchor.now }
 {
@@ -142,7 +198,7 @@ pub fn action_fault_of(
     if puts_in(action) && !takes_new(section) {
         return Some(DeckFaultKind::UnknownAction);
     }
-    if puts_in(action) && !is_blank(anchor.bytes()) && !finds_anchor(seen, section, anchor) {
+    if puts_in(action) && has_no_anchor(seen, section, anchor) {
         return Some(DeckFaultKind::NoAnchor);
     }
     None

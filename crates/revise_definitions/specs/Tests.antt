@@ -15,7 +15,8 @@ use Rattle.deck_definitions.specs.declared.DeckFaultKind.TheVariants.{SectionOrd
 use Rattle.deck_definitions.specs.declared.Section.{Section}
 use Rattle.deck_definitions.specs.declared.Section.TheVariants.{Header, Rows, Columns, Rhs, Ranges, Bounds, Endata}
 use Rattle.deck_definitions.specs.Sections.{is_section}
-use Rattle.deck_definitions.specs.DataCards.{row_kinds, Style, form_on, Pair, pairs_of, entry_of}
+use Rattle.deck_definitions.specs.declared.Style.{Style}
+use Rattle.deck_definitions.specs.DataCards.{row_kinds, form_on, Pair, pairs_of, entry_of}
 use Rattle.deck_definitions.specs.Tests.{kind_filled, filled_from_3, filled_from_4, filled_from_5, combination_kinds, rows_fault, marks, value_fault, pair_row_fault, pairs_fault, bound_value_fault, of_bound_type}
 use Rattle.deck_definitions.specs.Conversion.{form_fault}
 use Rattle.revise_definitions.specs.declared.Action.{Action}
@@ -35,12 +36,17 @@ abbrev pub has_anchor : Problem Name → Section → Name → Bool
 has_anchor seen Rows name = has_row seen.rows name
 has_anchor seen _ name = has_group seen.columns name
 
+-- whether a name isn't that of a thing that is there, or empty
+abbrev pub lacks_anchor : Problem Name → Section → Option Name → Bool
+lacks_anchor seen section None = true
+lacks_anchor seen section (Some name) = not (is_empty name) && not (has_anchor seen section name)
+
 -- BEFORE and AFTER stand in ROWS and COLUMNS alone, and name a thing that is there, or none.
-abbrev pub action_fault : Problem Name → Section → Option Action → Name → Option DeckFaultKind
+abbrev pub action_fault : Problem Name → Section → Option Action → Option Name → Option DeckFaultKind
 action_fault seen section None name = Some UnknownAction
 action_fault seen section (Some action) name = first_fault (
     (inserts action && not (is_section Rows section || is_section Columns section) ⟹ UnknownAction) ∷
-    (inserts action && not (is_empty name) && not (has_anchor seen section name) ⟹ NoAnchor) ∷ [])
+    (inserts action && lacks_anchor seen section name ⟹ NoAnchor) ∷ [])
 
 -- ---- ROWS
 
@@ -165,7 +171,6 @@ edit_fault seen Endata _ under card = Some SectionOrder
 abbrev pub action_data_fault : Problem Name → Style → Section → Option Action → List Reading → List ℕ → Option DeckFaultKind
 action_data_fault seen style section None under card = Some UnknownAction
 action_data_fault seen style section (Some action) under card =
-    let form = form_on style section (deletes action) card in
     first_fault (
-    form_fault form card ∷
-    edit_fault seen section action under (reading_of form card) ∷ [])
+    form_fault style section (deletes action) card ∷
+    edit_fault seen section action under (reading_of (form_on style section (deletes action) card) card) ∷ [])

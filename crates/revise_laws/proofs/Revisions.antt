@@ -1,5 +1,5 @@
 -- What a REVISE deck makes of a lawful problem is lawful.
-use Rattle.std.proofs.Common.{◌≡◌, ℕ, Bool, true, false, cond, not, List, [], ◌∷◌, ◌++◌, Option, Some, None, Result, Ok, Err, refl, ap, sym, subst, unwrap_or}
+use Rattle.std.proofs.Common.{◌≡◌, ℕ, Bool, true, false, cond, not, List, [], ◌∷◌, ◌++◌, Option, Some, None, Result, Ok, Err, refl, ap, sym, ◌∙◌, subst, unwrap_or}
 use Rattle.std.specs.List.{list_all}
 use Rattle.std.specs.Option.{option_map, option_or, IfSome}
 use Rattle.std.proofs.lemmas.List.{append_assoc, append-nil}
@@ -18,13 +18,14 @@ use Rattle.deck_definitions.specs.declared.DeckFaultKind.TheVariants.{NoEndata}
 use Rattle.deck_definitions.specs.declared.Section.{Section}
 use Rattle.deck_definitions.specs.declared.Section.TheVariants.{Header, Rows, Columns, Rhs, Ranges, Bounds, Endata}
 use Rattle.deck_definitions.specs.Sections.{is_section_card, section_after, is_section_after}
-use Rattle.deck_definitions.specs.DataCards.{Style, style_of, form_on}
+use Rattle.deck_definitions.specs.declared.Style.{Style}
+use Rattle.deck_definitions.specs.DataCards.{style_of, form_on}
 use Rattle.deck_definitions.specs.Conversion.{section_card_fault, form_fault, first_faulty, deck_name}
 use Rattle.deck_definitions.proofs.CardTexts.{IsReading, reading-lawful}
 use Rattle.deck_definitions.proofs.Converted.{ArePrintable, printable_live, deck_name-name}
 use Rattle.revise_definitions.specs.declared.Action.{Action}
 use Rattle.revise_definitions.specs.declared.Action.TheVariants.{Modify, Delete, Before, After}
-use Rattle.revise_definitions.specs.Actions.{deletes, is_action_card, action_on, anchor_on, action_after, anchor_after, under_after, edit_of, is_heading}
+use Rattle.revise_definitions.specs.Actions.{deletes, is_action_card, action_on, anchor_on, action_after, anchor_after, under_after, edit_in, edit_of, is_heading}
 use Rattle.revise_definitions.specs.Edits.{edited, delete_column, without_row}
 use Rattle.revise_definitions.specs.Tests.{action_fault, edit_fault, action_data_fault}
 use Rattle.revise_definitions.specs.Revision.{revised, may_come_after, inner_card_fault, revise_card_fault, revise_fault, revision}
@@ -89,15 +90,14 @@ inner-passes seen before (Some Endata) card h = record { place = Endata; stands 
 record DataPasses (seen : Problem Name) (style : Style) (place : Section) (action : Option Action) (under : List Reading) (card : List ℕ) : Type 0 where
   by_action : Action
   holds : action ≡ Some by_action
-  formed : form_fault (form_on style place (deletes by_action) card) card ≡ None
+  formed : form_fault style place (deletes by_action) card ≡ None
   fine : edit_fault seen place by_action under (reading_of (form_on style place (deletes by_action) card) card) ≡ None
 
 data-passes : (seen : Problem Name) (style : Style) (place : Section) (action : Option Action) (under : List Reading) (card : List ℕ) → action_data_fault seen style place action under card ≡ None
     → DataPasses seen style place action under card
 data-passes seen style place None under card h = absurd (cc h)
 data-passes seen style place (Some action) under card h =
-    let form = form_on style place (deletes action) card in
-    let both = passes (form_fault form card ∷ edit_fault seen place action under (reading_of form card) ∷ []) h in
+    let both = passes (form_fault style place (deletes action) card ∷ edit_fault seen place action under (reading_of (form_on style place (deletes action) card) card) ∷ []) h in
     record { by_action = action; holds = refl; formed = both.0; fine = both.1.0 }
 
 -- a section card or an action card edits nothing
@@ -107,7 +107,15 @@ no-edit before card heading = rw heading refl
 -- a data card stands for an edit
 one-edit : (before : List Card) (card : Card) (section : Section) (action : Action) → is_heading (style_of before) card.bytes ≡ false → section_after before ≡ Some section → action_after before ≡ Some action
     → edit_of before card ≡ Some (record { section = section; action = action; anchor = anchor_after before; under = under_after before; card = reading_of (form_on (style_of before) section (deletes action) card.bytes) card.bytes })
-one-edit before card section action heading stands holds = rw (heading, stands, holds) refl
+one-edit before card section action heading stands holds =
+    (λ i. cond (heading i) None (edit_in before card (stands i) (holds i)))
+    ∙ (λ i. Some (record {
+      section = section;
+      action = action;
+      anchor = anchor_after before;
+      under = under_after before;
+      card = reading_of (form_on (style_of before) (unwrap_or (stands i) Header) (unwrap_or (option_map deletes (holds i)) false) card.bytes) card.bytes;
+    }))
 
 module _ (old : Problem Name) where
   -- an accepted card keeps the revised problem lawful
@@ -126,7 +134,7 @@ module _ (old : Problem Name) where
           let pass = data-passes (revised old before) (style_of before) place (action_after before) (under_after before) card.bytes h in
           let form = form_on (style_of before) place (deletes pass.by_action) card.bytes in
           subst (λ edit. IsLawful (with_edit edit (revised old before))) (sym (one-edit before card place pass.by_action (rw (e, a) refl) stands pass.holds))
-          (edit-step (revised old before) lawful place pass.by_action (anchor_after before) (under_after before) (reading_of form card.bytes) (reading-lawful form card.bytes printable pass.formed) pass.fine)
+          (edit-step (revised old before) lawful place pass.by_action (anchor_after before) (under_after before) (reading_of form card.bytes) (reading-lawful place (deletes pass.by_action) card.bytes (style_of before) printable pass.formed) pass.fine)
 
       by : (b : Bool) → is_section_card card.bytes ≡ b → cond b (section_card_fault may_come_after (section_after before) card.bytes) (inner_card_fault (revised old before) before (section_after before) card.bytes) ≡ None
           → IsLawful (with_edit (edit_of before card) (revised old before))

@@ -21,7 +21,7 @@ abbrev pub silent : Solving
 silent = record {
   Solves = λ solver sheet basis limit end. ⊥;
   Sweeps = λ sheet basis sweep end. ⊥;
-  Shows = λ sheet basis lines. ⊥;
+  Shows = λ mark sheet basis lines. ⊥;
   Ranges = λ sheet basis lines. ⊥;
   Punches = λ sheet basis cards. ⊥;
   Installs = λ sheet basis end. ⊥;

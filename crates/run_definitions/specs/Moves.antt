@@ -13,6 +13,7 @@ use Rattle.question_definitions.specs.Answers.{Basis, Sheet, Question, Answer}
 use Rattle.question_definitions.specs.Solving.{Solving, IsRight}
 use Rattle.listing_definitions.specs.declared.VerbFault.{VerbFault}
 use Rattle.listing_definitions.specs.Report.{Report}
+use Rattle.listing_definitions.specs.Text.{report_text}
 use Rattle.listing_definitions.specs.Ending.{Place, Ending, VerbStop, OverflowStop}
 use Rattle.run_definitions.specs.State.{State}
 
@@ -31,6 +32,12 @@ abbrev pub punched_by : Gain → List (List ℕ)
 punched_by Nothing = []
 punched_by (Prints report) = []
 punched_by (Punches report cards) = cards
+
+-- the text of what it prints
+abbrev pub gain_text : Gain → List ℕ
+gain_text Nothing = []
+gain_text (Prints report) = report_text report
+gain_text (Punches report cards) = report_text report
 
 -- the run goes on with this state, or ends so
 pub data Outcome : Type 0 where

@@ -91,17 +91,17 @@ module _ (S : Solving) (solving : KnowsSolving S) where
     end_of_step_holds reports cards state gain ending reaches step =
         uncounted_end state ending (step_keeps program state (Ends gain ending) (has_problem reports cards state reaches) (known reports cards state reaches) step).1
 
-    so_far_holds : (reports : List Report) (cards : List (List ℕ)) (state : State) (reaches : Reaches S program (job_decks program bytes) reports cards state) → HoldSoFar S program (job_decks program bytes) reaches
+    so_far_holds : (reports : List Report) (cards : List (List ℕ)) (state : State) (reaches : Reaches S program (job_decks program bytes) reports cards state) → HoldSoFar S Holds program (job_decks program bytes) reaches
     so_far_holds _ _ _ begun = tt
     so_far_holds _ _ _ (stepped {reports} {cards} {state} gain after before step) =
         (so_far_holds reports cards state before, step_holds reports cards state (Goes gain after) before step)
 
-    run_holds : (reports : List Report) (cards : List (List ℕ)) (ending : Ending) (runs : IsRun S program (job_decks program bytes) reports cards ending) → HoldInRun S program (job_decks program bytes) runs
+    run_holds : (reports : List Report) (cards : List (List ℕ)) (ending : Ending) (runs : IsRun S program (job_decks program bytes) reports cards ending) → HoldInRun S Holds HoldsAtEnd program (job_decks program bytes) runs
     run_holds _ _ _ (is_over {reports} {cards} {state} before over) = so_far_holds reports cards state before
     run_holds _ _ ending (is_ended {reports} {cards} {state} gain before step) =
         (so_far_holds reports cards state before, step_holds reports cards state (Ends gain ending) before step, end_of_step_holds reports cards state gain ending before step)
 
-  job_holds : (bytes : List ℕ) (reports : List Report) (cards : List (List ℕ)) (ending : Ending) (runs : IsJobRun S bytes reports cards ending) → HoldInJob S runs
+  job_holds : (bytes : List ℕ) (reports : List Report) (cards : List (List ℕ)) (ending : Ending) (runs : IsJobRun S bytes reports cards ending) → HoldInJob S Holds HoldsAtEnd runs
   job_holds bytes _ _ _ (card_fault fault is) = tt
   job_holds bytes _ _ _ (control_fault fault is compiled) = tt
   job_holds bytes reports cards ending (run program is runs) = run_holds bytes program is reports cards ending runs
@@ -137,7 +137,7 @@ pub knows_linear_programming : KnowsSolving linear_programming
 unfolding linear_programming
 knows_linear_programming = record {
   solves = λ solver sheet s limit end solved. solved;
-  shows = λ sheet s lines shown. shown;
+  shows = λ mark sheet s lines shown. shown;
   ranges = λ sheet s lines ranged. ranged;
   sweeps = λ sheet s sweep end ran. ran;
   punches = λ sheet s cards punched. punched;

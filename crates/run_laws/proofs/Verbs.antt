@@ -354,7 +354,7 @@ module _ (S : Solving) (solving : KnowsSolving S) where
   shows_kept card state lawful knows =
       unless_fault S state card VerbFault.NoSetup state.setup _ (λ present e.
       unless_fault S state card VerbFault.NotSolved state.mark _ (λ mark m.
-      showing card state present (OfSolution mark) (Solution mark) knows (λ lp is lines shown. solution_holds mark state present lp lines lawful knows m e is (solving.shows _ _ lines shown))))
+      showing card state present (OfSolution mark) (Solution mark) knows (λ lp is lines shown. solution_holds mark state present lp lines lawful knows m e is (solving.shows _ _ _ lines shown))))
 
   ranges_kept : (card : ℕ) (state : State) → HasProblem state.setup → Knows state → IsKept S state card (ranges card state)
   ranges_kept card state lawful knows =

@@ -10,6 +10,7 @@
 use Rattle.std.specs.Prelude.{◌≡◌, ℕ, List, All, Option, None, Some}
 use Rattle.problem_definitions.specs.Valid.{IsProblem}
 use Rattle.control_definitions.specs.Program.{Primal, Program}
+use Rattle.listing_definitions.specs.declared.Mark.{Mark}
 use Rattle.listing_definitions.specs.declared.Solver.{Solver}
 use Rattle.listing_definitions.specs.Report.{SolutionLines, RangeLines, Report}
 use Rattle.listing_definitions.specs.Ending.{Ending, LimitStop}
@@ -33,7 +34,7 @@ use Rattle.run_laws.specs.Headline.{HoldInJob}
 -- comes of the basis that INSERT reads are those of the linear program
 pub record KnowsSolving (S : Solving) : Type 0 where
   pub solves : (solver : Solver) (sheet : Sheet) (s : Basis) (limit : Option ℕ) (end : PathEnd) → S.Solves solver sheet s limit end → IsSolvedBy solver sheet s limit end
-  pub shows : (sheet : Sheet) (s : Basis) (lines : SolutionLines) → S.Shows sheet s lines → IsShown sheet s lines
+  pub shows : (mark : Mark) (sheet : Sheet) (s : Basis) (lines : SolutionLines) → S.Shows mark sheet s lines → IsShown sheet s lines
   pub ranges : (sheet : Sheet) (s : Basis) (lines : RangeLines) → S.Ranges sheet s lines → IsRanged sheet s lines
   pub sweeps : (sheet : Sheet) (s : Basis) (sweep : Sweep) (end : SweepEnd) → S.Sweeps sheet s sweep end → IsSwept sheet s sweep end
   pub punches : (sheet : Sheet) (s : Basis) (cards : List (List ℕ)) → S.Punches sheet s cards → ArePunched sheet s cards
@@ -54,7 +55,7 @@ pub record TellsTruth (S : Solving) : Type 0 where
       (gain : Gain) (ending : Ending) → IsSoFar S bytes reports cards program state →
       Step S program state (Ends gain ending) → HoldsAtEnd state ending
   pub job : (bytes : List ℕ) (reports : List Report) (cards : List (List ℕ)) (ending : Ending) →
-      (runs : IsJobRun S bytes reports cards ending) → HoldInJob S runs
+      (runs : IsJobRun S bytes reports cards ending) → HoldInJob S Holds HoldsAtEnd runs
 
 -- In the run of a job, every problem that is filed keeps what is asked of one, and so does that of the
 -- setup.

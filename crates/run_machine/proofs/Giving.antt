@@ -15,13 +15,13 @@ use Rattle.listing_definitions.specs.Text.{report_text}
 use Rattle.listing_definitions.specs.Ending.{VerbStop}
 use Rattle.question_definitions.specs.Solving.{Solving}
 use Rattle.run_definitions.specs.State.{State, problem_of}
-use Rattle.run_definitions.specs.Moves.{Gain, Nothing, Prints, punched_by, Outcome, stops, Move, Gives, or_fault, gain_of}
+use Rattle.run_definitions.specs.Moves.{Gain, Nothing, Prints, punched_by, Outcome, stops, Move, Gives, or_fault, gain_of, gain_text}
 use Rattle.run_definitions.specs.Verbs.{or_selection_fault, selection_verb_fault, verb_move}
 use Rattle.run_machine.specs.declared.act.Act.{Act}
 use Rattle.run_machine.specs.declared.act.Halt.TheVariants as halt
 use Rattle.run_machine.specs.Machines.{Machine}
 use Rattle.run_machine.specs.Standing.{filed, Stands}
-use Rattle.run_machine.specs.Statements.{Comes, Executes, gain_text}
+use Rattle.run_machine.specs.Statements.{Comes, Executes}
 use Rattle.answer_definitions.specs.Real.{linear_programming}
 
 -- the problem that a cell names, or the one filed last, is the same in the state

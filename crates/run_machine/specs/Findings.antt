@@ -14,7 +14,7 @@ use Rattle.listing_definitions.specs.declared.Mark.{Mark}
 use Rattle.listing_definitions.specs.declared.Mark.TheVariants.{Optimal, Infeasible, Unbounded}
 use Rattle.control_definitions.specs.Cells.{Cells, steps_allowed}
 use Rattle.question_definitions.specs.Answers.{Basis}
-use Rattle.run_definitions.specs.Moves.{Gain}
+use Rattle.run_definitions.specs.Moves.{Gain, gain_text}
 use Rattle.run_machine.specs.declared.act.Act.{Act}
 use Rattle.run_machine.specs.declared.act.Act.TheVariants.{Next, Jump, Ends}
 use Rattle.run_machine.specs.declared.act.Halt.{Halt}
@@ -28,7 +28,6 @@ use Rattle.run_machine.specs.declared.selecting.Refusal.{Refusal}
 use Rattle.run_machine.specs.declared.selecting.Refusal.TheVariants.{Fault, NoMemory}
 use Rattle.run_machine.specs.declared.selecting.Refusal.TheVariants as refusals
 use Rattle.run_machine.specs.Ends.{place_shown}
-use Rattle.run_machine.specs.Statements.{gain_text}
 
 -- ---- what stops a call
 

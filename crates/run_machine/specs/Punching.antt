@@ -8,14 +8,14 @@ use Rattle.control_definitions.specs.Program.{Verb}
 use Rattle.listing_definitions.specs.Report.{Report}
 use Rattle.question_definitions.specs.Solving.{Solving}
 use Rattle.run_definitions.specs.State.{State}
-use Rattle.run_definitions.specs.Moves.{Gain, Punches, punched_by, Outcome, Goes, gain_of, Gives}
+use Rattle.run_definitions.specs.Moves.{Gain, Punches, punched_by, Outcome, Goes, gain_of, Gives, gain_text}
 use Rattle.run_definitions.specs.Verbs.{verb_move}
 use Rattle.run_machine.specs.declared.act.Act.{Act}
 use Rattle.run_machine.specs.declared.act.Halt.{Halt}
 use Rattle.run_machine.specs.declared.act.Halt.TheVariants as halt
 use Rattle.run_machine.specs.Machines.{Machine}
 use Rattle.run_machine.specs.Standing.{Stands}
-use Rattle.run_machine.specs.Statements.{gain_text, Comes}
+use Rattle.run_machine.specs.Statements.{Comes}
 
 -- the text of the cards that a gain punches
 abbrev pub gain_cards : Gain → List ℕ

@@ -7,10 +7,9 @@ use Rattle.std.specs.Prelude.{◌≡◌, ℕ, ◌≤◌, List, [], Option, Resul
 use Rattle.job_devices.specs.declared.device.WriteStop.{WriteStop}
 use Rattle.job_devices.specs.Text.{Writes}
 use Rattle.control_definitions.specs.Program.{Verb, MoveLimit, Mvadr, Goto}
-use Rattle.listing_definitions.specs.Text.{report_text}
 use Rattle.question_definitions.specs.Solving.{Solving}
 use Rattle.run_definitions.specs.State.{State}
-use Rattle.run_definitions.specs.Moves.{Gain, Nothing, Prints, Punches, punched_by, Outcome, Goes, Ends, gain_of, next, jump, Move, Gives}
+use Rattle.run_definitions.specs.Moves.{Gain, Nothing, punched_by, gain_text, Outcome, Goes, Ends, gain_of, next, jump, Move, Gives}
 use Rattle.run_definitions.specs.Verbs.{verb_move}
 use Rattle.run_machine.specs.declared.act.Act.{Act}
 use Rattle.run_machine.specs.declared.act.Act.TheVariants as act
@@ -26,12 +25,6 @@ IsSoundVerb (MoveLimit limit) = IfSome limit (λ steps. steps ≤ 1000000)
 IsSoundVerb (Mvadr demand position) = 1 ≤ position
 IsSoundVerb (Goto position) = 1 ≤ position
 IsSoundVerb _ = Unit {0}
-
--- what a gain prints
-abbrev pub gain_text : Gain → List ℕ
-gain_text Nothing = []
-gain_text (Prints report) = report_text report
-gain_text (Punches report cards) = report_text report
 
 -- the run goes on with a state that the machine shows, or it ends
 abbrev pub Follows : Solving → ℕ → Move → List (List ℕ) → Machine → ℕ → ℕ → Gain → Act → Type 0

@@ -4,6 +4,8 @@
 #[cfg(test)]
 mod cycling_tests;
 #[cfg(test)]
+mod dual_tests;
+#[cfg(test)]
 mod table_tests;
 #[cfg(test)]
 mod tests;

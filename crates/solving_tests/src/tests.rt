@@ -1,4 +1,4 @@
-ghost use Rattle.std.specs.Prelude.{◌≡◌, IfOk};
+ghost use Rattle.std.specs.Prelude.{◌≡◌, None, IfOk};
 ghost use Rattle.lp_definitions.specs.LinearProgram.{size};
 ghost use Rattle.bounded_primal.specs.Outcomes.{IsTrueOutcome};
 
@@ -20,33 +20,33 @@ pub fn limit(n: i32) -> Option<Frac> {
 
 /// What a variable lies between.
 #[derive(Clone, Copy)]
-struct Limits {
-    low: Option<Frac>,
-    high: Option<Frac>,
+pub struct Limits {
+    pub low: Option<Frac>,
+    pub high: Option<Frac>,
 }
 
-fn free() -> Limits {
+pub fn free() -> Limits {
     Limits {
         low: None,
         high: None,
     }
 }
 
-fn at_least(n: i32) -> Limits {
+pub fn at_least(n: i32) -> Limits {
     Limits {
         low: limit(n),
         high: None,
     }
 }
 
-fn at_most(n: i32) -> Limits {
+pub fn at_most(n: i32) -> Limits {
     Limits {
         low: None,
         high: limit(n),
     }
 }
 
-fn between(low: i32, high: i32) -> Limits {
+pub fn between(low: i32, high: i32) -> Limits {
     Limits {
         low: limit(low),
         high: limit(high),
@@ -54,8 +54,9 @@ fn between(low: i32, high: i32) -> Limits {
 }
 
 /// Four rows, of which the first is the cost, and three columns. The least cost is 54.
-fn testprob(alloc: Global) -> Result<Lp, AllocError>
-    ensures { IfOk result (λ lp. size lp.matrix ≡ 7) }
+pub fn testprob(alloc: Global) -> Result<Lp, AllocError>
+    ensures size { IfOk result (λ lp. size lp.matrix ≡ 7) }
+    ensures no_change { IfOk result (λ lp. lp.change ≡ None) }
 {
     let x = vec![in alloc;
         Entry {
@@ -215,7 +216,7 @@ pub fn beale(alloc: Global) -> Result<Lp, AllocError>
 }
 
 /// A cost row, a row within limits, and a column that has these numbers on them.
-fn one_row(
+pub fn one_row(
     alloc: Global,
     cost: Frac,
     number: Frac,
@@ -223,7 +224,8 @@ fn one_row(
     column: Limits,
     sense: Sense,
 ) -> Result<Lp, AllocError>
-    ensures { IfOk result (λ lp. size lp.matrix ≡ 3) }
+    ensures size { IfOk result (λ lp. size lp.matrix ≡ 3) }
+    ensures no_change { IfOk result (λ lp. lp.change ≡ None) }
 {
     let x = vec![in alloc;
         Entry {
@@ -253,8 +255,9 @@ fn one_row(
 }
 
 /// A cost row, and two rows within limits that have the value of the column, which is not negative. The least cost is sought.
-fn two_rows(alloc: Global, cost: i32, first: Limits, second: Limits) -> Result<Lp, AllocError>
-    ensures { IfOk result (λ lp. size lp.matrix ≡ 4) }
+pub fn two_rows(alloc: Global, cost: i32, first: Limits, second: Limits) -> Result<Lp, AllocError>
+    ensures size { IfOk result (λ lp. size lp.matrix ≡ 4) }
+    ensures no_change { IfOk result (λ lp. lp.change ≡ None) }
 {
     let x = vec![in alloc;
         Entry {

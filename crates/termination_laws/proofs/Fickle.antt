@@ -55,17 +55,17 @@ module _ (p : LinearProgram) where
     pub stands : v.move.to ≢ Bs
 
   module _ (v : Visit) (ex : Exchanges v) where
-    entered : status_of (after v.basis v.move) v.move.enters ≡ Bs
+    pub entered : status_of (after v.basis v.move) v.move.enters ≡ Bs
     entered =
         changed_other p v.basis ex.basis v.move.leaves v.move.enters v.move.to (with_status v.basis v.move.enters Bs) ex.leaves_is ex.enters_is (λ e. ex.enters (ap (status_of v.basis) e ∙ ex.leaves))
         ∙ changed_own p v.basis ex.basis v.move.enters Bs v.basis ex.basis.counted ex.enters_is
 
-    left : status_of (after v.basis v.move) v.move.leaves ≡ v.move.to
+    pub left : status_of (after v.basis v.move) v.move.leaves ≡ v.move.to
     left =
         let counted : length (with_status v.basis v.move.enters Bs) ≡ size p.matrix = rw length-set ex.basis.counted in
         changed_own p v.basis ex.basis v.move.leaves v.move.to (with_status v.basis v.move.enters Bs) counted ex.leaves_is
 
-    stayed : (k : ℕ) → IsVariable p.matrix k → k ≢ v.move.enters → k ≢ v.move.leaves → status_of (after v.basis v.move) k ≡ status_of v.basis k
+    pub stayed : (k : ℕ) → IsVariable p.matrix k → k ≢ v.move.enters → k ≢ v.move.leaves → status_of (after v.basis v.move) k ≡ status_of v.basis k
     stayed k is in_other out_other =
         changed_other p v.basis ex.basis v.move.leaves k v.move.to (with_status v.basis v.move.enters Bs) ex.leaves_is is out_other
         ∙ changed_other p v.basis ex.basis v.move.enters k Bs v.basis ex.enters_is is in_other

@@ -1,6 +1,6 @@
 -- In the first phase the variable that left last is not the one to come in again, where nothing past it has changed.
 use Rattle.std.proofs.Common.{◌≡◌, ◌≢◌, ℕ, suc, ◌-◌, ◌<◌, ◌≤◌, ◌⊎◌, inl, inr, true, false, List, pos, refl, sym, ap, subst, ◌∙◌, arith}
-use Rattle.std.specs.Prelude.{Some, IfSome, not, ◌&&◌, if◌then◌else◌, eqb, leb}
+use Rattle.std.specs.Prelude.{IfSome, not, ◌&&◌, if◌then◌else◌, eqb, leb}
 use Rattle.std.proofs.lemmas.Bool.Decides.{eqb_tells, leb_tells}
 use Rattle.exact_values.specs.Rational.{zero_ℚ, ◌-ℚ◌, ◌*ℚ◌, ◌≤ℚ◌, ◌<ℚ◌}
 use Rattle.exact_values.specs.Sums.{sum_to}
@@ -18,19 +18,22 @@ use Rattle.lp_laws.proofs.Uniqueness.{is_in-basics_of, one_place}
 use Rattle.lp_laws.proofs.Combination.{by_nonbasics}
 use Rattle.lp_laws.proofs.Statuses.{status_of_nonbasic}
 use Rattle.method_definitions.specs.Moves.{is_below, is_outside, is_crossed, is_fixed, lowers, signed}
-use Rattle.method_definitions.specs.Path.{excess_rate, mover}
+use Rattle.method_definitions.specs.Path.{excess_rate}
 use Rattle.path_laws.specs.Laws.{IsNonsingularBasis}
-use Rattle.path_laws.proofs.Numbered.{find_none, find_some}
+use Rattle.path_laws.proofs.Numbered.{find_none}
 use Rattle.path_laws.proofs.Turns.{IsFirstPhase}
 use Rattle.path_laws.proofs.Ends.{right, inside, low_of, high_of, and_true}
-use Rattle.path_laws.proofs.Endless.{enters, IsEntering}
+use Rattle.path_laws.proofs.Endless.{lowering_enters, IsEntering}
 use Rattle.path_laws.proofs.Rays.{Breaks, breaks_lower, breaks_upper, broken_basic, broken_limit}
 use Rattle.termination_laws.proofs.Numbers.{find_before, against_product, still_product, weighed, signed_sum}
 use Rattle.termination_laws.proofs.Resting.{StopsAt, idle_stops, moving, comes_back}
 
--- at the first basis t comes in to bring r back, and at the second t is the first that is outside its limits
+-- at the first basis t comes in to bring r back, and each nonbasic before t doesn't bring it back, or has one value at both; and at the
+-- second t is the first that is outside its limits
 module _ (p : LinearProgram) (s₁ s₂ : List Status) (t₁ t₂ : Tableau) (at₁ : IsNonsingularBasis p s₁) (at₂ : IsNonsingularBasis p s₂) (tab₁ : IsTableau p s₁ t₁) (tab₂ : IsTableau p s₂ t₂)
-    (r t : ℕ) (phase₁ : IsFirstPhase p s₁ t₁ r) (moves : mover p s₁ t₁ (Some r) ≡ Some t) (phase₂ : IsFirstPhase p s₂ t₂ t)
+    (r t : ℕ) (phase₁ : IsFirstPhase p s₁ t₁ r) (is_t : IsVariable p.matrix t) (lowers_it : lowers p s₁ (excess_rate t₁.rate r (is_below p t₁.point r)) t ≡ true)
+    (earlier : (k : ℕ) → IsVariable p.matrix k → k < t → is_in (basics_of s₁) k ≡ false → (lowers p s₁ (excess_rate t₁.rate r (is_below p t₁.point r)) k ≡ false) ⊎ (t₂.point k ≡ t₁.point k))
+    (phase₂ : IsFirstPhase p s₂ t₂ t)
     (left : status_of s₁ t ≡ (if is_below p t₂.point t then Ll else Ul)) (past : (k : ℕ) → IsVariable p.matrix k → t < k → status_of s₁ k ≡ status_of s₂ k) where
   abbrev x : Vector
   x k = t₂.point k -ℚ t₁.point k
@@ -39,7 +42,7 @@ module _ (p : LinearProgram) (s₁ s₂ : List Status) (t₁ t₂ : Tableau) (at
   e = excess_rate t₁.rate r (is_below p t₁.point r)
 
   entered : IsEntering p s₁ e t
-  entered = enters p s₁ e t at₁.is_basis moves
+  entered = lowering_enters p s₁ e t at₁.is_basis is_t lowers_it
 
   keeps : KeepsEquations p.matrix x
   keeps = KeepsEquations-sub p.matrix t₂.point t₁.point tab₂.is_point.keeps tab₁.is_point.keeps
@@ -61,19 +64,23 @@ module _ (p : LinearProgram) (s₁ s₂ : List Status) (t₁ t₂ : Tableau) (at
   back : zero_ℚ <ℚ x t *ℚ e t
   back =
       comes_back (status_of s₁ t) (is_fixed p t) (lower_of p t) (upper_of p t) (t₁.point t) (t₂.point t) (e t) (is_below p t₂.point t) left (tab₁.is_point.placed t entered.is_variable)
-      (moving (status_of s₁ t) (is_fixed p t) (e t) (find_some (lowers p s₁ e) (size p.matrix) 1 t moves).passes) (broken_limit p s₂ t₂ t phase₂)
+      (moving (status_of s₁ t) (is_fixed p t) (e t) lowers_it) (broken_limit p s₂ t₂ t phase₂)
 
   before_term : (k : ℕ) → IsVariable p.matrix k → k < t → is_in (basics_of s₁) k ≡ false → zero_ℚ ≤ℚ x k *ℚ e k
-  before_term k is before out =
-      against_product (e k) (x k) (record {
-        rising = λ h. le_by_one (high_of (upper_of p k) (t₂.point k) (t₁.point k) (in_limits k is before).1 (stops.rising h)) (by_ring2 (t₂.point k) (t₁.point k) (λ y z. number (pos 0) ≐ (y ⊖ z) ⊕ (z ⊖ y)) refl);
-        falling = λ h. le_by_one (low_of (lower_of p k) (t₂.point k) (t₁.point k) (in_limits k is before).0 (stops.falling h)) (by_ring2 (t₂.point k) (t₁.point k) (λ y z. y ⊖ z ≐ number (pos 0) ⊕ (y ⊖ z)) refl);
-      })
+  before_term k is before out = by_case (earlier k is before out)
     where
-      stops : StopsAt (lower_of p k) (upper_of p k) (t₁.point k) (e k)
-      stops =
+      stops : lowers p s₁ e k ≡ false → StopsAt (lower_of p k) (upper_of p k) (t₁.point k) (e k)
+      stops idle =
           idle_stops (status_of s₁ k) (lower_of p k) (upper_of p k) (t₁.point k) (e k) (status_of_nonbasic p s₁ at₁.is_basis k (is, out)) (at₁.is_basis.allowed k is) (tab₁.is_point.placed k is)
-          (right (status_of s₁ k) (lower_of p k) (upper_of p k) (e k) (is_fixed p k) refl (find_before (lowers p s₁ e) (size p.matrix) 1 t moves k is.0 before))
+          (right (status_of s₁ k) (lower_of p k) (upper_of p k) (e k) (is_fixed p k) refl idle)
+
+      by_case : (lowers p s₁ e k ≡ false) ⊎ (t₂.point k ≡ t₁.point k) → zero_ℚ ≤ℚ x k *ℚ e k
+      by_case (inl idle) =
+          against_product (e k) (x k) (record {
+            rising = λ h. le_by_one (high_of (upper_of p k) (t₂.point k) (t₁.point k) (in_limits k is before).1 ((stops idle).rising h)) (by_ring2 (t₂.point k) (t₁.point k) (λ y z. number (pos 0) ≐ (y ⊖ z) ⊕ (z ⊖ y)) refl);
+            falling = λ h. le_by_one (low_of (lower_of p k) (t₂.point k) (t₁.point k) (in_limits k is before).0 ((stops idle).falling h)) (by_ring2 (t₂.point k) (t₁.point k) (λ y z. y ⊖ z ≐ number (pos 0) ⊕ (y ⊖ z)) refl);
+          })
+      by_case (inr same) = still_product (e k) (x k) (ap (λ v. v -ℚ t₁.point k) same ∙ sub-self (t₁.point k))
 
   past_term : (k : ℕ) → IsVariable p.matrix k → t < k → is_in (basics_of s₁) k ≡ false → zero_ℚ ≤ℚ x k *ℚ e k
   past_term k is after out =

@@ -3,8 +3,11 @@ pub mod Fickle
 pub mod Numbers
 pub mod Resting
 pub mod FirstClash
+pub mod Returns
 pub mod SecondClash
 pub mod Runs
 pub mod Phases
 pub mod Counts
+pub mod DualGains
+pub mod DualCycles
 pub mod Ending

@@ -1,38 +1,36 @@
 -- No closed walk goes over visits of the path.
-use Rattle.std.proofs.Common.{◌≡◌, ◌≢◌, ℕ, ◌<◌, ◌⊎◌, inl, inr, Bool, true, false, List, [], ◌∷◌, pos, refl, sym, ap, subst, ◌∙◌}
-use Rattle.std.specs.Prelude.{Some, if◌then◌else◌}
+use Rattle.std.proofs.Common.{◌≡◌, ◌≢◌, ℕ, ◌<◌, ◌⊎◌, inl, inr, Bool, List, [], ◌∷◌, pos, refl, sym, ap, subst, ◌∙◌, arith}
+use Rattle.std.specs.Prelude.{Some}
 use Rattle.exact_values.specs.Rational.{ℚ, zero_ℚ, ◌+ℚ◌, ◌*ℚ◌, ◌≤ℚ◌}
 use Rattle.exact_values.proofs.Ring.{by_ring2, ◌⊕◌, ◌⊗◌, ◌≐◌, number}
 use Rattle.exact_values.proofs.Order.{le_of_eq, le_trans, lt_not_le}
-use Rattle.lp_definitions.specs.LinearProgram.{LinearProgram, Vector, IsVariable, IsLinearProgram, lower_of, upper_of, for_min, objective_value}
+use Rattle.lp_definitions.specs.LinearProgram.{LinearProgram, Vector, size, IsVariable, IsLinearProgram, lower_of, upper_of, for_min, objective_value}
 use Rattle.lp_definitions.specs.Solutions.{IsFeasible}
-use Rattle.lp_definitions.specs.Basis.{status_of, is_basic, IsPointOf, IsTableau}
+use Rattle.lp_definitions.specs.Basis.{status_of, IsPointOf}
 use Rattle.lp_definitions.specs.declared.Status.{Status}
-use Rattle.lp_definitions.specs.declared.Status.TheVariants.{Bs, Ll, Ul}
+use Rattle.lp_definitions.specs.declared.Status.TheVariants.{Bs}
 use Rattle.lp_laws.specs.Vectors.{along}
-use Rattle.lp_laws.proofs.Values.{clash}
 use Rattle.lp_laws.proofs.Uniqueness.{one_point}
-use Rattle.lp_laws.proofs.Statuses.{status_of_basic, status_of_nonbasic}
-use Rattle.method_definitions.specs.Moves.{is_below, room}
+use Rattle.method_definitions.specs.Moves.{is_below, lowers, room}
 use Rattle.method_definitions.specs.Path.{Moves, after, IsStep, stopped_by, excess_rate, turn}
 use Rattle.path_laws.specs.Laws.{IsNonsingularBasis, IsNoWorse}
-use Rattle.path_laws.proofs.Turns.{IsFirstPhase, IsBroughtTurn, IsStoppedTurn, MovingRule, brings, stops, bettering, moving_turn, rule_of}
+use Rattle.path_laws.proofs.Numbered.{find_some}
+use Rattle.path_laws.proofs.Turns.{IsBroughtTurn, IsStoppedTurn, MovingRule, brings, stops, bettering, moving_turn, rule_of}
 use Rattle.path_laws.proofs.Ends.{feasible, IsFeasible-same, low_of, high_of}
-use Rattle.path_laws.proofs.Endless.{IsEntering, enters, objective_value-same}
+use Rattle.path_laws.proofs.Endless.{objective_value-same}
 use Rattle.path_laws.proofs.Rays.{Breaks, breaks_lower, breaks_upper, broken_basic, broken_limit}
 use Rattle.path_laws.proofs.Steps.{step_leads}
 use Rattle.path_laws.proofs.Second.{feasible_step}
-use Rattle.termination_laws.proofs.Walks.{Visit, In, IsWalk, Turned, turn_to}
+use Rattle.termination_laws.proofs.Walks.{Visit, In, IsWalk, Turned, turn_to, IsVisitBy, visit_step}
 use Rattle.termination_laws.proofs.Fickle.{Exchanges, FicklePair, fickle_pair}
 use Rattle.termination_laws.proofs.Runs.{IsRun, run_of, move_is, entered, k_is, run_no_worse, no_length, stopped_leaves, mover_enters, reached_apart}
-use Rattle.termination_laws.proofs.FirstClash.{first_clash}
+use Rattle.termination_laws.proofs.Numbers.{find_before}
+use Rattle.termination_laws.proofs.Returns.{IsReturning, no_return_cycle}
 use Rattle.termination_laws.proofs.SecondClash.{second_clash}
 
 -- the path makes this move at this basis
-pub record IsVisit (p : LinearProgram) (v : Visit) : Type 0 where
-  pub at : IsNonsingularBasis p v.basis
-  pub is_tableau : IsTableau p v.basis v.tableau
-  pub turns : turn p v.basis v.tableau ≡ Moves v.move
+abbrev pub IsVisit : LinearProgram → Visit → Type 0
+IsVisit p = IsVisitBy turn p (IsNonsingularBasis p)
 
 -- it brings r back by q, or it betters the objective by q until k stops that
 record IsFirst (p : LinearProgram) (v : Visit) : Type 0 where
@@ -53,64 +51,30 @@ phase_of p v h = by_rule (moving_turn p v.basis v.tableau v.move (rule_of p v.ba
     by_rule (stops q k t) = inr (record { q = q; k = k; turn = t })
 
 step_of : (p : LinearProgram) (v : Visit) → IsVisit p v → IsStep p v.basis (after v.basis v.move)
-step_of p v h = record { tableau = v.tableau; is_tableau = h.is_tableau; move = v.move; turns = h.turns; is_next = refl }
+step_of p = visit_step turn p (IsNonsingularBasis p)
 
 -- ---- the first phase
 
-limit_apart : (below : Bool) → (if below then Ll else Ul) ≢ Bs
-limit_apart true e = cc
-limit_apart false e = cc
-
-module _ (p : LinearProgram) (v : Visit) (h : IsVisit p v) (first : IsFirst p v) where
-  brought_is : v.move ≡ record { enters = first.q; leaves = first.r; to = if is_below p v.tableau.point first.r then Ll else Ul }
-  brought_is = let e = first.turn.gives in cc
-
-  first_exchanges : Exchanges p v
-  first_exchanges = record {
-    basis = h.at.is_basis;
-    enters_is = subst (λ m. IsVariable p.matrix m.enters) (sym brought_is) comes.is_variable;
-    leaves_is = subst (λ m. IsVariable p.matrix m.leaves) (sym brought_is) (broken_basic p v.basis v.tableau first.r first.turn.phase).0;
-    enters = subst (λ m. status_of v.basis m.enters ≢ Bs) (sym brought_is) (λ e. clash (sym (ap is_basic e) ∙ status_of_nonbasic p v.basis h.at.is_basis first.q comes.nonbasic));
-    leaves = subst (λ m. status_of v.basis m.leaves ≡ Bs) (sym brought_is) (status_of_basic p v.basis h.at.is_basis first.r (broken_basic p v.basis v.tableau first.r first.turn.phase));
-    stands = subst (λ m. m.to ≢ Bs) (sym brought_is) (limit_apart (is_below p v.tableau.point first.r));
-  }
-    where
-      comes : IsEntering p v.basis (excess_rate v.tableau.rate first.r (is_below p v.tableau.point first.r)) first.q
-      comes = enters p v.basis (excess_rate v.tableau.rate first.r (is_below p v.tableau.point first.r)) first.q h.at.is_basis first.turn.moves
+returning : (p : LinearProgram) (v : Visit) → IsVisit p v → IsFirst p v → IsReturning p v
+returning p v h first =
+    let e = first.turn.gives in
+    let found = find_some (lowers p v.basis (excess_rate v.tableau.rate first.r (is_below p v.tableau.point first.r))) (size p.matrix) 1 first.q first.turn.moves in
+    record {
+      at = h.at;
+      is_tableau = h.is_tableau;
+      r = first.r;
+      q = first.q;
+      phase = first.turn.phase;
+      is_q = (found.low, omega (arith, found.high));
+      lowers_it = found.passes;
+      gives = cc;
+    }
 
 no_first_cycle : (p : LinearProgram) (s : List Status) (v : Visit) (vs : List Visit) → IsWalk s (v ∷ vs) s → ((x : Visit) → In x (v ∷ vs) → IsVisit p x) → ((x : Visit) → In x (v ∷ vs) → IsFirst p x) → ⊥
+unfolding returning
 no_first_cycle p s v vs walk visits firsts =
-    first_clash p e.basis w.basis e.tableau w.tableau (visits e pair.is_entering).at (visits w pair.is_leaving).at (visits e pair.is_entering).is_tableau (visits w pair.is_leaving).is_tableau
-    at_e.r pair.t at_e.turn.phase (at_e.turn.moves ∙ ap (λ j. Some j) q_is) (subst (IsFirstPhase p w.basis w.tableau) r_is at_w.turn.phase) left pair.past r_before
-  where
-    pair : FicklePair p (v ∷ vs)
-    pair = fickle_pair p s v vs walk (λ x i. first_exchanges p x (visits x i) (firsts x i))
-
-    e : Visit
-    e = pair.entering
-
-    w : Visit
-    w = pair.leaving
-
-    at_e : IsFirst p e
-    at_e = firsts e pair.is_entering
-
-    at_w : IsFirst p w
-    at_w = firsts w pair.is_leaving
-
-    q_is : at_e.q ≡ pair.t
-    q_is = sym (ap (λ m. m.enters) (brought_is p e (visits e pair.is_entering) at_e)) ∙ pair.enters
-
-    r_is : at_w.r ≡ pair.t
-    r_is = sym (ap (λ m. m.leaves) (brought_is p w (visits w pair.is_leaving) at_w)) ∙ pair.leaves
-
-    left : status_of e.basis pair.t ≡ (if is_below p w.tableau.point pair.t then Ll else Ul)
-    left =
-        pair.stands ∙ ap (λ m. m.to) (brought_is p w (visits w pair.is_leaving) at_w)
-        ∙ ap (λ j. if is_below p w.tableau.point j then Ll else Ul) r_is
-
-    r_before : at_e.r < pair.t
-    r_before = subst (λ m. m.leaves < pair.t) (brought_is p e (visits e pair.is_entering) at_e) pair.leaves_before
+    no_return_cycle p s v vs walk (λ x i. returning p x (visits x i) (firsts x i))
+    (λ x y i j k is before out. inl (find_before (lowers p x.basis (excess_rate x.tableau.rate (firsts x i).r (is_below p x.tableau.point (firsts x i).r))) (size p.matrix) 1 (firsts x i).q (firsts x i).turn.moves k is.0 before))
 
 -- ---- the second phase
 

@@ -3,10 +3,13 @@
 --     In x xs                      x stands in the list
 --     IsWalk s vs end              from s over the visits vs to end
 --     turn_to                      a closed walk may begin at each of its visits
+--     IsVisitBy rule p Good v      a rule makes this move at this basis, which is a good one
+--     visits, is_walk, are_visits  the visits of a path by a rule
 use Rattle.std.proofs.Common.{◌≡◌, ◌⊎◌, inl, inr, List, [], ◌∷◌, ◌++◌, refl, sym, ap, subst}
-use Rattle.lp_definitions.specs.Basis.{Tableau}
+use Rattle.lp_definitions.specs.LinearProgram.{LinearProgram}
+use Rattle.lp_definitions.specs.Basis.{Tableau, IsTableau}
 use Rattle.lp_definitions.specs.declared.Status.{Status}
-use Rattle.method_definitions.specs.Path.{Move, after}
+use Rattle.method_definitions.specs.Path.{Move, Moves, Rule, RuleStep, RulePath, after, last_of}
 
 pub record Visit : Type 0 where
   pub basis : List Status
@@ -81,3 +84,34 @@ turn_to s v vs walk i =
       was_in = λ x j. subst (λ xs. In x xs) (sym r.splits) (exchanged_parts x (v ∷ r.back) r.front j);
       is_in = λ x j. exchanged_parts x r.front (v ∷ r.back) (subst (λ xs. In x xs) r.splits j);
     }
+
+-- ---- the visits of a path by a rule
+
+pub record IsVisitBy (rule : Rule) (p : LinearProgram) (Good : List Status → Type 0) (v : Visit) : Type 0 where
+  pub at : Good v.basis
+  pub is_tableau : IsTableau p v.basis v.tableau
+  pub turns : rule p v.basis v.tableau ≡ Moves v.move
+
+pub visit_step : (rule : Rule) (p : LinearProgram) (Good : List Status → Type 0) (v : Visit) → IsVisitBy rule p Good v → RuleStep rule p v.basis (after v.basis v.move)
+visit_step rule p Good v h = record { tableau = v.tableau; is_tableau = h.is_tableau; move = v.move; turns = h.turns; is_next = refl }
+
+module _ (rule : Rule) (p : LinearProgram) where
+  abbrev visit : (s next : List Status) → RuleStep rule p s next → Visit
+  visit s next step = record { basis = s; tableau = step.tableau; move = step.move }
+
+  abbrev pub visits : (s : List Status) (bases : List (List Status)) → RulePath rule p s bases → List Visit
+  visits s [] path = []
+  visits s (next ∷ bases) path = visit s next path.0 ∷ visits next bases path.1
+
+  pub is_walk : (s : List Status) (bases : List (List Status)) → (path : RulePath rule p s bases) → IsWalk s (visits s bases path) (last_of s bases)
+  is_walk s [] path = refl
+  is_walk s (next ∷ bases) path = (refl, subst (λ b. IsWalk b (visits next bases path.1) (last_of next bases)) path.0.is_next (is_walk next bases path.1))
+
+  module _ (Good : List Status → Type 0) (leads : (s next : List Status) → Good s → RuleStep rule p s next → Good next) where
+    pub are_visits : (s : List Status) (bases : List (List Status)) → Good s → (path : RulePath rule p s bases) → (x : Visit) → In x (visits s bases path) → IsVisitBy rule p Good x
+    are_visits s [] good path x i = absurd i
+    are_visits s (next ∷ bases) good path x i = by_place (λ x j. are_visits next bases (leads s next good path.0) path.1 x j) x i
+      where
+        by_place : ((x : Visit) → In x (visits next bases path.1) → IsVisitBy rule p Good x) → (x : Visit) → ((x ≡ visit s next path.0) ⊎ In x (visits next bases path.1)) → IsVisitBy rule p Good x
+        by_place rest x (inl e) = subst (IsVisitBy rule p Good) (sym e) (record { at = good; is_tableau = path.0.is_tableau; turns = path.0.turns })
+        by_place rest x (inr j) = rest x j

@@ -1,5 +1,5 @@
 -- Cards that are accepted after others, and what they make of the problem described.
-use Rattle.std.proofs.Common.{◌≡◌, ℕ, ◌+◌, true, false, cond, not, List, [], ◌∷◌, ◌++◌, Option, Some, None, length, refl, ap, ap₂, sym, ◌∙◌, subst}
+use Rattle.std.proofs.Common.{◌≡◌, ℕ, ◌+◌, true, false, cond, not, List, [], ◌∷◌, ◌++◌, Option, Some, None, unwrap_or, length, refl, ap, ap₂, sym, ◌∙◌, subst}
 use Rattle.std.specs.Option.{option_or, option_map}
 use Rattle.std.proofs.lemmas.List.{append_assoc, append-nil}
 use Rattle.card_definitions.specs.Words.{first_fault, named, ◌⟹◌}
@@ -12,15 +12,17 @@ use Rattle.deck_definitions.specs.declared.DeckFaultKind.{DeckFaultKind}
 use Rattle.deck_definitions.specs.declared.DeckFaultKind.TheVariants.{ExtraField}
 use Rattle.deck_definitions.specs.declared.Section.{Section}
 use Rattle.deck_definitions.specs.declared.Section.TheVariants.{Header, Rows, Columns, Rhs, Ranges, Bounds, Endata}
-use Rattle.deck_definitions.specs.Sections.{may_follow, section_words, section_word, is_section_card, section_begun, section_after}
+use Rattle.deck_definitions.specs.Sections.{is_section, may_follow, section_words, section_word, is_section_card, section_begun, section_after}
 use Rattle.deck_definitions.specs.Described.{described}
-use Rattle.deck_definitions.specs.DataCards.{FixedFields}
-use Rattle.deck_definitions.specs.Conversion.{section_card_fault, form_fault, section_fault, data_card_fault, card_fault, first_faulty}
-use Rattle.deck_definitions.proofs.Steps.{section_after-push, with_card, described-data, described-section, first_faulty-append}
+use Rattle.deck_definitions.specs.declared.Style.TheVariants.{FixedFields}
+use Rattle.deck_definitions.specs.DataCards.{header_style, style_begun, style_of, form_on}
+use Rattle.deck_definitions.specs.Conversion.{section_card_fault, gaps_fault, section_fault, data_card_fault, card_fault, first_faulty}
+use Rattle.deck_definitions.proofs.Steps.{section_after-push, style_of-push, style_of-data, with_card, described-data, described-section, first_faulty-append}
 use Rattle.written_laws.proofs.Cards.{IsWritten}
 
--- where a reader stands after some cards: the section that goes on, and the problem described
+-- where a reader stands after some cards of a fixed deck: the section that goes on, and the problem described
 pub record Stands (before : List Card) (place : Option Section) (problem : Problem Name) : Type 0 where
+  pub style_is : style_of before ≡ FixedFields
   pub place_is : section_after before ≡ place
   pub seen_is : described [] before ≡ problem
 
@@ -42,7 +44,7 @@ pub accepts-none : (from : Option Section) (p : Problem Name) → Accepts from p
 accepts-none from p = λ n before s. record {
   alive = refl;
   fine = refl;
-  after = record { place_is = ap section_after (append-nil before) ∙ s.place_is; seen_is = ap (described []) (append-nil before) ∙ s.seen_is };
+  after = record { style_is = ap style_of (append-nil before) ∙ s.style_is; place_is = ap section_after (append-nil before) ∙ s.place_is; seen_is = ap (described []) (append-nil before) ∙ s.seen_is };
 }
 
 pub accepts-then : {a b c : Option Section} {p q r : Problem Name} (xs ys : List (List ℕ)) → Accepts a p xs b q → Accepts b q ys c r → Accepts a p (xs ++ ys) c r
@@ -69,7 +71,7 @@ one_card before card place problem there fine after = record {
 data_fine : (problem : Problem Name) (place : Section) (card : List ℕ) (read : Reading) → IsWritten card read → section_fault problem place read ≡ None → data_card_fault problem FixedFields (Some place) card ≡ None
 data_fine problem place card read is fine = by place fine
   where
-    form : form_fault Fixed card ≡ None
+    form : gaps_fault card ≡ None
     form = ap (λ b. not b ⟹ ExtraField) is.spaced
 
     two : (a b : Option DeckFaultKind) → a ≡ None → b ≡ None → first_fault (a ∷ b ∷ []) ≡ None
@@ -78,35 +80,48 @@ data_fine problem place card read is fine = by place fine
     by : (place : Section) → section_fault problem place read ≡ None → data_card_fault problem FixedFields (Some place) card ≡ None
     by Header h = absurd (cc h)
     by Endata h = absurd (cc h)
-    by Rows h = two (form_fault Fixed card) (section_fault problem Rows (reading_of Fixed card)) form (ap (section_fault problem Rows) is.reads ∙ h)
-    by Columns h = two (form_fault Fixed card) (section_fault problem Columns (reading_of Fixed card)) form (ap (section_fault problem Columns) is.reads ∙ h)
-    by Rhs h = two (form_fault Fixed card) (section_fault problem Rhs (reading_of Fixed card)) form (ap (section_fault problem Rhs) is.reads ∙ h)
-    by Ranges h = two (form_fault Fixed card) (section_fault problem Ranges (reading_of Fixed card)) form (ap (section_fault problem Ranges) is.reads ∙ h)
-    by Bounds h = two (form_fault Fixed card) (section_fault problem Bounds (reading_of Fixed card)) form (ap (section_fault problem Bounds) is.reads ∙ h)
+    by Rows h = two (gaps_fault card) (section_fault problem Rows (reading_of Fixed card)) form (ap (section_fault problem Rows) is.reads ∙ h)
+    by Columns h = two (gaps_fault card) (section_fault problem Columns (reading_of Fixed card)) form (ap (section_fault problem Columns) is.reads ∙ h)
+    by Rhs h = two (gaps_fault card) (section_fault problem Rhs (reading_of Fixed card)) form (ap (section_fault problem Rhs) is.reads ∙ h)
+    by Ranges h = two (gaps_fault card) (section_fault problem Ranges (reading_of Fixed card)) form (ap (section_fault problem Ranges) is.reads ∙ h)
+    by Bounds h = two (gaps_fault card) (section_fault problem Bounds (reading_of Fixed card)) form (ap (section_fault problem Bounds) is.reads ∙ h)
 
 -- A data card without a fault in its section changes the problem by what it reads as.
 pub accepts-data : (place : Section) (problem : Problem Name) (card : List ℕ) (read : Reading) → IsWritten card read → section_fault problem place read ≡ None → Accepts (Some place) problem (card ∷ []) (Some place) (with_card place read problem)
 unfolding card_fault
 accepts-data place problem card read is fine = λ n before s.
     one_card before (record { number = n; bytes = card }) (Some place) (with_card place read problem) is.there
-    (ap (λ b. cond b (section_card_fault may_follow (section_after before) card) (data_card_fault (described [] before) FixedFields (section_after before) card)) is.data_card
-    ∙ ap₂ (λ seen at. data_card_fault seen FixedFields at card) s.seen_is s.place_is
+    (ap (λ b. cond b (section_card_fault may_follow (section_after before) card) (data_card_fault (described [] before) (style_of before) (section_after before) card)) is.data_card
+    ∙ (λ i. data_card_fault (s.seen_is i) (s.style_is i) (s.place_is i) card)
     ∙ data_fine problem place card read is fine)
     (record {
+      style_is = style_of-data before (record { number = n; bytes = card }) is.data_card ∙ s.style_is;
       place_is = section_after-push before (record { number = n; bytes = card })
           ∙ ap (λ b. option_or (cond b (named section_words (section_word card)) None) (section_after before)) is.data_card ∙ s.place_is;
-      seen_is = described-data [] before (record { number = n; bytes = card }) place is.data_card s.place_is ∙ ap₂ (λ r p. with_card place r p) is.reads s.seen_is;
+      seen_is = described-data [] before (record { number = n; bytes = card }) place is.data_card s.place_is
+          ∙ (λ i. with_card place (reading_of (form_on (s.style_is i) (unwrap_or (s.place_is i) Header) false card) card) (s.seen_is i))
+          ∙ ap (λ r. with_card place r problem) is.reads;
     })
 
--- A section card that may follow changes the section alone.
-pub accepts-section : (from : Option Section) (section : Section) (problem : Problem Name) (card : List ℕ) → is_section_card card ≡ true → section_begun card ≡ Some section → is_skipped card ≡ false
-    → section_card_fault may_follow from card ≡ None → Accepts from problem (card ∷ []) (Some section) problem
+-- A section card that may follow, and leaves the deck fixed, changes the section alone.
+section-taken : (from : Option Section) (section : Section) (problem : Problem Name) (card : List ℕ) → is_section_card card ≡ true → section_begun card ≡ Some section → is_skipped card ≡ false
+    → section_card_fault may_follow from card ≡ None → unwrap_or (style_begun card) FixedFields ≡ FixedFields → Accepts from problem (card ∷ []) (Some section) problem
 unfolding card_fault
-accepts-section from section problem card is begun there fine = λ n before s.
+section-taken from section problem card is begun there fine fixed = λ n before s.
     one_card before (record { number = n; bytes = card }) (Some section) problem there
-    (ap (λ b. cond b (section_card_fault may_follow (section_after before) card) (data_card_fault (described [] before) FixedFields (section_after before) card)) is
+    (ap (λ b. cond b (section_card_fault may_follow (section_after before) card) (data_card_fault (described [] before) (style_of before) (section_after before) card)) is
     ∙ ap (λ at. section_card_fault may_follow at card) s.place_is ∙ fine)
     (record {
+      style_is = style_of-push before (record { number = n; bytes = card }) ∙ ap (unwrap_or (style_begun card)) s.style_is ∙ fixed;
       place_is = section_after-push before (record { number = n; bytes = card }) ∙ ap (λ o. option_or o (section_after before)) begun;
       seen_is = described-section [] before (record { number = n; bytes = card }) is ∙ s.seen_is;
     })
+
+pub accepts-section : (from : Option Section) (section : Section) (problem : Problem Name) (card : List ℕ) → is_section_card card ≡ true → section_begun card ≡ Some section → is_section Header section ≡ false → is_skipped card ≡ false
+    → section_card_fault may_follow from card ≡ None → Accepts from problem (card ∷ []) (Some section) problem
+accepts-section from section problem card is begun other there fine = section-taken from section problem card is begun there fine (rw (begun, other) refl)
+
+-- a NAME card that gives no free fields
+pub accepts-header : (problem : Problem Name) (card : List ℕ) → is_section_card card ≡ true → section_begun card ≡ Some Header → is_skipped card ≡ false
+    → section_card_fault may_follow None card ≡ None → header_style card ≡ FixedFields → Accepts None problem (card ∷ []) (Some Header) problem
+accepts-header problem card is begun there fine fixed = section-taken None Header problem card is begun there fine (rw begun fixed)

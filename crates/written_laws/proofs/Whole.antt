@@ -1,9 +1,10 @@
 -- The whole deck of a problem.
-use Rattle.std.proofs.Common.{◌≡◌, ℕ, Bool, true, false, cond, not, ◌&&◌, List, [], ◌∷◌, ◌++◌, Option, Some, None, Ok, map, take, unwrap_or, refl, ap, ap₂, sym, ◌∙◌, subst}
+use Rattle.std.proofs.Common.{◌≡◌, ℕ, ◌+◌, ◌≤◌, Bool, true, false, cond, not, ◌&&◌, List, [], ◌∷◌, ◌++◌, Option, Some, None, Ok, length, map, take, unwrap_or, if◌then◌else◌, refl, ap, ap₂, sym, ◌∙◌, subst, arith}
 use Rattle.std.specs.List.{All, AllByRecursion, flat_map}
 use Rattle.std.specs.Option.{option_map}
-use Rattle.std.specs.Prelude.{codes}
-use Rattle.std.proofs.lemmas.List.{take_all}
+use Rattle.std.specs.Prelude.{codes, bytes_eq}
+use Rattle.std.proofs.lemmas.List.{take_all, length-append}
+use Rattle.std.proofs.Math.ListN.{drop_of_length-le}
 use Rattle.card_definitions.specs.Words.{without_trailing, is_empty, first_fault, unless, ◌⟹◌}
 use Rattle.card_definitions.specs.Cards.{Card, is_blank, last_number, numbered_from}
 use Rattle.card_definitions.specs.Fields.{columns}
@@ -19,11 +20,13 @@ use Rattle.deck_definitions.specs.declared.DeckFaultKind.TheVariants.{NoEndata}
 use Rattle.deck_definitions.specs.declared.Section.{Section}
 use Rattle.deck_definitions.specs.declared.Section.TheVariants.{Header, Rows, Columns, Rhs, Ranges, Bounds, Endata}
 use Rattle.deck_definitions.specs.Sections.{may_follow, is_section, section_begun, is_section_after, header_name}
+use Rattle.deck_definitions.specs.declared.Style.TheVariants.{FixedFields, FreeFields}
+use Rattle.deck_definitions.specs.DataCards.{header_style}
 use Rattle.deck_definitions.specs.Described.{described}
 use Rattle.deck_definitions.specs.Conversion.{section_card_fault, card_fault, first_faulty, deck_fault, deck_name, conversion}
 use Rattle.deck_definitions.specs.Written.{data_card, row_card, entry_cards, bound_cards, column_cards, set_section, written}
 use Rattle.revise_laws.proofs.ByNames.{named-lawful}
-use Rattle.written_laws.proofs.Accepts.{Stands, Accepts, accepts-none, accepts-then, accepts-section}
+use Rattle.written_laws.proofs.Accepts.{Stands, Accepts, accepts-none, accepts-then, accepts-header, accepts-section}
 use Rattle.written_laws.proofs.Facts.{from-map}
 use Rattle.written_laws.proofs.Rows.{rows-accepted}
 use Rattle.written_laws.proofs.Entries.{columns-accepted, rhs-accepted, ranges-accepted}
@@ -67,12 +70,26 @@ fine_first : (nothing : Bool) (more : List ℕ) → section_card_fault may_follo
 fine_first true more = refl
 fine_first false more = refl
 
-name-accepted : (name : Name) (problem : Problem Name) → Accepts None problem (name_card name ∷ []) (Some Header) problem
-name-accepted name problem =
+-- nothing stands in columns 23 to 80 of it
+header-fixed : (name : Name) → length name ≤ 8 → header_style (name_card name) ≡ FixedFields
+header-fixed name short =
+    ap (λ list. if bytes_eq list (codes "  FREE") then FreeFields else FixedFields) (
+    part_of_trimmed is_blank 22 58 (codes "NAME          " ++ name)
+    ∙ ap (λ list. without_trailing is_blank (take 58 list)) (drop_of_length-le (codes "NAME          " ++ name) long))
+  where
+    counted : length (codes "NAME          " ++ name) ≡ 14 + length name
+    counted = length-append (codes "NAME          ") name
+
+    long : length (codes "NAME          " ++ name) ≤ 22
+    long = omega (arith, counted, short)
+
+name-accepted : (name : Name) (problem : Problem Name) → length name ≤ 8 → Accepts None problem (name_card name ∷ []) (Some Header) problem
+name-accepted name problem short =
     let nothing = is_empty (without_trailing is_blank (after_word name)) in
     let more = without_trailing is_blank (after_word name) in
     subst (λ card. Accepts None problem (card ∷ []) (Some Header) problem) (sym (name_card-is name))
-    (accepts-section None Header problem (name_word nothing more) refl (begun_by nothing more) refl (fine_first nothing more))
+    (accepts-header problem (name_word nothing more) refl (begun_by nothing more) refl (fine_first nothing more)
+    (subst (λ card. header_style card ≡ FixedFields) (name_card-is name) (header-fixed name short)))
 
 -- the name on it
 pub header-is : (name : Name) → IsName name → header_name (name_card name) ≡ name
@@ -134,12 +151,12 @@ module _ (q : Problem Name) (lawful : IsLawful q) (some : AllByRecursion (λ (co
       (accepts-then (columns_text ++ rhs_text) ranges_text
       (accepts-then columns_text rhs_text
       (subst (λ texts. Accepts (Some Columns) (with_columns []) texts (Some Columns) (with_columns q.columns)) (sym (column-cards q.rows q.columns some)) (columns-accepted q.rows lawful.row_labels q.columns lawful.columns some lawful.few_columns lawful.few_entries))
-      (optional (Some Columns) Rhs (codes "RHS") entry_cards with_rhs q.rhs (accepts-section (Some Columns) Rhs (with_rhs []) (codes "RHS") refl refl refl refl) (rhs-accepted q.rows lawful.row_labels q.columns q.rhs lawful.rhs)))
-      (optional (after_rhs no_rhs) Ranges (codes "RANGES") entry_cards with_ranges q.ranges (accepts-section (after_rhs no_rhs) Ranges (with_ranges []) (codes "RANGES") refl refl refl (ranges-follow no_rhs))
+      (optional (Some Columns) Rhs (codes "RHS") entry_cards with_rhs q.rhs (accepts-section (Some Columns) Rhs (with_rhs []) (codes "RHS") refl refl refl refl refl) (rhs-accepted q.rows lawful.row_labels q.columns q.rhs lawful.rhs)))
+      (optional (after_rhs no_rhs) Ranges (codes "RANGES") entry_cards with_ranges q.ranges (accepts-section (after_rhs no_rhs) Ranges (with_ranges []) (codes "RANGES") refl refl refl refl (ranges-follow no_rhs))
       (ranges-accepted q.rows lawful.row_labels q.columns q.rhs q.ranges lawful.ranges)))
-      (optional (after_ranges no_rhs no_ranges) Bounds (codes "BOUNDS") bound_cards with_bounds q.bounds (accepts-section (after_ranges no_rhs no_ranges) Bounds (with_bounds []) (codes "BOUNDS") refl refl refl (bounds-follow no_rhs no_ranges))
+      (optional (after_ranges no_rhs no_ranges) Bounds (codes "BOUNDS") bound_cards with_bounds q.bounds (accepts-section (after_ranges no_rhs no_ranges) Bounds (with_bounds []) (codes "BOUNDS") refl refl refl refl (bounds-follow no_rhs no_ranges))
       (bounds-accepted q.rows q.columns q.rhs q.ranges lawful.columns.names q.bounds lawful.bounds)))
-      (accepts-section (after_bounds no_rhs no_ranges no_bounds) Endata unnamed (codes "ENDATA") refl refl refl (endata-follows no_rhs no_ranges no_bounds))
+      (accepts-section (after_bounds no_rhs no_ranges no_bounds) Endata unnamed (codes "ENDATA") refl refl refl refl (endata-follows no_rhs no_ranges no_bounds))
     where
       columns_text : List (List ℕ)
       columns_text = flat_map (column_cards q.rows) q.columns
@@ -178,19 +195,19 @@ module _ (q : Problem Name) (lawful : IsLawful q) (some : AllByRecursion (λ (co
   nothing = record { name = []; rows = []; columns = []; rhs = []; ranges = []; bounds = [] }
 
   -- The written deck is accepted, and describes the problem.
-  deck-accepted : Accepts None nothing (written q) (Some Endata) unnamed
+  deck-accepted : length q.name ≤ 8 → Accepts None nothing (written q) (Some Endata) unnamed
   unfolding written
-  deck-accepted =
+  deck-accepted short =
       let with_rows : Problem Name = record { name = []; rows = q.rows; columns = []; rhs = []; ranges = []; bounds = [] } in
       let after_columns : List (List ℕ) = flat_map (column_cards q.rows) q.columns ++ set_section (codes "RHS") entry_cards q.rhs ++ set_section (codes "RANGES") entry_cards q.ranges ++ set_section (codes "BOUNDS") bound_cards q.bounds ++ codes "ENDATA" ∷ [] in
-      accepts-then (name_card q.name ∷ []) (codes "ROWS" ∷ (map row_card q.rows ++ codes "COLUMNS" ∷ after_columns)) (name-accepted q.name nothing)
-      (accepts-then (codes "ROWS" ∷ []) (map row_card q.rows ++ codes "COLUMNS" ∷ after_columns) (accepts-section (Some Header) Rows nothing (codes "ROWS") refl refl refl refl)
+      accepts-then (name_card q.name ∷ []) (codes "ROWS" ∷ (map row_card q.rows ++ codes "COLUMNS" ∷ after_columns)) (name-accepted q.name nothing short)
+      (accepts-then (codes "ROWS" ∷ []) (map row_card q.rows ++ codes "COLUMNS" ∷ after_columns) (accepts-section (Some Header) Rows nothing (codes "ROWS") refl refl refl refl refl)
       (accepts-then (map row_card q.rows) (codes "COLUMNS" ∷ after_columns) (rows-accepted [] [] [] [] [] q.rows lawful.plain_rows (from-map IsLabel (λ (row : Row Name). row.name) q.rows lawful.row_labels) lawful.rows_distinct lawful.few_rows)
-      (accepts-then (codes "COLUMNS" ∷ []) after_columns (accepts-section (Some Rows) Columns with_rows (codes "COLUMNS") refl refl refl refl) sections-accepted)))
+      (accepts-then (codes "COLUMNS" ∷ []) after_columns (accepts-section (Some Rows) Columns with_rows (codes "COLUMNS") refl refl refl refl refl) sections-accepted)))
 
   start : Stands [] None nothing
   unfolding described
-  start = record { place_is = refl; seen_is = refl }
+  start = record { style_is = refl; place_is = refl; seen_is = refl }
 
   -- the problem's name is that of the deck
   named : (n : ℕ) → IsName q.name → deck_name (numbered_from n (written q)) ≡ q.name
@@ -206,7 +223,7 @@ module _ (q : Problem Name) (lawful : IsLawful q) (some : AllByRecursion (λ (co
   unfolding conversion deck_fault
   converts n is =
       let deck = numbered_from n (written q) in
-      let taken = deck-accepted n [] start in
+      let taken = deck-accepted is.short n [] start in
       ap (λ cards. unless (first_fault (first_faulty card_fault [] cards ∷ (not (is_section_after Endata cards) ⟹ unended deck) ∷ [])) (numbered (described (deck_name cards) cards))) taken.alive
       ∙ ap₂ (λ o p. unless o (numbered p)) (two (first_faulty card_fault [] deck) (is_section_after Endata deck) taken.fine (ap (λ at. unwrap_or (option_map (is_section Endata) at) false) taken.after.place_is))
       (ap (λ name. described name deck) (named n is) ∙ renamed q.name deck taken.after.seen_is)

@@ -14,7 +14,7 @@ returns-then-place-rows c =
     record {
       rate =
           rate_of_row c.args.file.now c.args.row c.args.place c.args.out.now c.neg.result (sym c.is_basic.ensures ∙ c.if-is_basic.false)
-          (omega (arith, c.if-place-rows.true, c.rows-rows.ensures)) c.requires.filled
+          (omega (arith, c.if-place-rows.true, c.rows-rows.ensures)) c.requires.known
           (c.neg.ensures ∙ ap neg_ℚ (sym (element_at c.args.out.now c.args.place c.index-out-place.result within c.index-out-place.is zero_ℚ)));
     }
 
@@ -27,7 +27,7 @@ returns c =
           value_gives c.sum_of_column.result (λ sum. sum ≡ sum_from zero_ℚ (products c.args.out.now c.numbers.result.now)) (IsRateOf c.args.file.now c.args.row (c.args.place + 1))
           (λ v is_v.
           rate_of_column c.args.file.now c.args.row c.args.place c.args.out.now v c.size-size.ensures.lawful c.size-size.ensures.nonsingular c.requires.basic
-          (sym c.is_basic.ensures ∙ c.if-is_basic.false) (omega (arith, c.if-place-rows.false, c.rows-rows.ensures)) c.requires.within c.requires.filled
+          (sym c.is_basic.ensures ∙ c.if-is_basic.false) (omega (arith, c.if-place-rows.false, c.rows-rows.ensures)) c.requires.within c.requires.known
           (is_v ∙ ap (λ es. sum_from zero_ℚ (products c.args.out.now es)) its))
           c.sum_of_column.ensures.value;
     }

@@ -1,4 +1,4 @@
-use Rattle.std.proofs.Common.{arith, subst, ◌∙◌}
+use Rattle.std.proofs.Common.{arith, subst, sym, ◌∙◌}
 use Rattle.std.proofs.lemmas.List.{get_or_default}
 use Rattle.rates_dense.specs.declared.line.Line.{Line}
 use Rattle.rates_dense.specs.Lines.{IsUnchanged}
@@ -7,7 +7,7 @@ use Rattle.rates_dense.proofs.list_changing.Goals as goal
 
 pub loop-slot-preserved-then-not-changes : goal.loop-slot-preserved-then-not-changes
 loop-slot-preserved-then-not-changes c =
-    let unchanged : IsUnchanged c.args.p c.args.q c.index-lines-slot.result = c.changes.ensures c.if-not-changes.true in
+    let unchanged : IsUnchanged c.args.p c.args.q c.index-lines-slot.result = c.changes.ensures.stays c.if-not-changes.true in
     record {
       within = omega (arith, c.loop-slot.invariant.within);
       listed = changing_skipped c.args.p c.args.q c.args.lines.now c.loop-slot.changing c.loop-slot.slot c.loop-slot.count c.loop-slot.invariant.listed
@@ -19,7 +19,9 @@ pub loop-slot-preserved : goal.loop-slot-preserved
 loop-slot-preserved c = record {
   within = omega (arith, c.loop-slot.invariant.within);
   listed = changing_listed c.args.p c.args.q c.args.lines.now c.loop-slot.changing c.loop-slot.slot c.loop-slot.count c.loop-slot.invariant.listed
-      (omega (arith, c.loop-slot.invariant.within, c.loop-slot-test.true, c.loop-slot.auto.changing, c.requires.room));
+      (omega (arith, c.loop-slot.invariant.within, c.loop-slot-test.true, c.loop-slot.auto.changing, c.requires.room))
+      (λ d same. c.changes.ensures.moves c.if-not-changes.false (subst (λ (line : Line). IsUnchanged c.args.p c.args.q line)
+      (sym (c.index-lines-slot.is ∙ get_or_default c.args.lines.now c.loop-slot.slot c.index-lines-slot.result d c.loop-slot-test.true)) same));
 }
 
 pub returns-clause-listed : goal.returns-clause-listed

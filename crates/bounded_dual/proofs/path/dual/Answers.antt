@@ -6,11 +6,12 @@ use Rattle.lp_definitions.specs.Basis.{ArePricesOf}
 use Rattle.lp_model.specs.declared.reports.Outcome.TheVariants.{Crossed}
 use Rattle.method_definitions.specs.DualPath.{dual_turn}
 use Rattle.basis_values.proofs.PriceLaws.{take_all}
-use Rattle.bounded_primal.proofs.PathWalk.{begins_at, follows}
+use Rattle.bounded_primal.proofs.PathWalk.{begins_at, follows, stays}
 use Rattle.bounded_dual.specs.Stops.{dual_stop_of}
 use Rattle.bounded_dual.specs.declared.moves.DualStop.{DualStop}
 use Rattle.bounded_dual.specs.declared.moves.DualStop.TheVariants.{NotDualFeasible}
 use Rattle.bounded_dual.proofs.Ending.{crossed_call, all_right, one_wrong}
+use Rattle.bounded_dual.proofs.Returns.{never_returned, limit_below}
 use Rattle.bounded_dual.proofs.WalkSteps.{stops_at_once, follows_before, stops_before}
 use Rattle.bounded_dual.proofs.CompleteDual.{ends_result, bounded_result, true_result, dual_answered}
 use Rattle.bounded_dual.proofs.path.dual.Goals as goal
@@ -119,3 +120,48 @@ pub returns-clause-complete : goal.returns-clause-complete
 returns-clause-complete g c bases ending right goes =
     let lawful : IsLinearProgram c.args.lp.now = search rules in
     dual_answered c.args.lp.now lawful c.requires.no_change (g.R.Rates.matrix c.args.rates.now) (g.R.Rates.basics c.args.rates.now) c.args.basis.now c.requires.rates c.walk.new.basis c.args.limit (g.R.Rates.waypoints c.args.rates.now) (g.R.Rates.waypoints c.walk.new.rates) bases ending c.walk.result (returns-clause-ends g c) (returns-clause-stops g c) right goes
+
+pub returns-in_err-prices-clause-apart : goal.returns-in_err-prices-clause-apart
+returns-in_err-prices-clause-apart g c right =
+    let lawful : IsLinearProgram c.args.lp.now = search rules in
+    never_returned c.args.lp.now lawful c.requires.no_change (g.R.Rates.matrix c.args.rates.now) (g.R.Rates.basics c.args.rates.now) c.args.basis.now c.requires.rates c.args.basis.now (g.R.Rates.waypoints c.args.rates.now) (g.R.Rates.waypoints c.args.rates.now) (stays dual_turn c.args.lp.now c.args.basis.now (g.R.Rates.waypoints c.args.rates.now)) right
+
+pub returns-in_err-row-clause-apart : goal.returns-in_err-row-clause-apart
+returns-in_err-row-clause-apart g c right =
+    let lawful : IsLinearProgram c.args.lp.now = search rules in
+    never_returned c.args.lp.now lawful c.requires.no_change (g.R.Rates.matrix c.args.rates.now) (g.R.Rates.basics c.args.rates.now) c.args.basis.now c.requires.rates c.args.basis.now (g.R.Rates.waypoints c.args.rates.now) (g.R.Rates.waypoints c.args.rates.now) (stays dual_turn c.args.lp.now c.args.basis.now (g.R.Rates.waypoints c.args.rates.now)) right
+
+pub returns-in_err-fill_prices-clause-apart : goal.returns-in_err-fill_prices-clause-apart
+returns-in_err-fill_prices-clause-apart g c right =
+    let lawful : IsLinearProgram c.args.lp.now = search rules in
+    never_returned c.args.lp.now lawful c.requires.no_change (g.R.Rates.matrix c.args.rates.now) (g.R.Rates.basics c.args.rates.now) c.args.basis.now c.requires.rates c.args.basis.now (g.R.Rates.waypoints c.args.rates.now) (g.R.Rates.waypoints c.fill_prices.new.rates) (returns-in_err-fill_prices-clause-waypoints g c) right
+
+pub returns-in-Some-clause-apart : goal.returns-in-Some-clause-apart
+returns-in-Some-clause-apart g c right =
+    let lawful : IsLinearProgram c.args.lp.now = search rules in
+    never_returned c.args.lp.now lawful c.requires.no_change (g.R.Rates.matrix c.args.rates.now) (g.R.Rates.basics c.args.rates.now) c.args.basis.now c.requires.rates c.args.basis.now (g.R.Rates.waypoints c.args.rates.now) (g.R.Rates.waypoints c.fill_prices.new.rates) (returns-in-Some-clause-waypoints g c) right
+
+pub returns-in-Some-crossed-clause-apart : goal.returns-in-Some-crossed-clause-apart
+returns-in-Some-crossed-clause-apart g c right =
+    let lawful : IsLinearProgram c.args.lp.now = search rules in
+    never_returned c.args.lp.now lawful c.requires.no_change (g.R.Rates.matrix c.args.rates.now) (g.R.Rates.basics c.args.rates.now) c.args.basis.now c.requires.rates c.args.basis.now (g.R.Rates.waypoints c.args.rates.now) (g.R.Rates.waypoints c.fill_prices.new.rates) (returns-in-Some-crossed-clause-waypoints g c) right
+
+pub returns-in_err-point-clause-apart : goal.returns-in_err-point-clause-apart
+returns-in_err-point-clause-apart g c right =
+    let lawful : IsLinearProgram c.args.lp.now = search rules in
+    never_returned c.args.lp.now lawful c.requires.no_change (g.R.Rates.matrix c.args.rates.now) (g.R.Rates.basics c.args.rates.now) c.args.basis.now c.requires.rates c.args.basis.now (g.R.Rates.waypoints c.args.rates.now) (g.R.Rates.waypoints c.fill_prices.new.rates) (returns-in_err-point-clause-waypoints g c) right
+
+pub returns-in_err-direction-clause-apart : goal.returns-in_err-direction-clause-apart
+returns-in_err-direction-clause-apart g c right =
+    let lawful : IsLinearProgram c.args.lp.now = search rules in
+    never_returned c.args.lp.now lawful c.requires.no_change (g.R.Rates.matrix c.args.rates.now) (g.R.Rates.basics c.args.rates.now) c.args.basis.now c.requires.rates c.args.basis.now (g.R.Rates.waypoints c.args.rates.now) (g.R.Rates.waypoints c.fill_prices.new.rates) (returns-in_err-direction-clause-waypoints g c) right
+
+pub returns-clause-apart : goal.returns-clause-apart
+returns-clause-apart g c right =
+    let lawful : IsLinearProgram c.args.lp.now = search rules in
+    never_returned c.args.lp.now lawful c.requires.no_change (g.R.Rates.matrix c.args.rates.now) (g.R.Rates.basics c.args.rates.now) c.args.basis.now c.requires.rates c.walk.new.basis (g.R.Rates.waypoints c.args.rates.now) (g.R.Rates.waypoints c.walk.new.rates) (returns-clause-waypoints g c) right
+
+pub returns-clause-limited : goal.returns-clause-limited
+returns-clause-limited g c =
+    let lawful : IsLinearProgram c.args.lp.now = search rules in
+    limit_below c.args.lp.now lawful c.requires.no_change (g.R.Rates.matrix c.args.rates.now) (g.R.Rates.basics c.args.rates.now) c.args.basis.now c.requires.rates c.walk.new.basis c.args.limit (g.R.Rates.waypoints c.args.rates.now) (g.R.Rates.waypoints c.walk.new.rates) c.walk.result (returns-clause-stops g c)

@@ -3,6 +3,9 @@ use Rattle.lp_definitions.specs.LinearProgram.{IsLinearProgram}
 use Rattle.termination_laws.specs.Laws.{lists_of}
 use Rattle.lp_model.specs.declared.reports.Outcome.TheVariants.{Crossed}
 use Rattle.bounded_primal.proofs.TrueOutcomes.{true_result, crossed_call, crossed_truth}
+use Rattle.method_definitions.specs.Path.{turn}
+use Rattle.bounded_primal.proofs.PathWalk.{stays}
+use Rattle.bounded_primal.proofs.FreeWalk.{never_returned}
 use Rattle.bounded_primal.proofs.CompletePaths.{free_path_answered}
 use Rattle.bounded_primal.proofs.free_path.primal_free.Goals as goal
 
@@ -26,3 +29,33 @@ pub returns-clause-complete : goal.returns-clause-complete
 returns-clause-complete g c bases ending goes =
     let lawful : IsLinearProgram c.args.lp.now = search rules in
     free_path_answered c.args.lp.now lawful (g.R.Rates.matrix c.args.rates.now) (g.R.Rates.basics c.args.rates.now) c.args.basis.now c.requires c.walk_free.new.basis bases ending (g.R.Rates.waypoints c.args.rates.now) (g.R.Rates.waypoints c.walk_free.new.rates) c.walk_free.result c.walk_free.ensures.ends c.walk_free.ensures.stops goes
+
+pub returns-in-Some-clause-apart : goal.returns-in-Some-clause-apart
+returns-in-Some-clause-apart g c =
+    let lawful : IsLinearProgram c.args.lp.now = search rules in
+    never_returned c.args.lp.now lawful (g.R.Rates.matrix c.args.rates.now) (g.R.Rates.basics c.args.rates.now) c.args.basis.now c.requires c.args.basis.now (g.R.Rates.waypoints c.args.rates.now) (g.R.Rates.waypoints c.args.rates.now) (stays turn c.args.lp.now c.args.basis.now (g.R.Rates.waypoints c.args.rates.now))
+
+pub returns-in_err-point-clause-apart : goal.returns-in_err-point-clause-apart
+returns-in_err-point-clause-apart g c =
+    let lawful : IsLinearProgram c.args.lp.now = search rules in
+    never_returned c.args.lp.now lawful (g.R.Rates.matrix c.args.rates.now) (g.R.Rates.basics c.args.rates.now) c.args.basis.now c.requires c.args.basis.now (g.R.Rates.waypoints c.args.rates.now) (g.R.Rates.waypoints c.args.rates.now) (stays turn c.args.lp.now c.args.basis.now (g.R.Rates.waypoints c.args.rates.now))
+
+pub returns-in_err-wanted-clause-apart : goal.returns-in_err-wanted-clause-apart
+returns-in_err-wanted-clause-apart g c =
+    let lawful : IsLinearProgram c.args.lp.now = search rules in
+    never_returned c.args.lp.now lawful (g.R.Rates.matrix c.args.rates.now) (g.R.Rates.basics c.args.rates.now) c.args.basis.now c.requires c.args.basis.now (g.R.Rates.waypoints c.args.rates.now) (g.R.Rates.waypoints c.args.rates.now) (stays turn c.args.lp.now c.args.basis.now (g.R.Rates.waypoints c.args.rates.now))
+
+pub returns-in_err-row-clause-apart : goal.returns-in_err-row-clause-apart
+returns-in_err-row-clause-apart g c =
+    let lawful : IsLinearProgram c.args.lp.now = search rules in
+    never_returned c.args.lp.now lawful (g.R.Rates.matrix c.args.rates.now) (g.R.Rates.basics c.args.rates.now) c.args.basis.now c.requires c.args.basis.now (g.R.Rates.waypoints c.args.rates.now) (g.R.Rates.waypoints c.args.rates.now) (stays turn c.args.lp.now c.args.basis.now (g.R.Rates.waypoints c.args.rates.now))
+
+pub returns-in_err-direction-clause-apart : goal.returns-in_err-direction-clause-apart
+returns-in_err-direction-clause-apart g c =
+    let lawful : IsLinearProgram c.args.lp.now = search rules in
+    never_returned c.args.lp.now lawful (g.R.Rates.matrix c.args.rates.now) (g.R.Rates.basics c.args.rates.now) c.args.basis.now c.requires c.args.basis.now (g.R.Rates.waypoints c.args.rates.now) (g.R.Rates.waypoints c.args.rates.now) (stays turn c.args.lp.now c.args.basis.now (g.R.Rates.waypoints c.args.rates.now))
+
+pub returns-clause-apart : goal.returns-clause-apart
+returns-clause-apart g c =
+    let lawful : IsLinearProgram c.args.lp.now = search rules in
+    never_returned c.args.lp.now lawful (g.R.Rates.matrix c.args.rates.now) (g.R.Rates.basics c.args.rates.now) c.args.basis.now c.requires c.walk_free.new.basis (g.R.Rates.waypoints c.args.rates.now) (g.R.Rates.waypoints c.walk_free.new.rates) c.walk_free.ensures.waypoints

@@ -9,6 +9,7 @@ use Rattle.method_definitions.specs.Path.{turn}
 use Rattle.bounded_primal.proofs.PathWalk.{begins_at, follows, follows_later}
 use Rattle.bounded_primal.proofs.WalkCases.{stops_at_once, step_stops, walk_more}
 use Rattle.bounded_primal.proofs.FreeWalk.{reached_short, free_ends, free_stops, counted_more, one_less}
+use Rattle.bounded_primal.proofs.FirstWanted.{leaves_variable, wants_moved}
 use Rattle.bounded_primal.proofs.Inside.{stays_inside}
 use Rattle.method_definitions.specs.Counts.{counted_steps}
 use Rattle.bounded_primal.proofs.free_path.walk_free.Goals as goal
@@ -28,6 +29,7 @@ loop-share-init g c = record {
   some = omega (arith, c.open-book.ensures.parts, c.requires.some, c.requires.parts);
   counted = rw c.open-book.ensures.total refl;
   rates = c.in_ok-point_of.ensures.rates.0;
+  wants = c.requires.wants;
   point = point_agrees c.args.lp.now c.args.basis.now c.in_ok-point_of.ensures.rates.0.is_basis c.in_ok-point_of.ensures.rates.0.nonsingular (value_at c.point_of.new.out) c.in_ok-point_of.ensures.point;
   kept = λ _. c.in_ok-point_of.ensures.point;
   broken = c.outside-broken.ensures;
@@ -94,8 +96,24 @@ loop-share-preserved g c =
       some = omega (arith, c.add.ensures.parts, c.loop-share.invariant.some);
       counted = c.saturating_add-steps.ensures ∙ counted_more c.loop-share.steps c.loop-share.book.total c.loop-share.invariant.counted ∙ ap counted_steps (sym c.add.ensures.total);
       rates = c.in_ok-kept-in-Moves.ensures.rates;
+      wants = c.renew_wants.ensures;
       point = c.in_ok-kept-in-Moves.ensures.point;
       kept = c.in_ok-kept-in-Moves.ensures.kept;
       broken = c.outside_after-broken.ensures;
       reached = rw c.add.ensures.total (walk_more c.args.lp.now c.loop-share.basis (value_at c.free_turn.new.direction) c.in-Moves.q c.in-Moves.by 1 moves c.args.basis.now (g.R.Rates.waypoints c.args.rates.now) (g.R.Rates.waypoints c.loop-share.rates) c.loop-share.book.total c.loop-share.invariant.reached c.step_over.new.basis (g.R.Rates.waypoints c.free_turn.new.rates) (g.R.Rates.waypoints c.step_over.new.rates) c.in_ok-kept-in-Moves.ensures.basis c.in_ok-outcome.ensures.rates.1 c.in_ok-kept-in-Moves.ensures.waypoints);
     }
+
+pub renew_wants-requires-clause-first : goal.renew_wants-requires-clause-first
+renew_wants-requires-clause-first g c =
+    let moves = rw c.in-Moves.is at c.in_ok-outcome.ensures.turn in
+    leaves_variable c.args.lp.now c.loop-share.basis (value_at c.free_turn.new.direction) c.in-Moves.q c.in-Moves.by 1 moves
+
+pub renew_wants-requires-clause-second : goal.renew_wants-requires-clause-second
+renew_wants-requires-clause-second g c =
+    let moves = rw c.in-Moves.is at c.in_ok-outcome.ensures.turn in
+    moves.nonbasic.0
+
+pub renew_wants-requires-clause-others : goal.renew_wants-requires-clause-others
+renew_wants-requires-clause-others g c =
+    let moves = rw c.in-Moves.is at c.in_ok-outcome.ensures.turn in
+    wants_moved c.args.lp.now c.loop-share.basis c.loop-share.invariant.rates.is_basis c.loop-share.wanted c.loop-share.invariant.wants (value_at c.free_turn.new.direction) c.in-Moves.q c.in-Moves.by 1 moves c.step_over.new.basis c.in_ok-kept-in-Moves.ensures.basis

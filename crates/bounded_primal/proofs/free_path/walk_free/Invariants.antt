@@ -5,6 +5,7 @@ use Rattle.lp_definitions.specs.Basis.{IsPointOf}
 use Rattle.method_definitions.specs.Counts.{counted_steps}
 use Rattle.termination_laws.specs.Laws.{lists_of}
 use Rattle.basis_values.specs.Calls.{HasRates}
+use Rattle.basis_values.specs.Wants.{AreWants}
 use Rattle.bounded_primal.specs.KeptPoints.{all_kept, AgreesWithPoint}
 use Rattle.bounded_primal.specs.Turns.{least_outside}
 use Rattle.method_definitions.specs.Path.{turn}
@@ -20,6 +21,7 @@ invariant-loop-share g l = record {
   some : 0 < l.share.parts;
   counted : l.steps ≡ counted_steps l.book.total;
   rates : HasRates (g.R.Rates.matrix l.rates) (g.R.Rates.basics l.rates) l.lp l.basis;
+  wants : AreWants l.lp l.basis l.wanted;
   point : AgreesWithPoint l.lp l.basis (value_at l.point);
   kept : IsTrue (all_kept l.kept) → IsPointOf l.lp l.basis (value_at l.point);
   broken : l.broken ≡ least_outside l.lp l.basis (value_at l.point);

@@ -4,7 +4,7 @@ use Rattle.lp_model.specs.declared.reports.Outcome.TheVariants.{Crossed}
 use Rattle.bounded_primal.proofs.TrueOutcomes.{true_result, crossed_call, crossed_truth}
 use Rattle.method_definitions.specs.Path.{turn}
 use Rattle.bounded_primal.proofs.PathWalk.{stays}
-use Rattle.bounded_primal.proofs.FreeWalk.{limit_below}
+use Rattle.bounded_primal.proofs.FreeWalk.{limit_below, never_returned}
 use Rattle.bounded_primal.proofs.CompletePaths.{path_answered}
 use Rattle.bounded_primal.proofs.path.primal.Goals as goal
 
@@ -45,3 +45,36 @@ pub returns-clause-complete : goal.returns-clause-complete
 returns-clause-complete g c bases ending goes =
     let lawful : IsLinearProgram c.args.lp.now = search rules in
     path_answered c.args.lp.now lawful (g.R.Rates.matrix c.args.rates.now) (g.R.Rates.basics c.args.rates.now) c.args.basis.now c.requires c.walk.new.basis bases ending c.args.limit (g.R.Rates.waypoints c.args.rates.now) (g.R.Rates.waypoints c.walk.new.rates) c.walk.result c.walk.ensures.ends c.walk.ensures.stops goes
+
+pub returns-in-Some-clause-apart : goal.returns-in-Some-clause-apart
+returns-in-Some-clause-apart g c =
+    let lawful : IsLinearProgram c.args.lp.now = search rules in
+    never_returned c.args.lp.now lawful (g.R.Rates.matrix c.args.rates.now) (g.R.Rates.basics c.args.rates.now) c.args.basis.now c.requires c.args.basis.now (g.R.Rates.waypoints c.args.rates.now) (g.R.Rates.waypoints c.args.rates.now) (stays turn c.args.lp.now c.args.basis.now (g.R.Rates.waypoints c.args.rates.now))
+
+pub returns-in_err-point-clause-apart : goal.returns-in_err-point-clause-apart
+returns-in_err-point-clause-apart g c =
+    let lawful : IsLinearProgram c.args.lp.now = search rules in
+    never_returned c.args.lp.now lawful (g.R.Rates.matrix c.args.rates.now) (g.R.Rates.basics c.args.rates.now) c.args.basis.now c.requires c.args.basis.now (g.R.Rates.waypoints c.args.rates.now) (g.R.Rates.waypoints c.args.rates.now) (stays turn c.args.lp.now c.args.basis.now (g.R.Rates.waypoints c.args.rates.now))
+
+pub returns-in_err-wanted-clause-apart : goal.returns-in_err-wanted-clause-apart
+returns-in_err-wanted-clause-apart g c =
+    let lawful : IsLinearProgram c.args.lp.now = search rules in
+    never_returned c.args.lp.now lawful (g.R.Rates.matrix c.args.rates.now) (g.R.Rates.basics c.args.rates.now) c.args.basis.now c.requires c.args.basis.now (g.R.Rates.waypoints c.args.rates.now) (g.R.Rates.waypoints c.args.rates.now) (stays turn c.args.lp.now c.args.basis.now (g.R.Rates.waypoints c.args.rates.now))
+
+pub returns-in_err-row-clause-apart : goal.returns-in_err-row-clause-apart
+returns-in_err-row-clause-apart g c =
+    let lawful : IsLinearProgram c.args.lp.now = search rules in
+    never_returned c.args.lp.now lawful (g.R.Rates.matrix c.args.rates.now) (g.R.Rates.basics c.args.rates.now) c.args.basis.now c.requires c.args.basis.now (g.R.Rates.waypoints c.args.rates.now) (g.R.Rates.waypoints c.args.rates.now) (stays turn c.args.lp.now c.args.basis.now (g.R.Rates.waypoints c.args.rates.now))
+
+pub returns-in_err-direction-clause-apart : goal.returns-in_err-direction-clause-apart
+returns-in_err-direction-clause-apart g c =
+    let lawful : IsLinearProgram c.args.lp.now = search rules in
+    never_returned c.args.lp.now lawful (g.R.Rates.matrix c.args.rates.now) (g.R.Rates.basics c.args.rates.now) c.args.basis.now c.requires c.args.basis.now (g.R.Rates.waypoints c.args.rates.now) (g.R.Rates.waypoints c.args.rates.now) (stays turn c.args.lp.now c.args.basis.now (g.R.Rates.waypoints c.args.rates.now))
+
+pub returns-clause-apart : goal.returns-clause-apart
+returns-clause-apart g c =
+    let lawful : IsLinearProgram c.args.lp.now = search rules in
+    never_returned c.args.lp.now lawful (g.R.Rates.matrix c.args.rates.now) (g.R.Rates.basics c.args.rates.now) c.args.basis.now c.requires c.walk.new.basis (g.R.Rates.waypoints c.args.rates.now) (g.R.Rates.waypoints c.walk.new.rates) c.walk.ensures.waypoints
+
+pub returns-in_err-wanted-clause-waypoints : goal.returns-in_err-wanted-clause-waypoints
+returns-in_err-wanted-clause-waypoints g c = stays turn c.args.lp.now c.args.basis.now (g.R.Rates.waypoints c.args.rates.now)

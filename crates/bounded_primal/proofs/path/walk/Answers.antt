@@ -7,6 +7,7 @@ use Rattle.bounded_primal.proofs.Agreement.{point_agrees}
 use Rattle.method_definitions.specs.Path.{turn}
 use Rattle.bounded_primal.proofs.PathWalk.{begins_at, ends_there, stops_there, follows, follows_later}
 use Rattle.bounded_primal.proofs.WalkCases.{stops_at_once, walk_more, walk_stops}
+use Rattle.bounded_primal.proofs.FirstWanted.{leaves_variable, wants_moved}
 use Rattle.bounded_primal.proofs.Inside.{stays_inside}
 use Rattle.method_definitions.specs.Counts.{counted_steps}
 use Rattle.bounded_primal.proofs.path.walk.Goals as goal
@@ -19,6 +20,7 @@ returns-in_err-point_of-clause-stops g c =
 pub loop-outcome-init : goal.loop-outcome-init
 loop-outcome-init g c = record {
   rates = c.in_ok-point_of.ensures.rates.0;
+  wants = c.requires.wants;
   point = point_agrees c.args.lp.now c.args.basis.now c.in_ok-point_of.ensures.rates.0.is_basis c.in_ok-point_of.ensures.rates.0.nonsingular (value_at c.point_of.new.out) c.in_ok-point_of.ensures.point;
   kept = λ _. c.in_ok-point_of.ensures.point;
   broken = c.outside-broken.ensures;
@@ -53,6 +55,7 @@ loop-outcome-preserved g c =
     let moves = rw c.in-Moves.is at c.in_ok-outcome.ensures.turn in
     record {
       rates = c.in_ok-kept-in-Moves.ensures.rates;
+      wants = c.renew_wants.ensures;
       point = c.in_ok-kept-in-Moves.ensures.point;
       kept = c.in_ok-kept-in-Moves.ensures.kept;
       broken = c.outside_after-broken.ensures;
@@ -88,3 +91,18 @@ returns-in-Ends-clause-ends g c =
     let counted : c.loop-outcome.steps ≡ counted_steps c.loop-outcome.steps = omega (arith, c.loop-outcome.invariant.within) in
     ends_there turn c.args.lp.now c.args.basis.now (g.R.Rates.waypoints c.args.rates.now) c.loop-outcome.basis (g.R.Rates.waypoints c.loop-outcome.rates) c.loop-outcome.steps c.loop-outcome.invariant.reached
     c.args.limit c.loop-outcome.steps c.in-Ends.outcome c.loop-outcome.invariant.within counted ends
+
+pub renew_wants-requires-clause-first : goal.renew_wants-requires-clause-first
+renew_wants-requires-clause-first g c =
+    let moves = rw c.in-Moves.is at c.in_ok-outcome.ensures.turn in
+    leaves_variable c.args.lp.now c.loop-outcome.basis (value_at c.next_turn.new.direction) c.in-Moves.q c.in-Moves.by (c.args.limit - c.loop-outcome.steps) moves
+
+pub renew_wants-requires-clause-second : goal.renew_wants-requires-clause-second
+renew_wants-requires-clause-second g c =
+    let moves = rw c.in-Moves.is at c.in_ok-outcome.ensures.turn in
+    moves.nonbasic.0
+
+pub renew_wants-requires-clause-others : goal.renew_wants-requires-clause-others
+renew_wants-requires-clause-others g c =
+    let moves = rw c.in-Moves.is at c.in_ok-outcome.ensures.turn in
+    wants_moved c.args.lp.now c.loop-outcome.basis c.loop-outcome.invariant.rates.is_basis c.loop-outcome.wanted c.loop-outcome.invariant.wants (value_at c.next_turn.new.direction) c.in-Moves.q c.in-Moves.by (c.args.limit - c.loop-outcome.steps) moves c.step_over.new.basis c.in_ok-kept-in-Moves.ensures.basis

@@ -3,6 +3,7 @@ use Rattle.std.specs.Prelude.{IsTrue}
 use Rattle.lp_definitions.specs.LinearProgram.{value_at}
 use Rattle.lp_definitions.specs.Basis.{IsPointOf}
 use Rattle.basis_values.specs.Calls.{HasRates}
+use Rattle.basis_values.specs.Wants.{AreWants}
 use Rattle.bounded_primal.specs.KeptPoints.{all_kept, AgreesWithPoint}
 use Rattle.bounded_primal.specs.Turns.{least_outside}
 use Rattle.method_definitions.specs.Path.{turn}
@@ -15,6 +16,7 @@ decreases-loop-outcome g l = l.limit - l.steps
 abbrev pub invariant-loop-outcome : goal.invariant-loop-outcome
 invariant-loop-outcome g l = record {
   rates : HasRates (g.R.Rates.matrix l.rates) (g.R.Rates.basics l.rates) l.lp l.basis;
+  wants : AreWants l.lp l.basis l.wanted;
   point : AgreesWithPoint l.lp l.basis (value_at l.point);
   kept : IsTrue (all_kept l.kept) → IsPointOf l.lp l.basis (value_at l.point);
   broken : l.broken ≡ least_outside l.lp l.basis (value_at l.point);

@@ -8,7 +8,7 @@ use Rattle.mps_convert.proofs.conversion.convert.Goals as goal
 
 pub read_cards-requires-clause-start : goal.read_cards-requires-clause-start
 read_cards-requires-clause-start c =
-    nothing_read (state_shown c.new-draft.result) c.new-draft.ensures.section c.new-draft.ensures.problem
+    nothing_read (state_shown c.new-draft.result) c.new-draft.ensures.section c.new-draft.ensures.style c.new-draft.ensures.problem
 
 pub returns-in_err-read_cards-clause-stop : goal.returns-in_err-read_cards-clause-stop
 returns-in_err-read_cards-clause-stop c =

@@ -1,0 +1,652 @@
+// Free decks and free revisions: decks whose cards between others are changed, as CONVERT or REVISE reads them and BCDOUT writes them out.
+use crate::jobs::answer_of;
+use std::alloc::Global;
+use std::test::Fail;
+
+/// Cards with which a deck has a fault, and the line on which the listing ends.
+struct Faulty {
+    cards: &'static str,
+    line: &'static [u8],
+}
+
+/// Cards with which a deck has no fault, the lines of the listing that tell sizes, and the deck that is written out.
+struct Lawful {
+    cards: &'static str,
+    lines: &'static [u8],
+    deck: &'static [u8],
+}
+
+/// What stands before the cards of a case, what the listing has before its line, and what stands after the cards.
+struct Around {
+    before: &'static [u8],
+    listing: &'static [u8],
+    after: &'static [u8],
+}
+
+// The job of a case.
+fn job_of(alloc: Global, around: &Around, cards: &str) -> Result<Vec<u8>, Fail> {
+    let mut job = Vec::from_slice(alloc, around.before)?;
+    job.extend_from_slice(cards.as_bytes())?;
+    job.extend_from_slice(around.after)?;
+    Ok(job)
+}
+
+// The listing of a case: the lines before its own, its own, and what follows them.
+fn listing_of(alloc: Global, around: &Around, lines: &[u8], end: &[u8]) -> Result<Vec<u8>, Fail> {
+    let mut listing = Vec::from_slice(alloc, around.listing)?;
+    listing.extend_from_slice(lines)?;
+    listing.extend_from_slice(end)?;
+    Ok(listing)
+}
+
+// The cards of the first of these cases that hasn't this fault.
+fn first_unrefused(
+    alloc: Global,
+    around: &Around,
+    cases: &[Faulty],
+) -> Result<Option<&'static str>, Fail> {
+    for case in cases {
+        let answer = answer_of(alloc, &job_of(alloc, around, case.cards)?)?;
+        if !answer.is(12, &listing_of(alloc, around, case.line, b"")?) {
+            return Ok(Some(case.cards));
+        }
+    }
+    Ok(None)
+}
+
+// The cards of the first of these cases that isn't read as this deck.
+fn first_misread(
+    alloc: Global,
+    around: &Around,
+    cases: &[Lawful],
+) -> Result<Option<&'static str>, Fail> {
+    for case in cases {
+        let answer = answer_of(alloc, &job_of(alloc, around, case.cards)?)?;
+        let listing = listing_of(alloc, around, case.lines, b"END 0\n")?;
+        if !answer.is_punched(0, &listing, case.deck) {
+            return Ok(Some(case.cards));
+        }
+    }
+    Ok(None)
+}
+
+// A card of COLUMNS, card 13 of the job.
+const ENTRY_AROUND: Around = Around {
+    before: b"* A free deck, with one card or two changed.\n*\n         PROGRAM\n         CONVERT\n         BCDOUT\n         EXIT\n         PEND\nNAME          ONE       FREE\nROWS\n N COST\n G LOW\nCOLUMNS\n",
+    listing: b"",
+    after: b"RHS\n LOW 1\nENDATA\n",
+};
+
+const ENTRY_FAULTS: [Faulty; 18] = [
+    Faulty {
+        cards: " X COST\n",
+        line: b"STOP 12 DECK FAULT 25 CARD 13\n",
+    },
+    Faulty {
+        cards: " X COST 1 LOW\n",
+        line: b"STOP 12 DECK FAULT 25 CARD 13\n",
+    },
+    Faulty {
+        cards: " X COST 1 LOW 1 LOW\n",
+        line: b"STOP 12 DECK FAULT 25 CARD 13\n",
+    },
+    Faulty {
+        cards: " X\n",
+        line: b"STOP 12 DECK FAULT 25 CARD 13\n",
+    },
+    Faulty {
+        cards: " LONGNAME9 COST 1\n",
+        line: b"STOP 12 DECK FAULT 26 CARD 13\n",
+    },
+    Faulty {
+        cards: " X LONGNAME9 1\n",
+        line: b"STOP 12 DECK FAULT 26 CARD 13\n",
+    },
+    Faulty {
+        cards: " X COST 1 LONGNAME9 1\n",
+        line: b"STOP 12 DECK FAULT 26 CARD 13\n",
+    },
+    Faulty {
+        cards: " X COST 1234567890123\n",
+        line: b"STOP 12 DECK FAULT 27 CARD 13\n",
+    },
+    Faulty {
+        cards: " LONGNAME9 COST 1234567890123\n",
+        line: b"STOP 12 DECK FAULT 26 CARD 13\n",
+    },
+    Faulty {
+        cards: " X COST 1 LOW 1.2.3\n",
+        line: b"STOP 12 DECK FAULT 8 CARD 13 NUMBER 2 COLUMN 18\n",
+    },
+    Faulty {
+        cards: " X COST 1 LOW Q\n",
+        line: b"STOP 12 DECK FAULT 8 CARD 13 NUMBER 2 COLUMN 15\n",
+    },
+    Faulty {
+        cards: "   X   COST   E1\n",
+        line: b"STOP 12 DECK FAULT 8 CARD 13 NUMBER 3\n",
+    },
+    Faulty {
+        cards: " X COST 1E19\n",
+        line: b"STOP 12 DECK FAULT 8 CARD 13 NUMBER 4\n",
+    },
+    Faulty {
+        cards: " X COST 1 COST 1\n",
+        line: b"STOP 12 DECK FAULT 7 CARD 13\n",
+    },
+    Faulty {
+        cards: " X NOROW 1\n",
+        line: b"STOP 12 DECK FAULT 6 CARD 13\n",
+    },
+    Faulty {
+        cards: " M1 'MARKER' 'INTORG'\n",
+        line: b"STOP 12 DECK FAULT 14 CARD 13\n",
+    },
+    Faulty {
+        cards: " M1 'MARKER'\n",
+        line: b"STOP 12 DECK FAULT 25 CARD 13\n",
+    },
+    Faulty {
+        cards: "X COST 1\n",
+        line: b"STOP 12 DECK FAULT 2 CARD 13\n",
+    },
+];
+
+const ENTRY_DECKS: [Lawful; 2] = [
+    Lawful {
+        cards: " EIGHTLET COST 123456789012 LOW 1\n",
+        lines: b"CONVERT ONE      ROWS 2 COLUMNS 1 ENTRIES 2\nBCDOUT  ONE      CARDS 10\n",
+        deck: b"NAME          ONE\nROWS\n N  COST\n G  LOW\nCOLUMNS\n    EIGHTLET  COST      123456789012\n    EIGHTLET  LOW       1\nRHS\n              LOW       1\nENDATA\n",
+    },
+    Lawful {
+        cards: "                                                            X COST 1 LOW 1\n",
+        lines: b"CONVERT ONE      ROWS 2 COLUMNS 1 ENTRIES 2\nBCDOUT  ONE      CARDS 10\n",
+        deck: b"NAME          ONE\nROWS\n N  COST\n G  LOW\nCOLUMNS\n    X         COST      1\n    X         LOW       1\nRHS\n              LOW       1\nENDATA\n",
+    },
+];
+
+// A third card of ROWS, card 12.
+const ROW_AROUND: Around = Around {
+    before: b"* A free deck, with one card or two changed.\n*\n         PROGRAM\n         CONVERT\n         BCDOUT\n         EXIT\n         PEND\nNAME          ONE       FREE\nROWS\n N COST\n G LOW\n",
+    listing: b"",
+    after: b"COLUMNS\n X COST 1 LOW 1\nRHS\n LOW 1\nENDATA\n",
+};
+
+const ROW_FAULTS: [Faulty; 10] = [
+    Faulty {
+        cards: " Q R X\n",
+        line: b"STOP 12 DECK FAULT 25 CARD 12\n",
+    },
+    Faulty {
+        cards: " Q R\n",
+        line: b"STOP 12 DECK FAULT 3 CARD 12\n",
+    },
+    Faulty {
+        cards: " L\n",
+        line: b"STOP 12 DECK FAULT 25 CARD 12\n",
+    },
+    Faulty {
+        cards: " L A B 1\n",
+        line: b"STOP 12 DECK FAULT 25 CARD 12\n",
+    },
+    Faulty {
+        cards: " G LOW\n",
+        line: b"STOP 12 DECK FAULT 4 CARD 12\n",
+    },
+    Faulty {
+        cards: " DN\n",
+        line: b"STOP 12 DECK FAULT 19 CARD 12\n",
+    },
+    Faulty {
+        cards: " DN S COST\n",
+        line: b"STOP 12 DECK FAULT 19 CARD 12\n",
+    },
+    Faulty {
+        cards: " DL S COST 1 LOW\n",
+        line: b"STOP 12 DECK FAULT 19 CARD 12\n",
+    },
+    Faulty {
+        cards: " L LONGNAME9\n",
+        line: b"STOP 12 DECK FAULT 26 CARD 12\n",
+    },
+    Faulty {
+        cards: " Q LONGNAME9\n",
+        line: b"STOP 12 DECK FAULT 26 CARD 12\n",
+    },
+];
+
+const ROW_DECKS: [Lawful; 1] = [Lawful {
+    cards: " L A\n",
+    lines: b"CONVERT ONE      ROWS 3 COLUMNS 1 ENTRIES 2\nBCDOUT  ONE      CARDS 11\n",
+    deck: b"NAME          ONE\nROWS\n N  COST\n G  LOW\n L  A\nCOLUMNS\n    X         COST      1\n    X         LOW       1\nRHS\n              LOW       1\nENDATA\n",
+}];
+
+// A section between RHS and ENDATA, whose first data card is card 17.
+const SET_AROUND: Around = Around {
+    before: b"* A free deck, with one card or two changed.\n*\n         PROGRAM\n         CONVERT\n         BCDOUT\n         EXIT\n         PEND\nNAME          ONE       FREE\nROWS\n N COST\n G LOW\nCOLUMNS\n X COST 1 LOW 1\nRHS\n LOW 1\n",
+    listing: b"",
+    after: b"ENDATA\n",
+};
+
+const SET_FAULTS: [Faulty; 12] = [
+    Faulty {
+        cards: "BOUNDS\n UP X\n",
+        line: b"STOP 12 DECK FAULT 25 CARD 17\n",
+    },
+    Faulty {
+        cards: "BOUNDS\n MI B X 1\n",
+        line: b"STOP 12 DECK FAULT 25 CARD 17\n",
+    },
+    Faulty {
+        cards: "BOUNDS\n FR B X 1\n",
+        line: b"STOP 12 DECK FAULT 25 CARD 17\n",
+    },
+    Faulty {
+        cards: "BOUNDS\n BV\n",
+        line: b"STOP 12 DECK FAULT 10 CARD 17\n",
+    },
+    Faulty {
+        cards: "BOUNDS\n BV B X 1\n",
+        line: b"STOP 12 DECK FAULT 10 CARD 17\n",
+    },
+    Faulty {
+        cards: "BOUNDS\n FX B X 12345678901E1\n",
+        line: b"STOP 12 DECK FAULT 27 CARD 17\n",
+    },
+    Faulty {
+        cards: "BOUNDS\n UP B Y 1\n",
+        line: b"STOP 12 DECK FAULT 11 CARD 17\n",
+    },
+    Faulty {
+        cards: "BOUNDS\n UP LONGNAME9 X 1\n",
+        line: b"STOP 12 DECK FAULT 26 CARD 17\n",
+    },
+    Faulty {
+        cards: "RANGES\n COST 1 LOW 1\n",
+        line: b"STOP 12 DECK FAULT 9 CARD 17\n",
+    },
+    Faulty {
+        cards: "RANGES\n R\n",
+        line: b"STOP 12 DECK FAULT 25 CARD 17\n",
+    },
+    Faulty {
+        cards: "RANGES\n LOW 1 LOW 1\n",
+        line: b"STOP 12 DECK FAULT 7 CARD 17\n",
+    },
+    Faulty {
+        cards: "RANGES\n R LOW 1 LOW 1 X\n",
+        line: b"STOP 12 DECK FAULT 25 CARD 17\n",
+    },
+];
+
+const SET_DECKS: [Lawful; 6] = [
+    Lawful {
+        cards: "BOUNDS\n FR X\n",
+        lines: b"CONVERT ONE      ROWS 2 COLUMNS 1 ENTRIES 2\nBCDOUT  ONE      CARDS 12\n",
+        deck: b"NAME          ONE\nROWS\n N  COST\n G  LOW\nCOLUMNS\n    X         COST      1\n    X         LOW       1\nRHS\n              LOW       1\nBOUNDS\n FR           X\nENDATA\n",
+    },
+    Lawful {
+        cards: "BOUNDS\n FR B X\n",
+        lines: b"CONVERT ONE      ROWS 2 COLUMNS 1 ENTRIES 2\nBCDOUT  ONE      CARDS 12\n",
+        deck: b"NAME          ONE\nROWS\n N  COST\n G  LOW\nCOLUMNS\n    X         COST      1\n    X         LOW       1\nRHS\n              LOW       1\nBOUNDS\n FR B         X\nENDATA\n",
+    },
+    Lawful {
+        cards: "BOUNDS\n UP X 1\n",
+        lines: b"CONVERT ONE      ROWS 2 COLUMNS 1 ENTRIES 2\nBCDOUT  ONE      CARDS 12\n",
+        deck: b"NAME          ONE\nROWS\n N  COST\n G  LOW\nCOLUMNS\n    X         COST      1\n    X         LOW       1\nRHS\n              LOW       1\nBOUNDS\n UP           X         1\nENDATA\n",
+    },
+    Lawful {
+        cards: "BOUNDS\n UP B X 1\n",
+        lines: b"CONVERT ONE      ROWS 2 COLUMNS 1 ENTRIES 2\nBCDOUT  ONE      CARDS 12\n",
+        deck: b"NAME          ONE\nROWS\n N  COST\n G  LOW\nCOLUMNS\n    X         COST      1\n    X         LOW       1\nRHS\n              LOW       1\nBOUNDS\n UP B         X         1\nENDATA\n",
+    },
+    Lawful {
+        cards: "RANGES\n LOW 1\n",
+        lines: b"CONVERT ONE      ROWS 2 COLUMNS 1 ENTRIES 2\nBCDOUT  ONE      CARDS 12\n",
+        deck: b"NAME          ONE\nROWS\n N  COST\n G  LOW\nCOLUMNS\n    X         COST      1\n    X         LOW       1\nRHS\n              LOW       1\nRANGES\n              LOW       1\nENDATA\n",
+    },
+    Lawful {
+        cards: "RANGES\n R LOW 1\n",
+        lines: b"CONVERT ONE      ROWS 2 COLUMNS 1 ENTRIES 2\nBCDOUT  ONE      CARDS 12\n",
+        deck: b"NAME          ONE\nROWS\n N  COST\n G  LOW\nCOLUMNS\n    X         COST      1\n    X         LOW       1\nRHS\n              LOW       1\nRANGES\n    R         LOW       1\nENDATA\n",
+    },
+];
+
+// The NAME card, card 8: it begins a free deck, or a fixed one, of which card 10 has a fault.
+const NAME_AROUND: Around = Around {
+    before: b"* A free deck, with one card or two changed.\n*\n         PROGRAM\n         CONVERT\n         BCDOUT\n         EXIT\n         PEND\n",
+    listing: b"",
+    after: b"ROWS\n N COST\n G LOW\nCOLUMNS\n X COST 1 LOW 1\nRHS\n LOW 1\nENDATA\n",
+};
+
+const NAME_FAULTS: [Faulty; 9] = [
+    Faulty {
+        cards: "NAME          ONE      FREE\n",
+        line: b"STOP 12 DECK FAULT 20 CARD 10\n",
+    },
+    Faulty {
+        cards: "NAME          ONE      XFREE\n",
+        line: b"STOP 12 DECK FAULT 20 CARD 10\n",
+    },
+    Faulty {
+        cards: "NAME          ONE     X FREE\n",
+        line: b"STOP 12 DECK FAULT 20 CARD 10\n",
+    },
+    Faulty {
+        cards: "NAME          ONE       FREE X\n",
+        line: b"STOP 12 DECK FAULT 20 CARD 10\n",
+    },
+    Faulty {
+        cards: "NAME          ONE       FREE                                                   X\n",
+        line: b"STOP 12 DECK FAULT 20 CARD 10\n",
+    },
+    Faulty {
+        cards: "NAME          ONE       FREED\n",
+        line: b"STOP 12 DECK FAULT 20 CARD 10\n",
+    },
+    Faulty {
+        cards: "NAME ONE FREE\n",
+        line: b"STOP 12 DECK FAULT 20 CARD 10\n",
+    },
+    Faulty {
+        cards: "NAME          ONE       free\n",
+        line: b"STOP 12 DECK FAULT 20 CARD 10\n",
+    },
+    Faulty {
+        cards: "NAME          A NAME  FREE\n",
+        line: b"STOP 12 DECK FAULT 20 CARD 10\n",
+    },
+];
+
+const NAME_DECKS: [Lawful; 2] = [
+    Lawful {
+        cards: "NAME          A NAME    FREE\n",
+        lines: b"CONVERT A NAME   ROWS 2 COLUMNS 1 ENTRIES 2\nBCDOUT  A NAME   CARDS 10\n",
+        deck: b"NAME          A NAME\nROWS\n N  COST\n G  LOW\nCOLUMNS\n    X         COST      1\n    X         LOW       1\nRHS\n              LOW       1\nENDATA\n",
+    },
+    Lawful {
+        cards: "NAME                    FREE\n",
+        lines: b"CONVERT          ROWS 2 COLUMNS 1 ENTRIES 2\nBCDOUT           CARDS 10\n",
+        deck: b"NAME\nROWS\n N  COST\n G  LOW\nCOLUMNS\n    X         COST      1\n    X         LOW       1\nRHS\n              LOW       1\nENDATA\n",
+    },
+];
+
+// A free revision of a fixed deck: its cards from card 23 on.
+const REVISION_AROUND: Around = Around {
+    before: b"* A free revision.\n*\n         PROGRAM\n         CONVERT\n         REVISE\n         BCDOUT\n         EXIT\n         PEND\nNAME          ONE\nROWS\n N  COST\n G  LOW\nCOLUMNS\n    X         COST      1              LOW       1\nRHS\n              LOW       1\nRANGES\n    R         LOW       2\nBOUNDS\n UP BND       X         9\nENDATA\nNAME          NEXT      FREE\n",
+    listing: b"CONVERT ONE      ROWS 2 COLUMNS 1 ENTRIES 2\n",
+    after: b"ENDATA\n",
+};
+
+const REVISION_FAULTS_1: [Faulty; 25] = [
+    Faulty {
+        cards: "ROWS\n MODIFY\n N LOW\n",
+        line: b"STOP 12 DECK FAULT 9 CARD 25\n",
+    },
+    Faulty {
+        cards: "ROWS\n MODIFY\n L NOROW\n",
+        line: b"STOP 12 DECK FAULT 24 CARD 25\n",
+    },
+    Faulty {
+        cards: "ROWS\n MODIFY\n Q NOROW\n",
+        line: b"STOP 12 DECK FAULT 3 CARD 25\n",
+    },
+    Faulty {
+        cards: "ROWS\n MODIFY\n DL LOW\n",
+        line: b"STOP 12 DECK FAULT 19 CARD 25\n",
+    },
+    Faulty {
+        cards: "ROWS\n MODIFY\n LOW\n",
+        line: b"STOP 12 DECK FAULT 25 CARD 25\n",
+    },
+    Faulty {
+        cards: "ROWS\n DELETE\n NOROW\n",
+        line: b"STOP 12 DECK FAULT 23 CARD 25\n",
+    },
+    Faulty {
+        cards: "ROWS\n DELETE\n G LOW\n",
+        line: b"STOP 12 DECK FAULT 25 CARD 25\n",
+    },
+    Faulty {
+        cards: "ROWS\n DELETE\n DN\n",
+        line: b"STOP 12 DECK FAULT 23 CARD 25\n",
+    },
+    Faulty {
+        cards: "ROWS\n DELETE\n LONGNAME9\n",
+        line: b"STOP 12 DECK FAULT 26 CARD 25\n",
+    },
+    Faulty {
+        cards: "ROWS\n AFTER LOW\n G LOW\n",
+        line: b"STOP 12 DECK FAULT 4 CARD 25\n",
+    },
+    Faulty {
+        cards: "ROWS\n AFTER LONGNAME9\n L CAP\n",
+        line: b"STOP 12 DECK FAULT 22 CARD 24\n",
+    },
+    Faulty {
+        cards: "ROWS\n AFTER NOROW\n L CAP\n",
+        line: b"STOP 12 DECK FAULT 22 CARD 24\n",
+    },
+    Faulty {
+        cards: "ROWS\n BEFORE LOW CAP\n L CAP\n",
+        line: b"STOP 12 DECK FAULT 21 CARD 24\n",
+    },
+    Faulty {
+        cards: "ROWS\n Q R X Y\n",
+        line: b"STOP 12 DECK FAULT 21 CARD 24\n",
+    },
+    Faulty {
+        cards: "ROWS\n BEFOR LOW\n",
+        line: b"STOP 12 DECK FAULT 21 CARD 24\n",
+    },
+    Faulty {
+        cards: "COLUMNS\n MODIFY\n Y COST 2\n",
+        line: b"STOP 12 DECK FAULT 24 CARD 25\n",
+    },
+    Faulty {
+        cards: "COLUMNS\n DELETE\n X LOW 1\n",
+        line: b"STOP 12 DECK FAULT 25 CARD 25\n",
+    },
+    Faulty {
+        cards: "COLUMNS\n DELETE\n Y\n",
+        line: b"STOP 12 DECK FAULT 23 CARD 25\n",
+    },
+    Faulty {
+        cards: "COLUMNS\n BEFORE X\n X COST 1\n",
+        line: b"STOP 12 DECK FAULT 5 CARD 25\n",
+    },
+    Faulty {
+        cards: "RHS\n DELETE\n LOW\n",
+        line: b"STOP 12 DECK FAULT 23 CARD 25\n",
+    },
+    Faulty {
+        cards: "RHS\n BEFORE\n LOW 3\n",
+        line: b"STOP 12 DECK FAULT 21 CARD 24\n",
+    },
+    Faulty {
+        cards: "RANGES\n MODIFY\n COST 3\n",
+        line: b"STOP 12 DECK FAULT 9 CARD 25\n",
+    },
+    Faulty {
+        cards: "RANGES\n DELETE\n R COST\n",
+        line: b"STOP 12 DECK FAULT 23 CARD 25\n",
+    },
+    Faulty {
+        cards: "RANGES\n DELETE\n R NOROW\n",
+        line: b"STOP 12 DECK FAULT 6 CARD 25\n",
+    },
+    Faulty {
+        cards: "BOUNDS\n MODIFY\n BV BND X\n",
+        line: b"STOP 12 DECK FAULT 10 CARD 25\n",
+    },
+];
+
+const REVISION_FAULTS_2: [Faulty; 5] = [
+    Faulty {
+        cards: "BOUNDS\n DELETE\n X\n",
+        line: b"STOP 12 DECK FAULT 23 CARD 25\n",
+    },
+    Faulty {
+        cards: "BOUNDS\n DELETE\n BND Y\n",
+        line: b"STOP 12 DECK FAULT 11 CARD 25\n",
+    },
+    Faulty {
+        cards: "BOUNDS\n DELETE\n UP BND X\n",
+        line: b"STOP 12 DECK FAULT 25 CARD 25\n",
+    },
+    Faulty {
+        cards: " MODIFY\n L LOW\n",
+        line: b"STOP 12 DECK FAULT 1 CARD 23\n",
+    },
+    Faulty {
+        cards: " X COST 1\n",
+        line: b"STOP 12 DECK FAULT 1 CARD 23\n",
+    },
+];
+
+const REVISION_DECKS: [Lawful; 20] = [
+    Lawful {
+        cards: "ROWS\n MODIFY\n L LOW\n",
+        lines: b"REVISE  NEXT     ROWS 2 COLUMNS 1 ENTRIES 2\nBCDOUT  NEXT     CARDS 14\n",
+        deck: b"NAME          NEXT\nROWS\n N  COST\n L  LOW\nCOLUMNS\n    X         COST      1\n    X         LOW       1\nRHS\n              LOW       1\nRANGES\n    R         LOW       2\nBOUNDS\n UP BND       X         9\nENDATA\n",
+    },
+    Lawful {
+        cards: "ROWS\n MODIFY LONGNAME9\n L LOW\n",
+        lines: b"REVISE  NEXT     ROWS 2 COLUMNS 1 ENTRIES 2\nBCDOUT  NEXT     CARDS 14\n",
+        deck: b"NAME          NEXT\nROWS\n N  COST\n L  LOW\nCOLUMNS\n    X         COST      1\n    X         LOW       1\nRHS\n              LOW       1\nRANGES\n    R         LOW       2\nBOUNDS\n UP BND       X         9\nENDATA\n",
+    },
+    Lawful {
+        cards: "ROWS\n DELETE\n LOW\n",
+        lines: b"REVISE  NEXT     ROWS 1 COLUMNS 1 ENTRIES 1\nBCDOUT  NEXT     CARDS 8\n",
+        deck: b"NAME          NEXT\nROWS\n N  COST\nCOLUMNS\n    X         COST      1\nBOUNDS\n UP BND       X         9\nENDATA\n",
+    },
+    Lawful {
+        cards: "ROWS\n BEFORE LOW\n L CAP\n",
+        lines: b"REVISE  NEXT     ROWS 3 COLUMNS 1 ENTRIES 2\nBCDOUT  NEXT     CARDS 15\n",
+        deck: b"NAME          NEXT\nROWS\n N  COST\n L  CAP\n G  LOW\nCOLUMNS\n    X         COST      1\n    X         LOW       1\nRHS\n              LOW       1\nRANGES\n    R         LOW       2\nBOUNDS\n UP BND       X         9\nENDATA\n",
+    },
+    Lawful {
+        cards: "ROWS\n   AFTER\n L CAP\n",
+        lines: b"REVISE  NEXT     ROWS 3 COLUMNS 1 ENTRIES 2\nBCDOUT  NEXT     CARDS 15\n",
+        deck: b"NAME          NEXT\nROWS\n N  COST\n G  LOW\n L  CAP\nCOLUMNS\n    X         COST      1\n    X         LOW       1\nRHS\n              LOW       1\nRANGES\n    R         LOW       2\nBOUNDS\n UP BND       X         9\nENDATA\n",
+    },
+    Lawful {
+        cards: "COLUMNS\n MODIFY\n X COST 2\n",
+        lines: b"REVISE  NEXT     ROWS 2 COLUMNS 1 ENTRIES 2\nBCDOUT  NEXT     CARDS 14\n",
+        deck: b"NAME          NEXT\nROWS\n N  COST\n G  LOW\nCOLUMNS\n    X         COST      2\n    X         LOW       1\nRHS\n              LOW       1\nRANGES\n    R         LOW       2\nBOUNDS\n UP BND       X         9\nENDATA\n",
+    },
+    Lawful {
+        cards: "COLUMNS\n DELETE\n X\n",
+        lines: b"REVISE  NEXT     ROWS 2 COLUMNS 0 ENTRIES 0\nBCDOUT  NEXT     CARDS 10\n",
+        deck: b"NAME          NEXT\nROWS\n N  COST\n G  LOW\nCOLUMNS\nRHS\n              LOW       1\nRANGES\n    R         LOW       2\nENDATA\n",
+    },
+    Lawful {
+        cards: "COLUMNS\n DELETE\n X LOW\n",
+        lines: b"REVISE  NEXT     ROWS 2 COLUMNS 1 ENTRIES 1\nBCDOUT  NEXT     CARDS 13\n",
+        deck: b"NAME          NEXT\nROWS\n N  COST\n G  LOW\nCOLUMNS\n    X         COST      1\nRHS\n              LOW       1\nRANGES\n    R         LOW       2\nBOUNDS\n UP BND       X         9\nENDATA\n",
+    },
+    Lawful {
+        cards: "COLUMNS\n AFTER\n Y COST 1\n Y LOW 2\n",
+        lines: b"REVISE  NEXT     ROWS 2 COLUMNS 2 ENTRIES 4\nBCDOUT  NEXT     CARDS 16\n",
+        deck: b"NAME          NEXT\nROWS\n N  COST\n G  LOW\nCOLUMNS\n    X         COST      1\n    X         LOW       1\n    Y         COST      1\n    Y         LOW       2\nRHS\n              LOW       1\nRANGES\n    R         LOW       2\nBOUNDS\n UP BND       X         9\nENDATA\n",
+    },
+    Lawful {
+        cards: "RHS\n MODIFY\n LOW 3\n",
+        lines: b"REVISE  NEXT     ROWS 2 COLUMNS 1 ENTRIES 2\nBCDOUT  NEXT     CARDS 14\n",
+        deck: b"NAME          NEXT\nROWS\n N  COST\n G  LOW\nCOLUMNS\n    X         COST      1\n    X         LOW       1\nRHS\n              LOW       3\nRANGES\n    R         LOW       2\nBOUNDS\n UP BND       X         9\nENDATA\n",
+    },
+    Lawful {
+        cards: "RHS\n MODIFY\n B LOW 3 COST 1\n",
+        lines: b"REVISE  NEXT     ROWS 2 COLUMNS 1 ENTRIES 2\nBCDOUT  NEXT     CARDS 16\n",
+        deck: b"NAME          NEXT\nROWS\n N  COST\n G  LOW\nCOLUMNS\n    X         COST      1\n    X         LOW       1\nRHS\n              LOW       1\n    B         LOW       3\n    B         COST      1\nRANGES\n    R         LOW       2\nBOUNDS\n UP BND       X         9\nENDATA\n",
+    },
+    Lawful {
+        cards: "RANGES\n MODIFY\n R LOW 3\n",
+        lines: b"REVISE  NEXT     ROWS 2 COLUMNS 1 ENTRIES 2\nBCDOUT  NEXT     CARDS 14\n",
+        deck: b"NAME          NEXT\nROWS\n N  COST\n G  LOW\nCOLUMNS\n    X         COST      1\n    X         LOW       1\nRHS\n              LOW       1\nRANGES\n    R         LOW       3\nBOUNDS\n UP BND       X         9\nENDATA\n",
+    },
+    Lawful {
+        cards: "RANGES\n DELETE\n R\n",
+        lines: b"REVISE  NEXT     ROWS 2 COLUMNS 1 ENTRIES 2\nBCDOUT  NEXT     CARDS 12\n",
+        deck: b"NAME          NEXT\nROWS\n N  COST\n G  LOW\nCOLUMNS\n    X         COST      1\n    X         LOW       1\nRHS\n              LOW       1\nBOUNDS\n UP BND       X         9\nENDATA\n",
+    },
+    Lawful {
+        cards: "RANGES\n DELETE\n R LOW\n",
+        lines: b"REVISE  NEXT     ROWS 2 COLUMNS 1 ENTRIES 2\nBCDOUT  NEXT     CARDS 12\n",
+        deck: b"NAME          NEXT\nROWS\n N  COST\n G  LOW\nCOLUMNS\n    X         COST      1\n    X         LOW       1\nRHS\n              LOW       1\nBOUNDS\n UP BND       X         9\nENDATA\n",
+    },
+    Lawful {
+        cards: "BOUNDS\n MODIFY\n LO BND X 1\n",
+        lines: b"REVISE  NEXT     ROWS 2 COLUMNS 1 ENTRIES 2\nBCDOUT  NEXT     CARDS 15\n",
+        deck: b"NAME          NEXT\nROWS\n N  COST\n G  LOW\nCOLUMNS\n    X         COST      1\n    X         LOW       1\nRHS\n              LOW       1\nRANGES\n    R         LOW       2\nBOUNDS\n UP BND       X         9\n LO BND       X         1\nENDATA\n",
+    },
+    Lawful {
+        cards: "BOUNDS\n MODIFY\n FR X\n",
+        lines: b"REVISE  NEXT     ROWS 2 COLUMNS 1 ENTRIES 2\nBCDOUT  NEXT     CARDS 15\n",
+        deck: b"NAME          NEXT\nROWS\n N  COST\n G  LOW\nCOLUMNS\n    X         COST      1\n    X         LOW       1\nRHS\n              LOW       1\nRANGES\n    R         LOW       2\nBOUNDS\n UP BND       X         9\n FR           X\nENDATA\n",
+    },
+    Lawful {
+        cards: "BOUNDS\n DELETE\n BND\n",
+        lines: b"REVISE  NEXT     ROWS 2 COLUMNS 1 ENTRIES 2\nBCDOUT  NEXT     CARDS 12\n",
+        deck: b"NAME          NEXT\nROWS\n N  COST\n G  LOW\nCOLUMNS\n    X         COST      1\n    X         LOW       1\nRHS\n              LOW       1\nRANGES\n    R         LOW       2\nENDATA\n",
+    },
+    Lawful {
+        cards: "BOUNDS\n DELETE\n BND X\n",
+        lines: b"REVISE  NEXT     ROWS 2 COLUMNS 1 ENTRIES 2\nBCDOUT  NEXT     CARDS 12\n",
+        deck: b"NAME          NEXT\nROWS\n N  COST\n G  LOW\nCOLUMNS\n    X         COST      1\n    X         LOW       1\nRHS\n              LOW       1\nRANGES\n    R         LOW       2\nENDATA\n",
+    },
+    Lawful {
+        cards: "RHS\n MODIFY 3\n",
+        lines: b"REVISE  NEXT     ROWS 2 COLUMNS 1 ENTRIES 2\nBCDOUT  NEXT     CARDS 14\n",
+        deck: b"NAME          NEXT\nROWS\n N  COST\n G  LOW\nCOLUMNS\n    X         COST      1\n    X         LOW       1\nRHS\n              LOW       1\nRANGES\n    R         LOW       2\nBOUNDS\n UP BND       X         9\nENDATA\n",
+    },
+    Lawful {
+        cards: "RHS\n MODIFY\n MODIFY 3\n",
+        lines: b"REVISE  NEXT     ROWS 2 COLUMNS 1 ENTRIES 2\nBCDOUT  NEXT     CARDS 14\n",
+        deck: b"NAME          NEXT\nROWS\n N  COST\n G  LOW\nCOLUMNS\n    X         COST      1\n    X         LOW       1\nRHS\n              LOW       1\nRANGES\n    R         LOW       2\nBOUNDS\n UP BND       X         9\nENDATA\n",
+    },
+];
+
+#[test]
+fn words_of_entries(rt: HostRuntime) -> Result<(), Fail> {
+    let alloc = rt.alloc();
+    assert_eq!(rt; first_unrefused(alloc, &ENTRY_AROUND, &ENTRY_FAULTS)?, None);
+    assert_eq!(rt; first_misread(alloc, &ENTRY_AROUND, &ENTRY_DECKS)?, None);
+    Ok(())
+}
+
+#[test]
+fn words_of_rows_and_sets(rt: HostRuntime) -> Result<(), Fail> {
+    let alloc = rt.alloc();
+    assert_eq!(rt; first_unrefused(alloc, &ROW_AROUND, &ROW_FAULTS)?, None);
+    assert_eq!(rt; first_misread(alloc, &ROW_AROUND, &ROW_DECKS)?, None);
+    assert_eq!(rt; first_unrefused(alloc, &SET_AROUND, &SET_FAULTS)?, None);
+    assert_eq!(rt; first_misread(alloc, &SET_AROUND, &SET_DECKS)?, None);
+    Ok(())
+}
+
+#[test]
+fn name_cards_of_free_decks(rt: HostRuntime) -> Result<(), Fail> {
+    let alloc = rt.alloc();
+    assert_eq!(rt; first_unrefused(alloc, &NAME_AROUND, &NAME_FAULTS)?, None);
+    assert_eq!(rt; first_misread(alloc, &NAME_AROUND, &NAME_DECKS)?, None);
+    Ok(())
+}
+
+#[test]
+fn free_revisions(rt: HostRuntime) -> Result<(), Fail> {
+    let alloc = rt.alloc();
+    assert_eq!(rt;
+        first_unrefused(alloc, &REVISION_AROUND, &REVISION_FAULTS_1)?,
+        None
+    );
+    assert_eq!(rt;
+        first_unrefused(alloc, &REVISION_AROUND, &REVISION_FAULTS_2)?,
+        None
+    );
+    assert_eq!(rt;
+        first_misread(alloc, &REVISION_AROUND, &REVISION_DECKS)?,
+        None
+    );
+    Ok(())
+}
