@@ -7,10 +7,10 @@ use Rattle.std.proofs.lemmas.List.Splits.{slice_split_first, slice_split_none}
 use Rattle.std.proofs.lemmas.List.Sums.{fails_before_first}
 use Rattle.std.proofs.Math.ListN.{drop_of_length-le}
 use Rattle.card_definitions.specs.Cards.{is_blank}
-use Rattle.card_definitions.specs.Fields.{Word as Read, word_if_any, words_from, words, no_word}
+use Rattle.card_definitions.specs.Fields.{Word as Read, word_if_any, words_from, words}
 use Rattle.deck_fields.specs.declared.free_card.Word.{Word}
 use Rattle.deck_fields.specs.declared.free_card.Words.{Words}
-use Rattle.deck_fields.specs.WordsShown.{word_shown, IsColumn, AreWordsBefore}
+use Rattle.deck_fields.specs.WordsShown.{word_shown, absent, IsColumn, AreWordsBefore}
 
 -- ---- parts between blanks
 
@@ -79,32 +79,32 @@ module _ {X : Type 0} where
   get-other (y ∷ xs) x zero differ = refl
   get-other (y ∷ xs) x (suc k) differ = get-other xs x k (λ is. differ (ap suc is))
 
-module _ (all : List Word) (count k : ℕ) (d word : Word) (six : length all ≡ 6) (below : k < 6) where
+module _ (all : List Word) (count k : ℕ) (d word : Word) (seven : length all ≡ 7) (below : k < 7) where
   -- the word at a place after one more is noted where there is room
-  noted : nat_lt count 6 ≡ true → k ≡ count → get_or (if nat_lt count 6 then set all count word else all) k d ≡ word
-  noted room same = rw room (rw same (get_or-set_same all count word d (omega (arith, six, below, same))))
+  noted : nat_lt count 7 ≡ true → k ≡ count → get_or (if nat_lt count 7 then set all count word else all) k d ≡ word
+  noted room same = rw room (rw same (get_or-set_same all count word d (omega (arith, seven, below, same))))
 
   kept : k ≢ count → (b : Bool) → get_or (if b then set all count word else all) k d ≡ get_or all k d
   kept differ true = get_or-set_other all count k word d differ
   kept differ false = refl
 
-  each-pushed : (before : List Read) → length before ≡ count → word_shown (get_or all k d) ≡ unwrap_or (slice_get before k) no_word
-      → word_shown (get_or (if nat_lt count 6 then set all count word else all) k d) ≡ unwrap_or (slice_get (before ++ word_shown word ∷ []) k) no_word
+  each-pushed : (before : List Read) → length before ≡ count → word_shown (get_or all k d) ≡ unwrap_or (slice_get before k) absent
+      → word_shown (get_or (if nat_lt count 7 then set all count word else all) k d) ≡ unwrap_or (slice_get (before ++ word_shown word ∷ []) k) absent
   each-pushed before long old = by (eqb_tells k count)
     where
       by : ((nat_eq k count ≡ true) × (k ≡ count)) ⊎ ((nat_eq k count ≡ false) × (k ≢ count))
-          → word_shown (get_or (if nat_lt count 6 then set all count word else all) k d) ≡ unwrap_or (slice_get (before ++ word_shown word ∷ []) k) no_word
-      by (inl same) = ap word_shown (noted (lt-ltb count 6 (omega (arith, below, same.1))) same.1)
-          ∙ ap (λ o. unwrap_or o no_word) (sym (get-next before (word_shown word) k (same.1 ∙ sym long)))
-      by (inr differ) = ap word_shown (kept differ.1 (nat_lt count 6)) ∙ old
-          ∙ ap (λ o. unwrap_or o no_word) (sym (get-other before (word_shown word) k (λ is. differ.1 (is ∙ long))))
+          → word_shown (get_or (if nat_lt count 7 then set all count word else all) k d) ≡ unwrap_or (slice_get (before ++ word_shown word ∷ []) k) absent
+      by (inl same) = ap word_shown (noted (lt-ltb count 7 (omega (arith, below, same.1))) same.1)
+          ∙ ap (λ o. unwrap_or o absent) (sym (get-next before (word_shown word) k (same.1 ∙ sym long)))
+      by (inr differ) = ap word_shown (kept differ.1 (nat_lt count 7)) ∙ old
+          ∙ ap (λ o. unwrap_or o absent) (sym (get-other before (word_shown word) k (λ is. differ.1 (is ∙ long))))
 
-  columns-pushed : IsColumn word.column → IsColumn (get_or all k d).column → IsColumn (get_or (if nat_lt count 6 then set all count word else all) k d).column
-  columns-pushed new old = by (eqb_tells k count)
+  columns-pushed : IsColumn word.column → (k < count → IsColumn (get_or all k d).column) → k < count + 1 → IsColumn (get_or (if nat_lt count 7 then set all count word else all) k d).column
+  columns-pushed new old there = by (eqb_tells k count)
     where
-      by : ((nat_eq k count ≡ true) × (k ≡ count)) ⊎ ((nat_eq k count ≡ false) × (k ≢ count)) → IsColumn (get_or (if nat_lt count 6 then set all count word else all) k d).column
-      by (inl same) = subst (λ (w : Word). IsColumn w.column) (sym (noted (lt-ltb count 6 (omega (arith, below, same.1))) same.1)) new
-      by (inr differ) = subst (λ (w : Word). IsColumn w.column) (sym (kept differ.1 (nat_lt count 6))) old
+      by : ((nat_eq k count ≡ true) × (k ≡ count)) ⊎ ((nat_eq k count ≡ false) × (k ≢ count)) → IsColumn (get_or (if nat_lt count 7 then set all count word else all) k d).column
+      by (inl same) = subst (λ (w : Word). IsColumn w.column) (sym (noted (lt-ltb count 7 (omega (arith, below, same.1))) same.1)) new
+      by (inr differ) = subst (λ (w : Word). IsColumn w.column) (sym (kept differ.1 (nat_lt count 7))) (old (omega (arith, there, differ.1)))
 
 one-word : (column : ℕ) (xs : List ℕ) → 0 < length xs → word_if_any column xs ≡ record { column = column; text = xs } ∷ []
 one-word column [] some = absurd (omega (arith, some))
@@ -122,25 +122,25 @@ before-blank found card rest start len is_rest is_len bound none before =
           (next_words start card rest len is_rest is_len bound ∙ ap (λ n. word_if_any (start + 1) (take n rest) ++ words_from (start + len + 1 + 1) (slice_split is_blank (drop (start + len + 1) card))) nothing);
       few = omega (arith, before.few);
       counted = before.counted;
-      six = before.six;
+      seven = before.seven;
       each = before.each;
       columns = before.columns;
     }
 
 -- the part at a place is one more word
 pub before-word : (found new : Words) (card rest : List ℕ) (start len : ℕ) (word : Word) → rest ≡ drop start card → len ≡ position_or_len is_blank rest → len ≤ length rest → 0 < len → start < 80
-    → word.column ≡ start + 1 → word.text.now ≡ take len rest → new.count ≡ found.count + 1 → new.words ≡ (if nat_lt found.count 6 then set found.words found.count word else found.words)
+    → word.column ≡ start + 1 → word.text.now ≡ take len rest → new.count ≡ found.count + 1 → new.words ≡ (if nat_lt found.count 7 then set found.words found.count word else found.words)
     → AreWordsBefore found card start → AreWordsBefore new card (start + len + 1)
 before-word found new card rest start len word is_rest is_len bound some inside column text count items front = record {
   split = whole ∙ sym (append_assoc before (word_shown word ∷ []) later) ∙ ap (λ more. more ++ later) (sym taken);
   few = omega (arith, front.few, count);
   counted = omega (arith, counted, count, ap length whole, length-append before (word_shown word ∷ later));
-  six = ap length items ∙ long (nat_lt found.count 6);
+  seven = ap length items ∙ long (nat_lt found.count 7);
   each = λ k d below. ap (λ all. word_shown (get_or all k d)) items
-      ∙ each-pushed found.words found.count k d word front.six below before counted (front.each k d below)
-      ∙ ap (λ list. unwrap_or (slice_get list k) no_word) (sym taken);
-  columns = λ k d below. subst (λ (all : List Word). IsColumn (get_or all k d).column) (sym items)
-      (columns-pushed found.words found.count k d word front.six below (omega (arith, column), omega (arith, column, inside)) (front.columns k d below));
+      ∙ each-pushed found.words found.count k d word front.seven below before counted (front.each k d below)
+      ∙ ap (λ list. unwrap_or (slice_get list k) absent) (sym taken);
+  columns = λ k d below there. subst (λ (all : List Word). IsColumn (get_or all k d).column) (sym items)
+      (columns-pushed found.words found.count k d word front.seven below (omega (arith, column), omega (arith, column, inside)) (front.columns k d below) (omega (arith, there, count)));
 }
   where
     before : List Read
@@ -163,31 +163,31 @@ before-word found new card rest start len word is_rest is_len bound some inside 
     taken = let n : new.count ≡ length before + 1 = omega (arith, count, counted) in
         ap (λ m. take m (words card)) n ∙ ap (take (length before + 1)) whole ∙ take-push before (word_shown word) later
 
-    long : (b : Bool) → length (if b then set found.words found.count word else found.words) ≡ 6
-    long true = length-set found.words found.count word ∙ front.six
-    long false = front.six
+    long : (b : Bool) → length (if b then set found.words found.count word else found.words) ≡ 7
+    long true = length-set found.words found.count word ∙ front.seven
+    long false = front.seven
 
 -- at first there is none
-pub before-all : (found : Words) (card : List ℕ) (w : Word) → found.count ≡ 0 → found.words ≡ w ∷ w ∷ w ∷ w ∷ w ∷ w ∷ [] → word_shown w ≡ no_word → AreWordsBefore found card 0
+pub before-all : (found : Words) (card : List ℕ) (w : Word) → found.count ≡ 0 → found.words ≡ w ∷ w ∷ w ∷ w ∷ w ∷ w ∷ w ∷ [] → word_shown w ≡ absent → AreWordsBefore found card 0
 unfolding words
 before-all found card w none items blank = record {
   split = ap (λ n. take n (words card) ++ words_from 1 (slice_split is_blank card)) (sym none);
   few = omega (arith, none);
   counted = omega (arith, none);
-  six = ap length items;
-  each = λ k d below. ap (λ all. word_shown (get_or all k d)) items ∙ ap word_shown (six-times k d below) ∙ blank ∙ ap (λ n. unwrap_or (slice_get (take n (words card)) k) no_word) (sym none);
-  columns = λ k d below. subst (λ (all : List Word). IsColumn (get_or all k d).column) (sym items)
-      (subst (λ (v : Word). IsColumn v.column) (sym (six-times k d below)) (subst (λ (r : Read). IsColumn r.column) (sym blank) (omega arith, omega arith)));
+  seven = ap length items;
+  each = λ k d below. ap (λ all. word_shown (get_or all k d)) items ∙ ap word_shown (seven-times k d below) ∙ blank ∙ ap (λ n. unwrap_or (slice_get (take n (words card)) k) absent) (sym none);
+  columns = λ k d below there. absurd (omega (arith, there, none));
 }
   where
-    six-times : (k : ℕ) (d : Word) → k < 6 → get_or (w ∷ w ∷ w ∷ w ∷ w ∷ w ∷ []) k d ≡ w
-    six-times zero d below = refl
-    six-times (suc zero) d below = refl
-    six-times (suc (suc zero)) d below = refl
-    six-times (suc (suc (suc zero))) d below = refl
-    six-times (suc (suc (suc (suc zero)))) d below = refl
-    six-times (suc (suc (suc (suc (suc zero))))) d below = refl
-    six-times (suc (suc (suc (suc (suc (suc k)))))) d below = absurd (omega (arith, below))
+    seven-times : (k : ℕ) (d : Word) → k < 7 → get_or (w ∷ w ∷ w ∷ w ∷ w ∷ w ∷ w ∷ []) k d ≡ w
+    seven-times zero d below = refl
+    seven-times (suc zero) d below = refl
+    seven-times (suc (suc zero)) d below = refl
+    seven-times (suc (suc (suc zero))) d below = refl
+    seven-times (suc (suc (suc (suc zero)))) d below = refl
+    seven-times (suc (suc (suc (suc (suc zero))))) d below = refl
+    seven-times (suc (suc (suc (suc (suc (suc zero)))))) d below = refl
+    seven-times (suc (suc (suc (suc (suc (suc (suc k))))))) d below = absurd (omega (arith, below))
 
 -- where no word can begin any more, all are there
 pub before-end : (found : Words) (card : List ℕ) (start : ℕ) → length card ≤ start → AreWordsBefore found card start → take found.count (words card) ≡ words card

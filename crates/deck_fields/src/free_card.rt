@@ -1,30 +1,30 @@
 // The words of a card.
-ghost use Rattle.std.specs.Prelude.{◌≡◌, ◌≤◌, ◌<◌, ◌+◌, ◌==◌, ℕ, List, IfSome, length, position, set, if◌then◌else◌, nat_lt};
+ghost use Rattle.std.specs.Prelude.{◌≡◌, ◌≤◌, ◌<◌, ◌+◌, ◌==◌, ℕ, List, IfSome, length, position, set, slice_get, unwrap_or, if◌then◌else◌, nat_lt};
 ghost use Rattle.std.specs.List.{position_or_len};
 ghost use Rattle.card_definitions.specs.Cards.{is_blank};
 ghost use Rattle.card_reader.specs.Card.{card_bytes};
-ghost use Rattle.card_definitions.specs.Fields.{word_text, word_of, words, read_words};
+ghost use Rattle.card_definitions.specs.Fields.{word_text, word_of, words, read_words, no_word};
 ghost use Rattle.deck_fields.specs.Readings.{ShowsFields};
 ghost use Rattle.deck_fields.specs.WordsShown.{word_shown, IsColumn, ShowsWords, AreWordsBefore};
 
 use crate::texts::Fields;
 use card_reader::Card;
 
-// The most fields that a data card has.
-const FIELDS: usize = 6;
+// So many words of a card are noted: one more than a data card has fields.
+const NOTED: usize = 7;
 
-/// A word of a card: its first column, from 1, and its bytes.
+/// A word of a card: its first column, from 1, and its bytes. One that isn't there has column 0 and no byte.
 #[derive(Clone, Copy, Debug)]
 pub struct Word<'a> {
     pub column: u8,
     pub text: &'a [u8],
 }
 
-/// How many words a card has, and the first six of them; where it has fewer, words without a byte in column 1 stand for them.
+/// How many words a card has, and the first seven of them.
 #[derive(Clone, Copy, Debug)]
 pub struct Words<'a> {
     pub count: u8,
-    pub words: [Word<'a>; FIELDS],
+    pub words: [Word<'a>; NOTED],
 }
 
 // Where the first blank stands, or the length.
@@ -39,10 +39,10 @@ fn first_blank(bytes: &[u8]) -> usize
 fn add_word<'a>(words: &mut Words<'a>, word: Word<'a>)
     requires { words.old.count ≤ 200 }
     ensures count { words.new.count ≡ words.old.count + 1 }
-    ensures items { words.new.words ≡ (if nat_lt words.old.count 6 then set words.old.words words.old.count word.entry else words.old.words) }
+    ensures items { words.new.words ≡ (if nat_lt words.old.count 7 then set words.old.words words.old.count word.entry else words.old.words) }
 {
     let place = words.count as usize;
-    if place < FIELDS {
+    if place < NOTED {
         words.words[place] = word;
     }
     words.count += 1;
@@ -73,12 +73,12 @@ pub fn free_words(card: Card<'_>) -> Words<'_>
 {
     let bytes = card.bytes();
     let none = Word {
-        column: 1,
+        column: 0,
         text: &bytes[..0],
     };
     let mut found = Words {
         count: 0,
-        words: [none; FIELDS],
+        words: [none; NOTED],
     };
     let mut start = 0;
     while start < bytes.len() {
@@ -89,7 +89,7 @@ pub fn free_words(card: Card<'_>) -> Words<'_>
 
 /// The text of a word by its place, from 0; empty where the card has fewer words.
 pub fn word_text<'a>(found: &Words<'a>, place: usize) -> &'a [u8]
-    requires { place < 6 }
+    requires { place < 7 }
     ensures { (card : List ℕ) → ShowsWords found.now card → result.now ≡ word_text card place }
 {
     found.words[place].text
@@ -103,19 +103,38 @@ fn place_of(fields: &[u8], field: u8) -> Option<usize>
     fields.iter().position(|other| *other == field)
 }
 
+// A field that no word is.
+fn no_word<'a>() -> Word<'a>
+    ensures { word_shown result ≡ no_word }
+{
+    Word {
+        column: 1,
+        text: &[],
+    }
+}
+
+// The word at a place, from 0; one that no field is, where the card has fewer.
+fn word_at<'a>(found: &Words<'a>, place: usize) -> Word<'a>
+    requires { place < 7 }
+    ensures word { (card : List ℕ) → ShowsWords found.now card → word_shown result ≡ unwrap_or (slice_get (words card) place) no_word }
+    ensures column { (card : List ℕ) → ShowsWords found.now card → IsColumn result.column }
+{
+    if place >= found.count as usize {
+        return no_word();
+    }
+    found.words[place]
+}
+
 // The word that is a field, where the words are these fields in order.
 fn word_of<'a>(found: &Words<'a>, fields: &[u8], field: u8) -> Word<'a>
     requires { length fields.now ≤ 6 }
     ensures word { (card : List ℕ) → ShowsWords found.now card → word_shown result ≡ word_of fields.now (words card) field }
     ensures column { (card : List ℕ) → ShowsWords found.now card → IsColumn result.column }
 {
-    let Some(place) = place_of(fields, field) else {
-        return Word {
-            column: 1,
-            text: &[],
-        };
-    };
-    found.words[place]
+    match place_of(fields, field) {
+        Some(place) => word_at(found, place),
+        None => no_word(),
+    }
 }
 
 /// What is read of words that are these fields in order.

@@ -4,7 +4,7 @@ use job_devices::SureSource;
 use std::alloc::Global;
 use std::test::Fail;
 
-// How many words the only card of a job has, and the first of them, each with its column before it.
+// How many words the only card of a job has, and the first seven of them, each with its column before it.
 fn words_of(alloc: Global, card: &[u8]) -> Result<(u8, Vec<u8>), Fail> {
     let mut source = SureSource::new(alloc, card)?;
     let cards = read_job(alloc, &mut source)?;
@@ -19,6 +19,8 @@ fn words_of(alloc: Global, card: &[u8]) -> Result<(u8, Vec<u8>), Fail> {
             let before = format!(in alloc; " {column} ")?;
             told.extend_from_slice(before.as_bytes())?;
             told.extend_from_slice(word.text)?;
+        } else if word.column != 0 || !word.text.is_empty() {
+            return Err(Fail::from("a word that isn't there"));
         }
     }
     Ok((found.count, told))
@@ -59,17 +61,22 @@ fn words_stand_between_blanks(rt: HostRuntime) -> Result<(), Fail> {
 // Of many words the first are told, and all are counted.
 #[test]
 fn all_words_are_counted(rt: HostRuntime) -> Result<(), Fail> {
-    let cards: [(&[u8], u8); 2] = [
-        (b" A B C D E F G H I\n", 9),
+    let cards: [(&[u8], u8, &[u8]); 2] = [
+        (
+            b" A B C D E F G H I\n",
+            9,
+            b" 2 A 4 B 6 C 8 D 10 E 12 F 14 G",
+        ),
         (
             b" A B C D E F X X X X X X X X X X X X X X X X X X X X X X X X X X X X X X X X X X\n",
             40,
+            b" 2 A 4 B 6 C 8 D 10 E 12 F 14 X",
         ),
     ];
-    for (card, count) in cards {
+    for (card, count, wanted) in cards {
         let (found, told) = words_of(rt.alloc(), card)?;
         assert_eq!(rt; found, count);
-        assert!(rt; told.starts_with(b" 2 A 4 B 6 C 8 D 10 E 12 F"));
+        assert_eq!(rt; told.as_slice(), wanted);
     }
     Ok(())
 }

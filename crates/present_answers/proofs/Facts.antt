@@ -28,6 +28,7 @@ use Rattle.answer_definitions.specs.Verdicts.{found, verdict_of, check_of, IsVer
 use Rattle.answer_definitions.specs.Sweeps.{row_of, shifts_of, family_of, IsFace, sheet_at}
 use Rattle.answer_definitions.specs.Evidence.{last_basis, sweep_statement, at_basis, of_limit}
 use Rattle.listing_tables.specs.declared.sheet.Sheet.{Sheet}
+use Rattle.bounded_dual.specs.Stops.{DualEnds}
 use Rattle.report_text.specs.Verdicts.{verdict_shown, check_shown}
 use Rattle.bounded_primal.specs.Calls.{outcome_of}
 use Rattle.bounded_primal.specs.declared.moves.PrimalStop.{PrimalStop}
@@ -39,7 +40,7 @@ use Rattle.para_objective.specs.Faces as objective
 use Rattle.para_objective.specs.Runs.{ObjectiveEnds, ObjectiveStops}
 use Rattle.para_objective.specs.declared.parts.ParaObj.{ParaObj}
 use Rattle.present_answers.specs.Answers.{sheet_shown}
-use Rattle.present_answers.specs.Reports.{IsCheckedSo}
+use Rattle.present_answers.specs.Reports.{IsCheckedSo, IsDualReached}
 use Rattle.para_rhs.specs.Faces as rhs
 use Rattle.para_rhs.specs.Runs.{RhsEnds, RhsStops}
 use Rattle.para_rhs.specs.declared.parts.ParaRhs.{ParaRhs}
@@ -73,6 +74,35 @@ verdict_is sheet (Set name) from steps (EndsOptimal z y) = refl
 verdict_is sheet (Set name) from steps (EndsCrossed k) = refl
 verdict_is sheet (Set name) from steps (EndsInfeasible w) = refl
 verdict_is sheet (Set name) from steps (EndsUnbounded z d) = refl
+
+-- ---- the dual path
+
+verdict_of_path : (sheet : Sheet) (steps : ℕ) (ending : PathEnding) → verdict_shown sheet (outcome_of (counted_steps steps) ending) ≡ verdict_of (sheet_shown sheet) steps ending
+verdict_of_path sheet steps (EndsOptimal z y) = refl
+verdict_of_path sheet steps (EndsCrossed k) = refl
+verdict_of_path sheet steps (EndsInfeasible w) = refl
+verdict_of_path sheet steps (EndsUnbounded z d) = refl
+
+pub dual_reached : (sheet : Sheet) (s now : Basis) (limit : ℕ) (outcome : Outcome) (refused : Option Refused) → DualEnds sheet.lp.now s now limit outcome → IsCheckedSo sheet.lp.now outcome (found (check_shown refused)) →
+    IsDualReached sheet s now limit (record { outcome = outcome; refused = refused })
+dual_reached sheet s now limit outcome refused ends checked = (
+  ends.right,
+  record {
+    bases = ends.call.bases;
+    leads = ends.call.reaches;
+    reaches = record {
+      ending = ends.call.ending;
+      ends = ends.call.ends;
+      within_limit = ends.call.within;
+      is_verdict = record {
+        is_verdict = ap (verdict_shown sheet) ends.call.is_outcome ∙ verdict_of_path sheet (length ends.call.bases) ends.call.ending;
+        is_check = ending_checked sheet.lp.now (counted_steps (length ends.call.bases)) ends.call.ending (check_shown refused) (subst (λ o. IsCheckedSo sheet.lp.now o (found (check_shown refused))) ends.call.is_outcome checked);
+      };
+    };
+  },
+)
+
+-- ---- parametric runs
 
 module _ (sheet : Sheet) (sweep : Sweep) (s now : Basis) (before after : List Basics) where
   abbrev programs : ℚ → LinearProgram
