@@ -1,0 +1,2 @@
+//! What an attested listing proves.
+#![tactic(auto)]
