@@ -25,9 +25,10 @@ DEMAND_OF = {"INFEASIBLE": "XDONFS", "UNBOUNDED": "XDOUNB"}
 # more than a fraction of 128 bits has
 MOST_DIGITS = 100
 FRACTION = r"-?\d+(?:/\d+)?"
-OPEN_STOPS = re.compile(r"STOP (?:16 ITERATION LIMIT \d+ CARD \d+|24 READ FAULT|26 PUNCH FAULT|28 MEMORY|10 VERB FAULT 15 CARD \d+"
-                        r"|10 VERB FAULT 16 CARD \d+ VARIABLE \d+"
-                        r"|20 OVERFLOW F\d+ (?:ADD|SUB|MUL|DIV) [^ ]+ [^ ]+ P \d+ Q \d+ I \d+ J \d+ TERM \d+ THETA [^ ]+ CARD \d+)$")
+OPERATIONS = ("ADD", "SUB", "MUL", "DIV")
+# stops whose cause needs a path, a basis or a device: # is a count, / a fraction, ! an operation
+OPEN_STOPS = ("STOP 16 ITERATION LIMIT # CARD #", "STOP 24 READ FAULT", "STOP 26 PUNCH FAULT", "STOP 28 MEMORY", "STOP 10 VERB FAULT 15 CARD #",
+              "STOP 10 VERB FAULT 16 CARD # VARIABLE #", "STOP 20 OVERFLOW F# ! / / P # Q # I # J # TERM # THETA / CARD #")
 
 
 class Found(Exception):
@@ -88,11 +89,32 @@ def count(word, most=2 ** 32 - 1):
     return int(word)
 
 
+def is_open_stop(line):
+    "whether a line is the first one of a stop text that can't be attested"
+    return any(has_form(line.split(" "), form.split(" ")) for form in OPEN_STOPS)
+
+
+def has_form(words, form):
+    try:
+        ask(len(words) == len(form))
+        for word, piece in zip(words, form):
+            if piece.endswith("#"):
+                ask(word.startswith(piece[:-1]))
+                count(word[len(piece) - 1:])
+            elif piece == "/":
+                fraction(word)
+            else:
+                ask(word in OPERATIONS if piece == "!" else word == piece)
+    except Misses:
+        return False
+    return True
+
+
 def is_checked(words):
     "whether the words at the end of a verdict say CHECKED; the other form names an operation and its operands"
     if words == ["CHECKED"]:
         return True
-    ask(len(words) == 4 and words[0] == "UNCHECKED" and words[1] in ("ADD", "SUB", "MUL", "DIV"))
+    ask(len(words) == 4 and words[0] == "UNCHECKED" and words[1] in OPERATIONS)
     fraction(words[2]), fraction(words[3])
     return False
 
@@ -299,8 +321,7 @@ class Walk:
     # -- what comes
 
     def open_stop(self):
-        line = self.listing.peek()
-        if line is not None and OPEN_STOPS.match(line):
+        if is_open_stop(self.listing.peek() or ""):
             raise Found(OPEN, self.listing.line())
 
     def open_pending(self):
@@ -566,10 +587,11 @@ class Walk:
             check_optimal(lp, point, prices)
         return Claim("OPTIMAL", True, objective=point[lp.objective], point=point, prices=prices)
 
-    def is_by_basis(self, form):
-        "whether the line of a report that needs the basis is due there, which then is open"
+    def is_by_basis(self, text, has_count=False):
+        "whether the line of a report that needs the basis is due there, which then is open: a text, and where it has one a count"
         self.open_stop()
-        if not re.fullmatch(form, self.listing.peek() or ""):
+        line = self.listing.peek() or ""
+        if not (line.startswith(text) and has_form([line[len(text):]], ["#"]) if has_count else line == text):
             return False
         self.untold()
         return True
@@ -588,21 +610,23 @@ class Walk:
 
     def punch(self):
         lp = self.select()
-        if not self.is_by_basis(re.escape(f"PUNCH   {self.setup[0].name:<8} CARDS ") + r"\d+"):
+        if not self.is_by_basis(f"PUNCH   {self.setup[0].name:<8} CARDS ", has_count=True):
             self.not_refused(lp)
             raise self.wrong()
 
     def insert(self):
         lp = self.select()
-        if lp.is_refused:
+        try:
+            cards, first, name = self.deck()
+            BasisDeck(lp, cards, first, len(self.cards)).read()
+        except Stop:
             self.open_stop()
             self.open_pending()
             self.not_refused(lp)
-        cards, first, name = self.deck()
-        deck = BasisDeck(lp, cards, first, len(self.cards))
-        deck.read()
-        if not self.is_by_basis(re.escape(f"INSERT  {name:<8} BASIC {deck.basic_columns}")):
+            raise
+        if not self.is_by_basis(f"INSERT  {name:<8} BASIC ", has_count=True):
             self.open_pending()
+            self.not_refused(lp)
             raise self.wrong()
         self.clear_mark()
 
