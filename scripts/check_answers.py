@@ -428,6 +428,17 @@ def try_attest(folder):
     for words, status in ((("--checker", "/bin/true", model, solution), 70), ((model,), 64), (("--checker", stub, model, folder / "none"), 66)):
         ended = subprocess.run([SCRIPTS / "attest", *words], capture_output=True, text=True)
         check(f"attest {words}: {ended}", ended.returncode == status and ended.stderr.startswith("attest: ") and not ended.stdout)
+    place = folder / "installed"
+    place.mkdir()
+    shutil.copy(SCRIPTS / "mps360check", place)
+    shutil.copy(stub, place / "check")
+    for words, wanted in (((STORE.with_suffix(".job"), STORE.with_suffix(".listing")), (0, "ATTESTED 5 REPORTS\n")),
+                          ((STORE.with_suffix(".job"), CONFLICT.with_suffix(".listing")), (40, "WRONG LINE 1\n")),
+                          ((STORE.with_suffix(".job"),), (64, "")), ((folder, stub), (66, "")), ((folder / "none", stub), (66, ""))):
+        ended = subprocess.run([place / "mps360check", *words], capture_output=True, text=True)
+        check(f"mps360check {words}: {ended}", (ended.returncode, ended.stdout) == wanted)
+    ended = subprocess.run([place / "mps360check", "-", STORE.with_suffix(".listing")], input=STORE.with_suffix(".job").read_bytes(), stdout=subprocess.PIPE)
+    check(f"mps360check -: {ended}", ended.stdout == b"ATTESTED 5 REPORTS\n")
     if not runner.checker_program():
         ended = subprocess.run([SCRIPTS / "attest", model, solution], capture_output=True, text=True)
         check(f"attest: no checker: {ended}", ended.returncode == 70 and "isn't built" in ended.stderr and not ended.stdout)
