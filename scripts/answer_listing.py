@@ -8,7 +8,7 @@ limits, since no basis is known."""
 from dataclasses import dataclass, field
 from fractions import Fraction
 
-from expected_attesting import Found, Sheet, Walk, cost, for_min, shown
+from expected_attesting import Found, Sheet, Walk, cost, shown
 from job_rules import GREATEST
 
 

@@ -132,9 +132,25 @@ NUMBER COLUMN AT ACTIVITY COST LOWER UPPER REDUCED
     3 X        BS {GREATEST} 2 0 NONE 0
 END 0
 """
-RANGED = PARTS.format("         CONVERT\n         SETUP('RANGE','R')\n", " L  LIM\nCOLUMNS\n    X         LIM       1\nRHS\n    B         LIM       999999999E18\n"
+RANGED = PARTS.format("         CONVERT\n         SETUP('RANGE','R')\n",
+                      " L  LIM\nCOLUMNS\n    X         LIM       1\nRHS\n    B         LIM       999999999E18\n"
                       "RANGES\n    R         LIM       .1E-18\n")
 BEGUN = "CONVERT T        ROWS 2 COLUMNS 1 ENTRIES 1\n"
+# a limit of 1/10^19 and theta times 1 aren't added
+FAR = "999999999000000000000000000"
+SWEPT = PARTS.format("         CONVERT\n         SETUP\n         MOVE(XCHCOL,'C')\n         MOVE(XPARAM,999999999E18)\n"
+                     "         MOVE(XPARMAX,999999999E18)\n         PARARHS\n",
+                     " G  LOW\nCOLUMNS\n    X         COST      1              LOW       1\nRHS\n    B         LOW       .1E-18\n    C         LOW       1\n")
+SWEPT_LISTING = f"""CONVERT T        ROWS 2 COLUMNS 1 ENTRIES 2
+SETUP   T        MIN
+PARARHS FROM {FAR} CHANGE C
+INTERVAL 1 FROM {FAR} TO {FAR}
+    1 COST     BS 1/10000000000000000000 1 0 0
+    2 LOW      LL 1/10000000000000000000 1 1 0
+    3 X        BS 1/10000000000000000000 1 0 0
+PARARHS ENDS AT {FAR}
+END 0
+"""
 REFUSED = (
     (WIDE, WIDE_LISTING, "UNCHECKED LINE 4"),
     (WIDE, WIDE_LISTING.replace("8 CHECKED", "8 UNCHECKED MUL 1 2"), "UNCHECKED LINE 4"),
@@ -142,6 +158,11 @@ REFUSED = (
     (RANGED, BEGUN, "UNCHECKED LINE 2"),
     (RANGED, BEGUN + "STOP 20 OVERFLOW F13 SUB 999999999000000000000000000 1/10000000000000000000 P 0 Q 0 I 2 J 0 TERM 0 THETA 0 CARD 3\nBASIS NONE\nWAY NONE\n",
      "OPEN LINE 2"),
+    (SWEPT, SWEPT_LISTING, "UNCHECKED LINE 3"),
+    (SWEPT, SWEPT_LISTING.replace("LOW      LL", "LOW      ZZ"), "WRONG LINE 3"),
+    (SWEPT, SWEPT_LISTING.replace(f"TO {FAR}", "TO 1"), "WRONG LINE 3"),
+    (SWEPT, SWEPT_LISTING.replace("ENDS AT", "ENDS OF"), "UNCHECKED LINE 3"),
+    (SWEPT, SWEPT_LISTING[:SWEPT_LISTING.index("PARARHS")] + "PARARHS INFEASIBLE STEPS 0 RAY CHECKED\n    2 LOW      -1\nEND 1\n", "UNCHECKED LINE 3"),
     ("", "STOP 8 CONTROL FAULT 1 CARD 0\n", "ATTESTED 0 REPORTS"),
     ("", "STOP 8 CONTROL FAULT 1 CARD 1\n", "WRONG LINE 1"),
     ("\t\n", "STOP 13 CARD FAULT 4 CARD 1\n", "ATTESTED 0 REPORTS"),
@@ -387,7 +408,8 @@ def try_listings(folder):
     check(f"listing2vipr.py: {written} certificates", written >= 18)
     place = EXAMPLES / "store"
     (folder / "bad").write_text(place.with_suffix(".listing").read_text().replace("LL 0 3 0 NONE 3", "LL 0 3 0 NONE 4"))
-    for words, wanted in (((place.with_suffix(".job"), folder / "bad"), "line 5: "), (("--line", 4, place.with_suffix(".job"), place.with_suffix(".listing")), "begins at line 4"),
+    for words, wanted in (((place.with_suffix(".job"), folder / "bad"), "line 5: "),
+                          (("--line", 4, place.with_suffix(".job"), place.with_suffix(".listing")), "begins at line 4"),
                           ((EXAMPLES / "endless.job", EXAMPLES / "endless.listing"), "UNBOUNDED")):
         status, _, told = called(listing2vipr, *words)
         check(f"listing2vipr.py {words}: {told}", status == 65 and wanted in told)
@@ -400,7 +422,8 @@ def try_esolver(folder):
     if not shutil.which("esolver"):
         print("check_answers: esolver isn't installed; its solutions aren't tried")
         return
-    small = "NAME T\nROWS\n N C\n L A\n G B\n E D\nCOLUMNS\n x C 1 A 1\n x B 1\n y C 4 A 1\n y D -1\n z C 9 B 1\n z D 1\nRHS\n R A 5 B 10\n R D 7\nRANGES\n R A 2.5 B 4\nBOUNDS\n UP B x 4\n LO B y -1\n UP B y 1\nENDATA\n"
+    small = ("NAME T\nROWS\n N C\n L A\n G B\n E D\nCOLUMNS\n x C 1 A 1\n x B 1\n y C 4 A 1\n y D -1\n z C 9 B 1\n z D 1\nRHS\n R A 5 B 10\n R D 7\n"
+             "RANGES\n R A 2.5 B 4\nBOUNDS\n UP B x 4\n LO B y -1\n UP B y 1\nENDATA\n")
     for model in (MODEL.replace("OBJSENSE MAX", "OBJSENSE\n MAX").replace("BOUNDS\n UP doors 1e30\n", ""), small):
         (folder / "asked.mps").write_text(model)
         subprocess.run(["esolver", "-O", "asked.sol", "asked.mps"], cwd=folder, stdout=subprocess.DEVNULL, stderr=subprocess.DEVNULL, timeout=60)

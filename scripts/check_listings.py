@@ -13,6 +13,7 @@ usage: check_listings.py [--checker PROGRAM] [--keep FOLDER] [FIRST [COUNT]]
 Half of the listings are those of examples/ and scripts/known, half those of jobs made at random. It prints how often which status came, ends
 with 1 where something is wrong."""
 import collections, pathlib, random, re, subprocess, sys, tempfile
+from fractions import Fraction
 import check_vipr, expected_attesting, expected_listing, listing2vipr, random_jobs, runner
 from expected_attesting import ATTESTED, OPEN, UNCHECKED
 
@@ -77,7 +78,8 @@ def a_code(chance, lines):
 
 def two_numbers(chance, lines):
     "the same change of two numbers, as where a ray is turned"
-    place, change = chance.randrange(len(lines)), chance.choice((lambda word: f"-{word}".replace("--", ""), lambda word: str(expected_listing.Fraction(word) * 3)))
+    place = chance.randrange(len(lines))
+    change = chance.choice((lambda word: f"-{word}".replace("--", ""), lambda word: str(Fraction(word) * 3)))
     for k in (place, place + 1):
         if k < len(lines) and (found := re.search(r"-?\d+(?:/[1-9]\d*)?$", lines[k])):
             lines[k] = lines[k][:found.start()] + change(found[0])
@@ -103,7 +105,8 @@ def cut_off(chance, lines):
 
 def strange(chance, lines):
     stops = ("STOP 28 MEMORY", "STOP 24 READ FAULT", "STOP 26 PUNCH FAULT", "STOP 17 STATEMENT LIMIT", "STOP 16 ITERATION LIMIT 5 CARD 9", "STOP 28 MEMORY NOW",
-             "STOP 10 VERB FAULT 16 CARD 5 VARIABLE 2", "STOP 10 VERB FAULT 15 CARD 5", "STOP 4 WORDS", "END 0", "END 1", "RANGE", " junk", "    1 COST     0", "",
+             "STOP 10 VERB FAULT 16 CARD 5 VARIABLE 2", "STOP 10 VERB FAULT 15 CARD 05", "STOP 4 WORDS", "END 0", "END 1", "RANGE", " junk",
+             "    1 COST     0", "",
              "STOP 20 OVERFLOW F10 MUL 1 2 P 0 Q 0 I 2 J 3 TERM 0 THETA 0 CARD 4")
     place = chance.randrange(len(lines) + 1)
     lines[place:place + chance.randint(0, 1)] = [chance.choice(stops)]
@@ -226,7 +229,8 @@ def main(words):
                 for ending, content in (("job", job), ("listing", text)):
                     pathlib.Path(keep).mkdir(parents=True, exist_ok=True)
                     pathlib.Path(keep, f"{number}-{place}.{ending}").write_bytes(content)
-    print(f"{count} listings, {sum(statuses.values())} answers, {wrong} wrong; " + ", ".join(f"{status}: {times}" for status, times in sorted(statuses.items())))
+    counts = ", ".join(f"{status}: {times}" for status, times in sorted(statuses.items()))
+    print(f"{count} listings, {sum(statuses.values())} answers, {wrong} wrong; {counts}")
     return wrong > 0
 
 

@@ -10,6 +10,7 @@ usage: expected_attesting.py JOB LISTING      it prints one line, and ends with 
  42 UNCHECKED LINE n     an operation of a test doesn't fit 127 bits
  43 LONG LISTING         of more than 64,000,000 bytes
  64 wrong use; 66 a file can't be read"""
+from dataclasses import dataclass
 from fractions import Fraction
 import pathlib
 import re
@@ -287,11 +288,17 @@ def check_interval(changing, is_first, first, last, most, columns):
 
 # ---- verdicts
 
+@dataclass
 class Claim:
-    "a verdict as it is read: its kind, whether its word is CHECKED, and its numbers"
-    def __init__(self, kind, is_checked, objective=None, crossed=None, ray=None, point=None, direction=None, prices=None):
-        self.kind, self.is_checked, self.objective, self.crossed = kind, is_checked, objective, crossed
-        self.ray, self.point, self.direction, self.prices = ray, point, direction, prices
+    "a verdict as it is read, or a SOLUTION OPTIMAL: its kind, whether its word is CHECKED, and its numbers"
+    kind: str
+    is_checked: bool
+    objective: Fraction | None = None
+    crossed: int | None = None
+    ray: list | None = None
+    point: list | None = None
+    direction: list | None = None
+    prices: list | None = None
 
     def test(self, lp):
         "the test of its proof; an optimal one is tested at SOLUTION"

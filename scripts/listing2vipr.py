@@ -14,7 +14,7 @@ where a file can't be read, 73 where one can't be written."""
 import argparse, json, pathlib, re, sys
 from fractions import Fraction
 
-from expected_attesting import OPEN, UNCHECKED, WRONG, Found, Walk, cost, for_min
+from expected_attesting import UNCHECKED, WRONG, Found, Walk, cost, for_min
 
 NAME = "listing2vipr.py"
 READABLE = re.compile(r"[A-Za-z_][!-$&-z|~]*")
@@ -57,7 +57,8 @@ def claim_of(job, listing, line):
     claims = [(first, lp, claim) for first, lp, claim in follower.claims if claim.prices is not None or claim.kind != "OPTIMAL"]
     wanted = [one for one in claims if line in (None, one[0])]
     if not wanted:
-        raise NoAnswer("no SOLUTION OPTIMAL and no verdict INFEASIBLE " + (f"begins at line {line}" if line else "is in it; SOLUTION behind PRIMAL prints the proof"))
+        place = f"begins at line {line}" if line else "is in it; SOLUTION after PRIMAL prints the proof"
+        raise NoAnswer(f"no SOLUTION OPTIMAL and no verdict INFEASIBLE {place}")
     if wanted[-1][2].kind == "UNBOUNDED":
         raise NoAnswer(f"line {wanted[-1][0]}: the answer is UNBOUNDED, for which VIPR has no form")
     return wanted[-1][1:]

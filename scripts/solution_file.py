@@ -83,7 +83,8 @@ def check_objective(told, columns, model):
         return
     worth = sum((value * model.columns[name].get(model.objective, Fraction(0)) for name, value in columns.items()), Fraction(0))
     if told not in (worth, worth + model.constant):
-        raise NoSolution(f"the objective is said to be {told}, and by the activities it is {worth}: a solution of another model, or its solver reads it otherwise")
+        raise NoSolution(f"the objective is said to be {told}, and by the activities it is {worth}: a solution of another model, or of one that its "
+                         "solver reads otherwise")
 
 
 # ---- JSON

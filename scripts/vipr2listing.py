@@ -12,7 +12,7 @@ The certificate is checked first (check_vipr.py), and refused where it doesn't h
 it can't be, and said, a row. Refused: derivations other than lin, variables of whole numbers, bounds that don't meet, a number without an exact
 form of 12 columns. It ends with 0, with 64 for wrong use, 65 where the certificate is refused, 66 where it can't be read, 73 where a file can't
 be written."""
-import argparse, dataclasses, json, os, sys
+import argparse, os, sys
 from fractions import Fraction
 
 import answer_listing, check_vipr, mps_file, solution2listing
