@@ -14,10 +14,10 @@ use Rattle.run_definitions.specs.Answer.{Job, Failures, Gains, MayEnd, IsCutShor
 use Rattle.control_run.specs.declared.status.Status.{Status}
 use Rattle.control_run.specs.Statuses.{code_of}
 use Rattle.control_run.specs.Finishing.{cut_status}
-use Rattle.mps_cli.specs.declared.stop.EarlyStop.{EarlyStop}
-use Rattle.mps_cli.specs.declared.stop.EarlyStop.TheVariants.{Words, ReadFault, Card, Control, Memory}
-use Rattle.mps_cli.specs.Stops.{stop_shown, status_at}
-use Rattle.mps_cli.specs.Endings.{EndsWith, printed, cut_off}
+use Rattle.job_program.specs.declared.stop.EarlyStop.{EarlyStop}
+use Rattle.job_program.specs.declared.stop.EarlyStop.TheVariants.{Words, ReadFault, Card, Control, Memory}
+use Rattle.job_program.specs.Stops.{stop_shown}
+use Rattle.mps_cli.specs.Endings.{EndsWith, printed, cut_off, status_at}
 
 -- ---- the end is printed, or cut off
 

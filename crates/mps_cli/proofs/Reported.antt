@@ -4,10 +4,9 @@ use Rattle.control_run.specs.declared.status.Status.{Status}
 use Rattle.control_run.specs.Statuses.{code_of}
 use Rattle.control_run.specs.Devices.{Counts, counts, StopsAtPrint, print_failed, print_wants_memory, IsReported, IsStill}
 use Rattle.control_run.proofs.Reported.{none_more, left, stands_still, still_as_before, reported_print, reported_other}
-use Rattle.mps_cli.specs.declared.stop.EarlyStop.{EarlyStop}
-use Rattle.mps_cli.specs.declared.stop.EarlyStop.TheVariants.{Words, ReadFault, Card, Control, Memory}
-use Rattle.mps_cli.specs.Stops.{status_at}
-use Rattle.mps_cli.specs.Endings.{EndsWith, printed, cut_off}
+use Rattle.job_program.specs.declared.stop.EarlyStop.{EarlyStop}
+use Rattle.job_program.specs.declared.stop.EarlyStop.TheVariants.{Words, ReadFault, Card, Control, Memory}
+use Rattle.mps_cli.specs.Endings.{EndsWith, printed, cut_off, status_at}
 
 -- where the count of faults of a source has grown, a read has failed
 pub stops_reading : (stop : EarlyStop) (before now : ℕ) → ((stop ≡ ReadFault → ⊥) → now ≡ before) → before < now → stop ≡ ReadFault

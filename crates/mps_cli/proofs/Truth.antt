@@ -17,10 +17,10 @@ use Rattle.command_line.specs.declared.request.Request.TheVariants as request
 use Rattle.control_run.specs.declared.status.Status.{Status}
 use Rattle.control_run.specs.Statuses.{code_of}
 use Rattle.control_run.specs.Finishing.{failures_in_run}
-use Rattle.mps_cli.specs.declared.stop.EarlyStop.TheVariants.{Words, Memory}
+use Rattle.job_program.specs.declared.stop.EarlyStop.TheVariants.{Words, Memory}
 use Rattle.command_line.specs.declared.request.WordsStop.{WordsStop}
 use Rattle.command_line.specs.declared.request.WordsStop.TheVariants as stops
-use Rattle.mps_cli.specs.Stops.{stop_of_words}
+use Rattle.job_program.specs.Stops.{stop_of_words}
 use Rattle.mps_cli.specs.Endings.{EndsWith}
 use Rattle.mps_cli.specs.Asked.{IsAsked, refused, from_source, generated, IsGiven}
 use Rattle.mps_cli.proofs.Ending_answers.{ending_answer}

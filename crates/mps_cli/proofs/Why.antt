@@ -14,13 +14,13 @@ use Rattle.control_run.specs.Statuses.{IsStatusOfRun}
 use Rattle.control_run.specs.Finishing.{cut_status}
 use Rattle.command_line.specs.declared.request.Request.{Request}
 use Rattle.command_line.specs.declared.request.Request.TheVariants as request
-use Rattle.mps_cli.specs.declared.stop.EarlyStop.{EarlyStop}
-use Rattle.mps_cli.specs.declared.stop.EarlyStop.TheVariants.{Words, ReadFault, Card, Control, Memory}
+use Rattle.job_program.specs.declared.stop.EarlyStop.{EarlyStop}
+use Rattle.job_program.specs.declared.stop.EarlyStop.TheVariants.{Words, ReadFault, Card, Control, Memory}
 use Rattle.command_line.specs.declared.request.WordsStop.{WordsStop}
 use Rattle.command_line.specs.declared.request.WordsStop.TheVariants as words
-use Rattle.mps_cli.specs.Stops.{stop_shown, status_at, stop_of_words}
-use Rattle.mps_cli.specs.Endings.{EndsWith, printed, cut_off}
-use Rattle.mps_cli.specs.Causes.{IsAtHand, IsPrintedAfter, at_hand, refused_words, a_read_fault, no_memory, HasCause, IsPunched, nothing, in_run, HasStopCause}
+use Rattle.job_program.specs.Stops.{stop_shown, stop_of_words, HasStopCause}
+use Rattle.mps_cli.specs.Endings.{EndsWith, printed, cut_off, status_at}
+use Rattle.mps_cli.specs.Causes.{IsAtHand, IsPrintedAfter, at_hand, refused_words, a_read_fault, no_memory, HasCause, IsPunched, nothing, in_run}
 
 module _ (asked : Option Request) (read_failed is_read : Type 0) where
   -- why a job is stopped before its program runs

@@ -1,7 +1,6 @@
 -- Why a job ends with a status, told by what the words ask for and by what the devices count and gain.
 --     HasCause request .. status     why a job ends with a status
 --     IsPunched request .. status    nothing is punched but in a run
---     HasStopCause .. stop           why the program of a job isn't run
 use Rattle.std.specs.Prelude.{◌≡◌, ℕ, List, Option, None, Some, IfSome}
 use Rattle.deck_definitions.specs.Transport.{made_job}
 use Rattle.control_definitions.specs.Program.{Program}
@@ -14,8 +13,6 @@ use Rattle.control_run.specs.declared.status.Status.{Status}
 use Rattle.control_run.specs.declared.status.Status.TheVariants.{Words, ReadFault, PrintFault, PunchFault, Memory}
 use Rattle.command_line.specs.declared.request.Request.{Request}
 use Rattle.command_line.specs.declared.request.Request.TheVariants as request
-use Rattle.mps_cli.specs.declared.stop.EarlyStop.{EarlyStop}
-use Rattle.mps_cli.specs.declared.stop.EarlyStop.TheVariants as stop
 
 -- the whole job is at hand: it is read, or made
 abbrev pub IsAtHand : Option Request → Type 0 → Type 0
@@ -53,11 +50,3 @@ pub data IsPunched (asked : Option Request) (told : Option (List ℕ)) (is_read 
   nothing : is_same → IsPunched asked told is_read is_same status
   in_run : (program : Program) → IsAtHand asked is_read → IfSome (bytes_at_hand asked told) (λ bytes. IsProgramOf bytes program) →
       IsStatusOfRun status → IsPunched asked told is_read is_same status
-
--- why the program of a job that is read isn't run
-abbrev pub HasStopCause : Type 0 → Type 0 → EarlyStop → Type 0
-HasStopCause read_failed is_read stop.Words = ⊥
-HasStopCause read_failed is_read stop.ReadFault = read_failed
-HasStopCause read_failed is_read (stop.Card fault) = is_read
-HasStopCause read_failed is_read (stop.Control fault) = is_read
-HasStopCause read_failed is_read stop.Memory = Unit {0}

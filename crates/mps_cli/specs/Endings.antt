@@ -1,13 +1,23 @@
 -- The end of a job whose program isn't run.
+--     status_at stop               its status
 --     EndsWith .. stop status      its listing is the end of a stop alone
 use Rattle.std.specs.Prelude.{◌≡◌, ℕ, List, Option, Ok, Err}
 use Rattle.job_devices.specs.declared.device.WriteStop.{WriteStop}
 use Rattle.job_devices.specs.Text.{Writes}
 use Rattle.listing_definitions.specs.Listing.{ending_text}
 use Rattle.control_run.specs.declared.status.Status.{Status}
+use Rattle.control_run.specs.declared.status.Status.TheVariants as status
 use Rattle.control_run.specs.Finishing.{cut_status}
-use Rattle.mps_cli.specs.declared.stop.EarlyStop.{EarlyStop}
-use Rattle.mps_cli.specs.Stops.{stop_shown, status_at}
+use Rattle.job_program.specs.declared.stop.EarlyStop.{EarlyStop}
+use Rattle.job_program.specs.declared.stop.EarlyStop.TheVariants.{Words, ReadFault, Card, Control, Memory}
+use Rattle.job_program.specs.Stops.{stop_shown}
+
+abbrev pub status_at : EarlyStop → Status
+status_at Words = status.Words
+status_at ReadFault = status.ReadFault
+status_at (Card fault) = status.Card
+status_at (Control fault) = status.Control
+status_at Memory = status.Memory
 
 -- The line of the stop is printed, and the status is its own; or the print stops in it.
 pub data EndsWith {P : Type 0} (written stopped_at : P → Option (List ℕ)) (faults refusals : P → ℕ) (old new : P) (stop : EarlyStop) (status : Status) : Type 0 where

@@ -2,9 +2,7 @@
 #![tactic(auto)]
 
 mod end;
-mod prepare;
 mod run;
-mod stop;
 
 pub use control_run::Status;
 pub use generated_job::make_job;

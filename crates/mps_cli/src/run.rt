@@ -21,12 +21,11 @@ ghost use Rattle.mps_cli.specs.Asked.{IsAsked, IsGiven};
 ghost use Rattle.mps_cli.specs.Causes.{HasCause, IsPunched};
 
 use crate::end::end_job;
-use crate::prepare::prepare;
-use crate::stop::EarlyStop;
 use command_line::{Request, request_of};
 use control_run::{Status, run_program};
 use generated_job::make_job;
 use job_devices::{NoMemory, Sink, Source, SureSource};
+use job_program::{EarlyStop, prepare};
 use std::alloc::Global;
 
 // Runs the job of a source.

@@ -4,7 +4,7 @@ use Rattle.mps_cli.proofs.end.end_job.Goals as goal
 
 pub returns-in-Ok : goal.returns-in-Ok
 returns-in-Ok g c =
-    end_printed g.P.Sink.written g.P.Sink.stopped_at g.P.Sink.faults g.P.Sink.refusals (ending_shown c.ending.result) c.args.stop c.ending.ensures.shown c.status.result c.status.ensures c.in-Ok.ensures
+    end_printed g.P.Sink.written g.P.Sink.stopped_at g.P.Sink.faults g.P.Sink.refusals (ending_shown c.ending.result) c.args.stop c.ending.ensures.shown c.status_of.result c.status_of.ensures c.in-Ok.ensures
 
 pub returns-in-Err : goal.returns-in-Err
 returns-in-Err g c =

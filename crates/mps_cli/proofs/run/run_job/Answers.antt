@@ -1,7 +1,7 @@
 use Rattle.std.proofs.Common.{map, string_bytes, refl, ap, subst, arith, ◌∙◌, Some, Err}
 use Rattle.command_line.specs.Requests.{asked}
 use Rattle.command_line.specs.declared.request.Request.{Request}
-use Rattle.mps_cli.specs.declared.stop.EarlyStop.{EarlyStop}
+use Rattle.job_program.specs.declared.stop.EarlyStop.{EarlyStop}
 use Rattle.mps_cli.specs.Endings.{EndsWith}
 use Rattle.stop_laws.proofs.Standing.{stands_after}
 use Rattle.answer_definitions.specs.Real.{linear_programming}

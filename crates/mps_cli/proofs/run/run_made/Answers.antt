@@ -3,7 +3,7 @@ use Rattle.deck_definitions.specs.Transport.{made_job}
 use Rattle.run_definitions.specs.Answer.{Made, memory_at_start}
 use Rattle.answer_definitions.specs.Real.{linear_programming}
 use Rattle.command_line.specs.declared.request.Request.TheVariants.{Make}
-use Rattle.mps_cli.specs.declared.stop.EarlyStop.TheVariants.{Memory}
+use Rattle.job_program.specs.declared.stop.EarlyStop.TheVariants.{Memory}
 use Rattle.mps_cli.proofs.Ending_answers.{ending_answer}
 use Rattle.mps_cli.proofs.May_end.{answered_too}
 use Rattle.mps_cli.specs.Causes.{nothing}

@@ -6,7 +6,6 @@ use card_definitions::CardFault;
 use card_reader::ReadStop;
 use command_line::WordsStop;
 use control_compiler::{CompileStop, ControlFault};
-use control_run::Status;
 use report_text::Ending;
 
 /// Why the program of a job isn't run.
@@ -25,7 +24,7 @@ pub enum EarlyStop {
 }
 
 impl From<WordsStop> for EarlyStop {
-    ghost use Rattle.mps_cli.specs.Stops.{stop_of_words};
+    ghost use Rattle.job_program.specs.Stops.{stop_of_words};
 
     ghost from_gives = { λ stop given. given ≡ stop_of_words stop };
 
@@ -38,7 +37,7 @@ impl From<WordsStop> for EarlyStop {
 }
 
 impl From<ReadStop> for EarlyStop {
-    ghost use Rattle.mps_cli.specs.Stops.{stop_of_reading};
+    ghost use Rattle.job_program.specs.Stops.{stop_of_reading};
 
     ghost from_gives = { λ stop given. given ≡ stop_of_reading stop };
 
@@ -54,7 +53,7 @@ impl From<ReadStop> for EarlyStop {
 }
 
 impl From<CompileStop> for EarlyStop {
-    ghost use Rattle.mps_cli.specs.Stops.{stop_of_compiling};
+    ghost use Rattle.job_program.specs.Stops.{stop_of_compiling};
 
     ghost from_gives = { λ stop given. given ≡ stop_of_compiling stop };
 
@@ -67,7 +66,7 @@ impl From<CompileStop> for EarlyStop {
 }
 
 impl EarlyStop {
-    ghost use Rattle.mps_cli.specs.Stops.{stop_shown, status_at};
+    ghost use Rattle.job_program.specs.Stops.{stop_shown};
 
     /// What is printed of it.
     pub fn ending(self) -> Ending<'static>
@@ -83,19 +82,6 @@ impl EarlyStop {
                 card: fault.card,
             },
             EarlyStop::Memory => Ending::Memory,
-        }
-    }
-
-    /// The status of a job that it stops.
-    pub fn status(self) -> Status
-        ensures { result ≡ status_at self }
-    {
-        match self {
-            EarlyStop::Words => Status::Words,
-            EarlyStop::ReadFault => Status::ReadFault,
-            EarlyStop::Card(_) => Status::Card,
-            EarlyStop::Control(_) => Status::Control,
-            EarlyStop::Memory => Status::Memory,
         }
     }
 }

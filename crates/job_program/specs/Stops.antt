@@ -1,7 +1,8 @@
 -- Why the program of a job isn't run.
---     stop_shown, status_at stop     the end of the listing, and the status
---     TellsEarlyStop known stop               what a stop says of a job
---     ArePrepared known prepared     the cards and the program are those of a job
+--     stop_shown stop              the end of the listing
+--     TellsEarlyStop known stop    what a stop says of a job
+--     ArePrepared known prepared   the cards and the program are those of a job
+--     HasStopCause .. stop         why a job that is read is stopped
 use Rattle.std.specs.Prelude.{◌≡◌, ℕ, List, Option, None, Some, Err, IfSome}
 use Rattle.card_definitions.specs.declared.CardFault.TheVariants as fault
 use Rattle.card_definitions.specs.Cards.{cards_of, job_fault}
@@ -12,14 +13,12 @@ use Rattle.command_line.specs.declared.request.WordsStop.TheVariants as words
 use Rattle.control_definitions.specs.Compiled.{compiled}
 use Rattle.control_compiler.specs.declared.stop.CompileStop.{CompileStop}
 use Rattle.control_compiler.specs.declared.stop.CompileStop.TheVariants as compiling
-use Rattle.control_run.specs.declared.status.Status.{Status}
-use Rattle.control_run.specs.declared.status.Status.TheVariants as status
 use Rattle.listing_definitions.specs.Ending.{Ending}
 use Rattle.listing_definitions.specs.Ending as endings
 use Rattle.run_definitions.specs.Answer.{IsProgramOf}
-use Rattle.mps_cli.specs.declared.prepare.Prepared.{Prepared}
-use Rattle.mps_cli.specs.declared.stop.EarlyStop.{EarlyStop}
-use Rattle.mps_cli.specs.declared.stop.EarlyStop.TheVariants.{Words, ReadFault, Card, Control, Memory}
+use Rattle.job_program.specs.declared.reading.Prepared.{Prepared}
+use Rattle.job_program.specs.declared.stop.EarlyStop.{EarlyStop}
+use Rattle.job_program.specs.declared.stop.EarlyStop.TheVariants.{Words, ReadFault, Card, Control, Memory}
 
 -- the end of the run in the words of the listing
 abbrev pub stop_shown : EarlyStop → Ending
@@ -28,13 +27,6 @@ stop_shown ReadFault = endings.ReadFault
 stop_shown (Card fault) = endings.CardStop fault
 stop_shown (Control fault) = endings.ControlStop fault
 stop_shown Memory = endings.Memory
-
-abbrev pub status_at : EarlyStop → Status
-status_at Words = status.Words
-status_at ReadFault = status.ReadFault
-status_at (Card fault) = status.Card
-status_at (Control fault) = status.Control
-status_at Memory = status.Memory
 
 -- where the words ask for nothing
 abbrev pub stop_of_words : WordsStop → EarlyStop
@@ -67,3 +59,11 @@ TellsEarlyStop known Memory = Unit {0}
 abbrev pub ArePrepared : Option (List ℕ) → Prepared → Type 0
 ArePrepared None prepared = Unit {0}
 ArePrepared (Some job) prepared = (prepared.cards ≡ cards_of job) × IsProgramOf job prepared.program
+
+-- why the program of a job that is read isn't run
+abbrev pub HasStopCause : Type 0 → Type 0 → EarlyStop → Type 0
+HasStopCause read_failed is_read Words = ⊥
+HasStopCause read_failed is_read ReadFault = read_failed
+HasStopCause read_failed is_read (Card fault) = is_read
+HasStopCause read_failed is_read (Control fault) = is_read
+HasStopCause read_failed is_read Memory = Unit {0}

@@ -2,8 +2,7 @@
 ghost use Rattle.std.specs.Prelude.{◌≡◌, IfOk, IfErr, IsErrOf, OnOk};
 ghost use Rattle.card_reader.specs.Reading.{ReadsFront, ReadsJob};
 ghost use Rattle.job_devices.specs.Causes.{Rose};
-ghost use Rattle.mps_cli.specs.Stops.{TellsEarlyStop, ArePrepared};
-ghost use Rattle.mps_cli.specs.Causes.{HasStopCause};
+ghost use Rattle.job_program.specs.Stops.{TellsEarlyStop, ArePrepared, HasStopCause};
 
 use crate::stop::EarlyStop;
 use card_reader::{Cards, read_job};
@@ -18,7 +17,7 @@ pub struct Prepared {
     pub program: Program,
 }
 
-/// Reads a job and compiles its program.
+/// Reads a job and compiles its program. Its cards are judged before its program, and nothing is compiled of a job that isn't read whole.
 pub fn prepare<S: Source>(alloc: Global, job: &mut S) -> Result<Prepared, EarlyStop>
     ensures prepared { IfOk result (ArePrepared (S.left job.old)) }
     ensures read { OnOk result (ReadsJob (S.left job.old) (S.left job.new)) }
