@@ -1,0 +1,24 @@
+-- What is read of a listing is what stands there.
+--     reported question answer     what the verb that asks this question prints of an answer
+--     ReadingLaw                   an answer that is judged right was read of the text of its report
+use Rattle.std.specs.Prelude.{◌≡◌, ℕ, List, [], ◌∷◌, ◌++◌}
+use Rattle.listing_definitions.specs.Report.{Report, Solved, Solution, Ranges, Parametric}
+use Rattle.listing_definitions.specs.Listing.{reports_text}
+use Rattle.question_definitions.specs.Answers.{Sheet, changing_name, sweeper, Question, OfPath, OfSolution, OfRanges, OfSweep, OfPunch, OfInstall, Answer, Reached, Opening, Chained}
+use Rattle.walk_definitions.specs.Reading.{Right, judged}
+
+abbrev pub reported : (question : Question) → Answer question → List Report
+reported (OfPath solver limit) (Reached bases verdict check) = Solved solver verdict check ∷ []
+reported (OfPath solver limit) _ = []
+reported (OfSolution mark) lines = Solution mark lines ∷ []
+reported OfRanges lines = Ranges lines ∷ []
+reported (OfSweep sweep) (Opening bases verdict check) = Solved (sweeper sweep.changing) verdict check ∷ []
+reported (OfSweep sweep) (Chained bases intervals end) =
+    Parametric (sweeper sweep.changing) (record { from = sweep.from; change = changing_name sweep.changing; intervals = intervals; end = end }) ∷ []
+reported (OfSweep sweep) _ = []
+reported OfPunch cards = []
+reported (OfInstall basis) end = []
+
+abbrev pub ReadingLaw : Type 0
+ReadingLaw = (question : Question) (sheet : Sheet) (rest after : List ℕ) (answer : Answer question) → judged question sheet rest ≡ Right answer after →
+    rest ≡ reports_text (reported question answer) ++ after

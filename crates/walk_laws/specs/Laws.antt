@@ -1,0 +1,13 @@
+-- The laws of the walk along a listing.
+--     AttestedLaw                  an attested listing is true, and has so many reports
+--     OneComesLaw                  of each job and each listing one thing comes
+use Rattle.std.specs.Prelude.{◌≡◌, ℕ, List, length}
+use Rattle.walk_definitions.specs.Walker.{Found, Attested}
+use Rattle.walk_definitions.specs.Found.{Comes}
+use Rattle.walk_laws.specs.Proved.{IsTrueListing}
+
+abbrev pub AttestedLaw : Type 0
+AttestedLaw = (bytes lines : List ℕ) (count : ℕ) → Comes bytes lines (Attested count) → (proved : IsTrueListing bytes lines) × (length proved.reports ≡ count)
+
+abbrev pub OneComesLaw : Type 0
+OneComesLaw = (bytes lines : List ℕ) → (found : Found) × Comes bytes lines found × ((other : Found) → Comes bytes lines other → other ≡ found)
