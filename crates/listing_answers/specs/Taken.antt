@@ -1,0 +1,45 @@
+-- What a reader of answers comes to.
+--     IsConclusion, IsSweepAnswer  what is handed on of the answer to a path and to a parametric run
+--     Taken Shows judged new result    an answer was taken, of which so much is shown; or it isn't of its form or fails a test; or an
+--                                  operation of a test is refused; or there is no memory
+use Rattle.std.specs.Prelude.{◌≡◌, ℕ, List, Result, Ok, Err}
+use Rattle.listing_definitions.specs.declared.Mark.{Mark}
+use Rattle.listing_definitions.specs.Report.{PathVerdict, OptimalAt, CrossedAt, InfeasibleBy, UnboundedBy, Check}
+use Rattle.question_definitions.specs.Answers.{PathEnd, Reached, SweepEnd, Opening, Chained}
+use Rattle.run_definitions.specs.Verbs.{mark_of, last_value}
+use Rattle.walk_definitions.specs.Tests.{says_checked}
+use Rattle.walk_definitions.specs.Reading.{Judged, Right, Fails, Refuses}
+use Rattle.listing_answers.specs.declared.answer.Conclusion.{Conclusion}
+use Rattle.listing_answers.specs.declared.answer.Conclusion.TheVariants.{Optimal, Infeasible, Unbounded}
+use Rattle.listing_answers.specs.declared.answer.SweepAnswer.{SweepAnswer}
+use Rattle.listing_answers.specs.declared.answer.SweepAnswer.TheVariants.{Opened, Swept}
+use Rattle.listing_answers.specs.declared.answer.Stop.{Stop}
+use Rattle.listing_answers.specs.declared.answer.Stop.TheVariants.{Wrong, Unchecked, NoMemory}
+
+-- an optimal verdict with its objective, and whether its check was made
+abbrev pub conclusion_of : PathVerdict → Check → Conclusion
+conclusion_of (OptimalAt steps objective) check = Optimal objective (says_checked check)
+conclusion_of (CrossedAt number) check = Infeasible
+conclusion_of (InfeasibleBy steps lines) check = Infeasible
+conclusion_of (UnboundedBy steps objective lines) check = Unbounded
+
+abbrev pub IsConclusion : Conclusion → PathEnd → Type 0
+IsConclusion conclusion (Reached bases verdict check) = conclusion ≡ conclusion_of verdict check
+IsConclusion conclusion end = ⊥
+
+-- the mark of an opening that isn't optimal, or the value at which the last interval ends
+abbrev pub IsSweepAnswer : SweepAnswer → SweepEnd → Type 0
+IsSweepAnswer (Opened mark) (Opening bases verdict check) = mark ≡ mark_of verdict
+IsSweepAnswer (Swept last) (Chained bases intervals end) = last ≡ last_value end
+IsSweepAnswer answer end = ⊥
+
+pub record IsRight {X A : Type 0} (Shows : X → A → Type 0) (judged : Judged A) (new : List ℕ) (x : X) : Type 0 where
+  pub answer : A
+  pub is_right : judged ≡ Right answer new
+  pub shows : Shows x answer
+
+abbrev pub Taken : {X A : Type 0} → (X → A → Type 0) → Judged A → List ℕ → Result X Stop → Type 0
+Taken Shows judged new (Ok x) = IsRight Shows judged new x
+Taken Shows judged new (Err Wrong) = judged ≡ Fails
+Taken Shows judged new (Err Unchecked) = judged ≡ Refuses
+Taken Shows judged new (Err NoMemory) = Unit {0}

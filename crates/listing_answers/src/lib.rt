@@ -1,0 +1,9 @@
+//! The answers that stand in a listing to what a control program asks of linear programming: read where they stand, and tested by their
+//! own numbers. No path, no basis and no rates are known here.
+#![tactic(auto)]
+
+mod answer;
+
+pub use answer::{
+    Conclusion, Stop, SweepAnswer, answer_to_path, answer_to_solution, answer_to_sweep,
+};

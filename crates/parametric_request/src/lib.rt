@@ -1,0 +1,6 @@
+//! What PARAOBJ and PARARHS ask for by the cells: what changes along the parametric run, and its first and last value.
+#![tactic(auto)]
+
+mod request;
+
+pub use request::{Change, ParametricRequest, ParametricVerb, RequestStop, request_of};
