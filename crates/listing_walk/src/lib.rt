@@ -1,0 +1,10 @@
+//! The walk along a control program, where the report of each statement is taken from a listing. What asks nothing of linear programming
+//! is done by the machine of runs, and what it prints has to stand in the listing; what asks of linear programming is read there and
+//! tested.
+#![tactic(auto)]
+
+mod found;
+mod walk;
+
+pub use found::Found;
+pub use walk::{closes, walk};
