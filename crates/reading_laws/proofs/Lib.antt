@@ -2,4 +2,4 @@ mod Pieces
 mod Lines
 mod Verdicts
 mod Sections
-mod Runs
+pub mod Runs
