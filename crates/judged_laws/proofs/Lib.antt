@@ -1,2 +1,4 @@
 pub mod Judging
 pub mod Solution
+pub mod Readings
+pub mod TableLines

@@ -1,5 +1,5 @@
-use Rattle.judged_laws.proofs.Solution.{solution_is_true}
+use Rattle.judged_laws.proofs.TableLines.{ray_lines_are}
 use Rattle.judged_laws.proofs.probe.Goals as goal
 
 pub returns : goal.returns
-returns c = solution_is_true
+returns c = ray_lines_are
