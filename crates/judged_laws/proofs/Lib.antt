@@ -2,3 +2,4 @@ pub mod Judging
 pub mod Solution
 pub mod Readings
 pub mod TableLines
+pub mod Claims
