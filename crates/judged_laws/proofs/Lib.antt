@@ -3,3 +3,4 @@ pub mod Solution
 pub mod Readings
 pub mod TableLines
 pub mod Claims
+pub mod Verdicts
