@@ -4,3 +4,4 @@ pub mod Readings
 pub mod TableLines
 pub mod Claims
 pub mod Verdicts
+pub mod Openings

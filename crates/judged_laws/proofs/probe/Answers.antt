@@ -1,5 +1,5 @@
-use Rattle.judged_laws.proofs.Verdicts.{verdict_is_true, dual_is_not_unbounded}
+use Rattle.judged_laws.proofs.Openings.{opening_is_true}
 use Rattle.judged_laws.proofs.probe.Goals as goal
 
 pub returns : goal.returns
-returns c = verdict_is_true
+returns c sweep sheet = opening_is_true sheet sweep
