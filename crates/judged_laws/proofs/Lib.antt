@@ -5,3 +5,4 @@ pub mod TableLines
 pub mod Claims
 pub mod Verdicts
 pub mod Openings
+pub mod Intervals

@@ -1,12 +1,14 @@
-use Rattle.std.specs.Prelude.{◌≡◌, ℕ, ◌≤◌, List, Option, Some, None, IfSome}
+use Rattle.std.specs.Prelude.{◌≡◌, ℕ, ◌≤◌, Bool, List, Option, Some, None, IfSome}
+use Rattle.exact_values.specs.Rational.{ℚ}
 use Rattle.lp_definitions.specs.LinearProgram.{IsLinearProgram}
-use Rattle.listing_definitions.specs.Report.{PathVerdict, Check}
-use Rattle.question_definitions.specs.Answers.{Basis, Sheet, Sweep, OfPath, OfSolution, OfSweep, Reached, Opening, Chained}
+use Rattle.listing_definitions.specs.Report.{Interval}
+use Rattle.check_definitions.specs.declared.Verdict.TheVariants.{Checked}
+use Rattle.question_definitions.specs.Answers.{Sheet, Changing}
 use Rattle.answer_definitions.specs.Sweeps.{family_of, sheet_at}
-use Rattle.walk_definitions.specs.Reading.{Right, judged}
-use Rattle.judged_laws.specs.Shown.{part_of, past_of, MayChange, IsTrueAtFirst}
+use Rattle.walk_definitions.specs.Tests.{interval_test}
+use Rattle.sweep_laws.specs.Truth.{IsTruePart}
+use Rattle.judged_laws.specs.Shown.{part_of, past_of, MayChange}
 
+use Rattle.interval_laws.specs.Laws.{BetweenLaws}
 abbrev pub ProbeLaw : Type 0
-ProbeLaw = (sweep : Sweep) (sheet : Sheet) (rest after : List ℕ) (bases : List Basis) (verdict : PathVerdict) (check : Check) → IsLinearProgram sheet.lp →
-      MayChange sheet sweep.changing → judged (OfSweep sweep) sheet rest ≡ Right (Opening bases verdict check) after →
-      IsTrueAtFirst (sheet_at sheet sweep.changing sweep.from) verdict
+ProbeLaw = BetweenLaws → (sheet : Sheet) (changing : Changing) → IsLinearProgram sheet.lp → MayChange sheet changing → (is_first : Bool) (max : ℚ) (interval : Interval) → interval_test sheet changing is_first max interval ≡ Checked → IsTruePart (family_of sheet changing) max (part_of interval)
