@@ -6,3 +6,4 @@ pub mod Claims
 pub mod Verdicts
 pub mod Openings
 pub mod Intervals
+pub mod Closings
