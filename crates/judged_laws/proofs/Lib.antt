@@ -7,3 +7,4 @@ pub mod Verdicts
 pub mod Openings
 pub mod Intervals
 pub mod Closings
+pub mod Chains

@@ -43,10 +43,10 @@ module _ (sheet : Sheet) (sweep : Sweep) where
   abbrev first_sheet : Sheet
   first_sheet = sheet_at sheet sweep.changing sweep.from
 
-  abbrev claim_steps : Claim → Verdict
+  abbrev pub claim_steps : Claim → Verdict
   claim_steps claim = in_turn (verdict_of (making_steps sheet sweep.changing sweep.from) ∷ verdict_test first_sheet claim.0 claim.1 ∷ [])
 
-  abbrev opening_of : Claim → SweepEnd
+  abbrev pub opening_of : Claim → SweepEnd
   opening_of claim = Opening [] claim.0 claim.1
 
   -- an opening is read where no run of intervals begins
