@@ -1,10 +1,11 @@
-pub mod Judging
-pub mod Solution
-pub mod Readings
-pub mod TableLines
-pub mod Claims
-pub mod Verdicts
-pub mod Openings
-pub mod Intervals
-pub mod Closings
-pub mod Chains
+mod Judging
+mod Solution
+mod Readings
+mod TableLines
+mod Claims
+mod Verdicts
+mod Openings
+mod Intervals
+mod Closings
+mod Chains
+pub mod Proved

@@ -1,7 +1,15 @@
+//! What is judged right in a listing is true of the linear program: verdicts, SOLUTION and parametric runs. The function here does nothing.
+//! It promises the laws, so that the check proves them.
 #![tactic(auto)]
 
-ghost use Rattle.judged_laws.specs.Probe.{ProbeLaw};
+use interval_laws::{between_laws, past_laws};
 
-pub fn probe()
-    ensures { ProbeLaw }
-{}
+ghost use Rattle.judged_laws.specs.Laws.{JudgedLaws};
+
+/// What passed its test says the truth. The laws of intervals, which it stands on, are promised by the functions that it calls.
+pub fn judged_laws()
+    ensures { JudgedLaws }
+{
+    between_laws();
+    past_laws();
+}
