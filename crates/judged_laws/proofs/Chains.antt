@@ -1,5 +1,5 @@
 -- A parametric run that passes its tests is true at every value of the parameter.
-use Rattle.std.proofs.Common.{◌≡◌, ℕ, suc, ◌+◌, ◌<◌, ◌⊎◌, List, [], ◌∷◌, ◌++◌, map, length, Bool, true, false, Option, Some, None, refl, sym, ap, ◌∙◌, arith, codes, subst, nat_eq, IfSome, option_map, All, Contains}
+use Rattle.std.proofs.Common.{◌≡◌, ℕ, suc, ◌+◌, ◌<◌, ◌⊎◌, List, [], ◌∷◌, ◌++◌, map, Bool, true, false, Option, Some, None, refl, sym, arith, codes, subst, nat_eq, IfSome, option_map, All, Contains}
 use Rattle.std.specs.Prelude.{if◌then◌else◌}
 use Rattle.std.proofs.lemmas.Bool.Decides.{nat_tests}
 use Rattle.std.proofs.lemmas.List.Elements.{All-nil, All-cons}
@@ -9,16 +9,16 @@ use Rattle.exact_values.proofs.Order.{lt_not_le, le_of_lt, lt_or_le}
 use Rattle.lp_definitions.specs.LinearProgram.{LinearProgram, IsLinearProgram, variables}
 use Rattle.check_definitions.specs.declared.Verdict.{Verdict}
 use Rattle.method_definitions.specs.Chain.{Part, ChainEnd as PastBreak}
-use Rattle.sweep_laws.specs.Truth.{IsTruePart, AreJoined, last_end, IsCovered, AreLongPast, IsTrueEnd, IsTrueRun}
+use Rattle.sweep_laws.specs.Truth.{IsTruePart, AreJoined, last_end, IsCovered, IsTrueEnd, IsTrueRun}
 use Rattle.interval_laws.specs.Laws.{BetweenLaws, PastLaws}
 use Rattle.listing_definitions.specs.Report.{Line, Interval, ChainEnd}
 use Rattle.listing_definitions.specs.Numbers.{digits, rational_text}
 use Rattle.question_definitions.specs.Answers.{Basis, Sheet, sweeper, Sweep, SweepEnd, OfSweep, Opening, Chained}
-use Rattle.answer_definitions.specs.Sweeps.{family_of, sheet_at}
-use Rattle.walk_definitions.specs.Words.{Parsed, left_after, with_word, fraction_in}
+use Rattle.answer_definitions.specs.Sweeps.{family_of}
+use Rattle.walk_definitions.specs.Words.{left_after, fraction_in}
 use Rattle.walk_definitions.specs.Tables.{part_slots, table_in}
-use Rattle.walk_definitions.specs.Tests.{making_steps, verdict_test, interval_test, close_test}
-use Rattle.walk_definitions.specs.Reading.{Claim, Run, Judged, Right, Fails, Refuses, judged, judged_map, tested, verdict_in, interval_in, close_in, sweep_head, onward, part_in, run_in, opening_in, sweep_in}
+use Rattle.walk_definitions.specs.Tests.{interval_test, close_test}
+use Rattle.walk_definitions.specs.Reading.{Run, Judged, Right, Fails, Refuses, judged, judged_map, tested, verdict_in, interval_in, close_in, sweep_head, onward, part_in, run_in, opening_in, sweep_in}
 use Rattle.judged_laws.specs.Shown.{part_of, past_of, MayChange}
 use Rattle.judged_laws.proofs.Judging.{right_is_passed, right_is_made}
 use Rattle.judged_laws.proofs.Readings.{after_text, after_word, mapped, at_some}

@@ -1,18 +1,18 @@
 -- What a verdict tells by its form alone, as it is read after the name of a verb.
-use Rattle.std.proofs.Common.{◌≡◌, ℕ, ◌≤◌, List, [], ◌∷◌, ◌++◌, Bool, true, false, Option, Some, None, refl, arith, codes, nat_eq, option_map, IfSome}
+use Rattle.std.proofs.Common.{◌≡◌, ℕ, List, ◌++◌, Some, None, arith, codes, nat_eq, option_map, IfSome}
 use Rattle.std.specs.Prelude.{if◌then◌else◌}
 use Rattle.std.specs.Option.{option_or}
 use Rattle.std.proofs.lemmas.Bool.Decides.{nat_tests}
 use Rattle.lp_definitions.specs.LinearProgram.{size, IsVariable, variables}
 use Rattle.listing_definitions.specs.declared.Solver.{Solver}
 use Rattle.listing_definitions.specs.declared.Solver.TheVariants.{Primal, Dual, Paraobj, Pararhs}
-use Rattle.listing_definitions.specs.Report.{Line, PathVerdict, OptimalAt, CrossedAt, InfeasibleBy, UnboundedBy, Check}
+use Rattle.listing_definitions.specs.Report.{Line, PathVerdict, OptimalAt, CrossedAt, InfeasibleBy, UnboundedBy}
 use Rattle.listing_definitions.specs.Text.{solver_text}
 use Rattle.question_definitions.specs.Answers.{Sheet}
 use Rattle.answer_definitions.specs.Lines.{pair_lines, ray_lines}
-use Rattle.walk_definitions.specs.Words.{Parsed, with_text, with_word, fraction_in, count_in, max_count}
+use Rattle.walk_definitions.specs.Words.{fraction_in, count_in, max_count}
 use Rattle.walk_definitions.specs.Tables.{pair_slots, table_in, ray_in, multipliers, column_of}
-use Rattle.walk_definitions.specs.Reading.{Claim, with_check, optimal_in, crossed_in, infeasible_in, unbounded_in, claim_in, verdict_in}
+use Rattle.walk_definitions.specs.Reading.{Claim, optimal_in, crossed_in, infeasible_in, unbounded_in, claim_in, verdict_in}
 use Rattle.judged_laws.proofs.Readings.{after_text, after_word, after_check, one_or_other, if_none_else, mapped, at_some, count_within}
 use Rattle.judged_laws.proofs.TableLines.{pair_lines_are, ray_lines_are}
 

@@ -1,11 +1,10 @@
 -- The verdict of an opening that passes is true of the linear program at the first value.
-use Rattle.std.proofs.Common.{◌≡◌, ℕ, List, [], ◌∷◌, Option, Some, None, refl, sym, ap, ◌∙◌, subst}
+use Rattle.std.proofs.Common.{◌≡◌, ℕ, List, [], ◌∷◌, Option, Some, None, subst}
 use Rattle.exact_values.specs.Rational.{ℚ}
 use Rattle.lp_definitions.specs.LinearProgram.{IsLinearProgram}
 use Rattle.sweep_laws.proofs.OneObjective.{lawful_objective}
 use Rattle.sweep_laws.proofs.OneRhs.{lawful_rhs}
 use Rattle.check_definitions.specs.declared.Verdict.{Verdict}
-use Rattle.check_definitions.specs.declared.Verdict.TheVariants.{Checked}
 use Rattle.check_definitions.specs.Steps.{verdict_of, in_turn}
 use Rattle.listing_definitions.specs.declared.Solver.{Solver}
 use Rattle.listing_definitions.specs.Report.{PathVerdict, OptimalAt, CrossedAt, InfeasibleBy, UnboundedBy, Check}
@@ -13,7 +12,7 @@ use Rattle.question_definitions.specs.Answers.{Basis, Sheet, Changing, Row, Set,
 use Rattle.answer_definitions.specs.Sweeps.{row_of, shifts_of, family_of, sheet_at}
 use Rattle.walk_definitions.specs.Words.{left_after}
 use Rattle.walk_definitions.specs.Tests.{making_steps, verdict_test}
-use Rattle.walk_definitions.specs.Reading.{Claim, Run, Judged, Right, judged, judged_map, tested, verdict_in, sweep_head, run_in, opening_in, sweep_in}
+use Rattle.walk_definitions.specs.Reading.{Claim, Run, Right, judged, tested, verdict_in, sweep_head, run_in, opening_in, sweep_in}
 use Rattle.judged_laws.specs.Shown.{MayChange, IsTrueAtFirst}
 use Rattle.judged_laws.proofs.Judging.{each_checked, right_is_passed, right_is_made}
 use Rattle.judged_laws.proofs.Claims.{MayBeOptimal, IsFormed, verdict_formed}

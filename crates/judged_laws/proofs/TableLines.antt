@@ -1,19 +1,19 @@
 -- The table lines that are read are those of their numbers.
-use Rattle.std.proofs.Common.{◌≡◌, ℕ, zero, suc, ◌+◌, ◌-◌, ◌<◌, ◌≤◌, ◌≢◌, ◌⊎◌, List, [], ◌∷◌, ◌++◌, map, filter, find, cond, Bool, true, false, not, Option, Some, None, refl, sym, ap, ap₂, ◌∙◌, arith, codes, nat_eq, eqb, option_map, option_and_then, IfSome, slice_index_or}
+use Rattle.std.proofs.Common.{◌≡◌, ℕ, zero, suc, ◌+◌, ◌<◌, ◌≤◌, ◌≢◌, ◌⊎◌, List, [], ◌∷◌, filter, find, cond, Bool, true, false, not, Option, Some, None, refl, sym, ap, ap₂, ◌∙◌, arith, codes, nat_eq, option_map, IfSome, slice_index_or}
 use Rattle.std.specs.Prelude.{if◌then◌else◌}
-use Rattle.std.proofs.lemmas.Bool.Decides.{eqb_tells, nat_tests}
+use Rattle.std.proofs.lemmas.Bool.Decides.{nat_tests}
 use mathlib.Core.Logic.{inl, inr}
 use Rattle.exact_values.specs.Rational.{ℚ, zero_ℚ}
 use Rattle.exact_values.specs.Tests.{eq_ℚ}
 use Rattle.exact_values.proofs.Tests_laws.{test_from_same}
-use Rattle.lp_definitions.specs.LinearProgram.{Matrix, Vector, value_at, size, IsVariable, numbers_from, variables}
+use Rattle.lp_definitions.specs.LinearProgram.{Vector, value_at, size, numbers_from, variables}
 use Rattle.path_laws.proofs.Ends.{value_at-listed}
 use Rattle.listing_definitions.specs.Report.{Value, Number, Line}
 use Rattle.question_definitions.specs.Answers.{Sheet}
-use Rattle.answer_definitions.specs.Lines.{name_of, lines_of, pair_lines, ray_lines}
+use Rattle.answer_definitions.specs.Lines.{lines_of, pair_lines, ray_lines}
 use Rattle.walk_definitions.specs.Words.{Parsed, left_after, fraction_in}
 use Rattle.walk_definitions.specs.Tables.{Slot, AnyNumber, value_in, slot_in, values_in, then_more, number_at, numbered, begins_table_line, pair_slots, line_head, line_of, line_in, table_in, multiplier_in, ray_in, multipliers, column_of}
-use Rattle.judged_laws.proofs.Readings.{after_text, after_word, if_none_else, mapped, gone_on, listed_more}
+use Rattle.judged_laws.proofs.Readings.{after_text, after_word, if_none_else, gone_on, listed_more}
 
 -- ---- values
 
@@ -167,7 +167,7 @@ other_number : (k : ℕ) (line : Line) (lines : List Line) → line.number ≢ k
 other_number k line lines apart = by (nat_eq line.number k) refl
   where
     by : (b : Bool) → nat_eq line.number k ≡ b
-        → elim (cond b (Some line) (find (λ (l : Line). nat_eq l.number k) lines)) [ | None ↦ zero_ℚ | Some line ↦ number_at 0 line ] ≡ numbered k lines
+        → elim (cond b (Some line) (find (λ (l : Line). nat_eq l.number k) lines)) [ None ↦ zero_ℚ | Some line ↦ number_at 0 line ] ≡ numbered k lines
     by true e = absurd (apart (grind (arith, nat_tests)))
     by false e = refl
 
@@ -175,7 +175,7 @@ own_number : (k : ℕ) (line : Line) (lines : List Line) → line.number ≡ k �
 own_number k line lines same = by (nat_eq line.number k) refl
   where
     by : (b : Bool) → nat_eq line.number k ≡ b
-        → elim (cond b (Some line) (find (λ (l : Line). nat_eq l.number k) lines)) [ | None ↦ zero_ℚ | Some line ↦ number_at 0 line ] ≡ number_at 0 line
+        → elim (cond b (Some line) (find (λ (l : Line). nat_eq l.number k) lines)) [ None ↦ zero_ℚ | Some line ↦ number_at 0 line ] ≡ number_at 0 line
     by true e = refl
     by false e = absurd (grind (arith, nat_tests))
 
@@ -203,7 +203,7 @@ module _ (sheet : Sheet) where
   some_of f first (suc n) lines (inr h) is =
       let number : h.0.number ≡ first = number_of_line first h.0 h.3 in
       let here : f first ≡ h.3.number =
-          is first (omega arith) (omega arith) ∙ ap (numbered first) h.2 ∙ own_number first h.0 h.1 number ∙ ap (number_at 0) h.3.is_line in
+      is first (omega arith) (omega arith) ∙ ap (numbered first) h.2 ∙ own_number first h.0 h.1 number ∙ ap (number_at 0) h.3.is_line in
       let apart : eq_ℚ (f first) zero_ℚ ≡ false = ap (λ x. eq_ℚ x zero_ℚ) here ∙ h.3.is_apart in
       let rest = some_of f (suc first) n h.1 h.4 (λ k low high. is k (omega arith) (omega arith) ∙ ap (numbered k) h.2 ∙ other_number k h.0 h.1 (λ same. absurd (omega (arith, same, number, low)))) in
       h.2 ∙ ap₂ (λ (l : Line) (ls : List Line). l ∷ ls) (h.3.is_line ∙ ap (λ x. line_of sheet first (Number x ∷ [])) (sym here)) rest

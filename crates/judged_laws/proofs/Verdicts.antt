@@ -1,9 +1,9 @@
 -- A verdict that passes its test is true of the linear program.
-use Rattle.std.proofs.Common.{◌≡◌, ℕ, List, [], ◌∷◌, Option, Some, None, sym, ap, ◌∙◌, subst}
+use Rattle.std.proofs.Common.{◌≡◌, ℕ, List, [], ◌∷◌, Option, None, sym, ap, ◌∙◌, subst}
 use Rattle.exact_values.specs.Rational.{ℚ}
 use Rattle.exact_values.specs.Tests.{eq_ℚ}
 use Rattle.exact_values.proofs.Tests_laws.{same_from_test}
-use Rattle.lp_definitions.specs.LinearProgram.{LinearProgram, Vector, value_at, with_change_row, IsVariable, IsLinearProgram}
+use Rattle.lp_definitions.specs.LinearProgram.{Vector, value_at, with_change_row, IsVariable, IsLinearProgram}
 use Rattle.lp_definitions.specs.Solutions.{IsCrossed, IsInfeasible, IsUnbounded}
 use Rattle.lp_laws.proofs.Duality.{infeasible_by_crossed, infeasible_by_ray, unbounded_by_direction}
 use Rattle.check_definitions.specs.declared.Verdict.{Verdict}
@@ -15,14 +15,14 @@ use Rattle.listing_definitions.specs.declared.Solver.TheVariants.{Dual}
 use Rattle.listing_definitions.specs.Report.{Line, PathVerdict, OptimalAt, CrossedAt, InfeasibleBy, UnboundedBy, Check}
 use Rattle.question_definitions.specs.Answers.{Basis, Sheet, OfPath, Reached, PathEnd}
 use Rattle.answer_definitions.specs.Lines.{pair_lines, ray_lines}
-use Rattle.run_laws.specs.Truth.{AreLinesOfRay, AreLinesOfDirection, IsTrueOf, IsNotUnbounded}
+use Rattle.run_laws.specs.Truth.{AreLinesOfRay, AreLinesOfDirection, IsNotUnbounded}
 use Rattle.walk_definitions.specs.Tables.{multipliers, column_of}
 use Rattle.walk_definitions.specs.Tests.{asked, says_checked, claim_test, verdict_test}
 use Rattle.walk_definitions.specs.Reading.{Claim, Right, judged, tested, verdict_in}
 use Rattle.judged_laws.specs.Shown.{AreLinesOfGrowth, IsTrueAtFirst}
 use Rattle.judged_laws.specs.Laws.{IsTrueUnlessOptimal}
 use Rattle.judged_laws.proofs.Judging.{asked_holds, each_checked, right_is_passed, right_is_made}
-use Rattle.judged_laws.proofs.Claims.{MayBeOptimal, MayBeUnbounded, IsFormed, verdict_formed}
+use Rattle.judged_laws.proofs.Claims.{MayBeOptimal, IsFormed, verdict_formed}
 
 module _ (sheet : Sheet) (lawful : IsLinearProgram sheet.lp) where
   crossed_is_true : (k : ℕ) → IsVariable sheet.lp.matrix k → crossed_check sheet.lp k ≡ Checked → IsCrossed sheet.lp k × IsInfeasible sheet.lp
@@ -40,8 +40,7 @@ module _ (sheet : Sheet) (lawful : IsLinearProgram sheet.lp) where
       let z : Vector = value_at (column_of 0 lines) in
       let d : Vector = value_at (column_of 1 lines) in
       let each = each_checked (unbounded_check sheet.lp z d ∷ asked (eq_ℚ objective (z sheet.lp.objective)) ∷ []) e in
-      let proves = unbounded_if_checked sheet.lp z d each.0 in
-      (
+      let proves = unbounded_if_checked sheet.lp z d each.0 in (
         record {
           point = column_of 0 lines;
           direction = column_of 1 lines;

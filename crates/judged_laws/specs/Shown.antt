@@ -4,7 +4,7 @@
 --     MayChange sheet changing     the row that changes has no limits
 --     AreLinesOfGrowth ..          the lines are those of a point, with this activity of the objective row, and of a direction
 --     IsTrueAtFirst sheet verdict  what the verdict of an opening says of the linear program at the first value
-use Rattle.std.specs.Prelude.{◌≡◌, ℕ, List, []}
+use Rattle.std.specs.Prelude.{◌≡◌, List, []}
 use Rattle.exact_values.specs.Rational.{ℚ}
 use Rattle.lp_definitions.specs.LinearProgram.{IsRow, HasNoLimits, value_at}
 use Rattle.lp_definitions.specs.Solutions.{IsCrossed, ProvesUnbounded, IsInfeasible, IsUnbounded}

@@ -2,9 +2,9 @@
 //! It promises the laws, so that the check proves them.
 #![tactic(auto)]
 
-use interval_laws::{between_laws, past_laws};
-
 ghost use Rattle.judged_laws.specs.Laws.{JudgedLaws};
+
+use interval_laws::{between_laws, past_laws};
 
 /// What passed its test says the truth. The laws of intervals, which it stands on, are promised by the functions that it calls.
 pub fn judged_laws()
