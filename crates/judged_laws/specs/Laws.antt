@@ -30,7 +30,7 @@ pub record JudgedLaws : Type 0 where
   -- DUAL is never taken to find that there is no best point
   pub dual : (limit : Option ℕ) (sheet : Sheet) (rest after : List ℕ) (bases : List Basis) (verdict : PathVerdict) (check : Check) →
       judged (OfPath Dual limit) sheet rest ≡ Right (Reached bases verdict check) after → IsNotUnbounded verdict
-  -- the verdict of an opening is true at the first value
+  -- the verdict of an opening is true at the first value, where its objective is the activity of the objective row
   pub opening : (sweep : Sweep) (sheet : Sheet) (rest after : List ℕ) (bases : List Basis) (verdict : PathVerdict) (check : Check) → IsLinearProgram sheet.lp →
       MayChange sheet sweep.changing → judged (OfSweep sweep) sheet rest ≡ Right (Opening bases verdict check) after →
       IsTrueAtFirst (sheet_at sheet sweep.changing sweep.from) verdict

@@ -1,4 +1,4 @@
-//! What is judged right in a listing is true of the linear program: verdicts, SOLUTION and parametric runs. The function here does nothing.
+//! What is judged right in a listing is true of the linear program: verdicts, SOLUTION and parametric runs. The function here computes nothing.
 //! It promises the laws, so that the check proves them.
 #![tactic(auto)]
 
@@ -6,7 +6,7 @@ ghost use Rattle.judged_laws.specs.Laws.{JudgedLaws};
 
 use interval_laws::{between_laws, past_laws};
 
-/// What passed its test says the truth. The laws of intervals, which it stands on, are promised by the functions that it calls.
+/// What passed its test says the truth. The laws of intervals on which that stands are promised by what it calls.
 pub fn judged_laws()
     ensures { JudgedLaws }
 {
