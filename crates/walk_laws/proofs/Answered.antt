@@ -16,7 +16,7 @@ use Rattle.run_definitions.specs.Verbs.{asks, mark_of, demanded, by_verdict, aft
 use Rattle.run_definitions.specs.Run.{counted}
 use Rattle.run_laws.specs.Truth.{PresentProgram, sheet_of, IsTrueOf, IsNotUnbounded}
 use Rattle.run_laws.proofs.Moves.{HasProblem}
-use Rattle.run_laws.proofs.Selected.{selected_is_lawful}
+use Rattle.run_laws.proofs.Selected.{selected_is_lawful, selected_without_change}
 use Rattle.walk_definitions.specs.Reading.{Judged, Right, Fails, Refuses, judged, judged_map}
 use Rattle.walk_definitions.specs.Reading as readings
 use Rattle.walk_definitions.specs.Walker.{Pending, Walker, open_stop, open_pending, open_question, follows, passed, pending_after, noted, answered}
@@ -130,7 +130,7 @@ module _ (reading : ReadingLaw) (truth : JudgedLaws) (Holds : Type 0) (w : Walke
         (reads Holds w reading card (OfPath solver limit) sheet (present_basis present) go (Reached bases verdict check) rest (w.rest, rest, e) e
         (printed_verdict (mark_of verdict) (Solved solver verdict check) after) refl
         (pays_verdict Holds w (pending_after w.rest verdict check) (Solved solver verdict check) after
-        (owes_verdict w.rest bases verdict check holds (truth.verdict solver limit sheet w.rest rest bases verdict check program.is_linear_program e)
+        (owes_verdict w.rest bases verdict check holds (truth.verdict solver limit sheet w.rest rest bases verdict check program.is_linear_program (selected_without_change present.problem (choice_of w.state.cells present.options) lp is) e)
         (bounded_verdict truth solver limit sheet w.rest rest bases verdict check e)) (mark_of verdict)))
     path_comes PathLimit rest e holds = absurd (never_made (λ (claim : readings.Claim). Reached [] claim.0 claim.1) PathLimit (λ claim same. cc same) _ rest e)
     path_comes (PricesWrong j) rest e holds = absurd (never_made (λ (claim : readings.Claim). Reached [] claim.0 claim.1) (PricesWrong j) (λ claim same. cc same) _ rest e)

@@ -11,7 +11,7 @@ use Rattle.run_definitions.specs.Moves.{Outcome, InAnswer, Move, Asks}
 use Rattle.run_definitions.specs.Verbs.{asks, mark_of, after_sweep}
 use Rattle.run_definitions.specs.Run.{counted}
 use Rattle.run_laws.specs.Sweeps.{ChangesFreely}
-use Rattle.run_laws.specs.Truth.{PresentProgram, IsTrueOf, TellsOfRun}
+use Rattle.run_laws.specs.Truth.{PresentProgram, TellsOfRun}
 use Rattle.run_laws.proofs.ChangeRow.{changes_freely}
 use Rattle.run_laws.proofs.Moves.{HasProblem}
 use Rattle.run_laws.proofs.Verbs.{IsAskedFor}
@@ -21,6 +21,7 @@ use Rattle.walk_definitions.specs.Words.{left_after}
 use Rattle.walk_definitions.specs.Walker.{Walker, open_stop, open_pending, open_question, follows, passed, answered}
 use Rattle.reading_laws.specs.Laws.{ReadingLaw}
 use Rattle.judged_laws.specs.Shown.{MayChange}
+use Rattle.judged_laws.specs.Shown.{IsTrueAtFirst}
 use Rattle.judged_laws.specs.Laws.{JudgedLaws}
 use Rattle.walk_laws.specs.Proved.{ShowsProvedChain, Says}
 use Rattle.walk_laws.proofs.Owing.{Owes, holds_settled}
@@ -33,7 +34,7 @@ may_change sheet (Row name) free = free
 may_change sheet (Set name) free = tt
 
 opening_says : (state : State) (changing : Changing) (verdict : PathVerdict) (check : Check) →
-    TellsOfRun state.setup state.cells (sweeper changing) (λ sheet sweep. IsTrueOf (sheet_at sheet sweep.changing sweep.from) verdict) → Says state (Solved (sweeper changing) verdict check)
+    TellsOfRun state.setup state.cells (sweeper changing) (λ sheet sweep. IsTrueAtFirst (sheet_at sheet sweep.changing sweep.from) verdict) → Says state (Solved (sweeper changing) verdict check)
 opening_says state (Row name) verdict check told = told
 opening_says state (Set name) verdict check told = told
 
@@ -77,7 +78,7 @@ module _ (reading : ReadingLaw) (truth : JudgedLaws) (Holds : Type 0) (w : Walke
     sweep_comes (Opening bases verdict check) rest e holds =
         let after : State = record (counted w.state) { setup = Some (gone_through bases present); mark = None } in
         let says : Says w.state (Solved (sweeper sweep.changing) verdict check) =
-        opening_says w.state sweep.changing verdict check (told (λ sheet sweep. IsTrueOf (sheet_at sheet sweep.changing sweep.from) verdict)
+        opening_says w.state sweep.changing verdict check (told (λ sheet sweep. IsTrueAtFirst (sheet_at sheet sweep.changing sweep.from) verdict)
         (truth.opening sweep sheet w.rest rest bases verdict check program.is_linear_program free e)) in
         follows_on Holds w card move (record (passed rest 1 w) { pending = None }) (go (Opening bases verdict check))
         (reads Holds w reading card (OfSweep sweep) sheet (present_basis present) go (Opening bases verdict check) rest (w.rest, rest, e) e
