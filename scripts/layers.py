@@ -46,7 +46,8 @@ def listed():
         if line.startswith("#"):
             layers.append((line.strip("# ").rstrip("."), []))
         elif line.strip():
-            name, _, rest = line.partition(":")
+            head, _, rest = line.partition(":")
+            name = head.split()[0]
             layers[-1][1].append(name)
             lines[name] = rest.split()
     return layers, lines
@@ -288,9 +289,11 @@ def made(crates):
 def trimmed(crates):
     "crates.txt, where each line lists what the files of its crate cite"
     names = set(crates.order) | set(crates.libraries())
-    return "".join(f"{name}: {' '.join(sorted(cited_by(name, names)))}".rstrip() + "\n"
-                   if (name := line.partition(":")[0]) in crates.layer and name not in BEING_WRITTEN else line
-                   for line in LIST.read_text(encoding="utf-8").splitlines(keepends=True))
+    lines = []
+    for line in LIST.read_text(encoding="utf-8").splitlines():
+        head, name = line.partition(":")[0], line.partition(":")[0].partition(" ")[0]
+        lines.append(f"{head}: {' '.join(sorted(cited_by(name, names)))}".rstrip() if name in crates.layer and name not in BEING_WRITTEN else line)
+    return "\n".join(lines) + "\n"
 
 
 def check_order(crates):
