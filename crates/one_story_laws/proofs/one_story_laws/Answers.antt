@@ -1,0 +1,5 @@
+use Rattle.one_story_laws.proofs.Told.{attested_says, real_says}
+use Rattle.one_story_laws.proofs.one_story_laws.Goals as goal
+
+pub returns : goal.returns
+returns c = ?

@@ -1,0 +1,57 @@
+-- When two listings of one job tell the same story.
+--     SameObjective, SameVerdict   two verdicts leave one mark, and optimal ones have one objective
+--     SameClose end other          two parametric runs end at the same value, and in the same way
+--     TellsSame report other       two reports tell the same
+--     TellSame reports others      so do those of two lists, one by one
+--     IsOneStory ..                two runs tell the same, and end alike
+--     IsCutEnding ending           a run was cut off: by the limit on steps, by a price that is wrong for DUAL, or by an overflow
+--     IsBrokenOff ..               a run was cut off, and tells the same as the other as far as it goes
+use Rattle.std.specs.Prelude.{◌≡◌, List, [], ◌∷◌, ◌++◌}
+use Rattle.listing_definitions.specs.Report.{PathVerdict, OptimalAt, ChainEnd, EndsAt, UnboundedPast, InfeasiblePast, Report, Solved, Solution, Parametric}
+use Rattle.listing_definitions.specs.Ending.{Ending, PriceStop, LimitStop, OverflowStop}
+use Rattle.run_definitions.specs.Verbs.{mark_of}
+
+abbrev pub SameObjective : PathVerdict → PathVerdict → Type 0
+SameObjective (OptimalAt steps objective) (OptimalAt other_steps other) = objective ≡ other
+SameObjective verdict other = Unit {0}
+
+-- The steps, and the proof that no point is feasible or best, may be others.
+abbrev pub SameVerdict : PathVerdict → PathVerdict → Type 0
+SameVerdict verdict other = (mark_of verdict ≡ mark_of other) × SameObjective verdict other
+
+abbrev pub SameClose : ChainEnd → ChainEnd → Type 0
+SameClose (EndsAt value) (EndsAt other) = value ≡ other
+SameClose (UnboundedPast value lines) (UnboundedPast other other_lines) = value ≡ other
+SameClose (InfeasiblePast value lines) (InfeasiblePast other other_lines) = value ≡ other
+SameClose end other = ⊥
+
+-- Verdicts are of one solver, and SOLUTION is shown under one mark; parametric runs are of one solver, from the same first value, with
+-- the same row or set that changes, and end at the same value in the same way. Other reports are equal.
+abbrev pub TellsSame : Report → Report → Type 0
+TellsSame (Solved solver verdict check) (Solved other another other_check) = (solver ≡ other) × SameVerdict verdict another
+TellsSame (Solution mark lines) (Solution other other_lines) = mark ≡ other
+TellsSame (Parametric solver chain) (Parametric other another) =
+    (solver ≡ other) × (chain.from ≡ another.from) × (chain.change ≡ another.change) × SameClose chain.end another.end
+TellsSame report other = report ≡ other
+
+-- they are as many, and each tells the same as the one in its place
+abbrev pub TellSame : List Report → List Report → Type 0
+TellSame [] [] = Unit {0}
+TellSame (report ∷ reports) (other ∷ others) = TellsSame report other × TellSame reports others
+TellSame reports others = ⊥
+
+abbrev pub IsOneStory : List Report → List Report → Ending → Ending → Type 0
+IsOneStory reports others ending other = TellSame reports others × (ending ≡ other)
+
+abbrev pub IsCutEnding : Ending → Type 0
+IsCutEnding (LimitStop reached) = Unit {0}
+IsCutEnding (PriceStop price) = Unit {0}
+IsCutEnding (OverflowStop overflow) = Unit {0}
+IsCutEnding ending = ⊥
+
+pub record IsBrokenOff (reports others : List Report) (ending : Ending) : Type 0 where
+  pub is_cut : IsCutEnding ending
+  pub first : List Report
+  pub later : List Report
+  pub are : others ≡ first ++ later
+  pub tell : TellSame reports first
