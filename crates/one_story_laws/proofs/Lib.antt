@@ -2,3 +2,5 @@ mod Marks
 mod Ends
 mod Taken
 mod Told
+mod Alike
+mod Questions
