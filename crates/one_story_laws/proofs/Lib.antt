@@ -4,3 +4,4 @@ mod Taken
 mod Told
 mod Alike
 mod Questions
+mod Verbs
