@@ -5,3 +5,4 @@ mod Told
 mod Alike
 mod Questions
 mod Verbs
+mod Runs

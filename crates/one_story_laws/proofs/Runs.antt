@@ -1,0 +1,337 @@
+-- Two runs of one job, of which the second is that of an attested listing: after as many statements they have told the same, and stand the
+-- same but for the bases.
+--     steps                        how many statements a run has executed so far
+--     AreAlike ..                  two runs so far have told the same, and stand the same
+--     IsAhead, IsBehind ..         the second run goes on from where the first one stands, or the other way round
+--     Whole ..                     a whole run, up to its last statement
+--     Story ..                     two whole runs tell the same, or the first one is cut off
+use Rattle.std.proofs.Common.{◌≡◌, ◌⊎◌, inl, inr, ℕ, suc, ◌-◌, ◌≤◌, ◌<◌, List, [], ◌∷◌, ◌++◌, length, refl, sym, ap, subst, ◌∙◌, arith}
+use Rattle.std.specs.Prelude.{All, Option, Some, None, slice_get}
+use Rattle.std.proofs.Math.Nat.{eq-or-lt_of_le}
+use Rattle.std.proofs.lemmas.Bool.{cases_lt}
+use Rattle.std.proofs.lemmas.List.{append-nil, append_assoc}
+use Rattle.std.proofs.lemmas.Option.{slice_get_within, same_Some}
+use Rattle.card_definitions.specs.Cards.{Card}
+use Rattle.control_definitions.specs.Program.{Statement, Program}
+use Rattle.listing_definitions.specs.Report.{Report}
+use Rattle.listing_definitions.specs.Ending.{Ending}
+use Rattle.question_definitions.specs.Solving.{Solving}
+use Rattle.run_definitions.specs.State.{State, start}
+use Rattle.run_definitions.specs.Moves.{Gain, Nothing, printed_by, Outcome, Goes, Ends, gain_of, Gives}
+use Rattle.run_definitions.specs.Verbs.{verb_move}
+use Rattle.run_definitions.specs.Run.{max_executed, counted, Step, IsOver, at_end, at_limit, Reaches, begun, stepped, IsRun, is_over, is_ended}
+use Rattle.run_laws.specs.Headline.{HoldSoFar, HoldInRun}
+use Rattle.run_functions.specs.Laws.{IsOverflow, IsOverflowStop}
+use Rattle.walk_laws.specs.Proved.{attested, Says}
+use Rattle.one_story_laws.specs.Story.{TellSame, IsOneStory}
+use Rattle.one_story_laws.proofs.Told.{SaysEnough}
+use Rattle.one_story_laws.proofs.Alike.{no_setup, SameStanding, standing, Alike, CutsOff, IsStopped, AlikeOrStopped}
+use Rattle.one_story_laws.proofs.Verbs.{verb_alike}
+
+-- ---- reports
+
+pub tell_append : (reports others more later : List Report) → TellSame reports others → TellSame more later → TellSame (reports ++ more) (others ++ later)
+tell_append [] [] more later first second = second
+tell_append (report ∷ reports) (other ∷ others) more later first second = (first.0, tell_append reports others more later first.1 second)
+tell_append [] (other ∷ others) more later first second = absurd first
+tell_append (report ∷ reports) [] more later first second = absurd first
+
+-- ---- states
+
+same_position : (a b : State) → SameStanding a b → a.position ≡ b.position
+same_position _ _ (standing state left right setups) = refl
+
+same_executed : (a b : State) → SameStanding a b → a.executed ≡ b.executed
+same_executed _ _ (standing state left right setups) = refl
+
+module _ (T U : Solving) (program : Program) where
+  -- a run that is over executes no statement
+  over_or_step : (a b : State) (ending : Ending) (outcome : Outcome) → a.position ≡ b.position → a.executed ≡ b.executed → IsOver T program a ending → Step U program b outcome → ⊥
+  over_or_step a b _ outcome positions counts (at_end past) step =
+      let within = slice_get_within program.statements (b.position - 1) step.statement step.is_at_position in omega (arith, past, within, positions)
+  over_or_step a b _ outcome positions counts (at_limit within limit) step = let below = step.is_within_limit in omega (arith, limit, below, counts)
+
+  one_over : (a b : State) (ending other : Ending) → a.position ≡ b.position → a.executed ≡ b.executed → IsOver T program a ending → IsOver U program b other → ending ≡ other
+  one_over a b _ _ positions counts (at_end past) (at_end again) = refl
+  one_over a b _ _ positions counts (at_end past) (at_limit within limit) = absurd (omega (arith, past, within, positions))
+  one_over a b _ _ positions counts (at_limit within limit) (at_end past) = absurd (omega (arith, past, within, positions))
+  one_over a b _ _ positions counts (at_limit within limit) (at_limit again other) = refl
+
+module _ (T : Solving) (Tells : State → Report → Type 0) (program : Program) (decks : List (List Card)) where
+  abbrev pub steps : {reports : List Report} {cards : List (List ℕ)} {state : State} → Reaches T program decks reports cards state → ℕ
+  steps begun = 0
+  steps (stepped gain after before step) = suc (steps before)
+
+  -- a run is over, or its last statement ends it
+  pub data Last (state : State) : Gain → Ending → Type 0 where
+    over : {ending : Ending} → IsOver T program state ending → Last state Nothing ending
+    ended : {gain : Gain} {ending : Ending} → Step T program state (Ends gain ending) → All (Tells state) (printed_by gain) → Last state gain ending
+
+  pub record Whole (reports : List Report) (ending : Ending) : Type 0 where
+    pub before : List Report
+    pub cards : List (List ℕ)
+    pub state : State
+    pub came : Reaches T program decks before cards state
+    pub holds : HoldSoFar T Tells program decks came
+    pub gain : Gain
+    pub last : Last state gain ending
+    pub are : reports ≡ before ++ printed_by gain
+
+  pub whole_of : (AtEnd : State → Ending → Type 0) (reports : List Report) (cards : List (List ℕ)) (ending : Ending) (runs : IsRun T program decks reports cards ending) → HoldInRun T Tells AtEnd program decks runs →
+      Whole reports ending
+  whole_of AtEnd reports cards ending (is_over {reports = _} {cards = _} {state} came is) holds = record {
+    before = reports;
+    cards = cards;
+    state = state;
+    came = came;
+    holds = holds;
+    gain = Nothing;
+    last = over is;
+    are = sym (append-nil reports);
+  }
+  whole_of AtEnd _ _ ending (is_ended {reports} {cards} {state} gain came step) holds = record {
+    before = reports;
+    cards = cards;
+    state = state;
+    came = came;
+    holds = holds.0;
+    gain = gain;
+    last = ended step holds.1;
+    are = refl;
+  }
+
+-- ---- two runs
+
+going : (Open : Type 0) (gain other : Gain) (after later : State) → AlikeOrStopped Open (Goes gain after) (Goes other later) → Alike (Goes gain after) (Goes other later)
+going Open gain other after later (inl alike) = alike
+going Open gain other after later (inr stop) = let e = stop.2 in absurd (cc e)
+
+never_stops : (gain : Gain) (after : State) → IsOverflowStop (Goes gain after) → ⊥
+never_stops gain after stop = let e = stop.1 in cc e
+
+ends_unstopped : (gain : Gain) (ending : Ending) → (IsOverflow ending → ⊥) → IsOverflowStop (Ends gain ending) → ⊥
+ends_unstopped gain ending none stop = let e = stop.1 in none (stop.0, cc)
+
+module _ (S : Solving) (Speaks : State → Report → Type 0) (Open : Type 0) (enough : SaysEnough S Speaks Open) (program : Program) where
+  step_alike : (a b : State) (x y : Outcome) → SameStanding a b → Step S program a x → Step attested program b y → All (Speaks a) (printed_by (gain_of x)) → All (Says b) (printed_by (gain_of y)) →
+      (IsOverflowStop y → ⊥) → AlikeOrStopped Open x y
+  step_alike _ _ x y (standing state left right setups) first second speaks says unstopped =
+      (verb_alike S Speaks Open enough first.statement.card state first.statement.verb left right setups).by x y first.gives moved speaks says unstopped
+    where
+      same : second.statement ≡ first.statement
+      same = same_Some second.statement first.statement (sym second.is_at_position ∙ first.is_at_position)
+
+      moved : Gives attested first.statement.card (verb_move first.statement.verb first.statement.card (counted (record state { setup = right }))) y
+      moved = subst (λ (s : Statement ℕ). Gives attested s.card (verb_move s.verb s.card (counted (record state { setup = right }))) y) same second.gives
+
+  pub record AreAlike (reports others : List Report) (state other : State) : Type 0 where
+    pub tell : TellSame reports others
+    pub stand : SameStanding state other
+
+  one_more : (reports others : List Report) (state other : State) (gain another : Gain) (after later : State) → AreAlike reports others state other → Alike (Goes gain after) (Goes another later) →
+      AreAlike (reports ++ printed_by gain) (others ++ printed_by another) after later
+  one_more reports others state other gain another after later before alike =
+      record { tell = tell_append reports others (printed_by gain) (printed_by another) before.tell alike.0; stand = alike.1 }
+
+  module _ (decks : List (List Card)) where
+    abbrev Came : List Report → List (List ℕ) → State → Type 0
+    Came reports cards state = Reaches S program decks reports cards state
+
+    abbrev Seen : List Report → List (List ℕ) → State → Type 0
+    Seen reports cards state = Reaches attested program decks reports cards state
+
+    abbrev count : {reports : List Report} {cards : List (List ℕ)} {state : State} → Came reports cards state → ℕ
+    count came = steps S Speaks program decks came
+
+    abbrev seen_count : {reports : List Report} {cards : List (List ℕ)} {state : State} → Seen reports cards state → ℕ
+    seen_count seen = steps attested Says program decks seen
+
+    -- after as many statements
+    same_so_far : (reports others : List Report) (cards other_cards : List (List ℕ)) (state other : State) (first : Came reports cards state) (second : Seen others other_cards other) →
+        HoldSoFar S Speaks program decks first → HoldSoFar attested Says program decks second → count first ≡ seen_count second → AreAlike reports others state other
+    same_so_far _ _ _ _ _ _ begun begun holds also e = record { tell = tt; stand = standing (start decks) None None no_setup }
+    same_so_far _ _ _ _ _ _ begun (stepped gain after before step) holds also e = absurd (omega arith)
+    same_so_far _ _ _ _ _ _ (stepped gain after before step) begun holds also e = absurd (omega arith)
+    same_so_far _ _ _ _ _ _ (stepped {reports} {cards} {state} gain after before step) (stepped {reports = others} {cards = other_cards} {state = other} another later earlier second) holds also e =
+        let so_far = same_so_far reports others cards other_cards state other before earlier holds.0 also.0 (omega (arith, e)) in
+        one_more reports others state other gain another after later so_far
+        (going Open gain another after later (step_alike state other (Goes gain after) (Goes another later) so_far.stand step second holds.1 also.1 (never_stops another later)))
+
+    record IsAhead (reports : List Report) (state : State) (others : List Report) : Type 0 where
+      front : List Report
+      later : List Report
+      are : others ≡ front ++ later
+      other : State
+      alike : AreAlike reports front state other
+      gain : Gain
+      after : State
+      step : Step attested program other (Goes gain after)
+      says : All (Says other) (printed_by gain)
+
+    ahead : (reports others : List Report) (cards other_cards : List (List ℕ)) (state other : State) (first : Came reports cards state) (second : Seen others other_cards other) →
+        HoldSoFar S Speaks program decks first → HoldSoFar attested Says program decks second → count first < seen_count second → IsAhead reports state others
+    ahead _ _ _ _ _ _ first begun holds also e = absurd (omega (arith, e))
+    ahead reports _ cards _ state _ first (stepped {reports = others} {cards = other_cards} {state = other} gain after before step) holds also e =
+        by (eq-or-lt_of_le {n = count first} {m = seen_count before} (omega (arith, e))) (ahead reports others cards other_cards state other first before holds also.0)
+      where
+        by : (count first ≡ seen_count before) ⊎ (count first < seen_count before) → (count first < seen_count before → IsAhead reports state others) → IsAhead reports state (others ++ printed_by gain)
+        by (inl as_many) earlier = record {
+          front = others;
+          later = printed_by gain;
+          are = refl;
+          other = other;
+          alike = same_so_far reports others cards other_cards state other first before holds also.0 as_many;
+          gain = gain;
+          after = after;
+          step = step;
+          says = also.1;
+        }
+        by (inr fewer) earlier =
+            let rest = earlier fewer in
+            record {
+              front = rest.front;
+              later = rest.later ++ printed_by gain;
+              are = ap (λ (xs : List Report). xs ++ printed_by gain) rest.are ∙ append_assoc rest.front rest.later (printed_by gain);
+              other = rest.other;
+              alike = rest.alike;
+              gain = rest.gain;
+              after = rest.after;
+              step = rest.step;
+              says = rest.says;
+            }
+
+    record IsBehind (others : List Report) (other : State) : Type 0 where
+      reports : List Report
+      state : State
+      alike : AreAlike reports others state other
+      gain : Gain
+      after : State
+      step : Step S program state (Goes gain after)
+      speaks : All (Speaks state) (printed_by gain)
+
+    behind : (reports others : List Report) (cards other_cards : List (List ℕ)) (state other : State) (first : Came reports cards state) (second : Seen others other_cards other) →
+        HoldSoFar S Speaks program decks first → HoldSoFar attested Says program decks second → seen_count second < count first → IsBehind others other
+    behind _ _ _ _ _ _ begun second holds also e = absurd (omega (arith, e))
+    behind _ others _ other_cards _ other (stepped {reports} {cards} {state} gain after before step) second holds also e =
+        by (eq-or-lt_of_le {n = seen_count second} {m = count before} (omega (arith, e))) (behind reports others cards other_cards state other before second holds.0 also)
+      where
+        by : (seen_count second ≡ count before) ⊎ (seen_count second < count before) → (seen_count second < count before → IsBehind others other) → IsBehind others other
+        by (inl as_many) earlier = record {
+          reports = reports;
+          state = state;
+          alike = same_so_far reports others cards other_cards state other before second holds.0 also (sym as_many);
+          gain = gain;
+          after = after;
+          step = step;
+          speaks = holds.1;
+        }
+        by (inr fewer) earlier = earlier fewer
+
+    -- ---- whole runs
+
+    pub record Breaks (reports others : List Report) (ending : Ending) : Type 0 where
+      pub cut : CutsOff Open ending
+      pub front : List Report
+      pub later : List Report
+      pub are : others ≡ front ++ later
+      pub tell : TellSame reports front
+
+    abbrev pub Story : List Report → List Report → Ending → Ending → Type 0
+    Story reports others ending other = IsOneStory reports others ending other ⊎ Breaks reports others ending
+
+    -- a run that is cut off reports nothing by its last statement
+    cut_here : (before others front later : List Report) (gain : Gain) (ending : Ending) → others ≡ front ++ later → TellSame before front → IsStopped Open (Ends gain ending) →
+        Breaks (before ++ printed_by gain) others ending
+    cut_here before others front later gain ending are tell stop =
+        let e = stop.2 in
+        let silent : gain ≡ Nothing = cc in
+        let same : stop.0 ≡ ending = cc in
+        record {
+          cut = subst (CutsOff Open) same stop.1;
+          front = front;
+          later = later;
+          are = are;
+          tell = subst (λ (xs : List Report). TellSame xs front) (sym (ap (λ (g : Gain). before ++ printed_by g) silent ∙ append-nil before)) tell;
+        }
+
+    both_end : (before earlier : List Report) (gain another : Gain) (ending other : Ending) → TellSame before earlier → AlikeOrStopped Open (Ends gain ending) (Ends another other) →
+        Story (before ++ printed_by gain) (earlier ++ printed_by another) ending other
+    both_end before earlier gain another ending other tell (inl alike) = inl (tell_append before earlier (printed_by gain) (printed_by another) tell alike.0, alike.1)
+    both_end before earlier gain another ending other tell (inr stop) = inr (cut_here before (earlier ++ printed_by another) earlier (printed_by another) gain ending refl tell stop)
+
+    two_lasts : (before earlier : List Report) (state another_state : State) (gain another : Gain) (ending other : Ending) → AreAlike before earlier state another_state → (IsOverflow other → ⊥) →
+        Last S Speaks program decks state gain ending → Last attested Says program decks another_state another other → Story (before ++ printed_by gain) (earlier ++ printed_by another) ending other
+    two_lasts before earlier a b _ _ ending other so_far none (over first) (over second) =
+        inl (tell_append before earlier [] [] so_far.tell tt, one_over S attested program a b ending other (same_position a b so_far.stand) (same_executed a b so_far.stand) first second)
+    two_lasts before earlier a b _ another ending other so_far none (over first) (ended second says) =
+        absurd (over_or_step S attested program a b ending (Ends another other) (same_position a b so_far.stand) (same_executed a b so_far.stand) first second)
+    two_lasts before earlier a b gain _ ending other so_far none (ended first speaks) (over second) =
+        absurd (over_or_step attested S program b a other (Ends gain ending) (sym (same_position a b so_far.stand)) (sym (same_executed a b so_far.stand)) second first)
+    two_lasts before earlier a b gain another ending other so_far none (ended first speaks) (ended second says) =
+        both_end before earlier gain another ending other so_far.tell (step_alike a b (Ends gain ending) (Ends another other) so_far.stand first second speaks says (ends_unstopped another other none))
+
+    -- the first run ends where the second one goes on
+    ends_early : (before others : List Report) (state : State) (gain : Gain) (ending : Ending) (rest : IsAhead before state others) → Last S Speaks program decks state gain ending → Breaks (before ++ printed_by gain) others ending
+    ends_early before others state _ ending rest (over first) =
+        absurd (over_or_step S attested program state rest.other ending (Goes rest.gain rest.after) (same_position state rest.other rest.alike.stand) (same_executed state rest.other rest.alike.stand) first rest.step)
+    ends_early before others state gain ending rest (ended first speaks) =
+        by (step_alike state rest.other (Ends gain ending) (Goes rest.gain rest.after) rest.alike.stand first rest.step speaks rest.says (never_stops rest.gain rest.after))
+      where
+        by : AlikeOrStopped Open (Ends gain ending) (Goes rest.gain rest.after) → Breaks (before ++ printed_by gain) others ending
+        by (inl alike) = absurd alike
+        by (inr stop) = cut_here before others rest.front rest.later gain ending rest.are rest.alike.tell stop
+
+    -- it doesn't go on where the second one ends
+    goes_late : (earlier : List Report) (other_state : State) (another : Gain) (other : Ending) (rest : IsBehind earlier other_state) → (IsOverflow other → ⊥) →
+        Last attested Says program decks other_state another other → ⊥
+    goes_late earlier b _ other rest none (over second) =
+        over_or_step attested S program b rest.state other (Goes rest.gain rest.after) (sym (same_position rest.state b rest.alike.stand)) (sym (same_executed rest.state b rest.alike.stand)) second rest.step
+    goes_late earlier b another other rest none (ended second says) =
+        by (step_alike rest.state b (Goes rest.gain rest.after) (Ends another other) rest.alike.stand rest.step second rest.speaks says (ends_unstopped another other none))
+      where
+        by : AlikeOrStopped Open (Goes rest.gain rest.after) (Ends another other) → ⊥
+        by (inl alike) = alike
+        by (inr stop) = let e = stop.2 in cc e
+
+    more_after : (reports before others : List Report) (ending : Ending) (more : List Report) → Breaks reports before ending → others ≡ before ++ more → Breaks reports others ending
+    more_after reports before others ending more breaks are = record {
+      cut = breaks.cut;
+      front = breaks.front;
+      later = breaks.later ++ more;
+      are = are ∙ ap (λ (xs : List Report). xs ++ more) breaks.are ∙ append_assoc breaks.front breaks.later more;
+      tell = breaks.tell;
+    }
+
+    two_wholes : (reports others : List Report) (ending other : Ending) (first : Whole S Speaks program decks reports ending) (second : Whole attested Says program decks others other) →
+        (IsOverflow other → ⊥) → Story (first.before ++ printed_by first.gain) (second.before ++ printed_by second.gain) ending other
+    two_wholes reports others ending other first second none = by (cases_lt m n)
+      where
+        m : ℕ
+        m = count first.came
+
+        n : ℕ
+        n = seen_count second.came
+
+        as_many : m ≡ n → Story (first.before ++ printed_by first.gain) (second.before ++ printed_by second.gain) ending other
+        as_many e =
+            two_lasts first.before second.before first.state second.state first.gain second.gain ending other
+            (same_so_far first.before second.before first.cards second.cards first.state second.state first.came second.came first.holds second.holds e) none first.last second.last
+
+        not_fewer : (n ≡ m) ⊎ (n < m) → Story (first.before ++ printed_by first.gain) (second.before ++ printed_by second.gain) ending other
+        not_fewer (inl e) = as_many (sym e)
+        not_fewer (inr fewer) =
+            absurd (goes_late second.before second.state second.gain other
+            (behind first.before second.before first.cards second.cards first.state second.state first.came second.came first.holds second.holds fewer) none second.last)
+
+        by : (m < n) ⊎ (n ≤ m) → Story (first.before ++ printed_by first.gain) (second.before ++ printed_by second.gain) ending other
+        by (inl fewer) =
+            inr (more_after (first.before ++ printed_by first.gain) second.before (second.before ++ printed_by second.gain) ending (printed_by second.gain)
+            (ends_early first.before second.before first.state first.gain ending
+            (ahead first.before second.before first.cards second.cards first.state second.state first.came second.came first.holds second.holds fewer) first.last) refl)
+        by (inr more) = not_fewer (eq-or-lt_of_le {n = n} {m = m} more)
+
+    pub two_runs : (reports others : List Report) (ending other : Ending) → Whole S Speaks program decks reports ending → Whole attested Says program decks others other → (IsOverflow other → ⊥) →
+        Story reports others ending other
+    two_runs reports others ending other first second none =
+        subst (λ (xs : List Report). Story xs others ending other) (sym first.are)
+        (subst (λ (xs : List Report). Story (first.before ++ printed_by first.gain) xs ending other) (sym second.are) (two_wholes reports others ending other first second none))
