@@ -6,3 +6,4 @@ mod Alike
 mod Questions
 mod Verbs
 mod Runs
+mod Attested

@@ -102,6 +102,17 @@ module _ (T : Solving) (Tells : State → Report → Type 0) (program : Program)
 
 -- ---- two runs
 
+-- the first run is cut off, and tells the same as far as it goes
+pub record Breaks (Open : Type 0) (reports others : List Report) (ending : Ending) : Type 0 where
+  pub cut : CutsOff Open ending
+  pub front : List Report
+  pub later : List Report
+  pub are : others ≡ front ++ later
+  pub tell : TellSame reports front
+
+abbrev pub Story : Type 0 → List Report → List Report → Ending → Ending → Type 0
+Story Open reports others ending other = IsOneStory reports others ending other ⊎ Breaks Open reports others ending
+
 going : (Open : Type 0) (gain other : Gain) (after later : State) → AlikeOrStopped Open (Goes gain after) (Goes other later) → Alike (Goes gain after) (Goes other later)
 going Open gain other after later (inl alike) = alike
 going Open gain other after later (inr stop) = let e = stop.2 in absurd (cc e)
@@ -229,19 +240,9 @@ module _ (S : Solving) (Speaks : State → Report → Type 0) (Open : Type 0) (e
 
     -- ---- whole runs
 
-    pub record Breaks (reports others : List Report) (ending : Ending) : Type 0 where
-      pub cut : CutsOff Open ending
-      pub front : List Report
-      pub later : List Report
-      pub are : others ≡ front ++ later
-      pub tell : TellSame reports front
-
-    abbrev pub Story : List Report → List Report → Ending → Ending → Type 0
-    Story reports others ending other = IsOneStory reports others ending other ⊎ Breaks reports others ending
-
     -- a run that is cut off reports nothing by its last statement
     cut_here : (before others front later : List Report) (gain : Gain) (ending : Ending) → others ≡ front ++ later → TellSame before front → IsStopped Open (Ends gain ending) →
-        Breaks (before ++ printed_by gain) others ending
+        Breaks Open (before ++ printed_by gain) others ending
     cut_here before others front later gain ending are tell stop =
         let e = stop.2 in
         let silent : gain ≡ Nothing = cc in
@@ -255,12 +256,12 @@ module _ (S : Solving) (Speaks : State → Report → Type 0) (Open : Type 0) (e
         }
 
     both_end : (before earlier : List Report) (gain another : Gain) (ending other : Ending) → TellSame before earlier → AlikeOrStopped Open (Ends gain ending) (Ends another other) →
-        Story (before ++ printed_by gain) (earlier ++ printed_by another) ending other
+        Story Open (before ++ printed_by gain) (earlier ++ printed_by another) ending other
     both_end before earlier gain another ending other tell (inl alike) = inl (tell_append before earlier (printed_by gain) (printed_by another) tell alike.0, alike.1)
     both_end before earlier gain another ending other tell (inr stop) = inr (cut_here before (earlier ++ printed_by another) earlier (printed_by another) gain ending refl tell stop)
 
     two_lasts : (before earlier : List Report) (state another_state : State) (gain another : Gain) (ending other : Ending) → AreAlike before earlier state another_state → (IsOverflow other → ⊥) →
-        Last S Speaks program decks state gain ending → Last attested Says program decks another_state another other → Story (before ++ printed_by gain) (earlier ++ printed_by another) ending other
+        Last S Speaks program decks state gain ending → Last attested Says program decks another_state another other → Story Open (before ++ printed_by gain) (earlier ++ printed_by another) ending other
     two_lasts before earlier a b _ _ ending other so_far none (over first) (over second) =
         inl (tell_append before earlier [] [] so_far.tell tt, one_over S attested program a b ending other (same_position a b so_far.stand) (same_executed a b so_far.stand) first second)
     two_lasts before earlier a b _ another ending other so_far none (over first) (ended second says) =
@@ -271,13 +272,13 @@ module _ (S : Solving) (Speaks : State → Report → Type 0) (Open : Type 0) (e
         both_end before earlier gain another ending other so_far.tell (step_alike a b (Ends gain ending) (Ends another other) so_far.stand first second speaks says (ends_unstopped another other none))
 
     -- the first run ends where the second one goes on
-    ends_early : (before others : List Report) (state : State) (gain : Gain) (ending : Ending) (rest : IsAhead before state others) → Last S Speaks program decks state gain ending → Breaks (before ++ printed_by gain) others ending
+    ends_early : (before others : List Report) (state : State) (gain : Gain) (ending : Ending) (rest : IsAhead before state others) → Last S Speaks program decks state gain ending → Breaks Open (before ++ printed_by gain) others ending
     ends_early before others state _ ending rest (over first) =
         absurd (over_or_step S attested program state rest.other ending (Goes rest.gain rest.after) (same_position state rest.other rest.alike.stand) (same_executed state rest.other rest.alike.stand) first rest.step)
     ends_early before others state gain ending rest (ended first speaks) =
         by (step_alike state rest.other (Ends gain ending) (Goes rest.gain rest.after) rest.alike.stand first rest.step speaks rest.says (never_stops rest.gain rest.after))
       where
-        by : AlikeOrStopped Open (Ends gain ending) (Goes rest.gain rest.after) → Breaks (before ++ printed_by gain) others ending
+        by : AlikeOrStopped Open (Ends gain ending) (Goes rest.gain rest.after) → Breaks Open (before ++ printed_by gain) others ending
         by (inl alike) = absurd alike
         by (inr stop) = cut_here before others rest.front rest.later gain ending rest.are rest.alike.tell stop
 
@@ -293,7 +294,7 @@ module _ (S : Solving) (Speaks : State → Report → Type 0) (Open : Type 0) (e
         by (inl alike) = alike
         by (inr stop) = let e = stop.2 in cc e
 
-    more_after : (reports before others : List Report) (ending : Ending) (more : List Report) → Breaks reports before ending → others ≡ before ++ more → Breaks reports others ending
+    more_after : (reports before others : List Report) (ending : Ending) (more : List Report) → Breaks Open reports before ending → others ≡ before ++ more → Breaks Open reports others ending
     more_after reports before others ending more breaks are = record {
       cut = breaks.cut;
       front = breaks.front;
@@ -303,7 +304,7 @@ module _ (S : Solving) (Speaks : State → Report → Type 0) (Open : Type 0) (e
     }
 
     two_wholes : (reports others : List Report) (ending other : Ending) (first : Whole S Speaks program decks reports ending) (second : Whole attested Says program decks others other) →
-        (IsOverflow other → ⊥) → Story (first.before ++ printed_by first.gain) (second.before ++ printed_by second.gain) ending other
+        (IsOverflow other → ⊥) → Story Open (first.before ++ printed_by first.gain) (second.before ++ printed_by second.gain) ending other
     two_wholes reports others ending other first second none = by (cases_lt m n)
       where
         m : ℕ
@@ -312,18 +313,18 @@ module _ (S : Solving) (Speaks : State → Report → Type 0) (Open : Type 0) (e
         n : ℕ
         n = seen_count second.came
 
-        as_many : m ≡ n → Story (first.before ++ printed_by first.gain) (second.before ++ printed_by second.gain) ending other
+        as_many : m ≡ n → Story Open (first.before ++ printed_by first.gain) (second.before ++ printed_by second.gain) ending other
         as_many e =
             two_lasts first.before second.before first.state second.state first.gain second.gain ending other
             (same_so_far first.before second.before first.cards second.cards first.state second.state first.came second.came first.holds second.holds e) none first.last second.last
 
-        not_fewer : (n ≡ m) ⊎ (n < m) → Story (first.before ++ printed_by first.gain) (second.before ++ printed_by second.gain) ending other
+        not_fewer : (n ≡ m) ⊎ (n < m) → Story Open (first.before ++ printed_by first.gain) (second.before ++ printed_by second.gain) ending other
         not_fewer (inl e) = as_many (sym e)
         not_fewer (inr fewer) =
             absurd (goes_late second.before second.state second.gain other
             (behind first.before second.before first.cards second.cards first.state second.state first.came second.came first.holds second.holds fewer) none second.last)
 
-        by : (m < n) ⊎ (n ≤ m) → Story (first.before ++ printed_by first.gain) (second.before ++ printed_by second.gain) ending other
+        by : (m < n) ⊎ (n ≤ m) → Story Open (first.before ++ printed_by first.gain) (second.before ++ printed_by second.gain) ending other
         by (inl fewer) =
             inr (more_after (first.before ++ printed_by first.gain) second.before (second.before ++ printed_by second.gain) ending (printed_by second.gain)
             (ends_early first.before second.before first.state first.gain ending
@@ -331,7 +332,7 @@ module _ (S : Solving) (Speaks : State → Report → Type 0) (Open : Type 0) (e
         by (inr more) = not_fewer (eq-or-lt_of_le {n = n} {m = m} more)
 
     pub two_runs : (reports others : List Report) (ending other : Ending) → Whole S Speaks program decks reports ending → Whole attested Says program decks others other → (IsOverflow other → ⊥) →
-        Story reports others ending other
+        Story Open reports others ending other
     two_runs reports others ending other first second none =
-        subst (λ (xs : List Report). Story xs others ending other) (sym first.are)
-        (subst (λ (xs : List Report). Story (first.before ++ printed_by first.gain) xs ending other) (sym second.are) (two_wholes reports others ending other first second none))
+        subst (λ (xs : List Report). Story Open xs others ending other) (sym first.are)
+        (subst (λ (xs : List Report). Story Open (first.before ++ printed_by first.gain) xs ending other) (sym second.are) (two_wholes reports others ending other first second none))
