@@ -7,3 +7,4 @@ mod Questions
 mod Verbs
 mod Runs
 mod Attested
+mod Stories

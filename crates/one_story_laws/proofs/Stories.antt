@@ -1,0 +1,110 @@
+-- Two listings of one job that are told tell one story, and so does the run of the job.
+use Rattle.std.proofs.Common.{◌≡◌, ◌⊎◌, inl, inr, ℕ, suc, List, [], ◌∷◌, length, refl, sym, ap, subst, ◌∙◌}
+use Rattle.card_definitions.specs.Cards.{Card}
+use Rattle.control_definitions.specs.Program.{Program}
+use Rattle.listing_definitions.specs.Report.{Report}
+use Rattle.listing_definitions.specs.Ending.{Ending, Ended, WordsRefused, ControlStop, VerbStop, SingularStop, PriceStop, DeckStop, CardStop, LimitStop, StatementLimit, OverflowStop, ReadFault, PrintFault, PunchFault, Memory}
+use Rattle.question_definitions.specs.Solving.{Solving}
+use Rattle.answer_definitions.specs.Real.{linear_programming}
+use Rattle.run_definitions.specs.State.{State}
+use Rattle.run_definitions.specs.Run.{IsRun}
+use Rattle.run_definitions.specs.Answer.{job_decks, IsProgramOf, IsJobRun, card_fault, control_fault, run}
+use Rattle.run_laws.specs.Truth.{Holds, HoldsAtEnd}
+use Rattle.run_laws.specs.Headline.{HoldInRun, HoldInJob}
+use Rattle.run_laws.specs.Laws.{RunLaws}
+use Rattle.run_functions.specs.Laws.{IsOverflow}
+use Rattle.walk_definitions.specs.Walker.{Attested}
+use Rattle.walk_definitions.specs.Found.{Comes}
+use Rattle.reading_laws.specs.Laws.{ReadingLaw}
+use Rattle.judged_laws.specs.Laws.{JudgedLaws}
+use Rattle.walk_laws.specs.Proved.{attested, Says, SaysAtEnd}
+use Rattle.one_story_laws.specs.Story.{TellSame, IsOneStory, IsCutEnding, IsBrokenOff}
+use Rattle.one_story_laws.specs.Laws.{IsTold, OneStoryLaws}
+use Rattle.one_story_laws.proofs.Told.{SaysEnough, attested_says, real_says}
+use Rattle.one_story_laws.proofs.Alike.{CutsOff}
+use Rattle.one_story_laws.proofs.Runs.{Whole, whole_of, Breaks, Story, two_runs}
+use Rattle.one_story_laws.proofs.Attested.{attested_told}
+
+-- ---- how a run is cut off
+
+of_cut : (Open : Type 0) (ending : Ending) → CutsOff Open ending → IsCutEnding ending × ((Open → ⊥) → IsOverflow ending)
+of_cut Open (LimitStop reached) cut = (tt, λ closed. absurd (closed cut))
+of_cut Open (PriceStop price) cut = (tt, λ closed. absurd (closed cut))
+of_cut Open (OverflowStop overflow) cut = (tt, λ closed. (overflow, refl))
+of_cut Open (Ended code) cut = absurd cut
+of_cut Open WordsRefused cut = absurd cut
+of_cut Open (ControlStop fault) cut = absurd cut
+of_cut Open (VerbStop fault) cut = absurd cut
+of_cut Open (SingularStop basis) cut = absurd cut
+of_cut Open (DeckStop fault) cut = absurd cut
+of_cut Open (CardStop fault) cut = absurd cut
+of_cut Open StatementLimit cut = absurd cut
+of_cut Open ReadFault cut = absurd cut
+of_cut Open PrintFault cut = absurd cut
+of_cut Open PunchFault cut = absurd cut
+of_cut Open Memory cut = absurd cut
+
+-- ---- two runs of one job
+
+one_program : (bytes : List ℕ) (program other : Program) → IsProgramOf bytes program → IsProgramOf bytes other → other ≡ program
+one_program bytes program other first second = let e = sym second.is_compiled ∙ first.is_compiled in cc
+
+module _ (S : Solving) (Speaks : State → Report → Type 0) (AtEnd : State → Ending → Type 0) (Open : Type 0) (enough : SaysEnough S Speaks Open) (bytes : List ℕ) where
+  same_program : (program other : Program) (reports others : List Report) (cards other_cards : List (List ℕ)) (ending another : Ending) → IsProgramOf bytes program → IsProgramOf bytes other →
+      (first : IsRun S program (job_decks program bytes) reports cards ending) (second : IsRun attested other (job_decks other bytes) others other_cards another) →
+      HoldInRun S Speaks AtEnd program (job_decks program bytes) first → HoldInRun attested Says SaysAtEnd other (job_decks other bytes) second → (IsOverflow another → ⊥) → Story Open reports others ending another
+  same_program program other reports others cards other_cards ending another is also first second holds says none =
+      two_runs S Speaks Open enough program (job_decks program bytes) reports others ending another (whole_of S Speaks program (job_decks program bytes) AtEnd reports cards ending first holds)
+      (subst (λ (x : Program). Whole attested Says x (job_decks x bytes) others another) (one_program bytes program other is also)
+      (whole_of attested Says other (job_decks other bytes) SaysAtEnd others other_cards another second says)) none
+
+  two_jobs : (reports others : List Report) (cards other_cards : List (List ℕ)) (ending other : Ending) (first : IsJobRun S bytes reports cards ending) (second : IsJobRun attested bytes others other_cards other) →
+      HoldInJob S Speaks AtEnd first → HoldInJob attested Says SaysAtEnd second → (IsOverflow other → ⊥) → Story Open reports others ending other
+  two_jobs _ _ _ _ _ _ (card_fault fault is) (card_fault other also) holds says none = let e = sym is ∙ also in inl (tt, cc)
+  two_jobs _ _ _ _ _ _ (card_fault fault is) (control_fault other fine also) holds says none = let e = sym is ∙ fine in absurd (cc e)
+  two_jobs _ _ _ _ _ _ (card_fault fault is) (run program fine runs) holds says none = let e = sym is ∙ fine.is_read in absurd (cc e)
+  two_jobs _ _ _ _ _ _ (control_fault fault fine is) (card_fault other also) holds says none = let e = sym also ∙ fine in absurd (cc e)
+  two_jobs _ _ _ _ _ _ (control_fault fault fine is) (control_fault other again also) holds says none = let e = sym is ∙ also in inl (tt, cc)
+  two_jobs _ _ _ _ _ _ (control_fault fault fine is) (run program again runs) holds says none = let e = sym is ∙ again.is_compiled in absurd (cc e)
+  two_jobs _ _ _ _ _ _ (run program fine runs) (card_fault other also) holds says none = let e = sym also ∙ fine.is_read in absurd (cc e)
+  two_jobs _ _ _ _ _ _ (run program fine runs) (control_fault other again also) holds says none = let e = sym also ∙ fine.is_compiled in absurd (cc e)
+  two_jobs reports others cards other_cards ending other (run program fine runs) (run another again second) holds says none =
+      same_program program another reports others cards other_cards ending other fine again runs second holds says none
+
+-- ---- an attested listing beside another, and beside the run
+
+two_listings : (bytes lines others : List ℕ) (n m : ℕ) (one : IsTold bytes lines n) (two : IsTold bytes others m) → IsOneStory one.proved.reports two.proved.reports one.proved.ending two.proved.ending
+two_listings bytes lines others n m one two =
+    by (two_jobs attested Says SaysAtEnd ⊥ attested_says bytes one.proved.reports two.proved.reports one.proved.cards two.proved.cards one.proved.ending two.proved.ending one.proved.runs two.proved.runs
+    one.proved.each two.proved.each two.unstopped)
+  where
+    by : Story ⊥ one.proved.reports two.proved.reports one.proved.ending two.proved.ending → IsOneStory one.proved.reports two.proved.reports one.proved.ending two.proved.ending
+    by (inl story) = story
+    by (inr breaks) = absurd (one.unstopped ((of_cut ⊥ one.proved.ending breaks.cut).1 (λ (none : ⊥). none)))
+
+beside_run : RunLaws → (bytes lines : List ℕ) (count : ℕ) (two : IsTold bytes lines count) (reports : List Report) (cards : List (List ℕ)) (ending : Ending) → IsJobRun linear_programming bytes reports cards ending →
+    IsOneStory reports two.proved.reports ending two.proved.ending ⊎ IsBrokenOff reports two.proved.reports ending
+beside_run laws bytes lines count two reports cards ending runs =
+    by (two_jobs linear_programming Holds HoldsAtEnd (Unit {0}) real_says bytes reports two.proved.reports cards two.proved.cards ending two.proved.ending runs two.proved.runs
+    (laws.truth.job bytes reports cards ending runs) two.proved.each two.unstopped)
+  where
+    by : Story (Unit {0}) reports two.proved.reports ending two.proved.ending → IsOneStory reports two.proved.reports ending two.proved.ending ⊎ IsBrokenOff reports two.proved.reports ending
+    by (inl story) = inl story
+    by (inr breaks) = inr (record { is_cut = (of_cut (Unit {0}) ending breaks.cut).0; first = breaks.front; later = breaks.later; are = breaks.are; tell = breaks.tell })
+
+tell_as_many : (reports others : List Report) → TellSame reports others → length reports ≡ length others
+tell_as_many [] [] tell = refl
+tell_as_many (report ∷ reports) (other ∷ others) tell = ap suc (tell_as_many reports others tell.1)
+tell_as_many [] (other ∷ others) tell = absurd tell
+tell_as_many (report ∷ reports) [] tell = absurd tell
+
+pub stories : ReadingLaw → JudgedLaws → RunLaws → OneStoryLaws
+stories reading truth laws = record {
+  told = attested_told reading truth;
+  one_story = two_listings;
+  as_many = λ bytes lines others n m first second.
+      let one = attested_told reading truth bytes lines n first in
+      let two = attested_told reading truth bytes others m second in
+      sym one.has_count ∙ tell_as_many one.proved.reports two.proved.reports (two_listings bytes lines others n m one two).0 ∙ two.has_count;
+  run = beside_run laws;
+}
