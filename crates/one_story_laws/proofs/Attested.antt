@@ -33,7 +33,7 @@ use Rattle.judged_laws.specs.Laws.{JudgedLaws}
 use Rattle.walk_laws.specs.Proved.{attested, Says, IsTrueListing}
 use Rattle.walk_laws.proofs.Turns.{On, NeverAttests, never_either, never_if, never_pending, never_stop, never_outcome, on_closes}
 use Rattle.walk_laws.proofs.Whole.{StepsTo, Finishes, over, by_statement, turned, IsWalked, is_walked}
-use Rattle.one_story_laws.specs.Laws.{IsTold}
+use Rattle.one_story_laws.specs.Laws.{IsProvedListing}
 
 -- ---- where a selection isn't refused, no evidence holds
 
@@ -140,7 +140,7 @@ module _ (reading : ReadingLaw) (truth : JudgedLaws) (bytes lines : List ℕ) (p
   more_counted : (reports more : List Report) (n m : ℕ) → n ≡ length reports → m ≡ n + length more → m ≡ length (reports ++ more)
   more_counted reports more n m counted next = next ∙ ap (λ (k : ℕ). k + length more) counted ∙ sym (length-append reports more)
 
-  finished : (w : Walker) (count : ℕ) (is : Walked w) → turn program w ≡ Finds (Attested count) → Finishes program (HoldSoFar attested Says program decks is.reaches) w count → IsTold bytes lines count
+  finished : (w : Walker) (count : ℕ) (is : Walked w) → turn program w ≡ Finds (Attested count) → Finishes program (HoldSoFar attested Says program decks is.reaches) w count → IsProvedListing bytes lines count
   finished w count is e (over ending ends text counted holds) = record {
     proved = record {
       reports = is.reports;
@@ -166,7 +166,7 @@ module _ (reading : ReadingLaw) (truth : JudgedLaws) (bytes lines : List ℕ) (p
     unstopped = ends_unstopped program w count gain ending step e;
   }
 
-  walk_told : (w : Walker) (count : ℕ) → IsCome program decks lines w → turn program w ≡ Finds (Attested count) → IsTold bytes lines count
+  walk_told : (w : Walker) (count : ℕ) → IsCome program decks lines w → turn program w ≡ Finds (Attested count) → IsProvedListing bytes lines count
   walk_told w count come e =
       let is : Walked w = is_walked reading truth bytes lines program is_program w come in
       let Holds : Type 0 = HoldSoFar attested Says program decks is.reaches in
@@ -179,7 +179,7 @@ end_alone lines ending count e =
     let EndedSo : ℕ → Type 0 = λ n. (lines ≡ ending_text ending) × (n ≡ 0) in
     subst (On (λ v. Unit {0}) EndedSo) e (on_closes (λ v. Unit {0}) EndedSo (first_walker [] lines) ending (λ settled text. (text, refl)))
 
-pub attested_told : ReadingLaw → JudgedLaws → (bytes lines : List ℕ) (count : ℕ) → Comes bytes lines (Attested count) → IsTold bytes lines count
+pub attested_told : ReadingLaw → JudgedLaws → (bytes lines : List ℕ) (count : ℕ) → Comes bytes lines (Attested count) → IsProvedListing bytes lines count
 attested_told reading truth bytes lines count (of_cards fault is e) =
     let alone = end_alone lines (CardStop fault) count e in
     record {

@@ -6,5 +6,6 @@ mod Alike
 mod Questions
 mod Verbs
 mod Runs
+mod NoBasis
 mod Attested
 mod Stories

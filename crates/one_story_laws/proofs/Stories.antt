@@ -1,8 +1,9 @@
 -- Two listings of one job that are told tell one story, and so does the run of the job.
-use Rattle.std.proofs.Common.{◌≡◌, ◌⊎◌, inl, inr, ℕ, suc, List, [], ◌∷◌, length, refl, sym, ap, subst, ◌∙◌}
-use Rattle.card_definitions.specs.Cards.{Card}
+use Rattle.std.proofs.Common.{◌≡◌, ◌⊎◌, inl, inr, ℕ, suc, List, [], ◌∷◌, ◌++◌, length, refl, sym, ap, subst, ◌∙◌}
+use Rattle.std.specs.Prelude.{All}
+use Rattle.std.proofs.lemmas.List.Elements.{All-nil, All-cons, All-head, All-tail}
 use Rattle.control_definitions.specs.Program.{Program}
-use Rattle.listing_definitions.specs.Report.{Report}
+use Rattle.listing_definitions.specs.Report.{Report, Titled, Converted, Revised, SetUp, BcdOut, BasisOut, Inserted, Solved, Solution, Ranges, Parametric}
 use Rattle.listing_definitions.specs.Ending.{Ending, Ended, WordsRefused, ControlStop, VerbStop, SingularStop, PriceStop, DeckStop, CardStop, LimitStop, StatementLimit, OverflowStop, ReadFault, PrintFault, PunchFault, Memory}
 use Rattle.question_definitions.specs.Solving.{Solving}
 use Rattle.answer_definitions.specs.Real.{linear_programming}
@@ -17,12 +18,13 @@ use Rattle.walk_definitions.specs.Walker.{Attested}
 use Rattle.walk_definitions.specs.Found.{Comes}
 use Rattle.reading_laws.specs.Laws.{ReadingLaw}
 use Rattle.judged_laws.specs.Laws.{JudgedLaws}
-use Rattle.walk_laws.specs.Proved.{attested, Says, SaysAtEnd}
-use Rattle.one_story_laws.specs.Story.{TellSame, IsOneStory, IsCutEnding, IsBrokenOff}
-use Rattle.one_story_laws.specs.Laws.{IsTold, OneStoryLaws}
+use Rattle.walk_laws.specs.Proved.{attested, Says, SaysAtEnd, IsTrueListing}
+use Rattle.one_story_laws.specs.Story.{TellsSame, TellSame, IsOfNoBasis, IsOneStory, IsCutEnding, IsBrokenOff}
+use Rattle.one_story_laws.specs.Laws.{IsProvedListing, OneStoryLaws}
 use Rattle.one_story_laws.proofs.Told.{SaysEnough, attested_says, real_says}
 use Rattle.one_story_laws.proofs.Alike.{CutsOff}
 use Rattle.one_story_laws.proofs.Runs.{Whole, whole_of, Breaks, Story, two_runs}
+use Rattle.one_story_laws.proofs.NoBasis.{job_of_no_basis}
 use Rattle.one_story_laws.proofs.Attested.{attested_told}
 
 -- ---- how a run is cut off
@@ -73,7 +75,7 @@ module _ (S : Solving) (Speaks : State → Report → Type 0) (AtEnd : State →
 
 -- ---- an attested listing beside another, and beside the run
 
-two_listings : (bytes lines others : List ℕ) (n m : ℕ) (one : IsTold bytes lines n) (two : IsTold bytes others m) → IsOneStory one.proved.reports two.proved.reports one.proved.ending two.proved.ending
+two_listings : (bytes lines others : List ℕ) (n m : ℕ) (one : IsProvedListing bytes lines n) (two : IsProvedListing bytes others m) → IsOneStory one.proved.reports two.proved.reports one.proved.ending two.proved.ending
 two_listings bytes lines others n m one two =
     by (two_jobs attested Says SaysAtEnd ⊥ attested_says bytes one.proved.reports two.proved.reports one.proved.cards two.proved.cards one.proved.ending two.proved.ending one.proved.runs two.proved.runs
     one.proved.each two.proved.each two.unstopped)
@@ -82,7 +84,7 @@ two_listings bytes lines others n m one two =
     by (inl story) = story
     by (inr breaks) = absurd (one.unstopped ((of_cut ⊥ one.proved.ending breaks.cut).1 (λ (none : ⊥). none)))
 
-beside_run : RunLaws → (bytes lines : List ℕ) (count : ℕ) (two : IsTold bytes lines count) (reports : List Report) (cards : List (List ℕ)) (ending : Ending) → IsJobRun linear_programming bytes reports cards ending →
+beside_run : RunLaws → (bytes lines : List ℕ) (count : ℕ) (two : IsProvedListing bytes lines count) (reports : List Report) (cards : List (List ℕ)) (ending : Ending) → IsJobRun linear_programming bytes reports cards ending →
     IsOneStory reports two.proved.reports ending two.proved.ending ⊎ IsBrokenOff reports two.proved.reports ending
 beside_run laws bytes lines count two reports cards ending runs =
     by (two_jobs linear_programming Holds HoldsAtEnd (Unit {0}) real_says bytes reports two.proved.reports cards two.proved.cards ending two.proved.ending runs two.proved.runs
@@ -92,6 +94,45 @@ beside_run laws bytes lines count two reports cards ending runs =
     by (inl story) = inl story
     by (inr breaks) = inr (record { is_cut = (of_cut (Unit {0}) ending breaks.cut).0; first = breaks.front; later = breaks.later; are = breaks.are; tell = breaks.tell })
 
+-- ---- no bases
+
+all_front : (P : Report → Type 0) (first later : List Report) → All P (first ++ later) → All P first
+all_front P [] later all = All-nil P
+all_front P (report ∷ first) later all = All-cons P report first (All-head P report (first ++ later) all) (all_front P first later (All-tail P report (first ++ later) all))
+
+of_no_basis : (report other : Report) → TellsSame report other → IsOfNoBasis other → IsOfNoBasis report
+of_no_basis (Ranges lines) other same none = subst IsOfNoBasis (sym same) none
+of_no_basis (BasisOut name count) other same none = subst IsOfNoBasis (sym same) none
+of_no_basis (Inserted name count) other same none = subst IsOfNoBasis (sym same) none
+of_no_basis (Titled text) other same none = tt
+of_no_basis (Converted filed) other same none = tt
+of_no_basis (Revised filed) other same none = tt
+of_no_basis (SetUp name sense) other same none = tt
+of_no_basis (BcdOut name count) other same none = tt
+of_no_basis (Solved solver verdict check) other same none = tt
+of_no_basis (Solution mark lines) other same none = tt
+of_no_basis (Parametric solver chain) other same none = tt
+
+each_of_no_basis : (reports others : List Report) → TellSame reports others → All IsOfNoBasis others → All IsOfNoBasis reports
+each_of_no_basis [] others tell none = All-nil IsOfNoBasis
+each_of_no_basis (report ∷ reports) (other ∷ others) tell none =
+    All-cons IsOfNoBasis report reports (of_no_basis report other tell.0 (All-head IsOfNoBasis other others none)) (each_of_no_basis reports others tell.1 (All-tail IsOfNoBasis other others none))
+each_of_no_basis (report ∷ reports) [] tell none = absurd tell
+
+listing_of_no_basis : (bytes lines : List ℕ) (one : IsTrueListing bytes lines) → All IsOfNoBasis one.reports
+listing_of_no_basis bytes lines one = job_of_no_basis bytes one.reports one.cards one.ending one.runs
+
+run_of_no_basis : RunLaws → (bytes lines : List ℕ) (count : ℕ) → IsProvedListing bytes lines count → (reports : List Report) (cards : List (List ℕ)) (ending : Ending) →
+    IsJobRun linear_programming bytes reports cards ending → All IsOfNoBasis reports
+run_of_no_basis laws bytes lines count one reports cards ending runs = by (beside_run laws bytes lines count one reports cards ending runs)
+  where
+    none : All IsOfNoBasis one.proved.reports
+    none = listing_of_no_basis bytes lines one.proved
+
+    by : IsOneStory reports one.proved.reports ending one.proved.ending ⊎ IsBrokenOff reports one.proved.reports ending → All IsOfNoBasis reports
+    by (inl story) = each_of_no_basis reports one.proved.reports story.0 none
+    by (inr breaks) = each_of_no_basis reports breaks.first breaks.tell (all_front IsOfNoBasis breaks.first breaks.later (subst (All IsOfNoBasis) breaks.are none))
+
 tell_as_many : (reports others : List Report) → TellSame reports others → length reports ≡ length others
 tell_as_many [] [] tell = refl
 tell_as_many (report ∷ reports) (other ∷ others) tell = ap suc (tell_as_many reports others tell.1)
@@ -100,11 +141,13 @@ tell_as_many (report ∷ reports) [] tell = absurd tell
 
 pub stories : ReadingLaw → JudgedLaws → RunLaws → OneStoryLaws
 stories reading truth laws = record {
-  told = attested_told reading truth;
+  attested = attested_told reading truth;
   one_story = two_listings;
   as_many = λ bytes lines others n m first second.
       let one = attested_told reading truth bytes lines n first in
       let two = attested_told reading truth bytes others m second in
       sym one.has_count ∙ tell_as_many one.proved.reports two.proved.reports (two_listings bytes lines others n m one two).0 ∙ two.has_count;
   run = beside_run laws;
+  no_basis = listing_of_no_basis;
+  no_basis_in_run = run_of_no_basis laws;
 }

@@ -4,10 +4,11 @@
 --     TellsSame report other       two reports tell the same
 --     TellSame reports others      so do those of two lists, one by one
 --     IsOneStory ..                two runs tell the same, and end alike
+--     IsOfNoBasis report           it isn't of RANGE, PUNCH or INSERT
 --     IsCutEnding ending           a run was cut off: by the limit on steps, by a price that is wrong for DUAL, or by an overflow
 --     IsBrokenOff ..               a run was cut off, and tells the same as the other as far as it goes
 use Rattle.std.specs.Prelude.{◌≡◌, List, [], ◌∷◌, ◌++◌}
-use Rattle.listing_definitions.specs.Report.{PathVerdict, OptimalAt, ChainEnd, EndsAt, UnboundedPast, InfeasiblePast, Report, Solved, Solution, Parametric}
+use Rattle.listing_definitions.specs.Report.{PathVerdict, OptimalAt, ChainEnd, EndsAt, UnboundedPast, InfeasiblePast, Report, BasisOut, Inserted, Solved, Solution, Ranges, Parametric}
 use Rattle.listing_definitions.specs.Ending.{Ending, PriceStop, LimitStop, OverflowStop}
 use Rattle.run_definitions.specs.Verbs.{mark_of}
 
@@ -42,6 +43,13 @@ TellSame reports others = ⊥
 
 abbrev pub IsOneStory : List Report → List Report → Ending → Ending → Type 0
 IsOneStory reports others ending other = TellSame reports others × (ending ≡ other)
+
+-- what RANGE, PUNCH and INSERT report is known by a basis alone, which no listing shows
+abbrev pub IsOfNoBasis : Report → Type 0
+IsOfNoBasis (Ranges lines) = ⊥
+IsOfNoBasis (BasisOut name count) = ⊥
+IsOfNoBasis (Inserted name count) = ⊥
+IsOfNoBasis report = Unit {0}
 
 abbrev pub IsCutEnding : Ending → Type 0
 IsCutEnding (LimitStop reached) = Unit {0}
