@@ -5,6 +5,7 @@ mod Told
 mod Alike
 mod Questions
 mod Verbs
+mod Shows
 mod Runs
 mod NoBasis
 mod Attested

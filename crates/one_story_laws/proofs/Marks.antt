@@ -48,12 +48,11 @@ same_value : (sense : Sense) (x y : ℚ) → for_min sense x ≤ℚ for_min sens
 same_value Min x y below above = le_antisymm below above
 same_value Max x y below above = by_ring1 x (λ x. x ≐ opposite (opposite x)) refl ∙ ap neg_ℚ (le_antisymm below above) ∙ by_ring1 y (λ y. opposite (opposite y) ≐ y) refl
 
+pub best_objective : (p : LinearProgram) (z w : Vector) → IsBest p z → IsBest p w → objective_value p z ≡ objective_value p w
+best_objective p z w first second = same_value p.sense (objective_value p z) (objective_value p w) (first.unbettered w second.feasible) (second.unbettered z first.feasible)
+
 one_objective : (p : LinearProgram) (x y : ℚ) → IsBestObjective p x → IsBestObjective p y → x ≡ y
-one_objective p x y first second =
-    first.is_objective
-    ∙ same_value p.sense (objective_value p (value_at first.point)) (objective_value p (value_at second.point))
-    (first.best.unbettered (value_at second.point) second.best.feasible) (second.best.unbettered (value_at first.point) first.best.feasible)
-    ∙ sym second.is_objective
+one_objective p x y first second = first.is_objective ∙ best_objective p (value_at first.point) (value_at second.point) first.best second.best ∙ sym second.is_objective
 
 -- ---- verdicts
 

@@ -34,7 +34,7 @@ use Rattle.one_story_laws.proofs.Alike.{SameSetup, one_setup, Alike, AlikeOrStop
 
 -- ---- the linear program, and the parametric run, of which something is told
 
-same_sheet : (setup : Option Present) (cells : Cells) (present : Present) (lp : LinearProgram) (program : PresentProgram setup cells) → setup ≡ Some present →
+pub same_sheet : (setup : Option Present) (cells : Cells) (present : Present) (lp : LinearProgram) (program : PresentProgram setup cells) → setup ≡ Some present →
     selected present.problem (choice_of cells present.options) ≡ Ok lp → sheet_of program ≡ record { problem = present.problem; lp = lp }
 same_sheet setup cells present lp program set is =
     let same : program.present ≡ present = same_Some program.present present (sym program.is_setup ∙ set) in
@@ -44,7 +44,7 @@ same_sheet setup cells present lp program set is =
     let same_lp : program.lp ≡ lp = cc both in
     λ i. record { problem = (same i).problem; lp = same_lp i }
 
-same_changing : (cells : Cells) (one two : Changing) → sweeper one ≡ sweeper two → named_by cells one ≡ Some (changing_name one) → named_by cells two ≡ Some (changing_name two) → one ≡ two
+pub same_changing : (cells : Cells) (one two : Changing) → sweeper one ≡ sweeper two → named_by cells one ≡ Some (changing_name one) → named_by cells two ≡ Some (changing_name two) → one ≡ two
 same_changing cells (Row name) (Row other) solvers first second = ap Row (same_Some name other (sym first ∙ second))
 same_changing cells (Row name) (Set other) solvers first second = absurd (cc solvers)
 same_changing cells (Set name) (Row other) solvers first second = absurd (cc solvers)

@@ -5,11 +5,12 @@
 --     IsAhead, IsBehind ..         the second run goes on from where the first one stands, or the other way round
 --     Whole ..                     a whole run, up to its last statement
 --     Story ..                     two whole runs tell the same, or the first one is cut off
-use Rattle.std.proofs.Common.{◌≡◌, ◌⊎◌, inl, inr, ℕ, suc, ◌-◌, ◌≤◌, ◌<◌, List, [], ◌∷◌, ◌++◌, length, refl, sym, ap, subst, ◌∙◌, arith}
+use Rattle.std.proofs.Common.{◌≡◌, ◌⊎◌, inl, inr, ℕ, suc, ◌-◌, ◌≤◌, ◌<◌, List, [], ◌∷◌, ◌++◌, length, map, refl, sym, ap, subst, ◌∙◌, arith}
 use Rattle.std.specs.Prelude.{All, Option, Some, None, slice_get}
 use Rattle.std.proofs.Math.Nat.{eq-or-lt_of_le}
 use Rattle.std.proofs.lemmas.Bool.{cases_lt}
 use Rattle.std.proofs.lemmas.List.{append-nil, append_assoc}
+use Rattle.std.proofs.lemmas.List.Elements.{All-head, All-tail}
 use Rattle.std.proofs.lemmas.Option.{slice_get_within, same_Some}
 use Rattle.card_definitions.specs.Cards.{Card}
 use Rattle.control_definitions.specs.Program.{Statement, Program}
@@ -23,7 +24,8 @@ use Rattle.run_definitions.specs.Run.{max_executed, counted, Step, IsOver, at_en
 use Rattle.run_laws.specs.Headline.{HoldSoFar, HoldInRun}
 use Rattle.run_functions.specs.Laws.{IsOverflow, IsOverflowStop}
 use Rattle.walk_laws.specs.Proved.{attested, Says}
-use Rattle.one_story_laws.specs.Story.{TellSame, IsOneStory}
+use Rattle.one_story_laws.specs.Story.{TellsSame, TellSame, IsOneStory}
+use Rattle.one_story_laws.specs.Shown.{made_by, made_so_far, made_in_run, AreBeside}
 use Rattle.one_story_laws.proofs.Told.{SaysEnough}
 use Rattle.one_story_laws.proofs.Alike.{no_setup, SameStanding, standing, Alike, CutsOff, IsStopped, AlikeOrStopped}
 use Rattle.one_story_laws.proofs.Verbs.{verb_alike}
@@ -35,6 +37,13 @@ tell_append [] [] more later first second = second
 tell_append (report ∷ reports) (other ∷ others) more later first second = (first.0, tell_append reports others more later first.1 second)
 tell_append [] (other ∷ others) more later first second = absurd first
 tell_append (report ∷ reports) [] more later first second = absurd first
+
+module _ (Same : State → Report → Report → Type 0) where
+  pub beside_append : (mades more : List (State × Report)) (others later : List Report) → AreBeside Same mades others → AreBeside Same more later → AreBeside Same (mades ++ more) (others ++ later)
+  beside_append [] more [] later first second = second
+  beside_append (made ∷ mades) more (other ∷ others) later first second = (first.0, beside_append mades more others later first.1 second)
+  beside_append [] more (other ∷ others) later first second = absurd first
+  beside_append (made ∷ mades) more [] later first second = absurd first
 
 -- ---- states
 
@@ -67,7 +76,7 @@ module _ (T : Solving) (Tells : State → Report → Type 0) (program : Program)
     over : {ending : Ending} → IsOver T program state ending → Last state Nothing ending
     ended : {gain : Gain} {ending : Ending} → Step T program state (Ends gain ending) → All (Tells state) (printed_by gain) → Last state gain ending
 
-  pub record Whole (reports : List Report) (ending : Ending) : Type 0 where
+  pub record Whole (made : List (State × Report)) (reports : List Report) (ending : Ending) : Type 0 where
     pub before : List Report
     pub cards : List (List ℕ)
     pub state : State
@@ -76,9 +85,10 @@ module _ (T : Solving) (Tells : State → Report → Type 0) (program : Program)
     pub gain : Gain
     pub last : Last state gain ending
     pub are : reports ≡ before ++ printed_by gain
+    pub are_made : made ≡ made_so_far T program decks came ++ made_by state gain
 
   pub whole_of : (AtEnd : State → Ending → Type 0) (reports : List Report) (cards : List (List ℕ)) (ending : Ending) (runs : IsRun T program decks reports cards ending) → HoldInRun T Tells AtEnd program decks runs →
-      Whole reports ending
+      Whole (made_in_run T program decks runs) reports ending
   whole_of AtEnd reports cards ending (is_over {reports = _} {cards = _} {state} came is) holds = record {
     before = reports;
     cards = cards;
@@ -88,6 +98,7 @@ module _ (T : Solving) (Tells : State → Report → Type 0) (program : Program)
     gain = Nothing;
     last = over is;
     are = sym (append-nil reports);
+    are_made = sym (append-nil (made_so_far T program decks came));
   }
   whole_of AtEnd _ _ ending (is_ended {reports} {cards} {state} gain came step) holds = record {
     before = reports;
@@ -98,6 +109,7 @@ module _ (T : Solving) (Tells : State → Report → Type 0) (program : Program)
     gain = gain;
     last = ended step holds.1;
     are = refl;
+    are_made = refl;
   }
 
 -- ---- two runs
@@ -110,8 +122,8 @@ pub record Breaks (Open : Type 0) (reports others : List Report) (ending : Endin
   pub are : others ≡ front ++ later
   pub tell : TellSame reports front
 
-abbrev pub Story : Type 0 → List Report → List Report → Ending → Ending → Type 0
-Story Open reports others ending other = IsOneStory reports others ending other ⊎ Breaks Open reports others ending
+abbrev pub Story : Type 0 → (State → Report → Report → Type 0) → List (State × Report) → List Report → List Report → Ending → Ending → Type 0
+Story Open Same made reports others ending other = (IsOneStory reports others ending other × AreBeside Same made others) ⊎ Breaks Open reports others ending
 
 going : (Open : Type 0) (gain other : Gain) (after later : State) → AlikeOrStopped Open (Goes gain after) (Goes other later) → Alike (Goes gain after) (Goes other later)
 going Open gain other after later (inl alike) = alike
@@ -123,7 +135,8 @@ never_stops gain after stop = let e = stop.1 in cc e
 ends_unstopped : (gain : Gain) (ending : Ending) → (IsOverflow ending → ⊥) → IsOverflowStop (Ends gain ending) → ⊥
 ends_unstopped gain ending none stop = let e = stop.1 in none (stop.0, cc)
 
-module _ (S : Solving) (Speaks : State → Report → Type 0) (Open : Type 0) (enough : SaysEnough S Speaks Open) (program : Program) where
+module _ (S : Solving) (Speaks : State → Report → Type 0) (Open : Type 0) (enough : SaysEnough S Speaks Open) (Same : State → Report → Report → Type 0)
+    (shows : (a b : State) → SameStanding a b → (report other : Report) → TellsSame report other → Speaks a report → Says b other → Same a report other) (program : Program) where
   step_alike : (a b : State) (x y : Outcome) → SameStanding a b → Step S program a x → Step attested program b y → All (Speaks a) (printed_by (gain_of x)) → All (Says b) (printed_by (gain_of y)) →
       (IsOverflowStop y → ⊥) → AlikeOrStopped Open x y
   step_alike _ _ x y (standing state left right setups) first second speaks says unstopped =
@@ -135,14 +148,29 @@ module _ (S : Solving) (Speaks : State → Report → Type 0) (Open : Type 0) (e
       moved : Gives attested first.statement.card (verb_move first.statement.verb first.statement.card (counted (record state { setup = right }))) y
       moved = subst (λ (s : Statement ℕ). Gives attested s.card (verb_move s.verb s.card (counted (record state { setup = right }))) y) same second.gives
 
-  pub record AreAlike (reports others : List Report) (state other : State) : Type 0 where
+  show_all : (a b : State) → SameStanding a b → (reports others : List Report) → TellSame reports others → All (Speaks a) reports → All (Says b) others →
+      AreBeside Same (map (λ (report : Report). (a, report)) reports) others
+  show_all a b stand [] [] tell speaks says = tt
+  show_all a b stand (report ∷ reports) (other ∷ others) tell speaks says = (
+    shows a b stand report other tell.0 (All-head (Speaks a) report reports speaks) (All-head (Says b) other others says),
+    show_all a b stand reports others tell.1 (All-tail (Speaks a) report reports speaks) (All-tail (Says b) other others says),
+  )
+  show_all a b stand [] (other ∷ others) tell speaks says = absurd tell
+  show_all a b stand (report ∷ reports) [] tell speaks says = absurd tell
+
+  pub record AreAlike (made : List (State × Report)) (reports others : List Report) (state other : State) : Type 0 where
     pub tell : TellSame reports others
     pub stand : SameStanding state other
+    pub beside : AreBeside Same made others
 
-  one_more : (reports others : List Report) (state other : State) (gain another : Gain) (after later : State) → AreAlike reports others state other → Alike (Goes gain after) (Goes another later) →
-      AreAlike (reports ++ printed_by gain) (others ++ printed_by another) after later
-  one_more reports others state other gain another after later before alike =
-      record { tell = tell_append reports others (printed_by gain) (printed_by another) before.tell alike.0; stand = alike.1 }
+  one_more : (made : List (State × Report)) (reports others : List Report) (state other : State) (gain another : Gain) (after later : State) → AreAlike made reports others state other →
+      Alike (Goes gain after) (Goes another later) → All (Speaks state) (printed_by gain) → All (Says other) (printed_by another) →
+      AreAlike (made ++ made_by state gain) (reports ++ printed_by gain) (others ++ printed_by another) after later
+  one_more made reports others state other gain another after later before alike speaks says = record {
+    tell = tell_append reports others (printed_by gain) (printed_by another) before.tell alike.0;
+    stand = alike.1;
+    beside = beside_append Same made (made_by state gain) others (printed_by another) before.beside (show_all state other before.stand (printed_by gain) (printed_by another) alike.0 speaks says);
+  }
 
   module _ (decks : List (List Card)) where
     abbrev Came : List Report → List (List ℕ) → State → Type 0
@@ -159,21 +187,22 @@ module _ (S : Solving) (Speaks : State → Report → Type 0) (Open : Type 0) (e
 
     -- after as many statements
     same_so_far : (reports others : List Report) (cards other_cards : List (List ℕ)) (state other : State) (first : Came reports cards state) (second : Seen others other_cards other) →
-        HoldSoFar S Speaks program decks first → HoldSoFar attested Says program decks second → count first ≡ seen_count second → AreAlike reports others state other
-    same_so_far _ _ _ _ _ _ begun begun holds also e = record { tell = tt; stand = standing (start decks) None None no_setup }
+        HoldSoFar S Speaks program decks first → HoldSoFar attested Says program decks second → count first ≡ seen_count second → AreAlike (made_so_far S program decks first) reports others state other
+    same_so_far _ _ _ _ _ _ begun begun holds also e = record { tell = tt; stand = standing (start decks) None None no_setup; beside = tt }
     same_so_far _ _ _ _ _ _ begun (stepped gain after before step) holds also e = absurd (omega arith)
     same_so_far _ _ _ _ _ _ (stepped gain after before step) begun holds also e = absurd (omega arith)
     same_so_far _ _ _ _ _ _ (stepped {reports} {cards} {state} gain after before step) (stepped {reports = others} {cards = other_cards} {state = other} another later earlier second) holds also e =
         let so_far = same_so_far reports others cards other_cards state other before earlier holds.0 also.0 (omega (arith, e)) in
-        one_more reports others state other gain another after later so_far
-        (going Open gain another after later (step_alike state other (Goes gain after) (Goes another later) so_far.stand step second holds.1 also.1 (never_stops another later)))
+        one_more (made_so_far S program decks before) reports others state other gain another after later so_far
+        (going Open gain another after later (step_alike state other (Goes gain after) (Goes another later) so_far.stand step second holds.1 also.1 (never_stops another later))) holds.1 also.1
 
     record IsAhead (reports : List Report) (state : State) (others : List Report) : Type 0 where
       front : List Report
       later : List Report
       are : others ≡ front ++ later
       other : State
-      alike : AreAlike reports front state other
+      tell : TellSame reports front
+      stand : SameStanding state other
       gain : Gain
       after : State
       step : Step attested program other (Goes gain after)
@@ -186,12 +215,13 @@ module _ (S : Solving) (Speaks : State → Report → Type 0) (Open : Type 0) (e
         by (eq-or-lt_of_le {n = count first} {m = seen_count before} (omega (arith, e))) (ahead reports others cards other_cards state other first before holds also.0)
       where
         by : (count first ≡ seen_count before) ⊎ (count first < seen_count before) → (count first < seen_count before → IsAhead reports state others) → IsAhead reports state (others ++ printed_by gain)
-        by (inl as_many) earlier = record {
+        by (inl as_many) earlier = let so_far = same_so_far reports others cards other_cards state other first before holds also.0 as_many in record {
           front = others;
           later = printed_by gain;
           are = refl;
           other = other;
-          alike = same_so_far reports others cards other_cards state other first before holds also.0 as_many;
+          tell = so_far.tell;
+          stand = so_far.stand;
           gain = gain;
           after = after;
           step = step;
@@ -204,33 +234,32 @@ module _ (S : Solving) (Speaks : State → Report → Type 0) (Open : Type 0) (e
               later = rest.later ++ printed_by gain;
               are = ap (λ (xs : List Report). xs ++ printed_by gain) rest.are ∙ append_assoc rest.front rest.later (printed_by gain);
               other = rest.other;
-              alike = rest.alike;
+              tell = rest.tell;
+              stand = rest.stand;
               gain = rest.gain;
               after = rest.after;
               step = rest.step;
               says = rest.says;
             }
 
-    record IsBehind (others : List Report) (other : State) : Type 0 where
-      reports : List Report
+    record IsBehind (other : State) : Type 0 where
       state : State
-      alike : AreAlike reports others state other
+      stand : SameStanding state other
       gain : Gain
       after : State
       step : Step S program state (Goes gain after)
       speaks : All (Speaks state) (printed_by gain)
 
     behind : (reports others : List Report) (cards other_cards : List (List ℕ)) (state other : State) (first : Came reports cards state) (second : Seen others other_cards other) →
-        HoldSoFar S Speaks program decks first → HoldSoFar attested Says program decks second → seen_count second < count first → IsBehind others other
+        HoldSoFar S Speaks program decks first → HoldSoFar attested Says program decks second → seen_count second < count first → IsBehind other
     behind _ _ _ _ _ _ begun second holds also e = absurd (omega (arith, e))
     behind _ others _ other_cards _ other (stepped {reports} {cards} {state} gain after before step) second holds also e =
         by (eq-or-lt_of_le {n = seen_count second} {m = count before} (omega (arith, e))) (behind reports others cards other_cards state other before second holds.0 also)
       where
-        by : (seen_count second ≡ count before) ⊎ (seen_count second < count before) → (seen_count second < count before → IsBehind others other) → IsBehind others other
+        by : (seen_count second ≡ count before) ⊎ (seen_count second < count before) → (seen_count second < count before → IsBehind other) → IsBehind other
         by (inl as_many) earlier = record {
-          reports = reports;
           state = state;
-          alike = same_so_far reports others cards other_cards state other before second holds.0 also (sym as_many);
+          stand = (same_so_far reports others cards other_cards state other before second holds.0 also (sym as_many)).stand;
           gain = gain;
           after = after;
           step = step;
@@ -255,40 +284,49 @@ module _ (S : Solving) (Speaks : State → Report → Type 0) (Open : Type 0) (e
           tell = subst (λ (xs : List Report). TellSame xs front) (sym (ap (λ (g : Gain). before ++ printed_by g) silent ∙ append-nil before)) tell;
         }
 
-    both_end : (before earlier : List Report) (gain another : Gain) (ending other : Ending) → TellSame before earlier → AlikeOrStopped Open (Ends gain ending) (Ends another other) →
-        Story Open (before ++ printed_by gain) (earlier ++ printed_by another) ending other
-    both_end before earlier gain another ending other tell (inl alike) = inl (tell_append before earlier (printed_by gain) (printed_by another) tell alike.0, alike.1)
-    both_end before earlier gain another ending other tell (inr stop) = inr (cut_here before (earlier ++ printed_by another) earlier (printed_by another) gain ending refl tell stop)
+    module _ (made : List (State × Report)) (before earlier : List Report) (a b : State) (so_far : AreAlike made before earlier a b) where
+      abbrev EndSame : Gain → Gain → Ending → Ending → Type 0
+      EndSame gain another ending other = Story Open Same (made ++ made_by a gain) (before ++ printed_by gain) (earlier ++ printed_by another) ending other
 
-    two_lasts : (before earlier : List Report) (state another_state : State) (gain another : Gain) (ending other : Ending) → AreAlike before earlier state another_state → (IsOverflow other → ⊥) →
-        Last S Speaks program decks state gain ending → Last attested Says program decks another_state another other → Story Open (before ++ printed_by gain) (earlier ++ printed_by another) ending other
-    two_lasts before earlier a b _ _ ending other so_far none (over first) (over second) =
-        inl (tell_append before earlier [] [] so_far.tell tt, one_over S attested program a b ending other (same_position a b so_far.stand) (same_executed a b so_far.stand) first second)
-    two_lasts before earlier a b _ another ending other so_far none (over first) (ended second says) =
-        absurd (over_or_step S attested program a b ending (Ends another other) (same_position a b so_far.stand) (same_executed a b so_far.stand) first second)
-    two_lasts before earlier a b gain _ ending other so_far none (ended first speaks) (over second) =
-        absurd (over_or_step attested S program b a other (Ends gain ending) (sym (same_position a b so_far.stand)) (sym (same_executed a b so_far.stand)) second first)
-    two_lasts before earlier a b gain another ending other so_far none (ended first speaks) (ended second says) =
-        both_end before earlier gain another ending other so_far.tell (step_alike a b (Ends gain ending) (Ends another other) so_far.stand first second speaks says (ends_unstopped another other none))
+      both_end : (gain another : Gain) (ending other : Ending) → All (Speaks a) (printed_by gain) → All (Says b) (printed_by another) → AlikeOrStopped Open (Ends gain ending) (Ends another other) →
+          EndSame gain another ending other
+      both_end gain another ending other speaks says (inl alike) = inl (
+        (tell_append before earlier (printed_by gain) (printed_by another) so_far.tell alike.0, alike.1),
+        beside_append Same made (made_by a gain) earlier (printed_by another) so_far.beside (show_all a b so_far.stand (printed_by gain) (printed_by another) alike.0 speaks says),
+      )
+      both_end gain another ending other speaks says (inr stop) = inr (cut_here before (earlier ++ printed_by another) earlier (printed_by another) gain ending refl so_far.tell stop)
+
+      two_lasts : (gain another : Gain) (ending other : Ending) → (IsOverflow other → ⊥) → Last S Speaks program decks a gain ending → Last attested Says program decks b another other →
+          EndSame gain another ending other
+      two_lasts _ _ ending other none (over first) (over second) = inl (
+        (tell_append before earlier [] [] so_far.tell tt, one_over S attested program a b ending other (same_position a b so_far.stand) (same_executed a b so_far.stand) first second),
+        beside_append Same made [] earlier [] so_far.beside tt,
+      )
+      two_lasts _ another ending other none (over first) (ended second says) =
+          absurd (over_or_step S attested program a b ending (Ends another other) (same_position a b so_far.stand) (same_executed a b so_far.stand) first second)
+      two_lasts gain _ ending other none (ended first speaks) (over second) =
+          absurd (over_or_step attested S program b a other (Ends gain ending) (sym (same_position a b so_far.stand)) (sym (same_executed a b so_far.stand)) second first)
+      two_lasts gain another ending other none (ended first speaks) (ended second says) =
+          both_end gain another ending other speaks says (step_alike a b (Ends gain ending) (Ends another other) so_far.stand first second speaks says (ends_unstopped another other none))
 
     -- the first run ends where the second one goes on
     ends_early : (before others : List Report) (state : State) (gain : Gain) (ending : Ending) (rest : IsAhead before state others) → Last S Speaks program decks state gain ending → Breaks Open (before ++ printed_by gain) others ending
     ends_early before others state _ ending rest (over first) =
-        absurd (over_or_step S attested program state rest.other ending (Goes rest.gain rest.after) (same_position state rest.other rest.alike.stand) (same_executed state rest.other rest.alike.stand) first rest.step)
+        absurd (over_or_step S attested program state rest.other ending (Goes rest.gain rest.after) (same_position state rest.other rest.stand) (same_executed state rest.other rest.stand) first rest.step)
     ends_early before others state gain ending rest (ended first speaks) =
-        by (step_alike state rest.other (Ends gain ending) (Goes rest.gain rest.after) rest.alike.stand first rest.step speaks rest.says (never_stops rest.gain rest.after))
+        by (step_alike state rest.other (Ends gain ending) (Goes rest.gain rest.after) rest.stand first rest.step speaks rest.says (never_stops rest.gain rest.after))
       where
         by : AlikeOrStopped Open (Ends gain ending) (Goes rest.gain rest.after) → Breaks Open (before ++ printed_by gain) others ending
         by (inl alike) = absurd alike
-        by (inr stop) = cut_here before others rest.front rest.later gain ending rest.are rest.alike.tell stop
+        by (inr stop) = cut_here before others rest.front rest.later gain ending rest.are rest.tell stop
 
     -- it doesn't go on where the second one ends
-    goes_late : (earlier : List Report) (other_state : State) (another : Gain) (other : Ending) (rest : IsBehind earlier other_state) → (IsOverflow other → ⊥) →
+    goes_late : (other_state : State) (another : Gain) (other : Ending) (rest : IsBehind other_state) → (IsOverflow other → ⊥) →
         Last attested Says program decks other_state another other → ⊥
-    goes_late earlier b _ other rest none (over second) =
-        over_or_step attested S program b rest.state other (Goes rest.gain rest.after) (sym (same_position rest.state b rest.alike.stand)) (sym (same_executed rest.state b rest.alike.stand)) second rest.step
-    goes_late earlier b another other rest none (ended second says) =
-        by (step_alike rest.state b (Goes rest.gain rest.after) (Ends another other) rest.alike.stand rest.step second rest.speaks says (ends_unstopped another other none))
+    goes_late b _ other rest none (over second) =
+        over_or_step attested S program b rest.state other (Goes rest.gain rest.after) (sym (same_position rest.state b rest.stand)) (sym (same_executed rest.state b rest.stand)) second rest.step
+    goes_late b another other rest none (ended second says) =
+        by (step_alike rest.state b (Goes rest.gain rest.after) (Ends another other) rest.stand rest.step second rest.speaks says (ends_unstopped another other none))
       where
         by : AlikeOrStopped Open (Goes rest.gain rest.after) (Ends another other) → ⊥
         by (inl alike) = alike
@@ -303,36 +341,39 @@ module _ (S : Solving) (Speaks : State → Report → Type 0) (Open : Type 0) (e
       tell = breaks.tell;
     }
 
-    two_wholes : (reports others : List Report) (ending other : Ending) (first : Whole S Speaks program decks reports ending) (second : Whole attested Says program decks others other) →
-        (IsOverflow other → ⊥) → Story Open (first.before ++ printed_by first.gain) (second.before ++ printed_by second.gain) ending other
-    two_wholes reports others ending other first second none = by (cases_lt m n)
-      where
-        m : ℕ
-        m = count first.came
+    module _ (made mades : List (State × Report)) (reports others : List Report) (ending other : Ending) (first : Whole S Speaks program decks made reports ending)
+        (second : Whole attested Says program decks mades others other) (none : IsOverflow other → ⊥) where
+      abbrev EndsSame : Type 0
+      EndsSame = Story Open Same (made_so_far S program decks first.came ++ made_by first.state first.gain) (first.before ++ printed_by first.gain) (second.before ++ printed_by second.gain) ending other
 
-        n : ℕ
-        n = seen_count second.came
+      abbrev m : ℕ
+      m = count first.came
 
-        as_many : m ≡ n → Story Open (first.before ++ printed_by first.gain) (second.before ++ printed_by second.gain) ending other
-        as_many e =
-            two_lasts first.before second.before first.state second.state first.gain second.gain ending other
-            (same_so_far first.before second.before first.cards second.cards first.state second.state first.came second.came first.holds second.holds e) none first.last second.last
+      abbrev n : ℕ
+      n = seen_count second.came
 
-        not_fewer : (n ≡ m) ⊎ (n < m) → Story Open (first.before ++ printed_by first.gain) (second.before ++ printed_by second.gain) ending other
-        not_fewer (inl e) = as_many (sym e)
-        not_fewer (inr fewer) =
-            absurd (goes_late second.before second.state second.gain other
-            (behind first.before second.before first.cards second.cards first.state second.state first.came second.came first.holds second.holds fewer) none second.last)
+      as_many : m ≡ n → EndsSame
+      as_many e =
+          two_lasts (made_so_far S program decks first.came) first.before second.before first.state second.state
+          (same_so_far first.before second.before first.cards second.cards first.state second.state first.came second.came first.holds second.holds e) first.gain second.gain ending other none first.last
+          second.last
 
-        by : (m < n) ⊎ (n ≤ m) → Story Open (first.before ++ printed_by first.gain) (second.before ++ printed_by second.gain) ending other
-        by (inl fewer) =
-            inr (more_after (first.before ++ printed_by first.gain) second.before (second.before ++ printed_by second.gain) ending (printed_by second.gain)
-            (ends_early first.before second.before first.state first.gain ending
-            (ahead first.before second.before first.cards second.cards first.state second.state first.came second.came first.holds second.holds fewer) first.last) refl)
-        by (inr more) = not_fewer (eq-or-lt_of_le {n = n} {m = m} more)
+      not_fewer : (n ≡ m) ⊎ (n < m) → EndsSame
+      not_fewer (inl e) = as_many (sym e)
+      not_fewer (inr fewer) =
+          absurd (goes_late second.state second.gain other
+          (behind first.before second.before first.cards second.cards first.state second.state first.came second.came first.holds second.holds fewer) none second.last)
 
-    pub two_runs : (reports others : List Report) (ending other : Ending) → Whole S Speaks program decks reports ending → Whole attested Says program decks others other → (IsOverflow other → ⊥) →
-        Story Open reports others ending other
-    two_runs reports others ending other first second none =
-        subst (λ (xs : List Report). Story Open xs others ending other) (sym first.are)
-        (subst (λ (xs : List Report). Story Open (first.before ++ printed_by first.gain) xs ending other) (sym second.are) (two_wholes reports others ending other first second none))
+      two_wholes : (m < n) ⊎ (n ≤ m) → EndsSame
+      two_wholes (inl fewer) =
+          inr (more_after (first.before ++ printed_by first.gain) second.before (second.before ++ printed_by second.gain) ending (printed_by second.gain)
+          (ends_early first.before second.before first.state first.gain ending
+          (ahead first.before second.before first.cards second.cards first.state second.state first.came second.came first.holds second.holds fewer) first.last) refl)
+      two_wholes (inr more) = not_fewer (eq-or-lt_of_le {n = n} {m = m} more)
+
+      pub two_runs : Story Open Same made reports others ending other
+      two_runs =
+          subst (λ (xs : List (State × Report)). Story Open Same xs reports others ending other) (sym first.are_made)
+          (subst (λ (xs : List Report). Story Open Same (made_so_far S program decks first.came ++ made_by first.state first.gain) xs others ending other) (sym first.are)
+          (subst (λ (xs : List Report). Story Open Same (made_so_far S program decks first.came ++ made_by first.state first.gain) (first.before ++ printed_by first.gain) xs ending other) (sym second.are)
+          (two_wholes (cases_lt m n))))

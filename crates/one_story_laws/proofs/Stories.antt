@@ -1,6 +1,8 @@
 -- Two listings of one job that are told tell one story, and so does the run of the job.
-use Rattle.std.proofs.Common.{◌≡◌, ◌⊎◌, inl, inr, ℕ, suc, List, [], ◌∷◌, ◌++◌, length, refl, sym, ap, subst, ◌∙◌}
+use Rattle.std.proofs.Common.{◌≡◌, ◌⊎◌, inl, inr, ℕ, suc, List, [], ◌∷◌, ◌++◌, map, length, refl, sym, ap, ap₂, subst, ◌∙◌}
 use Rattle.std.specs.Prelude.{All}
+use Rattle.std.proofs.lemmas.List.{map-append}
+use Rattle.card_definitions.specs.Cards.{Card}
 use Rattle.std.proofs.lemmas.List.Elements.{All-nil, All-cons, All-head, All-tail}
 use Rattle.control_definitions.specs.Program.{Program}
 use Rattle.listing_definitions.specs.Report.{Report, Titled, Converted, Revised, SetUp, BcdOut, BasisOut, Inserted, Solved, Solution, Ranges, Parametric}
@@ -8,7 +10,8 @@ use Rattle.listing_definitions.specs.Ending.{Ending, Ended, WordsRefused, Contro
 use Rattle.question_definitions.specs.Solving.{Solving}
 use Rattle.answer_definitions.specs.Real.{linear_programming}
 use Rattle.run_definitions.specs.State.{State}
-use Rattle.run_definitions.specs.Run.{IsRun}
+use Rattle.run_definitions.specs.Moves.{Gain, printed_by}
+use Rattle.run_definitions.specs.Run.{Reaches, begun, stepped, IsRun, is_over, is_ended}
 use Rattle.run_definitions.specs.Answer.{job_decks, IsProgramOf, IsJobRun, card_fault, control_fault, run}
 use Rattle.run_laws.specs.Truth.{Holds, HoldsAtEnd}
 use Rattle.run_laws.specs.Headline.{HoldInRun, HoldInJob}
@@ -20,9 +23,11 @@ use Rattle.reading_laws.specs.Laws.{ReadingLaw}
 use Rattle.judged_laws.specs.Laws.{JudgedLaws}
 use Rattle.walk_laws.specs.Proved.{attested, Says, SaysAtEnd, IsTrueListing}
 use Rattle.one_story_laws.specs.Story.{TellsSame, TellSame, IsOfNoBasis, IsOneStory, IsCutEnding, IsBrokenOff}
+use Rattle.one_story_laws.specs.Shown.{made_by, made_so_far, made_in_run, made_in_job, ShowsSame, ShowSame}
 use Rattle.one_story_laws.specs.Laws.{IsProvedListing, OneStoryLaws}
 use Rattle.one_story_laws.proofs.Told.{SaysEnough, attested_says, real_says}
-use Rattle.one_story_laws.proofs.Alike.{CutsOff}
+use Rattle.one_story_laws.proofs.Alike.{SameStanding, CutsOff}
+use Rattle.one_story_laws.proofs.Shows.{shows_same}
 use Rattle.one_story_laws.proofs.Runs.{Whole, whole_of, Breaks, Story, two_runs}
 use Rattle.one_story_laws.proofs.NoBasis.{job_of_no_basis}
 use Rattle.one_story_laws.proofs.Attested.{attested_told}
@@ -51,22 +56,26 @@ of_cut Open Memory cut = absurd cut
 one_program : (bytes : List ℕ) (program other : Program) → IsProgramOf bytes program → IsProgramOf bytes other → other ≡ program
 one_program bytes program other first second = let e = sym second.is_compiled ∙ first.is_compiled in cc
 
-module _ (S : Solving) (Speaks : State → Report → Type 0) (AtEnd : State → Ending → Type 0) (Open : Type 0) (enough : SaysEnough S Speaks Open) (bytes : List ℕ) where
+module _ (S : Solving) (Speaks : State → Report → Type 0) (AtEnd : State → Ending → Type 0) (Open : Type 0) (enough : SaysEnough S Speaks Open)
+    (Same : State → Report → Report → Type 0) (shows : (a b : State) → SameStanding a b → (report other : Report) → TellsSame report other → Speaks a report → Says b other → Same a report other)
+    (bytes : List ℕ) where
   same_program : (program other : Program) (reports others : List Report) (cards other_cards : List (List ℕ)) (ending another : Ending) → IsProgramOf bytes program → IsProgramOf bytes other →
       (first : IsRun S program (job_decks program bytes) reports cards ending) (second : IsRun attested other (job_decks other bytes) others other_cards another) →
-      HoldInRun S Speaks AtEnd program (job_decks program bytes) first → HoldInRun attested Says SaysAtEnd other (job_decks other bytes) second → (IsOverflow another → ⊥) → Story Open reports others ending another
+      HoldInRun S Speaks AtEnd program (job_decks program bytes) first → HoldInRun attested Says SaysAtEnd other (job_decks other bytes) second → (IsOverflow another → ⊥) →
+      Story Open Same (made_in_run S program (job_decks program bytes) first) reports others ending another
   same_program program other reports others cards other_cards ending another is also first second holds says none =
-      two_runs S Speaks Open enough program (job_decks program bytes) reports others ending another (whole_of S Speaks program (job_decks program bytes) AtEnd reports cards ending first holds)
-      (subst (λ (x : Program). Whole attested Says x (job_decks x bytes) others another) (one_program bytes program other is also)
+      two_runs S Speaks Open enough Same shows program (job_decks program bytes) (made_in_run S program (job_decks program bytes) first) (made_in_run attested other (job_decks other bytes) second)
+      reports others ending another (whole_of S Speaks program (job_decks program bytes) AtEnd reports cards ending first holds)
+      (subst (λ (x : Program). Whole attested Says x (job_decks x bytes) (made_in_run attested other (job_decks other bytes) second) others another) (one_program bytes program other is also)
       (whole_of attested Says other (job_decks other bytes) SaysAtEnd others other_cards another second says)) none
 
   two_jobs : (reports others : List Report) (cards other_cards : List (List ℕ)) (ending other : Ending) (first : IsJobRun S bytes reports cards ending) (second : IsJobRun attested bytes others other_cards other) →
-      HoldInJob S Speaks AtEnd first → HoldInJob attested Says SaysAtEnd second → (IsOverflow other → ⊥) → Story Open reports others ending other
-  two_jobs _ _ _ _ _ _ (card_fault fault is) (card_fault other also) holds says none = let e = sym is ∙ also in inl (tt, cc)
+      HoldInJob S Speaks AtEnd first → HoldInJob attested Says SaysAtEnd second → (IsOverflow other → ⊥) → Story Open Same (made_in_job S first) reports others ending other
+  two_jobs _ _ _ _ _ _ (card_fault fault is) (card_fault other also) holds says none = let e = sym is ∙ also in inl ((tt, cc), tt)
   two_jobs _ _ _ _ _ _ (card_fault fault is) (control_fault other fine also) holds says none = let e = sym is ∙ fine in absurd (cc e)
   two_jobs _ _ _ _ _ _ (card_fault fault is) (run program fine runs) holds says none = let e = sym is ∙ fine.is_read in absurd (cc e)
   two_jobs _ _ _ _ _ _ (control_fault fault fine is) (card_fault other also) holds says none = let e = sym also ∙ fine in absurd (cc e)
-  two_jobs _ _ _ _ _ _ (control_fault fault fine is) (control_fault other again also) holds says none = let e = sym is ∙ also in inl (tt, cc)
+  two_jobs _ _ _ _ _ _ (control_fault fault fine is) (control_fault other again also) holds says none = let e = sym is ∙ also in inl ((tt, cc), tt)
   two_jobs _ _ _ _ _ _ (control_fault fault fine is) (run program again runs) holds says none = let e = sym is ∙ again.is_compiled in absurd (cc e)
   two_jobs _ _ _ _ _ _ (run program fine runs) (card_fault other also) holds says none = let e = sym also ∙ fine.is_read in absurd (cc e)
   two_jobs _ _ _ _ _ _ (run program fine runs) (control_fault other again also) holds says none = let e = sym also ∙ fine.is_compiled in absurd (cc e)
@@ -75,24 +84,58 @@ module _ (S : Solving) (Speaks : State → Report → Type 0) (AtEnd : State →
 
 -- ---- an attested listing beside another, and beside the run
 
-two_listings : (bytes lines others : List ℕ) (n m : ℕ) (one : IsProvedListing bytes lines n) (two : IsProvedListing bytes others m) → IsOneStory one.proved.reports two.proved.reports one.proved.ending two.proved.ending
+two_listings : (bytes lines others : List ℕ) (n m : ℕ) (one : IsProvedListing bytes lines n) (two : IsProvedListing bytes others m) →
+    IsOneStory one.proved.reports two.proved.reports one.proved.ending two.proved.ending × ShowSame (made_in_job attested one.proved.runs) two.proved.reports
 two_listings bytes lines others n m one two =
-    by (two_jobs attested Says SaysAtEnd ⊥ attested_says bytes one.proved.reports two.proved.reports one.proved.cards two.proved.cards one.proved.ending two.proved.ending one.proved.runs two.proved.runs
-    one.proved.each two.proved.each two.unstopped)
+    by (two_jobs attested Says SaysAtEnd ⊥ attested_says ShowsSame shows_same bytes one.proved.reports two.proved.reports one.proved.cards two.proved.cards one.proved.ending two.proved.ending one.proved.runs
+    two.proved.runs one.proved.each two.proved.each two.unstopped)
   where
-    by : Story ⊥ one.proved.reports two.proved.reports one.proved.ending two.proved.ending → IsOneStory one.proved.reports two.proved.reports one.proved.ending two.proved.ending
+    by : Story ⊥ ShowsSame (made_in_job attested one.proved.runs) one.proved.reports two.proved.reports one.proved.ending two.proved.ending →
+        IsOneStory one.proved.reports two.proved.reports one.proved.ending two.proved.ending × ShowSame (made_in_job attested one.proved.runs) two.proved.reports
     by (inl story) = story
     by (inr breaks) = absurd (one.unstopped ((of_cut ⊥ one.proved.ending breaks.cut).1 (λ (none : ⊥). none)))
+
+abbrev Anything : State → Report → Report → Type 0
+Anything state report other = Unit {0}
 
 beside_run : RunLaws → (bytes lines : List ℕ) (count : ℕ) (two : IsProvedListing bytes lines count) (reports : List Report) (cards : List (List ℕ)) (ending : Ending) → IsJobRun linear_programming bytes reports cards ending →
     IsOneStory reports two.proved.reports ending two.proved.ending ⊎ IsBrokenOff reports two.proved.reports ending
 beside_run laws bytes lines count two reports cards ending runs =
-    by (two_jobs linear_programming Holds HoldsAtEnd (Unit {0}) real_says bytes reports two.proved.reports cards two.proved.cards ending two.proved.ending runs two.proved.runs
+    by (two_jobs linear_programming Holds HoldsAtEnd (Unit {0}) real_says Anything (λ a b stand report other same holds says. tt) bytes reports two.proved.reports cards two.proved.cards ending two.proved.ending runs two.proved.runs
     (laws.truth.job bytes reports cards ending runs) two.proved.each two.unstopped)
   where
-    by : Story (Unit {0}) reports two.proved.reports ending two.proved.ending → IsOneStory reports two.proved.reports ending two.proved.ending ⊎ IsBrokenOff reports two.proved.reports ending
-    by (inl story) = inl story
+    by : Story (Unit {0}) Anything (made_in_job linear_programming runs) reports two.proved.reports ending two.proved.ending → IsOneStory reports two.proved.reports ending two.proved.ending ⊎ IsBrokenOff reports two.proved.reports ending
+    by (inl story) = inl story.0
     by (inr breaks) = inr (record { is_cut = (of_cut (Unit {0}) ending breaks.cut).0; first = breaks.front; later = breaks.later; are = breaks.are; tell = breaks.tell })
+
+-- ---- the reports with their states
+
+module _ (S : Solving) where
+  made_then : (mades : List (State × Report)) (reports : List Report) (state : State) (gain : Gain) → map (λ (made : State × Report). made.1) mades ≡ reports →
+      map (λ (made : State × Report). made.1) (mades ++ made_by state gain) ≡ reports ++ printed_by gain
+  made_then mades reports state gain are =
+      map-append (λ (made : State × Report). made.1) mades (made_by state gain) ∙ ap₂ (λ (xs ys : List Report). xs ++ ys) are (each_made state (printed_by gain))
+    where
+      each_made : (state : State) (reports : List Report) → map (λ (made : State × Report). made.1) (map (λ (report : Report). (state, report)) reports) ≡ reports
+      each_made state [] = refl
+      each_made state (report ∷ reports) = ap (λ (xs : List Report). report ∷ xs) (each_made state reports)
+
+  module _ (program : Program) (decks : List (List Card)) where
+    made_reaching : (reports : List Report) (cards : List (List ℕ)) (state : State) (came : Reaches S program decks reports cards state) →
+        map (λ (made : State × Report). made.1) (made_so_far S program decks came) ≡ reports
+    made_reaching _ _ _ begun = refl
+    made_reaching _ _ _ (stepped {reports} {cards} {state} gain after before step) =
+        made_then (made_so_far S program decks before) reports state gain (made_reaching reports cards state before)
+
+    made_run : (reports : List Report) (cards : List (List ℕ)) (ending : Ending) (runs : IsRun S program decks reports cards ending) → map (λ (made : State × Report). made.1) (made_in_run S program decks runs) ≡ reports
+    made_run reports cards ending (is_over {reports = _} {cards = _} {state} before over) = made_reaching reports cards state before
+    made_run _ _ ending (is_ended {reports} {cards} {state} gain before step) = made_then (made_so_far S program decks before) reports state gain (made_reaching reports cards state before)
+
+  made_job : (bytes : List ℕ) (reports : List Report) (cards : List (List ℕ)) (ending : Ending) (runs : IsJobRun S bytes reports cards ending) →
+      map (λ (made : State × Report). made.1) (made_in_job S runs) ≡ reports
+  made_job bytes _ _ _ (card_fault fault is) = refl
+  made_job bytes _ _ _ (control_fault fault fine is) = refl
+  made_job bytes reports cards ending (run program is runs) = made_run program _ reports cards ending runs
 
 -- ---- no bases
 
@@ -141,12 +184,14 @@ tell_as_many (report ∷ reports) [] tell = absurd tell
 
 pub stories : ReadingLaw → JudgedLaws → RunLaws → OneStoryLaws
 stories reading truth laws = record {
-  attested = attested_told reading truth;
-  one_story = two_listings;
+  is_proved = attested_told reading truth;
+  one_story = λ bytes lines others n m one two. (two_listings bytes lines others n m one two).0;
+  shown = λ bytes lines others n m one two. (two_listings bytes lines others n m one two).1;
+  made = λ bytes lines one. made_job attested bytes one.reports one.cards one.ending one.runs;
   as_many = λ bytes lines others n m first second.
       let one = attested_told reading truth bytes lines n first in
       let two = attested_told reading truth bytes others m second in
-      sym one.has_count ∙ tell_as_many one.proved.reports two.proved.reports (two_listings bytes lines others n m one two).0 ∙ two.has_count;
+      sym one.has_count ∙ tell_as_many one.proved.reports two.proved.reports (two_listings bytes lines others n m one two).0.0 ∙ two.has_count;
   run = beside_run laws;
   no_basis = listing_of_no_basis;
   no_basis_in_run = run_of_no_basis laws;

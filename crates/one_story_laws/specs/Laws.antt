@@ -1,7 +1,7 @@
 -- What is said of two listings of one job that are both attested, and of an attested one and the run of the job itself.
 --     IsProvedListing ..           the listing is true, with so many reports, and its run doesn't stop with an overflow
 --     OneStoryLaws                 two such listings tell one story, and so does the run, as far as it goes
-use Rattle.std.specs.Prelude.{◌≡◌, ◌⊎◌, ℕ, List, All, length}
+use Rattle.std.specs.Prelude.{◌≡◌, ◌⊎◌, ℕ, List, All, length, map}
 use Rattle.listing_definitions.specs.Report.{Report}
 use Rattle.listing_definitions.specs.Ending.{Ending}
 use Rattle.answer_definitions.specs.Real.{linear_programming}
@@ -9,8 +9,9 @@ use Rattle.run_definitions.specs.Answer.{IsJobRun}
 use Rattle.run_functions.specs.Laws.{IsOverflow}
 use Rattle.walk_definitions.specs.Walker.{Attested}
 use Rattle.walk_definitions.specs.Found.{Comes}
-use Rattle.walk_laws.specs.Proved.{IsTrueListing}
+use Rattle.walk_laws.specs.Proved.{attested, IsTrueListing}
 use Rattle.one_story_laws.specs.Story.{IsOneStory, IsBrokenOff, IsOfNoBasis}
+use Rattle.one_story_laws.specs.Shown.{made_in_job, ShowSame}
 
 -- A run may stop with an overflow wherever an operation of a selection is refused, and that is its own choice; the walk never takes it.
 pub record IsProvedListing (bytes lines : List ℕ) (count : ℕ) : Type 0 where
@@ -20,10 +21,15 @@ pub record IsProvedListing (bytes lines : List ℕ) (count : ℕ) : Type 0 where
 
 pub record OneStoryLaws : Type 0 where
   -- an attested listing is one
-  pub attested : (bytes lines : List ℕ) (count : ℕ) → Comes bytes lines (Attested count) → IsProvedListing bytes lines count
+  pub is_proved : (bytes lines : List ℕ) (count : ℕ) → Comes bytes lines (Attested count) → IsProvedListing bytes lines count
   -- two of them, of one job, tell one story
   pub one_story : (bytes lines others : List ℕ) (n m : ℕ) (one : IsProvedListing bytes lines n) (two : IsProvedListing bytes others m) →
       IsOneStory one.proved.reports two.proved.reports one.proved.ending two.proved.ending
+  -- what they show is worth the same in the states of the one run
+  pub shown : (bytes lines others : List ℕ) (n m : ℕ) (one : IsProvedListing bytes lines n) (two : IsProvedListing bytes others m) →
+      ShowSame (made_in_job attested one.proved.runs) two.proved.reports
+  -- the reports of a run, each with its state, are its reports
+  pub made : (bytes lines : List ℕ) (one : IsTrueListing bytes lines) → map (λ made. made.1) (made_in_job attested one.runs) ≡ one.reports
   -- and so two attested listings of one job have as many reports
   pub as_many : (bytes lines others : List ℕ) (n m : ℕ) → Comes bytes lines (Attested n) → Comes bytes others (Attested m) → n ≡ m
   -- the run of the job tells this story too, or it was cut off and tells the beginning of it
