@@ -3,7 +3,7 @@
 --     Alike a b                    two outcomes: what is printed tells the same, and what follows is the same but for the bases
 --     IsStopped Open a             an outcome cuts the run off
 --     IsAlike .. first second      the outcomes of two moves are alike, or the first one cuts its run off
-use Rattle.std.proofs.Common.{◌≡◌, ◌⊎◌, inl, inr, ℕ, ◌+◌, List, [], ◌∷◌, ◌++◌, refl, sym, subst}
+use Rattle.std.proofs.Common.{◌≡◌, ◌⊎◌, inl, inr, ℕ, ◌+◌, List, refl, sym, subst}
 use Rattle.std.specs.Prelude.{All, Option, Some, None, Result, Ok, Err}
 use Rattle.lp_definitions.specs.LinearProgram.{LinearProgram}
 use Rattle.problem_definitions.specs.Problem.{Problem}
@@ -20,7 +20,7 @@ use Rattle.listing_definitions.specs.Ending.{Ending, PriceStop, LimitStop, Overf
 use Rattle.question_definitions.specs.Answers.{Basis, Sheet, Question, Answer}
 use Rattle.question_definitions.specs.Solving.{Solving, IsRight}
 use Rattle.run_definitions.specs.State.{Present, State}
-use Rattle.run_definitions.specs.Moves.{Gain, Nothing, Prints, printed_by, Outcome, Goes, Ends, gain_of, next, stops, Refusals, Move, Does, MayStop, Asks, Gives, or_fault}
+use Rattle.run_definitions.specs.Moves.{Gain, Prints, printed_by, Outcome, Goes, Ends, gain_of, stops, Refusals, Move, Does, MayStop, Asks, Gives, or_fault}
 use Rattle.run_definitions.specs.Verbs.{or_deck_fault, or_selection_fault, selects, demanded, by_verdict}
 use Rattle.run_functions.specs.Laws.{IsOverflowStop}
 use Rattle.walk_laws.specs.Proved.{attested, Says}

@@ -1,6 +1,6 @@
 -- An attested listing is that of a run that doesn't stop with an overflow: the walk goes past no selection that is refused.
-use Rattle.std.proofs.Common.{◌≡◌, ◌⊎◌, inl, inr, ℕ, ◌+◌, ◌-◌, ◌≤◌, ◌<◌, Bool, true, false, not, ◌||◌, List, [], ◌++◌, length, refl, sym, ap, subst, ◌∙◌, arith, append_assoc, ltb-true, ltb-false}
-use Rattle.std.specs.Prelude.{All, Option, Some, None, slice_get, nat_lt, if◌then◌else◌}
+use Rattle.std.proofs.Common.{◌≡◌, inl, inr, ℕ, ◌+◌, ◌-◌, ◌≤◌, ◌<◌, Bool, true, false, not, ◌||◌, List, [], ◌++◌, length, refl, sym, ap, subst, ◌∙◌, arith, append_assoc, ltb-true, ltb-false}
+use Rattle.std.specs.Prelude.{Option, Some, None, slice_get, nat_lt, if◌then◌else◌}
 use Rattle.std.specs.Option.{option_or}
 use Rattle.std.proofs.lemmas.Option.{slice_get_within}
 use Rattle.std.proofs.lemmas.List.{length-append}
@@ -10,7 +10,7 @@ use Rattle.control_definitions.specs.Program.{Statement, Program}
 use Rattle.selection_definitions.proofs.Making.{made_iff}
 use Rattle.selection_definitions.specs.Making.{is_made}
 use Rattle.listing_definitions.specs.Report.{Report}
-use Rattle.listing_definitions.specs.Ending.{Ending, Ended, StatementLimit, ControlStop, CardStop, OverflowStop}
+use Rattle.listing_definitions.specs.Ending.{Ending, Ended, StatementLimit, ControlStop, CardStop}
 use Rattle.listing_definitions.specs.Text.{report_text}
 use Rattle.listing_definitions.specs.Listing.{ending_text, reports_text}
 use Rattle.question_definitions.specs.Answers.{Sheet, Question, OfPath, OfSolution, OfRanges, OfSweep, OfPunch, OfInstall, Answer, Installed}
@@ -30,7 +30,7 @@ use Rattle.walk_definitions.specs.Found.{Comes, first_walker, of_cards, of_contr
 use Rattle.walk_definitions.specs.Found.{Reaches as IsCome}
 use Rattle.reading_laws.specs.Laws.{ReadingLaw}
 use Rattle.judged_laws.specs.Laws.{JudgedLaws}
-use Rattle.walk_laws.specs.Proved.{attested, Says, IsTrueListing}
+use Rattle.walk_laws.specs.Proved.{attested, Says}
 use Rattle.walk_laws.proofs.Turns.{On, NeverAttests, never_either, never_if, never_pending, never_stop, never_outcome, on_closes}
 use Rattle.walk_laws.proofs.Whole.{StepsTo, Finishes, over, by_statement, turned, IsWalked, is_walked}
 use Rattle.one_story_laws.specs.Laws.{IsProvedListing}

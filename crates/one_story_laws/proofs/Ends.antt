@@ -4,18 +4,17 @@
 --     IsClosed ..                  how a run closes, where it is true
 --     IsLast max end               a run that isn't broken ends at the last value
 --     HasRun family from max end   a true run that closes so
-use Rattle.std.proofs.Common.{◌≡◌, List, [], ◌∷◌, refl, sym, subst, ◌∙◌, inl, inr, ◌⊎◌}
+use Rattle.std.proofs.Common.{◌≡◌, List, [], ◌∷◌, sym, subst, ◌∙◌, inl, inr, ◌⊎◌}
 use Rattle.std.specs.Prelude.{All}
 use Rattle.std.proofs.lemmas.List.Elements.{All-head, All-tail, All-contains}
 use Rattle.exact_values.specs.Rational.{ℚ, ◌≤ℚ◌, ◌<ℚ◌}
-use Rattle.exact_values.proofs.Order.{le_refl, le_trans, le_of_eq, le_of_lt, le_antisymm, lt_not_le, lt_or_le}
-use Rattle.lp_definitions.specs.LinearProgram.{LinearProgram, Vector}
-use Rattle.lp_definitions.specs.Solutions.{IsBest}
+use Rattle.exact_values.proofs.Order.{le_refl, le_trans, le_of_eq, le_antisymm, lt_not_le, lt_or_le}
+use Rattle.lp_definitions.specs.LinearProgram.{LinearProgram}
 use Rattle.method_definitions.specs.Chain.{Part, ChainEnd as PastBreak, AtMax, UnboundedPast as PastUnbounded, InfeasiblePast as PastInfeasible, along}
 use Rattle.sweep_laws.specs.Truth.{IsTruePart, AreJoined, last_end, IsProvedPast, IsTrueEnd, IsTrueRun}
 use Rattle.listing_definitions.specs.declared.Mark.{Mark}
 use Rattle.listing_definitions.specs.declared.Mark.TheVariants.{Optimal, Infeasible, Unbounded}
-use Rattle.listing_definitions.specs.Report.{Line, ChainEnd, EndsAt, UnboundedPast, InfeasiblePast}
+use Rattle.listing_definitions.specs.Report.{ChainEnd, EndsAt, UnboundedPast, InfeasiblePast}
 use Rattle.question_definitions.specs.Answers.{Sheet}
 use Rattle.answer_definitions.specs.Sweeps.{end_of}
 use Rattle.judged_laws.specs.Shown.{past_of}

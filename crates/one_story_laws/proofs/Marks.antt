@@ -1,7 +1,7 @@
 -- A linear program has one mark and one best objective.
 --     IsOfMark p mark              a point is best in it, or no point is feasible, or none is best
 --     FailsAt p verdict            it is of the verdict's mark, which isn't OPTIMAL
-use Rattle.std.proofs.Common.{◌≡◌, ℕ, refl, sym, ap, subst, ◌∙◌}
+use Rattle.std.proofs.Common.{◌≡◌, ℕ, refl, sym, ap, ◌∙◌}
 use Rattle.exact_values.specs.Rational.{ℚ, neg_ℚ, ◌≤ℚ◌}
 use Rattle.exact_values.proofs.Order.{lt_not_le, le_antisymm}
 use Rattle.exact_values.proofs.Ring.{by_ring1, opposite, ◌≐◌}

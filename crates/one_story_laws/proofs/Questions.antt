@@ -1,18 +1,16 @@
 -- What two runs are told where they ask about one linear program leads them alike.
-use Rattle.std.proofs.Common.{◌≡◌, ◌⊎◌, inl, inr, ℕ, ◌+◌, List, [], ◌∷◌, ◌++◌, refl, sym, ap, subst, ◌∙◌}
+use Rattle.std.proofs.Common.{◌≡◌, inl, inr, ℕ, ◌+◌, List, [], ◌∷◌, ◌++◌, refl, sym, ap, subst, ◌∙◌}
 use Rattle.std.specs.Prelude.{All, Option, Some, None, Ok}
 use Rattle.std.proofs.lemmas.Option.{same_Some}
 use Rattle.std.proofs.lemmas.List.Elements.{All-head}
 use Rattle.exact_values.specs.Rational.{ℚ}
 use Rattle.exact_values.proofs.Order.{le_refl}
 use Rattle.lp_definitions.specs.LinearProgram.{LinearProgram}
-use Rattle.problem_definitions.specs.Names.{Name}
 use Rattle.problem_definitions.specs.Problem.{Problem}
 use Rattle.control_definitions.specs.Program.{SetupOptions}
 use Rattle.control_definitions.specs.Cells.{Cells}
 use Rattle.selection_definitions.specs.Selection.{selected}
 use Rattle.listing_definitions.specs.declared.Mark.{Mark}
-use Rattle.listing_definitions.specs.declared.Mark.TheVariants.{Optimal}
 use Rattle.listing_definitions.specs.declared.Solver.{Solver}
 use Rattle.listing_definitions.specs.Report.{PathVerdict, Check, Interval, ChainEnd, EndsAt, UnboundedPast, InfeasiblePast, Chain, Report, Solved, Solution, Parametric}
 use Rattle.listing_definitions.specs.Ending.{LimitStop, PriceStop}
@@ -26,10 +24,10 @@ use Rattle.run_definitions.specs.Run.{counted}
 use Rattle.run_laws.specs.Truth.{PresentProgram, sheet_of, IsTrueOf, named_by, TellsOfRun}
 use Rattle.walk_laws.specs.Proved.{attested, Says}
 use Rattle.walk_laws.proofs.Answered.{printed_verdict, IsPathSolver}
-use Rattle.one_story_laws.specs.Story.{SameVerdict, SameClose, TellsSame}
+use Rattle.one_story_laws.specs.Story.{SameVerdict, SameClose}
 use Rattle.one_story_laws.proofs.Marks.{FailsAt, same_verdict, same_failure, fails_or_best}
-use Rattle.one_story_laws.proofs.Ends.{HasRun, same_close, IsLast}
-use Rattle.one_story_laws.proofs.Told.{IsTrueVerdict, Fails, Runs, SaysEnough, attested_says}
+use Rattle.one_story_laws.proofs.Ends.{HasRun, same_close}
+use Rattle.one_story_laws.proofs.Told.{Fails, Runs, SaysEnough, attested_says}
 use Rattle.one_story_laws.proofs.Alike.{SameSetup, one_setup, Alike, AlikeOrStopped, goes_alike, by_verdict_alike, IsAlike, may_stop, asked}
 
 -- ---- the linear program, and the parametric run, of which something is told
@@ -39,7 +37,7 @@ pub same_sheet : (setup : Option Present) (cells : Cells) (present : Present) (l
 same_sheet setup cells present lp program set is =
     let same : program.present ≡ present = same_Some program.present present (sym program.is_setup ∙ set) in
     let moved : selected present.problem (choice_of cells present.options) ≡ Ok program.lp =
-        subst (λ (x : Present). selected x.problem (choice_of cells x.options) ≡ Ok program.lp) same program.is_selected in
+    subst (λ (x : Present). selected x.problem (choice_of cells x.options) ≡ Ok program.lp) same program.is_selected in
     let both : Ok program.lp ≡ Ok lp = sym moved ∙ is in
     let same_lp : program.lp ≡ lp = cc both in
     λ i. record { problem = (same i).problem; lp = same_lp i }

@@ -5,8 +5,8 @@
 --     IsAhead, IsBehind ..         the second run goes on from where the first one stands, or the other way round
 --     Whole ..                     a whole run, up to its last statement
 --     Story ..                     two whole runs tell the same, or the first one is cut off
-use Rattle.std.proofs.Common.{◌≡◌, ◌⊎◌, inl, inr, ℕ, suc, ◌-◌, ◌≤◌, ◌<◌, List, [], ◌∷◌, ◌++◌, length, map, refl, sym, ap, subst, ◌∙◌, arith}
-use Rattle.std.specs.Prelude.{All, Option, Some, None, slice_get}
+use Rattle.std.proofs.Common.{◌≡◌, ◌⊎◌, inl, inr, ℕ, suc, ◌-◌, ◌≤◌, ◌<◌, List, [], ◌∷◌, ◌++◌, map, refl, sym, ap, subst, ◌∙◌, arith}
+use Rattle.std.specs.Prelude.{All, None}
 use Rattle.std.proofs.Math.Nat.{eq-or-lt_of_le}
 use Rattle.std.proofs.lemmas.Bool.{cases_lt}
 use Rattle.std.proofs.lemmas.List.{append-nil, append_assoc}
@@ -20,7 +20,7 @@ use Rattle.question_definitions.specs.Solving.{Solving}
 use Rattle.run_definitions.specs.State.{State, start}
 use Rattle.run_definitions.specs.Moves.{Gain, Nothing, printed_by, Outcome, Goes, Ends, gain_of, Gives}
 use Rattle.run_definitions.specs.Verbs.{verb_move}
-use Rattle.run_definitions.specs.Run.{max_executed, counted, Step, IsOver, at_end, at_limit, Reaches, begun, stepped, IsRun, is_over, is_ended}
+use Rattle.run_definitions.specs.Run.{counted, Step, IsOver, at_end, at_limit, Reaches, begun, stepped, IsRun, is_over, is_ended}
 use Rattle.run_laws.specs.Headline.{HoldSoFar, HoldInRun}
 use Rattle.run_functions.specs.Laws.{IsOverflow, IsOverflowStop}
 use Rattle.walk_laws.specs.Proved.{attested, Says}

@@ -1,16 +1,13 @@
 -- What two listings show in states that are the same but for the bases is worth the same.
-use Rattle.std.proofs.Common.{◌≡◌, ℕ, zero, suc, List, [], ◌∷◌, ◌++◌, map, refl, sym, ap, subst, ◌∙◌}
-use Rattle.std.specs.Prelude.{All, Contains, Option, Some, None, Ok}
+use Rattle.std.proofs.Common.{◌≡◌, List, [], ◌∷◌, map, refl, sym, subst, ◌∙◌}
+use Rattle.std.specs.Prelude.{All, Contains, Option, Some, Ok}
 use Rattle.std.proofs.lemmas.Option.{same_Some}
 use Rattle.std.proofs.lemmas.List.Elements.{All-nil, All-cons, All-head, All-tail, All-contains}
-use Rattle.exact_values.specs.Rational.{ℚ}
 use Rattle.lp_definitions.specs.LinearProgram.{LinearProgram, Vector, objective_value}
 use Rattle.lp_definitions.specs.Solutions.{IsBest}
-use Rattle.problem_definitions.specs.Problem.{Problem}
 use Rattle.control_definitions.specs.Cells.{Cells}
-use Rattle.control_definitions.specs.Program.{SetupOptions}
-use Rattle.method_definitions.specs.Chain.{Part, along}
-use Rattle.sweep_laws.specs.Truth.{IsTruePart, IsTrueRun}
+use Rattle.method_definitions.specs.Chain.{along}
+use Rattle.sweep_laws.specs.Truth.{IsTruePart}
 use Rattle.selection_definitions.specs.Selection.{selected}
 use Rattle.listing_definitions.specs.declared.Mark.{Mark}
 use Rattle.listing_definitions.specs.declared.Mark.TheVariants.{Optimal, Infeasible, Unbounded}
@@ -22,10 +19,10 @@ use Rattle.run_definitions.specs.State.{Present, State, choice_of}
 use Rattle.run_laws.specs.Truth.{PresentProgram, sheet_of, TellsOfRun}
 use Rattle.run_laws.proofs.Selected.{selected_has_no_change}
 use Rattle.walk_definitions.specs.Tests.{point_of}
-use Rattle.judged_laws.specs.Shown.{part_of, past_of}
+use Rattle.judged_laws.specs.Shown.{part_of}
 use Rattle.walk_laws.specs.Proved.{ShowsProved, ShowsProvedChain, Says}
 use Rattle.one_story_laws.specs.Story.{TellsSame}
-use Rattle.one_story_laws.specs.Shown.{SameActivity, objective_at, SameAlong, ShowsSame}
+use Rattle.one_story_laws.specs.Shown.{SameActivity, SameAlong, ShowsSame}
 use Rattle.one_story_laws.proofs.Marks.{best_objective}
 use Rattle.one_story_laws.proofs.Alike.{SameSetup, no_setup, one_setup, SameStanding, standing}
 use Rattle.one_story_laws.proofs.Questions.{same_sheet, same_changing}
@@ -40,7 +37,7 @@ same_programs cells _ _ (one_setup problem options opening other steps others) f
     let two : Present = record { problem = problem; options = options; opening = other; steps = others } in
     let same : second.present ≡ two = same_Some second.present two (sym second.is_setup) in
     let moved : selected problem (choice_of cells options) ≡ Ok second.lp =
-        subst (λ (x : Present). selected x.problem (choice_of cells x.options) ≡ Ok second.lp) same second.is_selected in
+    subst (λ (x : Present). selected x.problem (choice_of cells x.options) ≡ Ok second.lp) same second.is_selected in
     same_sheet (Some one) cells one second.lp first refl moved ∙ sym (same_sheet (Some two) cells two second.lp second refl moved)
 
 -- ---- SOLUTION
@@ -79,7 +76,7 @@ same_along sheet sweep other chain another changes first second = λ theta one t
     let z : Vector = along theta (part_of one).value (part_of one).value_rate in
     let w : Vector = along theta (part_of two).value (part_of two).value_rate in
     let best : IsBest p w =
-        subst (λ (x : Changing). IsBest (family_of sheet x theta) w) (sym changes) ((true_part sheet other another second two also).solved theta from_two to_two).best in
+    subst (λ (x : Changing). IsBest (family_of sheet x theta) w) (sym changes) ((true_part sheet other another second two also).solved theta from_two to_two).best in
     best_objective p z w ((true_part sheet sweep chain first one among).solved theta from_one to_one).best best
 
 same_runs : (cells : Cells) (left right : Option Present) → SameSetup left right → (solver : Solver) (chain another : Chain) → TellsOfRun left cells solver (ShowsProvedChain chain) →

@@ -17,8 +17,6 @@ use Rattle.run_laws.specs.Truth.{Holds, HoldsAtEnd}
 use Rattle.run_laws.specs.Headline.{HoldInRun, HoldInJob}
 use Rattle.run_laws.specs.Laws.{RunLaws}
 use Rattle.run_functions.specs.Laws.{IsOverflow}
-use Rattle.walk_definitions.specs.Walker.{Attested}
-use Rattle.walk_definitions.specs.Found.{Comes}
 use Rattle.reading_laws.specs.Laws.{ReadingLaw}
 use Rattle.judged_laws.specs.Laws.{JudgedLaws}
 use Rattle.walk_laws.specs.Proved.{attested, Says, SaysAtEnd, IsTrueListing}
@@ -28,7 +26,7 @@ use Rattle.one_story_laws.specs.Laws.{IsProvedListing, OneStoryLaws}
 use Rattle.one_story_laws.proofs.Told.{SaysEnough, attested_says, real_says}
 use Rattle.one_story_laws.proofs.Alike.{SameStanding, CutsOff}
 use Rattle.one_story_laws.proofs.Shows.{shows_same}
-use Rattle.one_story_laws.proofs.Runs.{Whole, whole_of, Breaks, Story, two_runs}
+use Rattle.one_story_laws.proofs.Runs.{Whole, whole_of, Story, two_runs}
 use Rattle.one_story_laws.proofs.NoBasis.{job_of_no_basis}
 use Rattle.one_story_laws.proofs.Attested.{attested_told}
 

@@ -11,10 +11,10 @@ use Rattle.check_definitions.specs.Steps.{in_turn}
 use Rattle.check_definitions.proofs.Passing.{both_checked, holds_if_checked}
 use Rattle.listing_definitions.specs.declared.Solver.{Solver}
 use Rattle.listing_definitions.specs.Report.{Interval, ChainEnd, EndsAt, UnboundedPast, InfeasiblePast}
-use Rattle.question_definitions.specs.Answers.{Sheet, Changing, Row, Set, sweeper, Sweep, OfPath, OfSweep, PathEnd, Reached, PathLimit, PricesWrong, SweepEnd, Opening, Chained, SweepLimit}
+use Rattle.question_definitions.specs.Answers.{Sheet, Changing, Row, Set, sweeper, Sweep, OfPath, OfSweep, PathEnd, Reached, SweepEnd, Opening, Chained, SweepLimit}
 use Rattle.walk_definitions.specs.Words.{Parsed, left_after}
 use Rattle.walk_definitions.specs.Tests.{asked, interval_test, close_test}
-use Rattle.walk_definitions.specs.Reading.{Judged, Right, Fails, Refuses, by_verdict, tested, judged_map, Claim, verdict_in, interval_in, close_in, sweep_head, Run, onward, part_in, run_in, opening_in, sweep_in, judged}
+use Rattle.walk_definitions.specs.Reading.{Judged, Right, Fails, Refuses, by_verdict, tested, judged_map, Claim, interval_in, close_in, sweep_head, Run, onward, part_in, run_in, sweep_in, judged}
 use Rattle.walk_laws.specs.Proved.{IsTaken}
 use Rattle.one_story_laws.proofs.Ends.{IsLast}
 

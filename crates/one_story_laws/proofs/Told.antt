@@ -1,7 +1,7 @@
 -- What is asked of the answers of a run and of what its reports say, so that another run tells the same.
 --     SaysEnough S Says Open       verdicts and parametric runs are true, and the run is cut off only where that is open
 --     attested_says, real_says     so it is with an attested listing, and with the run itself
-use Rattle.std.proofs.Common.{◌≡◌, ℕ, List, refl, sym, subst, map, length, Option}
+use Rattle.std.proofs.Common.{ℕ, List, refl, sym, subst, map, length, Option}
 use Rattle.exact_values.specs.Rational.{ℚ}
 use Rattle.control_definitions.specs.Cells.{Cells}
 use Rattle.method_definitions.specs.Chain.{ChainEnd as PastBreak, AtMax, UnboundedPast as PastUnbounded, InfeasiblePast as PastInfeasible}

@@ -1,8 +1,7 @@
 -- Each verb leads two runs alike, from states that are the same but for the bases.
 use Rattle.std.proofs.Common.{◌≡◌, ℕ, ◌+◌, List, [], ◌∷◌, refl, ap, ◌∙◌}
-use Rattle.std.specs.Prelude.{Option, Some, None, Result, Ok, Err, option_and_then}
+use Rattle.std.specs.Prelude.{Option, Some, None, option_and_then}
 use Rattle.exact_values.specs.Rational.{ℚ}
-use Rattle.lp_definitions.specs.LinearProgram.{LinearProgram}
 use Rattle.lp_definitions.specs.Basis.{opening_statuses}
 use Rattle.card_definitions.specs.Cards.{Card}
 use Rattle.problem_definitions.specs.Names.{Name}
@@ -19,11 +18,10 @@ use Rattle.listing_definitions.specs.declared.Solver.{Solver}
 use Rattle.listing_definitions.specs.declared.Solver.TheVariants.{Primal as ByPrimal, Dual as ByDual}
 use Rattle.listing_definitions.specs.declared.VerbFault.{VerbFault}
 use Rattle.listing_definitions.specs.Report.{Filed, Report, Titled, Converted, Revised}
-use Rattle.listing_definitions.specs.Ending.{Ended}
-use Rattle.question_definitions.specs.Answers.{Sheet, Changing, changing_name, Sweep, OfRanges, OfPunch, OfInstall}
+use Rattle.question_definitions.specs.Answers.{Changing, changing_name, OfRanges, OfPunch, OfInstall}
 use Rattle.question_definitions.specs.Solving.{Solving}
-use Rattle.run_definitions.specs.State.{Present, present_basis, State, problem_of, choice_of}
-use Rattle.run_definitions.specs.Moves.{Gain, Nothing, Prints, printed_by, Outcome, Goes, stops, Move, Does}
+use Rattle.run_definitions.specs.State.{Present, State, problem_of, choice_of}
+use Rattle.run_definitions.specs.Moves.{Gain, Nothing, Prints, printed_by, Goes, Move, Does}
 use Rattle.run_definitions.specs.Verbs.{size_of, files, not_less, change_row, change_set, mark_after, if_optimal, solves, shows, ranges, sweeps, converts, revises, sets_up, punches, punches_basis, inserts, verb_move}
 use Rattle.run_definitions.specs.Run.{counted}
 use Rattle.run_laws.specs.Truth.{IsOfProblem, named_by}
@@ -32,7 +30,7 @@ use Rattle.walk_laws.proofs.Answered.{IsPathSolver}
 use Rattle.one_story_laws.specs.Story.{TellsSame, TellSame}
 use Rattle.one_story_laws.proofs.Told.{SaysEnough}
 use Rattle.one_story_laws.proofs.Alike.{SameSetup, no_setup, one_setup, goes_alike, IsAlike, does, may_stop, asked, unless_fault, unless_deck_fault, unless_selection_fault, selecting}
-use Rattle.one_story_laws.proofs.Questions.{IsAskedBy, path_asked, solution_asked, sweep_asked}
+use Rattle.one_story_laws.proofs.Questions.{path_asked, solution_asked, sweep_asked}
 
 module _ (S : Solving) (Speaks : State → Report → Type 0) (Open : Type 0) (enough : SaysEnough S Speaks Open) (card : ℕ) (state : State) where
   abbrev with_setup : Option Present → State

@@ -12,7 +12,7 @@ use Rattle.control_definitions.specs.Cells.{Cells}
 use Rattle.control_definitions.specs.Program.{Program}
 use Rattle.method_definitions.specs.Chain.{along}
 use Rattle.listing_definitions.specs.declared.Mark.TheVariants.{Optimal}
-use Rattle.listing_definitions.specs.Report.{SolutionLines, Interval, Chain, Report, Solution, Parametric}
+use Rattle.listing_definitions.specs.Report.{SolutionLines, Interval, Report, Solution, Parametric}
 use Rattle.listing_definitions.specs.Ending.{Ending}
 use Rattle.question_definitions.specs.Answers.{Sheet, Sweep}
 use Rattle.question_definitions.specs.Solving.{Solving}
