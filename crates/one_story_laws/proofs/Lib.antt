@@ -5,6 +5,7 @@ mod Told
 mod Alike
 mod Questions
 mod Verbs
+mod Worth
 mod Shows
 mod Runs
 mod NoBasis

@@ -1,9 +1,10 @@
 -- What two listings show in states that are the same but for the bases is worth the same.
-use Rattle.std.proofs.Common.{◌≡◌, List, [], ◌∷◌, map, refl, sym, subst, ◌∙◌}
+use Rattle.std.proofs.Common.{◌≡◌, ℕ, List, [], ◌∷◌, map, refl, sym, subst, ◌∙◌}
 use Rattle.std.specs.Prelude.{All, Contains, Option, Some, Ok}
 use Rattle.std.proofs.lemmas.Option.{same_Some}
 use Rattle.std.proofs.lemmas.List.Elements.{All-nil, All-cons, All-head, All-tail, All-contains}
-use Rattle.lp_definitions.specs.LinearProgram.{LinearProgram, Vector, objective_value}
+use Rattle.exact_values.specs.Rational.{ℚ}
+use Rattle.lp_definitions.specs.LinearProgram.{LinearProgram, objective_value}
 use Rattle.lp_definitions.specs.Solutions.{IsBest}
 use Rattle.control_definitions.specs.Cells.{Cells}
 use Rattle.method_definitions.specs.Chain.{along}
@@ -20,10 +21,11 @@ use Rattle.run_laws.specs.Truth.{PresentProgram, sheet_of, TellsOfRun}
 use Rattle.run_laws.proofs.Selected.{selected_has_no_change}
 use Rattle.walk_definitions.specs.Tests.{point_of}
 use Rattle.judged_laws.specs.Shown.{part_of}
-use Rattle.walk_laws.specs.Proved.{ShowsProved, ShowsProvedChain, Says}
+use Rattle.walk_laws.specs.Proved.{Says}
 use Rattle.one_story_laws.specs.Story.{TellsSame}
-use Rattle.one_story_laws.specs.Shown.{SameActivity, SameAlong, ShowsSame}
+use Rattle.one_story_laws.specs.Shown.{SameActivity, objective_at, SameAlong, ShowsSame}
 use Rattle.one_story_laws.proofs.Marks.{best_objective}
+use Rattle.one_story_laws.proofs.Worth.{IsBestWorth, ShowsWorth, RunsWorth, SpeaksWorth, attested_worth}
 use Rattle.one_story_laws.proofs.Alike.{SameSetup, no_setup, one_setup, SameStanding, standing}
 use Rattle.one_story_laws.proofs.Questions.{same_sheet, same_changing}
 
@@ -42,45 +44,28 @@ same_programs cells _ _ (one_setup problem options opening other steps others) f
 
 -- ---- SOLUTION
 
-activity_is : (setup : Option Present) (cells : Cells) (program : PresentProgram setup cells) (z : Vector) → z program.lp.objective ≡ objective_value program.lp z
-activity_is setup cells program z = selected_has_no_change program.present.problem (choice_of cells program.present.options) program.lp program.is_selected z
+same_worth : (p : LinearProgram) (x y : ℚ) → IsBestWorth p x → IsBestWorth p y → x ≡ y
+same_worth p x y first second = first.worth ∙ best_objective p first.point second.point first.best second.best ∙ sym second.worth
 
-same_activity : (cells : Cells) (left right : Option Present) → SameSetup left right → (lines others : SolutionLines) → ShowsProved left cells lines → ShowsProved right cells others → SameActivity left cells lines others
+same_activity : (cells : Cells) (left right : Option Present) → SameSetup left right → (lines others : SolutionLines) → ShowsWorth left cells lines → ShowsWorth right cells others → SameActivity left cells lines others
 same_activity cells left right setups lines others first second =
-    let p : LinearProgram = first.program.lp in
-    let z : Vector = point_of (sheet_of first.program) lines in
-    let w : Vector = point_of (sheet_of first.program) others in
-    let best : IsBest p w = subst (λ (x : Sheet). IsBest x.lp (point_of x others)) (sym (same_programs cells left right setups first.program second.program)) second.best in
+    let moved = subst (λ (x : Sheet). IsBestWorth x.lp (point_of x others x.lp.objective)) (sym (same_programs cells left right setups first.program second.program)) second.is_worth in
     record {
       program = first.program;
-      same = activity_is left cells first.program z ∙ best_objective p z w first.best best ∙ sym (activity_is left cells first.program w);
+      same = same_worth first.program.lp (point_of (sheet_of first.program) lines first.program.lp.objective) (point_of (sheet_of first.program) others first.program.lp.objective) first.is_worth moved;
     }
 
 -- ---- parametric runs
 
-all_before : {X Y : Type 0} (P : Y → Type 0) (f : X → Y) (xs : List X) → All P (map f xs) → All (λ (x : X). P (f x)) xs
-all_before {X = X} P f [] all = All-nil (λ (x : X). P (f x))
-all_before {X = X} P f (x ∷ xs) all = All-cons (λ (x : X). P (f x)) x xs (All-head P (f x) (map f xs) all) (all_before P f xs (All-tail P (f x) (map f xs) all))
+same_along : (sheet : Sheet) (sweep other : Sweep) (intervals others : List Interval) → sweep.changing ≡ other.changing → RunsWorth intervals sheet sweep → RunsWorth others sheet other →
+    SameAlong intervals others sheet sweep
+same_along sheet sweep other intervals others changes first second = λ theta one two among also from_one to_one from_two to_two.
+    same_worth (family_of sheet sweep.changing theta) (objective_at sheet sweep theta one) (objective_at sheet sweep theta two) (first one among theta from_one to_one)
+    (subst (λ (x : Changing). IsBestWorth (family_of sheet x theta) (objective_value (family_of sheet x theta) (along theta (part_of two).value (part_of two).value_rate))) (sym changes)
+    (second two also theta from_two to_two))
 
--- each interval is true
-true_part : (sheet : Sheet) (sweep : Sweep) (chain : Chain) → ShowsProvedChain chain sheet sweep → (interval : Interval) → Contains chain.intervals interval →
-    IsTruePart (family_of sheet sweep.changing) sweep.to (part_of interval)
-true_part sheet sweep chain shows interval among =
-    All-contains (λ (i : Interval). IsTruePart (family_of sheet sweep.changing) sweep.to (part_of i)) chain.intervals interval
-    (all_before (IsTruePart (family_of sheet sweep.changing) sweep.to) part_of chain.intervals shows.is_true.intervals) among
-
-same_along : (sheet : Sheet) (sweep other : Sweep) (chain another : Chain) → sweep.changing ≡ other.changing → ShowsProvedChain chain sheet sweep → ShowsProvedChain another sheet other →
-    SameAlong chain.intervals another.intervals sheet sweep
-same_along sheet sweep other chain another changes first second = λ theta one two among also from_one to_one from_two to_two.
-    let p : LinearProgram = family_of sheet sweep.changing theta in
-    let z : Vector = along theta (part_of one).value (part_of one).value_rate in
-    let w : Vector = along theta (part_of two).value (part_of two).value_rate in
-    let best : IsBest p w =
-    subst (λ (x : Changing). IsBest (family_of sheet x theta) w) (sym changes) ((true_part sheet other another second two also).solved theta from_two to_two).best in
-    best_objective p z w ((true_part sheet sweep chain first one among).solved theta from_one to_one).best best
-
-same_runs : (cells : Cells) (left right : Option Present) → SameSetup left right → (solver : Solver) (chain another : Chain) → TellsOfRun left cells solver (ShowsProvedChain chain) →
-    TellsOfRun right cells solver (ShowsProvedChain another) → TellsOfRun left cells solver (SameAlong chain.intervals another.intervals)
+same_runs : (cells : Cells) (left right : Option Present) → SameSetup left right → (solver : Solver) (chain another : Chain) → TellsOfRun left cells solver (RunsWorth chain.intervals) →
+    TellsOfRun right cells solver (RunsWorth another.intervals) → TellsOfRun left cells solver (SameAlong chain.intervals another.intervals)
 same_runs cells left right setups solver chain another first second =
     let sheets = same_programs cells left right setups first.program second.program in
     let changes = same_changing cells first.sweep.changing second.sweep.changing (sym first.is_solver ∙ second.is_solver) first.is_named second.is_named in
@@ -92,59 +77,60 @@ same_runs cells left right setups solver chain another first second =
       is_named = first.is_named;
       from_first = first.from_first;
       to_last = first.to_last;
-      tells = same_along (sheet_of first.program) first.sweep second.sweep chain another changes first.tells
-          (subst (λ (x : Sheet). ShowsProvedChain another x second.sweep) (sym sheets) second.tells);
+      tells = same_along (sheet_of first.program) first.sweep second.sweep chain.intervals another.intervals changes first.tells
+          (subst (λ (x : Sheet). RunsWorth another.intervals x second.sweep) (sym sheets) second.tells);
     }
 
 -- ---- two reports
 
-solutions_same : (state : State) (left right : Option Present) → SameSetup left right → (other : Mark) (lines others : SolutionLines) → Optimal ≡ other → Says (record state { setup = left }) (Solution Optimal lines) →
-    Says (record state { setup = right }) (Solution other others) → SameActivity left state.cells lines others
-solutions_same state left right setups Optimal lines others same first second = same_activity state.cells left right setups lines others first second
-solutions_same state left right setups Infeasible lines others same first second = absurd (cc same)
-solutions_same state left right setups Unbounded lines others same first second = absurd (cc same)
+module _ (Speaks : State → Report → Type 0) (worth : SpeaksWorth Speaks) where
+  solutions_same : (state : State) (left right : Option Present) → SameSetup left right → (other : Mark) (lines others : SolutionLines) → Optimal ≡ other → Speaks (record state { setup = left }) (Solution Optimal lines) →
+      Says (record state { setup = right }) (Solution other others) → SameActivity left state.cells lines others
+  solutions_same state left right setups Optimal lines others same first second = same_activity state.cells left right setups lines others (worth.solutions (record state { setup = left }) lines first) (attested_worth.solutions (record state { setup = right }) others second)
+  solutions_same state left right setups Infeasible lines others same first second = absurd (cc same)
+  solutions_same state left right setups Unbounded lines others same first second = absurd (cc same)
 
-beside_optimal : (state : State) (left right : Option Present) → SameSetup left right → (lines : SolutionLines) (other : Report) → TellsSame (Solution Optimal lines) other →
-    Says (record state { setup = left }) (Solution Optimal lines) → Says (record state { setup = right }) other → ShowsSame (record state { setup = left }) (Solution Optimal lines) other
-beside_optimal state left right setups lines (Titled text) same first second = tt
-beside_optimal state left right setups lines (Converted filed) same first second = tt
-beside_optimal state left right setups lines (Revised filed) same first second = tt
-beside_optimal state left right setups lines (SetUp name sense) same first second = tt
-beside_optimal state left right setups lines (BcdOut name count) same first second = tt
-beside_optimal state left right setups lines (BasisOut name count) same first second = tt
-beside_optimal state left right setups lines (Inserted name count) same first second = tt
-beside_optimal state left right setups lines (Solved other verdict check) same first second = tt
-beside_optimal state left right setups lines (Solution other others) same first second = solutions_same state left right setups other lines others same first second
-beside_optimal state left right setups lines (Ranges others) same first second = tt
-beside_optimal state left right setups lines (Parametric other another) same first second = tt
+  beside_optimal : (state : State) (left right : Option Present) → SameSetup left right → (lines : SolutionLines) (other : Report) → TellsSame (Solution Optimal lines) other →
+      Speaks (record state { setup = left }) (Solution Optimal lines) → Says (record state { setup = right }) other → ShowsSame (record state { setup = left }) (Solution Optimal lines) other
+  beside_optimal state left right setups lines (Titled text) same first second = tt
+  beside_optimal state left right setups lines (Converted filed) same first second = tt
+  beside_optimal state left right setups lines (Revised filed) same first second = tt
+  beside_optimal state left right setups lines (SetUp name sense) same first second = tt
+  beside_optimal state left right setups lines (BcdOut name count) same first second = tt
+  beside_optimal state left right setups lines (BasisOut name count) same first second = tt
+  beside_optimal state left right setups lines (Inserted name count) same first second = tt
+  beside_optimal state left right setups lines (Solved other verdict check) same first second = tt
+  beside_optimal state left right setups lines (Solution other others) same first second = solutions_same state left right setups other lines others same first second
+  beside_optimal state left right setups lines (Ranges others) same first second = tt
+  beside_optimal state left right setups lines (Parametric other another) same first second = tt
 
-beside_run : (state : State) (left right : Option Present) → SameSetup left right → (solver : Solver) (chain : Chain) (other : Report) → TellsSame (Parametric solver chain) other →
-    Says (record state { setup = left }) (Parametric solver chain) → Says (record state { setup = right }) other → ShowsSame (record state { setup = left }) (Parametric solver chain) other
-beside_run state left right setups solver chain (Titled text) same first second = tt
-beside_run state left right setups solver chain (Converted filed) same first second = tt
-beside_run state left right setups solver chain (Revised filed) same first second = tt
-beside_run state left right setups solver chain (SetUp name sense) same first second = tt
-beside_run state left right setups solver chain (BcdOut name count) same first second = tt
-beside_run state left right setups solver chain (BasisOut name count) same first second = tt
-beside_run state left right setups solver chain (Inserted name count) same first second = tt
-beside_run state left right setups solver chain (Solved other verdict check) same first second = tt
-beside_run state left right setups solver chain (Solution other others) same first second = tt
-beside_run state left right setups solver chain (Ranges others) same first second = tt
-beside_run state left right setups solver chain (Parametric other another) same first second =
-    same_runs state.cells left right setups solver chain another first
-    (subst (λ (s : Solver). TellsOfRun right state.cells s (ShowsProvedChain another)) (sym same.0) second)
+  beside_run : (state : State) (left right : Option Present) → SameSetup left right → (solver : Solver) (chain : Chain) (other : Report) → TellsSame (Parametric solver chain) other →
+      Speaks (record state { setup = left }) (Parametric solver chain) → Says (record state { setup = right }) other → ShowsSame (record state { setup = left }) (Parametric solver chain) other
+  beside_run state left right setups solver chain (Titled text) same first second = tt
+  beside_run state left right setups solver chain (Converted filed) same first second = tt
+  beside_run state left right setups solver chain (Revised filed) same first second = tt
+  beside_run state left right setups solver chain (SetUp name sense) same first second = tt
+  beside_run state left right setups solver chain (BcdOut name count) same first second = tt
+  beside_run state left right setups solver chain (BasisOut name count) same first second = tt
+  beside_run state left right setups solver chain (Inserted name count) same first second = tt
+  beside_run state left right setups solver chain (Solved other verdict check) same first second = tt
+  beside_run state left right setups solver chain (Solution other others) same first second = tt
+  beside_run state left right setups solver chain (Ranges others) same first second = tt
+  beside_run state left right setups solver chain (Parametric other another) same first second =
+      same_runs state.cells left right setups solver chain another (worth.chains (record state { setup = left }) solver chain first)
+      (subst (λ (s : Solver). TellsOfRun right state.cells s (RunsWorth another.intervals)) (sym same.0) (attested_worth.chains (record state { setup = right }) other another second))
 
-pub shows_same : (a b : State) → SameStanding a b → (report other : Report) → TellsSame report other → Says a report → Says b other → ShowsSame a report other
-shows_same a b stand (Titled text) other same first second = tt
-shows_same a b stand (Converted filed) other same first second = tt
-shows_same a b stand (Revised filed) other same first second = tt
-shows_same a b stand (SetUp name sense) other same first second = tt
-shows_same a b stand (BcdOut name count) other same first second = tt
-shows_same a b stand (BasisOut name count) other same first second = tt
-shows_same a b stand (Inserted name count) other same first second = tt
-shows_same a b stand (Solved solver verdict check) other same first second = tt
-shows_same _ _ (standing state left right setups) (Solution Optimal lines) other same first second = beside_optimal state left right setups lines other same first second
-shows_same a b stand (Solution Infeasible lines) other same first second = tt
-shows_same a b stand (Solution Unbounded lines) other same first second = tt
-shows_same a b stand (Ranges lines) other same first second = tt
-shows_same _ _ (standing state left right setups) (Parametric solver chain) other same first second = beside_run state left right setups solver chain other same first second
+  pub shows_same : (a b : State) → SameStanding a b → (report other : Report) → TellsSame report other → Speaks a report → Says b other → ShowsSame a report other
+  shows_same a b stand (Titled text) other same first second = tt
+  shows_same a b stand (Converted filed) other same first second = tt
+  shows_same a b stand (Revised filed) other same first second = tt
+  shows_same a b stand (SetUp name sense) other same first second = tt
+  shows_same a b stand (BcdOut name count) other same first second = tt
+  shows_same a b stand (BasisOut name count) other same first second = tt
+  shows_same a b stand (Inserted name count) other same first second = tt
+  shows_same a b stand (Solved solver verdict check) other same first second = tt
+  shows_same _ _ (standing state left right setups) (Solution Optimal lines) other same first second = beside_optimal state left right setups lines other same first second
+  shows_same a b stand (Solution Infeasible lines) other same first second = tt
+  shows_same a b stand (Solution Unbounded lines) other same first second = tt
+  shows_same a b stand (Ranges lines) other same first second = tt
+  shows_same _ _ (standing state left right setups) (Parametric solver chain) other same first second = beside_run state left right setups solver chain other same first second

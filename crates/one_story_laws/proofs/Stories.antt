@@ -25,6 +25,7 @@ use Rattle.one_story_laws.specs.Shown.{made_by, made_so_far, made_in_run, made_i
 use Rattle.one_story_laws.specs.Laws.{IsProvedListing, OneStoryLaws}
 use Rattle.one_story_laws.proofs.Told.{SaysEnough, attested_says, real_says}
 use Rattle.one_story_laws.proofs.Alike.{SameStanding, CutsOff}
+use Rattle.one_story_laws.proofs.Worth.{attested_worth, real_worth}
 use Rattle.one_story_laws.proofs.Shows.{shows_same}
 use Rattle.one_story_laws.proofs.Runs.{Whole, whole_of, Story, two_runs}
 use Rattle.one_story_laws.proofs.NoBasis.{job_of_no_basis}
@@ -85,7 +86,7 @@ module _ (S : Solving) (Speaks : State → Report → Type 0) (AtEnd : State →
 two_listings : (bytes lines others : List ℕ) (n m : ℕ) (one : IsProvedListing bytes lines n) (two : IsProvedListing bytes others m) →
     IsOneStory one.proved.reports two.proved.reports one.proved.ending two.proved.ending × ShowSame (made_in_job attested one.proved.runs) two.proved.reports
 two_listings bytes lines others n m one two =
-    by (two_jobs attested Says SaysAtEnd ⊥ attested_says ShowsSame shows_same bytes one.proved.reports two.proved.reports one.proved.cards two.proved.cards one.proved.ending two.proved.ending one.proved.runs
+    by (two_jobs attested Says SaysAtEnd ⊥ attested_says ShowsSame (shows_same Says attested_worth) bytes one.proved.reports two.proved.reports one.proved.cards two.proved.cards one.proved.ending two.proved.ending one.proved.runs
     two.proved.runs one.proved.each two.proved.each two.unstopped)
   where
     by : Story ⊥ ShowsSame (made_in_job attested one.proved.runs) one.proved.reports two.proved.reports one.proved.ending two.proved.ending →
