@@ -115,15 +115,16 @@ module _ (T : Solving) (Tells : State → Report → Type 0) (program : Program)
 -- ---- two runs
 
 -- the first run is cut off, and tells the same as far as it goes
-pub record Breaks (Open : Type 0) (reports others : List Report) (ending : Ending) : Type 0 where
+pub record Breaks (Open : Type 0) (Same : State → Report → Report → Type 0) (made : List (State × Report)) (reports others : List Report) (ending : Ending) : Type 0 where
   pub cut : CutsOff Open ending
   pub front : List Report
   pub later : List Report
   pub are : others ≡ front ++ later
   pub tell : TellSame reports front
+  pub beside : AreBeside Same made front
 
 abbrev pub Story : Type 0 → (State → Report → Report → Type 0) → List (State × Report) → List Report → List Report → Ending → Ending → Type 0
-Story Open Same made reports others ending other = (IsOneStory reports others ending other × AreBeside Same made others) ⊎ Breaks Open reports others ending
+Story Open Same made reports others ending other = (IsOneStory reports others ending other × AreBeside Same made others) ⊎ Breaks Open Same made reports others ending
 
 going : (Open : Type 0) (gain other : Gain) (after later : State) → AlikeOrStopped Open (Goes gain after) (Goes other later) → Alike (Goes gain after) (Goes other later)
 going Open gain other after later (inl alike) = alike
@@ -196,25 +197,28 @@ module _ (S : Solving) (Speaks : State → Report → Type 0) (Open : Type 0) (e
         one_more (made_so_far S program decks before) reports others state other gain another after later so_far
         (going Open gain another after later (step_alike state other (Goes gain after) (Goes another later) so_far.stand step second holds.1 also.1 (never_stops another later))) holds.1 also.1
 
-    record IsAhead (reports : List Report) (state : State) (others : List Report) : Type 0 where
+    record IsAhead (made : List (State × Report)) (reports : List Report) (state : State) (others : List Report) : Type 0 where
       front : List Report
       later : List Report
       are : others ≡ front ++ later
       other : State
       tell : TellSame reports front
       stand : SameStanding state other
+      beside : AreBeside Same made front
       gain : Gain
       after : State
       step : Step attested program other (Goes gain after)
       says : All (Says other) (printed_by gain)
 
     ahead : (reports others : List Report) (cards other_cards : List (List ℕ)) (state other : State) (first : Came reports cards state) (second : Seen others other_cards other) →
-        HoldSoFar S Speaks program decks first → HoldSoFar attested Says program decks second → count first < seen_count second → IsAhead reports state others
+        HoldSoFar S Speaks program decks first → HoldSoFar attested Says program decks second → count first < seen_count second →
+        IsAhead (made_so_far S program decks first) reports state others
     ahead _ _ _ _ _ _ first begun holds also e = absurd (omega (arith, e))
     ahead reports _ cards _ state _ first (stepped {reports = others} {cards = other_cards} {state = other} gain after before step) holds also e =
         by (eq-or-lt_of_le {n = count first} {m = seen_count before} (omega (arith, e))) (ahead reports others cards other_cards state other first before holds also.0)
       where
-        by : (count first ≡ seen_count before) ⊎ (count first < seen_count before) → (count first < seen_count before → IsAhead reports state others) → IsAhead reports state (others ++ printed_by gain)
+        by : (count first ≡ seen_count before) ⊎ (count first < seen_count before) → (count first < seen_count before → IsAhead (made_so_far S program decks first) reports state others) →
+            IsAhead (made_so_far S program decks first) reports state (others ++ printed_by gain)
         by (inl as_many) earlier = let so_far = same_so_far reports others cards other_cards state other first before holds also.0 as_many in record {
           front = others;
           later = printed_by gain;
@@ -222,6 +226,7 @@ module _ (S : Solving) (Speaks : State → Report → Type 0) (Open : Type 0) (e
           other = other;
           tell = so_far.tell;
           stand = so_far.stand;
+          beside = so_far.beside;
           gain = gain;
           after = after;
           step = step;
@@ -236,6 +241,7 @@ module _ (S : Solving) (Speaks : State → Report → Type 0) (Open : Type 0) (e
               other = rest.other;
               tell = rest.tell;
               stand = rest.stand;
+              beside = rest.beside;
               gain = rest.gain;
               after = rest.after;
               step = rest.step;
@@ -270,9 +276,9 @@ module _ (S : Solving) (Speaks : State → Report → Type 0) (Open : Type 0) (e
     -- ---- whole runs
 
     -- a run that is cut off reports nothing by its last statement
-    cut_here : (before others front later : List Report) (gain : Gain) (ending : Ending) → others ≡ front ++ later → TellSame before front → IsStopped Open (Ends gain ending) →
-        Breaks Open (before ++ printed_by gain) others ending
-    cut_here before others front later gain ending are tell stop =
+    cut_here : (made : List (State × Report)) (state : State) (before others front later : List Report) (gain : Gain) (ending : Ending) → others ≡ front ++ later → TellSame before front → AreBeside Same made front →
+        IsStopped Open (Ends gain ending) → Breaks Open Same (made ++ made_by state gain) (before ++ printed_by gain) others ending
+    cut_here made state before others front later gain ending are tell beside stop =
         let e = stop.2 in
         let silent : gain ≡ Nothing = cc in
         let same : stop.0 ≡ ending = cc in
@@ -282,6 +288,7 @@ module _ (S : Solving) (Speaks : State → Report → Type 0) (Open : Type 0) (e
           later = later;
           are = are;
           tell = subst (λ (xs : List Report). TellSame xs front) (sym (ap (λ (g : Gain). before ++ printed_by g) silent ∙ append-nil before)) tell;
+          beside = subst (λ (xs : List (State × Report)). AreBeside Same xs front) (sym (ap (λ (g : Gain). made ++ made_by state g) silent ∙ append-nil made)) beside;
         }
 
     module _ (made : List (State × Report)) (before earlier : List Report) (a b : State) (so_far : AreAlike made before earlier a b) where
@@ -294,7 +301,7 @@ module _ (S : Solving) (Speaks : State → Report → Type 0) (Open : Type 0) (e
         (tell_append before earlier (printed_by gain) (printed_by another) so_far.tell alike.0, alike.1),
         beside_append Same made (made_by a gain) earlier (printed_by another) so_far.beside (show_all a b so_far.stand (printed_by gain) (printed_by another) alike.0 speaks says),
       )
-      both_end gain another ending other speaks says (inr stop) = inr (cut_here before (earlier ++ printed_by another) earlier (printed_by another) gain ending refl so_far.tell stop)
+      both_end gain another ending other speaks says (inr stop) = inr (cut_here made a before (earlier ++ printed_by another) earlier (printed_by another) gain ending refl so_far.tell so_far.beside stop)
 
       two_lasts : (gain another : Gain) (ending other : Ending) → (IsOverflow other → ⊥) → Last S Speaks program decks a gain ending → Last attested Says program decks b another other →
           EndSame gain another ending other
@@ -310,15 +317,15 @@ module _ (S : Solving) (Speaks : State → Report → Type 0) (Open : Type 0) (e
           both_end gain another ending other speaks says (step_alike a b (Ends gain ending) (Ends another other) so_far.stand first second speaks says (ends_unstopped another other none))
 
     -- the first run ends where the second one goes on
-    ends_early : (before others : List Report) (state : State) (gain : Gain) (ending : Ending) (rest : IsAhead before state others) → Last S Speaks program decks state gain ending → Breaks Open (before ++ printed_by gain) others ending
-    ends_early before others state _ ending rest (over first) =
+    ends_early : (made : List (State × Report)) (before others : List Report) (state : State) (gain : Gain) (ending : Ending) (rest : IsAhead made before state others) → Last S Speaks program decks state gain ending → Breaks Open Same (made ++ made_by state gain) (before ++ printed_by gain) others ending
+    ends_early made before others state _ ending rest (over first) =
         absurd (over_or_step S attested program state rest.other ending (Goes rest.gain rest.after) (same_position state rest.other rest.stand) (same_executed state rest.other rest.stand) first rest.step)
-    ends_early before others state gain ending rest (ended first speaks) =
+    ends_early made before others state gain ending rest (ended first speaks) =
         by (step_alike state rest.other (Ends gain ending) (Goes rest.gain rest.after) rest.stand first rest.step speaks rest.says (never_stops rest.gain rest.after))
       where
-        by : AlikeOrStopped Open (Ends gain ending) (Goes rest.gain rest.after) → Breaks Open (before ++ printed_by gain) others ending
+        by : AlikeOrStopped Open (Ends gain ending) (Goes rest.gain rest.after) → Breaks Open Same (made ++ made_by state gain) (before ++ printed_by gain) others ending
         by (inl alike) = absurd alike
-        by (inr stop) = cut_here before others rest.front rest.later gain ending rest.are rest.tell stop
+        by (inr stop) = cut_here made state before others rest.front rest.later gain ending rest.are rest.tell rest.beside stop
 
     -- it doesn't go on where the second one ends
     goes_late : (other_state : State) (another : Gain) (other : Ending) (rest : IsBehind other_state) → (IsOverflow other → ⊥) →
@@ -332,13 +339,14 @@ module _ (S : Solving) (Speaks : State → Report → Type 0) (Open : Type 0) (e
         by (inl alike) = alike
         by (inr stop) = let e = stop.2 in cc e
 
-    more_after : (reports before others : List Report) (ending : Ending) (more : List Report) → Breaks Open reports before ending → others ≡ before ++ more → Breaks Open reports others ending
-    more_after reports before others ending more breaks are = record {
+    more_after : (made : List (State × Report)) (reports before others : List Report) (ending : Ending) (more : List Report) → Breaks Open Same made reports before ending → others ≡ before ++ more → Breaks Open Same made reports others ending
+    more_after made reports before others ending more breaks are = record {
       cut = breaks.cut;
       front = breaks.front;
       later = breaks.later ++ more;
       are = are ∙ ap (λ (xs : List Report). xs ++ more) breaks.are ∙ append_assoc breaks.front breaks.later more;
       tell = breaks.tell;
+      beside = breaks.beside;
     }
 
     module _ (made mades : List (State × Report)) (reports others : List Report) (ending other : Ending) (first : Whole S Speaks program decks made reports ending)
@@ -366,8 +374,8 @@ module _ (S : Solving) (Speaks : State → Report → Type 0) (Open : Type 0) (e
 
       two_wholes : (m < n) ⊎ (n ≤ m) → EndsSame
       two_wholes (inl fewer) =
-          inr (more_after (first.before ++ printed_by first.gain) second.before (second.before ++ printed_by second.gain) ending (printed_by second.gain)
-          (ends_early first.before second.before first.state first.gain ending
+          inr (more_after (made_so_far S program decks first.came ++ made_by first.state first.gain) (first.before ++ printed_by first.gain) second.before (second.before ++ printed_by second.gain) ending
+          (printed_by second.gain) (ends_early (made_so_far S program decks first.came) first.before second.before first.state first.gain ending
           (ahead first.before second.before first.cards second.cards first.state second.state first.came second.came first.holds second.holds fewer) first.last) refl)
       two_wholes (inr more) = not_fewer (eq-or-lt_of_le {n = n} {m = m} more)
 

@@ -1,7 +1,7 @@
 -- Two listings of one job that are told tell one story, and so does the run of the job.
 use Rattle.std.proofs.Common.{◌≡◌, ◌⊎◌, inl, inr, ℕ, suc, List, [], ◌∷◌, ◌++◌, map, length, refl, sym, ap, ap₂, subst, ◌∙◌}
 use Rattle.std.specs.Prelude.{All}
-use Rattle.std.proofs.lemmas.List.{map-append}
+use Rattle.std.proofs.lemmas.List.{append-nil, map-append}
 use Rattle.card_definitions.specs.Cards.{Card}
 use Rattle.std.proofs.lemmas.List.Elements.{All-nil, All-cons, All-head, All-tail}
 use Rattle.control_definitions.specs.Program.{Program}
@@ -94,18 +94,29 @@ two_listings bytes lines others n m one two =
     by (inl story) = story
     by (inr breaks) = absurd (one.unstopped ((of_cut ⊥ one.proved.ending breaks.cut).1 (λ (none : ⊥). none)))
 
-abbrev Anything : State → Report → Report → Type 0
-Anything state report other = Unit {0}
+run_beside : RunLaws → (bytes lines : List ℕ) (count : ℕ) (one : IsProvedListing bytes lines count) (reports : List Report) (cards : List (List ℕ)) (ending : Ending) →
+    (runs : IsJobRun linear_programming bytes reports cards ending) → Story (Unit {0}) ShowsSame (made_in_job linear_programming runs) reports one.proved.reports ending one.proved.ending
+run_beside laws bytes lines count one reports cards ending runs =
+    two_jobs linear_programming Holds HoldsAtEnd (Unit {0}) real_says ShowsSame (shows_same Holds real_worth) bytes reports one.proved.reports cards one.proved.cards ending one.proved.ending runs one.proved.runs
+    (laws.truth.job bytes reports cards ending runs) one.proved.each one.unstopped
 
-beside_run : RunLaws → (bytes lines : List ℕ) (count : ℕ) (two : IsProvedListing bytes lines count) (reports : List Report) (cards : List (List ℕ)) (ending : Ending) → IsJobRun linear_programming bytes reports cards ending →
-    IsOneStory reports two.proved.reports ending two.proved.ending ⊎ IsBrokenOff reports two.proved.reports ending
-beside_run laws bytes lines count two reports cards ending runs =
-    by (two_jobs linear_programming Holds HoldsAtEnd (Unit {0}) real_says Anything (λ a b stand report other same holds says. tt) bytes reports two.proved.reports cards two.proved.cards ending two.proved.ending runs two.proved.runs
-    (laws.truth.job bytes reports cards ending runs) two.proved.each two.unstopped)
+beside_run : RunLaws → (bytes lines : List ℕ) (count : ℕ) (one : IsProvedListing bytes lines count) (reports : List Report) (cards : List (List ℕ)) (ending : Ending) → IsJobRun linear_programming bytes reports cards ending →
+    IsOneStory reports one.proved.reports ending one.proved.ending ⊎ IsBrokenOff reports one.proved.reports ending
+beside_run laws bytes lines count one reports cards ending runs = by (run_beside laws bytes lines count one reports cards ending runs)
   where
-    by : Story (Unit {0}) Anything (made_in_job linear_programming runs) reports two.proved.reports ending two.proved.ending → IsOneStory reports two.proved.reports ending two.proved.ending ⊎ IsBrokenOff reports two.proved.reports ending
+    by : Story (Unit {0}) ShowsSame (made_in_job linear_programming runs) reports one.proved.reports ending one.proved.ending →
+        IsOneStory reports one.proved.reports ending one.proved.ending ⊎ IsBrokenOff reports one.proved.reports ending
     by (inl story) = inl story.0
     by (inr breaks) = inr (record { is_cut = (of_cut (Unit {0}) ending breaks.cut).0; first = breaks.front; later = breaks.later; are = breaks.are; tell = breaks.tell })
+
+shown_by_run : RunLaws → (bytes lines : List ℕ) (count : ℕ) (one : IsProvedListing bytes lines count) (reports : List Report) (cards : List (List ℕ)) (ending : Ending) →
+    (runs : IsJobRun linear_programming bytes reports cards ending) → (first : List Report) × (later : List Report) × (one.proved.reports ≡ first ++ later) × ShowSame (made_in_job linear_programming runs) first
+shown_by_run laws bytes lines count one reports cards ending runs = by (run_beside laws bytes lines count one reports cards ending runs)
+  where
+    by : Story (Unit {0}) ShowsSame (made_in_job linear_programming runs) reports one.proved.reports ending one.proved.ending →
+        (first : List Report) × (later : List Report) × (one.proved.reports ≡ first ++ later) × ShowSame (made_in_job linear_programming runs) first
+    by (inl story) = (one.proved.reports, [], sym (append-nil one.proved.reports), story.1)
+    by (inr breaks) = (breaks.front, breaks.later, breaks.are, breaks.beside)
 
 -- ---- the reports with their states
 
@@ -192,6 +203,7 @@ stories reading truth laws = record {
       let two = attested_told reading truth bytes others m second in
       sym one.has_count ∙ tell_as_many one.proved.reports two.proved.reports (two_listings bytes lines others n m one two).0.0 ∙ two.has_count;
   run = beside_run laws;
+  shown_by_run = shown_by_run laws;
   no_basis = listing_of_no_basis;
   no_basis_in_run = run_of_no_basis laws;
 }

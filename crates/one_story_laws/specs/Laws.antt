@@ -1,7 +1,7 @@
 -- What is said of two listings of one job that are both attested, and of an attested one and the run of the job itself.
 --     IsProvedListing ..           the listing is true, with so many reports, and its run doesn't stop with an overflow
 --     OneStoryLaws                 two such listings tell one story, and so does the run, as far as it goes
-use Rattle.std.specs.Prelude.{◌≡◌, ◌⊎◌, ℕ, List, All, length, map}
+use Rattle.std.specs.Prelude.{◌≡◌, ◌⊎◌, ℕ, List, ◌++◌, All, length, map}
 use Rattle.listing_definitions.specs.Report.{Report}
 use Rattle.listing_definitions.specs.Ending.{Ending}
 use Rattle.answer_definitions.specs.Real.{linear_programming}
@@ -36,6 +36,10 @@ pub record OneStoryLaws : Type 0 where
   pub run : (bytes lines : List ℕ) (count : ℕ) (one : IsProvedListing bytes lines count) (reports : List Report) (cards : List (List ℕ)) (ending : Ending) →
       IsJobRun linear_programming bytes reports cards ending →
       IsOneStory reports one.proved.reports ending one.proved.ending ⊎ IsBrokenOff reports one.proved.reports ending
+  -- and what both show is worth the same, as far as the run goes
+  pub shown_by_run : (bytes lines : List ℕ) (count : ℕ) (one : IsProvedListing bytes lines count) (reports : List Report) (cards : List (List ℕ)) (ending : Ending) →
+      (runs : IsJobRun linear_programming bytes reports cards ending) →
+      (first : List Report) × (later : List Report) × (one.proved.reports ≡ first ++ later) × ShowSame (made_in_job linear_programming runs) first
   -- A true listing has no report of RANGE, PUNCH or INSERT, and so the run of a job of which a listing is proved has none.
   pub no_basis : (bytes lines : List ℕ) (one : IsTrueListing bytes lines) → All IsOfNoBasis one.reports
   pub no_basis_in_run : (bytes lines : List ℕ) (count : ℕ) → IsProvedListing bytes lines count → (reports : List Report) (cards : List (List ℕ)) (ending : Ending) →
