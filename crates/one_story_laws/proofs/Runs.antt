@@ -24,7 +24,7 @@ use Rattle.run_definitions.specs.Run.{counted, Step, IsOver, at_end, at_limit, R
 use Rattle.run_laws.specs.Headline.{HoldSoFar, HoldInRun}
 use Rattle.run_functions.specs.Laws.{IsOverflow, IsOverflowStop}
 use Rattle.walk_laws.specs.Proved.{attested, Says}
-use Rattle.one_story_laws.specs.Story.{TellsSame, TellSame, IsOneStory}
+use Rattle.one_story_laws.specs.Story.{TellsSame, TellSame}
 use Rattle.one_story_laws.specs.Shown.{made_by, made_so_far, made_in_run, AreBeside}
 use Rattle.one_story_laws.proofs.Told.{SaysEnough}
 use Rattle.one_story_laws.proofs.Alike.{no_setup, SameStanding, standing, Alike, CutsOff, IsStopped, AlikeOrStopped}
@@ -124,7 +124,7 @@ pub record Breaks (Open : Type 0) (Same : State → Report → Report → Type 0
   pub beside : AreBeside Same made front
 
 abbrev pub Story : Type 0 → (State → Report → Report → Type 0) → List (State × Report) → List Report → List Report → Ending → Ending → Type 0
-Story Open Same made reports others ending other = (IsOneStory reports others ending other × AreBeside Same made others) ⊎ Breaks Open Same made reports others ending
+Story Open Same made reports others ending other = (TellSame reports others × (ending ≡ other) × AreBeside Same made others) ⊎ Breaks Open Same made reports others ending
 
 going : (Open : Type 0) (gain other : Gain) (after later : State) → AlikeOrStopped Open (Goes gain after) (Goes other later) → Alike (Goes gain after) (Goes other later)
 going Open gain other after later (inl alike) = alike
@@ -298,7 +298,8 @@ module _ (S : Solving) (Speaks : State → Report → Type 0) (Open : Type 0) (e
       both_end : (gain another : Gain) (ending other : Ending) → All (Speaks a) (printed_by gain) → All (Says b) (printed_by another) → AlikeOrStopped Open (Ends gain ending) (Ends another other) →
           EndSame gain another ending other
       both_end gain another ending other speaks says (inl alike) = inl (
-        (tell_append before earlier (printed_by gain) (printed_by another) so_far.tell alike.0, alike.1),
+        tell_append before earlier (printed_by gain) (printed_by another) so_far.tell alike.0,
+        alike.1,
         beside_append Same made (made_by a gain) earlier (printed_by another) so_far.beside (show_all a b so_far.stand (printed_by gain) (printed_by another) alike.0 speaks says),
       )
       both_end gain another ending other speaks says (inr stop) = inr (cut_here made a before (earlier ++ printed_by another) earlier (printed_by another) gain ending refl so_far.tell so_far.beside stop)
@@ -306,7 +307,8 @@ module _ (S : Solving) (Speaks : State → Report → Type 0) (Open : Type 0) (e
       two_lasts : (gain another : Gain) (ending other : Ending) → (IsOverflow other → ⊥) → Last S Speaks program decks a gain ending → Last attested Says program decks b another other →
           EndSame gain another ending other
       two_lasts _ _ ending other none (over first) (over second) = inl (
-        (tell_append before earlier [] [] so_far.tell tt, one_over S attested program a b ending other (same_position a b so_far.stand) (same_executed a b so_far.stand) first second),
+        tell_append before earlier [] [] so_far.tell tt,
+        one_over S attested program a b ending other (same_position a b so_far.stand) (same_executed a b so_far.stand) first second,
         beside_append Same made [] earlier [] so_far.beside tt,
       )
       two_lasts _ another ending other none (over first) (ended second says) =

@@ -1,14 +1,11 @@
 -- What two listings show in states that are the same but for the bases is worth the same.
-use Rattle.std.proofs.Common.{◌≡◌, ℕ, List, [], ◌∷◌, map, refl, sym, subst, ◌∙◌}
-use Rattle.std.specs.Prelude.{All, Contains, Option, Some, Ok}
+use Rattle.std.proofs.Common.{◌≡◌, List, refl, sym, subst, ◌∙◌}
+use Rattle.std.specs.Prelude.{Option, Some, Ok}
 use Rattle.std.proofs.lemmas.Option.{same_Some}
-use Rattle.std.proofs.lemmas.List.Elements.{All-nil, All-cons, All-head, All-tail, All-contains}
 use Rattle.exact_values.specs.Rational.{ℚ}
 use Rattle.lp_definitions.specs.LinearProgram.{LinearProgram, objective_value}
-use Rattle.lp_definitions.specs.Solutions.{IsBest}
 use Rattle.control_definitions.specs.Cells.{Cells}
 use Rattle.method_definitions.specs.Chain.{along}
-use Rattle.sweep_laws.specs.Truth.{IsTruePart}
 use Rattle.selection_definitions.specs.Selection.{selected}
 use Rattle.listing_definitions.specs.declared.Mark.{Mark}
 use Rattle.listing_definitions.specs.declared.Mark.TheVariants.{Optimal, Infeasible, Unbounded}
@@ -18,7 +15,6 @@ use Rattle.question_definitions.specs.Answers.{Sheet, Changing, Sweep}
 use Rattle.answer_definitions.specs.Sweeps.{family_of}
 use Rattle.run_definitions.specs.State.{Present, State, choice_of}
 use Rattle.run_laws.specs.Truth.{PresentProgram, sheet_of, TellsOfRun}
-use Rattle.run_laws.proofs.Selected.{selected_has_no_change}
 use Rattle.walk_definitions.specs.Tests.{point_of}
 use Rattle.judged_laws.specs.Shown.{part_of}
 use Rattle.walk_laws.specs.Proved.{Says}

@@ -1,7 +1,7 @@
 -- Two listings of one job that are told tell one story, and so does the run of the job.
 use Rattle.std.proofs.Common.{◌≡◌, ◌⊎◌, inl, inr, ℕ, suc, List, [], ◌∷◌, ◌++◌, map, length, refl, sym, ap, ap₂, subst, ◌∙◌}
 use Rattle.std.specs.Prelude.{All}
-use Rattle.std.proofs.lemmas.List.{append-nil, map-append}
+use Rattle.std.proofs.lemmas.List.{map-append}
 use Rattle.card_definitions.specs.Cards.{Card}
 use Rattle.std.proofs.lemmas.List.Elements.{All-nil, All-cons, All-head, All-tail}
 use Rattle.control_definitions.specs.Program.{Program}
@@ -20,9 +20,9 @@ use Rattle.run_functions.specs.Laws.{IsOverflow}
 use Rattle.reading_laws.specs.Laws.{ReadingLaw}
 use Rattle.judged_laws.specs.Laws.{JudgedLaws}
 use Rattle.walk_laws.specs.Proved.{attested, Says, SaysAtEnd, IsTrueListing}
-use Rattle.one_story_laws.specs.Story.{TellsSame, TellSame, IsOfNoBasis, IsOneStory, IsCutEnding, IsBrokenOff}
-use Rattle.one_story_laws.specs.Shown.{made_by, made_so_far, made_in_run, made_in_job, ShowsSame, ShowSame}
-use Rattle.one_story_laws.specs.Laws.{IsProvedListing, OneStoryLaws}
+use Rattle.one_story_laws.specs.Story.{TellsSame, TellSame, IsOfNoBasis, IsCutEnding}
+use Rattle.one_story_laws.specs.Shown.{made_by, made_so_far, made_in_run, made_in_job, ShowsSame}
+use Rattle.one_story_laws.specs.Laws.{IsOneStory, IsBrokenOff, IsProvedListing, OneStoryLaws}
 use Rattle.one_story_laws.proofs.Told.{SaysEnough, attested_says, real_says}
 use Rattle.one_story_laws.proofs.Alike.{SameStanding, CutsOff}
 use Rattle.one_story_laws.proofs.Worth.{attested_worth, real_worth}
@@ -70,11 +70,11 @@ module _ (S : Solving) (Speaks : State → Report → Type 0) (AtEnd : State →
 
   two_jobs : (reports others : List Report) (cards other_cards : List (List ℕ)) (ending other : Ending) (first : IsJobRun S bytes reports cards ending) (second : IsJobRun attested bytes others other_cards other) →
       HoldInJob S Speaks AtEnd first → HoldInJob attested Says SaysAtEnd second → (IsOverflow other → ⊥) → Story Open Same (made_in_job S first) reports others ending other
-  two_jobs _ _ _ _ _ _ (card_fault fault is) (card_fault other also) holds says none = let e = sym is ∙ also in inl ((tt, cc), tt)
+  two_jobs _ _ _ _ _ _ (card_fault fault is) (card_fault other also) holds says none = let e = sym is ∙ also in inl (tt, cc, tt)
   two_jobs _ _ _ _ _ _ (card_fault fault is) (control_fault other fine also) holds says none = let e = sym is ∙ fine in absurd (cc e)
   two_jobs _ _ _ _ _ _ (card_fault fault is) (run program fine runs) holds says none = let e = sym is ∙ fine.is_read in absurd (cc e)
   two_jobs _ _ _ _ _ _ (control_fault fault fine is) (card_fault other also) holds says none = let e = sym also ∙ fine in absurd (cc e)
-  two_jobs _ _ _ _ _ _ (control_fault fault fine is) (control_fault other again also) holds says none = let e = sym is ∙ also in inl ((tt, cc), tt)
+  two_jobs _ _ _ _ _ _ (control_fault fault fine is) (control_fault other again also) holds says none = let e = sym is ∙ also in inl (tt, cc, tt)
   two_jobs _ _ _ _ _ _ (control_fault fault fine is) (run program again runs) holds says none = let e = sym is ∙ again.is_compiled in absurd (cc e)
   two_jobs _ _ _ _ _ _ (run program fine runs) (card_fault other also) holds says none = let e = sym also ∙ fine.is_read in absurd (cc e)
   two_jobs _ _ _ _ _ _ (run program fine runs) (control_fault other again also) holds says none = let e = sym also ∙ fine.is_compiled in absurd (cc e)
@@ -84,39 +84,27 @@ module _ (S : Solving) (Speaks : State → Report → Type 0) (AtEnd : State →
 -- ---- an attested listing beside another, and beside the run
 
 two_listings : (bytes lines others : List ℕ) (n m : ℕ) (one : IsProvedListing bytes lines n) (two : IsProvedListing bytes others m) →
-    IsOneStory one.proved.reports two.proved.reports one.proved.ending two.proved.ending × ShowSame (made_in_job attested one.proved.runs) two.proved.reports
+    IsOneStory (made_in_job attested one.proved.runs) one.proved.reports two.proved.reports one.proved.ending two.proved.ending
 two_listings bytes lines others n m one two =
-    by (two_jobs attested Says SaysAtEnd ⊥ attested_says ShowsSame (shows_same Says attested_worth) bytes one.proved.reports two.proved.reports one.proved.cards two.proved.cards one.proved.ending two.proved.ending one.proved.runs
-    two.proved.runs one.proved.each two.proved.each two.unstopped)
+    by (two_jobs attested Says SaysAtEnd ⊥ attested_says ShowsSame (shows_same Says attested_worth) bytes one.proved.reports two.proved.reports one.proved.cards two.proved.cards one.proved.ending
+    two.proved.ending one.proved.runs two.proved.runs one.proved.each two.proved.each two.unstopped)
   where
     by : Story ⊥ ShowsSame (made_in_job attested one.proved.runs) one.proved.reports two.proved.reports one.proved.ending two.proved.ending →
-        IsOneStory one.proved.reports two.proved.reports one.proved.ending two.proved.ending × ShowSame (made_in_job attested one.proved.runs) two.proved.reports
-    by (inl story) = story
+        IsOneStory (made_in_job attested one.proved.runs) one.proved.reports two.proved.reports one.proved.ending two.proved.ending
+    by (inl story) = record { tell = story.0; end = story.1; show = story.2 }
     by (inr breaks) = absurd (one.unstopped ((of_cut ⊥ one.proved.ending breaks.cut).1 (λ (none : ⊥). none)))
 
-run_beside : RunLaws → (bytes lines : List ℕ) (count : ℕ) (one : IsProvedListing bytes lines count) (reports : List Report) (cards : List (List ℕ)) (ending : Ending) →
-    (runs : IsJobRun linear_programming bytes reports cards ending) → Story (Unit {0}) ShowsSame (made_in_job linear_programming runs) reports one.proved.reports ending one.proved.ending
-run_beside laws bytes lines count one reports cards ending runs =
-    two_jobs linear_programming Holds HoldsAtEnd (Unit {0}) real_says ShowsSame (shows_same Holds real_worth) bytes reports one.proved.reports cards one.proved.cards ending one.proved.ending runs one.proved.runs
-    (laws.truth.job bytes reports cards ending runs) one.proved.each one.unstopped
-
-beside_run : RunLaws → (bytes lines : List ℕ) (count : ℕ) (one : IsProvedListing bytes lines count) (reports : List Report) (cards : List (List ℕ)) (ending : Ending) → IsJobRun linear_programming bytes reports cards ending →
-    IsOneStory reports one.proved.reports ending one.proved.ending ⊎ IsBrokenOff reports one.proved.reports ending
-beside_run laws bytes lines count one reports cards ending runs = by (run_beside laws bytes lines count one reports cards ending runs)
+beside_run : RunLaws → (bytes lines : List ℕ) (count : ℕ) (one : IsProvedListing bytes lines count) (reports : List Report) (cards : List (List ℕ)) (ending : Ending) →
+    (runs : IsJobRun linear_programming bytes reports cards ending) →
+    IsOneStory (made_in_job linear_programming runs) reports one.proved.reports ending one.proved.ending ⊎ IsBrokenOff (made_in_job linear_programming runs) reports one.proved.reports ending
+beside_run laws bytes lines count one reports cards ending runs =
+    by (two_jobs linear_programming Holds HoldsAtEnd (Unit {0}) real_says ShowsSame (shows_same Holds real_worth) bytes reports one.proved.reports cards one.proved.cards ending one.proved.ending runs
+    one.proved.runs (laws.truth.job bytes reports cards ending runs) one.proved.each one.unstopped)
   where
     by : Story (Unit {0}) ShowsSame (made_in_job linear_programming runs) reports one.proved.reports ending one.proved.ending →
-        IsOneStory reports one.proved.reports ending one.proved.ending ⊎ IsBrokenOff reports one.proved.reports ending
-    by (inl story) = inl story.0
-    by (inr breaks) = inr (record { is_cut = (of_cut (Unit {0}) ending breaks.cut).0; first = breaks.front; later = breaks.later; are = breaks.are; tell = breaks.tell })
-
-shown_by_run : RunLaws → (bytes lines : List ℕ) (count : ℕ) (one : IsProvedListing bytes lines count) (reports : List Report) (cards : List (List ℕ)) (ending : Ending) →
-    (runs : IsJobRun linear_programming bytes reports cards ending) → (first : List Report) × (later : List Report) × (one.proved.reports ≡ first ++ later) × ShowSame (made_in_job linear_programming runs) first
-shown_by_run laws bytes lines count one reports cards ending runs = by (run_beside laws bytes lines count one reports cards ending runs)
-  where
-    by : Story (Unit {0}) ShowsSame (made_in_job linear_programming runs) reports one.proved.reports ending one.proved.ending →
-        (first : List Report) × (later : List Report) × (one.proved.reports ≡ first ++ later) × ShowSame (made_in_job linear_programming runs) first
-    by (inl story) = (one.proved.reports, [], sym (append-nil one.proved.reports), story.1)
-    by (inr breaks) = (breaks.front, breaks.later, breaks.are, breaks.beside)
+        IsOneStory (made_in_job linear_programming runs) reports one.proved.reports ending one.proved.ending ⊎ IsBrokenOff (made_in_job linear_programming runs) reports one.proved.reports ending
+    by (inl story) = inl (record { tell = story.0; end = story.1; show = story.2 })
+    by (inr breaks) = inr (record { is_cut = (of_cut (Unit {0}) ending breaks.cut).0; first = breaks.front; later = breaks.later; are = breaks.are; tell = breaks.tell; show = breaks.beside })
 
 -- ---- the reports with their states
 
@@ -182,8 +170,9 @@ run_of_no_basis laws bytes lines count one reports cards ending runs = by (besid
     none : All IsOfNoBasis one.proved.reports
     none = listing_of_no_basis bytes lines one.proved
 
-    by : IsOneStory reports one.proved.reports ending one.proved.ending ⊎ IsBrokenOff reports one.proved.reports ending → All IsOfNoBasis reports
-    by (inl story) = each_of_no_basis reports one.proved.reports story.0 none
+    by : IsOneStory (made_in_job linear_programming runs) reports one.proved.reports ending one.proved.ending ⊎ IsBrokenOff (made_in_job linear_programming runs) reports one.proved.reports ending →
+        All IsOfNoBasis reports
+    by (inl story) = each_of_no_basis reports one.proved.reports story.tell none
     by (inr breaks) = each_of_no_basis reports breaks.first breaks.tell (all_front IsOfNoBasis breaks.first breaks.later (subst (All IsOfNoBasis) breaks.are none))
 
 tell_as_many : (reports others : List Report) → TellSame reports others → length reports ≡ length others
@@ -195,15 +184,14 @@ tell_as_many (report ∷ reports) [] tell = absurd tell
 pub stories : ReadingLaw → JudgedLaws → RunLaws → OneStoryLaws
 stories reading truth laws = record {
   is_proved = attested_told reading truth;
-  one_story = λ bytes lines others n m one two. (two_listings bytes lines others n m one two).0;
-  shown = λ bytes lines others n m one two. (two_listings bytes lines others n m one two).1;
-  made = λ bytes lines one. made_job attested bytes one.reports one.cards one.ending one.runs;
+  one_story = two_listings;
   as_many = λ bytes lines others n m first second.
       let one = attested_told reading truth bytes lines n first in
       let two = attested_told reading truth bytes others m second in
-      sym one.has_count ∙ tell_as_many one.proved.reports two.proved.reports (two_listings bytes lines others n m one two).0.0 ∙ two.has_count;
+      sym one.has_count ∙ tell_as_many one.proved.reports two.proved.reports (two_listings bytes lines others n m one two).tell ∙ two.has_count;
   run = beside_run laws;
-  shown_by_run = shown_by_run laws;
+  made = λ bytes lines one. made_job attested bytes one.reports one.cards one.ending one.runs;
+  made_by_run = made_job linear_programming;
   no_basis = listing_of_no_basis;
   no_basis_in_run = run_of_no_basis laws;
 }

@@ -4,34 +4,33 @@
 --     SpeaksWorth Speaks           what reports say tells that
 --     attested_worth, real_worth   so it is with an attested listing, and with the run itself
 use Rattle.std.proofs.Common.{◌≡◌, ℕ, zero, suc, ◌+◌, ◌-◌, ◌<◌, List, [], ◌∷◌, ◌++◌, map, refl, sym, ap, ap₂, subst, ◌∙◌, arith}
-use Rattle.std.specs.Prelude.{All, Contains, Option, Some, None, Ok, slice_get, slice_index_or}
+use Rattle.std.specs.Prelude.{All, Contains, Option, Some, None, slice_get, slice_index_or}
 use Rattle.std.proofs.lemmas.List.Elements.{All-nil, All-cons, All-head, All-tail, All-contains}
 use Rattle.exact_values.specs.Rational.{ℚ, zero_ℚ, ◌+ℚ◌, ◌*ℚ◌, ◌≤ℚ◌}
 use Rattle.lp_definitions.specs.declared.Change.{Change}
-use Rattle.lp_definitions.specs.LinearProgram.{LinearProgram, Vector, Matrix, IsRow, IsVariable, size, numbers_from, variables, value_at, with_change_row, ChangeIsFree, objective_value, IsLinearProgram}
+use Rattle.lp_definitions.specs.LinearProgram.{LinearProgram, Vector, Matrix, IsRow, IsVariable, numbers_from, variables, value_at, with_change_row, ChangeIsFree, objective_value, IsLinearProgram}
 use Rattle.lp_definitions.specs.Solutions.{IsBest}
 use Rattle.lp_definitions.specs.Basis.{Tableau}
 use Rattle.path_laws.proofs.Ends.{value_at-listed}
 use Rattle.control_definitions.specs.Cells.{Cells}
-use Rattle.method_definitions.specs.Path.{listed}
 use Rattle.method_definitions.specs.Chain.{Part, along}
-use Rattle.sweep_laws.specs.Truth.{IsTruePart, IsTrueRun}
+use Rattle.sweep_laws.specs.Truth.{IsTruePart}
 use Rattle.listing_definitions.specs.declared.Mark.TheVariants.{Optimal}
 use Rattle.listing_definitions.specs.declared.Solver.{Solver}
 use Rattle.listing_definitions.specs.Report.{Value, Line, SolutionLines, Interval, Chain, Report, Solution, Parametric}
 use Rattle.question_definitions.specs.Answers.{Basis, Sheet, Changing, Row, Set, Sweep}
-use Rattle.answer_definitions.specs.Lines.{lines_of, row_numbers, column_numbers}
+use Rattle.answer_definitions.specs.Lines.{lines_of, column_numbers}
 use Rattle.answer_definitions.specs.Sections.{solution_row, solution_column, solution_lines}
 use Rattle.answer_definitions.specs.Sweeps.{family_of, sheet_at, part_values, interval_of}
 use Rattle.run_definitions.specs.State.{Present, present_basis, State, choice_of}
 use Rattle.run_laws.specs.Sweeps.{ChangesFreely}
-use Rattle.run_laws.specs.Truth.{PresentProgram, sheet_of, ShowsBest, TellsOfRun, ShowsChain, Holds}
+use Rattle.run_laws.specs.Truth.{PresentProgram, sheet_of, TellsOfRun, ShowsChain, Holds}
 use Rattle.run_laws.proofs.ChangeRow.{changes_freely}
 use Rattle.run_laws.proofs.Selected.{selected_has_no_change}
 use Rattle.walk_definitions.specs.Tables.{number_of, column_of}
 use Rattle.walk_definitions.specs.Tests.{point_of}
 use Rattle.judged_laws.specs.Shown.{part_of}
-use Rattle.walk_laws.specs.Proved.{ShowsProved, ShowsProvedChain, Says}
+use Rattle.walk_laws.specs.Proved.{ShowsProvedChain, Says}
 use Rattle.one_story_laws.specs.Shown.{objective_at}
 
 pub record IsBestWorth (p : LinearProgram) (value : ℚ) : Type 0 where

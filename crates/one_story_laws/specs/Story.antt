@@ -1,13 +1,11 @@
--- When two listings of one job tell the same story.
+-- When two reports tell the same.
 --     SameObjective, SameVerdict   two verdicts leave one mark, and optimal ones have one objective
 --     SameClose end other          two parametric runs end at the same value, and in the same way
 --     TellsSame report other       two reports tell the same
 --     TellSame reports others      so do those of two lists, one by one
---     IsOneStory ..                two runs tell the same, and end alike
 --     IsOfNoBasis report           it isn't of RANGE, PUNCH or INSERT
 --     IsCutEnding ending           a run was cut off: by the limit on steps, by a price that is wrong for DUAL, or by an overflow
---     IsBrokenOff ..               a run was cut off, and tells the same as the other as far as it goes
-use Rattle.std.specs.Prelude.{◌≡◌, List, [], ◌∷◌, ◌++◌}
+use Rattle.std.specs.Prelude.{◌≡◌, List, [], ◌∷◌}
 use Rattle.listing_definitions.specs.Report.{PathVerdict, OptimalAt, ChainEnd, EndsAt, UnboundedPast, InfeasiblePast, Report, BasisOut, Inserted, Solved, Solution, Ranges, Parametric}
 use Rattle.listing_definitions.specs.Ending.{Ending, PriceStop, LimitStop, OverflowStop}
 use Rattle.run_definitions.specs.Verbs.{mark_of}
@@ -41,9 +39,6 @@ TellSame [] [] = Unit {0}
 TellSame (report ∷ reports) (other ∷ others) = TellsSame report other × TellSame reports others
 TellSame reports others = ⊥
 
-abbrev pub IsOneStory : List Report → List Report → Ending → Ending → Type 0
-IsOneStory reports others ending other = TellSame reports others × (ending ≡ other)
-
 -- what RANGE, PUNCH and INSERT report is known by a basis alone, which no listing shows
 abbrev pub IsOfNoBasis : Report → Type 0
 IsOfNoBasis (Ranges lines) = ⊥
@@ -51,15 +46,9 @@ IsOfNoBasis (BasisOut name count) = ⊥
 IsOfNoBasis (Inserted name count) = ⊥
 IsOfNoBasis report = Unit {0}
 
+-- of the run's own choice, or since a basis is as it is
 abbrev pub IsCutEnding : Ending → Type 0
 IsCutEnding (LimitStop reached) = Unit {0}
 IsCutEnding (PriceStop price) = Unit {0}
 IsCutEnding (OverflowStop overflow) = Unit {0}
 IsCutEnding ending = ⊥
-
-pub record IsBrokenOff (reports others : List Report) (ending : Ending) : Type 0 where
-  pub is_cut : IsCutEnding ending
-  pub first : List Report
-  pub later : List Report
-  pub are : others ≡ first ++ later
-  pub tell : TellSame reports first
