@@ -432,6 +432,41 @@ def try_esolver(folder):
         check(f"esolver: {said}", said == "ATTESTED 5 REPORTS")
 
 
+# a checker in the place of the proved one, which says what expected_attesting.py says
+STUB = """#!/bin/sh
+cat >JOB && exec python3 {}/expected_attesting.py JOB LISTING
+"""
+
+
+def try_attest(folder):
+    stub, model, solution = folder / "stub", folder / "a.mps", folder / "a.sol"
+    stub.write_text(STUB.format(SCRIPTS))
+    stub.chmod(0o755)
+    model.write_text(MODEL)
+    for text, status, wanted in ((ESOLVER, 0, f"attested: OPTIMAL, objective 36 by {stub}\n"),
+                                 (ESOLVER.replace("plant_3 = 1", "plant_3 = 2"), 40, f"not attested: its numbers don't prove it: line 5 of the listing, SOLUTION OPTIMAL by {stub}\n")):
+        solution.write_text(text)
+        ended = subprocess.run([SCRIPTS / "attest", "--checker", stub, "--keep", folder / "kept", model, solution], capture_output=True, text=True)
+        check(f"attest: {ended}", (ended.returncode, ended.stdout) == (status, wanted) and (folder / "kept/model.listing").exists())
+    for words, status in ((("--checker", "/bin/true", model, solution), 70), ((model,), 64), (("--checker", stub, model, folder / "none"), 66)):
+        ended = subprocess.run([SCRIPTS / "attest", *words], capture_output=True, text=True)
+        check(f"attest {words}: {ended}", ended.returncode == status and ended.stderr.startswith("attest: ") and not ended.stdout)
+    place = folder / "installed"
+    place.mkdir()
+    shutil.copy(SCRIPTS / "mps360check", place)
+    shutil.copy(stub, place / "check")
+    for words, wanted in (((STORE.with_suffix(".job"), STORE.with_suffix(".listing")), (0, "ATTESTED 5 REPORTS\n")),
+                          ((STORE.with_suffix(".job"), CONFLICT.with_suffix(".listing")), (40, "WRONG LINE 1\n")),
+                          ((STORE.with_suffix(".job"),), (64, "")), ((folder, stub), (66, "")), ((folder / "none", stub), (66, ""))):
+        ended = subprocess.run([place / "mps360check", *words], capture_output=True, text=True)
+        check(f"mps360check {words}: {ended}", (ended.returncode, ended.stdout) == wanted)
+    ended = subprocess.run([place / "mps360check", "-", STORE.with_suffix(".listing")], input=STORE.with_suffix(".job").read_bytes(), stdout=subprocess.PIPE)
+    check(f"mps360check -: {ended}", ended.stdout == b"ATTESTED 5 REPORTS\n")
+    if not runner.checker_program():
+        ended = subprocess.run([SCRIPTS / "attest", model, solution], capture_output=True, text=True)
+        check(f"attest: no checker: {ended}", ended.returncode == 70 and "isn't built" in ended.stderr and not ended.stdout)
+
+
 def main():
     if len(sys.argv) > 1:
         print(__doc__)
@@ -443,6 +478,7 @@ def main():
         try_certificates(folder)
         try_listings(folder)
         try_esolver(folder)
+        try_attest(folder)
     return 1 if wrong else 0
 
 

@@ -1,6 +1,6 @@
 #!/usr/bin/env bash
 # Prints the path of the proved program, which is one that no source, definition or proof is newer than.
-# usage: program.sh [--fresh]
+# usage: program.sh [--fresh] [NAME]      NAME is mps360, where none is given, or mps360check
 # Where there is none it is built first (scripts/build.sh); with --fresh nothing is built. Ends with 1 where there is none.
 set -eu
 case ${1:-} in
@@ -10,7 +10,9 @@ case ${1:-} in
         ;;
 esac
 top=$(cd "$(dirname "$0")/.." && pwd)
-program=$top/crates/mps360/out/mps360
+must_be_fresh=
+[ "${1:-}" != --fresh ] || { must_be_fresh=1; shift; }
+program=$top/crates/${1:-mps360}/out/${1:-mps360}
 
 is_fresh() {
     [ -x "$program" ] && [ -z "$(find "$top/crates" "$top/crates.txt" -name out -prune -o \
@@ -18,7 +20,7 @@ is_fresh() {
 }
 
 if ! is_fresh; then
-    [ "${1:-}" != --fresh ] || exit 1
+    [ -z "$must_be_fresh" ] || exit 1
     "$top/scripts/build.sh" >&2 || exit 1
     is_fresh || exit 1
 fi

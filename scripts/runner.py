@@ -17,6 +17,14 @@ def proved_program():
     return found.stdout.strip() if found.returncode == 0 else None
 
 
+def checker_program():
+    "the path of the proved checker of listings, installed or fresh, or None where there is none"
+    if (HERE / "check").exists():
+        return str(HERE / "check")
+    found = subprocess.run([HERE / "program.sh", "--fresh", "mps360check"], capture_output=True, text=True)
+    return found.stdout.strip() if found.returncode == 0 else None
+
+
 def run_proved(program, job):
     "the status, the listing and the punched deck (None where nothing is punched) of a job"
     with tempfile.TemporaryDirectory() as folder:
