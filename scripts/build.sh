@@ -1,19 +1,20 @@
 #!/usr/bin/env bash
-# Proves every crate below the program mps360, and below mps360check where that stands, and builds them. The first time that takes
-# some 25 minutes on four processors; what is proved stays so, and later runs prove only what changed.
-# usage: scripts/build.sh      a line for each crate, and in the end the program's path; ends with 70 where it can't be built
+# Proves every crate below the programs mps360 and mps360check, or below the one that is named, and builds them. The first time
+# that takes some 25 minutes on four processors for mps360, and more for both; what is proved stays so, and later runs prove only
+# what changed.
+# usage: scripts/build.sh [NAME]     a line for each crate, and in the end each program's path; ends with 64 for wrong use, 70 where
+# one can't be built
 set -eu
 case ${1:-} in
-    "") ;;
     -h | --help)
-        sed -n '2,4s/^# //p' "$0"
+        sed -n '2,6s/^# //p' "$0"
         exit 0
         ;;
-    *)
-        echo "build.sh: no words are wanted" >&2
-        exit 64
-        ;;
 esac
+[[ $# -eq 0 || $# -eq 1 && $1 =~ ^mps360(check)?$ ]] || {
+    echo "usage: build.sh [mps360 | mps360check]" >&2
+    exit 64
+}
 top=$(cd "$(dirname "$0")/.." && pwd)
 command -v rt >/dev/null || {
     echo "build.sh: no command rt on the path: put Rattle's kit there" >&2
@@ -23,11 +24,15 @@ command -v rt >/dev/null || {
 room=$(mktemp -d)
 trap 'rm -rf "$room"' EXIT
 
-# the crates below the programs, themselves included, by crates.txt
-names=(mps360) wanted="the program and the crates below it"
-if [ -d "$top/crates/mps360check" ]; then
-    names+=(mps360check) wanted="the programs mps360 and mps360check, and the crates below them"
-fi
+# the programs that crates.txt lists, and the crates below them, themselves included
+names=()
+for name in ${1:-mps360 mps360check}; do
+    if grep -q "^$name:" "$top/crates.txt"; then names+=("$name"); fi
+done
+[ ${#names[@]} -gt 0 ] || {
+    echo "build.sh: crates.txt lists no ${1:-mps360}" >&2
+    exit 70
+}
 awk -v names="${names[*]}" '{ sub(/#.*/, "") }
     index($0, ":") { line[++lines] = $0; name = $1; sub(/:$/, "", name); named[lines] = name; sub(/^[^:]*:/, ""); below[name] = $0 }
     END {
@@ -41,7 +46,8 @@ awk -v names="${names[*]}" '{ sub(/#.*/, "") }
         for (k = 1; k <= lines; k++) if (named[k] in seen) print line[k]
     }' "$top/crates.txt" >"$room/crates.txt"
 count=$(wc -l <"$room/crates.txt")
-echo "$wanted: $count. What is proved already is passed over."
+told=${names[*]}
+echo "${told/ / and } with the crates below: $count. What is proved already is passed over."
 
 # The gate's own command, over a copy that has these crates alone, without must-fail edits: it proves as many at once as there are
 # processors, and keeps what it has proved.
