@@ -13,7 +13,7 @@ PAGE = runner.TOP / "docs/FAULTS.md"
 HEADINGS = {
     "end": "The good end, and verdicts", "words": "Words of the command line", "control": "Faults of the control program",
     "verb": "Faults of a statement", "deck": "Faults of a deck", "card": "Faults of cards",
-    "limit": "Limits, devices, memory",
+    "limit": "Limits, devices, memory", "check": "What mps360check answers besides 0, 4, 24, 25 and 28",
 }
 HEADING_OF = dict.fromkeys(("overflow", "read", "write", "punch", "memory"), "limit")
 TITLES = {"control": "Control fault", "verb": "Verb fault", "deck": "Deck fault", "card": "Card fault"}
