@@ -68,8 +68,9 @@ def wrong_card(entry):
 def page():
     lines = [
         "# Statuses and faults", "",
-        "What each last line of a listing means, a card that has the fault, the line exactly, and the cure. `scripts/faults.py --write`",
-        "makes this page of `examples/faults/`; its jobs are run to see that they end so. The first card with a fault decides.",
+        "What each last line of a listing means, a card that has the fault, the line exactly, and the cure; at the end the answers of",
+        "`mps360check`. `scripts/faults.py --write` makes this page of `examples/faults/`; its jobs are run to see that they end so. The first",
+        "card with a fault decides.",
         "[DEFINITIONS.md](DEFINITIONS.md#from-a-rule-to-its-code) has the definition of each fault, and the code that finds it.", "",
     ]
     begun = None
