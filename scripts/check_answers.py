@@ -5,7 +5,7 @@ scripts/check.sh runs it.
 
 usage: check_answers.py      ends with 1 where a result is another; esolver of QSopt_ex is asked where it is installed"""
 import contextlib, io, json, os, pathlib, shutil, subprocess, sys, tempfile
-import check_listings, check_vipr, expected_attesting, expected_listing, listing2vipr, random_jobs, runner, solution2listing, vipr2listing
+import check_listings, check_vipr, expected_attesting, expected_listing, faults, listing2vipr, random_jobs, runner, solution2listing, vipr2listing
 
 SCRIPTS, EXAMPLES, KNOWN = runner.HERE, runner.TOP / "examples", runner.HERE / "known"
 GREATEST = 2 ** 127 - 1
@@ -278,6 +278,23 @@ def cases():
     titles = "TITLE AGAIN\n"
     for listing, wanted in ((titles * 50_000 + STOP_17, "ATTESTED 50000 REPORTS"), (titles * 50_000 + "END 0\n", "WRONG LINE 50001"), (titles * 49_999 + STOP_17, "WRONG LINE 50000")):
         yield ENDLESS_TITLES, listing, wanted
+
+
+def try_faults(program):
+    "the one line of each job of examples/faults whose cards or whose control program are refused is attested, and with another card it is wrong"
+    tried = 0
+    for entry in faults.entries():
+        job = faults.job_of(entry["name"])
+        if job is None or not entry.get("stop", "").startswith(("STOP 8 ", "STOP 13 ")):
+            continue
+        tried += 1
+        for line, wanted in ((entry["stop"], "ATTESTED 0 REPORTS"), (entry["stop"] + "0", "WRONG LINE 1")):
+            listing = line.encode() + b"\n"
+            _, said = expected_attesting.attest(job, listing)
+            check(f"expected_attesting.py: {entry['name']}: {line}: {said}, not {wanted}", said == wanted)
+            if program:
+                check(f"mps360check: {entry['name']}: {line}: not {wanted}", runner.attested_by(program, job, listing) == (STATUS[wanted.split(" ")[0]], wanted + "\n"))
+    check(f"examples/faults: {tried} jobs are refused before they run", tried >= 14)
 
 
 def try_cases(program):
@@ -604,6 +621,7 @@ def main():
     if not program:
         print("check_answers: no fresh proved program mps360check; what needs it is left out")
     try_cases(program)
+    try_faults(program)
     with tempfile.TemporaryDirectory() as folder:
         folder = pathlib.Path(folder)
         try_solutions(folder)
