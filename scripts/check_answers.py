@@ -599,12 +599,19 @@ def try_attest(folder):
     ended = subprocess.run([SCRIPTS / "attest", model, solution], capture_output=True, text=True, env=env)
     wanted = (0, "attested: OPTIMAL, objective 36\n") if runner.proved_program("mps360check") else (70, "")
     check(f"attest: {ended}", (ended.returncode, ended.stdout) == wanted)
-    for words, status in ((("--proved", "--unproved"), 64), (("--program",), 64), (("--keep",), 64), (("x",), 64), (("--program", stub, "0", "2"), 0)):
+    for words, status in ((("--proved", "--unproved"), 64), (("--program",), 64), (("--keep",), 64), (("x",), 64), (("--jobs", "0", "8"), 0), (("--program", stub, "--jobs", "0", "2"), 0)):
         ended = called(check_listings, *words)
         check(f"check_listings.py {words}: {ended}", ended[0] == status)
     for words, status in ((("--attest", "--itself", "0", "20"), 0), (("--attest", "--itself", "--decks", "0", "20"), 0), (("--attest", "--unproved", "--itself"), 64), (("--attest", "x"), 64)):
         ended = called(random_jobs, *words)
         check(f"random_jobs.py {words}: {ended}", ended[0] == status and (status or " 0 answers differ" in ended[1]))
+
+
+    for script, words, status in (("examples.sh", ("--all",), 64), ("bench_attesting.py", ("--all",), 64), ("bench_attesting.py", ("--itself", "--times"), 64),
+                                  ("bench_attesting.py", ("--rows", "x"), 64), ("expected_attesting.py", ("a",), 64), ("expected_attesting.py", ("none", "none"), 66),
+                                  ("unproved.py", ("--program",), 64), ("unproved.py", ("--program", "rt", "--compile"), 64), ("unproved.py", ("--program", "mps360check", "--make", "2"), 64)):
+        ended = subprocess.run([SCRIPTS / script, *words], capture_output=True, text=True, stdin=subprocess.DEVNULL)
+        check(f"{script} {words}: {ended}", ended.returncode == status and "Traceback" not in ended.stderr)
 
 
 def by_stub(stub, job, listing, folder):
