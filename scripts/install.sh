@@ -52,7 +52,7 @@ for ((k = 0; k < ${#files[@]}; k++)); do
 done
 
 install -m 644 "$scripts/../README.md" "$scripts/../LICENSE" "$scripts"/../docs/* "$documents"
-install -m 644 "$scripts"/../examples/*.* "$documents/examples"
+install -m 644 "$scripts"/../examples/*.* "$scripts/../examples/INDEX" "$documents/examples"
 install -m 644 "$scripts/share/mps360.1" "$scripts/share/mps360check.1" "$prefix/share/man/man1"
 for command in mps360 mps360check mps360-batch mps360-explain mps360-plot; do
     install -m 644 "$scripts/share/completion.bash" "$prefix/share/bash-completion/completions/$command"
