@@ -48,7 +48,10 @@ const STORE: Listing = Listing {
         },
         Case {
             name: "an objective of 128 bits",
-            edit: Edit::Text(b"OBJECTIVE 0", b"OBJECTIVE 170141183460469231731687303715884105728"),
+            edit: Edit::Text(
+                b"OBJECTIVE 0",
+                b"OBJECTIVE 170141183460469231731687303715884105728",
+            ),
             status: 40,
             line: b"WRONG LINE 4\n",
         },
@@ -162,25 +165,37 @@ const STORE: Listing = Listing {
         },
         Case {
             name: "a ray of no lines",
-            edit: Edit::From(b"PRIMAL", b"PRIMAL INFEASIBLE STEPS 0 RAY CHECKED\nTITLE NO PLAN KEEPS ALL LIMITS\nEND 0\n"),
+            edit: Edit::From(
+                b"PRIMAL",
+                b"PRIMAL INFEASIBLE STEPS 0 RAY CHECKED\nTITLE NO PLAN KEEPS ALL LIMITS\nEND 0\n",
+            ),
             status: 40,
             line: b"WRONG LINE 4\n",
         },
         Case {
             name: "a ray that proves nothing",
-            edit: Edit::From(b"PRIMAL", b"PRIMAL INFEASIBLE STEPS 0 RAY CHECKED\n    2 SPACE    1\nTITLE NO PLAN KEEPS ALL LIMITS\nEND 0\n"),
+            edit: Edit::From(
+                b"PRIMAL",
+                b"PRIMAL INFEASIBLE STEPS 0 RAY CHECKED\n    2 SPACE    1\nTITLE NO PLAN KEEPS ALL LIMITS\nEND 0\n",
+            ),
             status: 40,
             line: b"WRONG LINE 4\n",
         },
         Case {
             name: "limits that are not crossed",
-            edit: Edit::From(b"PRIMAL", b"PRIMAL INFEASIBLE STEPS 0 CROSSED 4 CHECKED\nTITLE NO PLAN KEEPS ALL LIMITS\nEND 0\n"),
+            edit: Edit::From(
+                b"PRIMAL",
+                b"PRIMAL INFEASIBLE STEPS 0 CROSSED 4 CHECKED\nTITLE NO PLAN KEEPS ALL LIMITS\nEND 0\n",
+            ),
             status: 40,
             line: b"WRONG LINE 4\n",
         },
         Case {
             name: "a direction of zeros",
-            edit: Edit::From(b"PRIMAL", b"PRIMAL UNBOUNDED STEPS 0 OBJECTIVE 0 CHECKED\n    1 COST     0 0\n    2 SPACE    0 0\n    3 MONEY    0 0\n    4 FLOUR    0 0\n    5 SUGAR    0 0\nEND 2\n"),
+            edit: Edit::From(
+                b"PRIMAL",
+                b"PRIMAL UNBOUNDED STEPS 0 OBJECTIVE 0 CHECKED\n    1 COST     0 0\n    2 SPACE    0 0\n    3 MONEY    0 0\n    4 FLOUR    0 0\n    5 SUGAR    0 0\nEND 2\n",
+            ),
             status: 40,
             line: b"WRONG LINE 4\n",
         },
@@ -216,14 +231,12 @@ const TESTPROB: Listing = Listing {
     name: "testprob",
     job: b"         PROGRAM\n         CONVERT\n         SETUP('BOUND','BND1')\n         PRIMAL\n         SOLUTION\n         EXIT\n         PEND\nNAME          TESTPROB\nROWS\n N  COST\n L  LIM1\n G  LIM2\n E  MYEQN\nCOLUMNS\n    XONE      COST      1              LIM1      1\n    XONE      LIM2      1\n    YTWO      COST      4              LIM1      1\n    YTWO      MYEQN     -1\n    ZTHREE    COST      9              LIM2      1\n    ZTHREE    MYEQN     1\nRHS\n    RHS       LIM1      5              LIM2      10\n    RHS       MYEQN     7\nBOUNDS\n UP BND1      XONE      4\n LO BND1      YTWO      -1\n UP BND1      YTWO      1\nENDATA\n",
     text: b"CONVERT TESTPROB ROWS 4 COLUMNS 3 ENTRIES 9\nSETUP   TESTPROB MIN\nPRIMAL OPTIMAL STEPS 3 OBJECTIVE 54 CHECKED\nSOLUTION OPTIMAL\nSECTION 1 - ROWS\nNUMBER ROW AT ACTIVITY SLACK LOWER UPPER DUAL\n    1 COST     BS 54 -54 NONE NONE 0\n    2 LIM1     BS 3 2 NONE 5 0\n    3 LIM2     LL 10 0 10 NONE 1\n    4 MYEQN    EQ 7 0 7 7 8\nSECTION 2 - COLUMNS\nNUMBER COLUMN AT ACTIVITY COST LOWER UPPER REDUCED\n    5 XONE     BS 4 1 0 4 0\n    6 YTWO     LL -1 4 -1 1 12\n    7 ZTHREE   BS 6 9 0 NONE 0\nEND 0\n",
-    cases: &[
-        Case {
-            name: "as it is",
-            edit: Edit::Nothing,
-            status: 0,
-            line: b"ATTESTED 4 REPORTS\n",
-        },
-    ],
+    cases: &[Case {
+        name: "as it is",
+        edit: Edit::Nothing,
+        status: 0,
+        line: b"ATTESTED 4 REPORTS\n",
+    }],
 };
 
 // The same problem, whose solution is shown twice.
@@ -240,7 +253,10 @@ const TWO_SOLUTIONS: Listing = Listing {
         },
         Case {
             name: "another second solution",
-            edit: Edit::From(b"SOLUTION OPTIMAL\nSECTION 1 - ROWS\nNUMBER ROW AT ACTIVITY SLACK LOWER UPPER DUAL\n    1 COST     BS 54 -54 NONE NONE 0\n    2 LIM1     BS 3 2 NONE 5 0\n    3 LIM2     LL 10 0 10 NONE 1\n    4 MYEQN    EQ 7 0 7 7 8\nSECTION 2 - COLUMNS\nNUMBER COLUMN AT ACTIVITY COST LOWER UPPER REDUCED\n    5 XONE     BS 4 1 0 4 0\n    6 YTWO     LL -1 4 -1 1 12\n    7 ZTHREE   BS 6 9 0 NONE 0\nSOLUTION", b"SOLUTION OPTIMAL\nSECTION 1 - ROWS\nNUMBER ROW AT ACTIVITY SLACK LOWER UPPER DUAL\n    1 COST     BS 54 -54 NONE NONE 0\n    2 LIM1     BS 3 2 NONE 5 0\n    3 LIM2     LL 10 0 10 NONE 1\n    4 MYEQN    EQ 7 0 7 7 8\nSECTION 2 - COLUMNS\nNUMBER COLUMN AT ACTIVITY COST LOWER UPPER REDUCED\n    5 XONE     BS 4 1 0 4 0\n    6 YTWO     LL -1 4 -1 1 12\n    7 ZTHREE   BS 6 9 0 NONE 0\nSOLUTION OPTIMAL\nSECTION 1 - ROWS\nNUMBER ROW AT ACTIVITY SLACK LOWER UPPER DUAL\n    1 COST     BS 55 -55 NONE NONE 0\n    2 LIM1     BS 4 1 NONE 5 0\n    3 LIM2     LL 11 -1 10 NONE 1\n    4 MYEQN    EQ 7 0 7 7 8\nSECTION 2 - COLUMNS\nNUMBER COLUMN AT ACTIVITY COST LOWER UPPER REDUCED\n    5 XONE     BS 5 1 0 4 0\n    6 YTWO     LL -1 4 -1 1 12\n    7 ZTHREE   BS 6 9 0 NONE 0\nEND 0\n"),
+            edit: Edit::From(
+                b"SOLUTION OPTIMAL\nSECTION 1 - ROWS\nNUMBER ROW AT ACTIVITY SLACK LOWER UPPER DUAL\n    1 COST     BS 54 -54 NONE NONE 0\n    2 LIM1     BS 3 2 NONE 5 0\n    3 LIM2     LL 10 0 10 NONE 1\n    4 MYEQN    EQ 7 0 7 7 8\nSECTION 2 - COLUMNS\nNUMBER COLUMN AT ACTIVITY COST LOWER UPPER REDUCED\n    5 XONE     BS 4 1 0 4 0\n    6 YTWO     LL -1 4 -1 1 12\n    7 ZTHREE   BS 6 9 0 NONE 0\nSOLUTION",
+                b"SOLUTION OPTIMAL\nSECTION 1 - ROWS\nNUMBER ROW AT ACTIVITY SLACK LOWER UPPER DUAL\n    1 COST     BS 54 -54 NONE NONE 0\n    2 LIM1     BS 3 2 NONE 5 0\n    3 LIM2     LL 10 0 10 NONE 1\n    4 MYEQN    EQ 7 0 7 7 8\nSECTION 2 - COLUMNS\nNUMBER COLUMN AT ACTIVITY COST LOWER UPPER REDUCED\n    5 XONE     BS 4 1 0 4 0\n    6 YTWO     LL -1 4 -1 1 12\n    7 ZTHREE   BS 6 9 0 NONE 0\nSOLUTION OPTIMAL\nSECTION 1 - ROWS\nNUMBER ROW AT ACTIVITY SLACK LOWER UPPER DUAL\n    1 COST     BS 55 -55 NONE NONE 0\n    2 LIM1     BS 4 1 NONE 5 0\n    3 LIM2     LL 11 -1 10 NONE 1\n    4 MYEQN    EQ 7 0 7 7 8\nSECTION 2 - COLUMNS\nNUMBER COLUMN AT ACTIVITY COST LOWER UPPER REDUCED\n    5 XONE     BS 5 1 0 4 0\n    6 YTWO     LL -1 4 -1 1 12\n    7 ZTHREE   BS 6 9 0 NONE 0\nEND 0\n",
+            ),
             status: 40,
             line: b"WRONG LINE 16\n",
         },
@@ -261,13 +277,19 @@ const TIES: Listing = Listing {
         },
         Case {
             name: "the other corner",
-            edit: Edit::Text(b"    3 X        BS 4 -1 0 NONE 0\n    4 Y        LL 0 -1 0 NONE 0\n", b"    3 X        LL 0 -1 0 NONE 0\n    4 Y        BS 4 -1 0 NONE 0\n"),
+            edit: Edit::Text(
+                b"    3 X        BS 4 -1 0 NONE 0\n    4 Y        LL 0 -1 0 NONE 0\n",
+                b"    3 X        LL 0 -1 0 NONE 0\n    4 Y        BS 4 -1 0 NONE 0\n",
+            ),
             status: 0,
             line: b"ATTESTED 4 REPORTS\n",
         },
         Case {
             name: "a point between",
-            edit: Edit::Text(b"    3 X        BS 4 -1 0 NONE 0\n    4 Y        LL 0 -1 0 NONE 0\n", b"    3 X        BS 3/2 -1 0 NONE 0\n    4 Y        BS 5/2 -1 0 NONE 0\n"),
+            edit: Edit::Text(
+                b"    3 X        BS 4 -1 0 NONE 0\n    4 Y        LL 0 -1 0 NONE 0\n",
+                b"    3 X        BS 3/2 -1 0 NONE 0\n    4 Y        BS 5/2 -1 0 NONE 0\n",
+            ),
             status: 0,
             line: b"ATTESTED 4 REPORTS\n",
         },
@@ -279,12 +301,10 @@ const BLANKS: Listing = Listing {
     name: "names with blanks",
     job: b"         PROGRAM\n         CONVERT\n         SETUP\n         PRIMAL\n         SOLUTION\n         EXIT\n         PEND\nNAME           A\nROWS\n N   COST\n L  12 3\nCOLUMNS\n    1          COST     1\n    1         12 3      1\nRHS\n    B         12 3      4\nENDATA\n",
     text: b"CONVERT  A       ROWS 2 COLUMNS 1 ENTRIES 2\nSETUP    A       MIN\nPRIMAL OPTIMAL STEPS 0 OBJECTIVE 0 CHECKED\nSOLUTION OPTIMAL\nSECTION 1 - ROWS\nNUMBER ROW AT ACTIVITY SLACK LOWER UPPER DUAL\n    1  COST    BS 0 0 NONE NONE 0\n    2 12 3     BS 0 4 NONE 4 0\nSECTION 2 - COLUMNS\nNUMBER COLUMN AT ACTIVITY COST LOWER UPPER REDUCED\n    3 1        LL 0 1 0 NONE 1\nEND 0\n",
-    cases: &[
-        Case {
-            name: "as it is",
-            edit: Edit::Nothing,
-            status: 0,
-            line: b"ATTESTED 4 REPORTS\n",
-        },
-    ],
+    cases: &[Case {
+        name: "as it is",
+        edit: Edit::Nothing,
+        status: 0,
+        line: b"ATTESTED 4 REPORTS\n",
+    }],
 };

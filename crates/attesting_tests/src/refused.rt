@@ -51,7 +51,10 @@ const RANGE_REFUSED: Listing = Listing {
         },
         Case {
             name: "its own stop",
-            edit: Edit::From(b"SETUP", b"STOP 20 OVERFLOW F13 SUB 999999999000000000000000000 1/10000000000000000000 P 0 Q 0 I 2 J 0 TERM 1 THETA 0 CARD 3\nBASIS NONE\nWAY NONE\n"),
+            edit: Edit::From(
+                b"SETUP",
+                b"STOP 20 OVERFLOW F13 SUB 999999999000000000000000000 1/10000000000000000000 P 0 Q 0 I 2 J 0 TERM 1 THETA 0 CARD 3\nBASIS NONE\nWAY NONE\n",
+            ),
             status: 41,
             line: b"OPEN LINE 2\n",
         },
@@ -72,7 +75,10 @@ const RANGE_AFTER_PRIMAL: Listing = Listing {
         },
         Case {
             name: "its own stop",
-            edit: Edit::Text(b"CHECKED\nSETUP   T        MIN\nEND 0\n", b"CHECKED\nSTOP 20 OVERFLOW F13 SUB 999999999000000000000000000 1/10000000000000000000 P 0 Q 0 I 2 J 0 TERM 1 THETA 0 CARD 5\nBASIS NONE\nWAY NONE\n"),
+            edit: Edit::Text(
+                b"CHECKED\nSETUP   T        MIN\nEND 0\n",
+                b"CHECKED\nSTOP 20 OVERFLOW F13 SUB 999999999000000000000000000 1/10000000000000000000 P 0 Q 0 I 2 J 0 TERM 1 THETA 0 CARD 5\nBASIS NONE\nWAY NONE\n",
+            ),
             status: 41,
             line: b"OPEN LINE 4\n",
         },
@@ -111,7 +117,10 @@ const FAR_POINT: Listing = Listing {
         },
         Case {
             name: "an infeasible opening",
-            edit: Edit::From(b"PARARHS FROM", b"PARARHS INFEASIBLE STEPS 0 RAY CHECKED\n    2 LOW      -1\nEND 1\n"),
+            edit: Edit::From(
+                b"PARARHS FROM",
+                b"PARARHS INFEASIBLE STEPS 0 RAY CHECKED\n    2 LOW      -1\nEND 1\n",
+            ),
             status: 42,
             line: b"UNCHECKED LINE 3\n",
         },

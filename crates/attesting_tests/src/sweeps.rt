@@ -2,7 +2,15 @@
 use crate::listings::{Case, Edit, Listing};
 
 /// Parametric runs, with their listings and what these are found to be where they are changed.
-pub const SWEEPS: [Listing; 7] = [TWO_INTERVALS, LAMPS, UNBOUNDED_OPENING, INFEASIBLE_PAST, MILK, RHS_INTERVALS, RHS_POINT];
+pub const SWEEPS: [Listing; 7] = [
+    TWO_INTERVALS,
+    LAMPS,
+    UNBOUNDED_OPENING,
+    INFEASIBLE_PAST,
+    MILK,
+    RHS_INTERVALS,
+    RHS_POINT,
+];
 
 // A parametric run of the objective.
 const TWO_INTERVALS: Listing = Listing {
@@ -18,31 +26,46 @@ const TWO_INTERVALS: Listing = Listing {
         },
         Case {
             name: "an interval split",
-            edit: Edit::Text(b"INTERVAL 2 FROM 1 TO 5\n    1 COST     BS -5 0 0 0\n    2 CHG      BS -3 0 0 0\n    3 LIM      UL 4 0 -2 0\n    4 X        UL 3 0 1 -1\n    5 Y        BS 1 0 0 0\n", b"INTERVAL 2 FROM 1 TO 2\n    1 COST     BS -5 0 0 0\n    2 CHG      BS -3 0 0 0\n    3 LIM      UL 4 0 -2 0\n    4 X        UL 3 0 1 -1\n    5 Y        BS 1 0 0 0\nINTERVAL 3 FROM 2 TO 5\n    1 COST     BS -5 0 0 0\n    2 CHG      BS -3 0 0 0\n    3 LIM      UL 4 0 -2 0\n    4 X        UL 3 0 1 -1\n    5 Y        BS 1 0 0 0\n"),
+            edit: Edit::Text(
+                b"INTERVAL 2 FROM 1 TO 5\n    1 COST     BS -5 0 0 0\n    2 CHG      BS -3 0 0 0\n    3 LIM      UL 4 0 -2 0\n    4 X        UL 3 0 1 -1\n    5 Y        BS 1 0 0 0\n",
+                b"INTERVAL 2 FROM 1 TO 2\n    1 COST     BS -5 0 0 0\n    2 CHG      BS -3 0 0 0\n    3 LIM      UL 4 0 -2 0\n    4 X        UL 3 0 1 -1\n    5 Y        BS 1 0 0 0\nINTERVAL 3 FROM 2 TO 5\n    1 COST     BS -5 0 0 0\n    2 CHG      BS -3 0 0 0\n    3 LIM      UL 4 0 -2 0\n    4 X        UL 3 0 1 -1\n    5 Y        BS 1 0 0 0\n",
+            ),
             status: 0,
             line: b"ATTESTED 3 REPORTS\n",
         },
         Case {
             name: "a point in front",
-            edit: Edit::Text(b"INTERVAL 1 FROM 0 TO 1\n    1 COST     BS -8 0 0 0\n    2 CHG      BS 0 0 0 0\n    3 LIM      UL 4 0 -2 0\n    4 X        LL 0 0 1 -1\n    5 Y        BS 4 0 0 0\nINTERVAL 2 FROM 1 TO 5\n    1 COST     BS -5 0 0 0\n    2 CHG      BS -3 0 0 0\n    3 LIM      UL 4 0 -2 0\n    4 X        UL 3 0 1 -1\n    5 Y        BS 1 0 0 0\n", b"INTERVAL 1 FROM 0 TO 0\n    1 COST     BS -8 7 0 0\n    2 CHG      BS 0 7 0 0\n    3 LIM      UL 4 7 -2 7\n    4 X        LL 0 7 1 7\n    5 Y        BS 4 7 0 7\nINTERVAL 2 FROM 0 TO 1\n    1 COST     BS -8 0 0 0\n    2 CHG      BS 0 0 0 0\n    3 LIM      UL 4 0 -2 0\n    4 X        LL 0 0 1 -1\n    5 Y        BS 4 0 0 0\nINTERVAL 3 FROM 1 TO 5\n    1 COST     BS -5 0 0 0\n    2 CHG      BS -3 0 0 0\n    3 LIM      UL 4 0 -2 0\n    4 X        UL 3 0 1 -1\n    5 Y        BS 1 0 0 0\n"),
+            edit: Edit::Text(
+                b"INTERVAL 1 FROM 0 TO 1\n    1 COST     BS -8 0 0 0\n    2 CHG      BS 0 0 0 0\n    3 LIM      UL 4 0 -2 0\n    4 X        LL 0 0 1 -1\n    5 Y        BS 4 0 0 0\nINTERVAL 2 FROM 1 TO 5\n    1 COST     BS -5 0 0 0\n    2 CHG      BS -3 0 0 0\n    3 LIM      UL 4 0 -2 0\n    4 X        UL 3 0 1 -1\n    5 Y        BS 1 0 0 0\n",
+                b"INTERVAL 1 FROM 0 TO 0\n    1 COST     BS -8 7 0 0\n    2 CHG      BS 0 7 0 0\n    3 LIM      UL 4 7 -2 7\n    4 X        LL 0 7 1 7\n    5 Y        BS 4 7 0 7\nINTERVAL 2 FROM 0 TO 1\n    1 COST     BS -8 0 0 0\n    2 CHG      BS 0 0 0 0\n    3 LIM      UL 4 0 -2 0\n    4 X        LL 0 0 1 -1\n    5 Y        BS 4 0 0 0\nINTERVAL 3 FROM 1 TO 5\n    1 COST     BS -5 0 0 0\n    2 CHG      BS -3 0 0 0\n    3 LIM      UL 4 0 -2 0\n    4 X        UL 3 0 1 -1\n    5 Y        BS 1 0 0 0\n",
+            ),
             status: 0,
             line: b"ATTESTED 3 REPORTS\n",
         },
         Case {
             name: "right at both ends alone",
-            edit: Edit::Text(b"INTERVAL 1 FROM 0 TO 1\n    1 COST     BS -8 0 0 0\n    2 CHG      BS 0 0 0 0\n    3 LIM      UL 4 0 -2 0\n    4 X        LL 0 0 1 -1\n    5 Y        BS 4 0 0 0\nINTERVAL 2 FROM 1 TO 5\n    1 COST     BS -5 0 0 0\n    2 CHG      BS -3 0 0 0\n    3 LIM      UL 4 0 -2 0\n    4 X        UL 3 0 1 -1\n    5 Y        BS 1 0 0 0\n", b"INTERVAL 1 FROM 0 TO 5\n    1 COST     BS -8 3/5 0 0\n    2 CHG      BS 0 -3/5 0 0\n    3 LIM      UL 4 0 -2 0\n    4 X        LL 0 3/5 1 -1\n    5 Y        BS 4 -3/5 0 0\n"),
+            edit: Edit::Text(
+                b"INTERVAL 1 FROM 0 TO 1\n    1 COST     BS -8 0 0 0\n    2 CHG      BS 0 0 0 0\n    3 LIM      UL 4 0 -2 0\n    4 X        LL 0 0 1 -1\n    5 Y        BS 4 0 0 0\nINTERVAL 2 FROM 1 TO 5\n    1 COST     BS -5 0 0 0\n    2 CHG      BS -3 0 0 0\n    3 LIM      UL 4 0 -2 0\n    4 X        UL 3 0 1 -1\n    5 Y        BS 1 0 0 0\n",
+                b"INTERVAL 1 FROM 0 TO 5\n    1 COST     BS -8 3/5 0 0\n    2 CHG      BS 0 -3/5 0 0\n    3 LIM      UL 4 0 -2 0\n    4 X        LL 0 3/5 1 -1\n    5 Y        BS 4 -3/5 0 0\n",
+            ),
             status: 40,
             line: b"WRONG LINE 3\n",
         },
         Case {
             name: "past the last value",
-            edit: Edit::Text(b"TO 5\n    1 COST     BS -5 0 0 0\n    2 CHG      BS -3 0 0 0\n    3 LIM      UL 4 0 -2 0\n    4 X        UL 3 0 1 -1\n    5 Y        BS 1 0 0 0\nPARAOBJ ENDS AT 5", b"TO 6\n    1 COST     BS -5 0 0 0\n    2 CHG      BS -3 0 0 0\n    3 LIM      UL 4 0 -2 0\n    4 X        UL 3 0 1 -1\n    5 Y        BS 1 0 0 0\nPARAOBJ ENDS AT 6"),
+            edit: Edit::Text(
+                b"TO 5\n    1 COST     BS -5 0 0 0\n    2 CHG      BS -3 0 0 0\n    3 LIM      UL 4 0 -2 0\n    4 X        UL 3 0 1 -1\n    5 Y        BS 1 0 0 0\nPARAOBJ ENDS AT 5",
+                b"TO 6\n    1 COST     BS -5 0 0 0\n    2 CHG      BS -3 0 0 0\n    3 LIM      UL 4 0 -2 0\n    4 X        UL 3 0 1 -1\n    5 Y        BS 1 0 0 0\nPARAOBJ ENDS AT 6",
+            ),
             status: 40,
             line: b"WRONG LINE 3\n",
         },
         Case {
             name: "before the last value",
-            edit: Edit::Text(b"TO 5\n    1 COST     BS -5 0 0 0\n    2 CHG      BS -3 0 0 0\n    3 LIM      UL 4 0 -2 0\n    4 X        UL 3 0 1 -1\n    5 Y        BS 1 0 0 0\nPARAOBJ ENDS AT 5", b"TO 4\n    1 COST     BS -5 0 0 0\n    2 CHG      BS -3 0 0 0\n    3 LIM      UL 4 0 -2 0\n    4 X        UL 3 0 1 -1\n    5 Y        BS 1 0 0 0\nPARAOBJ ENDS AT 4"),
+            edit: Edit::Text(
+                b"TO 5\n    1 COST     BS -5 0 0 0\n    2 CHG      BS -3 0 0 0\n    3 LIM      UL 4 0 -2 0\n    4 X        UL 3 0 1 -1\n    5 Y        BS 1 0 0 0\nPARAOBJ ENDS AT 5",
+                b"TO 4\n    1 COST     BS -5 0 0 0\n    2 CHG      BS -3 0 0 0\n    3 LIM      UL 4 0 -2 0\n    4 X        UL 3 0 1 -1\n    5 Y        BS 1 0 0 0\nPARAOBJ ENDS AT 4",
+            ),
             status: 40,
             line: b"WRONG LINE 3\n",
         },
@@ -54,13 +77,19 @@ const TWO_INTERVALS: Listing = Listing {
         },
         Case {
             name: "the first interval carried on",
-            edit: Edit::Text(b"INTERVAL 1 FROM 0 TO 1\n    1 COST     BS -8 0 0 0\n    2 CHG      BS 0 0 0 0\n    3 LIM      UL 4 0 -2 0\n    4 X        LL 0 0 1 -1\n    5 Y        BS 4 0 0 0\nINTERVAL 2 FROM 1 TO 5\n    1 COST     BS -5 0 0 0\n    2 CHG      BS -3 0 0 0\n    3 LIM      UL 4 0 -2 0\n    4 X        UL 3 0 1 -1\n    5 Y        BS 1 0 0 0\n", b"INTERVAL 1 FROM 0 TO 5\n    1 COST     BS -8 0 0 0\n    2 CHG      BS 0 0 0 0\n    3 LIM      UL 4 0 -2 0\n    4 X        LL 0 0 1 -1\n    5 Y        BS 4 0 0 0\n"),
+            edit: Edit::Text(
+                b"INTERVAL 1 FROM 0 TO 1\n    1 COST     BS -8 0 0 0\n    2 CHG      BS 0 0 0 0\n    3 LIM      UL 4 0 -2 0\n    4 X        LL 0 0 1 -1\n    5 Y        BS 4 0 0 0\nINTERVAL 2 FROM 1 TO 5\n    1 COST     BS -5 0 0 0\n    2 CHG      BS -3 0 0 0\n    3 LIM      UL 4 0 -2 0\n    4 X        UL 3 0 1 -1\n    5 Y        BS 1 0 0 0\n",
+                b"INTERVAL 1 FROM 0 TO 5\n    1 COST     BS -8 0 0 0\n    2 CHG      BS 0 0 0 0\n    3 LIM      UL 4 0 -2 0\n    4 X        LL 0 0 1 -1\n    5 Y        BS 4 0 0 0\n",
+            ),
             status: 40,
             line: b"WRONG LINE 3\n",
         },
         Case {
             name: "a point behind the first interval",
-            edit: Edit::Text(b"INTERVAL 2 FROM 1 TO 5\n    1 COST     BS -5 0 0 0\n    2 CHG      BS -3 0 0 0\n    3 LIM      UL 4 0 -2 0\n    4 X        UL 3 0 1 -1\n    5 Y        BS 1 0 0 0\n", b"INTERVAL 2 FROM 1 TO 1\n    1 COST     BS -5 0 0 0\n    2 CHG      BS -3 0 0 0\n    3 LIM      UL 4 0 -2 0\n    4 X        UL 3 0 1 -1\n    5 Y        BS 1 0 0 0\nINTERVAL 3 FROM 1 TO 5\n    1 COST     BS -5 0 0 0\n    2 CHG      BS -3 0 0 0\n    3 LIM      UL 4 0 -2 0\n    4 X        UL 3 0 1 -1\n    5 Y        BS 1 0 0 0\n"),
+            edit: Edit::Text(
+                b"INTERVAL 2 FROM 1 TO 5\n    1 COST     BS -5 0 0 0\n    2 CHG      BS -3 0 0 0\n    3 LIM      UL 4 0 -2 0\n    4 X        UL 3 0 1 -1\n    5 Y        BS 1 0 0 0\n",
+                b"INTERVAL 2 FROM 1 TO 1\n    1 COST     BS -5 0 0 0\n    2 CHG      BS -3 0 0 0\n    3 LIM      UL 4 0 -2 0\n    4 X        UL 3 0 1 -1\n    5 Y        BS 1 0 0 0\nINTERVAL 3 FROM 1 TO 5\n    1 COST     BS -5 0 0 0\n    2 CHG      BS -3 0 0 0\n    3 LIM      UL 4 0 -2 0\n    4 X        UL 3 0 1 -1\n    5 Y        BS 1 0 0 0\n",
+            ),
             status: 40,
             line: b"WRONG LINE 3\n",
         },
@@ -78,7 +107,10 @@ const TWO_INTERVALS: Listing = Listing {
         },
         Case {
             name: "no interval",
-            edit: Edit::Text(b"INTERVAL 1 FROM 0 TO 1\n    1 COST     BS -8 0 0 0\n    2 CHG      BS 0 0 0 0\n    3 LIM      UL 4 0 -2 0\n    4 X        LL 0 0 1 -1\n    5 Y        BS 4 0 0 0\nINTERVAL 2 FROM 1 TO 5\n    1 COST     BS -5 0 0 0\n    2 CHG      BS -3 0 0 0\n    3 LIM      UL 4 0 -2 0\n    4 X        UL 3 0 1 -1\n    5 Y        BS 1 0 0 0\n", b""),
+            edit: Edit::Text(
+                b"INTERVAL 1 FROM 0 TO 1\n    1 COST     BS -8 0 0 0\n    2 CHG      BS 0 0 0 0\n    3 LIM      UL 4 0 -2 0\n    4 X        LL 0 0 1 -1\n    5 Y        BS 4 0 0 0\nINTERVAL 2 FROM 1 TO 5\n    1 COST     BS -5 0 0 0\n    2 CHG      BS -3 0 0 0\n    3 LIM      UL 4 0 -2 0\n    4 X        UL 3 0 1 -1\n    5 Y        BS 1 0 0 0\n",
+                b"",
+            ),
             status: 40,
             line: b"WRONG LINE 3\n",
         },
@@ -90,7 +122,10 @@ const TWO_INTERVALS: Listing = Listing {
         },
         Case {
             name: "an optimal opening",
-            edit: Edit::From(b"PARAOBJ FROM", b"PARAOBJ OPTIMAL STEPS 0 OBJECTIVE -8 CHECKED\nEND 0\n"),
+            edit: Edit::From(
+                b"PARAOBJ FROM",
+                b"PARAOBJ OPTIMAL STEPS 0 OBJECTIVE -8 CHECKED\nEND 0\n",
+            ),
             status: 40,
             line: b"WRONG LINE 3\n",
         },
@@ -171,31 +206,46 @@ const INFEASIBLE_PAST: Listing = Listing {
         },
         Case {
             name: "the ray times seven",
-            edit: Edit::Text(b"PARARHS INFEASIBLE PAST 2\n    2 LOW      -1\n    3 X        1\n", b"PARARHS INFEASIBLE PAST 2\n    2 LOW      -7\n    3 X        7\n"),
+            edit: Edit::Text(
+                b"PARARHS INFEASIBLE PAST 2\n    2 LOW      -1\n    3 X        1\n",
+                b"PARARHS INFEASIBLE PAST 2\n    2 LOW      -7\n    3 X        7\n",
+            ),
             status: 0,
             line: b"ATTESTED 3 REPORTS\n",
         },
         Case {
             name: "the ray turned",
-            edit: Edit::Text(b"PARARHS INFEASIBLE PAST 2\n    2 LOW      -1\n    3 X        1\n", b"PARARHS INFEASIBLE PAST 2\n    2 LOW      1\n    3 X        -1\n"),
+            edit: Edit::Text(
+                b"PARARHS INFEASIBLE PAST 2\n    2 LOW      -1\n    3 X        1\n",
+                b"PARARHS INFEASIBLE PAST 2\n    2 LOW      1\n    3 X        -1\n",
+            ),
             status: 40,
             line: b"WRONG LINE 3\n",
         },
         Case {
             name: "no ray",
-            edit: Edit::Text(b"PARARHS INFEASIBLE PAST 2\n    2 LOW      -1\n    3 X        1\n", b"PARARHS INFEASIBLE PAST 2\n"),
+            edit: Edit::Text(
+                b"PARARHS INFEASIBLE PAST 2\n    2 LOW      -1\n    3 X        1\n",
+                b"PARARHS INFEASIBLE PAST 2\n",
+            ),
             status: 40,
             line: b"WRONG LINE 3\n",
         },
         Case {
             name: "lines exchanged",
-            edit: Edit::Text(b"PARARHS INFEASIBLE PAST 2\n    2 LOW      -1\n    3 X        1\n", b"PARARHS INFEASIBLE PAST 2\n    3 X        1\n    2 LOW      -1\n"),
+            edit: Edit::Text(
+                b"PARARHS INFEASIBLE PAST 2\n    2 LOW      -1\n    3 X        1\n",
+                b"PARARHS INFEASIBLE PAST 2\n    3 X        1\n    2 LOW      -1\n",
+            ),
             status: 40,
             line: b"WRONG LINE 3\n",
         },
         Case {
             name: "a zero",
-            edit: Edit::Text(b"PARARHS INFEASIBLE PAST 2\n    2 LOW      -1\n    3 X        1\n", b"PARARHS INFEASIBLE PAST 2\n    1 COST     0\n    2 LOW      -1\n    3 X        1\n"),
+            edit: Edit::Text(
+                b"PARARHS INFEASIBLE PAST 2\n    2 LOW      -1\n    3 X        1\n",
+                b"PARARHS INFEASIBLE PAST 2\n    1 COST     0\n    2 LOW      -1\n    3 X        1\n",
+            ),
             status: 40,
             line: b"WRONG LINE 3\n",
         },
@@ -213,7 +263,10 @@ const INFEASIBLE_PAST: Listing = Listing {
         },
         Case {
             name: "a later value and interval",
-            edit: Edit::Text(b"TO 2\n    1 COST     BS 1 1 0 0\n    2 LOW      LL 1 1 1 0\n    3 X        BS 1 1 0 0\nPARARHS INFEASIBLE PAST 2", b"TO 3\n    1 COST     BS 1 1 0 0\n    2 LOW      LL 1 1 1 0\n    3 X        BS 1 1 0 0\nPARARHS INFEASIBLE PAST 3"),
+            edit: Edit::Text(
+                b"TO 2\n    1 COST     BS 1 1 0 0\n    2 LOW      LL 1 1 1 0\n    3 X        BS 1 1 0 0\nPARARHS INFEASIBLE PAST 2",
+                b"TO 3\n    1 COST     BS 1 1 0 0\n    2 LOW      LL 1 1 1 0\n    3 X        BS 1 1 0 0\nPARARHS INFEASIBLE PAST 3",
+            ),
             status: 40,
             line: b"WRONG LINE 3\n",
         },
@@ -246,14 +299,12 @@ const RHS_INTERVALS: Listing = Listing {
     name: "pararhs two intervals",
     job: b"         PROGRAM\n         CONVERT\n         SETUP('BOUND','BND')\n         MOVE(XCHCOL,'C')\n         MOVE(XPARMAX,5)\n         PARARHS\n         EXIT\n         PEND\nNAME          T\nROWS\n N  COST\n G  LOW\nCOLUMNS\n    X         COST      1\n    X         LOW       1\n    Y         COST      2\n    Y         LOW       1\nRHS\n    B         LOW       1\n    C         LOW       1\nBOUNDS\n UP BND       X         3\nENDATA\n",
     text: b"CONVERT T        ROWS 2 COLUMNS 2 ENTRIES 4\nSETUP   T        MIN\nPARARHS FROM 0 CHANGE C\nINTERVAL 1 FROM 0 TO 2\n    1 COST     BS 1 1 0 0\n    2 LOW      LL 1 1 1 0\n    3 X        BS 1 1 0 0\n    4 Y        LL 0 0 1 0\nINTERVAL 2 FROM 2 TO 5\n    1 COST     BS -1 2 0 0\n    2 LOW      LL 1 1 2 0\n    3 X        UL 3 0 -1 0\n    4 Y        BS -2 1 0 0\nPARARHS ENDS AT 5\nEND 0\n",
-    cases: &[
-        Case {
-            name: "as it is",
-            edit: Edit::Nothing,
-            status: 0,
-            line: b"ATTESTED 3 REPORTS\n",
-        },
-    ],
+    cases: &[Case {
+        name: "as it is",
+        edit: Edit::Nothing,
+        status: 0,
+        line: b"ATTESTED 3 REPORTS\n",
+    }],
 };
 
 // One that is a point.
@@ -261,12 +312,10 @@ const RHS_POINT: Listing = Listing {
     name: "pararhs point interval",
     job: b"         PROGRAM\n         CONVERT\n         SETUP('BOUND','BND')\n         MOVE(XCHCOL,'C')\n         MOVE(XPARMAX,0)\n         PARARHS\n         EXIT\n         PEND\nNAME          ONE\nROWS\n N  COST\n G  LOW\nCOLUMNS\n    X         COST      1\n    X         LOW       1\nRHS\n    B         LOW       1\n    C         LOW       1\nBOUNDS\n UP BND       X         3\nENDATA\n",
     text: b"CONVERT ONE      ROWS 2 COLUMNS 1 ENTRIES 2\nSETUP   ONE      MIN\nPARARHS FROM 0 CHANGE C\nINTERVAL 1 FROM 0 TO 0\n    1 COST     BS 1 1 0 0\n    2 LOW      LL 1 1 1 0\n    3 X        BS 1 1 0 0\nPARARHS ENDS AT 0\nEND 0\n",
-    cases: &[
-        Case {
-            name: "as it is",
-            edit: Edit::Nothing,
-            status: 0,
-            line: b"ATTESTED 3 REPORTS\n",
-        },
-    ],
+    cases: &[Case {
+        name: "as it is",
+        edit: Edit::Nothing,
+        status: 0,
+        line: b"ATTESTED 3 REPORTS\n",
+    }],
 };

@@ -18,13 +18,19 @@ const CONFLICT: Listing = Listing {
         },
         Case {
             name: "the ray times three",
-            edit: Edit::Text(b"    2 HOURS    1\n    3 CHAIRS   -2\n    4 TABLES   -5\n", b"    2 HOURS    3\n    3 CHAIRS   -6\n    4 TABLES   -15\n"),
+            edit: Edit::Text(
+                b"    2 HOURS    1\n    3 CHAIRS   -2\n    4 TABLES   -5\n",
+                b"    2 HOURS    3\n    3 CHAIRS   -6\n    4 TABLES   -15\n",
+            ),
             status: 0,
             line: b"ATTESTED 4 REPORTS\n",
         },
         Case {
             name: "the ray turned",
-            edit: Edit::Text(b"    2 HOURS    1\n    3 CHAIRS   -2\n    4 TABLES   -5\n", b"    2 HOURS    -1\n    3 CHAIRS   2\n    4 TABLES   5\n"),
+            edit: Edit::Text(
+                b"    2 HOURS    1\n    3 CHAIRS   -2\n    4 TABLES   -5\n",
+                b"    2 HOURS    -1\n    3 CHAIRS   2\n    4 TABLES   5\n",
+            ),
             status: 40,
             line: b"WRONG LINE 4\n",
         },
@@ -36,7 +42,10 @@ const CONFLICT: Listing = Listing {
         },
         Case {
             name: "lines exchanged",
-            edit: Edit::Text(b"    2 HOURS    1\n    3 CHAIRS   -2\n    4 TABLES   -5\n", b"    3 CHAIRS   -2\n    2 HOURS    1\n    4 TABLES   -5\n"),
+            edit: Edit::Text(
+                b"    2 HOURS    1\n    3 CHAIRS   -2\n    4 TABLES   -5\n",
+                b"    3 CHAIRS   -2\n    2 HOURS    1\n    4 TABLES   -5\n",
+            ),
             status: 40,
             line: b"WRONG LINE 4\n",
         },
@@ -54,13 +63,19 @@ const CONFLICT: Listing = Listing {
         },
         Case {
             name: "no variable crossed",
-            edit: Edit::From(b"PRIMAL", b"PRIMAL INFEASIBLE STEPS 2 CROSSED 0 CHECKED\nEND 1\n"),
+            edit: Edit::From(
+                b"PRIMAL",
+                b"PRIMAL INFEASIBLE STEPS 2 CROSSED 0 CHECKED\nEND 1\n",
+            ),
             status: 40,
             line: b"WRONG LINE 4\n",
         },
         Case {
             name: "a variable crossed that is not there",
-            edit: Edit::From(b"PRIMAL", b"PRIMAL INFEASIBLE STEPS 2 CROSSED 7 CHECKED\nEND 1\n"),
+            edit: Edit::From(
+                b"PRIMAL",
+                b"PRIMAL INFEASIBLE STEPS 2 CROSSED 7 CHECKED\nEND 1\n",
+            ),
             status: 40,
             line: b"WRONG LINE 4\n",
         },
@@ -132,7 +147,10 @@ const ENDLESS: Listing = Listing {
         },
         Case {
             name: "a direction of zeros",
-            edit: Edit::Text(b"    1 PROFIT   200 2\n    2 MILLING  40 0\n    3 BUY      0 1\n    4 SELL     40 1\n", b"    1 PROFIT   200 0\n    2 MILLING  40 0\n    3 BUY      0 0\n    4 SELL     40 0\n"),
+            edit: Edit::Text(
+                b"    1 PROFIT   200 2\n    2 MILLING  40 0\n    3 BUY      0 1\n    4 SELL     40 1\n",
+                b"    1 PROFIT   200 0\n    2 MILLING  40 0\n    3 BUY      0 0\n    4 SELL     40 0\n",
+            ),
             status: 40,
             line: b"WRONG LINE 4\n",
         },
