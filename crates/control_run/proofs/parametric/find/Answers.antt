@@ -37,15 +37,15 @@ follow-requires-clause-rates g c =
 
 pub follow-requires-clause-serves : goal.follow-requires-clause-serves
 follow-requires-clause-serves g c =
-    c.run_of.ensures.serves c.in-Some.problem.now c.in-Ok.lp
+    c.run_of-sweep.ensures.serves c.in-Some.problem.now c.in-Ok.lp
     (serves c.in-Some.problem.now (choice_of c.args.cells.now c.setup.inside.options) c.in-Ok.lp c.in-Ok.ensures.selected c.in-Ok-request_of.request c.in-Ok-request_of.ensures.of)
 
 pub returns-in_err-finding-clause-tells : goal.returns-in_err-finding-clause-tells
 returns-in_err-finding-clause-tells g c =
     let p = err_from_is_err_and c.from_residual.result c.from_residual.ensures.1 in
     rw (p.1, p.2)
-    (run_told g.P.Sink.written g.P.Sink.stopped_at g.P.Sink.faults g.P.Sink.refusals c.args.verb c.args.cells.now c.args.file.now c.setup.view_is _ c.in-Some.problem.now (sym c.in-Some.ensures) c.in-Ok.lp c.in-Ok.ensures.selected (sweep_shown c.run_of.result)
-    (asked_of c.args.verb c.in-Some.problem.now c.args.cells.now c.in-Ok-request_of.request c.run_of.result c.steps_allowed.result c.steps_allowed.ensures.steps c.run_of.ensures.shown c.in-Ok-request_of.ensures.asked)
+    (run_told g.P.Sink.written g.P.Sink.stopped_at g.P.Sink.faults g.P.Sink.refusals c.args.verb c.args.cells.now c.args.file.now c.setup.view_is _ c.in-Some.problem.now (sym c.in-Some.ensures) c.in-Ok.lp c.in-Ok.ensures.selected (sweep_shown c.run_of-sweep.result)
+    (asked_of c.args.verb c.in-Some.problem.now c.args.cells.now c.in-Ok-request_of.request c.run_of-sweep.result c.steps_allowed.result c.steps_allowed.ensures.steps c.run_of-sweep.ensures.shown c.in-Ok-request_of.ensures.asked)
     c.args.print.now c.follow.new.print (Err c.in_err-finding.field-0.0) refl refl c.in_err-finding.ensures.tells)
 
 pub returns-in_err-finding-clause-ready : goal.returns-in_err-finding-clause-ready
@@ -54,8 +54,8 @@ returns-in_err-finding-clause-ready g c =
 
 pub returns-clause-tells : goal.returns-clause-tells
 returns-clause-tells g c =
-    run_told g.P.Sink.written g.P.Sink.stopped_at g.P.Sink.faults g.P.Sink.refusals c.args.verb c.args.cells.now c.args.file.now c.setup.view_is _ c.in-Some.problem.now (sym c.in-Some.ensures) c.in-Ok.lp c.in-Ok.ensures.selected (sweep_shown c.run_of.result)
-    (asked_of c.args.verb c.in-Some.problem.now c.args.cells.now c.in-Ok-request_of.request c.run_of.result c.steps_allowed.result c.steps_allowed.ensures.steps c.run_of.ensures.shown c.in-Ok-request_of.ensures.asked)
+    run_told g.P.Sink.written g.P.Sink.stopped_at g.P.Sink.faults g.P.Sink.refusals c.args.verb c.args.cells.now c.args.file.now c.setup.view_is _ c.in-Some.problem.now (sym c.in-Some.ensures) c.in-Ok.lp c.in-Ok.ensures.selected (sweep_shown c.run_of-sweep.result)
+    (asked_of c.args.verb c.in-Some.problem.now c.args.cells.now c.in-Ok-request_of.request c.run_of-sweep.result c.steps_allowed.result c.steps_allowed.ensures.steps c.run_of-sweep.ensures.shown c.in-Ok-request_of.ensures.asked)
     c.args.print.now c.follow.new.print (Ok c.in_ok-finding.finding) refl refl c.in_ok-finding.ensures.tells
 
 pub returns-clause-ready : goal.returns-clause-ready
