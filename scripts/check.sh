@@ -51,6 +51,9 @@ if command -v python3 >/dev/null; then
     # No text cites a paper by number; paths, definitions, calls and clauses that documents name are there.
     python3 scripts/check_documents.py || fail "a document says what isn't so"
 
+    # No crate stands on one of a higher layer, crates.txt lists what files cite, and the page of layers is fresh.
+    python3 scripts/layers.py --check || fail "crates.txt or a page of layers (scripts/layers.py --write makes these pages)"
+
     # The page of faults is that of examples/faults, and the listings of examples/ are those that are worked out apart.
     python3 scripts/faults.py --check || fail "scripts/faults.py --write makes docs/FAULTS.md"
     bash scripts/examples.sh --expected || fail "a listing of examples/"

@@ -1,7 +1,7 @@
 -- What is judged right in a listing is true of the linear program.
 --     IsTrueUnlessOptimal sheet verdict    what a verdict says, but that of an optimal one, which SOLUTION has to show
 --     JudgedLaws                   what passed its test says the truth
-use Rattle.std.specs.Prelude.{◌≡◌, ℕ, List, Option, map}
+use Rattle.std.specs.Prelude.{◌≡◌, ℕ, List, Option, None, map}
 use Rattle.lp_definitions.specs.LinearProgram.{IsLinearProgram}
 use Rattle.sweep_laws.specs.Truth.{IsSolvedBy, IsTrueRun}
 use Rattle.listing_definitions.specs.declared.Mark.TheVariants.{Optimal}
@@ -13,7 +13,7 @@ use Rattle.answer_definitions.specs.Sweeps.{family_of, sheet_at}
 use Rattle.run_laws.specs.Truth.{IsTrueOf, IsNotUnbounded}
 use Rattle.walk_definitions.specs.Tests.{point_of, prices_of}
 use Rattle.walk_definitions.specs.Reading.{Right, judged}
-use Rattle.judged_laws.specs.Shown.{part_of, past_of, MayChange}
+use Rattle.judged_laws.specs.Shown.{part_of, past_of, MayChange, IsTrueAtFirst}
 
 abbrev pub IsTrueUnlessOptimal : Sheet → PathVerdict → Type 0
 IsTrueUnlessOptimal sheet (OptimalAt steps objective) = Unit {0}
@@ -23,16 +23,17 @@ pub record JudgedLaws : Type 0 where
   -- under OPTIMAL the point of SOLUTION is best, and its prices prove that
   pub solution : (sheet : Sheet) (rest after : List ℕ) (lines : SolutionLines) → IsLinearProgram sheet.lp →
       judged (OfSolution Optimal) sheet rest ≡ Right lines after → IsSolvedBy sheet.lp (point_of sheet lines) (prices_of sheet lines)
-  -- a verdict other than OPTIMAL is proved by what is printed with it
-  pub verdict : (solver : Solver) (limit : Option ℕ) (sheet : Sheet) (rest after : List ℕ) (bases : List Basis) (verdict : PathVerdict) (check : Check) → IsLinearProgram sheet.lp →
+  -- a verdict other than OPTIMAL is proved by what is printed with it; a linear program that is selected has no change row
+  pub verdict : (solver : Solver) (limit : Option ℕ) (sheet : Sheet) (rest after : List ℕ) (bases : List Basis) (verdict : PathVerdict) (check : Check) →
+      IsLinearProgram sheet.lp → sheet.lp.change ≡ None →
       judged (OfPath solver limit) sheet rest ≡ Right (Reached bases verdict check) after → IsTrueUnlessOptimal sheet verdict
   -- DUAL is never taken to find that there is no best point
   pub dual : (limit : Option ℕ) (sheet : Sheet) (rest after : List ℕ) (bases : List Basis) (verdict : PathVerdict) (check : Check) →
       judged (OfPath Dual limit) sheet rest ≡ Right (Reached bases verdict check) after → IsNotUnbounded verdict
-  -- the verdict of an opening is true at the first value
+  -- the verdict of an opening is true at the first value, where its objective is the activity of the objective row
   pub opening : (sweep : Sweep) (sheet : Sheet) (rest after : List ℕ) (bases : List Basis) (verdict : PathVerdict) (check : Check) → IsLinearProgram sheet.lp →
       MayChange sheet sweep.changing → judged (OfSweep sweep) sheet rest ≡ Right (Opening bases verdict check) after →
-      IsTrueOf (sheet_at sheet sweep.changing sweep.from) verdict
+      IsTrueAtFirst (sheet_at sheet sweep.changing sweep.from) verdict
   -- a parametric run is true at every value of the parameter between its first and its last end, and past that by how it closes
   pub chain : (sweep : Sweep) (sheet : Sheet) (rest after : List ℕ) (bases : List Basis) (intervals : List Interval) (end : ChainEnd) → IsLinearProgram sheet.lp →
       MayChange sheet sweep.changing → judged (OfSweep sweep) sheet rest ≡ Right (Chained bases intervals end) after →

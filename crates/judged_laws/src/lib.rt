@@ -1,10 +1,15 @@
-//! What is judged right in a listing is true of the linear program: verdicts, SOLUTION and parametric runs. The function here does nothing.
+//! What is judged right in a listing is true of the linear program: verdicts, SOLUTION and parametric runs. The function here computes nothing.
 //! It promises the laws, so that the check proves them.
 #![tactic(auto)]
 
 ghost use Rattle.judged_laws.specs.Laws.{JudgedLaws};
 
-/// What passed its test says the truth.
+use interval_laws::{between_laws, past_laws};
+
+/// What passed its test says the truth. The laws of intervals on which that stands are promised by what it calls.
 pub fn judged_laws()
     ensures { JudgedLaws }
-{}
+{
+    between_laws();
+    past_laws();
+}

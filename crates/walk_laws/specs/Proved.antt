@@ -21,7 +21,7 @@ use Rattle.run_laws.specs.Truth.{PresentProgram, sheet_of, IsTrueOf, IsNotUnboun
 use Rattle.run_laws.specs.Headline.{HoldInJob}
 use Rattle.walk_definitions.specs.Tests.{point_of, prices_of}
 use Rattle.walk_definitions.specs.Reading.{Right, judged}
-use Rattle.judged_laws.specs.Shown.{part_of, past_of}
+use Rattle.judged_laws.specs.Shown.{part_of, past_of, IsTrueAtFirst}
 
 abbrev pub IsTaken : (question : Question) → Sheet → Answer question → Type 0
 IsTaken question sheet answer = (rest : List ℕ) × (after : List ℕ) × (judged question sheet rest ≡ Right answer after)
@@ -56,7 +56,7 @@ abbrev pub Says : State → Report → Type 0
 Says state (Solution Optimal lines) = ShowsProved state.setup state.cells lines
 Says state (Solved ByPrimal verdict check) = (program : PresentProgram state.setup state.cells) × IsTrueOf (sheet_of program) verdict
 Says state (Solved ByDual verdict check) = (program : PresentProgram state.setup state.cells) × IsTrueOf (sheet_of program) verdict × IsNotUnbounded verdict
-Says state (Solved solver verdict check) = TellsOfRun state.setup state.cells solver (λ sheet sweep. IsTrueOf (sheet_at sheet sweep.changing sweep.from) verdict)
+Says state (Solved solver verdict check) = TellsOfRun state.setup state.cells solver (λ sheet sweep. IsTrueAtFirst (sheet_at sheet sweep.changing sweep.from) verdict)
 Says state (Parametric solver chain) = TellsOfRun state.setup state.cells solver (ShowsProvedChain chain)
 Says state report = Unit {0}
 

@@ -4,10 +4,16 @@
 
 ghost use Rattle.walk_laws.specs.Laws.{AttestedLaw, OneComesLaw};
 
+use judged_laws::judged_laws;
+use reading_laws::reading_law;
+
 /// An attested listing is that of a run of the job, and what it says of linear programs is true.
 pub fn attested_law()
     ensures { AttestedLaw }
-{}
+{
+    reading_law();
+    judged_laws();
+}
 
 /// Of each job and each listing one thing comes.
 pub fn one_comes_law()

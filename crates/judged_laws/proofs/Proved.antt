@@ -1,0 +1,16 @@
+-- All that is judged right is true.
+use Rattle.interval_laws.specs.Laws.{BetweenLaws, PastLaws}
+use Rattle.judged_laws.specs.Laws.{JudgedLaws}
+use Rattle.judged_laws.proofs.Solution.{solution_is_true}
+use Rattle.judged_laws.proofs.Verdicts.{verdict_is_true, dual_is_not_unbounded}
+use Rattle.judged_laws.proofs.Openings.{opening_is_true}
+use Rattle.judged_laws.proofs.Chains.{chain_is_true}
+
+pub judged_is_true : BetweenLaws → PastLaws → JudgedLaws
+judged_is_true between past = record {
+  solution = solution_is_true;
+  verdict = verdict_is_true;
+  dual = dual_is_not_unbounded;
+  opening = λ sweep sheet rest after bases verdict check lawful may e. opening_is_true sheet sweep rest after bases verdict check lawful may e;
+  chain = λ sweep sheet rest after bases intervals end lawful may e. chain_is_true between past sheet sweep lawful may rest after bases intervals end e;
+}

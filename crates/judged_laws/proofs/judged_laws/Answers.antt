@@ -1,0 +1,5 @@
+use Rattle.judged_laws.proofs.Proved.{judged_is_true}
+use Rattle.judged_laws.proofs.judged_laws.Goals as goal
+
+pub returns : goal.returns
+returns c = judged_is_true c.between_laws.ensures c.past_laws.ensures

@@ -1,0 +1,5 @@
+mod Pieces
+mod Lines
+mod Verdicts
+mod Sections
+pub mod Runs
