@@ -19,6 +19,7 @@ use crate::status::CheckStatus;
 use job_devices::{NoMemory, Sink, Source, SourceStop, read_up_to};
 use job_program::{EarlyStop, prepare};
 use std::alloc::Global;
+use walk_laws::attested_law;
 
 // The most bytes that a listing may have.
 const MAX_LISTING: usize = 64_000_000;
@@ -209,6 +210,7 @@ pub fn check_listing<S: Source, L: Source, P: Sink>(
         ReadsUpTo 64000001 (L.left listing.old) (L.left listing.new) }
     ensures unread { result ≡ CheckStatus.ReadFault → listing.new ≡ listing.old }
 {
+    attested_law();
     if words.is_empty() {
         return check_job(alloc, job, listing, print);
     }

@@ -3,7 +3,6 @@ use Rattle.listing_check.specs.declared.status.CheckStatus.TheVariants.{Words}
 use Rattle.listing_check.specs.Statuses.{code_of}
 use Rattle.listing_check.specs.Answer.{words_text}
 use Rattle.listing_check.proofs.Telling.{answer_of, why_tells, why_ends, true_listing, without, there_are}
-use Rattle.listing_check.proofs.Law.{law}
 use Rattle.listing_check.proofs.check.check_listing.Goals as goal
 
 -- ---- without words
@@ -14,7 +13,7 @@ returns-then-is_empty-clause-answer g c bytes lines none job listing =
 
 pub returns-then-is_empty-clause-truth : goal.returns-then-is_empty-clause-truth
 returns-then-is_empty-clause-truth g c is bytes lines job listing =
-    true_listing law bytes lines _ (code_of c.check_job.result) _ (returns-then-is_empty-clause-answer g c bytes lines (without (length c.args.words.now) c.if-is_empty.ensures) job listing) (ap code_of is)
+    true_listing c.attested_law.ensures bytes lines _ (code_of c.check_job.result) _ (returns-then-is_empty-clause-answer g c bytes lines (without (length c.args.words.now) c.if-is_empty.ensures) job listing) (ap code_of is)
 
 pub returns-then-is_empty-clause-cause : goal.returns-then-is_empty-clause-cause
 returns-then-is_empty-clause-cause g c =
