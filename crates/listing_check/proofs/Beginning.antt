@@ -1,5 +1,5 @@
 -- What a check finds by what it begins with.
-use Rattle.std.proofs.Common.{◌≡◌, ℕ, List, [], None, Some, IfOk, Result, Ok, Err, subst}
+use Rattle.std.proofs.Common.{◌≡◌, ℕ, List, [], IfOk, Result, Ok, Err, subst}
 use Rattle.card_definitions.specs.declared.CardFault.{CardFault}
 use Rattle.control_definitions.specs.declared.ControlFault.{ControlFault}
 use Rattle.job_devices.specs.declared.device.NoMemory.{NoMemory}
