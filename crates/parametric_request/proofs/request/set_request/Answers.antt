@@ -1,8 +1,8 @@
 use Rattle.std.proofs.Common.{sym, ap, ◌∙◌, option_map}
-use Rattle.control_run.specs.declared.sweep.SweepVerb.TheVariants.{Pararhs}
-use Rattle.control_run.specs.Sweeping.{no_change, no_value}
-use Rattle.control_run.proofs.Asking.{forward, no_name, no_set, set_changes}
-use Rattle.control_run.proofs.sweep.set_sweep.Goals as goal
+use Rattle.parametric_request.specs.declared.request.ParametricVerb.TheVariants.{Pararhs}
+use Rattle.parametric_request.specs.Asking.{no_change, no_value}
+use Rattle.parametric_request.proofs.Asked.{forward, no_name, no_set, set_changes}
+use Rattle.parametric_request.proofs.request.set_request.Goals as goal
 
 pub returns-in_default-clause-refused : goal.returns-in_default-clause-refused
 returns-in_default-clause-refused c = no_change (no_name c.args.problem.now c.args.cells.now Pararhs (sym c.name.ensures ∙ c.in_default.is))

@@ -13,9 +13,9 @@ use Rattle.listing_definitions.specs.declared.VerbFault.TheVariants.{ParmaxBelow
 use Rattle.question_definitions.specs.Answers.{Row, Set}
 use Rattle.answer_definitions.specs.Sweeps.{row_of, shifts_of}
 use Rattle.run_definitions.specs.Verbs.{change_row, change_set, not_less}
-use Rattle.control_run.specs.declared.sweep.SweepVerb.{SweepVerb}
-use Rattle.control_run.specs.declared.sweep.SweepVerb.TheVariants.{Paraobj, Pararhs}
-use Rattle.control_run.specs.Sweeping.{name_moved, change_of, Changes, IsLastValue, IsLastFault, below}
+use Rattle.parametric_request.specs.declared.request.ParametricVerb.{ParametricVerb}
+use Rattle.parametric_request.specs.declared.request.ParametricVerb.TheVariants.{Paraobj, Pararhs}
+use Rattle.parametric_request.specs.Asking.{name_moved, change_of, Changes, IsLastValue, IsLastFault, below}
 
 -- ---- the last value
 
@@ -43,7 +43,7 @@ forward cells from to begins is = subst (λ (x : ℚ). x ≤ℚ to) (sym begins)
 -- ---- what changes
 
 module _ (problem : Problem ℕ) (cells : Cells) where
-  pub no_name : (verb : SweepVerb) → name_moved verb cells ≡ None → option_and_then (change_of verb problem) (name_moved verb cells) ≡ None
+  pub no_name : (verb : ParametricVerb) → name_moved verb cells ≡ None → option_and_then (change_of verb problem) (name_moved verb cells) ≡ None
   no_name verb e = ap (option_and_then (change_of verb problem)) e
 
   module _ (name : Name) where

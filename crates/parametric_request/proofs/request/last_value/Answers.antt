@@ -1,7 +1,7 @@
 use Rattle.std.proofs.Common.{sym, ◌∙◌}
-use Rattle.control_run.specs.Sweeping.{no_last}
-use Rattle.control_run.proofs.Asking.{last_serves, last_is_less}
-use Rattle.control_run.proofs.sweep.last_value.Goals as goal
+use Rattle.parametric_request.specs.Asking.{no_last}
+use Rattle.parametric_request.proofs.Asked.{last_serves, last_is_less}
+use Rattle.parametric_request.proofs.request.last_value.Goals as goal
 
 pub returns-in_default-clause-fault : goal.returns-in_default-clause-fault
 returns-in_default-clause-fault c = no_last (sym c.parmax.ensures ∙ c.in_default.is)

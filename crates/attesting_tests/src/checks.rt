@@ -1,0 +1,55 @@
+// Listings as they are, and changed.
+use crate::jobs::JOBS;
+use crate::listings::{Listing, answer_to, first_other};
+use crate::plans::PLANS;
+use crate::refused::REFUSED;
+use crate::sweeps::SWEEPS;
+use crate::verdicts::VERDICTS;
+use std::alloc::Global;
+use std::test::Fail;
+
+// The first listing of which a change is answered otherwise, with this change.
+fn first_wrong(
+    alloc: Global,
+    listings: &[Listing],
+) -> Result<Option<(&'static str, &'static str)>, Fail> {
+    for listing in listings {
+        if let Some(case) = first_other(alloc, listing)? {
+            return Ok(Some((listing.name, case)));
+        }
+    }
+    Ok(None)
+}
+
+#[test]
+fn plans_are_attested(rt: HostRuntime) -> Result<(), Fail> {
+    assert_eq!(rt; first_wrong(rt.alloc(), &PLANS)?, None);
+    Ok(())
+}
+
+#[test]
+fn verdicts_are_attested(rt: HostRuntime) -> Result<(), Fail> {
+    assert_eq!(rt; first_wrong(rt.alloc(), &VERDICTS)?, None);
+    Ok(())
+}
+
+#[test]
+fn parametric_runs_are_attested(rt: HostRuntime) -> Result<(), Fail> {
+    assert_eq!(rt; first_wrong(rt.alloc(), &SWEEPS)?, None);
+    Ok(())
+}
+
+#[test]
+fn refused_operations_are_told(rt: HostRuntime) -> Result<(), Fail> {
+    assert_eq!(rt; first_wrong(rt.alloc(), &REFUSED)?, None);
+    Ok(())
+}
+
+#[test]
+fn jobs_decide_what_is_due(rt: HostRuntime) -> Result<(), Fail> {
+    for row in &JOBS {
+        let answer = answer_to(rt.alloc(), row.job, row.listing)?;
+        assert!(rt; answer.is(row.status, row.line), "{}", row.name);
+    }
+    Ok(())
+}

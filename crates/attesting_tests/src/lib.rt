@@ -1,0 +1,21 @@
+//! Worked listings of worked jobs, and what each is found to be. Nothing but tests.
+#![tactic(auto)]
+
+#[cfg(test)]
+mod checks;
+#[cfg(test)]
+mod devices;
+#[cfg(test)]
+mod full;
+#[cfg(test)]
+mod jobs;
+#[cfg(test)]
+mod listings;
+#[cfg(test)]
+mod plans;
+#[cfg(test)]
+mod refused;
+#[cfg(test)]
+mod sweeps;
+#[cfg(test)]
+mod verdicts;

@@ -1,0 +1,125 @@
+// Listings that are changed, and what each is found to be.
+ghost use Rattle.std.specs.Prelude.{◌≤◌, length, IfSome};
+
+use job_devices::{MemorySink, MemorySource};
+use listing_check::check_listing;
+use std::alloc::Global;
+use std::test::Fail;
+
+/// What is changed in a text.
+#[derive(Clone, Copy)]
+pub enum Edit {
+    /// Nothing.
+    Nothing,
+    /// The first place where the one text stands gets the other.
+    Text(&'static [u8], &'static [u8]),
+    /// All from there on is replaced by the other.
+    From(&'static [u8], &'static [u8]),
+}
+
+/// A change of a listing, and what is printed of it then.
+pub struct Case {
+    /// What is changed.
+    pub name: &'static str,
+    pub edit: Edit,
+    pub status: u8,
+    pub line: &'static [u8],
+}
+
+/// A job, its listing, and changes of that.
+pub struct Listing {
+    pub name: &'static str,
+    pub job: &'static [u8],
+    pub text: &'static [u8],
+    pub cases: &'static [Case],
+}
+
+/// What is answered.
+#[derive(Drop)]
+pub struct Answer {
+    pub status: u8,
+    pub print: MemorySink,
+}
+
+impl Answer {
+    /// Whether it has this status and this line.
+    pub fn is(&self, status: u8, line: &[u8]) -> bool {
+        self.status == status && self.print.bytes() == line
+    }
+}
+
+// Where a text stands first.
+fn place_of(text: &[u8], part: &[u8]) -> Option<usize>
+    ensures { IfSome result (λ place. place ≤ length text.now) }
+{
+    for place in 0..text.len() {
+        if text[place..].starts_with(part) {
+            return Some(place);
+        }
+    }
+    None
+}
+
+// The text with this at the first place of the other. What is left there goes on, or ends.
+fn replaced(
+    alloc: Global,
+    text: &[u8],
+    old: &[u8],
+    new: &[u8],
+    goes_on: bool,
+) -> Result<Option<Vec<u8>>, Fail> {
+    let Some(place) = place_of(text, old) else {
+        return Ok(None);
+    };
+    let (before, from) = text.split_at(place);
+    let mut made = Vec::from_slice(alloc, before)?;
+    made.extend_from_slice(new)?;
+    if goes_on {
+        made.extend_from_slice(from.strip_prefix(old).unwrap_or(b""))?;
+    }
+    Ok(Some(made))
+}
+
+// The text after a change. None where what is to be changed isn't there.
+fn edited(alloc: Global, text: &[u8], edit: Edit) -> Result<Option<Vec<u8>>, Fail> {
+    match edit {
+        Edit::Nothing => Ok(Some(Vec::from_slice(alloc, text)?)),
+        Edit::Text(old, new) => replaced(alloc, text, old, new, true),
+        Edit::From(old, new) => replaced(alloc, text, old, new, false),
+    }
+}
+
+/// What is answered to a job and a listing, over a print whose writes with these numbers fail.
+pub fn answer_from(
+    alloc: Global,
+    mut job: MemorySource,
+    mut listing: MemorySource,
+    failing_writes: &[u64],
+) -> Result<Answer, Fail> {
+    let mut print = MemorySink::new(alloc, failing_writes)?;
+    let status = check_listing(alloc, &[], &mut job, &mut listing, &mut print).code();
+    Ok(Answer { status, print })
+}
+
+/// What is answered to a job and a listing.
+pub fn answer_to(alloc: Global, job: &[u8], listing: &[u8]) -> Result<Answer, Fail> {
+    answer_from(
+        alloc,
+        MemorySource::new(alloc, job, &[])?,
+        MemorySource::new(alloc, listing, &[])?,
+        &[],
+    )
+}
+
+/// The first change of a listing after which another line or another status is answered, or which can't be made.
+pub fn first_other(alloc: Global, listing: &Listing) -> Result<Option<&'static str>, Fail> {
+    for case in listing.cases {
+        let Some(text) = edited(alloc, listing.text, case.edit)? else {
+            return Ok(Some(case.name));
+        };
+        if !answer_to(alloc, listing.job, &text)?.is(case.status, case.line) {
+            return Ok(Some(case.name));
+        }
+    }
+    Ok(None)
+}

@@ -1,0 +1,19 @@
+use Rattle.std.proofs.Common.{None, Some}
+use Rattle.std.specs.Prelude.{codes}
+use Rattle.walk_definitions.specs.Found.{answer_text}
+use Rattle.listing_walk.specs.Ended.{found_shown}
+use Rattle.listing_check.specs.declared.status.CheckStatus.TheVariants.{Long}
+use Rattle.listing_check.specs.Statuses.{status_of}
+use Rattle.listing_check.specs.Reads.{found, says}
+use Rattle.listing_check.proofs.Lengths.{long_answer, found_answer}
+use Rattle.listing_check.proofs.check.check_bytes.Goals as goal
+
+pub returns-then-listing-gt-MAX_LISTING : goal.returns-then-listing-gt-MAX_LISTING
+returns-then-listing-gt-MAX_LISTING g c =
+    says (codes "LONG LISTING\n") Long (found None (codes "LONG LISTING\n") tt tt tt tt (λ bytes lines is e. long_answer bytes c.args.listing.now lines e c.if-listing-gt-MAX_LISTING.true)) c.end_with.ensures
+
+pub returns-in-Ok : goal.returns-in-Ok
+returns-in-Ok g c =
+    let shown = found_shown c.in-Ok.found in
+    says (answer_text c.args.listing.now (Some shown)) (status_of (Some shown))
+    (found (Some shown) (answer_text c.args.listing.now (Some shown)) tt tt tt tt (λ bytes lines is e. found_answer bytes c.args.listing.now lines shown e c.if-listing-gt-MAX_LISTING.false (c.in-Ok.ensures bytes is))) c.end_found.ensures

@@ -1,0 +1,218 @@
+// The top call.
+ghost use Rattle.std.specs.Prelude.{◌≡◌, ◌≢◌, ◌<◌, List, ℕ, Some, length, take};
+ghost use Rattle.std.specs.Io.KnownBytes.{Appends};
+ghost use Rattle.job_devices.specs.Causes.{Rose};
+ghost use Rattle.job_devices.specs.Reading.{ReadsUpTo, ReadsWhole};
+ghost use Rattle.card_reader.specs.Reading.{ReadsFront, ReadsJob};
+ghost use Rattle.job_program.specs.Stops.{TellsEarlyStop};
+ghost use Rattle.walk_laws.specs.Proved.{IsTrueListing};
+ghost use Rattle.listing_check.specs.Statuses.{code_of};
+ghost use Rattle.listing_check.specs.Devices.{IsReported, IsStill, EndsWith};
+ghost use Rattle.listing_check.specs.Starting.{IsStartOf, IsWhole};
+ghost use Rattle.listing_check.specs.Answer.{IsCheckAnswer, words_text};
+ghost use Rattle.listing_check.specs.Reads.{Tells};
+ghost use Rattle.listing_check.specs.Causes.{HasCheckCause};
+
+use crate::line::{end_found, end_with};
+use crate::start::{Start, find};
+use crate::status::CheckStatus;
+use job_devices::{NoMemory, Sink, Source, SourceStop, read_up_to};
+use job_program::{EarlyStop, prepare};
+use std::alloc::Global;
+use walk_laws::attested_law;
+
+// The most bytes that a listing may have.
+const MAX_LISTING: usize = 64_000_000;
+
+// Prints what a listing is found to be that is read up to one byte more than it may have.
+fn check_bytes<P: Sink>(alloc: Global, start: &Start, listing: &[u8], print: &mut P) -> CheckStatus
+    ensures { Tells (record {
+      job_fails = ⊥;
+      job_quiet = Unit {0};
+      job_read = Unit {0};
+      listing_fails = ⊥;
+      listing_quiet = Unit {0};
+      listing_read = Unit {0};
+      listing_same = ⊥;
+      is_job = λ bytes. IsStartOf bytes start.now;
+      is_listing = λ lines. listing.now ≡ take 64000001 lines;
+    }) P.written P.stopped_at P.faults P.refusals print.old print.new result }
+{
+    if listing.len() > MAX_LISTING {
+        return end_with(print, b"LONG LISTING\n", CheckStatus::Long);
+    }
+    match find(alloc, start, listing) {
+        Ok(found) => end_found(print, listing, &found),
+        Err(NoMemory) => CheckStatus::Memory,
+    }
+}
+
+// Reads the listing, and prints what it is found to be.
+fn check_read<L: Source, P: Sink>(
+    alloc: Global,
+    start: &Start,
+    listing: &mut L,
+    print: &mut P,
+) -> CheckStatus
+    ensures tells { Tells (record {
+      job_fails = ⊥;
+      job_quiet = Unit {0};
+      job_read = Unit {0};
+      listing_fails = Rose (L.faults listing.old) (L.faults listing.new);
+      listing_quiet = L.faults listing.new ≡ L.faults listing.old;
+      listing_read = ReadsWhole 64000001 (L.left listing.old) (L.left listing.new);
+      listing_same = ⊥;
+      is_job = λ bytes. IsStartOf bytes start.now;
+      is_listing = λ lines. L.left listing.old ≡ Some lines;
+    }) P.written P.stopped_at P.faults P.refusals print.old print.new result }
+    ensures no_further { ReadsUpTo 64000001 (L.left listing.old) (L.left listing.new) }
+{
+    match read_up_to(alloc, listing, MAX_LISTING + 1) {
+        Ok(bytes) => check_bytes(alloc, start, &bytes, print),
+        Err(SourceStop::Failed) => end_with(
+            print,
+            b"STOP 27 LISTING FAULT\n",
+            CheckStatus::ListingFault,
+        ),
+        Err(SourceStop::NoMemory) => CheckStatus::Memory,
+    }
+}
+
+// Goes on where the program of a job isn't to be run: the listing of a job that is refused has its one end.
+fn check_stopped<L: Source, P: Sink>(
+    alloc: Global,
+    stop: EarlyStop,
+    listing: &mut L,
+    print: &mut P,
+) -> CheckStatus
+    requires { stop ≢ EarlyStop.Words }
+    ensures tells { Tells (record {
+      job_fails = stop ≡ EarlyStop.ReadFault;
+      job_quiet = stop ≢ EarlyStop.ReadFault;
+      job_read = IsWhole stop;
+      listing_fails = Rose (L.faults listing.old) (L.faults listing.new);
+      listing_quiet = L.faults listing.new ≡ L.faults listing.old;
+      listing_read = ReadsWhole 64000001 (L.left listing.old) (L.left listing.new);
+      listing_same = listing.new ≡ listing.old;
+      is_job = λ bytes. TellsEarlyStop (Some bytes) stop;
+      is_listing = λ lines. L.left listing.old ≡ Some lines;
+    }) P.written P.stopped_at P.faults P.refusals print.old print.new result }
+    ensures no_further { ReadsUpTo 64000001 (L.left listing.old) (L.left listing.new) }
+{
+    match stop {
+        EarlyStop::ReadFault => end_with(print, b"STOP 24 READ FAULT\n", CheckStatus::ReadFault),
+        EarlyStop::Card(fault) => check_read(alloc, &Start::Card(fault), listing, print),
+        EarlyStop::Control(fault) => check_read(alloc, &Start::Control(fault), listing, print),
+        EarlyStop::Words | EarlyStop::Memory => CheckStatus::Memory,
+    }
+}
+
+// Reads the job and the listing, and prints what the listing is found to be.
+fn check_job<S: Source, L: Source, P: Sink>(
+    alloc: Global,
+    job: &mut S,
+    listing: &mut L,
+    print: &mut P,
+) -> CheckStatus
+    ensures tells { Tells (record {
+      job_fails = Rose (S.faults job.old) (S.faults job.new);
+      job_quiet = S.faults job.new ≡ S.faults job.old;
+      job_read = ReadsJob (S.left job.old) (S.left job.new);
+      listing_fails = Rose (L.faults listing.old) (L.faults listing.new);
+      listing_quiet = L.faults listing.new ≡ L.faults listing.old;
+      listing_read = ReadsWhole 64000001 (L.left listing.old) (L.left listing.new);
+      listing_same = listing.new ≡ listing.old;
+      is_job = λ bytes. S.left job.old ≡ Some bytes;
+      is_listing = λ lines. L.left listing.old ≡ Some lines;
+    }) P.written P.stopped_at P.faults P.refusals print.old print.new result }
+    ensures job { ReadsFront (S.left job.old) (S.left job.new) }
+    ensures listing { ReadsUpTo 64000001 (L.left listing.old) (L.left listing.new) }
+{
+    match prepare(alloc, job) {
+        Ok(prepared) => check_read(alloc, &Start::Program(prepared), listing, print),
+        Err(stop) => check_stopped(alloc, stop, listing, print),
+    }
+}
+
+/// Attests the listing of a job, or says at which line it can't.
+///
+/// The words are those after the program's name, and there may be none: nothing is read then. Else the job is read to its end, or as far
+/// as byte 16,400,001, and then the listing, as far as byte 64,000,001. One line is printed, which tells what the listing is found to be
+/// where the walk along the job's program ends; and the status tells it too. After a fault of the print, or where the print wants memory,
+/// nothing more is printed. Want of memory may end a check at any time.
+pub fn check_listing<S: Source, L: Source, P: Sink>(
+    alloc: Global,
+    words: &[String],
+    job: &mut S,
+    listing: &mut L,
+    print: &mut P,
+) -> CheckStatus
+    // The theorem. An attested listing is that of a run of the job's program in which the answers of linear programming are those that
+    // passed their tests, and each report says the truth of the state in which it was made: a SOLUTION OPTIMAL is a feasible point
+    // that no feasible point betters, with prices that prove it; a verdict holds; and what is printed of a parametric run is right at
+    // every value of the parameter.
+    ensures truth { result ≡ CheckStatus.Attested → (bytes lines : List ℕ) → S.left job.old ≡ Some bytes →
+        L.left listing.old ≡ Some lines → IsTrueListing bytes lines }
+
+    // Which status, and what stands. Without words, and unless a read or the print fails or memory is wanted, the line and the status are
+    // those of what the listing is found to be, and of each job and each listing one thing is found.
+    ensures answer { (bytes lines : List ℕ) → length words.now ≡ 0 → S.left job.old ≡ Some bytes →
+        L.left listing.old ≡ Some lines →
+        IsCheckAnswer bytes lines
+        (record {
+          job = Rose (S.faults job.old) (S.faults job.new);
+          listing = Rose (L.faults listing.old) (L.faults listing.new);
+          print = Rose (P.faults print.old) (P.faults print.new);
+          memory = Rose (P.refusals print.old) (P.refusals print.new);
+        })
+        (code_of result)
+        (Appends (P.written print.old) (P.written print.new)) }
+
+    // Words are refused, and then nothing is read.
+    ensures words { 0 < length words.now →
+        EndsWith P.written P.stopped_at P.faults P.refusals print.old print.new words_text CheckStatus.Words result ×
+        (job.new ≡ job.old) × (listing.new ≡ listing.old) }
+
+    // Why, also where the devices don't tell their bytes.
+    ensures cause { HasCheckCause
+        (record {
+          words = length words.now;
+          job_fails = Rose (S.faults job.old) (S.faults job.new);
+          job_read = ReadsJob (S.left job.old) (S.left job.new);
+          listing_fails = Rose (L.faults listing.old) (L.faults listing.new);
+          listing_read = ReadsWhole 64000001 (L.left listing.old) (L.left listing.new);
+          print_fails = Rose (P.faults print.old) (P.faults print.new);
+        })
+        result }
+
+    // What the status reports: a fault of the print by 25, and want of memory there by 28; a fault of a read of the job by 24 and one of
+    // the listing by 27, unless the print stops as well and the status is that of its stop.
+    ensures reported { IsReported
+        (record {
+          job = S.faults job.old;
+          listing = L.faults listing.old;
+          print = P.faults print.old;
+          print_memory = P.refusals print.old;
+        })
+        (record {
+          job = S.faults job.new;
+          listing = L.faults listing.new;
+          print = P.faults print.new;
+          print_memory = P.refusals print.new;
+        })
+        (code_of result) }
+
+    // After a fault of the print, or where it wants memory, nothing more is written to it.
+    ensures still { IsStill P.written P.stopped_at P.faults P.refusals print.old print.new }
+
+    // How far the job and the listing are read, and what stays the same.
+    ensures no_further { ReadsUpTo 16400001 (S.left job.old) (S.left job.new) ×
+        ReadsUpTo 64000001 (L.left listing.old) (L.left listing.new) }
+    ensures unread { result ≡ CheckStatus.ReadFault → listing.new ≡ listing.old }
+{
+    attested_law();
+    if words.is_empty() {
+        return check_job(alloc, job, listing, print);
+    }
+    end_with(print, b"STOP 4 WORDS\n", CheckStatus::Words)
+}

@@ -1,0 +1,10 @@
+//! One listing, from the bytes of its job and its own bytes to the line that says what it is found to be, and the status.
+#![tactic(auto)]
+
+mod check;
+mod line;
+mod start;
+mod status;
+
+pub use check::check_listing;
+pub use status::CheckStatus;
