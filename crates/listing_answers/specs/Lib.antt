@@ -1,1 +1,5 @@
 pub mod Taken
+pub mod Passing
+pub mod Words
+pub mod Claims
+pub mod Solutions

@@ -7,12 +7,17 @@ ghost use Rattle.parametric_request.specs.Asking.{Serves, sweep_of};
 ghost use Rattle.walk_definitions.specs.Tests.{point_of};
 ghost use Rattle.walk_definitions.specs.Reading.{judged};
 ghost use Rattle.listing_readers.specs.Read.{sheet_shown};
+ghost use Rattle.listing_answers.specs.Claims.{conclusion_by};
 ghost use Rattle.listing_answers.specs.Taken.{Taken, IsConclusion, IsSweepAnswer};
 
+use crate::claims::{Claim, Stated, read_verdict};
+use crate::judging::judge;
+use crate::testing::test;
 use frac128::Frac;
 use listing_definitions::{Mark, Solver};
 use listing_readers::Cursor;
 use listing_tables::Sheet;
+use lp_model::NoMemory;
 use parametric_request::ParametricRequest;
 use std::alloc::Global;
 
@@ -25,6 +30,17 @@ pub enum Stop {
     Unchecked,
     /// There is no memory.
     NoMemory,
+}
+
+impl From<NoMemory> for Stop {
+    ghost use Rattle.std.specs.Prelude.{◌≡◌};
+    ghost use Rattle.listing_answers.specs.declared.answer.Stop.TheVariants as stops;
+
+    ghost from_gives = { λ _ stop. stop ≡ stops.NoMemory };
+
+    fn from(_refused: NoMemory) -> Stop {
+        Stop::NoMemory
+    }
 }
 
 /// What a verdict comes to.
@@ -47,20 +63,38 @@ pub enum SweepAnswer {
     Swept(Frac),
 }
 
+// What a claim comes to.
+fn comes_to(stated: &Stated) -> Conclusion
+    ensures { result ≡ conclusion_by stated.now.claim stated.now.is_checked }
+{
+    match &stated.claim {
+        Claim::Optimal(objective) => Conclusion::Optimal {
+            objective: *objective,
+            is_checked: stated.is_checked,
+        },
+        Claim::Crossed(_) | Claim::Infeasible(_) => Conclusion::Infeasible,
+        Claim::Unbounded(_, _) => Conclusion::Unbounded,
+    }
+}
+
 /// Reads the verdict of a solving verb and tests it. An optimal one is tested where SOLUTION shows it.
 pub fn answer_to_path(
-    _alloc: Global,
-    _cursor: &mut Cursor<'_>,
+    alloc: Global,
+    cursor: &mut Cursor<'_>,
     sheet: Sheet<'_>,
-    _solver: Solver,
+    solver: Solver,
 ) -> Result<Conclusion, Stop>
     requires sheet { IsSheet sheet }
     requires lawful { IsLinearProgram sheet.lp.now }
     requires no_change { sheet.lp.now.change ≡ None }
-    ensures { (limit : Option ℕ) → Taken IsConclusion (judged (OfPath _solver limit) (sheet_shown sheet.entry) _cursor.old)
-        _cursor.new result }
+    ensures { (limit : Option ℕ) → Taken IsConclusion (judged (OfPath solver limit) (sheet_shown sheet.entry) cursor.old)
+        cursor.new result }
 {
-    Err(Stop::NoMemory)
+    let Some(stated) = read_verdict(alloc, cursor, sheet, solver)? else {
+        return Err(Stop::Wrong);
+    };
+    judge(test(sheet.lp, &stated))?;
+    Ok(comes_to(&stated))
 }
 
 /// Reads the lines of SOLUTION under a mark and tests them. Gives the activity of the objective row.

@@ -3,6 +3,11 @@
 #![tactic(auto)]
 
 mod answer;
+mod claims;
+mod judging;
+mod solution;
+mod testing;
+mod words;
 
 pub use answer::{
     Conclusion, Stop, SweepAnswer, answer_to_path, answer_to_solution, answer_to_sweep,

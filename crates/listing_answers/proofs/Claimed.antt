@@ -1,0 +1,70 @@
+-- What is claimed, and how it is judged.
+use Rattle.std.proofs.Common.{◌≡◌, ℕ, Bool, List, [], ◌∷◌, map, Option, Some, None, Err, refl, sym, ap, ap₂, subst, ◌∙◌}
+use Rattle.check_definitions.specs.declared.Verdict.{Verdict}
+use Rattle.check_definitions.specs.declared.Verdict.TheVariants.{Checked, Failed, Unchecked}
+use Rattle.check_definitions.specs.Steps.{in_turn, followed_by}
+use Rattle.check_definitions.specs.Checks.{crossed_check, infeasible_check, unbounded_check}
+use Rattle.exact_values.specs.Rational.{ℚ}
+use Rattle.exact_values.specs.Tests.{eq_ℚ}
+use Rattle.lp_definitions.specs.LinearProgram.{value_at, variables}
+use Rattle.listing_definitions.specs.Report.{Line, PathVerdict, OptimalAt, CrossedAt, InfeasibleBy, UnboundedBy, Check}
+use Rattle.question_definitions.specs.Answers.{Sheet}
+use Rattle.walk_definitions.specs.Words.{Parsed}
+use Rattle.walk_definitions.specs.Tables.{numbered, multipliers, column_of}
+use Rattle.walk_definitions.specs.Tests.{asked, says_checked, verdict_test}
+use Rattle.walk_definitions.specs.Reading.{Judged, Right, Fails, Refuses, by_verdict, tested, judged_map}
+use Rattle.listing_answers.specs.declared.claims.Claim as declared
+use Rattle.listing_answers.specs.declared.claims.Claim.TheVariants as claims
+use Rattle.listing_answers.specs.declared.answer.Conclusion.TheVariants.{Optimal}
+use Rattle.listing_answers.specs.declared.answer.Stop.{Stop}
+use Rattle.listing_answers.specs.declared.answer.Stop.TheVariants as stops
+use Rattle.listing_answers.specs.Taken.{Taken, conclusion_of}
+use Rattle.listing_answers.specs.Passing.{IsFailed, IsRefused, Stops}
+use Rattle.listing_answers.specs.Claims.{IsPair, Says, pair_test, stated_test, conclusion_by}
+
+-- ---- the test of a claim, in a linear program of the same variables
+
+pub stated_is : (sheet other : Sheet) → other.lp.matrix ≡ sheet.lp.matrix → (claim : declared.Claim) (is_checked : Bool) (verdict : PathVerdict) (check : Check) → Says sheet claim verdict → is_checked ≡ says_checked check →
+    stated_test other.lp claim is_checked ≡ verdict_test other verdict check
+stated_is sheet other m (claims.Optimal objective) b (OptimalAt steps printed) check says e = refl
+stated_is sheet other m (claims.Crossed k) b (CrossedAt number) check says e = ap₂ (λ n c. in_turn (crossed_check other.lp n ∷ asked c ∷ [])) says e
+stated_is sheet other m (claims.Infeasible ray) b (InfeasibleBy steps lines) check says e =
+    let same : ray.items ≡ multipliers other lines = says ∙ ap (λ a. map (λ k. numbered k lines) (variables a)) (sym m) in
+    ap₂ (λ (w : List ℚ) c. in_turn (infeasible_check other.lp (value_at w) ∷ asked c ∷ [])) same e
+stated_is sheet other m (claims.Unbounded objective pair) b (UnboundedBy steps printed lines) check says e = by says.0 says.1.is_point says.1.is_direction e
+  where
+    by : {o : ℚ} {z d : List ℚ} {c : Bool} → o ≡ printed → z ≡ column_of 0 lines → d ≡ column_of 1 lines → c ≡ says_checked check →
+        in_turn (in_turn (unbounded_check other.lp (value_at z) (value_at d) ∷ asked (eq_ℚ o (value_at z other.lp.objective)) ∷ []) ∷ asked c ∷ [])
+        ≡ in_turn (in_turn (unbounded_check other.lp (value_at (column_of 0 lines)) (value_at (column_of 1 lines)) ∷ asked (eq_ℚ printed (value_at (column_of 0 lines) other.lp.objective)) ∷ []) ∷ asked (says_checked check) ∷ [])
+    by eo ez ed ec = λ i. in_turn (in_turn (unbounded_check other.lp (value_at (ez i)) (value_at (ed i)) ∷ asked (eq_ℚ (eo i) (value_at (ez i) other.lp.objective)) ∷ []) ∷ asked (ec i) ∷ [])
+stated_is sheet other m claim b verdict check says e = absurd says
+
+pub concluded : (sheet : Sheet) (claim : declared.Claim) (is_checked : Bool) (verdict : PathVerdict) (check : Check) → Says sheet claim verdict → is_checked ≡ says_checked check → conclusion_by claim is_checked ≡ conclusion_of verdict check
+concluded sheet (claims.Optimal objective) b (OptimalAt steps printed) check says e = λ i. Optimal (says i) (e i)
+concluded sheet (claims.Crossed k) b (CrossedAt number) check says e = refl
+concluded sheet (claims.Infeasible ray) b (InfeasibleBy steps lines) check says e = refl
+concluded sheet (claims.Unbounded objective pair) b (UnboundedBy steps printed lines) check says e = refl
+concluded sheet claim b verdict check says e = absurd says
+
+-- ---- what is judged
+
+module _ {A B : Type 0} (f : A → B) (test : A → Verdict) (parsed : Parsed A) where
+  pub judged_wrong : parsed ≡ None → judged_map f (tested test parsed) ≡ Fails
+  judged_wrong e = ap (λ o. judged_map f (tested test o)) e
+
+  pub judged_right : (a : A) (new : List ℕ) → parsed ≡ Some (a, new) → test a ≡ Checked → judged_map f (tested test parsed) ≡ Right (f a) new
+  judged_right a new e passes = ap (λ o. judged_map f (tested test o)) e ∙ ap (λ v. judged_map f (by_verdict v a new)) passes
+
+stopped_by : {A B X : Type 0} (f : A → B) (Shows : X → B → Type 0) (a : A) (rest new : List ℕ) (stop : Stop) (v : Verdict) → Stops stop v → Taken Shows (judged_map f (by_verdict v a rest)) new (Err stop)
+stopped_by f Shows a rest new stops.Wrong (Failed part number) h = refl
+stopped_by f Shows a rest new stops.Wrong Checked h = absurd h
+stopped_by f Shows a rest new stops.Wrong (Unchecked refused) h = absurd h
+stopped_by f Shows a rest new stops.Unchecked (Unchecked refused) h = refl
+stopped_by f Shows a rest new stops.Unchecked Checked h = absurd h
+stopped_by f Shows a rest new stops.Unchecked (Failed part number) h = absurd h
+stopped_by f Shows a rest new stops.NoMemory v h = tt
+
+pub judged_stops : {A B X : Type 0} (f : A → B) (Shows : X → B → Type 0) (test : A → Verdict) (parsed : Parsed A) (a : A) (rest new : List ℕ) (stop : Stop) → parsed ≡ Some (a, rest) → Stops stop (test a) →
+    Taken Shows (judged_map f (tested test parsed)) new (Err stop)
+judged_stops f Shows test parsed a rest new stop e h =
+    subst (λ o. Taken Shows (judged_map f (tested test o)) new (Err stop)) (sym e) (stopped_by f Shows a rest new stop (test a) h)
