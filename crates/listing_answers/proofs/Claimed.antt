@@ -1,5 +1,7 @@
 -- What is claimed, and how it is judged.
-use Rattle.std.proofs.Common.{◌≡◌, ℕ, Bool, List, [], ◌∷◌, map, Option, Some, None, Err, refl, sym, ap, ap₂, subst, ◌∙◌}
+use Rattle.std.proofs.Common.{◌≡◌, ℕ, Bool, List, [], ◌∷◌, map, Option, Some, None, Result, Err, refl, sym, ap, ap₂, subst, ◌∙◌}
+use Rattle.std.specs.Prelude.{IsErrAnd}
+use Rattle.std.proofs.lemmas.Result.{err_from_is_err_and}
 use Rattle.check_definitions.specs.declared.Verdict.{Verdict}
 use Rattle.check_definitions.specs.declared.Verdict.TheVariants.{Checked, Failed, Unchecked}
 use Rattle.check_definitions.specs.Steps.{in_turn, followed_by}
@@ -68,3 +70,26 @@ pub judged_stops : {A B X : Type 0} (f : A → B) (Shows : X → B → Type 0) (
     Taken Shows (judged_map f (tested test parsed)) new (Err stop)
 judged_stops f Shows test parsed a rest new stop e h =
     subst (λ o. Taken Shows (judged_map f (tested test o)) new (Err stop)) (sym e) (stopped_by f Shows a rest new stop (test a) h)
+
+-- ---- the same of what is read and tested alone
+
+module _ {A X : Type 0} (Shows : X → A → Type 0) (test : A → Verdict) (parsed : Parsed A) where
+  pub tested_right : (a : A) (new : List ℕ) → parsed ≡ Some (a, new) → test a ≡ Checked → tested test parsed ≡ Right a new
+  tested_right a new e passes = ap (λ o. tested test o) e ∙ ap (λ v. by_verdict v a new) passes
+
+  tested_by : (a : A) (rest new : List ℕ) (stop : Stop) (v : Verdict) → Stops stop v → Taken Shows (by_verdict v a rest) new (Err stop)
+  tested_by a rest new stops.Wrong (Failed part number) h = refl
+  tested_by a rest new stops.Wrong Checked h = absurd h
+  tested_by a rest new stops.Wrong (Unchecked refused) h = absurd h
+  tested_by a rest new stops.Unchecked (Unchecked refused) h = refl
+  tested_by a rest new stops.Unchecked Checked h = absurd h
+  tested_by a rest new stops.Unchecked (Failed part number) h = absurd h
+  tested_by a rest new stops.NoMemory v h = tt
+
+  -- and what a `?` hands on
+  pub tested_stops : (a : A) (rest new : List ℕ) (result : Result X Stop) (stop : Stop) → parsed ≡ Some (a, rest) → Stops stop (test a) → IsErrAnd result (λ y. y ≡ stop) → Taken Shows (tested test parsed) new result
+  tested_stops a rest new result stop e h handed =
+      let p = err_from_is_err_and result handed in
+      subst (λ (r : Result X Stop). Taken Shows (tested test parsed) new r) (sym p.1)
+      (subst (λ (s : Stop). Taken Shows (tested test parsed) new (Err s)) (sym p.2)
+      (subst (λ o. Taken Shows (tested test o) new (Err stop)) (sym e) (tested_by a rest new stop (test a) h)))

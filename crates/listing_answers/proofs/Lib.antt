@@ -1,3 +1,5 @@
 mod Chains
 mod Tables
 mod Claimed
+mod Passing
+mod Solutions

@@ -10,13 +10,15 @@ ghost use Rattle.listing_readers.specs.Read.{sheet_shown};
 ghost use Rattle.listing_answers.specs.Claims.{conclusion_by};
 ghost use Rattle.listing_answers.specs.Taken.{Taken, IsConclusion, IsSweepAnswer};
 
+use crate::checking::check_printed;
 use crate::claims::{Claim, Stated, read_verdict};
 use crate::judging::judge;
+use crate::solution::{printed_of, read_lines};
 use crate::testing::test;
-use frac128::Frac;
+use frac128::{Frac, Refused};
 use listing_definitions::{Mark, Solver};
 use listing_readers::Cursor;
-use listing_tables::Sheet;
+use listing_tables::{Sheet, objective_of};
 use lp_model::NoMemory;
 use parametric_request::ParametricRequest;
 use std::alloc::Global;
@@ -40,6 +42,17 @@ impl From<NoMemory> for Stop {
 
     fn from(_refused: NoMemory) -> Stop {
         Stop::NoMemory
+    }
+}
+
+impl From<Refused> for Stop {
+    ghost use Rattle.std.specs.Prelude.{◌≡◌};
+    ghost use Rattle.listing_answers.specs.declared.answer.Stop.TheVariants as stops;
+
+    ghost from_gives = { λ _ stop. stop ≡ stops.Unchecked };
+
+    fn from(_refused: Refused) -> Stop {
+        Stop::Unchecked
     }
 }
 
@@ -99,18 +112,23 @@ pub fn answer_to_path(
 
 /// Reads the lines of SOLUTION under a mark and tests them. Gives the activity of the objective row.
 pub fn answer_to_solution(
-    _alloc: Global,
-    _cursor: &mut Cursor<'_>,
+    alloc: Global,
+    cursor: &mut Cursor<'_>,
     sheet: Sheet<'_>,
-    _mark: Mark,
+    mark: Mark,
 ) -> Result<Frac, Stop>
     requires sheet { IsSheet sheet }
     requires lawful { IsLinearProgram sheet.lp.now }
     requires no_change { sheet.lp.now.change ≡ None }
     ensures { Taken (λ objective lines. objective ≡ point_of (sheet_shown sheet.entry) lines sheet.entry.lp.now.objective)
-        (judged (OfSolution _mark) (sheet_shown sheet.entry) _cursor.old) _cursor.new result }
+        (judged (OfSolution mark) (sheet_shown sheet.entry) cursor.old) cursor.new result }
 {
-    Err(Stop::NoMemory)
+    let Some(lines) = read_lines(alloc, cursor, sheet, mark)? else {
+        return Err(Stop::Wrong);
+    };
+    let printed = printed_of(alloc, &lines)?;
+    check_printed(sheet, mark, &printed)?;
+    Ok(objective_of(sheet.lp, &printed.point))
 }
 
 /// Reads what PARAOBJ or PARARHS prints of the parametric run that is asked for, interval by interval, and tests it.

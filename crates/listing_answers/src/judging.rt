@@ -1,7 +1,7 @@
 // What comes of verdicts.
 ghost use Rattle.std.specs.Prelude.{◌≡◌, [], ◌∷◌};
 ghost use Rattle.exact_values.specs.Tests.{eq_ℚ};
-ghost use Rattle.check_definitions.specs.Steps.{in_turn, followed_by};
+ghost use Rattle.check_definitions.specs.Steps.{comparison, verdict_of, in_turn, followed_by};
 ghost use Rattle.walk_definitions.specs.Tests.{asked};
 ghost use Rattle.listing_answers.specs.Passing.{Judges};
 
@@ -36,6 +36,13 @@ pub fn is_equal(x: Frac, y: Frac) -> bool
     ensures { result ≡ eq_ℚ x y }
 {
     x.compare(y).is_eq()
+}
+
+/// Goes on where the comparison of a row or of a variable holds.
+pub fn judge_at(holds: bool, number: u32) -> Result<(), Stop>
+    ensures { Judges (verdict_of (comparison 6 number holds ∷ [])) result }
+{
+    if holds { Ok(()) } else { Err(Stop::Wrong) }
 }
 
 /// Goes on where a comparison holds.

@@ -3,6 +3,7 @@
 #![tactic(auto)]
 
 mod answer;
+mod checking;
 mod claims;
 mod judging;
 mod solution;
