@@ -3,3 +3,4 @@ mod Tables
 mod Claimed
 mod Passing
 mod Solutions
+mod Limits

@@ -3,3 +3,4 @@ pub mod Passing
 pub mod Words
 pub mod Claims
 pub mod Solutions
+pub mod Making

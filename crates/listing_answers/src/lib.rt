@@ -5,6 +5,7 @@
 mod answer;
 mod checking;
 mod claims;
+mod families;
 mod judging;
 mod solution;
 mod testing;
