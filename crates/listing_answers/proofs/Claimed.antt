@@ -1,5 +1,5 @@
 -- What is claimed, and how it is judged.
-use Rattle.std.proofs.Common.{◌≡◌, ℕ, Bool, List, [], ◌∷◌, map, Option, Some, None, Result, Err, refl, sym, ap, ap₂, subst, ◌∙◌}
+use Rattle.std.proofs.Common.{◌≡◌, ℕ, Bool, List, [], ◌∷◌, map, length, Option, Some, None, Result, Err, refl, sym, ap, ap₂, subst, ◌∙◌}
 use Rattle.std.specs.Prelude.{IsErrAnd}
 use Rattle.std.proofs.lemmas.Result.{err_from_is_err_and}
 use Rattle.check_definitions.specs.declared.Verdict.{Verdict}
@@ -8,9 +8,11 @@ use Rattle.check_definitions.specs.Steps.{in_turn, followed_by}
 use Rattle.check_definitions.specs.Checks.{crossed_check, infeasible_check, unbounded_check}
 use Rattle.exact_values.specs.Rational.{ℚ}
 use Rattle.exact_values.specs.Tests.{eq_ℚ}
-use Rattle.lp_definitions.specs.LinearProgram.{value_at, variables}
+use Rattle.lp_definitions.specs.LinearProgram.{LinearProgram, Matrix, IsVariable, size, value_at, variables}
 use Rattle.listing_definitions.specs.Report.{Line, PathVerdict, OptimalAt, CrossedAt, InfeasibleBy, UnboundedBy, Check}
-use Rattle.question_definitions.specs.Answers.{Sheet}
+use Rattle.question_definitions.specs.Answers.{Sheet, Changing, Row, Set}
+use Rattle.answer_definitions.specs.Sweeps.{family_of}
+use Rattle.run_definitions.specs.Verbs.{mark_of}
 use Rattle.walk_definitions.specs.Words.{Parsed}
 use Rattle.walk_definitions.specs.Tables.{numbered, multipliers, column_of}
 use Rattle.walk_definitions.specs.Tests.{asked, says_checked, verdict_test}
@@ -22,7 +24,7 @@ use Rattle.listing_answers.specs.declared.answer.Stop.{Stop}
 use Rattle.listing_answers.specs.declared.answer.Stop.TheVariants as stops
 use Rattle.listing_answers.specs.Taken.{Taken, conclusion_of}
 use Rattle.listing_answers.specs.Passing.{IsFailed, IsRefused, Stops}
-use Rattle.listing_answers.specs.Claims.{IsPair, Says, pair_test, stated_test, conclusion_by}
+use Rattle.listing_answers.specs.Claims.{Says, Fits, stated_test, conclusion_by, mark_by}
 
 -- ---- the test of a claim, in a linear program of the same variables
 
@@ -93,3 +95,30 @@ module _ {A X : Type 0} (Shows : X → A → Type 0) (test : A → Verdict) (par
       subst (λ (r : Result X Stop). Taken Shows (tested test parsed) new r) (sym p.1)
       (subst (λ (s : Stop). Taken Shows (tested test parsed) new (Err s)) (sym p.2)
       (subst (λ o. Taken Shows (tested test o) new (Err stop)) (sym e) (tested_by a rest new stop (test a) h)))
+
+-- ---- openings
+
+pub marked : (sheet : Sheet) (claim : declared.Claim) (verdict : PathVerdict) → Says sheet claim verdict → mark_by claim ≡ mark_of verdict
+marked sheet (claims.Optimal objective) (OptimalAt steps printed) says = refl
+marked sheet (claims.Crossed k) (CrossedAt number) says = refl
+marked sheet (claims.Infeasible ray) (InfeasibleBy steps lines) says = refl
+marked sheet (claims.Unbounded objective pair) (UnboundedBy steps printed lines) says = refl
+marked sheet claim verdict says = absurd says
+
+-- the linear programs of a family have the same matrix
+pub family_matrix : (sheet : Sheet) (changing : Changing) (theta : ℚ) → (family_of sheet changing theta).matrix ≡ sheet.lp.matrix
+family_matrix sheet (Row name) theta = refl
+family_matrix sheet (Set name) theta = refl
+
+pub fits_matrix : (p q : LinearProgram) → q.matrix ≡ p.matrix → (claim : declared.Claim) → Fits p claim → Fits q claim
+fits_matrix p q m (claims.Optimal objective) fits = tt
+fits_matrix p q m (claims.Crossed k) fits = subst (λ (a : Matrix). IsVariable a k) (sym m) fits
+fits_matrix p q m (claims.Infeasible ray) fits = subst (λ (a : Matrix). length ray.items ≡ size a) (sym m) fits
+fits_matrix p q m (claims.Unbounded objective pair) fits = (subst (λ (a : Matrix). length pair.point.items ≡ size a) (sym m) fits.0, subst (λ (a : Matrix). length pair.direction.items ≡ size a) (sym m) fits.1)
+
+pub judged_handed : {A B X : Type 0} (f : A → B) (Shows : X → B → Type 0) (test : A → Verdict) (parsed : Parsed A) (a : A) (rest new : List ℕ) (result : Result X Stop) (stop : Stop) → parsed ≡ Some (a, rest) → Stops stop (test a) →
+    IsErrAnd result (λ y. y ≡ stop) → Taken Shows (judged_map f (tested test parsed)) new result
+judged_handed {A} {B} {X} f Shows test parsed a rest new result stop e h handed =
+    let p = err_from_is_err_and result handed in
+    subst (λ (r : Result X Stop). Taken Shows (judged_map f (tested test parsed)) new r) (sym p.1)
+    (subst (λ (s : Stop). Taken Shows (judged_map f (tested test parsed)) new (Err s)) (sym p.2) (judged_stops f Shows test parsed a rest new stop e h))

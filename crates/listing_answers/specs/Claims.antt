@@ -4,7 +4,7 @@
 --     IsStated                     a claim, and whether the listing says that it was checked
 --     Tried                        what is stated was read, or the cursor stays where it is
 --     claim_test p, stated_test p  the test of what is stated
---     conclusion_by                what it comes to
+--     conclusion_by, mark_by       what it comes to
 use Rattle.std.specs.Prelude.{◌≡◌, ℕ, Bool, true, false, List, [], ◌∷◌, Option, Some, None, length}
 use Rattle.std.specs.Option.{option_or}
 use Rattle.exact_values.specs.Rational.{ℚ}
@@ -14,6 +14,8 @@ use Rattle.check_definitions.specs.declared.Verdict.{Verdict}
 use Rattle.check_definitions.specs.declared.Verdict.TheVariants.{Checked}
 use Rattle.check_definitions.specs.Steps.{in_turn}
 use Rattle.check_definitions.specs.Checks.{crossed_check, infeasible_check, unbounded_check}
+use Rattle.listing_definitions.specs.declared.Mark.{Mark}
+use Rattle.listing_definitions.specs.declared.Mark.TheVariants as marks
 use Rattle.listing_definitions.specs.Report.{Line, PathVerdict, OptimalAt, CrossedAt, InfeasibleBy, UnboundedBy}
 use Rattle.question_definitions.specs.Answers.{Sheet}
 use Rattle.walk_definitions.specs.Words.{Parsed}
@@ -105,3 +107,9 @@ conclusion_by (claims.Optimal objective) is_checked = Optimal objective is_check
 conclusion_by (claims.Crossed k) is_checked = Infeasible
 conclusion_by (claims.Infeasible ray) is_checked = Infeasible
 conclusion_by (claims.Unbounded objective pair) is_checked = Unbounded
+
+abbrev pub mark_by : declared.Claim → Mark
+mark_by (claims.Optimal objective) = marks.Optimal
+mark_by (claims.Crossed k) = marks.Infeasible
+mark_by (claims.Infeasible ray) = marks.Infeasible
+mark_by (claims.Unbounded objective pair) = marks.Unbounded

@@ -4,3 +4,4 @@ pub mod Words
 pub mod Claims
 pub mod Solutions
 pub mod Making
+pub mod Intervals
