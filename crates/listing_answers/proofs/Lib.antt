@@ -4,3 +4,5 @@ mod Claimed
 mod Passing
 mod Solutions
 mod Limits
+mod Ends
+mod Runs

@@ -5,11 +5,13 @@
 mod answer;
 mod checking;
 mod claims;
+mod closing;
 mod families;
 mod intervals;
 mod judging;
 mod openings;
 mod solution;
+mod sweeping;
 mod testing;
 mod words;
 
