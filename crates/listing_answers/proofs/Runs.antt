@@ -1,5 +1,6 @@
 -- The intervals of a run, one after another: what is left decides the whole.
-use Rattle.std.proofs.Common.{◌≡◌, ℕ, zero, suc, ◌+◌, ◌<◌, Bool, true, false, List, [], ◌∷◌, ◌++◌, Option, Some, None, Result, Ok, Err, refl, sym, ap, subst, ◌∙◌, append_assoc, arith, if◌then◌else◌}
+use Rattle.std.proofs.Common.{◌≡◌, ℕ, zero, suc, ◌+◌, ◌<◌, Bool, true, false, List, [], ◌∷◌, ◌++◌, Option, Some, None, Result, Ok, Err, refl, sym, ap, subst, ◌∙◌, append_assoc, arith, add-one, length, get_or, drop, if◌then◌else◌}
+use Rattle.std.proofs.Math.Seq.{drop-cons}
 use Rattle.std.specs.Prelude.{codes, nat_eq, IsErrAnd}
 use Rattle.std.proofs.lemmas.Result.{err_from_is_err_and}
 use Rattle.std.proofs.lemmas.Bool.Decides.{nat_tests}
@@ -45,6 +46,11 @@ module _ (sheet : Sheet) (sweep : Sweep) where
 
   pub run_begins : (room : List ℕ) (number : ℕ) (last : ℚ) (rest : List ℕ) → IsRunSoFar (run_in sheet sweep room number last rest) room number last rest
   run_begins room number last rest = record { intervals = []; decides = sym (after_none (run_in sheet sweep room number last rest)) }
+
+  -- each interval takes a byte of room
+  pub room_left : (whole : Judged Run) (bytes : List ℕ) (i : ℕ) (last : ℚ) (rest : List ℕ) → i < length bytes → IsRunSoFar whole (drop i bytes) (i + 1) last rest → IsRunSoFar whole (get_or bytes i 0 ∷ drop (i + 1) bytes) (i + 1) last rest
+  room_left whole bytes i last rest below so_far =
+      subst (λ (room : List ℕ). IsRunSoFar whole room (i + 1) last rest) (drop-cons bytes i 0 below ∙ ap (λ j. get_or bytes i 0 ∷ drop j bytes) (sym (add-one i))) so_far
 
   abbrev part_judged : ℕ → ℚ → List ℕ → Judged Interval
   part_judged number last rest = tested (interval_test sheet sweep.changing (nat_eq number 1) sweep.to) (interval_in sheet number last rest)

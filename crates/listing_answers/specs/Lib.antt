@@ -5,3 +5,4 @@ pub mod Claims
 pub mod Solutions
 pub mod Making
 pub mod Intervals
+pub mod Closings

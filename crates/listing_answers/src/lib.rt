@@ -6,6 +6,7 @@ mod answer;
 mod checking;
 mod claims;
 mod closing;
+mod closing_tests;
 mod families;
 mod intervals;
 mod judging;
