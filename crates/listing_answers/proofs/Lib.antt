@@ -6,3 +6,4 @@ mod Solutions
 mod Limits
 mod Ends
 mod Runs
+mod ClosingFacts
