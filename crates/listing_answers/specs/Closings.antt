@@ -2,15 +2,15 @@
 --     IsValueRead, IsEndRead       a value after a text was read; the run ends at a value, or the cursor stays where it is
 --     row_close_in, set_close_in   how runs of the objective and of the right-hand side close
 --     Closes                       what closes the run says what the report says
---     closing_test                 the test of it
+--     closing_test, bettering_test the test of it, and a part of it
 use Rattle.std.specs.Prelude.{◌≡◌, ℕ, List, [], ◌∷◌, Option, Some, None, length, codes, map, option_map}
 use Rattle.std.specs.Option.{option_or}
 use Rattle.exact_values.specs.Rational.{ℚ, zero_ℚ, ◌+ℚ◌, ◌*ℚ◌}
 use Rattle.exact_values.specs.Tests.{eq_ℚ, lt_ℚ, le_ℚ}
-use Rattle.lp_definitions.specs.LinearProgram.{LinearProgram, value_at, variables, size}
+use Rattle.lp_definitions.specs.LinearProgram.{LinearProgram, Vector, for_min, value_at, variables, size}
 use Rattle.check_definitions.specs.declared.Verdict.{Verdict}
 use Rattle.check_definitions.specs.declared.Verdict.TheVariants.{Failed}
-use Rattle.check_definitions.specs.Steps.{in_turn}
+use Rattle.check_definitions.specs.Steps.{verdict_of, in_turn, sum_steps}
 use Rattle.listing_definitions.specs.Report.{Line, ChainEnd, EndsAt, UnboundedPast, InfeasiblePast}
 use Rattle.question_definitions.specs.Answers.{Sheet, Changing, Row, Set}
 use Rattle.answer_definitions.specs.Sweeps.{row_of, shifts_of}
@@ -82,3 +82,9 @@ closing_test sheet (Set name) max last (closings.Infeasible t ray) =
     past_test max last t (infeasible_past sheet (Set name) (shifts_of sheet.problem name) t (value_at ray.items))
 closing_test sheet changing max last (closings.At t) = in_turn (asked (eq_ℚ t last) ∷ asked (eq_ℚ t max) ∷ [])
 closing_test sheet changing max last closing = Failed 6 0
+
+-- the objective of a direction doesn't get worse at t, and its change row betters
+abbrev pub bettering_test : LinearProgram → ℕ → ℚ → Vector → Verdict
+bettering_test p h t d = in_turn (
+    verdict_of (sum_steps (d p.objective) (record { left = t; right = d h } ∷ [])) ∷
+    asked (le_ℚ (for_min p.sense (d p.objective +ℚ t *ℚ d h)) zero_ℚ) ∷ asked (lt_ℚ (for_min p.sense (d h)) zero_ℚ) ∷ [])

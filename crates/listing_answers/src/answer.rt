@@ -13,7 +13,9 @@ ghost use Rattle.listing_answers.specs.Taken.{Taken, IsConclusion, IsSweepAnswer
 use crate::checking::check_printed;
 use crate::claims::{Claim, Stated, read_verdict};
 use crate::judging::judge;
+use crate::openings::{read_opening, take_sweep_head};
 use crate::solution::{printed_of, read_lines};
+use crate::sweeping::read_run;
 use crate::testing::test;
 use frac128::{Frac, Refused};
 use listing_definitions::{Mark, Solver};
@@ -133,8 +135,8 @@ pub fn answer_to_solution(
 
 /// Reads what PARAOBJ or PARARHS prints of the parametric run that is asked for, interval by interval, and tests it.
 pub fn answer_to_sweep(
-    _alloc: Global,
-    _cursor: &mut Cursor<'_>,
+    alloc: Global,
+    cursor: &mut Cursor<'_>,
     sheet: Sheet<'_>,
     request: &ParametricRequest,
 ) -> Result<SweepAnswer, Stop>
@@ -142,8 +144,15 @@ pub fn answer_to_sweep(
     requires lawful { IsLinearProgram sheet.lp.now }
     requires no_change { sheet.lp.now.change ≡ None }
     requires serves { Serves sheet.problem.now sheet.lp.now request.now }
-    ensures { (limit : ℕ) → Taken IsSweepAnswer (judged (OfSweep (sweep_of limit request.now)) (sheet_shown sheet.entry) _cursor.old)
-        _cursor.new result }
+    ensures { (limit : ℕ) → Taken IsSweepAnswer (judged (OfSweep (sweep_of limit request.now)) (sheet_shown sheet.entry) cursor.old)
+        cursor.new result }
 {
-    Err(Stop::NoMemory)
+    let mut ahead = Cursor::new(cursor.left());
+    if !take_sweep_head(&mut ahead, request) {
+        let mark = read_opening(alloc, cursor, sheet, request)?;
+        return Ok(SweepAnswer::Opened(mark));
+    }
+    *cursor = ahead;
+    let last = read_run(alloc, cursor, sheet, request)?;
+    Ok(SweepAnswer::Swept(last))
 }

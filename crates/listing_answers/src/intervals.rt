@@ -2,8 +2,8 @@
 ghost use Rattle.std.specs.Prelude.{◌≡◌, ◌++◌, ◌&&◌, ◌||◌, ℕ, IfOk, None, nat_eq};
 ghost use Rattle.std.specs.List.{flat_map};
 ghost use Rattle.exact_values.specs.Rational.{zero_ℚ, compare_ℚ};
-ghost use Rattle.exact_values.specs.Tests.{lt_ℚ, le_ℚ, eq_ℚ};
-ghost use Rattle.lp_definitions.specs.LinearProgram.{IsLinearProgram, IsVariable, value_at, variables, lower_of, upper_of, for_min};
+ghost use Rattle.exact_values.specs.Tests.{lt_ℚ, eq_ℚ};
+ghost use Rattle.lp_definitions.specs.LinearProgram.{IsLinearProgram, IsVariable, value_at, variables, lower_of, upper_of};
 ghost use Rattle.check_definitions.specs.Steps.{verdict_of};
 ghost use Rattle.check_definitions.specs.Checks.{is_at, by_sign};
 ghost use Rattle.listing_definitions.specs.Numbers.{digits};
@@ -21,13 +21,13 @@ ghost use Rattle.listing_answers.specs.Taken.{Taken};
 
 use crate::answer::Stop;
 use crate::families::{along, program_at};
-use crate::judging::{ask, is_equal, judge, judge_at};
+use crate::judging::{ask, counted_for, is_at_most, is_equal, judge, judge_at};
 use certificate_check::check_optimal;
 use frac128::Frac;
 use itoa::Buffer;
 use listing_readers::{Cursor, Shape, firsts, fourths, fraction_in, seconds, table, thirds};
 use listing_tables::{Sheet, fraction};
-use lp_model::{Lp, NoMemory, Sense};
+use lp_model::{Lp, NoMemory};
 use parametric_request::ParametricRequest;
 use std::alloc::Global;
 use std::cmp::Ordering;
@@ -220,16 +220,6 @@ fn stands_at(limit: Option<Frac>, value: Frac) -> bool
     }
 }
 
-// The number as it counts where less is better.
-fn counted_for(sense: Sense, x: Frac) -> Frac
-    ensures { result ≡ for_min sense x }
-{
-    match sense {
-        Sense::Min => x,
-        Sense::Max => x.neg(),
-    }
-}
-
 // What is asked of a negative number, and what of a positive one.
 fn holds_by_sign(x: Frac, negative: bool, positive: bool) -> bool
     ensures { result ≡ by_sign (compare_ℚ x zero_ℚ) negative positive }
@@ -303,13 +293,6 @@ fn goes_on(from: Frac, to: Frac, is_first: bool) -> bool
     ensures { result ≡ (lt_ℚ from to || (is_first && eq_ℚ from to)) }
 {
     from.is_less(to) || (is_first && is_equal(from, to))
-}
-
-// Whether a number isn't greater than another.
-fn is_at_most(x: Frac, y: Frac) -> bool
-    ensures { result ≡ le_ℚ x y }
-{
-    !y.is_less(x)
 }
 
 // An interval that begins here.
