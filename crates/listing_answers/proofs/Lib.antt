@@ -7,3 +7,5 @@ mod Limits
 mod Ends
 mod Runs
 mod ClosingFacts
+mod ClosingSums
+mod SweepFacts

@@ -75,13 +75,19 @@ ClosingFits p (closings.At t) = Unit {0}
 ClosingFits p (closings.Unbounded t pair) = IsPairOf p pair
 ClosingFits p (closings.Infeasible t ray) = length ray.items ≡ size p.matrix
 
+-- a run of the objective may close unbounded, and one of the right-hand side infeasible
+abbrev pub unbounded_test : Sheet → Changing → ℚ → ℚ → ℚ → List ℚ → List ℚ → Verdict
+unbounded_test sheet (Row name) max last t z d = past_test max last t (unbounded_past sheet (Row name) (row_of sheet.problem name) t (value_at z) (value_at d))
+unbounded_test sheet (Set name) max last t z d = Failed 6 0
+
+abbrev pub infeasible_test : Sheet → Changing → ℚ → ℚ → ℚ → List ℚ → Verdict
+infeasible_test sheet (Row name) max last t w = Failed 6 0
+infeasible_test sheet (Set name) max last t w = past_test max last t (infeasible_past sheet (Set name) (shifts_of sheet.problem name) t (value_at w))
+
 abbrev pub closing_test : Sheet → Changing → ℚ → ℚ → declared.Closing → Verdict
-closing_test sheet (Row name) max last (closings.Unbounded t pair) =
-    past_test max last t (unbounded_past sheet (Row name) (row_of sheet.problem name) t (value_at pair.point.items) (value_at pair.direction.items))
-closing_test sheet (Set name) max last (closings.Infeasible t ray) =
-    past_test max last t (infeasible_past sheet (Set name) (shifts_of sheet.problem name) t (value_at ray.items))
 closing_test sheet changing max last (closings.At t) = in_turn (asked (eq_ℚ t last) ∷ asked (eq_ℚ t max) ∷ [])
-closing_test sheet changing max last closing = Failed 6 0
+closing_test sheet changing max last (closings.Unbounded t pair) = unbounded_test sheet changing max last t pair.point.items pair.direction.items
+closing_test sheet changing max last (closings.Infeasible t ray) = infeasible_test sheet changing max last t ray.items
 
 -- the objective of a direction doesn't get worse at t, and its change row betters
 abbrev pub bettering_test : LinearProgram → ℕ → ℚ → Vector → Verdict

@@ -7,13 +7,15 @@ ghost use Rattle.check_definitions.specs.Steps.{comparison, verdict_of, in_turn,
 ghost use Rattle.check_definitions.specs.Checks.{limit_product, ray_limits, multiplied, multiplied_among};
 ghost use Rattle.question_definitions.specs.Answers.{Changing};
 ghost use Rattle.parametric_request.specs.Asking.{Serves, changing_of};
-ghost use Rattle.walk_definitions.specs.Tests.{asked, unbounded_past, infeasible_past, shift_products};
+ghost use Rattle.walk_definitions.specs.Tests.{asked, past_test, unbounded_past, infeasible_past, shift_products};
 ghost use Rattle.listing_readers.specs.Read.{sheet_shown};
 ghost use Rattle.listing_answers.specs.Passing.{Judges};
 ghost use Rattle.listing_answers.specs.Making.{Makes};
-ghost use Rattle.listing_answers.specs.Closings.{ClosingFits, closing_test, bettering_test};
+ghost use Rattle.listing_answers.specs.Claims.{IsPairOf};
+ghost use Rattle.listing_answers.specs.Closings.{ClosingFits, unbounded_test, infeasible_test, closing_test, bettering_test};
 
 use crate::answer::Stop;
+use crate::claims::Pair;
 use crate::closing::Closing;
 use crate::families::{plus_product, program_at};
 use crate::judging::{ask, counted_for, is_at_most, is_equal, judge};
@@ -157,17 +159,88 @@ fn check_end_at(value: Frac, last: Frac, max: Frac) -> Result<(), Stop>
     ask(is_equal(value, max))
 }
 
-// It ends past the last end, which is before the last value.
-fn check_past(value: Frac, last: Frac, max: Frac) -> Result<(), Stop>
-    ensures { Judges (in_turn (asked (eq_ℚ value last) ∷ asked (lt_ℚ value max) ∷ [])) result }
+// It ends past the last end, which is before the last value, and what comes after it is proved by a point and a direction.
+fn check_past_unbounded(
+    sheet: Sheet<'_>,
+    row: u32,
+    value: Frac,
+    last: Frac,
+    max: Frac,
+    pair: &Pair,
+) -> Result<(), Stop>
+    requires row { IsRow sheet.lp.now.matrix row }
+    requires pair { IsPairOf sheet.lp.now pair.now }
+    ensures { (changing : Changing) → Judges (past_test max last value (unbounded_past (sheet_shown sheet.entry) changing row value (value_at pair.now.point.items) (value_at pair.now.direction.items))) result }
 {
     ask(is_equal(value, last))?;
-    ask(value.is_less(max))
+    ask(value.is_less(max))?;
+    check_unbounded_past(sheet, row, value, &pair.point, &pair.direction)
+}
+
+// A run of the objective may close so.
+fn check_unbounded(
+    sheet: Sheet<'_>,
+    request: &ParametricRequest,
+    last: Frac,
+    value: Frac,
+    pair: &Pair,
+) -> Result<(), Stop>
+    requires serves { Serves sheet.problem.now sheet.lp.now request.now }
+    requires pair { IsPairOf sheet.lp.now pair.now }
+    ensures { Judges (unbounded_test (sheet_shown sheet.entry) (changing_of request.now.name request.now.change) request.now.to last value pair.now.point.items pair.now.direction.items) result }
+{
+    match &request.change {
+        Change::Row(row) => check_past_unbounded(sheet, *row, value, last, request.to, pair),
+        Change::Set(_) => Err(Stop::Wrong),
+    }
+}
+
+// It ends past the last end, which is before the last value, and what comes after it is proved by a ray.
+fn check_past_infeasible(
+    alloc: Global,
+    sheet: Sheet<'_>,
+    request: &ParametricRequest,
+    last: Frac,
+    shift: &[Frac],
+    value: Frac,
+    ray: &[Frac],
+) -> Result<(), Stop>
+    requires lawful { IsLinearProgram sheet.lp.now }
+    requires no_change { sheet.lp.now.change ≡ None }
+    requires serves { Serves sheet.problem.now sheet.lp.now request.now }
+    requires shifts { length shift.now ≡ sheet.lp.now.matrix.rows }
+    requires places { length ray.now ≡ size sheet.lp.now.matrix }
+    ensures { Judges (past_test request.now.to last value (infeasible_past (sheet_shown sheet.entry) (changing_of request.now.name request.now.change) shift.now value (value_at ray.now))) result }
+{
+    ask(is_equal(value, last))?;
+    ask(value.is_less(request.to))?;
+    check_infeasible_past(alloc, sheet, request, shift, value, ray)
+}
+
+// A run of the right-hand side may close so.
+fn check_infeasible(
+    alloc: Global,
+    sheet: Sheet<'_>,
+    request: &ParametricRequest,
+    last: Frac,
+    value: Frac,
+    ray: &[Frac],
+) -> Result<(), Stop>
+    requires lawful { IsLinearProgram sheet.lp.now }
+    requires no_change { sheet.lp.now.change ≡ None }
+    requires serves { Serves sheet.problem.now sheet.lp.now request.now }
+    requires places { length ray.now ≡ size sheet.lp.now.matrix }
+    ensures { Judges (infeasible_test (sheet_shown sheet.entry) (changing_of request.now.name request.now.change) request.now.to last value ray.now) result }
+{
+    match &request.change {
+        Change::Row(_) => Err(Stop::Wrong),
+        Change::Set(shift) => check_past_infeasible(alloc, sheet, request, last, shift, value, ray),
+    }
 }
 
 /// How a run closes whose last interval ends here.
 pub fn check_closing(
-    _alloc: Global,
+    alloc: Global,
     sheet: Sheet<'_>,
     request: &ParametricRequest,
     last: Frac,
@@ -181,13 +254,9 @@ pub fn check_closing(
 {
     match closing {
         Closing::At(value) => check_end_at(*value, last, request.to),
-        Closing::Unbounded(_value, _pair) => match &request.change {
-            Change::Row(_row) => Err(Stop::NoMemory),
-            Change::Set(_) => Err(Stop::Wrong),
-        },
-        Closing::Infeasible(_value, _ray) => match &request.change {
-            Change::Row(_) => Err(Stop::Wrong),
-            Change::Set(_shift) => Err(Stop::NoMemory),
-        },
+        Closing::Unbounded(value, pair) => check_unbounded(sheet, request, last, *value, pair),
+        Closing::Infeasible(value, ray) => {
+            check_infeasible(alloc, sheet, request, last, *value, ray)
+        }
     }
 }
