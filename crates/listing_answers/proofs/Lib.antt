@@ -9,3 +9,4 @@ mod Runs
 mod ClosingFacts
 mod ClosingSums
 mod SweepFacts
+mod PastFacts

@@ -54,6 +54,9 @@ judges_last v result h = subst (λ (u : Verdict). Judges u result) (sym (followe
 pub last_by : (given v : Verdict) (result : Result (Unit {0}) Stop) → given ≡ v → Judges given result → Judges (followed_by v Checked) result
 last_by given v result same h = judges_last v result (subst (λ (u : Verdict). Judges u result) same h)
 
+pub judges_same : (v w : Verdict) (result : Result (Unit {0}) Stop) → v ≡ w → Judges v result → Judges w result
+judges_same v w result same h = subst (λ (u : Verdict). Judges u result) same h
+
 -- the same steps for each number up to n
 pub each_exit : (f : ℕ → List Step) (n i : ℕ) (result : Result (Unit {0}) Stop) (stop : Stop) → EachLeft f n i → i < n → Stops stop (verdict_of (f (i + 1))) → IsErrAnd result (λ y. y ≡ stop) →
     Judges (verdict_of (flat_map f (numbers_from 1 n))) result
