@@ -43,6 +43,11 @@ stated_is sheet other m (claims.Unbounded objective pair) b (UnboundedBy steps p
     by eo ez ed ec = λ i. in_turn (in_turn (unbounded_check other.lp (value_at (ez i)) (value_at (ed i)) ∷ asked (eq_ℚ (eo i) (value_at (ez i) other.lp.objective)) ∷ []) ∷ asked (ec i) ∷ [])
 stated_is sheet other m claim b verdict check says e = absurd says
 
+-- the verdict that a call gave in such a linear program
+pub stated_given : (sheet other : Sheet) → other.lp.matrix ≡ sheet.lp.matrix → (claim : declared.Claim) (is_checked : Bool) (verdict : PathVerdict) (check : Check) → Says sheet claim verdict → is_checked ≡ says_checked check →
+    (p : LinearProgram) → p ≡ other.lp → (given : Verdict) → given ≡ stated_test p claim is_checked → given ≡ verdict_test other verdict check
+stated_given sheet other m claim b verdict check says e p is given h = h ∙ ap (λ (q : LinearProgram). stated_test q claim b) is ∙ stated_is sheet other m claim b verdict check says e
+
 pub concluded : (sheet : Sheet) (claim : declared.Claim) (is_checked : Bool) (verdict : PathVerdict) (check : Check) → Says sheet claim verdict → is_checked ≡ says_checked check → conclusion_by claim is_checked ≡ conclusion_of verdict check
 concluded sheet (claims.Optimal objective) b (OptimalAt steps printed) check says e = λ i. Optimal (says i) (e i)
 concluded sheet (claims.Crossed k) b (CrossedAt number) check says e = refl

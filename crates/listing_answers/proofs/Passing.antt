@@ -23,6 +23,13 @@ stops_first stops.Unchecked Checked w h = absurd h
 stops_first stops.Unchecked (Failed part number) w h = absurd h
 stops_first stops.NoMemory v w h = tt
 
+-- a verdict that a call gave
+pub passes : (given v : Verdict) → given ≡ v → given ≡ Checked → v ≡ Checked
+passes given v same passed = sym same ∙ passed
+
+pub stops_given : (stop : Stop) (given v : Verdict) → given ≡ v → Stops stop given → Stops stop v
+stops_given stop given v same h = subst (λ (u : Verdict). Stops stop u) same h
+
 followed_alone : (v : Verdict) → followed_by v Checked ≡ v
 followed_alone Checked = refl
 followed_alone (Failed part number) = refl

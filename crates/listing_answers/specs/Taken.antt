@@ -1,10 +1,9 @@
 -- What a reader of answers comes to.
 --     IsConclusion, IsSweepAnswer  what is handed on of the answer to a path and to a parametric run
---     IsOpened, IsSwept            the mark of an opening, and the last value of a run
+--     IsOpened                     the mark of an opening
 --     Taken Shows judged new result    an answer was taken, of which so much is shown; or it isn't of its form or fails a test; or an
 --                                  operation of a test is refused; or there is no memory
 use Rattle.std.specs.Prelude.{◌≡◌, ℕ, List, Result, Ok, Err}
-use Rattle.exact_values.specs.Rational.{ℚ}
 use Rattle.listing_definitions.specs.declared.Mark.{Mark}
 use Rattle.listing_definitions.specs.Report.{PathVerdict, OptimalAt, CrossedAt, InfeasibleBy, UnboundedBy, Check}
 use Rattle.question_definitions.specs.Answers.{PathEnd, Reached, SweepEnd, Opening, Chained}
@@ -35,12 +34,9 @@ IsSweepAnswer (Opened mark) (Opening bases verdict check) = mark ≡ mark_of ver
 IsSweepAnswer (Swept last) (Chained bases intervals end) = last ≡ last_value end
 IsSweepAnswer answer end = ⊥
 
--- the one part of it, and the other
+-- of an opening
 abbrev pub IsOpened : Mark → SweepEnd → Type 0
 IsOpened mark end = IsSweepAnswer (Opened mark) end
-
-abbrev pub IsSwept : ℚ → SweepEnd → Type 0
-IsSwept last end = IsSweepAnswer (Swept last) end
 
 pub record IsRight {X A : Type 0} (Shows : X → A → Type 0) (judged : Judged A) (new : List ℕ) (x : X) : Type 0 where
   pub answer : A

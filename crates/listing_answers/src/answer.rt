@@ -10,13 +10,13 @@ ghost use Rattle.listing_readers.specs.Read.{sheet_shown};
 ghost use Rattle.listing_answers.specs.Claims.{conclusion_by};
 ghost use Rattle.listing_answers.specs.Taken.{Taken, IsConclusion, IsSweepAnswer};
 
-use crate::checking::check_printed;
+use crate::claim_tests::test;
 use crate::claims::{Claim, Stated, read_verdict};
 use crate::judging::judge;
 use crate::openings::{read_opening, take_sweep_head};
 use crate::solution::{printed_of, read_lines};
+use crate::solution_tests::check_printed;
 use crate::sweeping::read_run;
-use crate::testing::test;
 use frac128::{Frac, Refused};
 use listing_definitions::{Mark, Solver};
 use listing_readers::Cursor;

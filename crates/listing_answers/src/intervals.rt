@@ -82,7 +82,7 @@ fn take_three(cursor: &mut Cursor<'_>, first: &[u8], second: &[u8], third: &[u8]
     cursor.take(first) && take_both(cursor, second, third)
 }
 
-// Takes five texts.
+// Takes four texts.
 #[tactic(auto, using(walk_definitions::proofs::Texts::left_after_both))]
 fn take_four(
     cursor: &mut Cursor<'_>,
@@ -96,7 +96,7 @@ fn take_four(
     cursor.take(first) && take_three(cursor, second, third, fourth)
 }
 
-// Takes the word of an interval and four texts.
+// Takes five texts.
 #[tactic(auto, using(walk_definitions::proofs::Texts::left_after_both))]
 fn take_five(
     cursor: &mut Cursor<'_>,

@@ -3,7 +3,7 @@
 #![tactic(auto)]
 
 mod answer;
-mod checking;
+mod claim_tests;
 mod claims;
 mod closing;
 mod closing_tests;
@@ -12,8 +12,8 @@ mod intervals;
 mod judging;
 mod openings;
 mod solution;
+mod solution_tests;
 mod sweeping;
-mod testing;
 mod words;
 
 pub use answer::{

@@ -11,10 +11,10 @@ ghost use Rattle.listing_answers.specs.Claims.{mark_by};
 ghost use Rattle.listing_answers.specs.Taken.{Taken, IsOpened};
 
 use crate::answer::Stop;
+use crate::claim_tests::test;
 use crate::claims::{Claim, read_verdict};
 use crate::families::program_at;
 use crate::judging::judge;
-use crate::testing::test;
 use listing_definitions::{Mark, Solver};
 use listing_readers::Cursor;
 use listing_tables::{Sheet, fraction, solver_word};

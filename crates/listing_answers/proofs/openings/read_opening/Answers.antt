@@ -13,8 +13,8 @@ use Rattle.listing_readers.specs.Read.{sheet_shown}
 use Rattle.listing_answers.specs.Passing.{Stops}
 use Rattle.listing_answers.specs.Taken.{IsOpened}
 use Rattle.listing_answers.specs.Claims.{Fits, stated_test}
-use Rattle.listing_answers.proofs.Passing.{stops_first, stops_next, both_pass}
-use Rattle.listing_answers.proofs.Claimed.{stated_is, marked, family_matrix, fits_matrix, judged_right, judged_handed}
+use Rattle.listing_answers.proofs.Passing.{passes, stops_given, stops_first, stops_next, both_pass}
+use Rattle.listing_answers.proofs.Claimed.{stated_given, marked, family_matrix, fits_matrix, judged_right, judged_handed}
 use Rattle.listing_answers.proofs.openings.read_opening.Goals as goal
 
 pub test-requires : goal.test-requires
@@ -34,13 +34,13 @@ returns-in_err-judge c limit =
     let changing = changing_of c.args.request.now.name c.args.request.now.change in
     let making = verdict_of (making_steps sheet changing from) in
     let stop = c.in_err-judge.field-0.0 in
-    let is : c.test.result ≡ verdict_test (sheet_at sheet changing from) found.answer.0 found.answer.1 =
-    c.test.ensures ∙ ap (λ (p : LinearProgram). stated_test p stated.claim stated.is_checked) c.in_ok-program.ensures.1
-    ∙ stated_is sheet (sheet_at sheet changing from) (family_matrix sheet changing from) stated.claim stated.is_checked found.answer.0 found.answer.1 found.shows.says found.shows.says_check in
+    let is =
+    stated_given sheet (sheet_at sheet changing from) (family_matrix sheet changing from) stated.claim stated.is_checked found.answer.0 found.answer.1 found.shows.says found.shows.says_check
+    c.in_ok-program.program c.in_ok-program.ensures.1 c.test.result c.test.ensures in
     judged_handed (λ claim. Opening [] claim.0 claim.1) IsOpened (λ (claim : Claim). in_turn (making ∷ verdict_test (sheet_at sheet changing from) claim.0 claim.1 ∷ [])) (verdict_in sheet (sweeper changing) c.args.cursor.now) found.answer c.read_verdict.new.cursor c.read_verdict.new.cursor
     c.from_residual-in_err-judge.result stop (ap (λ solver. verdict_in sheet solver c.args.cursor.now) (sym c.solver_of.ensures) ∙ found.is_found)
     (stops_next stop making (in_turn (verdict_test (sheet_at sheet changing from) found.answer.0 found.answer.1 ∷ [])) c.in_ok-program.ensures.0
-    (stops_first stop (verdict_test (sheet_at sheet changing from) found.answer.0 found.answer.1) Checked (subst (λ (v : Verdict). Stops stop v) is c.in_err-judge.ensures)))
+    (stops_first stop (verdict_test (sheet_at sheet changing from) found.answer.0 found.answer.1) Checked (stops_given stop c.test.result (verdict_test (sheet_at sheet changing from) found.answer.0 found.answer.1) is c.in_err-judge.ensures)))
     c.from_residual-in_err-judge.ensures.1
 
 pub returns : goal.returns
@@ -51,15 +51,15 @@ returns c limit =
     let from = c.args.request.now.from in
     let changing = changing_of c.args.request.now.name c.args.request.now.change in
     let making = verdict_of (making_steps sheet changing from) in
-    let is : c.test.result ≡ verdict_test (sheet_at sheet changing from) found.answer.0 found.answer.1 =
-    c.test.ensures ∙ ap (λ (p : LinearProgram). stated_test p stated.claim stated.is_checked) c.in_ok-program.ensures.1
-    ∙ stated_is sheet (sheet_at sheet changing from) (family_matrix sheet changing from) stated.claim stated.is_checked found.answer.0 found.answer.1 found.shows.says found.shows.says_check in
+    let is =
+    stated_given sheet (sheet_at sheet changing from) (family_matrix sheet changing from) stated.claim stated.is_checked found.answer.0 found.answer.1 found.shows.says found.shows.says_check
+    c.in_ok-program.program c.in_ok-program.ensures.1 c.test.result c.test.ensures in
     record {
       answer = Opening [] found.answer.0 found.answer.1;
       is_right =
           judged_right (λ claim. Opening [] claim.0 claim.1) (λ (claim : Claim). in_turn (making ∷ verdict_test (sheet_at sheet changing from) claim.0 claim.1 ∷ [])) (verdict_in sheet (sweeper changing) c.args.cursor.now) found.answer c.read_verdict.new.cursor
           (ap (λ solver. verdict_in sheet solver c.args.cursor.now) (sym c.solver_of.ensures) ∙ found.is_found)
           (both_pass making (in_turn (verdict_test (sheet_at sheet changing from) found.answer.0 found.answer.1 ∷ [])) c.in_ok-program.ensures.0
-          (both_pass (verdict_test (sheet_at sheet changing from) found.answer.0 found.answer.1) Checked (sym is ∙ c.in_ok-judge.ensures) refl));
+          (both_pass (verdict_test (sheet_at sheet changing from) found.answer.0 found.answer.1) Checked (passes c.test.result (verdict_test (sheet_at sheet changing from) found.answer.0 found.answer.1) is c.in_ok-judge.ensures) refl));
       shows = c.mark_left.ensures ∙ marked sheet stated.claim found.answer.0 found.shows.says;
     }

@@ -4,7 +4,7 @@ use Rattle.lp_definitions.specs.LinearProgram.{value_at}
 use Rattle.listing_readers.specs.Read.{sheet_shown}
 use Rattle.listing_answers.specs.Passing.{Judges}
 use Rattle.listing_answers.specs.Solutions.{printed_test}
-use Rattle.listing_answers.proofs.checking.check_printed.Goals as goal
+use Rattle.listing_answers.proofs.solution_tests.check_printed.Goals as goal
 
 pub returns : goal.returns
 returns c =

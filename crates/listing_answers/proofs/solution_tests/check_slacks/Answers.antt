@@ -4,7 +4,7 @@ use Rattle.walk_definitions.specs.Tests.{slack_steps}
 use Rattle.certificate_check.proofs.Each.{each_left}
 use Rattle.listing_readers.specs.Read.{sheet_shown}
 use Rattle.listing_answers.proofs.Passing.{each_exit, each_goes_on, each_ends}
-use Rattle.listing_answers.proofs.checking.check_slacks.Goals as goal
+use Rattle.listing_answers.proofs.solution_tests.check_slacks.Goals as goal
 
 pub loop-i-init : goal.loop-i-init
 loop-i-init c = each_left (slack_steps (sheet_shown c.args.sheet) (value_at c.args.point.now) (value_at c.args.slacks.now)) c.args.sheet.lp.now.rows

@@ -7,7 +7,7 @@ use Rattle.answer_definitions.specs.Lines.{row_numbers}
 use Rattle.walk_definitions.specs.Tests.{slack_steps, best_test}
 use Rattle.listing_readers.specs.Read.{sheet_shown}
 use Rattle.listing_answers.proofs.Passing.{exit_by, then_by, last_by}
-use Rattle.listing_answers.proofs.checking.check_values.Goals as goal
+use Rattle.listing_answers.proofs.solution_tests.check_values.Goals as goal
 
 pub returns-in_err-judge : goal.returns-in_err-judge
 returns-in_err-judge c =

@@ -4,7 +4,7 @@ use Rattle.lp_definitions.specs.LinearProgram.{value_at}
 use Rattle.check_definitions.specs.Steps.{in_turn}
 use Rattle.check_definitions.specs.Checks.{unbounded_check}
 use Rattle.walk_definitions.specs.Tests.{asked}
-use Rattle.listing_answers.proofs.testing.test_pair.Goals as goal
+use Rattle.listing_answers.proofs.claim_tests.test_pair.Goals as goal
 
 pub returns : goal.returns
 returns c =
