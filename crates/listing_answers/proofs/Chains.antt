@@ -1,8 +1,7 @@
 -- Words, read one after another.
-use Rattle.std.proofs.Common.{◌≡◌, ℕ, ◌≤◌, Bool, true, false, cond, if◌then◌else◌, ◌&&◌, List, [], ◌∷◌, length, drop, Option, Some, None, refl, sym, ap, ◌∙◌, arith}
+use Rattle.std.proofs.Common.{◌≡◌, ℕ, ◌≤◌, Bool, true, false, if◌then◌else◌, ◌&&◌, List, length, drop, Option, Some, None, refl, ap, ◌∙◌, arith}
 use Rattle.std.specs.Prelude.{codes, option_and_then, nat_le, bytes_eq}
 use Rattle.std.specs.Option.{option_or}
-use Rattle.std.proofs.lemmas.Bool.{and_parts}
 use Rattle.std.proofs.lemmas.Bool.Decides.{nat_tests}
 use Rattle.std.proofs.lemmas.Option.{same_Some}
 use Rattle.frac128.specs.declared.Op.{Op}
@@ -15,7 +14,7 @@ use Rattle.listing_definitions.specs.Report.{Check, Checked, Unchecked}
 use Rattle.walk_definitions.specs.Words.{Parsed, left_after, with_text, word_in, with_word, fraction_in, count_in, max_count}
 use Rattle.walk_definitions.specs.Forms.{all_operations}
 use Rattle.walk_definitions.specs.Reading.{with_check, Claim}
-use Rattle.listing_answers.specs.Words.{labelled, refusal_in, IsCheckIn, IsCheckRead, IsCheckAfter, ray_head_in, IsRayHeadRead}
+use Rattle.listing_answers.specs.Words.{labelled, refusal_in, IsCheckRead, IsCheckAfter, IsRayHeadRead}
 
 -- ---- what is made of what is read
 

@@ -1,29 +1,29 @@
 -- What is claimed, and how it is judged.
-use Rattle.std.proofs.Common.{◌≡◌, ℕ, Bool, List, [], ◌∷◌, map, length, Option, Some, None, Result, Err, refl, sym, ap, ap₂, subst, ◌∙◌}
+use Rattle.std.proofs.Common.{◌≡◌, ℕ, Bool, List, [], ◌∷◌, map, length, Some, None, Result, Err, refl, sym, ap, ap₂, subst, ◌∙◌}
 use Rattle.std.specs.Prelude.{IsErrAnd}
 use Rattle.std.proofs.lemmas.Result.{err_from_is_err_and}
 use Rattle.check_definitions.specs.declared.Verdict.{Verdict}
 use Rattle.check_definitions.specs.declared.Verdict.TheVariants.{Checked, Failed, Unchecked}
-use Rattle.check_definitions.specs.Steps.{in_turn, followed_by}
+use Rattle.check_definitions.specs.Steps.{in_turn}
 use Rattle.check_definitions.specs.Checks.{crossed_check, infeasible_check, unbounded_check}
 use Rattle.exact_values.specs.Rational.{ℚ}
 use Rattle.exact_values.specs.Tests.{eq_ℚ}
 use Rattle.lp_definitions.specs.LinearProgram.{LinearProgram, Matrix, IsVariable, size, value_at, variables}
-use Rattle.listing_definitions.specs.Report.{Line, PathVerdict, OptimalAt, CrossedAt, InfeasibleBy, UnboundedBy, Check}
+use Rattle.listing_definitions.specs.Report.{PathVerdict, OptimalAt, CrossedAt, InfeasibleBy, UnboundedBy, Check}
 use Rattle.question_definitions.specs.Answers.{Sheet, Changing, Row, Set}
 use Rattle.answer_definitions.specs.Sweeps.{family_of}
 use Rattle.run_definitions.specs.Verbs.{mark_of}
 use Rattle.walk_definitions.specs.Words.{Parsed}
 use Rattle.walk_definitions.specs.Tables.{numbered, multipliers, column_of}
 use Rattle.walk_definitions.specs.Tests.{asked, says_checked, verdict_test}
-use Rattle.walk_definitions.specs.Reading.{Judged, Right, Fails, Refuses, by_verdict, tested, judged_map}
+use Rattle.walk_definitions.specs.Reading.{Right, Fails, by_verdict, tested, judged_map}
 use Rattle.listing_answers.specs.declared.claims.Claim as declared
 use Rattle.listing_answers.specs.declared.claims.Claim.TheVariants as claims
 use Rattle.listing_answers.specs.declared.answer.Conclusion.TheVariants.{Optimal}
 use Rattle.listing_answers.specs.declared.answer.Stop.{Stop}
 use Rattle.listing_answers.specs.declared.answer.Stop.TheVariants as stops
 use Rattle.listing_answers.specs.Taken.{Taken, conclusion_of}
-use Rattle.listing_answers.specs.Passing.{IsFailed, IsRefused, Stops}
+use Rattle.listing_answers.specs.Passing.{Stops}
 use Rattle.listing_answers.specs.Claims.{Says, Fits, stated_test, conclusion_by, mark_by}
 
 -- ---- the test of a claim, in a linear program of the same variables

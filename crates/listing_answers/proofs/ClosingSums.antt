@@ -6,7 +6,7 @@ use Rattle.lp_definitions.specs.LinearProgram.{LinearProgram, Vector, size, valu
 use Rattle.lp_definitions.specs.Solutions.{limit_against}
 use Rattle.check_definitions.specs.declared.Verdict.{Verdict}
 use Rattle.check_definitions.specs.declared.Verdict.TheVariants.{Checked, Failed, Unchecked}
-use Rattle.check_definitions.specs.Steps.{Product, product_of, comparison, verdict_of, sum_steps, sum_of, followed_by}
+use Rattle.check_definitions.specs.Steps.{Product, product_of, comparison, verdict_of, sum_steps, sum_of}
 use Rattle.check_definitions.specs.Checks.{limit_product, ray_limits, multiplied, multiplied_among}
 use Rattle.check_definitions.proofs.Passing.{verdict-append, numbers-next, numbers-end}
 use Rattle.certificate_check.specs.declared.stops.Stopped.{Stopped}

@@ -1,9 +1,9 @@
 -- The limits at a value of the parameter, and the points.
-use Rattle.std.proofs.Common.{◌≡◌, ℕ, ◌+◌, ◌-◌, ◌<◌, ◌≤◌, List, [], ◌∷◌, ◌++◌, map, length, get_or, Bool, true, false, cond, Option, Some, None, refl, sym, ap, ap₂, subst, ◌∙◌, arith}
+use Rattle.std.proofs.Common.{◌≡◌, ℕ, ◌+◌, ◌<◌, ◌≤◌, List, [], ◌∷◌, ◌++◌, map, true, false, cond, Option, Some, None, refl, sym, ap, ap₂, subst, ◌∙◌, arith}
 use Rattle.std.specs.Prelude.{nat_le}
-use Rattle.std.proofs.lemmas.List.{map-append, length-map, get_or-map}
+use Rattle.std.proofs.lemmas.List.{map-append}
 use Rattle.std.proofs.lemmas.Bool.Decides.{nat_tests}
-use Rattle.exact_values.specs.Rational.{ℚ, zero_ℚ, ◌+ℚ◌, ◌*ℚ◌}
+use Rattle.exact_values.specs.Rational.{ℚ, zero_ℚ, ◌+ℚ◌}
 use Rattle.exact_values.proofs.Ring_laws.{add-zero, mul-zero}
 use Rattle.lp_definitions.specs.LinearProgram.{LinearProgram, Matrix, numbers_from, value_at, lower_of, upper_of}
 use Rattle.lp_laws.proofs.Opening.{numbers_from-append}

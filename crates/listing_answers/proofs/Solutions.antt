@@ -1,5 +1,5 @@
 -- What is read of SOLUTION.
-use Rattle.std.proofs.Common.{◌≡◌, ℕ, ◌+◌, List, ◌++◌, map, length, Some, refl, sym, ap, ap₂, ◌∙◌, length-append}
+use Rattle.std.proofs.Common.{◌≡◌, ℕ, ◌+◌, List, ◌++◌, length, Some, refl, sym, ap, ap₂, ◌∙◌, length-append}
 use Rattle.std.specs.Prelude.{option_map, option_and_then}
 use Rattle.std.proofs.lemmas.List.{length-map, map-append}
 use Rattle.lp_definitions.specs.LinearProgram.{value_at, size}
@@ -8,7 +8,7 @@ use Rattle.listing_definitions.specs.Report.{Line, SolutionLines}
 use Rattle.question_definitions.specs.Answers.{Sheet}
 use Rattle.answer_definitions.specs.Lines.{row_numbers, column_numbers}
 use Rattle.walk_definitions.specs.Words.{Parsed, left_after, with_text}
-use Rattle.walk_definitions.specs.Tables.{table_in, number_at, column_of}
+use Rattle.walk_definitions.specs.Tables.{table_in, number_at}
 use Rattle.walk_definitions.specs.Tests.{solution_test}
 use Rattle.walk_definitions.specs.Reading.{row_slots, column_slots, solution_in}
 use Rattle.listing_readers.specs.declared.tables.Shape.TheVariants.{Row, Column}

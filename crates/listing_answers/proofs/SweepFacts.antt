@@ -1,11 +1,10 @@
 -- The answer to a parametric run, by what stands before it.
-use Rattle.std.proofs.Common.{◌≡◌, ℕ, List, [], Option, Some, None, Result, Ok, Err, sym, ap, subst, ◌∙◌}
+use Rattle.std.proofs.Common.{◌≡◌, ℕ, List, [], Some, None, Result, Ok, Err, sym, ap, subst, ◌∙◌}
 use Rattle.std.specs.Prelude.{IsErrAnd}
 use Rattle.std.proofs.lemmas.Result.{err_from_is_err_and}
 use Rattle.exact_values.specs.Rational.{ℚ}
 use Rattle.listing_definitions.specs.declared.Mark.{Mark}
 use Rattle.question_definitions.specs.Answers.{Sheet, Sweep, SweepEnd, Chained}
-use Rattle.run_definitions.specs.Verbs.{last_value}
 use Rattle.walk_definitions.specs.Words.{left_after}
 use Rattle.walk_definitions.specs.Reading.{Judged, judged_map, Run, run_in, sweep_head, opening_in, sweep_in}
 use Rattle.listing_answers.specs.declared.answer.SweepAnswer.{SweepAnswer}

@@ -1,19 +1,19 @@
 -- Tables, and the columns of their numbers.
-use Rattle.std.proofs.Common.{◌≡◌, ℕ, zero, suc, ◌+◌, List, [], ◌∷◌, ◌++◌, map, length, Option, Some, None, refl, sym, ap, ap₂, ◌∙◌, arith}
+use Rattle.std.proofs.Common.{◌≡◌, ℕ, suc, List, [], ◌∷◌, map, length, Some, None, refl, sym, ap, ◌∙◌}
 use Rattle.std.proofs.lemmas.List.{length-map}
 use Rattle.std.proofs.lemmas.Option.{same_Some}
 use Rattle.std.proofs.lemmas.Simd.{map-map}
 use Rattle.std.specs.Prelude.{option_map}
 use Rattle.exact_values.specs.Rational.{ℚ}
-use Rattle.lp_definitions.specs.LinearProgram.{numbers_from, variables, size}
+use Rattle.lp_definitions.specs.LinearProgram.{variables, size}
 use Rattle.lp_laws.proofs.Opening.{length-numbers_from}
 use Rattle.listing_definitions.specs.Report.{Line}
 use Rattle.question_definitions.specs.Answers.{Sheet}
 use Rattle.walk_definitions.specs.Words.{Parsed}
-use Rattle.walk_definitions.specs.Tables.{Slot, line_in, table_in, then_more, pair_slots, column_of, multipliers}
+use Rattle.walk_definitions.specs.Tables.{Slot, line_in, table_in, then_more, column_of, multipliers}
 use Rattle.listing_readers.specs.declared.tables.Numbers.{Numbers}
 use Rattle.listing_readers.specs.declared.tables.Shape.{Shape}
-use Rattle.listing_readers.specs.Tables.{numbers_of, IsTableRead}
+use Rattle.listing_readers.specs.Tables.{numbers_of}
 
 -- a table has a line for each of its variables
 pub table_counted : (sheet : Sheet) (slots : ℕ → List Slot) (ks : List ℕ) (rest : List ℕ) (lines : List Line) (new : List ℕ) → table_in sheet slots ks rest ≡ Some (lines, new) → length lines ≡ length ks

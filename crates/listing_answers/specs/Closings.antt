@@ -3,7 +3,7 @@
 --     row_close_in, set_close_in   how runs of the objective and of the right-hand side close
 --     Closes                       what closes the run says what the report says
 --     closing_test, bettering_test the test of it, and a part of it
-use Rattle.std.specs.Prelude.{◌≡◌, ℕ, List, [], ◌∷◌, Option, Some, None, length, codes, map, option_map}
+use Rattle.std.specs.Prelude.{◌≡◌, ℕ, List, [], ◌∷◌, Option, Some, None, length, codes, option_map}
 use Rattle.std.specs.Option.{option_or}
 use Rattle.exact_values.specs.Rational.{ℚ, zero_ℚ, ◌+ℚ◌, ◌*ℚ◌}
 use Rattle.exact_values.specs.Tests.{eq_ℚ, lt_ℚ, le_ℚ}
@@ -11,13 +11,12 @@ use Rattle.lp_definitions.specs.LinearProgram.{LinearProgram, Vector, for_min, v
 use Rattle.check_definitions.specs.declared.Verdict.{Verdict}
 use Rattle.check_definitions.specs.declared.Verdict.TheVariants.{Failed}
 use Rattle.check_definitions.specs.Steps.{verdict_of, in_turn, sum_steps}
-use Rattle.listing_definitions.specs.Report.{Line, ChainEnd, EndsAt, UnboundedPast, InfeasiblePast}
+use Rattle.listing_definitions.specs.Report.{ChainEnd, EndsAt, UnboundedPast, InfeasiblePast}
 use Rattle.question_definitions.specs.Answers.{Sheet, Changing, Row, Set}
 use Rattle.answer_definitions.specs.Sweeps.{row_of, shifts_of}
 use Rattle.walk_definitions.specs.Words.{Parsed, with_text, with_word, fraction_in}
 use Rattle.walk_definitions.specs.Tables.{pair_slots, table_in, ray_in, multipliers}
 use Rattle.walk_definitions.specs.Tests.{asked, past_test, unbounded_past, infeasible_past}
-use Rattle.listing_answers.specs.declared.claims.Pair.{Pair}
 use Rattle.listing_answers.specs.declared.closing.Closing as declared
 use Rattle.listing_answers.specs.declared.closing.Closing.TheVariants as closings
 use Rattle.listing_answers.specs.Claims.{IsPair, IsPairOf}

@@ -1,7 +1,6 @@
-use Rattle.std.proofs.Common.{◌≡◌, List, ◌++◌, ap, sym, subst, ◌∙◌}
+use Rattle.std.proofs.Common.{◌≡◌, List, ap, sym, subst, ◌∙◌}
 use Rattle.exact_values.specs.Rational.{ℚ}
 use Rattle.lp_definitions.specs.LinearProgram.{value_at}
-use Rattle.listing_definitions.specs.Report.{SolutionLines}
 use Rattle.check_definitions.specs.declared.Verdict.{Verdict}
 use Rattle.walk_definitions.specs.Tests.{point_of, solution_test}
 use Rattle.walk_definitions.specs.Reading.{solution_in}

@@ -1,10 +1,9 @@
-use Rattle.std.proofs.Common.{◌≡◌, List, length, Option, Some, None, refl, ap, sym, subst, ◌∙◌}
+use Rattle.std.proofs.Common.{◌≡◌, length, None, ap, ◌∙◌}
 use Rattle.std.specs.Prelude.{option_map}
 use Rattle.lp_definitions.specs.LinearProgram.{variables}
 use Rattle.listing_definitions.specs.Report.{InfeasibleBy}
 use Rattle.walk_definitions.specs.Tables.{ray_in}
 use Rattle.listing_readers.specs.Read.{sheet_shown}
-use Rattle.listing_readers.specs.Tables.{IsRayRead}
 use Rattle.listing_answers.proofs.Tables.{multipliers_counted}
 use Rattle.listing_answers.proofs.claims.infeasible.Goals as goal
 

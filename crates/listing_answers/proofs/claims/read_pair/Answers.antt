@@ -1,4 +1,4 @@
-use Rattle.std.proofs.Common.{◌≡◌, List, map, length, Option, Some, None, refl, ap, sym, ◌∙◌}
+use Rattle.std.proofs.Common.{map, length, ap, sym, ◌∙◌}
 use Rattle.lp_definitions.specs.LinearProgram.{size, numbers_from}
 use Rattle.walk_definitions.specs.Tables.{pair_slots, table_in}
 use Rattle.listing_readers.specs.declared.tables.Numbers.{Numbers}

@@ -1,4 +1,4 @@
-use Rattle.std.proofs.Common.{◌≡◌, [], ◌∷◌, refl, ap, ap₂, ◌∙◌}
+use Rattle.std.proofs.Common.{[], ◌∷◌, refl, ap, ap₂, ◌∙◌}
 use Rattle.exact_values.specs.Tests.{le_ℚ, lt_ℚ}
 use Rattle.lp_definitions.specs.LinearProgram.{value_at}
 use Rattle.check_definitions.specs.Steps.{in_turn}

@@ -1,10 +1,9 @@
-use Rattle.std.proofs.Common.{◌≡◌, [], ◌∷◌, refl, ap, ◌∙◌}
+use Rattle.std.proofs.Common.{◌≡◌, [], ◌∷◌, refl, ap}
 use Rattle.exact_values.specs.Tests.{eq_ℚ, lt_ℚ}
 use Rattle.lp_definitions.specs.LinearProgram.{value_at}
 use Rattle.check_definitions.specs.Steps.{in_turn}
 use Rattle.walk_definitions.specs.Tests.{asked, unbounded_past}
 use Rattle.listing_readers.specs.Read.{sheet_shown}
-use Rattle.listing_answers.specs.Passing.{Judges}
 use Rattle.listing_answers.proofs.Passing.{then_by, last_by, judges_same}
 use Rattle.listing_answers.proofs.closing_tests.check_past_unbounded.Goals as goal
 

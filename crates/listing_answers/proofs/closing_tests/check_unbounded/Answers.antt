@@ -1,4 +1,4 @@
-use Rattle.std.proofs.Common.{◌≡◌, ℕ, sym, subst}
+use Rattle.std.proofs.Common.{ℕ, sym, subst}
 use Rattle.lp_definitions.specs.LinearProgram.{value_at}
 use Rattle.question_definitions.specs.Answers.{Row}
 use Rattle.parametric_request.specs.declared.request.Change.{Change}

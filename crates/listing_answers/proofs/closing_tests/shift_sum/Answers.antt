@@ -1,6 +1,6 @@
-use Rattle.std.proofs.Common.{rules, ◌≡◌, ◌<◌, ◌+◌, length, sym, arith}
+use Rattle.std.proofs.Common.{◌≡◌, ◌<◌, length, sym, arith}
 use Rattle.exact_values.specs.Rational.{ℚ, zero_ℚ}
-use Rattle.lp_definitions.specs.LinearProgram.{value_at, size}
+use Rattle.lp_definitions.specs.LinearProgram.{value_at}
 use Rattle.lp_laws.proofs.Places.{value_next}
 use Rattle.check_definitions.specs.Steps.{verdict_of, sum_steps, sum_of}
 use Rattle.listing_answers.proofs.Passing.{made_handed}

@@ -1,9 +1,9 @@
-use Rattle.std.proofs.Common.{◌≡◌, ◌<◌, ◌+◌, ◌++◌, ◌∷◌, [], List, ℕ, map, length, ap, ap₂, sym, subst, ◌∙◌, arith, rules}
+use Rattle.std.proofs.Common.{◌≡◌, ◌<◌, ◌+◌, ◌++◌, ◌∷◌, [], map, length, ap, ap₂, sym, subst, ◌∙◌, arith, rules}
 use Rattle.std.specs.Prelude.{Vec}
 use Rattle.std.specs.declared.alloc.Global.{Global}
 use Rattle.exact_values.specs.Rational.{ℚ, ◌+ℚ◌, ◌*ℚ◌}
 use Rattle.frac128.specs.declared.Frac.{Frac}
-use Rattle.lp_definitions.specs.LinearProgram.{numbers_from, size, value_at}
+use Rattle.lp_definitions.specs.LinearProgram.{numbers_from, size}
 use Rattle.lp_laws.proofs.Places.{value_next}
 use Rattle.check_definitions.specs.declared.Verdict.{Verdict}
 use Rattle.check_definitions.specs.Steps.{verdict_of}

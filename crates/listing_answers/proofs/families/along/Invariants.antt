@@ -1,6 +1,5 @@
 use Rattle.std.proofs.Common.{◌≡◌, map}
-use Rattle.lp_definitions.specs.LinearProgram.{numbers_from, size, value_at}
-use Rattle.check_definitions.specs.Steps.{sum_steps}
+use Rattle.lp_definitions.specs.LinearProgram.{numbers_from, size}
 use Rattle.method_definitions.specs.Chain.{along}
 use Rattle.certificate_check.proofs.Each.{EachLeft}
 use Rattle.listing_answers.proofs.Limits.{along_step}

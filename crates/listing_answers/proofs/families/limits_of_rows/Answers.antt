@@ -1,5 +1,4 @@
-use Rattle.std.proofs.Common.{◌≡◌, ◌<◌, ◌≤◌, ◌+◌, ◌++◌, ◌∷◌, [], List, ℕ, map, Option, ap, sym, subst, ◌∙◌, arith, rules}
-use Rattle.exact_values.specs.Rational.{ℚ}
+use Rattle.std.proofs.Common.{◌≡◌, ◌<◌, ◌≤◌, ◌+◌, ◌++◌, ◌∷◌, [], map, ap, ◌∙◌, arith, rules}
 use Rattle.lp_definitions.specs.LinearProgram.{numbers_from}
 use Rattle.certificate_check.proofs.Each.{each_left}
 use Rattle.check_definitions.specs.Steps.{verdict_of}

@@ -1,4 +1,4 @@
-use Rattle.std.proofs.Common.{◌≡◌, ◌<◌, ◌+◌, ◌++◌, ◌∷◌, [], List, ℕ, map, Option, ap, sym, ◌∙◌, arith, rules}
+use Rattle.std.proofs.Common.{◌≡◌, ◌<◌, ◌+◌, ◌++◌, ◌∷◌, [], map, ap, ◌∙◌, arith, rules}
 use Rattle.lp_definitions.specs.LinearProgram.{LinearProgram, size, numbers_from, lower_of, upper_of}
 use Rattle.listing_answers.specs.Making.{low_at, high_at}
 use Rattle.listing_answers.proofs.Limits.{one_more, column_low, column_high}

@@ -1,4 +1,4 @@
-use Rattle.std.proofs.Common.{◌≡◌, ◌+◌, ℕ, List, map}
+use Rattle.std.proofs.Common.{◌≡◌, ◌+◌, List, map}
 use Rattle.exact_values.specs.Rational.{ℚ}
 use Rattle.lp_definitions.specs.LinearProgram.{numbers_from}
 use Rattle.answer_definitions.specs.Lines.{row_numbers}

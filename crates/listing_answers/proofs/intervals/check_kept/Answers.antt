@@ -1,4 +1,4 @@
-use Rattle.std.proofs.Common.{◌≡◌, ◌<◌, ◌+◌, arith, rules}
+use Rattle.std.proofs.Common.{rules}
 use Rattle.lp_definitions.specs.LinearProgram.{size}
 use Rattle.certificate_check.proofs.Each.{each_left}
 use Rattle.listing_answers.specs.Intervals.{kept_steps}

@@ -1,18 +1,15 @@
-use Rattle.std.proofs.Common.{◌≡◌, [], ◌∷◌, ap, ap₂, sym, refl, subst, ◌∙◌}
-use Rattle.listing_definitions.specs.declared.Mark.{Mark}
+use Rattle.std.proofs.Common.{[], ◌∷◌, ap, sym, refl, subst, ◌∙◌}
 use Rattle.lp_definitions.specs.LinearProgram.{LinearProgram}
-use Rattle.check_definitions.specs.declared.Verdict.{Verdict}
 use Rattle.check_definitions.specs.declared.Verdict.TheVariants.{Checked}
-use Rattle.check_definitions.specs.Steps.{verdict_of, in_turn, followed_by}
+use Rattle.check_definitions.specs.Steps.{verdict_of, in_turn}
 use Rattle.question_definitions.specs.Answers.{sweeper, Opening}
 use Rattle.answer_definitions.specs.Sweeps.{sheet_at, family_of}
 use Rattle.parametric_request.specs.Asking.{changing_of}
 use Rattle.walk_definitions.specs.Tests.{making_steps, verdict_test}
 use Rattle.walk_definitions.specs.Reading.{Claim, verdict_in}
 use Rattle.listing_readers.specs.Read.{sheet_shown}
-use Rattle.listing_answers.specs.Passing.{Stops}
 use Rattle.listing_answers.specs.Taken.{IsOpened}
-use Rattle.listing_answers.specs.Claims.{Fits, stated_test}
+use Rattle.listing_answers.specs.Claims.{Fits}
 use Rattle.listing_answers.proofs.Passing.{passes, stops_given, stops_first, stops_next, both_pass}
 use Rattle.listing_answers.proofs.Claimed.{stated_given, marked, family_matrix, fits_matrix, judged_right, judged_handed}
 use Rattle.listing_answers.proofs.openings.read_opening.Goals as goal

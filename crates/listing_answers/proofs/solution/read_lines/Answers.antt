@@ -1,4 +1,4 @@
-use Rattle.std.proofs.Common.{◌≡◌, ◌+◌, codes, ap, ◌∙◌}
+use Rattle.std.proofs.Common.{◌+◌, ap, ◌∙◌}
 use Rattle.lp_laws.proofs.Opening.{length-numbers_from}
 use Rattle.answer_definitions.specs.Lines.{row_numbers, column_numbers}
 use Rattle.walk_definitions.specs.Reading.{row_slots, column_slots}

@@ -1,4 +1,4 @@
-use Rattle.std.proofs.Common.{◌≡◌, ◌<◌, rules, arith}
+use Rattle.std.proofs.Common.{rules}
 use Rattle.lp_definitions.specs.LinearProgram.{value_at}
 use Rattle.walk_definitions.specs.Tests.{slack_steps}
 use Rattle.certificate_check.proofs.Each.{each_left}

@@ -1,4 +1,4 @@
-use Rattle.std.proofs.Common.{◌+◌, ◌≤◌, ℕ, drop, length}
+use Rattle.std.proofs.Common.{◌+◌, ℕ, drop}
 use Rattle.parametric_request.specs.Asking.{sweep_of}
 use Rattle.walk_definitions.specs.Reading.{run_in}
 use Rattle.listing_readers.specs.Read.{sheet_shown}

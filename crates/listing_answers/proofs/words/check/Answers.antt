@@ -1,6 +1,5 @@
-use Rattle.std.proofs.Common.{◌≡◌, codes, refl, ap, sym, ◌∙◌}
+use Rattle.std.proofs.Common.{refl, ap, sym, ◌∙◌}
 use Rattle.std.specs.Prelude.{option_and_then}
-use Rattle.walk_definitions.specs.Words.{left_after}
 use Rattle.listing_definitions.specs.Report.{Unchecked}
 use Rattle.listing_readers.specs.Read.{taken}
 use Rattle.listing_answers.specs.Words.{refusal_in}
