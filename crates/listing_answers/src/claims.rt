@@ -186,7 +186,8 @@ fn infeasible_or_unbounded(
     sheet: Sheet<'_>,
 ) -> Result<Option<Stated>, NoMemory>
     requires { IsSheet sheet }
-    ensures { IfOk result (Found (IsStated (sheet_shown sheet.entry)) (infeasible_or_unbounded_in (sheet_shown sheet.entry) cursor.old) cursor.new) }
+    ensures { IfOk result (Found (IsStated (sheet_shown sheet.entry)) (infeasible_or_unbounded_in
+        (sheet_shown sheet.entry) cursor.old) cursor.new) }
 {
     if let Some(stated) = try_infeasible(alloc, cursor, sheet)? {
         return Ok(Some(stated));
@@ -231,7 +232,8 @@ fn primal_claim(
     sheet: Sheet<'_>,
 ) -> Result<Option<Stated>, NoMemory>
     requires { IsSheet sheet }
-    ensures { IfOk result (Found (IsStated (sheet_shown sheet.entry)) (claim_in (sheet_shown sheet.entry) Solver.Primal cursor.old) cursor.new) }
+    ensures { IfOk result (Found (IsStated (sheet_shown sheet.entry)) (claim_in
+        (sheet_shown sheet.entry) Solver.Primal cursor.old) cursor.new) }
 {
     if let Some(stated) = try_optimal(cursor, sheet) {
         return Ok(Some(stated));
@@ -246,7 +248,8 @@ fn dual_claim(
     sheet: Sheet<'_>,
 ) -> Result<Option<Stated>, NoMemory>
     requires { IsSheet sheet }
-    ensures { IfOk result (Found (IsStated (sheet_shown sheet.entry)) (claim_in (sheet_shown sheet.entry) Solver.Dual cursor.old) cursor.new) }
+    ensures { IfOk result (Found (IsStated (sheet_shown sheet.entry)) (claim_in
+        (sheet_shown sheet.entry) Solver.Dual cursor.old) cursor.new) }
 {
     if let Some(stated) = try_optimal(cursor, sheet) {
         return Ok(Some(stated));

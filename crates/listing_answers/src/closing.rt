@@ -1,17 +1,15 @@
 // How a parametric run closes.
-ghost use Rattle.std.specs.Prelude.{◌≡◌, None, IfOk, length, codes, Some};
-ghost use Rattle.lp_definitions.specs.LinearProgram.{IsLinearProgram, size, value_at};
+ghost use Rattle.std.specs.Prelude.{◌≡◌, None, IfOk};
+ghost use Rattle.lp_definitions.specs.LinearProgram.{IsLinearProgram};
 ghost use Rattle.listing_tables.specs.Sheets.{IsSheet};
-ghost use Rattle.listing_definitions.specs.Report.{ChainEnd, EndsAt};
 ghost use Rattle.question_definitions.specs.Answers.{sweeper};
 ghost use Rattle.parametric_request.specs.Asking.{Serves, changing_of};
 ghost use Rattle.run_definitions.specs.Verbs.{last_value};
 ghost use Rattle.walk_definitions.specs.Tests.{close_test};
 ghost use Rattle.walk_definitions.specs.Reading.{close_in, tested};
 ghost use Rattle.listing_readers.specs.Read.{sheet_shown};
-ghost use Rattle.listing_answers.specs.Passing.{Judges};
 ghost use Rattle.listing_answers.specs.Words.{Found};
-ghost use Rattle.listing_answers.specs.Closings.{IsValueRead, IsEndRead, Closes, ClosingFits, unbounded_in, infeasible_in, row_close_in, set_close_in, close_after_in, value_of};
+ghost use Rattle.listing_answers.specs.Closings.{IsValueRead, IsEndRead, Closes, unbounded_in, infeasible_in, row_close_in, set_close_in, close_after_in, value_of};
 ghost use Rattle.listing_answers.specs.Taken.{Taken};
 
 use crate::answer::Stop;
@@ -132,7 +130,8 @@ fn close_after(
     request: &ParametricRequest,
 ) -> Result<Option<Closing>, NoMemory>
     requires { IsSheet sheet }
-    ensures { IfOk result (Found (Closes (sheet_shown sheet.entry)) (close_after_in (sheet_shown sheet.entry) (changing_of request.now.name request.now.change) cursor.old) cursor.new) }
+    ensures { IfOk result (Found (Closes (sheet_shown sheet.entry)) (close_after_in (sheet_shown sheet.entry)
+        (changing_of request.now.name request.now.change) cursor.old) cursor.new) }
 {
     match &request.change {
         Change::Row(_) => row_close(alloc, cursor, sheet),
@@ -148,7 +147,8 @@ fn read_closing(
     request: &ParametricRequest,
 ) -> Result<Option<Closing>, NoMemory>
     requires { IsSheet sheet }
-    ensures { IfOk result (Found (Closes (sheet_shown sheet.entry)) (close_in (sheet_shown sheet.entry) (sweeper (changing_of request.now.name request.now.change)) cursor.old) cursor.new) }
+    ensures { IfOk result (Found (Closes (sheet_shown sheet.entry)) (close_in (sheet_shown sheet.entry) (sweeper
+        (changing_of request.now.name request.now.change)) cursor.old) cursor.new) }
 {
     if !cursor.take(solver_word(solver_of(request))) {
         return Ok(None);
@@ -169,7 +169,8 @@ pub fn read_close(
     requires no_change { sheet.lp.now.change ≡ None }
     requires serves { Serves sheet.problem.now sheet.lp.now request.now }
     ensures { let changing = changing_of request.now.name request.now.change in
-        Taken (λ end close. end ≡ last_value close) (tested (close_test (sheet_shown sheet.entry) changing request.now.to last) (close_in (sheet_shown sheet.entry) (sweeper changing) cursor.old)) cursor.new result }
+        Taken (λ end close. end ≡ last_value close) (tested (close_test (sheet_shown sheet.entry) changing request.now.to last) (close_in
+        (sheet_shown sheet.entry) (sweeper changing) cursor.old)) cursor.new result }
 {
     let Some(closing) = read_closing(alloc, cursor, sheet, request)? else {
         return Err(Stop::Wrong);

@@ -1,8 +1,8 @@
 // The tests of how a parametric run closes.
 ghost use Rattle.std.specs.Prelude.{◌≡◌, [], ◌∷◌, None, is_some, unwrap_or, length, map, if◌then◌else◌};
 ghost use Rattle.exact_values.specs.Rational.{ℚ, zero_ℚ, ◌+ℚ◌, ◌*ℚ◌};
-ghost use Rattle.exact_values.specs.Tests.{eq_ℚ, lt_ℚ, le_ℚ};
-ghost use Rattle.lp_definitions.specs.LinearProgram.{IsLinearProgram, IsRow, IsVariable, size, value_at, lower_of, upper_of, for_min};
+ghost use Rattle.exact_values.specs.Tests.{eq_ℚ, lt_ℚ};
+ghost use Rattle.lp_definitions.specs.LinearProgram.{IsLinearProgram, IsRow, IsVariable, size, value_at, lower_of, upper_of};
 ghost use Rattle.check_definitions.specs.Steps.{comparison, verdict_of, in_turn, sum_steps, sum_of};
 ghost use Rattle.check_definitions.specs.Checks.{limit_product, ray_limits, multiplied, multiplied_among};
 ghost use Rattle.question_definitions.specs.Answers.{Changing};
@@ -51,7 +51,8 @@ fn check_unbounded_past(
     requires row { IsRow sheet.lp.now.matrix row }
     requires point_places { length point.now ≡ size sheet.lp.now.matrix }
     requires direction_places { length direction.now ≡ size sheet.lp.now.matrix }
-    ensures { (changing : Changing) → Judges (unbounded_past (sheet_shown sheet.entry) changing row value (value_at point.now) (value_at direction.now)) result }
+    ensures { (changing : Changing) → Judges (unbounded_past (sheet_shown sheet.entry) changing row value (value_at point.now)
+        (value_at direction.now)) result }
 {
     judge(check_point(sheet.lp, point))?;
     judge(check_direction(sheet.lp, direction))?;
@@ -76,7 +77,8 @@ fn limit_met(lp: &Lp, multiplier: Frac, k: u32) -> Option<Frac>
 // A sum, and a multiplier times the limit that it meets.
 fn plus_met(sum: Frac, multiplier: Frac, limit: Option<Frac>, k: u32) -> Result<Frac, Stop>
     ensures { let met = unwrap_or limit zero_ℚ in
-        Makes (λ next. next ≡ sum +ℚ multiplier *ℚ met) (verdict_of (comparison 2 k (is_some limit) ∷ sum_steps sum (record { left = multiplier; right = met } ∷ []))) result }
+        Makes (λ next. next ≡ sum +ℚ multiplier *ℚ met) (verdict_of (comparison 2 k (is_some limit) ∷ sum_steps sum
+        (record { left = multiplier; right = met } ∷ []))) result }
 {
     match limit {
         Some(limit) => plus_product(sum, multiplier, limit),
@@ -102,7 +104,8 @@ fn plus_limit(lp: &Lp, ray: &[Frac], sum: Frac, k: u32) -> Result<Frac, Stop>
 fn limit_sum(lp: &Lp, ray: &[Frac]) -> Result<Frac, Stop>
     requires { length ray.now ≡ size lp.now.matrix }
     ensures { let w = value_at ray.now in
-        Makes (λ sum. sum ≡ sum_of zero_ℚ (map (limit_product lp.now w) (multiplied lp.now w))) (verdict_of (ray_limits lp.now w zero_ℚ (multiplied lp.now w))) result }
+        Makes (λ sum. sum ≡ sum_of zero_ℚ (map (limit_product lp.now w) (multiplied lp.now w))) (verdict_of (ray_limits lp.now w zero_ℚ
+        (multiplied lp.now w))) result }
 {
     let mut sum = Frac::whole(0);
     for i in 0..lp.number_of_variables() {
@@ -139,7 +142,8 @@ fn check_infeasible_past(
     requires serves { Serves sheet.problem.now sheet.lp.now request.now }
     requires shifts { length shift.now ≡ sheet.lp.now.matrix.rows }
     requires places { length ray.now ≡ size sheet.lp.now.matrix }
-    ensures { Judges (infeasible_past (sheet_shown sheet.entry) (changing_of request.now.name request.now.change) shift.now value (value_at ray.now)) result }
+    ensures { Judges (infeasible_past (sheet_shown sheet.entry) (changing_of request.now.name request.now.change) shift.now value
+        (value_at ray.now)) result }
 {
     let program = program_at(alloc, sheet, request, value)?;
     judge(check_combination(&program, ray))?;
@@ -170,7 +174,8 @@ fn check_past_unbounded(
 ) -> Result<(), Stop>
     requires row { IsRow sheet.lp.now.matrix row }
     requires pair { IsPairOf sheet.lp.now pair.now }
-    ensures { (changing : Changing) → Judges (past_test max last value (unbounded_past (sheet_shown sheet.entry) changing row value (value_at pair.now.point.items) (value_at pair.now.direction.items))) result }
+    ensures { (changing : Changing) → Judges (past_test max last value (unbounded_past (sheet_shown sheet.entry) changing row value
+        (value_at pair.now.point.items) (value_at pair.now.direction.items))) result }
 {
     ask(is_equal(value, last))?;
     ask(value.is_less(max))?;
@@ -187,7 +192,8 @@ fn check_unbounded(
 ) -> Result<(), Stop>
     requires serves { Serves sheet.problem.now sheet.lp.now request.now }
     requires pair { IsPairOf sheet.lp.now pair.now }
-    ensures { Judges (unbounded_test (sheet_shown sheet.entry) (changing_of request.now.name request.now.change) request.now.to last value pair.now.point.items pair.now.direction.items) result }
+    ensures { Judges (unbounded_test (sheet_shown sheet.entry)
+        (changing_of request.now.name request.now.change) request.now.to last value pair.now.point.items pair.now.direction.items) result }
 {
     match &request.change {
         Change::Row(row) => check_past_unbounded(sheet, *row, value, last, request.to, pair),
@@ -210,7 +216,8 @@ fn check_past_infeasible(
     requires serves { Serves sheet.problem.now sheet.lp.now request.now }
     requires shifts { length shift.now ≡ sheet.lp.now.matrix.rows }
     requires places { length ray.now ≡ size sheet.lp.now.matrix }
-    ensures { Judges (past_test request.now.to last value (infeasible_past (sheet_shown sheet.entry) (changing_of request.now.name request.now.change) shift.now value (value_at ray.now))) result }
+    ensures { Judges (past_test request.now.to last value (infeasible_past (sheet_shown sheet.entry)
+        (changing_of request.now.name request.now.change) shift.now value (value_at ray.now))) result }
 {
     ask(is_equal(value, last))?;
     ask(value.is_less(request.to))?;
@@ -230,7 +237,8 @@ fn check_infeasible(
     requires no_change { sheet.lp.now.change ≡ None }
     requires serves { Serves sheet.problem.now sheet.lp.now request.now }
     requires places { length ray.now ≡ size sheet.lp.now.matrix }
-    ensures { Judges (infeasible_test (sheet_shown sheet.entry) (changing_of request.now.name request.now.change) request.now.to last value ray.now) result }
+    ensures { Judges (infeasible_test (sheet_shown sheet.entry)
+        (changing_of request.now.name request.now.change) request.now.to last value ray.now) result }
 {
     match &request.change {
         Change::Row(_) => Err(Stop::Wrong),
@@ -250,7 +258,8 @@ pub fn check_closing(
     requires no_change { sheet.lp.now.change ≡ None }
     requires serves { Serves sheet.problem.now sheet.lp.now request.now }
     requires fits { ClosingFits sheet.lp.now closing.now }
-    ensures { Judges (closing_test (sheet_shown sheet.entry) (changing_of request.now.name request.now.change) request.now.to last closing.now) result }
+    ensures { Judges (closing_test (sheet_shown sheet.entry) (changing_of request.now.name request.now.change) request.now.to last
+        closing.now) result }
 {
     match closing {
         Closing::At(value) => check_end_at(*value, last, request.to),

@@ -59,7 +59,8 @@ fn limits_of_row(
 ) -> Result<(Option<Frac>, Option<Frac>), Stop>
     requires row { IsRow sheet.lp.now.matrix i }
     requires shifts { length shift.now ≡ sheet.lp.now.matrix.rows }
-    ensures { let by = value_at shift.now i in Makes (λ made. (made.0 ≡ moved theta by (lower_of sheet.entry.lp.now i)) × (made.1 ≡ moved theta by (upper_of sheet.entry.lp.now i)))
+    ensures { let by = value_at shift.now i in Makes (λ made. (made.0 ≡ moved theta by (lower_of sheet.entry.lp.now i)) ×
+        (made.1 ≡ moved theta by (upper_of sheet.entry.lp.now i)))
         (verdict_of (row_steps (sheet_shown sheet.entry) shift.now theta i)) result }
 {
     let by = shift[i as usize - 1];
@@ -112,7 +113,8 @@ fn shifted(alloc: Global, sheet: Sheet<'_>, shift: &[Frac], theta: Frac) -> Resu
     requires lawful { IsLinearProgram sheet.lp.now }
     requires no_change { sheet.lp.now.change ≡ None }
     requires shifts { length shift.now ≡ sheet.lp.now.matrix.rows }
-    ensures { Makes (λ p. p ≡ rhs_family sheet.entry.lp.now shift.now theta) (verdict_of (shift_steps (sheet_shown sheet.entry) shift.now theta)) result }
+    ensures { Makes (λ p. p ≡ rhs_family sheet.entry.lp.now shift.now theta) (verdict_of (shift_steps
+        (sheet_shown sheet.entry) shift.now theta)) result }
 {
     let rows = limits_of_rows(alloc, sheet, shift, theta)?;
     let limits = with_columns(sheet.lp, rows)?;
@@ -139,7 +141,8 @@ pub fn program_at(
     requires no_change { sheet.lp.now.change ≡ None }
     requires serves { ServesChange sheet.problem.now sheet.lp.now request.now.name request.now.change }
     ensures { let changing = changing_of request.now.name request.now.change in
-        Makes (λ p. p ≡ family_of (sheet_shown sheet.entry) changing theta) (verdict_of (making_steps (sheet_shown sheet.entry) changing theta)) result }
+        Makes (λ p. p ≡ family_of (sheet_shown sheet.entry) changing theta) (verdict_of (making_steps
+        (sheet_shown sheet.entry) changing theta)) result }
 {
     match &request.change {
         Change::Row(row) => with_row(alloc, sheet.lp, *row, theta),
@@ -157,7 +160,8 @@ pub fn along(
 ) -> Result<Vec<Frac>, Stop>
     requires value_places { length value.now ≡ size sheet.lp.now.matrix }
     requires rate_places { length rate.now ≡ size sheet.lp.now.matrix }
-    ensures { Makes (λ made. IsAlong sheet.entry.lp.now theta value.now rate.now made.items) (verdict_of (along_steps (sheet_shown sheet.entry) theta value.now rate.now)) result }
+    ensures { Makes (λ made. IsAlong sheet.entry.lp.now theta value.now rate.now made.items) (verdict_of (along_steps
+        (sheet_shown sheet.entry) theta value.now rate.now)) result }
 {
     let mut made = Vec::new(alloc);
     for i in 0..sheet.lp.number_of_variables() {

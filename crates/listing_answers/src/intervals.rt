@@ -171,7 +171,8 @@ fn read_interval(
     from: Frac,
 ) -> Result<Option<Part>, NoMemory>
     requires { IsSheet sheet }
-    ensures { IfOk result (Found (IsPart (sheet_shown sheet.entry) from) (interval_in (sheet_shown sheet.entry) number from cursor.old) cursor.new) }
+    ensures { IfOk result (Found (IsPart (sheet_shown sheet.entry) from) (interval_in
+        (sheet_shown sheet.entry) number from cursor.old) cursor.new) }
 {
     let Some(to) = part_end(cursor, number, from) else {
         return Ok(None);
@@ -197,7 +198,8 @@ fn check_end(
     requires serves { Serves sheet.problem.now sheet.lp.now request.now }
     requires counted { Counted sheet.lp.now columns.now }
     ensures { let changing = changing_of request.now.name request.now.change in
-        Makes (IsEnd (sheet_shown sheet.entry) changing theta columns.now) (end_verdict (sheet_shown sheet.entry) changing theta columns.now) result }
+        Makes (IsEnd (sheet_shown sheet.entry) changing theta columns.now) (end_verdict
+        (sheet_shown sheet.entry) changing theta columns.now) result }
 {
     let program = program_at(alloc, sheet, request, theta)?;
     let point = along(alloc, sheet, theta, &columns.value, &columns.value_rate)?;
@@ -234,7 +236,8 @@ fn holds_by_sign(x: Frac, negative: bool, positive: bool) -> bool
 // Whether each point stands at its upper limit.
 fn are_at_upper(start: &End, end: &End, k: u32) -> bool
     requires { AreEnds start.now end.now k }
-    ensures { result ≡ (is_at (upper_of start.now.program k) (value_at start.now.point.items k) && is_at (upper_of end.now.program k) (value_at end.now.point.items k)) }
+    ensures { result ≡ (is_at (upper_of start.now.program k) (value_at start.now.point.items k) && is_at (upper_of end.now.program k)
+        (value_at end.now.point.items k)) }
 {
     let place = k as usize - 1;
     let first = start.point[place];
@@ -245,7 +248,8 @@ fn are_at_upper(start: &End, end: &End, k: u32) -> bool
 // Whether each point stands at its lower limit.
 fn are_at_lower(start: &End, end: &End, k: u32) -> bool
     requires { AreEnds start.now end.now k }
-    ensures { result ≡ (is_at (lower_of start.now.program k) (value_at start.now.point.items k) && is_at (lower_of end.now.program k) (value_at end.now.point.items k)) }
+    ensures { result ≡ (is_at (lower_of start.now.program k) (value_at start.now.point.items k) && is_at (lower_of end.now.program k)
+        (value_at end.now.point.items k)) }
 {
     let place = k as usize - 1;
     let first = start.point[place];
@@ -256,7 +260,8 @@ fn are_at_lower(start: &End, end: &End, k: u32) -> bool
 // The price asks for one limit at both ends.
 fn check_price(start: &End, end: &End, price: Frac, k: u32) -> Result<(), Stop>
     requires { AreEnds start.now end.now k }
-    ensures { Judges (verdict_of (keeps_limit start.now.program end.now.program (value_at start.now.point.items) (value_at end.now.point.items) price k)) result }
+    ensures { Judges (verdict_of (keeps_limit start.now.program end.now.program (value_at start.now.point.items)
+        (value_at end.now.point.items) price k)) result }
 {
     let program = &start.program;
     let price = counted_for(program.sense, price);
@@ -308,7 +313,8 @@ fn check_part(
     requires no_change { sheet.lp.now.change ≡ None }
     requires serves { Serves sheet.problem.now sheet.lp.now request.now }
     requires counted { Counted sheet.lp.now part.now.columns }
-    ensures { Judges (part_verdict (sheet_shown sheet.entry) (changing_of request.now.name request.now.change) from part.now.to part.now.columns is_first request.now.to) result }
+    ensures { Judges (part_verdict (sheet_shown sheet.entry) (changing_of request.now.name request.now.change) from part.now.to
+        part.now.columns is_first request.now.to) result }
 {
     ask(goes_on(from, part.to, is_first))?;
     ask(is_at_most(part.to, request.to))?;
@@ -331,7 +337,8 @@ pub fn read_part(
     requires no_change { sheet.lp.now.change ≡ None }
     requires serves { Serves sheet.problem.now sheet.lp.now request.now }
     ensures { let changing = changing_of request.now.name request.now.change in
-        Taken (λ to interval. to ≡ interval.to) (tested (interval_test (sheet_shown sheet.entry) changing (nat_eq number 1) request.now.to) (interval_in (sheet_shown sheet.entry) number last cursor.old)) cursor.new result }
+        Taken (λ to interval. to ≡ interval.to) (tested (interval_test (sheet_shown sheet.entry) changing
+        (nat_eq number 1) request.now.to) (interval_in (sheet_shown sheet.entry) number last cursor.old)) cursor.new result }
 {
     let Some(part) = read_interval(alloc, cursor, sheet, number, last)? else {
         return Err(Stop::Wrong);

@@ -73,7 +73,8 @@ fn take_head(
     label: &[u8],
     name: &[u8],
 ) -> bool
-    ensures { left_after (verb.now ++ (from.now ++ (value.now ++ (label.now ++ (name.now ++ codes "\n"))))) cursor.old ≡ taken result cursor.new }
+    ensures { left_after (verb.now ++ (from.now ++ (value.now ++ (label.now ++
+        (name.now ++ codes "\n"))))) cursor.old ≡ taken result cursor.new }
 {
     cursor.take(verb) && take_from(cursor, from, value, label, name)
 }
@@ -116,7 +117,8 @@ pub fn read_opening(
     requires lawful { IsLinearProgram sheet.lp.now }
     requires no_change { sheet.lp.now.change ≡ None }
     requires serves { Serves sheet.problem.now sheet.lp.now request.now }
-    ensures { (limit : ℕ) → Taken IsOpened (opening_in (sheet_shown sheet.entry) (sweep_of limit request.now) cursor.old) cursor.new result }
+    ensures { (limit : ℕ) → Taken IsOpened (opening_in (sheet_shown sheet.entry)
+        (sweep_of limit request.now) cursor.old) cursor.new result }
 {
     let Some(stated) = read_verdict(alloc, cursor, sheet, solver_of(request))? else {
         return Err(Stop::Wrong);

@@ -46,7 +46,8 @@ fn mark_word(mark: Mark) -> &'static [u8]
 
 // Takes the heads of the rows.
 fn take_rows_heads(cursor: &mut Cursor<'_>) -> bool
-    ensures { left_after (codes "\nSECTION 1 - ROWS\nNUMBER ROW AT ACTIVITY SLACK LOWER UPPER DUAL\n") cursor.old ≡ taken result cursor.new }
+    ensures { left_after (codes "\nSECTION 1 - ROWS\nNUMBER ROW AT ACTIVITY SLACK LOWER UPPER DUAL\n") cursor.old ≡ taken result
+        cursor.new }
 {
     cursor.take(b"\nSECTION 1 - ROWS\nNUMBER ROW AT ACTIVITY SLACK LOWER UPPER DUAL\n")
 }
@@ -61,7 +62,8 @@ fn take_columns_head(cursor: &mut Cursor<'_>) -> bool
 // Takes a mark and the heads of the rows.
 #[tactic(auto, using(walk_definitions::proofs::Texts::left_after_both))]
 fn take_mark(cursor: &mut Cursor<'_>, mark: Mark) -> bool
-    ensures { left_after (mark_text mark ++ codes "\nSECTION 1 - ROWS\nNUMBER ROW AT ACTIVITY SLACK LOWER UPPER DUAL\n") cursor.old ≡ taken result cursor.new }
+    ensures { left_after (mark_text mark ++ codes "\nSECTION 1 - ROWS\nNUMBER ROW AT ACTIVITY SLACK LOWER UPPER DUAL\n") cursor.old ≡
+        taken result cursor.new }
 {
     cursor.take(mark_word(mark)) && take_rows_heads(cursor)
 }
@@ -143,7 +145,8 @@ fn all_firsts(alloc: Global, rows: &[Numbers], columns: &[Numbers]) -> Result<Ve
 
 // The second numbers of two tables, one after the other.
 fn all_seconds(alloc: Global, rows: &[Numbers], columns: &[Numbers]) -> Result<Vec<Frac>, NoMemory>
-    ensures { IfOk result (λ values. values.items ≡ map (λ numbers. numbers.second) rows.now ++ map (λ numbers. numbers.second) columns.now) }
+    ensures { IfOk result (λ values. values.items ≡ map (λ numbers. numbers.second) rows.now ++ map
+        (λ numbers. numbers.second) columns.now) }
 {
     let mut values = seconds(alloc, rows)?;
     let more = seconds(alloc, columns)?;

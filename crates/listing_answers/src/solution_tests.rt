@@ -1,10 +1,8 @@
 // The tests of what SOLUTION prints.
 ghost use Rattle.std.specs.Prelude.{◌≡◌, length};
 ghost use Rattle.std.specs.List.{flat_map};
-ghost use Rattle.exact_values.specs.Rational.{◌-ℚ◌};
-ghost use Rattle.frac128.specs.declared.Op.TheVariants.{Sub};
 ghost use Rattle.lp_definitions.specs.LinearProgram.{IsLinearProgram, IsRow, size, value_at};
-ghost use Rattle.check_definitions.specs.Steps.{operation, verdict_of};
+ghost use Rattle.check_definitions.specs.Steps.{verdict_of};
 ghost use Rattle.answer_definitions.specs.Lines.{row_numbers};
 ghost use Rattle.walk_definitions.specs.Tests.{slack_steps, best_test};
 ghost use Rattle.listing_readers.specs.Read.{sheet_shown};
@@ -38,7 +36,8 @@ fn check_slacks(sheet: Sheet<'_>, point: &[Frac], slacks: &[Frac]) -> Result<(),
     requires lawful { IsLinearProgram sheet.lp.now }
     requires point_places { length point.now ≡ size sheet.lp.now.matrix }
     requires slack_places { length slacks.now ≡ sheet.lp.now.matrix.rows }
-    ensures { Judges (verdict_of (flat_map (slack_steps (sheet_shown sheet.entry) (value_at point.now) (value_at slacks.now)) (row_numbers sheet.entry.lp.now))) result }
+    ensures { Judges (verdict_of (flat_map (slack_steps (sheet_shown sheet.entry) (value_at point.now) (value_at slacks.now))
+        (row_numbers sheet.entry.lp.now))) result }
 {
     let lp = sheet.lp;
     for i in 0..lp.rows {
@@ -83,7 +82,8 @@ fn check_values(
 pub fn check_printed(sheet: Sheet<'_>, mark: Mark, printed: &Printed) -> Result<(), Stop>
     requires lawful { IsLinearProgram sheet.lp.now }
     requires counted { Counted sheet.lp.now printed.now }
-    ensures { Judges (printed_test (sheet_shown sheet.entry) mark (value_at printed.now.point.items) (value_at printed.now.prices.items) (value_at printed.now.slacks.items)) result }
+    ensures { Judges (printed_test (sheet_shown sheet.entry) mark (value_at printed.now.point.items) (value_at printed.now.prices.items)
+        (value_at printed.now.slacks.items)) result }
 {
     check_values(
         sheet,

@@ -37,7 +37,8 @@ pub fn read_run(
     requires lawful { IsLinearProgram sheet.lp.now }
     requires no_change { sheet.lp.now.change ≡ None }
     requires serves { Serves sheet.problem.now sheet.lp.now request.now }
-    ensures { (limit : ℕ) → Taken (λ last run. last ≡ last_value run.1) (run_in (sheet_shown sheet.entry) (sweep_of limit request.now) cursor.old 1 request.now.from cursor.old) cursor.new result }
+    ensures { (limit : ℕ) → Taken (λ last run. last ≡ last_value run.1) (run_in (sheet_shown sheet.entry)
+        (sweep_of limit request.now) cursor.old 1 request.now.from cursor.old) cursor.new result }
 {
     let room = cursor.rest().len();
     let mut last = request.from;

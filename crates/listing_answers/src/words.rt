@@ -1,5 +1,5 @@
 // The words of verdicts.
-ghost use Rattle.std.specs.Prelude.{◌≡◌, codes, option_map};
+ghost use Rattle.std.specs.Prelude.{◌≡◌, option_map};
 ghost use Rattle.walk_definitions.specs.Words.{fraction_in, count_in};
 ghost use Rattle.listing_answers.specs.Words.{labelled, refusal_in, IsCheckRead, IsCheckAfter, IsHeadRead};
 
