@@ -1,19 +1,20 @@
 #!/usr/bin/env bash
-# Proves every crate below the program, and builds it. The first time that takes some 25 minutes on four processors; what is
-# proved stays so, and later runs prove only what changed.
-# usage: scripts/build.sh      a line for each crate, and in the end the program's path; ends with 70 where it can't be built
+# Proves every crate below the programs mps360 and mps360check, or below the one that is named, and builds them. The first time
+# that takes some 25 minutes on four processors for mps360, and more for both; what is proved stays so, and later runs prove only
+# what changed.
+# usage: scripts/build.sh [NAME]     a line for each crate, and in the end each program's path; ends with 64 for wrong use, 70 where
+# one can't be built
 set -eu
 case ${1:-} in
-    "") ;;
     -h | --help)
-        sed -n '2,4s/^# //p' "$0"
+        sed -n '2,6s/^# //p' "$0"
         exit 0
         ;;
-    *)
-        echo "build.sh: no words are wanted" >&2
-        exit 64
-        ;;
 esac
+[[ $# -eq 0 || $# -eq 1 && $1 =~ ^mps360(check)?$ ]] || {
+    echo "usage: build.sh [mps360 | mps360check]" >&2
+    exit 64
+}
 top=$(cd "$(dirname "$0")/.." && pwd)
 command -v rt >/dev/null || {
     echo "build.sh: no command rt on the path: put Rattle's kit there" >&2
@@ -23,11 +24,19 @@ command -v rt >/dev/null || {
 room=$(mktemp -d)
 trap 'rm -rf "$room"' EXIT
 
-# the crates below the program, itself included, by crates.txt
-awk '{ sub(/#.*/, "") }
+# the programs that crates.txt lists, and the crates below them, themselves included
+names=()
+for name in ${1:-mps360 mps360check}; do
+    if grep -q "^$name:" "$top/crates.txt"; then names+=("$name"); fi
+done
+[ ${#names[@]} -gt 0 ] || {
+    echo "build.sh: crates.txt lists no ${1:-mps360}" >&2
+    exit 70
+}
+awk -v names="${names[*]}" '{ sub(/#.*/, "") }
     index($0, ":") { line[++lines] = $0; name = $1; sub(/:$/, "", name); named[lines] = name; sub(/^[^:]*:/, ""); below[name] = $0 }
     END {
-        wanted[1] = "mps360"; last = 1
+        last = split(names, wanted, " ")
         for (at = 1; at <= last; at++) {
             if (!(wanted[at] in below) || (wanted[at] in seen)) continue
             seen[wanted[at]] = 1
@@ -37,7 +46,8 @@ awk '{ sub(/#.*/, "") }
         for (k = 1; k <= lines; k++) if (named[k] in seen) print line[k]
     }' "$top/crates.txt" >"$room/crates.txt"
 count=$(wc -l <"$room/crates.txt")
-echo "the program and the crates below it: $count. What is proved already is passed over."
+told=${names[*]}
+echo "${told/ / and } with the crates below: $count. What is proved already is passed over."
 
 # The gate's own command, over a copy that has these crates alone, without must-fail edits: it proves as many at once as there are
 # processors, and keeps what it has proved.
@@ -57,10 +67,12 @@ if ! tail -n 1 "$room/log" | grep -q ', 0 failed$'; then
     echo "build.sh: not built; the last lines of rt stand above" >&2
     exit 70
 fi
-program=$top/crates/mps360/out/mps360
-mkdir -p "${program%/*}"
-cp "$room/crates/mps360/out/mps360" "$program"
-chmod 755 "$program"
-# as old as the copy, so that it isn't fresh where a source was changed while it was proved
-touch -r "$room/crates.txt" "$program"
-echo "built in $(((SECONDS - begun) / 60)) minutes $(((SECONDS - begun) % 60)) seconds: $program"
+for name in "${names[@]}"; do
+    program=$top/crates/$name/out/$name
+    mkdir -p "${program%/*}"
+    cp "$room/crates/$name/out/$name" "$program"
+    chmod 755 "$program"
+    # as old as the copy, so that it isn't fresh where a source was changed while it was proved
+    touch -r "$room/crates.txt" "$program"
+    echo "built in $(((SECONDS - begun) / 60)) minutes $(((SECONDS - begun) % 60)) seconds: $program"
+done

@@ -79,7 +79,13 @@ if command -v python3 >/dev/null; then
         bash scripts/examples.sh || fail "the program prints other listings of examples/"
         python3 scripts/faults.py --run || fail "the program ends the jobs of examples/faults otherwise"
     else
-        echo "check: no fresh proved program; examples/ aren't run"
+        echo "check: no fresh proved program mps360; examples/ aren't run"
+    fi
+    if scripts/program.sh --fresh mps360check >/dev/null; then
+        python3 scripts/check_listings.py --proved --jobs 0 40 || fail "the checker says otherwise of an altered listing than its rules"
+        python3 scripts/random_jobs.py --attest 0 100 || fail "the checker says otherwise of a job's own listing than its rules"
+    else
+        echo "check: no fresh proved program mps360check; no altered listing is attested"
     fi
 fi
 

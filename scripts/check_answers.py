@@ -4,8 +4,8 @@ the rules, and at random; solutions of other programs as listings; listings as V
 scripts/check.sh runs it.
 
 usage: check_answers.py      ends with 1 where a result is another; esolver of QSopt_ex is asked where it is installed"""
-import contextlib, io, json, pathlib, shutil, subprocess, sys, tempfile
-import check_listings, check_vipr, expected_attesting, listing2vipr, runner, solution2listing, vipr2listing
+import contextlib, io, json, os, pathlib, shutil, subprocess, sys, tempfile
+import check_listings, check_vipr, expected_attesting, expected_listing, faults, listing2vipr, random_jobs, runner, solution2listing, vipr2listing
 
 SCRIPTS, EXAMPLES, KNOWN = runner.HERE, runner.TOP / "examples", runner.HERE / "known"
 GREATEST = 2 ** 127 - 1
@@ -28,6 +28,12 @@ def called(module, *words):
         except SystemExit as end:
             status = end.code
     return status, out.getvalue(), told.getvalue()
+
+
+def changed_lines(text, *changes):
+    for old, new in changes:
+        text = text.replace(old, new, 1)
+    return text
 
 
 # ---- listings altered by hand: a job, what is changed of its listing (the old text and the new one; None is the end of it), and the answer
@@ -114,6 +120,53 @@ CASES = (
     (KNOWN / "range-two", (), "OPEN LINE 4"),
     (EXAMPLES / "revise", (), "OPEN LINE 3"),
     (EXAMPLES / "punch", (("CARDS 24", "CARDS 25"),), "WRONG LINE 4"),
+    (STORE, (("SOLUTION", None), ("", "END 0\n")), "WRONG LINE 5"),
+    (STORE, (("PRIMAL", None), ("", "PRIMAL INFEASIBLE STEPS 0 RAY CHECKED\n    2 SPACE    1\nTITLE NO PLAN KEEPS ALL LIMITS\nEND 0\n")), "WRONG LINE 4"),
+    (STORE, (("PRIMAL", None), ("", "PRIMAL UNBOUNDED STEPS 0 OBJECTIVE 0 CHECKED\n    1 COST     0 0\n    2 SPACE    0 0\n    3 MONEY    0 0\n    4 FLOUR    0 0\n"
+                                    "    5 SUGAR    0 0\nEND 2\n")), "WRONG LINE 4"),
+    (CONFLICT, (("RAY CHECKED\n" + RAY, "CROSSED 0 CHECKED\n"), ("STEPS 2", "STEPS 0")), "WRONG LINE 4"),
+    (CONFLICT, (("RAY CHECKED\n" + RAY, "CROSSED 7 CHECKED\n"), ("STEPS 2", "STEPS 0")), "WRONG LINE 4"),
+    (KNOWN / "infeasible-ray", (), "ATTESTED 3 REPORTS"),
+    (KNOWN / "testprob-primal", (), "ATTESTED 4 REPORTS"),
+    (TWO, (("TO 5", "TO 4"),), "WRONG LINE 3"),
+    (TWO, (("INTERVAL 2 FROM 1", "INTERVAL 2 FROM 2"),), "WRONG LINE 3"),
+    (TWO, (("INTERVAL 2 FROM 1", "INTERVAL 1 FROM 1"),), "WRONG LINE 3"),
+    (TWO, (("INTERVAL 1 FROM 0", "INTERVAL 1 FROM 1/2"),), "WRONG LINE 3"),
+    (TWO, (("PARAOBJ FROM", None), ("", "PARAOBJ OPTIMAL STEPS 0 OBJECTIVE -8 CHECKED\nEND 0\n")), "WRONG LINE 3"),
+    (LAMPS, (), "ATTESTED 4 REPORTS"),
+    (LAMPS, (("PARAOBJ UNBOUNDED PAST 15", None), ("", "PARAOBJ ENDS AT 15\nEND 0\n")), "WRONG LINE 4"),
+    (KNOWN / "paraobj-unbounded-opening", (), "ATTESTED 3 REPORTS"),
+    (KNOWN / "paraobj-unbounded-opening", (("OBJECTIVE 0", "OBJECTIVE 1"),), "WRONG LINE 3"),
+    (ONE, (), "ATTESTED 3 REPORTS"),
+    (ONE, (("    2 LOW      -1\n    3 X        1\n", ""),), "WRONG LINE 3"),
+    (ONE, (("    2 LOW      -1\n    3 X        1\n", "    3 X        1\n    2 LOW      -1\n"),), "WRONG LINE 3"),
+    (ONE, (("    2 LOW      -1\n", "    1 COST     0\n    2 LOW      -1\n"),), "WRONG LINE 3"),
+    (ONE, (("PAST 2", "PAST 3"),), "WRONG LINE 3"),
+    (ONE, (("TO 2", "TO 3"),), "WRONG LINE 3"),
+    (DAIRY, (), "ATTESTED 5 REPORTS"),
+    (KNOWN / "pararhs-two-intervals", (), "ATTESTED 3 REPORTS"),
+    (KNOWN / "pararhs-point-interval", (), "ATTESTED 3 REPORTS"),
+    (EXAMPLES / "ranging", (), "OPEN LINE 19"),
+    (EXAMPLES / "punch", (), "ATTESTED 4 REPORTS"),
+    (EXAMPLES / "seasons", (), "ATTESTED 8 REPORTS"),
+    (KNOWN / "iteration-limit-2", (), "OPEN LINE 3"),
+)
+# the same where the job is changed too: a job, what is changed of it, what is changed of its listing, and the answer
+PRIMAL = "PRIMAL OPTIMAL STEPS 0 OBJECTIVE 0 CHECKED\n"
+SHOWN = STORE.with_suffix(".listing").read_text().partition(PRIMAL)[2].removesuffix("END 0\n")
+PLAN_OF_TEST = (KNOWN / "testprob-primal.listing").read_text().partition("SOLUTION")[2].removesuffix("END 0\n")
+BETWEEN = ("         SOLUTION\n", "         TITLE('SO')\n         SOLUTION\n")
+JOBS = (
+    (STORE, (("         SOLUTION\n", ""),), ((SHOWN, ""),), "OPEN LINE 4"),
+    (STORE, (("         SOLUTION\n", ""),), ((SHOWN, ""), ("END 0", "END 1")), "OPEN LINE 4"),
+    (STORE, (("         SOLUTION\n", "         MOVE(XRHS,'WEEK')\n         SOLUTION\n"),), ((SHOWN + "END 0", "STOP 10 VERB FAULT 4 CARD 10"),), "OPEN LINE 4"),
+    (STORE, (("         SOLUTION\n", "         PRIMAL\n         SOLUTION\n"),), ((PRIMAL, PRIMAL * 2),), "OPEN LINE 4"),
+    (STORE, (BETWEEN,), (("SOLUTION OPTIMAL", "TITLE SO\nSOLUTION OPTIMAL"),), "ATTESTED 6 REPORTS"),
+    (STORE, (BETWEEN,), ((SHOWN + "END 0", "STOP 28 MEMORY"),), "OPEN LINE 5"),
+    (KNOWN / "testprob-primal", (("         SOLUTION\n", "         SOLUTION\n" * 2),), (("END 0\n", "SOLUTION" + PLAN_OF_TEST + "END 0\n"),), "ATTESTED 5 REPORTS"),
+    (KNOWN / "testprob-primal", (("         SOLUTION\n", "         SOLUTION\n" * 2),),
+     (("END 0\n", "SOLUTION" + changed_lines(PLAN_OF_TEST, ("BS 54 -54", "BS 55 -55"), ("BS 3 2", "BS 4 1"), ("LL 10 0", "BS 11 -1"), ("BS 4 1", "BS 5 1")) + "END 0\n"),),
+     "WRONG LINE 16"),
 )
 # sums that don't fit: a job, a listing, and the answer
 PARTS = "         PROGRAM\n{}         PEND\nNAME          T\nROWS\n N  COST\n{}ENDATA\n"
@@ -167,8 +220,33 @@ REFUSED = (
     ("", "STOP 8 CONTROL FAULT 1 CARD 1\n", "WRONG LINE 1"),
     ("\t\n", "STOP 13 CARD FAULT 4 CARD 1\n", "ATTESTED 0 REPORTS"),
     ("         PROGRAM\n         TITLE('END 0')\n         PEND\n", "TITLE END 0\nEND 0\n", "ATTESTED 1 REPORTS"),
+    ("", "X" * 64_000_000, "WRONG LINE 1"),
     ("", "X" * 64_000_001, "LONG LISTING"),
 )
+# two columns of equal worth: each way to share the limit is best
+EITHER = PARTS.format("         CONVERT\n         SETUP\n         PRIMAL\n         SOLUTION\n",
+                      " L  LIM\nCOLUMNS\n    X         COST      -1             LIM       1\n    Y         COST      -1             LIM       1\n"
+                      "RHS\n    B         LIM       4\n")
+EITHER_LISTING = """CONVERT T        ROWS 2 COLUMNS 2 ENTRIES 4
+SETUP   T        MIN
+PRIMAL OPTIMAL STEPS 1 OBJECTIVE -4 CHECKED
+SOLUTION OPTIMAL
+SECTION 1 - ROWS
+NUMBER ROW AT ACTIVITY SLACK LOWER UPPER DUAL
+    1 COST     BS -4 4 NONE NONE 0
+    2 LIM      UL 4 0 NONE 4 -1
+SECTION 2 - COLUMNS
+NUMBER COLUMN AT ACTIVITY COST LOWER UPPER REDUCED
+    3 X        BS {} -1 0 NONE 0
+    4 Y        BS {} -1 0 NONE 0
+END 0
+"""
+# names that begin with a blank, or have one inside, or are a number
+BLANKS = ("         PROGRAM\n         CONVERT\n         SETUP\n         PRIMAL\n         SOLUTION\n         PEND\nNAME           A\nROWS\n N   COST\n G  12 3\n"
+          "COLUMNS\n    1          COST     1              12 3      1\nRHS\n    B         12 3      4\nENDATA\n")
+ENDLESS_TITLES = "         PROGRAM\nBACK     TITLE('AGAIN')\n         GOTO(BACK)\n         PEND\n"
+STOP_17 = "STOP 17 STATEMENT LIMIT\n"
+STATUS = {"ATTESTED": 0, "WRONG": 40, "OPEN": 41, "UNCHECKED": 42, "LONG": 43}
 
 
 def changed(text, changes):
@@ -181,14 +259,55 @@ def changed(text, changes):
     return text
 
 
-def try_cases():
+def printed(job):
+    run = expected_listing.Run(job)
+    run.run()
+    return "\n".join(run.lines) + "\n"
+
+
+def cases():
+    "a job and its listing, and the answer to them"
     for place, changes, wanted in CASES:
-        listing = changed(place.with_suffix(".listing").read_text(), changes)
-        _, said = expected_attesting.attest(place.with_suffix(".job").read_bytes(), listing.encode())
-        check(f"expected_attesting.py: {place.name} {changes}: {said}, not {wanted}"[:400], said == wanted)
-    for job, listing, wanted in REFUSED:
+        yield place.with_suffix(".job").read_text(), changed(place.with_suffix(".listing").read_text(), changes), wanted
+    for place, in_job, changes, wanted in JOBS:
+        yield changed(place.with_suffix(".job").read_text(), in_job), changed(place.with_suffix(".listing").read_text(), changes), wanted
+    yield from REFUSED
+    for plan in (("4", "0"), ("0", "4"), ("3/2", "5/2")):
+        yield EITHER, EITHER_LISTING.format(*plan), "ATTESTED 4 REPORTS"
+    yield BLANKS, printed(BLANKS), "ATTESTED 4 REPORTS"
+    titles = "TITLE AGAIN\n"
+    for listing, wanted in ((titles * 50_000 + STOP_17, "ATTESTED 50000 REPORTS"), (titles * 50_000 + "END 0\n", "WRONG LINE 50001"), (titles * 49_999 + STOP_17, "WRONG LINE 50000")):
+        yield ENDLESS_TITLES, listing, wanted
+
+
+def try_faults(program):
+    "the one line of each job of examples/faults whose cards or whose control program are refused is attested, and with another card it is wrong"
+    tried = 0
+    for entry in faults.entries():
+        job = faults.job_of(entry["name"])
+        if job is None or not entry.get("stop", "").startswith(("STOP 8 ", "STOP 13 ")):
+            continue
+        tried += 1
+        for line, wanted in ((entry["stop"], "ATTESTED 0 REPORTS"), (entry["stop"] + "0", "WRONG LINE 1")):
+            listing = line.encode() + b"\n"
+            _, said = expected_attesting.attest(job, listing)
+            check(f"expected_attesting.py: {entry['name']}: {line}: {said}, not {wanted}", said == wanted)
+            if program:
+                check(f"mps360check: {entry['name']}: {line}: not {wanted}", runner.attested_by(program, job, listing) == (STATUS[wanted.split(" ")[0]], wanted + "\n"))
+    check(f"examples/faults: {tried} jobs are refused before they run", tried >= 14)
+
+
+def try_cases(program):
+    "what is said by the rules of these cases, and by the program, where it is"
+    for job, listing, wanted in cases():
         _, said = expected_attesting.attest(job.encode(), listing.encode())
-        check(f"expected_attesting.py: {listing[:300]}: {said}, not {wanted}", said == wanted)
+        check(f"expected_attesting.py: {listing[:600]}: {said}, not {wanted}", said == wanted)
+        if program:
+            status, said = runner.attested_by(program, job.encode(), listing.encode())
+            check(f"mps360check: {listing[:600]}: {said}, not {wanted}", (status, said) == (STATUS[wanted.split(" ")[0]], wanted + "\n"))
+    for words, wanted in (((), (27, b"STOP 27 LISTING FAULT\n")), (("word",), (4, b"STOP 4 WORDS\n"))) if program else ():
+        ended = subprocess.run([program, *words], stdin=subprocess.DEVNULL, stdout=subprocess.PIPE, cwd="/")
+        check(f"mps360check {words}: {ended}", (ended.returncode, ended.stdout) == wanted)
     status, said, _ = called(check_listings, "0", "16")
     check(f"check_listings.py: {said}", status == 0)
 
@@ -432,17 +551,91 @@ def try_esolver(folder):
         check(f"esolver: {said}", said == "ATTESTED 5 REPORTS")
 
 
+# a checker in the place of the proved one, which says what expected_attesting.py says
+STUB = """#!/bin/sh
+exec python3 {}/expected_attesting.py --as-program "$@"
+"""
+
+
+def try_attest(folder):
+    stub, model, solution = folder / "stub", folder / "a.mps", folder / "a.sol"
+    stub.write_text(STUB.format(SCRIPTS))
+    stub.chmod(0o755)
+    model.write_text(MODEL)
+    for job, listing, wanted in (("store", "store", (0, b"ATTESTED 5 REPORTS\n")), ("store", "diet", (40, b"WRONG LINE 1\n"))):
+        said = by_stub(stub, (EXAMPLES / f"{job}.job").read_bytes(), (EXAMPLES / f"{listing}.listing").read_bytes(), folder)
+        check(f"expected_attesting.py --as-program: {said}", said == wanted)
+    for words, wanted in (((), (27, b"STOP 27 LISTING FAULT\n")), (("word",), (4, b"STOP 4 WORDS\n"))):
+        ended = subprocess.run([stub, *words], stdin=subprocess.DEVNULL, stdout=subprocess.PIPE, cwd="/")
+        check(f"expected_attesting.py --as-program {words}: {ended}", (ended.returncode, ended.stdout) == wanted)
+    other = "not proved, since another program ran; it attests: "
+    refused = "not attested: its numbers don't prove it: line {}\n"
+    constant = MODEL.replace(" plant_3 18\n", " plant_3 18 total_profit -5\n")
+    for text, answer, status, wanted in ((MODEL, ESOLVER, 0, other + "OPTIMAL, objective 36\n"), (constant, ESOLVER, 0, other + "OPTIMAL, objective 36, 41 with the file's constant\n"),
+                                         (MODEL, ESOLVER.replace("plant_3 = 1", "plant_3 = 2"), 40, refused.format("5 of the listing, SOLUTION OPTIMAL")),
+                                         (TIGHT, text_of(RAYS), 0, other + "INFEASIBLE, no plan keeps all limits\n"),
+                                         (MODEL, text_of(RAYS), 40, refused.format("4 of the listing, PRIMAL INFEASIBLE STEPS 0 RAY CHECKED")),
+                                         (LOOSE, text_of(DIRECTION), 0, other + "UNBOUNDED, the objective has no bound\n")):
+        model.write_text(text)
+        solution.write_text(answer)
+        ended = subprocess.run([SCRIPTS / "attest", "--program", stub, "--keep", folder / "kept", model, solution], capture_output=True, text=True)
+        check(f"attest: {ended}", (ended.returncode, ended.stdout) == (status, wanted))
+        told = "bound of 1e+20 and more is no limit" in ended.stderr and all(line.startswith("attest: ") for line in ended.stderr.splitlines())
+        check(f"attest: what is changed of the file is said: {ended.stderr}", told)
+        kept = {path.name for path in (folder / "kept").iterdir()}
+        check(f"attest --keep: {kept}", kept == {"model.job", "model.listing", "model.names"})
+    model.write_text(MODEL)
+    solution.write_text(ESOLVER)
+    shutil.copy(solution, folder / "kept/model.listing")
+    for words, status in ((("--program", "/bin/true", model, solution), 70), (("--program", folder / "none", model, solution), 70), ((model,), 64), ((), 64),
+                          ((model, "--keep"), 64), (("--names", folder / "n", "--program", stub, model, solution), 64),
+                          (("--program", stub, model, folder / "none"), 66), (("--program", stub, folder / "none", solution), 66), (("--program", stub, solution, model), 65),
+                          (("--program", stub, model, model), 65), (("--program", stub, "--keep", model, model, solution), 73),
+                          (("--program", stub, "--keep", folder / "kept", model, folder / "kept/model.listing"), 64)):
+        ended = subprocess.run([SCRIPTS / "attest", *words], capture_output=True, text=True)
+        check(f"attest {words}: {ended}", ended.returncode == status and ended.stderr.startswith("attest: ") and not ended.stdout and "Traceback" not in ended.stderr)
+    check("attest --keep overwrites no file that it reads", (folder / "kept/model.listing").read_text() == ESOLVER)
+    env = {**os.environ, "MPS360_PROVED": "1"}
+    ended = subprocess.run([SCRIPTS / "attest", model, solution], capture_output=True, text=True, env=env)
+    wanted = (0, "attested: OPTIMAL, objective 36\n") if runner.proved_program("mps360check") else (70, "")
+    check(f"attest: {ended}", (ended.returncode, ended.stdout) == wanted)
+    for words, status in ((("--proved", "--unproved"), 64), (("--program",), 64), (("--keep",), 64), (("x",), 64), (("--jobs", "0", "8"), 0), (("--program", stub, "--jobs", "0", "2"), 0)):
+        ended = called(check_listings, *words)
+        check(f"check_listings.py {words}: {ended}", ended[0] == status)
+    for words, status in ((("--attest", "--itself", "0", "20"), 0), (("--attest", "--itself", "--decks", "0", "20"), 0), (("--attest", "--unproved", "--itself"), 64), (("--attest", "x"), 64)):
+        ended = called(random_jobs, *words)
+        check(f"random_jobs.py {words}: {ended}", ended[0] == status and (status or " 0 answers differ" in ended[1]))
+
+
+    for script, words, status in (("examples.sh", ("--all",), 64), ("bench_attesting.py", ("--all",), 64), ("bench_attesting.py", ("--itself", "--times"), 64),
+                                  ("bench_attesting.py", ("--rows", "x"), 64), ("expected_attesting.py", ("a",), 64), ("expected_attesting.py", ("none", "none"), 66),
+                                  ("unproved.py", ("--program",), 64), ("unproved.py", ("--program", "rt", "--compile"), 64), ("unproved.py", ("--program", "mps360check", "--make", "2"), 64)):
+        ended = subprocess.run([SCRIPTS / script, *words], capture_output=True, text=True, stdin=subprocess.DEVNULL)
+        check(f"{script} {words}: {ended}", ended.returncode == status and "Traceback" not in ended.stderr)
+
+
+def by_stub(stub, job, listing, folder):
+    (folder / "LISTING").write_bytes(listing)
+    ended = subprocess.run([stub], input=job, stdout=subprocess.PIPE, cwd=folder)
+    return ended.returncode, ended.stdout
+
+
 def main():
     if len(sys.argv) > 1:
         print(__doc__)
         return 0 if sys.argv[1] in ("-h", "--help") else 64
-    try_cases()
+    program = runner.proved_program("mps360check")
+    if not program:
+        print("check_answers: no fresh proved program mps360check; what needs it is left out")
+    try_cases(program)
+    try_faults(program)
     with tempfile.TemporaryDirectory() as folder:
         folder = pathlib.Path(folder)
         try_solutions(folder)
         try_certificates(folder)
         try_listings(folder)
         try_esolver(folder)
+        try_attest(folder)
     return 1 if wrong else 0
 
 

@@ -3,18 +3,22 @@
 them. Whatever it attests of an altered listing may differ from the listing that was altered only in what isn't attested (AT codes, counts of
 steps) or in numbers that prove the same; and each optimum and each conflict that it attests is checked again as a VIPR certificate.
 
-usage: check_listings.py [--checker PROGRAM] [--keep FOLDER] [FIRST [COUNT]]
+usage: check_listings.py [--proved | --unproved | --program FILE] [--jobs] [--keep FOLDER] [FIRST [COUNT]]
        listings FIRST, FIRST + 1, ..; 0 and 300 where nothing is said, each as it is and with ten alterations
 
-  --checker PROGRAM   is compared with it: a program that takes the job on standard input and the listing from the file LISTING in the present
-                      folder, prints one line, and ends with its status
-  --keep FOLDER       each job and listing on which something is wrong goes there
+  --proved         the proved program mps360check is to say the same of each
+  --unproved       the same of the program as it stands, built once, where no proved one is
+  --program FILE   the same of another program: it takes the job on standard input and the listing from the file LISTING in the present folder,
+                   prints one line, and ends with its status
+  --jobs           ten alterations more: of a card of the control program, which mostly is a fault. The listing is then the line by which the
+                   job is refused
+  --keep FOLDER    each job and listing on which something is wrong goes there
 
 Half of the listings are those of examples/ and scripts/known, half those of jobs made at random. It prints how often which status came, ends
-with 1 where something is wrong."""
-import collections, pathlib, random, re, subprocess, sys, tempfile
+with 1 where something is wrong, with 70 where there is no program."""
+import collections, pathlib, random, re, sys
 from fractions import Fraction
-import check_vipr, expected_attesting, expected_listing, listing2vipr, random_jobs, runner
+import check_vipr, expected_attesting, expected_listing, job_rules, listing2vipr, random_jobs, runner
 from expected_attesting import ATTESTED, OPEN, UNCHECKED
 
 ALTERATIONS = 10
@@ -126,6 +130,18 @@ def altered(chance, listing):
     return kinds, (text[:-1] if chance.random() < 0.02 else text).encode("latin-1")
 
 
+def altered_job(chance, job, listing):
+    "the job with a card of its control program changed, and the line by which it is refused, or its listing as it was"
+    cards = job.decode("latin-1").split("\n")
+    end = next((place for place, card in enumerate(cards) if card.split() == ["PEND"]), len(cards) - 1) + 1
+    text = "\n".join(random_jobs.changed(chance, cards[:end]) + cards[end:]).encode("latin-1")
+    try:
+        job_rules.Program(job_rules.cut(text))
+    except job_rules.Stop as stop:
+        return text, (stop.text + "\n").encode("latin-1")
+    return text, listing
+
+
 # ---- what is claimed
 
 def claims(listing):
@@ -171,31 +187,27 @@ def is_proved_again(job, listing):
     return True
 
 
-def by_checker(program, job, listing):
-    with tempfile.TemporaryDirectory() as folder:
-        pathlib.Path(folder, "LISTING").write_bytes(listing)
-        ended = subprocess.run([program], input=job, stdout=subprocess.PIPE, cwd=folder, timeout=600)
-    return ended.returncode, ended.stdout.decode("latin-1")
-
-
 def faults(job, listing, original, checker):
-    "the status, and what is wrong about what is said of a listing; original is None where the listing is as the job prints it"
+    """the status, and what is wrong about what is said of a listing; original is the listing that was altered, None where this is as the job prints
+    it, and () where it is the job that was altered"""
     status, line = expected_attesting.attest(job, listing)
     told = []
     if original is None and status not in (ATTESTED, OPEN, UNCHECKED):
         told.append(f"the job's own listing: {line}")
-    if original is not None and status == ATTESTED and list(claims(listing)) != list(claims(original)):
+    if original and status == ATTESTED and list(claims(listing)) != list(claims(original)):
         told.append("an altered claim is attested")
     if status == ATTESTED and not is_proved_again(job, listing):
         told.append("what is attested isn't so by its certificate")
-    if checker and (answer := by_checker(checker, job, listing)) != (status, line + "\n"):
-        told.append(f"the checker says {answer[1].strip()[:60]!r}, status {answer[0]}, and by the rules it is {line!r}, status {status}")
+    if checker and (answer := runner.attested_by(checker, job, listing)) != (status, line + "\n"):
+        told.append(f"the program says {answer[1].strip()[:60]!r}, status {answer[0]}, and by the rules it is {line!r}, status {status}")
     return status, told
 
 
 def options_of(words):
-    "the checker, the folder, the first number and the count; None where the words are no use of this"
-    words, named = list(words), {"--checker": None, "--keep": None}
+    "whether a program is asked and which one, whether jobs are altered, the folder, the first number and the count; None where the words are no use of this"
+    words, named = list(words), {"--program": None, "--keep": None}
+    has_jobs = "--jobs" in words
+    words = [word for word in words if word != "--jobs"]
     for name in named:
         if name in words:
             at = words.index(name)
@@ -203,9 +215,18 @@ def options_of(words):
                 return None
             named[name] = words[at + 1]
             del words[at:at + 2]
-    if len(words) > 2 or any(not word.isdigit() for word in words):
+    asked = [word for word in words if word in ("--proved", "--unproved")] + ["--program"] * (named["--program"] is not None)
+    numbers = [word for word in words if word not in asked]
+    if len(asked) > 1 or len(numbers) > 2 or any(not word.isdigit() for word in numbers):
         return None
-    return named["--checker"] and str(pathlib.Path(named["--checker"]).resolve()), named["--keep"], *([int(word) for word in words] + [0, 300][len(words):])
+    return asked, named["--program"], has_jobs, named["--keep"], *([int(word) for word in numbers] + [0, 300][len(numbers):])
+
+
+def program_of(asked, file):
+    "the program that is asked, if one is"
+    if file:
+        return str(pathlib.Path(file).resolve())
+    return runner.checker_program(asked == ["--unproved"]) if asked else None
 
 
 def main(words):
@@ -213,20 +234,26 @@ def main(words):
     if options is None:
         print(__doc__)
         return 0 if words in (["-h"], ["--help"]) else 64
-    checker, keep, first, count = options
+    asked, file, has_jobs, keep, first, count = options
+    try:
+        checker = program_of(asked, file)
+    except runner.NoProgram as cause:
+        print(f"check_listings.py: {cause}", file=sys.stderr)
+        return 70
     by_hand, statuses, wrong = written_by_hand(), collections.Counter(), 0
     for number in range(first, first + count):
         chance = random.Random(f"listing {number}")
         name, job, listing = by_hand[number // 2 % len(by_hand)] if number % 2 else made_at_random(number // 2)
-        tried = [((), listing, None), *((*altered(chance, listing), listing) for _ in range(ALTERATIONS))]
-        for place, (kinds, text, original) in enumerate(tried):
-            status, told = faults(job, text, original, checker)
+        tried = [((), job, listing, None), *((kinds, job, text, listing) for kinds, text in (altered(chance, listing) for _ in range(ALTERATIONS)))]
+        tried += [((altered_job,), *altered_job(chance, job, listing), ()) for _ in range(ALTERATIONS * has_jobs)]
+        for place, (kinds, given, text, original) in enumerate(tried):
+            status, told = faults(given, text, original, checker)
             statuses[status] += 1
             for sentence in told:
                 wrong += 1
                 print(f"check_listings.py: {number} ({name}), alteration {place} ({', '.join(kind.__name__ for kind in kinds)}): {sentence}", file=sys.stderr)
             if told and keep:
-                for ending, content in (("job", job), ("listing", text)):
+                for ending, content in (("job", given), ("listing", text)):
                     pathlib.Path(keep).mkdir(parents=True, exist_ok=True)
                     pathlib.Path(keep, f"{number}-{place}.{ending}").write_bytes(content)
     counts = ", ".join(f"{status}: {times}" for status, times in sorted(statuses.items()))

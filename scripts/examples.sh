@@ -1,14 +1,16 @@
 #!/usr/bin/env bash
 # Compares the listings (and the punched decks) beside the jobs of examples/ with the program's, and with those that
-# scripts/expected_listing.py works out.
+# scripts/expected_listing.py works out; and what examples/INDEX says of each listing with the checker's answer, and with that which
+# scripts/expected_attesting.py works out.
 # usage: examples.sh [--expected | --unproved]
-# --expected: with the latter alone, so that no program is needed. --unproved: the program as it stands, built once, where no proved
-# one is; of it the listings alone. Ends with 1 where one differs, with 70 where there is no program to compare with.
+# --expected: with what is worked out alone, so that no program is needed. --unproved: the programs as they stand, built once, where no
+# proved ones are; of mps360 the listings alone. Where no proved mps360check is, that is said, and it isn't asked. Ends with 1 where
+# something differs, with 70 where there is no program mps360 to compare with.
 set -u
 case ${1:-} in
     "" | --expected | --unproved) ;;
     -h | --help)
-        sed -n '2,6s/^# //p' "$0"
+        sed -n '2,8s/^# //p' "$0"
         exit 0
         ;;
     *)
@@ -20,7 +22,7 @@ cd "$(dirname "$0")/.." || exit 1
 exec python3 - "${1:-}" <<'PYTHON'
 import pathlib, subprocess, sys, tempfile
 sys.path.insert(0, "scripts")
-import runner
+import expected_attesting, runner
 
 JOBS = {path.stem: path for path in sorted(pathlib.Path("examples").glob("*.job"))}
 
@@ -53,14 +55,50 @@ def differing(answers, what):
     return wrong
 
 
+def answers_of_index():
+    lines = [line.split(" ", 1) for line in pathlib.Path("examples/INDEX").read_text().splitlines() if not line.startswith("#")]
+    if sorted(name for name, _ in lines) != sorted(JOBS):
+        sys.exit("examples.sh: examples/INDEX is to have each job of examples/ once")
+    return dict(lines)
+
+
+def attested(by):
+    "what a checker says of each example, beside its status"
+    return {name: by(path.read_bytes(), path.with_suffix(".listing").read_bytes()) for name, path in JOBS.items()}
+
+
+def misjudged(answers, what):
+    "the examples of which something else is said than examples/INDEX says"
+    status = {"ATTESTED": 0, "WRONG": 40, "OPEN": 41, "UNCHECKED": 42}
+    wrong = [name for name, answer in answers_of_index().items() if answers[name] != (status[answer.split(" ")[0]], answer)]
+    for name in wrong:
+        print(f"examples/{name}.listing: {what} {answers[name]}", file=sys.stderr)
+    return wrong
+
+
+def by_program(program):
+    def answer(job, listing):
+        status, said = runner.attested_by(program, job, listing)
+        return status, said.removesuffix("\n") if said.count("\n") == 1 else said
+    return answer
+
+
 failed = differing({name: worked_out(path) for name, path in JOBS.items()}, "its listing or punched deck isn't the one that is worked out")
+failed += misjudged(attested(expected_attesting.attest), "by expected_attesting.py it is")
 if sys.argv[1] != "--expected":
+    try:
+        checker = runner.checker_program(sys.argv[1] == "--unproved")
+        wrong = misjudged(attested(by_program(checker)), "the checker says")
+        print(f"{len(JOBS) - len(wrong)} listings of examples are attested, or aren't, as they are to be, {len(wrong)} otherwise")
+        failed += wrong
+    except runner.NoProgram as cause:
+        print(f"examples.sh: no listing is attested: {cause}")
     try:
         wrong = differing(of_program(sys.argv[1] == "--unproved"), "the program's listing or punched deck is another")
     except runner.NoProgram as cause:
         print(f"examples.sh: {cause}", file=sys.stderr)
         sys.exit(70)
     print(f"{len(JOBS) - len(wrong)} examples are as the program has them, {len(wrong)} aren't")
-    failed = failed or wrong
+    failed += wrong
 sys.exit(1 if failed else 0)
 PYTHON

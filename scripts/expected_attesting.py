@@ -2,14 +2,16 @@
 """Says whether the numbers of a listing prove what it says of a job, and all else in it is what the job prints: worked out apart from the
 program, over Python's exact fractions, without a path and without a basis. A script, tested and not proved.
 
-usage: expected_attesting.py JOB LISTING      it prints one line, and ends with its status
+usage: expected_attesting.py JOB LISTING       it prints one line, and ends with its status
+       expected_attesting.py --as-program      takes them as the program mps360check does: the job on standard input, and the listing from
+                                               the file LISTING of the present folder
 
   0 ATTESTED n REPORTS   all of it
  40 WRONG LINE n         what is due at line n isn't of its form, or fails a test
  41 OPEN LINE n          line n can't be attested: RANGE, PUNCH or INSERT, a stop whose cause needs a path, an optimum without SOLUTION
  42 UNCHECKED LINE n     an operation of a test doesn't fit 127 bits
  43 LONG LISTING         of more than 64,000,000 bytes
- 64 wrong use; 66 a file can't be read"""
+ 64 wrong use; 66 a file can't be read; as the program: STOP 4 WORDS, with 4, and STOP 27 LISTING FAULT, with 27"""
 from dataclasses import dataclass
 from fractions import Fraction
 import pathlib
@@ -717,7 +719,23 @@ def attest(job, listing):
     raise AssertionError("a walk has an end")
 
 
+def as_program(words):
+    "the status, and the line that is printed, as the program has them"
+    if words:
+        return 4, "STOP 4 WORDS"
+    job = sys.stdin.buffer.read()
+    try:
+        listing = pathlib.Path("LISTING").read_bytes()
+    except OSError:
+        return 27, "STOP 27 LISTING FAULT"
+    return attest(job, listing)
+
+
 def main(words):
+    if words[:1] == ["--as-program"]:
+        status, line = as_program(words[1:])
+        print(line)
+        return status
     if len(words) != 2 or words[0].startswith("-"):
         print(__doc__)
         return 0 if words[:1] in (["-h"], ["--help"]) else 64

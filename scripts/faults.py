@@ -13,7 +13,7 @@ PAGE = runner.TOP / "docs/FAULTS.md"
 HEADINGS = {
     "end": "The good end, and verdicts", "words": "Words of the command line", "control": "Faults of the control program",
     "verb": "Faults of a statement", "deck": "Faults of a deck", "card": "Faults of cards",
-    "limit": "Limits, devices, memory",
+    "limit": "Limits, devices, memory", "check": "What mps360check answers besides 0, 4, 24, 25 and 28",
 }
 HEADING_OF = dict.fromkeys(("overflow", "read", "write", "punch", "memory"), "limit")
 TITLES = {"control": "Control fault", "verb": "Verb fault", "deck": "Deck fault", "card": "Card fault"}
@@ -68,8 +68,9 @@ def wrong_card(entry):
 def page():
     lines = [
         "# Statuses and faults", "",
-        "What each last line of a listing means, a card that has the fault, the line exactly, and the cure. `scripts/faults.py --write`",
-        "makes this page of `examples/faults/`; its jobs are run to see that they end so. The first card with a fault decides.",
+        "What each last line of a listing means, a card that has the fault, the line exactly, and the cure; at the end the answers of",
+        "`mps360check`. `scripts/faults.py --write` makes this page of `examples/faults/`; its jobs are run to see that they end so. The first",
+        "card with a fault decides.",
         "[DEFINITIONS.md](DEFINITIONS.md#from-a-rule-to-its-code) has the definition of each fault, and the code that finds it.", "",
     ]
     begun = None

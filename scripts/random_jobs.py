@@ -6,15 +6,18 @@ which mostly makes a fault. Outside the gate: a run of 300 takes some minutes un
 
 usage: random_jobs.py [--unproved | --itself] [--no-parametric] [--no-revise] [--no-bases] [--no-free] [--no-faults] [FIRST [COUNT]]
        random_jobs.py [--unproved | --itself] --decks [--no-free] [FIRST [COUNT]]
+       random_jobs.py [--unproved | --itself] --attest [--decks] [..] [FIRST [COUNT]]
        jobs FIRST, FIRST + 1, ..; 0 and 300 where nothing is said
 
 It prints how many differ, and the first of them whole; ends with 1 where one does, with 70 where there is no program. --unproved: the
 program as it stands, where no proved one is. --no-parametric: without PARAOBJ and PARARHS; --no-revise: without REVISE; --no-bases: without
 DUAL, PUNCH and INSERT; --no-free: fixed decks alone; --no-faults: no card is changed. --decks: a deck and its revision alone, both written
 out, and in each job a card of one of them is changed. --itself: no program runs; what expected_listing.py says is checked by the meaning of
-the words, where a job is small enough (scripts/every_basis.py)."""
+the words, where a job is small enough (scripts/every_basis.py). --attest: the checker of listings, mps360check, is compared with
+scripts/expected_attesting.py on the listing of each job, from most of which what can't be attested is left out; none may be found wrong. With
+--itself no program runs. scripts/check_listings.py alters listings."""
 import collections, random, re, sys
-import every_basis, expected_decks, expected_listing, free_deck, runner
+import every_basis, expected_attesting, expected_decks, expected_listing, free_deck, runner
 
 
 def number(chance):
@@ -315,19 +318,58 @@ def by_program(jobs, expected, unproved):
             if (status, listing.decode("latin-1"), *(deck and deck.decode("latin-1") for deck in punch)) != expected[name][:2 + len(punch)]}
 
 
+def job_to_attest(seed, is_parametric, revises, has_bases, has_free, has_faults):
+    "a job, in nine cases of ten without what can't be attested, which is RANGE, PUNCH and INSERT"
+    if random.Random(f"open in {seed}").random() < 0.1:
+        return job(seed, is_parametric, revises, has_bases, has_free, has_faults)
+    return job(seed, is_parametric, revises, False, has_free, has_faults).replace(statements("RANGE")[0] + "\n", "")
+
+
+def attest(jobs, program):
+    "how often each answer came to the jobs' own listings, and for each job of which another is given than is worked out, or WRONG, the two"
+    answers, wrong = collections.Counter(), {}
+    for name, text in jobs.items():
+        run = expected_listing.Run(text)
+        run.run()
+        job, listing = text.encode("latin-1"), ("\n".join(run.lines) + "\n").encode("latin-1")
+        status, line = expected_attesting.attest(job, listing)
+        said = runner.attested_by(program, job, listing) if program else (status, line + "\n")
+        answers[line.split(" ")[0]] += 1
+        if said != (status, line + "\n") or status in (expected_attesting.WRONG, expected_attesting.LONG):
+            wrong[name] = f"{text}\n{listing.decode('latin-1')}the program says {said}, and it is worked out as {(status, line)}"
+    return answers, wrong
+
+
+def attest_all(jobs, modes):
+    "the same, told; the status with which this ends"
+    try:
+        program = None if "--itself" in modes else runner.checker_program("--unproved" in modes)
+    except runner.NoProgram as cause:
+        print(f"random_jobs.py: {cause}", file=sys.stderr)
+        return 70
+    answers, wrong = attest(jobs, program)
+    print(f"{len(jobs)} listings, {len(wrong)} answers differ; {', '.join(f'{n} {word}' for word, n in sorted(answers.items()))}")
+    for name, told in list(wrong.items())[:1]:
+        print(f"job {name}:\n{told}", file=sys.stderr)
+    return 1 if wrong else 0
+
+
 PARTS = ("--no-parametric", "--no-revise", "--no-bases", "--no-free", "--no-faults")
 
 
 def main(words):
-    modes = {word for word in words if word in ("--unproved", "--itself", "--decks", *PARTS)}
+    modes = {word for word in words if word in ("--unproved", "--itself", "--decks", "--attest", *PARTS)}
     numbers = [word for word in words if word not in modes]
     if any(not word.isdigit() for word in numbers) or len(numbers) > 2 or {"--unproved", "--itself"} <= modes:
         print(__doc__)
         return 0 if words in (["-h"], ["--help"]) else 64
     first, count = [int(word) for word in numbers] + [0, 300][len(numbers):]
     parts = [word not in modes for word in PARTS]
-    made = (lambda seed: job_of_decks(seed, "--no-free" not in modes)) if "--decks" in modes else (lambda seed: job(seed, *parts))
+    kind = job_to_attest if "--attest" in modes else job
+    made = (lambda seed: job_of_decks(seed, "--no-free" not in modes)) if "--decks" in modes else (lambda seed: kind(seed, *parts))
     jobs = {str(seed): made(seed) for seed in range(first, first + count)}
+    if "--attest" in modes:
+        return attest_all(jobs, modes)
     expected, verdicts, looked, wrong = {}, collections.Counter(), 0, {}
     for name, text in jobs.items():
         run = every_basis.Watched(text) if "--itself" in modes else expected_listing.Run(text)

@@ -1,8 +1,9 @@
 #!/usr/bin/env python3
 """Runs a job once for each allocation that the program makes, and refuses that one. Each run has to end with the job's own status and
-listing, or with status 28 and a front of that listing, which STOP 28 MEMORY may end.
-usage: refuse_memory.py PROGRAM JOB. It wants a C compiler, for an allocator that is loaded before the C library's."""
-import os, pathlib, subprocess, sys, tempfile
+listing, or with status 28 and a front of that listing, which STOP 28 MEMORY may end. With LISTING the program is mps360check, of which the
+same is asked of its one line.
+usage: refuse_memory.py PROGRAM JOB [LISTING]. It wants a C compiler, for an allocator that is loaded before the C library's."""
+import os, pathlib, shutil, subprocess, sys, tempfile
 
 ALLOCATOR = r"""
 #define _GNU_SOURCE
@@ -39,18 +40,20 @@ __attribute__((destructor)) static void end(void) {
 }
 """
 
-if len(sys.argv) != 3:
+if len(sys.argv) not in (3, 4):
     print(__doc__)
     sys.exit(0 if sys.argv[1:] in (["-h"], ["--help"]) else 64)
-program, job = sys.argv[1], pathlib.Path(sys.argv[2]).read_bytes()
+program, job = os.path.abspath(sys.argv[1]), pathlib.Path(sys.argv[2]).read_bytes()
 with tempfile.TemporaryDirectory() as folder:
+    for listing in sys.argv[3:]:
+        shutil.copyfile(listing, f"{folder}/LISTING")
     made, told = f"{folder}/allocator.so", f"{folder}/told"
     subprocess.run(["cc", "-x", "c", "-", "-shared", "-fPIC", "-O1", "-ldl", "-o", made], input=ALLOCATOR.encode(), check=True)
 
     def run(refused):
         "the status, the listing and the number of allocations of a run that is refused one of them"
         words = {**os.environ, "LD_PRELOAD": made, "REFUSED": str(refused), "TOLD": told}
-        ended = subprocess.run([program], input=job, stdout=subprocess.PIPE, env=words)
+        ended = subprocess.run([program], input=job, stdout=subprocess.PIPE, env=words, cwd=folder)
         return ended.returncode, ended.stdout, int(pathlib.Path(told).read_text())
 
     status, listing, count = run(0)

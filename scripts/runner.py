@@ -1,5 +1,7 @@
-"""Runs jobs for the other scripts: by the proved program where it is fresh, else all of them unproved, built once (`rt try --cases`)."""
+"""Runs jobs, and attests listings, for the other scripts: by the proved program where it is fresh, else all jobs unproved, built once
+(`rt try --cases`)."""
 import pathlib, re, shutil, subprocess, tempfile
+import unproved
 
 HERE = pathlib.Path(__file__).resolve().parent
 TOP = HERE.parent
@@ -9,12 +11,34 @@ class NoProgram(Exception):
     "neither a proved program nor an unproved run can be had"
 
 
-def proved_program():
-    "the path of the proved program, installed or fresh, or None where there is none"
-    if (HERE / "program").exists():
-        return str(HERE / "program")
-    found = subprocess.run([HERE / "program.sh", "--fresh"], capture_output=True, text=True)
+def proved_program(name="mps360"):
+    "the path of the proved program of this name, installed or fresh, or None where there is none"
+    installed = HERE / {"mps360": "program", "mps360check": "check"}[name]
+    if installed.exists():
+        return str(installed)
+    found = subprocess.run([HERE / "program.sh", "--fresh", name], capture_output=True, text=True)
     return found.stdout.strip() if found.returncode == 0 else None
+
+
+def checker_program(is_unproved=False):
+    "the path of the checker of listings: the proved one, or where there is none and an unproved one is wanted, that which is compiled of its sources"
+    program = proved_program("mps360check")
+    if program:
+        return program
+    if not is_unproved:
+        raise NoProgram("no proved program mps360check is there (scripts/build.sh builds it)")
+    try:
+        return unproved.make("mps360check", optimised=True)
+    except unproved.NoAnswer as cause:
+        raise NoProgram(str(cause)) from None
+
+
+def attested_by(program, job, listing):
+    "the status of a checker of listings, and what it prints"
+    with tempfile.TemporaryDirectory() as folder:
+        pathlib.Path(folder, "LISTING").write_bytes(listing)
+        ended = subprocess.run([program], input=job, stdout=subprocess.PIPE, cwd=folder, timeout=600)
+    return ended.returncode, ended.stdout.decode("latin-1")
 
 
 def run_proved(program, job):
