@@ -1,5 +1,6 @@
 -- What a reader of answers comes to.
 --     IsConclusion, IsSweepAnswer  what is handed on of the answer to a path and to a parametric run
+--     IsOpened                     the mark of an opening
 --     Taken Shows judged new result    an answer was taken, of which so much is shown; or it isn't of its form or fails a test; or an
 --                                  operation of a test is refused; or there is no memory
 use Rattle.std.specs.Prelude.{◌≡◌, ℕ, List, Result, Ok, Err}
@@ -32,6 +33,10 @@ abbrev pub IsSweepAnswer : SweepAnswer → SweepEnd → Type 0
 IsSweepAnswer (Opened mark) (Opening bases verdict check) = mark ≡ mark_of verdict
 IsSweepAnswer (Swept last) (Chained bases intervals end) = last ≡ last_value end
 IsSweepAnswer answer end = ⊥
+
+-- of an opening
+abbrev pub IsOpened : Mark → SweepEnd → Type 0
+IsOpened mark end = IsSweepAnswer (Opened mark) end
 
 pub record IsRight {X A : Type 0} (Shows : X → A → Type 0) (judged : Judged A) (new : List ℕ) (x : X) : Type 0 where
   pub answer : A

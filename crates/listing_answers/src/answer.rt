@@ -7,12 +7,21 @@ ghost use Rattle.parametric_request.specs.Asking.{Serves, sweep_of};
 ghost use Rattle.walk_definitions.specs.Tests.{point_of};
 ghost use Rattle.walk_definitions.specs.Reading.{judged};
 ghost use Rattle.listing_readers.specs.Read.{sheet_shown};
+ghost use Rattle.listing_answers.specs.Claims.{conclusion_by};
 ghost use Rattle.listing_answers.specs.Taken.{Taken, IsConclusion, IsSweepAnswer};
 
-use frac128::Frac;
+use crate::claim_tests::test;
+use crate::claims::{Claim, Stated, read_verdict};
+use crate::judging::judge;
+use crate::openings::{read_opening, take_sweep_head};
+use crate::solution::{printed_of, read_lines};
+use crate::solution_tests::check_printed;
+use crate::sweeping::read_run;
+use frac128::{Frac, Refused};
 use listing_definitions::{Mark, Solver};
 use listing_readers::Cursor;
-use listing_tables::Sheet;
+use listing_tables::{Sheet, objective_of};
+use lp_model::NoMemory;
 use parametric_request::ParametricRequest;
 use std::alloc::Global;
 
@@ -25,6 +34,28 @@ pub enum Stop {
     Unchecked,
     /// There is no memory.
     NoMemory,
+}
+
+impl From<NoMemory> for Stop {
+    ghost use Rattle.std.specs.Prelude.{◌≡◌};
+    ghost use Rattle.listing_answers.specs.declared.answer.Stop.TheVariants as stops;
+
+    ghost from_gives = { λ _ stop. stop ≡ stops.NoMemory };
+
+    fn from(_refused: NoMemory) -> Stop {
+        Stop::NoMemory
+    }
+}
+
+impl From<Refused> for Stop {
+    ghost use Rattle.std.specs.Prelude.{◌≡◌};
+    ghost use Rattle.listing_answers.specs.declared.answer.Stop.TheVariants as stops;
+
+    ghost from_gives = { λ _ stop. stop ≡ stops.Unchecked };
+
+    fn from(_refused: Refused) -> Stop {
+        Stop::Unchecked
+    }
 }
 
 /// What a verdict comes to.
@@ -47,42 +78,65 @@ pub enum SweepAnswer {
     Swept(Frac),
 }
 
+// What a claim comes to.
+fn comes_to(stated: &Stated) -> Conclusion
+    ensures { result ≡ conclusion_by stated.now.claim stated.now.is_checked }
+{
+    match &stated.claim {
+        Claim::Optimal(objective) => Conclusion::Optimal {
+            objective: *objective,
+            is_checked: stated.is_checked,
+        },
+        Claim::Crossed(_) | Claim::Infeasible(_) => Conclusion::Infeasible,
+        Claim::Unbounded(_, _) => Conclusion::Unbounded,
+    }
+}
+
 /// Reads the verdict of a solving verb and tests it. An optimal one is tested where SOLUTION shows it.
 pub fn answer_to_path(
-    _alloc: Global,
-    _cursor: &mut Cursor<'_>,
+    alloc: Global,
+    cursor: &mut Cursor<'_>,
     sheet: Sheet<'_>,
-    _solver: Solver,
+    solver: Solver,
 ) -> Result<Conclusion, Stop>
     requires sheet { IsSheet sheet }
     requires lawful { IsLinearProgram sheet.lp.now }
     requires no_change { sheet.lp.now.change ≡ None }
-    ensures { (limit : Option ℕ) → Taken IsConclusion (judged (OfPath _solver limit) (sheet_shown sheet.entry) _cursor.old)
-        _cursor.new result }
+    ensures { (limit : Option ℕ) → Taken IsConclusion (judged (OfPath solver limit) (sheet_shown sheet.entry) cursor.old)
+        cursor.new result }
 {
-    Err(Stop::NoMemory)
+    let Some(stated) = read_verdict(alloc, cursor, sheet, solver)? else {
+        return Err(Stop::Wrong);
+    };
+    judge(test(sheet.lp, &stated))?;
+    Ok(comes_to(&stated))
 }
 
 /// Reads the lines of SOLUTION under a mark and tests them. Gives the activity of the objective row.
 pub fn answer_to_solution(
-    _alloc: Global,
-    _cursor: &mut Cursor<'_>,
+    alloc: Global,
+    cursor: &mut Cursor<'_>,
     sheet: Sheet<'_>,
-    _mark: Mark,
+    mark: Mark,
 ) -> Result<Frac, Stop>
     requires sheet { IsSheet sheet }
     requires lawful { IsLinearProgram sheet.lp.now }
     requires no_change { sheet.lp.now.change ≡ None }
     ensures { Taken (λ objective lines. objective ≡ point_of (sheet_shown sheet.entry) lines sheet.entry.lp.now.objective)
-        (judged (OfSolution _mark) (sheet_shown sheet.entry) _cursor.old) _cursor.new result }
+        (judged (OfSolution mark) (sheet_shown sheet.entry) cursor.old) cursor.new result }
 {
-    Err(Stop::NoMemory)
+    let Some(lines) = read_lines(alloc, cursor, sheet, mark)? else {
+        return Err(Stop::Wrong);
+    };
+    let printed = printed_of(alloc, &lines)?;
+    check_printed(sheet, mark, &printed)?;
+    Ok(objective_of(sheet.lp, &printed.point))
 }
 
 /// Reads what PARAOBJ or PARARHS prints of the parametric run that is asked for, interval by interval, and tests it.
 pub fn answer_to_sweep(
-    _alloc: Global,
-    _cursor: &mut Cursor<'_>,
+    alloc: Global,
+    cursor: &mut Cursor<'_>,
     sheet: Sheet<'_>,
     request: &ParametricRequest,
 ) -> Result<SweepAnswer, Stop>
@@ -90,8 +144,15 @@ pub fn answer_to_sweep(
     requires lawful { IsLinearProgram sheet.lp.now }
     requires no_change { sheet.lp.now.change ≡ None }
     requires serves { Serves sheet.problem.now sheet.lp.now request.now }
-    ensures { (limit : ℕ) → Taken IsSweepAnswer (judged (OfSweep (sweep_of limit request.now)) (sheet_shown sheet.entry) _cursor.old)
-        _cursor.new result }
+    ensures { (limit : ℕ) → Taken IsSweepAnswer (judged (OfSweep (sweep_of limit request.now)) (sheet_shown sheet.entry) cursor.old)
+        cursor.new result }
 {
-    Err(Stop::NoMemory)
+    let mut ahead = Cursor::new(cursor.left());
+    if !take_sweep_head(&mut ahead, request) {
+        let mark = read_opening(alloc, cursor, sheet, request)?;
+        return Ok(SweepAnswer::Opened(mark));
+    }
+    *cursor = ahead;
+    let last = read_run(alloc, cursor, sheet, request)?;
+    Ok(SweepAnswer::Swept(last))
 }

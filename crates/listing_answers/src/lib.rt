@@ -3,6 +3,18 @@
 #![tactic(auto)]
 
 mod answer;
+mod claim_tests;
+mod claims;
+mod closing;
+mod closing_tests;
+mod families;
+mod intervals;
+mod judging;
+mod openings;
+mod solution;
+mod solution_tests;
+mod sweeping;
+mod words;
 
 pub use answer::{
     Conclusion, Stop, SweepAnswer, answer_to_path, answer_to_solution, answer_to_sweep,

@@ -326,23 +326,23 @@ pub fn line(cursor: &mut Cursor<'_>, sheet: Sheet<'_>, shape: Shape, k: u32) -> 
     Some(numbers)
 }
 
-/// The lines of so many variables, from the first on.
+/// The lines of so many variables after those that stand before them.
 pub fn table(
     alloc: Global,
     cursor: &mut Cursor<'_>,
     sheet: Sheet<'_>,
     shape: Shape,
-    first: u32,
+    before: u32,
     count: u32,
 ) -> Result<Option<Vec<Numbers>>, NoMemory>
-    requires lines { (k : ℕ) → first ≤ k → k < first + count → MayRead sheet shape k }
-    requires fits { first + count < 2 ^ 32 }
-    ensures { IfOk result (λ found. IsTableRead (sheet_shown sheet.entry) shape (numbers_from first count)
+    requires lines { (k : ℕ) → before < k → k ≤ before + count → MayRead sheet shape k }
+    requires fits { before + count < 2 ^ 32 }
+    ensures { IfOk result (λ found. IsTableRead (sheet_shown sheet.entry) shape (numbers_from (before + 1) count)
         cursor.old cursor.new (option_map (λ table. table.items) found)) }
 {
     let mut table = Vec::new(alloc);
-    for k in first..first + count {
-        let Some(numbers) = line(cursor, sheet, shape, k) else {
+    for i in 0..count {
+        let Some(numbers) = line(cursor, sheet, shape, before + i + 1) else {
             return Ok(None);
         };
         table.push(numbers).map_err(|_| NoMemory)?;

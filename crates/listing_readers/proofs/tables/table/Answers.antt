@@ -1,39 +1,43 @@
-use Rattle.std.proofs.Common.{◌≡◌, ◌+◌, ◌-◌, ◌∷◌, ◌++◌, [], ℕ, List, subst₂, sym, arith, rules, le_refl}
+use Rattle.std.proofs.Common.{◌≡◌, ◌+◌, ◌-◌, ◌∷◌, ◌++◌, [], ℕ, List, subst, subst₂, sym, arith, rules}
 use Rattle.lp_definitions.specs.LinearProgram.{numbers_from}
 use Rattle.listing_readers.specs.declared.tables.Numbers.{Numbers}
 use Rattle.listing_readers.specs.Read.{sheet_shown}
 use Rattle.listing_readers.proofs.Reading.{IsReadSoFar, table_begins, table_goes_on, table_fails, table_ends}
 use Rattle.listing_readers.proofs.tables.table.Goals as goal
 
-pub loop-k-init : goal.loop-k-init
-loop-k-init c =
-    let all = numbers_from c.args.first c.args.count in
-    let left : c.args.count ≡ c.args.first + c.args.count - c.args.first = omega arith in (
-      le_refl c.args.first,
-      subst₂ (λ (n : ℕ) (items : List Numbers). IsReadSoFar (sheet_shown c.args.sheet) c.args.shape all c.args.cursor.now c.args.first n c.args.cursor.now items) left (sym c.new-table.ensures.items)
-          (table_begins (sheet_shown c.args.sheet) c.args.shape c.args.first c.args.count c.args.cursor.now),
+pub loop-i-init : goal.loop-i-init
+loop-i-init c =
+    let all = numbers_from (c.args.before + 1) c.args.count in
+    let first : c.args.before + 1 ≡ c.args.before + 0 + 1 = omega arith in
+    let left : c.args.count ≡ c.args.count - 0 = omega arith in (
+      omega arith,
+      subst (λ (k : ℕ). IsReadSoFar (sheet_shown c.args.sheet) c.args.shape all c.args.cursor.now k (c.args.count - 0) c.args.cursor.now c.new-table.result.items) first
+          (subst₂ (λ (n : ℕ) (items : List Numbers). IsReadSoFar (sheet_shown c.args.sheet) c.args.shape all c.args.cursor.now (c.args.before + 1) n c.args.cursor.now items) left (sym c.new-table.ensures.items)
+          (table_begins (sheet_shown c.args.sheet) c.args.shape (c.args.before + 1) c.args.count c.args.cursor.now)),
     )
 
 pub line-requires : goal.line-requires
-line-requires c = c.requires.lines c.loop-k.k c.loop-k.invariant.0 c.loop-k-test.true
+line-requires c = c.requires.lines (c.args.before + c.loop-i.i + 1) (omega arith) (omega (arith, c.loop-i-test.true))
 
 pub returns-in_default : goal.returns-in_default
 returns-in_default c =
-    table_fails (sheet_shown c.args.sheet) c.args.shape (numbers_from c.args.first c.args.count) c.args.cursor.now c.loop-k.k (c.args.first + c.args.count - c.loop-k.k) c.loop-k.cursor c.line.new.cursor c.loop-k.table.items
-    c.loop-k.invariant.1 (omega (arith, c.loop-k-test.true)) c.in_default.ensures
+    table_fails (sheet_shown c.args.sheet) c.args.shape (numbers_from (c.args.before + 1) c.args.count) c.args.cursor.now (c.args.before + c.loop-i.i + 1) (c.args.count - c.loop-i.i) c.loop-i.cursor c.line.new.cursor c.loop-i.table.items
+    c.loop-i.invariant.1 (omega (arith, c.loop-i-test.true)) c.in_default.ensures
 
-pub loop-k-preserved : goal.loop-k-preserved
-loop-k-preserved c =
-    let all = numbers_from c.args.first c.args.count in
-    let pushed : c.push.new.self.items ≡ c.loop-k.table.items ++ (c.in-Some.numbers ∷ []) = search rules in
-    let left : c.args.first + c.args.count - c.loop-k.k - 1 ≡ c.args.first + c.args.count - (c.loop-k.k + 1) = omega arith in (
-      omega (arith, c.loop-k.invariant.0),
-      subst₂ (λ (n : ℕ) (items : List Numbers). IsReadSoFar (sheet_shown c.args.sheet) c.args.shape all c.args.cursor.now (c.loop-k.k + 1) n c.line.new.cursor items) left (sym pushed)
-          (table_goes_on (sheet_shown c.args.sheet) c.args.shape all c.args.cursor.now c.loop-k.k (c.args.first + c.args.count - c.loop-k.k) c.loop-k.cursor c.line.new.cursor c.loop-k.table.items c.in-Some.numbers
-          c.loop-k.invariant.1 (omega (arith, c.loop-k-test.true)) c.in-Some.ensures),
+pub loop-i-preserved : goal.loop-i-preserved
+loop-i-preserved c =
+    let all = numbers_from (c.args.before + 1) c.args.count in
+    let pushed : c.push.new.self.items ≡ c.loop-i.table.items ++ (c.in-Some.numbers ∷ []) = search rules in
+    let next : c.args.before + c.loop-i.i + 1 + 1 ≡ c.args.before + (c.loop-i.i + 1) + 1 = omega arith in
+    let left : c.args.count - c.loop-i.i - 1 ≡ c.args.count - (c.loop-i.i + 1) = omega arith in (
+      omega (arith, c.loop-i-test.true),
+      subst (λ (k : ℕ). IsReadSoFar (sheet_shown c.args.sheet) c.args.shape all c.args.cursor.now k (c.args.count - (c.loop-i.i + 1)) c.line.new.cursor c.push.new.self.items) next
+          (subst₂ (λ (n : ℕ) (items : List Numbers). IsReadSoFar (sheet_shown c.args.sheet) c.args.shape all c.args.cursor.now (c.args.before + c.loop-i.i + 1 + 1) n c.line.new.cursor items) left (sym pushed)
+          (table_goes_on (sheet_shown c.args.sheet) c.args.shape all c.args.cursor.now (c.args.before + c.loop-i.i + 1) (c.args.count - c.loop-i.i) c.loop-i.cursor c.line.new.cursor c.loop-i.table.items c.in-Some.numbers
+          c.loop-i.invariant.1 (omega (arith, c.loop-i-test.true)) c.in-Some.ensures)),
     )
 
 pub returns : goal.returns
 returns c =
-    table_ends (sheet_shown c.args.sheet) c.args.shape (numbers_from c.args.first c.args.count) c.args.cursor.now c.loop-k.k (c.args.first + c.args.count - c.loop-k.k) c.loop-k.cursor c.loop-k.table.items
-    c.loop-k.invariant.1 (omega (arith, c.loop-k-test.false))
+    table_ends (sheet_shown c.args.sheet) c.args.shape (numbers_from (c.args.before + 1) c.args.count) c.args.cursor.now (c.args.before + c.loop-i.i + 1) (c.args.count - c.loop-i.i) c.loop-i.cursor c.loop-i.table.items
+    c.loop-i.invariant.1 (omega (arith, c.loop-i-test.false))

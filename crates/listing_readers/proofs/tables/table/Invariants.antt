@@ -4,6 +4,6 @@ use Rattle.listing_readers.specs.Read.{sheet_shown}
 use Rattle.listing_readers.proofs.Reading.{IsReadSoFar}
 use Rattle.listing_readers.proofs.tables.table.Given as goal
 
-abbrev pub invariant-loop-k : goal.invariant-loop-k
-invariant-loop-k l =
-    (l.fn.first ≤ l.k) × IsReadSoFar (sheet_shown l.fn.sheet) l.fn.shape (numbers_from l.fn.first l.fn.count) l.fn.cursor l.k (l.fn.first + l.fn.count - l.k) l.cursor l.table.items
+abbrev pub invariant-loop-i : goal.invariant-loop-i
+invariant-loop-i l =
+    (l.i ≤ l.fn.count) × IsReadSoFar (sheet_shown l.fn.sheet) l.fn.shape (numbers_from (l.fn.before + 1) l.fn.count) l.fn.cursor (l.fn.before + l.i + 1) (l.fn.count - l.i) l.cursor l.table.items

@@ -1,0 +1,66 @@
+-- How a parametric run closes, as it is read and tested.
+use Rattle.std.proofs.Common.{◌≡◌, ℕ, List, [], ◌∷◌, length, Option, Some, None, Result, Ok, Err, refl, sym, ap, ◌∙◌}
+use Rattle.std.specs.Prelude.{IfOk, option_and_then}
+use Rattle.std.specs.Option.{option_or}
+use Rattle.exact_values.specs.Rational.{ℚ}
+use Rattle.exact_values.specs.Tests.{eq_ℚ}
+use Rattle.lp_definitions.specs.LinearProgram.{value_at}
+use Rattle.check_definitions.specs.Steps.{in_turn}
+use Rattle.listing_definitions.specs.Report.{ChainEnd, EndsAt, UnboundedPast, InfeasiblePast}
+use Rattle.listing_definitions.specs.Text.{solver_text}
+use Rattle.lp_model.specs.declared.NoMemory.{NoMemory}
+use Rattle.question_definitions.specs.Answers.{Sheet, Changing, Row, Set, sweeper}
+use Rattle.answer_definitions.specs.Sweeps.{row_of, shifts_of}
+use Rattle.run_definitions.specs.Verbs.{last_value}
+use Rattle.walk_definitions.specs.Words.{Parsed, left_after}
+use Rattle.walk_definitions.specs.Tests.{asked, past_test, unbounded_past, infeasible_past, close_test}
+use Rattle.walk_definitions.specs.Reading.{close_in}
+use Rattle.listing_answers.specs.declared.closing.Closing as declared
+use Rattle.listing_answers.specs.declared.closing.Closing.TheVariants as closings
+use Rattle.listing_answers.specs.Words.{Found}
+use Rattle.listing_answers.specs.Closings.{end_in, row_close_in, set_close_in, close_after_in, Closes, value_of, ClosingFits, closing_test}
+use Rattle.listing_answers.proofs.Tables.{multipliers_counted}
+
+-- ---- what is read
+
+module _ (sheet : Sheet) (second : List ℕ → Parsed ChainEnd) (old new : List ℕ) where
+  pub end_first : (t : ℚ) → end_in old ≡ Some (EndsAt t, new) → Found (Closes sheet) (option_or (end_in old) (second old)) new (Some (closings.At t))
+  end_first t e = record { answer = EndsAt t; is_found = ap (λ o. option_or o (second old)) e; shows = refl }
+
+  module _ (last : List ℕ) (missing : (end_in old ≡ None) × (new ≡ old)) where
+    end_second : (found : Option declared.Closing) → Found (Closes sheet) (second new) last found → Found (Closes sheet) (option_or (end_in old) (second old)) last found
+    end_second None none = ap (λ o. option_or o (second old)) missing.0 ∙ ap second (sym missing.1) ∙ none
+    end_second (Some closing) found = record { answer = found.answer; is_found = ap (λ o. option_or o (second old)) missing.0 ∙ ap second (sym missing.1) ∙ found.is_found; shows = found.shows }
+
+    pub end_then : (result : Result (Option declared.Closing) NoMemory) → IfOk result (Found (Closes sheet) (second new) last) → IfOk result (Found (Closes sheet) (option_or (end_in old) (second old)) last)
+    end_then (Ok found) h = end_second found h
+    end_then (Err none) h = h
+
+pub close_taken : (sheet : Sheet) (changing : Changing) (old left : List ℕ) → left_after (solver_text (sweeper changing)) old ≡ Some left → close_in sheet (sweeper changing) old ≡ close_after_in sheet changing left
+close_taken sheet (Row name) old left e = ap (option_and_then (row_close_in sheet)) e
+close_taken sheet (Set name) old left e = ap (option_and_then (set_close_in sheet)) e
+
+-- ---- what is tested
+
+pub closing_fits : (sheet : Sheet) (closing : declared.Closing) (end : ChainEnd) → Closes sheet closing end → ClosingFits sheet.lp closing
+closing_fits sheet (closings.At t) (EndsAt printed) closes = tt
+closing_fits sheet (closings.Unbounded t pair) (UnboundedPast printed lines) closes = closes.1.fits
+closing_fits sheet (closings.Infeasible t ray) (InfeasiblePast printed lines) closes = ap length closes.1 ∙ multipliers_counted sheet lines
+closing_fits sheet closing end closes = absurd closes
+
+pub closing_value : (sheet : Sheet) (closing : declared.Closing) (end : ChainEnd) → Closes sheet closing end → value_of closing ≡ last_value end
+closing_value sheet (closings.At t) (EndsAt printed) closes = closes
+closing_value sheet (closings.Unbounded t pair) (UnboundedPast printed lines) closes = closes.0
+closing_value sheet (closings.Infeasible t ray) (InfeasiblePast printed lines) closes = closes.0
+closing_value sheet closing end closes = absurd closes
+
+pub closing_tested : (sheet : Sheet) (changing : Changing) (max last : ℚ) (closing : declared.Closing) (end : ChainEnd) → Closes sheet closing end → closing_test sheet changing max last closing ≡ close_test sheet changing max last end
+closing_tested sheet (Row name) max last (closings.At t) (EndsAt printed) closes = ap (λ t. in_turn (asked (eq_ℚ t last) ∷ asked (eq_ℚ t max) ∷ [])) closes
+closing_tested sheet (Set name) max last (closings.At t) (EndsAt printed) closes = ap (λ t. in_turn (asked (eq_ℚ t last) ∷ asked (eq_ℚ t max) ∷ [])) closes
+closing_tested sheet (Row name) max last (closings.Unbounded t pair) (UnboundedPast printed lines) closes =
+    λ i. past_test max last (closes.0 i) (unbounded_past sheet (Row name) (row_of sheet.problem name) (closes.0 i) (value_at (closes.1.is_point i)) (value_at (closes.1.is_direction i)))
+closing_tested sheet (Set name) max last (closings.Unbounded t pair) (UnboundedPast printed lines) closes = refl
+closing_tested sheet (Row name) max last (closings.Infeasible t ray) (InfeasiblePast printed lines) closes = refl
+closing_tested sheet (Set name) max last (closings.Infeasible t ray) (InfeasiblePast printed lines) closes =
+    λ i. past_test max last (closes.0 i) (infeasible_past sheet (Set name) (shifts_of sheet.problem name) (closes.0 i) (value_at (closes.1 i)))
+closing_tested sheet changing max last closing end closes = absurd closes

@@ -1,0 +1,12 @@
+mod Chains
+mod Tables
+mod Claimed
+mod Passing
+mod Solutions
+mod Limits
+mod Ends
+mod Runs
+mod ClosingFacts
+mod ClosingSums
+mod SweepFacts
+mod PastFacts

@@ -1,0 +1,113 @@
+-- The intervals of a run, one after another: what is left decides the whole.
+use Rattle.std.proofs.Common.{◌≡◌, ℕ, ◌+◌, ◌<◌, true, false, List, [], ◌∷◌, ◌++◌, Some, None, Result, Ok, Err, refl, sym, ap, subst, ◌∙◌, append_assoc, arith, add-one, length, get_or, drop, if◌then◌else◌}
+use Rattle.std.proofs.Math.Seq.{drop-cons}
+use Rattle.std.specs.Prelude.{codes, nat_eq, IsErrAnd}
+use Rattle.std.proofs.lemmas.Result.{err_from_is_err_and}
+use Rattle.std.proofs.lemmas.Bool.Decides.{nat_tests}
+use Rattle.exact_values.specs.Rational.{ℚ}
+use Rattle.listing_definitions.specs.Report.{Interval, ChainEnd}
+use Rattle.question_definitions.specs.Answers.{Sheet, Sweep, sweeper}
+use Rattle.run_definitions.specs.Verbs.{last_value}
+use Rattle.walk_definitions.specs.Words.{left_after}
+use Rattle.walk_definitions.specs.Tests.{interval_test, close_test}
+use Rattle.walk_definitions.specs.Reading.{Judged, Right, Fails, Refuses, tested, judged_map, Run, interval_in, close_in, onward, part_in, run_in}
+use Rattle.listing_answers.specs.declared.answer.Stop.{Stop}
+use Rattle.listing_answers.specs.declared.answer.Stop.TheVariants as stops
+use Rattle.listing_answers.specs.Taken.{Taken}
+
+abbrev pub after : List Interval → Judged Run → Judged Run
+after intervals rest = judged_map (λ run. (intervals ++ run.0, run.1)) rest
+
+after_none : (rest : Judged Run) → after [] rest ≡ rest
+after_none (Right run left) = refl
+after_none Fails = refl
+after_none Refuses = refl
+
+after_more : (intervals : List Interval) (interval : Interval) (rest : Judged Run) → after intervals (judged_map (λ run. (interval ∷ run.0, run.1)) rest) ≡ after (intervals ++ interval ∷ []) rest
+after_more intervals interval (Right run left) = ap (λ all. Right (all, run.1) left) (sym (append_assoc intervals (interval ∷ []) run.0))
+after_more intervals interval Fails = refl
+after_more intervals interval Refuses = refl
+
+-- what is shown of the answer
+abbrev pub EndsRun : ℚ → Run → Type 0
+EndsRun last run = last ≡ last_value run.1
+
+abbrev pub EndsPart : ℚ → Interval → Type 0
+EndsPart to interval = to ≡ interval.to
+
+abbrev pub EndsChain : ℚ → ChainEnd → Type 0
+EndsChain last end = last ≡ last_value end
+
+module _ (sheet : Sheet) (sweep : Sweep) where
+  -- some intervals were read
+  pub record IsRunSoFar (whole : Judged Run) (room : List ℕ) (number : ℕ) (last : ℚ) (rest : List ℕ) : Type 0 where
+    pub intervals : List Interval
+    pub decides : whole ≡ after intervals (run_in sheet sweep room number last rest)
+
+  pub run_begins : (room : List ℕ) (number : ℕ) (last : ℚ) (rest : List ℕ) → IsRunSoFar (run_in sheet sweep room number last rest) room number last rest
+  run_begins room number last rest = record { intervals = []; decides = sym (after_none (run_in sheet sweep room number last rest)) }
+
+  -- each interval takes a byte of room
+  pub room_left : (whole : Judged Run) (bytes : List ℕ) (i : ℕ) (last : ℚ) (rest : List ℕ) → i < length bytes → IsRunSoFar whole (drop i bytes) (i + 1) last rest → IsRunSoFar whole (get_or bytes i 0 ∷ drop (i + 1) bytes) (i + 1) last rest
+  room_left whole bytes i last rest below so_far =
+      subst (λ (room : List ℕ). IsRunSoFar whole room (i + 1) last rest) (drop-cons bytes i 0 below ∙ ap (λ j. get_or bytes i 0 ∷ drop j bytes) (sym (add-one i))) so_far
+
+  abbrev part_judged : ℕ → ℚ → List ℕ → Judged Interval
+  part_judged number last rest = tested (interval_test sheet sweep.changing (nat_eq number 1) sweep.to) (interval_in sheet number last rest)
+
+  abbrev close_judged : ℚ → List ℕ → Judged ChainEnd
+  close_judged last rest = tested (close_test sheet sweep.changing sweep.to last) (close_in sheet (sweeper sweep.changing) rest)
+
+  module _ (whole : Judged Run) (byte : ℕ) (room : List ℕ) (number : ℕ) (last : ℚ) (rest : List ℕ) (so_far : IsRunSoFar whole (byte ∷ room) number last rest) where
+    -- an interval stands here
+    module _ (left : List ℕ) (stands : left_after (codes "INTERVAL ") rest ≡ Some left) where
+      here : whole ≡ after so_far.intervals (onward sheet sweep (run_in sheet sweep room (number + 1)) (part_judged number last rest))
+      here = so_far.decides ∙ ap (λ o. after so_far.intervals (part_in sheet sweep (run_in sheet sweep room (number + 1)) number last rest o)) stands
+
+      pub run_goes_on : (to : ℚ) (new : List ℕ) → Taken EndsPart (part_judged number last rest) new (Ok to) → IsRunSoFar whole room (number + 1) to new
+      run_goes_on to new taken = record {
+        intervals = so_far.intervals ++ taken.answer ∷ [];
+        decides =
+            here ∙ ap (λ j. after so_far.intervals (onward sheet sweep (run_in sheet sweep room (number + 1)) j)) taken.is_right
+            ∙ after_more so_far.intervals taken.answer (run_in sheet sweep room (number + 1) taken.answer.to new)
+            ∙ ap (λ t. after (so_far.intervals ++ taken.answer ∷ []) (run_in sheet sweep room (number + 1) t new)) (sym taken.shows);
+      }
+
+      stops_by : (stop : Stop) (new : List ℕ) → Taken EndsPart (part_judged number last rest) new (Err stop) → Taken EndsRun whole new (Err stop)
+      stops_by stops.Wrong new wrong = here ∙ ap (λ j. after so_far.intervals (onward sheet sweep (run_in sheet sweep room (number + 1)) j)) wrong
+      stops_by stops.Unchecked new refused = here ∙ ap (λ j. after so_far.intervals (onward sheet sweep (run_in sheet sweep room (number + 1)) j)) refused
+      stops_by stops.NoMemory new none = tt
+
+      pub run_stops : (stop : Stop) (new : List ℕ) (result : Result ℚ Stop) → Taken EndsPart (part_judged number last rest) new (Err stop) → IsErrAnd result (λ y. y ≡ stop) → Taken EndsRun whole new result
+      run_stops stop new result h handed =
+          let p = err_from_is_err_and result handed in
+          subst (λ (r : Result ℚ Stop). Taken EndsRun whole new r) (sym p.1) (subst (λ (s : Stop). Taken EndsRun whole new (Err s)) (sym p.2) (stops_by stop new h))
+
+    -- none stands here
+    module _ (missing : left_after (codes "INTERVAL ") rest ≡ None) where
+      over : whole ≡ after so_far.intervals (if nat_eq number 1 then Fails else judged_map (λ end. ([], end)) (close_judged last rest))
+      over = so_far.decides ∙ ap (λ o. after so_far.intervals (part_in sheet sweep (run_in sheet sweep room (number + 1)) number last rest o)) missing
+
+      pub run_fails : number ≡ 1 → whole ≡ Fails
+      run_fails first =
+          let is : nat_eq number 1 ≡ true = grind (arith, nat_tests, first) in
+          over ∙ ap (λ b. after so_far.intervals (if b then Fails else judged_map (λ end. ([], end)) (close_judged last rest))) is
+
+      closing : 1 < number → whole ≡ after so_far.intervals (judged_map (λ end. ([], end)) (close_judged last rest))
+      closing later =
+          let is : nat_eq number 1 ≡ false = grind (arith, nat_tests, later) in
+          over ∙ ap (λ b. after so_far.intervals (if b then Fails else judged_map (λ end. ([], end)) (close_judged last rest))) is
+
+      pub run_closes : 1 < number → (new : List ℕ) (result : Result ℚ Stop) → Taken EndsChain (close_judged last rest) new result → Taken EndsRun whole new result
+      run_closes later new (Ok x) taken = record {
+        answer = (so_far.intervals ++ [], taken.answer);
+        is_right = closing later ∙ ap (λ j. after so_far.intervals (judged_map (λ end. ([], end)) j)) taken.is_right;
+        shows = taken.shows;
+      }
+      run_closes later new (Err stops.Wrong) wrong = closing later ∙ ap (λ j. after so_far.intervals (judged_map (λ end. ([], end)) j)) wrong
+      run_closes later new (Err stops.Unchecked) refused = closing later ∙ ap (λ j. after so_far.intervals (judged_map (λ end. ([], end)) j)) refused
+      run_closes later new (Err stops.NoMemory) none = tt
+
+  -- there is no more room
+  pub run_over : (whole : Judged Run) (room : List ℕ) (number : ℕ) (last : ℚ) (rest : List ℕ) → IsRunSoFar whole room number last rest → room ≡ [] → whole ≡ Fails
+  run_over whole room number last rest so_far none = so_far.decides ∙ ap (λ r. after so_far.intervals (run_in sheet sweep r number last rest)) none

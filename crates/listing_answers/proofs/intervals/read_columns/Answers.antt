@@ -1,0 +1,36 @@
+use Rattle.std.proofs.Common.{map, length, ap, sym, ◌∙◌}
+use Rattle.lp_definitions.specs.LinearProgram.{size, numbers_from}
+use Rattle.walk_definitions.specs.Tables.{part_slots, table_in}
+use Rattle.listing_readers.specs.declared.tables.Numbers.{Numbers}
+use Rattle.listing_readers.specs.declared.tables.Shape.TheVariants.{Part}
+use Rattle.listing_readers.specs.Read.{sheet_shown}
+use Rattle.listing_answers.proofs.Tables.{column_is, column_length, lines_counted}
+use Rattle.listing_answers.proofs.intervals.read_columns.Goals as goal
+
+pub returns : goal.returns
+returns c =
+    let sheet = sheet_shown c.args.sheet in
+    let n = size sheet.lp.matrix in
+    let read = rw c.in-Some.is at c.in_ok-numbers.ensures in
+    let numbers = c.in-Some.numbers.items in
+    let table = ap (λ n. table_in sheet part_slots (numbers_from 1 n) c.args.cursor.now) (sym c.number_of_variables-count.ensures.size) ∙ read.1 in
+    let places = lines_counted sheet part_slots c.args.cursor.now read.0 c.table.new.cursor table in
+    let value = column_is Part (λ n. n.first) numbers read.0 c.in_ok-firsts.field-0.items read.2 (c.in_ok-firsts.ensures ∙ ap (map (λ (n : Numbers). n.first)) c.deref.ensures.value) in
+    let value_rate = column_is Part (λ n. n.second) numbers read.0 c.in_ok-seconds.field-0.items read.2 (c.in_ok-seconds.ensures ∙ ap (map (λ (n : Numbers). n.second)) c.deref-2.ensures.value) in
+    let price = column_is Part (λ n. n.third) numbers read.0 c.in_ok-thirds.field-0.items read.2 (c.in_ok-thirds.ensures ∙ ap (map (λ (n : Numbers). n.third)) c.deref-3.ensures.value) in
+    let price_rate = column_is Part (λ n. n.fourth) numbers read.0 c.in_ok-fourths.field-0.items read.2 (c.in_ok-fourths.ensures ∙ ap (map (λ (n : Numbers). n.fourth)) c.deref-4.ensures.value) in (
+      read.0,
+      table,
+      record {
+        value = value;
+        value_rate = value_rate;
+        price = price;
+        price_rate = price_rate;
+        counted = record {
+          value = ap length value ∙ column_length 1 n read.0 places;
+          value_rate = ap length value_rate ∙ column_length 2 n read.0 places;
+          price = ap length price ∙ column_length 3 n read.0 places;
+          price_rate = ap length price_rate ∙ column_length 4 n read.0 places;
+        };
+      },
+    )

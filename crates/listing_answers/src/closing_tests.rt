@@ -1,0 +1,262 @@
+// The tests of how a parametric run closes.
+ghost use Rattle.std.specs.Prelude.{◌≡◌, [], ◌∷◌, None, is_some, unwrap_or, length, map, if◌then◌else◌};
+ghost use Rattle.exact_values.specs.Rational.{ℚ, zero_ℚ, ◌+ℚ◌, ◌*ℚ◌};
+ghost use Rattle.exact_values.specs.Tests.{eq_ℚ, lt_ℚ, le_ℚ};
+ghost use Rattle.lp_definitions.specs.LinearProgram.{IsLinearProgram, IsRow, IsVariable, size, value_at, lower_of, upper_of, for_min};
+ghost use Rattle.check_definitions.specs.Steps.{comparison, verdict_of, in_turn, sum_steps, sum_of};
+ghost use Rattle.check_definitions.specs.Checks.{limit_product, ray_limits, multiplied, multiplied_among};
+ghost use Rattle.question_definitions.specs.Answers.{Changing};
+ghost use Rattle.parametric_request.specs.Asking.{Serves, changing_of};
+ghost use Rattle.walk_definitions.specs.Tests.{asked, past_test, unbounded_past, infeasible_past, shift_products};
+ghost use Rattle.listing_readers.specs.Read.{sheet_shown};
+ghost use Rattle.listing_answers.specs.Passing.{Judges};
+ghost use Rattle.listing_answers.specs.Making.{Makes};
+ghost use Rattle.listing_answers.specs.Claims.{IsPairOf};
+ghost use Rattle.listing_answers.specs.Closings.{ClosingFits, unbounded_test, infeasible_test, closing_test, bettering_test};
+
+use crate::answer::Stop;
+use crate::claims::Pair;
+use crate::closing::Closing;
+use crate::families::{plus_product, program_at};
+use crate::judging::{ask, counted_for, is_at_most, is_equal, judge};
+use certificate_check::{check_combination, check_direction, check_direction_limits, check_point};
+use frac128::Frac;
+use listing_tables::{Sheet, objective_of};
+use lp_model::Lp;
+use parametric_request::{Change, ParametricRequest};
+use std::alloc::Global;
+
+// ---- past a value there is no best point
+
+// The objective of a direction doesn't get worse at a value, and its change row betters.
+fn check_bettering(lp: &Lp, row: u32, value: Frac, direction: &[Frac]) -> Result<(), Stop>
+    requires row { IsRow lp.now.matrix row }
+    requires places { length direction.now ≡ size lp.now.matrix }
+    ensures { Judges (bettering_test lp.now row value (value_at direction.now)) result }
+{
+    let better = direction[row as usize - 1];
+    let slope = plus_product(objective_of(lp, direction), value, better)?;
+    ask(is_at_most(counted_for(lp.sense, slope), Frac::whole(0)))?;
+    ask(counted_for(lp.sense, better).is_less(Frac::whole(0)))
+}
+
+// A feasible point, and a direction that keeps all limits and betters past a value.
+fn check_unbounded_past(
+    sheet: Sheet<'_>,
+    row: u32,
+    value: Frac,
+    point: &[Frac],
+    direction: &[Frac],
+) -> Result<(), Stop>
+    requires row { IsRow sheet.lp.now.matrix row }
+    requires point_places { length point.now ≡ size sheet.lp.now.matrix }
+    requires direction_places { length direction.now ≡ size sheet.lp.now.matrix }
+    ensures { (changing : Changing) → Judges (unbounded_past (sheet_shown sheet.entry) changing row value (value_at point.now) (value_at direction.now)) result }
+{
+    judge(check_point(sheet.lp, point))?;
+    judge(check_direction(sheet.lp, direction))?;
+    judge(check_direction_limits(sheet.lp, direction))?;
+    check_bettering(sheet.lp, row, value, direction)
+}
+
+// ---- past a value no point is feasible
+
+// The limit that a multiplier meets.
+fn limit_met(lp: &Lp, multiplier: Frac, k: u32) -> Option<Frac>
+    requires { IsVariable lp.now.matrix k }
+    ensures { result ≡ (if lt_ℚ zero_ℚ multiplier then upper_of lp.now k else lower_of lp.now k) }
+{
+    if Frac::whole(0).is_less(multiplier) {
+        lp.upper_limit(k)
+    } else {
+        lp.lower_limit(k)
+    }
+}
+
+// A sum, and a multiplier times the limit that it meets.
+fn plus_met(sum: Frac, multiplier: Frac, limit: Option<Frac>, k: u32) -> Result<Frac, Stop>
+    ensures { let met = unwrap_or limit zero_ℚ in
+        Makes (λ next. next ≡ sum +ℚ multiplier *ℚ met) (verdict_of (comparison 2 k (is_some limit) ∷ sum_steps sum (record { left = multiplier; right = met } ∷ []))) result }
+{
+    match limit {
+        Some(limit) => plus_product(sum, multiplier, limit),
+        None => Err(Stop::Wrong),
+    }
+}
+
+// A sum, and the multiplier of a variable times the limit that it meets, if it isn't 0.
+fn plus_limit(lp: &Lp, ray: &[Frac], sum: Frac, k: u32) -> Result<Frac, Stop>
+    requires variable { IsVariable lp.now.matrix k }
+    requires places { length ray.now ≡ size lp.now.matrix }
+    ensures { let w = value_at ray.now in let ks = multiplied_among w (k ∷ []) in
+        Makes (λ next. next ≡ sum_of sum (map (limit_product lp.now w) ks)) (verdict_of (ray_limits lp.now w sum ks)) result }
+{
+    let multiplier = ray[k as usize - 1];
+    if multiplier.is_zero() {
+        return Ok(sum);
+    }
+    plus_met(sum, multiplier, limit_met(lp, multiplier, k), k)
+}
+
+// The sum of the multipliers that aren't 0, each times the limit that it meets.
+fn limit_sum(lp: &Lp, ray: &[Frac]) -> Result<Frac, Stop>
+    requires { length ray.now ≡ size lp.now.matrix }
+    ensures { let w = value_at ray.now in
+        Makes (λ sum. sum ≡ sum_of zero_ℚ (map (limit_product lp.now w) (multiplied lp.now w))) (verdict_of (ray_limits lp.now w zero_ℚ (multiplied lp.now w))) result }
+{
+    let mut sum = Frac::whole(0);
+    for i in 0..lp.number_of_variables() {
+        sum = plus_limit(lp, ray, sum, i + 1)?;
+    }
+    Ok(sum)
+}
+
+// The sum of the multipliers of the rows, each times the row's shift.
+fn shift_sum(sheet: Sheet<'_>, shift: &[Frac], ray: &[Frac]) -> Result<Frac, Stop>
+    requires shifts { length shift.now ≡ sheet.lp.now.matrix.rows }
+    requires places { length ray.now ≡ size sheet.lp.now.matrix }
+    ensures { (changing : Changing) → let products = shift_products (sheet_shown sheet.entry) changing shift.now (value_at ray.now) in
+        Makes (λ sum. sum ≡ sum_of zero_ℚ products) (verdict_of (sum_steps zero_ℚ products)) result }
+{
+    let mut sum = Frac::whole(0);
+    for place in 0..shift.len() {
+        sum = plus_product(sum, ray[place], shift[place])?;
+    }
+    Ok(sum)
+}
+
+// A ray at a value, whose limits add up to no more than 0 and fall as the value grows.
+fn check_infeasible_past(
+    alloc: Global,
+    sheet: Sheet<'_>,
+    request: &ParametricRequest,
+    shift: &[Frac],
+    value: Frac,
+    ray: &[Frac],
+) -> Result<(), Stop>
+    requires lawful { IsLinearProgram sheet.lp.now }
+    requires no_change { sheet.lp.now.change ≡ None }
+    requires serves { Serves sheet.problem.now sheet.lp.now request.now }
+    requires shifts { length shift.now ≡ sheet.lp.now.matrix.rows }
+    requires places { length ray.now ≡ size sheet.lp.now.matrix }
+    ensures { Judges (infeasible_past (sheet_shown sheet.entry) (changing_of request.now.name request.now.change) shift.now value (value_at ray.now)) result }
+{
+    let program = program_at(alloc, sheet, request, value)?;
+    judge(check_combination(&program, ray))?;
+    let sum = limit_sum(&program, ray)?;
+    ask(is_at_most(sum, Frac::whole(0)))?;
+    let fall = shift_sum(sheet, shift, ray)?;
+    ask(fall.is_less(Frac::whole(0)))
+}
+
+// ---- the whole
+
+// It ends at its last value, which is the last end.
+fn check_end_at(value: Frac, last: Frac, max: Frac) -> Result<(), Stop>
+    ensures { Judges (in_turn (asked (eq_ℚ value last) ∷ asked (eq_ℚ value max) ∷ [])) result }
+{
+    ask(is_equal(value, last))?;
+    ask(is_equal(value, max))
+}
+
+// It ends past the last end, which is before the last value, and what comes after it is proved by a point and a direction.
+fn check_past_unbounded(
+    sheet: Sheet<'_>,
+    row: u32,
+    value: Frac,
+    last: Frac,
+    max: Frac,
+    pair: &Pair,
+) -> Result<(), Stop>
+    requires row { IsRow sheet.lp.now.matrix row }
+    requires pair { IsPairOf sheet.lp.now pair.now }
+    ensures { (changing : Changing) → Judges (past_test max last value (unbounded_past (sheet_shown sheet.entry) changing row value (value_at pair.now.point.items) (value_at pair.now.direction.items))) result }
+{
+    ask(is_equal(value, last))?;
+    ask(value.is_less(max))?;
+    check_unbounded_past(sheet, row, value, &pair.point, &pair.direction)
+}
+
+// A run of the objective may close so.
+fn check_unbounded(
+    sheet: Sheet<'_>,
+    request: &ParametricRequest,
+    last: Frac,
+    value: Frac,
+    pair: &Pair,
+) -> Result<(), Stop>
+    requires serves { Serves sheet.problem.now sheet.lp.now request.now }
+    requires pair { IsPairOf sheet.lp.now pair.now }
+    ensures { Judges (unbounded_test (sheet_shown sheet.entry) (changing_of request.now.name request.now.change) request.now.to last value pair.now.point.items pair.now.direction.items) result }
+{
+    match &request.change {
+        Change::Row(row) => check_past_unbounded(sheet, *row, value, last, request.to, pair),
+        Change::Set(_) => Err(Stop::Wrong),
+    }
+}
+
+// It ends past the last end, which is before the last value, and what comes after it is proved by a ray.
+fn check_past_infeasible(
+    alloc: Global,
+    sheet: Sheet<'_>,
+    request: &ParametricRequest,
+    last: Frac,
+    shift: &[Frac],
+    value: Frac,
+    ray: &[Frac],
+) -> Result<(), Stop>
+    requires lawful { IsLinearProgram sheet.lp.now }
+    requires no_change { sheet.lp.now.change ≡ None }
+    requires serves { Serves sheet.problem.now sheet.lp.now request.now }
+    requires shifts { length shift.now ≡ sheet.lp.now.matrix.rows }
+    requires places { length ray.now ≡ size sheet.lp.now.matrix }
+    ensures { Judges (past_test request.now.to last value (infeasible_past (sheet_shown sheet.entry) (changing_of request.now.name request.now.change) shift.now value (value_at ray.now))) result }
+{
+    ask(is_equal(value, last))?;
+    ask(value.is_less(request.to))?;
+    check_infeasible_past(alloc, sheet, request, shift, value, ray)
+}
+
+// A run of the right-hand side may close so.
+fn check_infeasible(
+    alloc: Global,
+    sheet: Sheet<'_>,
+    request: &ParametricRequest,
+    last: Frac,
+    value: Frac,
+    ray: &[Frac],
+) -> Result<(), Stop>
+    requires lawful { IsLinearProgram sheet.lp.now }
+    requires no_change { sheet.lp.now.change ≡ None }
+    requires serves { Serves sheet.problem.now sheet.lp.now request.now }
+    requires places { length ray.now ≡ size sheet.lp.now.matrix }
+    ensures { Judges (infeasible_test (sheet_shown sheet.entry) (changing_of request.now.name request.now.change) request.now.to last value ray.now) result }
+{
+    match &request.change {
+        Change::Row(_) => Err(Stop::Wrong),
+        Change::Set(shift) => check_past_infeasible(alloc, sheet, request, last, shift, value, ray),
+    }
+}
+
+/// How a run closes whose last interval ends here.
+pub fn check_closing(
+    alloc: Global,
+    sheet: Sheet<'_>,
+    request: &ParametricRequest,
+    last: Frac,
+    closing: &Closing,
+) -> Result<(), Stop>
+    requires lawful { IsLinearProgram sheet.lp.now }
+    requires no_change { sheet.lp.now.change ≡ None }
+    requires serves { Serves sheet.problem.now sheet.lp.now request.now }
+    requires fits { ClosingFits sheet.lp.now closing.now }
+    ensures { Judges (closing_test (sheet_shown sheet.entry) (changing_of request.now.name request.now.change) request.now.to last closing.now) result }
+{
+    match closing {
+        Closing::At(value) => check_end_at(*value, last, request.to),
+        Closing::Unbounded(value, pair) => check_unbounded(sheet, request, last, *value, pair),
+        Closing::Infeasible(value, ray) => {
+            check_infeasible(alloc, sheet, request, last, *value, ray)
+        }
+    }
+}

@@ -1,0 +1,127 @@
+// What stands before the intervals of a parametric run, and an opening that isn't optimal.
+ghost use Rattle.std.specs.Prelude.{◌≡◌, ◌++◌, ℕ, None, codes};
+ghost use Rattle.lp_definitions.specs.LinearProgram.{IsLinearProgram};
+ghost use Rattle.listing_tables.specs.Sheets.{IsSheet};
+ghost use Rattle.question_definitions.specs.Answers.{sweeper};
+ghost use Rattle.parametric_request.specs.Asking.{Serves, changing_of, sweep_of};
+ghost use Rattle.walk_definitions.specs.Words.{left_after};
+ghost use Rattle.walk_definitions.specs.Reading.{sweep_head, opening_in};
+ghost use Rattle.listing_readers.specs.Read.{taken, sheet_shown};
+ghost use Rattle.listing_answers.specs.Claims.{mark_by};
+ghost use Rattle.listing_answers.specs.Taken.{Taken, IsOpened};
+
+use crate::answer::Stop;
+use crate::claim_tests::test;
+use crate::claims::{Claim, read_verdict};
+use crate::families::program_at;
+use crate::judging::judge;
+use listing_definitions::{Mark, Solver};
+use listing_readers::Cursor;
+use listing_tables::{Sheet, fraction, solver_word};
+use parametric_request::{Change, ParametricRequest};
+use std::alloc::Global;
+
+/// The verb that makes the run.
+pub fn solver_of(request: &ParametricRequest) -> Solver
+    ensures { result ≡ sweeper (changing_of request.now.name request.now.change) }
+{
+    match &request.change {
+        Change::Row(_) => Solver::Paraobj,
+        Change::Set(_) => Solver::Pararhs,
+    }
+}
+
+// Takes a text and the end of the line.
+#[tactic(auto, using(walk_definitions::proofs::Texts::left_after_both))]
+fn take_last(cursor: &mut Cursor<'_>, text: &[u8]) -> bool
+    ensures { left_after (text.now ++ codes "\n") cursor.old ≡ taken result cursor.new }
+{
+    cursor.take(text) && cursor.take(b"\n")
+}
+
+// Takes a text after a label, and the end of the line.
+#[tactic(auto, using(walk_definitions::proofs::Texts::left_after_both))]
+fn take_change(cursor: &mut Cursor<'_>, label: &[u8], name: &[u8]) -> bool
+    ensures { left_after (label.now ++ (name.now ++ codes "\n")) cursor.old ≡ taken result cursor.new }
+{
+    cursor.take(label) && take_last(cursor, name)
+}
+
+// Takes a value, and what changes from it on.
+#[tactic(auto, using(walk_definitions::proofs::Texts::left_after_both))]
+fn take_value(cursor: &mut Cursor<'_>, value: &[u8], label: &[u8], name: &[u8]) -> bool
+    ensures { left_after (value.now ++ (label.now ++ (name.now ++ codes "\n"))) cursor.old ≡ taken result cursor.new }
+{
+    cursor.take(value) && take_change(cursor, label, name)
+}
+
+// Takes the first value after a label, and what changes.
+#[tactic(auto, using(walk_definitions::proofs::Texts::left_after_both))]
+fn take_from(cursor: &mut Cursor<'_>, from: &[u8], value: &[u8], label: &[u8], name: &[u8]) -> bool
+    ensures { left_after (from.now ++ (value.now ++ (label.now ++ (name.now ++ codes "\n")))) cursor.old ≡ taken result cursor.new }
+{
+    cursor.take(from) && take_value(cursor, value, label, name)
+}
+
+// Takes the verb, the first value after a label, and what changes.
+#[tactic(auto, using(walk_definitions::proofs::Texts::left_after_both))]
+fn take_head(
+    cursor: &mut Cursor<'_>,
+    verb: &[u8],
+    from: &[u8],
+    value: &[u8],
+    label: &[u8],
+    name: &[u8],
+) -> bool
+    ensures { left_after (verb.now ++ (from.now ++ (value.now ++ (label.now ++ (name.now ++ codes "\n"))))) cursor.old ≡ taken result cursor.new }
+{
+    cursor.take(verb) && take_from(cursor, from, value, label, name)
+}
+
+/// Takes what stands before the first interval.
+pub fn take_sweep_head(cursor: &mut Cursor<'_>, request: &ParametricRequest) -> bool
+    ensures { (limit : ℕ) → left_after (sweep_head (sweep_of limit request.now)) cursor.old ≡ taken result cursor.new }
+{
+    let value = fraction(request.from);
+    take_head(
+        cursor,
+        solver_word(solver_of(request)),
+        b" FROM ",
+        value.as_str().as_bytes(),
+        b" CHANGE ",
+        request.name.bytes(),
+    )
+}
+
+// The mark that a claim leaves.
+fn mark_left(claim: &Claim) -> Mark
+    ensures { result ≡ mark_by claim.now }
+{
+    match claim {
+        Claim::Optimal(_) => Mark::Optimal,
+        Claim::Crossed(_) | Claim::Infeasible(_) => Mark::Infeasible,
+        Claim::Unbounded(_, _) => Mark::Unbounded,
+    }
+}
+
+/// Reads the verdict of an opening that isn't optimal and tests it. It speaks of the linear program at the first value, which is made once
+/// it is read.
+pub fn read_opening(
+    alloc: Global,
+    cursor: &mut Cursor<'_>,
+    sheet: Sheet<'_>,
+    request: &ParametricRequest,
+) -> Result<Mark, Stop>
+    requires sheet { IsSheet sheet }
+    requires lawful { IsLinearProgram sheet.lp.now }
+    requires no_change { sheet.lp.now.change ≡ None }
+    requires serves { Serves sheet.problem.now sheet.lp.now request.now }
+    ensures { (limit : ℕ) → Taken IsOpened (opening_in (sheet_shown sheet.entry) (sweep_of limit request.now) cursor.old) cursor.new result }
+{
+    let Some(stated) = read_verdict(alloc, cursor, sheet, solver_of(request))? else {
+        return Err(Stop::Wrong);
+    };
+    let program = program_at(alloc, sheet, request, request.from)?;
+    judge(test(&program, &stated))?;
+    Ok(mark_left(&stated.claim))
+}

@@ -1,0 +1,166 @@
+// The lines of SOLUTION, as the listing has them.
+ghost use Rattle.std.specs.Prelude.{◌≡◌, ◌++◌, IfOk, None, codes, map, option_map};
+ghost use Rattle.lp_definitions.specs.LinearProgram.{IsLinearProgram};
+ghost use Rattle.listing_definitions.specs.Text.{mark_text};
+ghost use Rattle.listing_tables.specs.Sheets.{IsSheet};
+ghost use Rattle.answer_definitions.specs.Lines.{row_numbers, column_numbers};
+ghost use Rattle.walk_definitions.specs.Words.{left_after};
+ghost use Rattle.walk_definitions.specs.Reading.{solution_in};
+ghost use Rattle.listing_readers.specs.Read.{taken, sheet_shown};
+ghost use Rattle.listing_readers.specs.Tables.{IsTableRead};
+ghost use Rattle.listing_answers.specs.Words.{Found};
+ghost use Rattle.listing_answers.specs.Solutions.{rows_head, columns_head, AreLines, IsPrinted};
+
+use frac128::Frac;
+use listing_definitions::Mark;
+use listing_readers::{Cursor, Numbers, Shape, firsts, seconds, table, thirds};
+use listing_tables::Sheet;
+use lp_model::NoMemory;
+use std::alloc::Global;
+
+/// The numbers of the lines of SOLUTION.
+#[derive(Drop)]
+pub struct Lines {
+    pub rows: Vec<Numbers>,
+    pub columns: Vec<Numbers>,
+}
+
+/// What SOLUTION prints of a point: the activities and the prices of all variables, and the slacks of the rows.
+#[derive(Drop)]
+pub struct Printed {
+    pub point: Vec<Frac>,
+    pub prices: Vec<Frac>,
+    pub slacks: Vec<Frac>,
+}
+
+// The word of a mark.
+fn mark_word(mark: Mark) -> &'static [u8]
+    ensures { result.now ≡ mark_text mark }
+{
+    match mark {
+        Mark::Optimal => b"OPTIMAL",
+        Mark::Infeasible => b"INFEASIBLE",
+        Mark::Unbounded => b"UNBOUNDED",
+    }
+}
+
+// Takes the heads of the rows.
+fn take_rows_heads(cursor: &mut Cursor<'_>) -> bool
+    ensures { left_after (codes "\nSECTION 1 - ROWS\nNUMBER ROW AT ACTIVITY SLACK LOWER UPPER DUAL\n") cursor.old ≡ taken result cursor.new }
+{
+    cursor.take(b"\nSECTION 1 - ROWS\nNUMBER ROW AT ACTIVITY SLACK LOWER UPPER DUAL\n")
+}
+
+// Takes the heads of the columns.
+fn take_columns_head(cursor: &mut Cursor<'_>) -> bool
+    ensures { left_after columns_head cursor.old ≡ taken result cursor.new }
+{
+    cursor.take(b"SECTION 2 - COLUMNS\nNUMBER COLUMN AT ACTIVITY COST LOWER UPPER REDUCED\n")
+}
+
+// Takes a mark and the heads of the rows.
+#[tactic(auto, using(walk_definitions::proofs::Texts::left_after_both))]
+fn take_mark(cursor: &mut Cursor<'_>, mark: Mark) -> bool
+    ensures { left_after (mark_text mark ++ codes "\nSECTION 1 - ROWS\nNUMBER ROW AT ACTIVITY SLACK LOWER UPPER DUAL\n") cursor.old ≡ taken result cursor.new }
+{
+    cursor.take(mark_word(mark)) && take_rows_heads(cursor)
+}
+
+// Takes what stands before the rows.
+fn take_rows_head(cursor: &mut Cursor<'_>, mark: Mark) -> bool
+    ensures { left_after (rows_head mark) cursor.old ≡ taken result cursor.new }
+{
+    cursor.take(b"SOLUTION ") && take_mark(cursor, mark)
+}
+
+// The lines of the rows.
+fn rows(
+    alloc: Global,
+    cursor: &mut Cursor<'_>,
+    sheet: Sheet<'_>,
+) -> Result<Option<Vec<Numbers>>, NoMemory>
+    requires sheet { IsSheet sheet }
+    requires lawful { IsLinearProgram sheet.lp.now }
+    ensures { IfOk result (λ found. IsTableRead (sheet_shown sheet.entry) Shape.Row (row_numbers sheet.entry.lp.now)
+        cursor.old cursor.new (option_map (λ table. table.items) found)) }
+{
+    let lp = sheet.lp;
+    table(alloc, cursor, sheet, Shape::Row, 0, lp.rows)
+}
+
+// The lines of the columns.
+fn columns(
+    alloc: Global,
+    cursor: &mut Cursor<'_>,
+    sheet: Sheet<'_>,
+) -> Result<Option<Vec<Numbers>>, NoMemory>
+    requires sheet { IsSheet sheet }
+    requires lawful { IsLinearProgram sheet.lp.now }
+    requires no_change { sheet.lp.now.change ≡ None }
+    ensures { IfOk result (λ found. IsTableRead (sheet_shown sheet.entry) Shape.Column (column_numbers sheet.entry.lp.now)
+        cursor.old cursor.new (option_map (λ table. table.items) found)) }
+{
+    let lp = sheet.lp;
+    table(alloc, cursor, sheet, Shape::Column, lp.rows, lp.cols)
+}
+
+/// The lines of SOLUTION under a mark.
+pub fn read_lines(
+    alloc: Global,
+    cursor: &mut Cursor<'_>,
+    sheet: Sheet<'_>,
+    mark: Mark,
+) -> Result<Option<Lines>, NoMemory>
+    requires sheet { IsSheet sheet }
+    requires lawful { IsLinearProgram sheet.lp.now }
+    requires no_change { sheet.lp.now.change ≡ None }
+    ensures { IfOk result (Found (AreLines (sheet_shown sheet.entry)) (solution_in (sheet_shown sheet.entry) mark cursor.old) cursor.new) }
+{
+    if !take_rows_head(cursor, mark) {
+        return Ok(None);
+    }
+    let Some(rows) = rows(alloc, cursor, sheet)? else {
+        return Ok(None);
+    };
+    if !take_columns_head(cursor) {
+        return Ok(None);
+    }
+    let Some(columns) = columns(alloc, cursor, sheet)? else {
+        return Ok(None);
+    };
+    Ok(Some(Lines { rows, columns }))
+}
+
+// The first numbers of two tables, one after the other.
+fn all_firsts(alloc: Global, rows: &[Numbers], columns: &[Numbers]) -> Result<Vec<Frac>, NoMemory>
+    ensures { IfOk result (λ values. values.items ≡ map (λ numbers. numbers.first) rows.now ++ map (λ numbers. numbers.first) columns.now) }
+{
+    let mut values = firsts(alloc, rows)?;
+    let more = firsts(alloc, columns)?;
+    values.extend_from_slice(&more)?;
+    Ok(values)
+}
+
+// The second numbers of two tables, one after the other.
+fn all_seconds(alloc: Global, rows: &[Numbers], columns: &[Numbers]) -> Result<Vec<Frac>, NoMemory>
+    ensures { IfOk result (λ values. values.items ≡ map (λ numbers. numbers.second) rows.now ++ map (λ numbers. numbers.second) columns.now) }
+{
+    let mut values = seconds(alloc, rows)?;
+    let more = seconds(alloc, columns)?;
+    values.extend_from_slice(&more)?;
+    Ok(values)
+}
+
+/// What is printed of the point.
+pub fn printed_of(alloc: Global, lines: &Lines) -> Result<Printed, NoMemory>
+    ensures { IfOk result (λ printed. IsPrinted lines.now.rows.items lines.now.columns.items printed) }
+{
+    let point = all_firsts(alloc, &lines.rows, &lines.columns)?;
+    let prices = all_seconds(alloc, &lines.rows, &lines.columns)?;
+    let slacks = thirds(alloc, &lines.rows)?;
+    Ok(Printed {
+        point,
+        prices,
+        slacks,
+    })
+}

@@ -1,0 +1,13 @@
+mod Marks
+mod Ends
+mod Taken
+mod Told
+mod Alike
+mod Questions
+mod Verbs
+mod Worth
+mod Shows
+mod Runs
+mod NoBasis
+mod Attested
+mod Stories

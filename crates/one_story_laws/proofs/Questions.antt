@@ -1,0 +1,229 @@
+-- What two runs are told where they ask about one linear program leads them alike.
+use Rattle.std.proofs.Common.{◌≡◌, inl, inr, ℕ, ◌+◌, List, [], ◌∷◌, ◌++◌, refl, sym, ap, subst, ◌∙◌}
+use Rattle.std.specs.Prelude.{All, Option, Some, None, Ok}
+use Rattle.std.proofs.lemmas.Option.{same_Some}
+use Rattle.std.proofs.lemmas.List.Elements.{All-head}
+use Rattle.exact_values.specs.Rational.{ℚ}
+use Rattle.exact_values.proofs.Order.{le_refl}
+use Rattle.lp_definitions.specs.LinearProgram.{LinearProgram}
+use Rattle.problem_definitions.specs.Problem.{Problem}
+use Rattle.control_definitions.specs.Program.{SetupOptions}
+use Rattle.control_definitions.specs.Cells.{Cells}
+use Rattle.selection_definitions.specs.Selection.{selected}
+use Rattle.listing_definitions.specs.declared.Mark.{Mark}
+use Rattle.listing_definitions.specs.declared.Solver.{Solver}
+use Rattle.listing_definitions.specs.Report.{PathVerdict, Check, Interval, ChainEnd, EndsAt, UnboundedPast, InfeasiblePast, Chain, Report, Solved, Solution, Parametric}
+use Rattle.listing_definitions.specs.Ending.{LimitStop, PriceStop}
+use Rattle.question_definitions.specs.Answers.{Basis, Sheet, Changing, Row, Set, changing_name, sweeper, Sweep, OfPath, OfSolution, OfSweep, PathEnd, Reached, PathLimit, PricesWrong, SweepEnd, Opening, Chained, SweepLimit}
+use Rattle.question_definitions.specs.Solving.{Solving}
+use Rattle.answer_definitions.specs.Sweeps.{family_of}
+use Rattle.run_definitions.specs.State.{Present, present_basis, gone_through, State, choice_of}
+use Rattle.run_definitions.specs.Moves.{Prints, printed_by, Outcome, gain_of, next}
+use Rattle.run_definitions.specs.Verbs.{mark_of, by_verdict, last_value, asks, after_path, after_sweep}
+use Rattle.run_definitions.specs.Run.{counted}
+use Rattle.run_laws.specs.Truth.{PresentProgram, sheet_of, IsTrueOf, named_by, TellsOfRun}
+use Rattle.walk_laws.specs.Proved.{attested, Says}
+use Rattle.walk_laws.proofs.Answered.{printed_verdict, IsPathSolver}
+use Rattle.one_story_laws.specs.Story.{SameVerdict, SameClose}
+use Rattle.one_story_laws.proofs.Marks.{FailsAt, same_verdict, same_failure, fails_or_best}
+use Rattle.one_story_laws.proofs.Ends.{HasRun, same_close}
+use Rattle.one_story_laws.proofs.Told.{Fails, Runs, SaysEnough, attested_says}
+use Rattle.one_story_laws.proofs.Alike.{SameSetup, one_setup, Alike, AlikeOrStopped, goes_alike, by_verdict_alike, IsAlike, may_stop, asked}
+
+-- ---- the linear program, and the parametric run, of which something is told
+
+pub same_sheet : (setup : Option Present) (cells : Cells) (present : Present) (lp : LinearProgram) (program : PresentProgram setup cells) → setup ≡ Some present →
+    selected present.problem (choice_of cells present.options) ≡ Ok lp → sheet_of program ≡ record { problem = present.problem; lp = lp }
+same_sheet setup cells present lp program set is =
+    let same : program.present ≡ present = same_Some program.present present (sym program.is_setup ∙ set) in
+    let moved : selected present.problem (choice_of cells present.options) ≡ Ok program.lp =
+    subst (λ (x : Present). selected x.problem (choice_of cells x.options) ≡ Ok program.lp) same program.is_selected in
+    let both : Ok program.lp ≡ Ok lp = sym moved ∙ is in
+    let same_lp : program.lp ≡ lp = cc both in
+    λ i. record { problem = (same i).problem; lp = same_lp i }
+
+pub same_changing : (cells : Cells) (one two : Changing) → sweeper one ≡ sweeper two → named_by cells one ≡ Some (changing_name one) → named_by cells two ≡ Some (changing_name two) → one ≡ two
+same_changing cells (Row name) (Row other) solvers first second = ap Row (same_Some name other (sym first ∙ second))
+same_changing cells (Row name) (Set other) solvers first second = absurd (cc solvers)
+same_changing cells (Set name) (Row other) solvers first second = absurd (cc solvers)
+same_changing cells (Set name) (Set other) solvers first second = ap Set (same_Some name other (sym first ∙ second))
+
+-- what the cells ask for
+pub record IsAskedBy (cells : Cells) (sweep : Sweep) : Type 0 where
+  pub is_named : named_by cells sweep.changing ≡ Some (changing_name sweep.changing)
+  pub from_first : sweep.from ≡ cells.xparam
+  pub to_last : cells.xparmax ≡ Some sweep.to
+
+told_here : (setup : Option Present) (cells : Cells) (present : Present) (lp : LinearProgram) (sweep : Sweep) (Tells : Sheet → Changing → ℚ → ℚ → Type 0) → setup ≡ Some present →
+    selected present.problem (choice_of cells present.options) ≡ Ok lp → IsAskedBy cells sweep →
+    TellsOfRun setup cells (sweeper sweep.changing) (λ sheet run. Tells sheet run.changing run.from run.to) → Tells (record { problem = present.problem; lp = lp }) sweep.changing sweep.from sweep.to
+told_here setup cells present lp sweep Tells set is asked told =
+    let sheets = same_sheet setup cells present lp told.program set is in
+    let changes = same_changing cells told.sweep.changing sweep.changing (sym told.is_solver) told.is_named asked.is_named in
+    let begins : told.sweep.from ≡ sweep.from = told.from_first ∙ sym asked.from_first in
+    let ends : told.sweep.to ≡ sweep.to = same_Some told.sweep.to sweep.to (sym told.to_last ∙ asked.to_last) in
+    subst (λ (x : ℚ). Tells (record { problem = present.problem; lp = lp }) sweep.changing sweep.from x) ends
+    (subst (λ (x : ℚ). Tells (record { problem = present.problem; lp = lp }) sweep.changing x told.sweep.to) begins
+    (subst (λ (x : Changing). Tells (record { problem = present.problem; lp = lp }) x told.sweep.from told.sweep.to) changes
+    (subst (λ (x : Sheet). Tells x told.sweep.changing told.sweep.from told.sweep.to) sheets told.tells)))
+
+same_last : (end other : ChainEnd) → SameClose end other → last_value end ≡ last_value other
+same_last (EndsAt value) (EndsAt other) same = same
+same_last (UnboundedPast value lines) (UnboundedPast other others) same = same
+same_last (InfeasiblePast value lines) (InfeasiblePast other others) same = same
+same_last (EndsAt value) (UnboundedPast other others) same = absurd same
+same_last (EndsAt value) (InfeasiblePast other others) same = absurd same
+same_last (UnboundedPast value lines) (EndsAt other) same = absurd same
+same_last (UnboundedPast value lines) (InfeasiblePast other others) same = absurd same
+same_last (InfeasiblePast value lines) (EndsAt other) same = absurd same
+same_last (InfeasiblePast value lines) (UnboundedPast other others) same = absurd same
+
+-- the one report of a verdict
+one_verdict : (P : Report → Type 0) (mark : Mark) (report : Report) (state : State) → All P (printed_by (gain_of (by_verdict mark report state))) → P report
+one_verdict P mark report state all = All-head P report [] (subst (All P) (printed_verdict mark report state) all)
+
+module _ (S : Solving) (Speaks : State → Report → Type 0) (Open : Type 0) (enough : SaysEnough S Speaks Open) (card : ℕ) (state : State) (problem : Problem ℕ) (options : SetupOptions)
+    (opening other : Basis) (steps others : List Basis) (lp : LinearProgram) (is : selected problem (choice_of state.cells options) ≡ Ok lp) where
+  abbrev one : Present
+  one = record { problem = problem; options = options; opening = opening; steps = steps }
+
+  abbrev two : Present
+  two = record { problem = problem; options = options; opening = other; steps = others }
+
+  abbrev first : State
+  first = record state { setup = Some one }
+
+  abbrev second : State
+  second = record state { setup = Some two }
+
+  abbrev sheet : Sheet
+  sheet = record { problem = problem; lp = lp }
+
+  gone : (bases more : List Basis) → SameSetup (Some (gone_through bases one)) (Some (gone_through more two))
+  gone bases more = one_setup problem options opening other (steps ++ bases) (others ++ more)
+
+  -- two verdicts that leave one mark
+  verdicts_alike : (solver : Solver) (verdict another : PathVerdict) (check other_check : Check) (bases more : List Basis) (mark_left : Mark → Option Mark) → SameVerdict verdict another →
+      Alike (by_verdict (mark_of verdict) (Solved solver verdict check) (record (counted first) { setup = Some (gone_through bases one); mark = mark_left (mark_of verdict) }))
+      (by_verdict (mark_of another) (Solved solver another other_check) (record (counted second) { setup = Some (gone_through more two); mark = mark_left (mark_of another) }))
+  verdicts_alike solver verdict another check other_check bases more mark_left same =
+      subst (λ (m : Mark). Alike (by_verdict (mark_of verdict) (Solved solver verdict check) (record (counted first) { setup = Some (gone_through bases one); mark = mark_left (mark_of verdict) }))
+      (by_verdict m (Solved solver another other_check) (record (counted second) { setup = Some (gone_through more two); mark = mark_left m }))) same.0
+      (by_verdict_alike (mark_of verdict) (Solved solver verdict check) (Solved solver another other_check) (record (counted state) { mark = mark_left (mark_of verdict) })
+      (Some (gone_through bases one)) (Some (gone_through more two)) (refl, same) (gone bases more))
+
+  -- ---- PRIMAL and DUAL
+
+  true_here : (setup : Option Present) (present : Present) (verdict : PathVerdict) → setup ≡ Some present → selected present.problem (choice_of state.cells present.options) ≡ Ok lp →
+      (program : PresentProgram setup state.cells) → IsTrueOf (sheet_of program) verdict → IsTrueOf (record { problem = present.problem; lp = lp }) verdict
+  true_here setup present verdict set selects program holds = subst (λ (x : Sheet). IsTrueOf x verdict) (same_sheet setup state.cells present lp program set selects) holds
+
+  module _ (solver : Solver) (is_path : IsPathSolver solver) (limit : Option ℕ) where
+    abbrev path_go : PathEnd → Outcome
+    path_go = after_path solver card one (counted first)
+
+    abbrev path_on : PathEnd → Outcome
+    path_on = after_path solver card two (counted second)
+
+    paths_alike : (x y : PathEnd) → S.Solves solver sheet (present_basis one) limit x → attested.Solves solver sheet (present_basis two) limit y → All (Speaks first) (printed_by (gain_of (path_go x))) →
+        All (Says second) (printed_by (gain_of (path_on y))) → AlikeOrStopped Open (path_go x) (path_on y)
+    paths_alike PathLimit y right taken speaks says = inr (LimitStop _, enough.path_limits solver sheet (present_basis one) limit right, refl)
+    paths_alike (PricesWrong j) y right taken speaks says = inr (PriceStop _, enough.price_stops solver sheet (present_basis one) limit j right, refl)
+    paths_alike (Reached bases verdict check) PathLimit right taken speaks says = absurd (attested_says.path_limits solver sheet (present_basis two) limit taken)
+    paths_alike (Reached bases verdict check) (PricesWrong j) right taken speaks says = absurd (attested_says.price_stops solver sheet (present_basis two) limit j taken)
+    paths_alike (Reached bases verdict check) (Reached more another other_check) right taken speaks says =
+        let spoken = enough.paths first solver verdict check is_path (one_verdict (Speaks first) (mark_of verdict) (Solved solver verdict check) _ speaks) in
+        let said = attested_says.paths second solver another other_check is_path (one_verdict (Says second) (mark_of another) (Solved solver another other_check) _ says) in
+        inl (verdicts_alike solver verdict another check other_check bases more (λ m. Some m)
+        (same_verdict sheet verdict another (true_here (Some one) one verdict refl is spoken.0 spoken.1) (true_here (Some two) two another refl is said.0 said.1)))
+
+    pub path_asked : IsAlike S Speaks Open first second card (asks (OfPath solver limit) sheet one path_go) (asks (OfPath solver limit) sheet two path_on)
+    path_asked = may_stop S Speaks Open first second card _ _ _ _ (asked S Speaks Open first second card (OfPath solver limit) sheet (present_basis one) (present_basis two) path_go path_on paths_alike)
+
+  -- ---- SOLUTION
+
+  pub solution_asked : (mark : Mark) → IsAlike S Speaks Open first second card (asks (OfSolution mark) sheet one (λ lines. next (Prints (Solution mark lines)) (counted first)))
+      (asks (OfSolution mark) sheet two (λ lines. next (Prints (Solution mark lines)) (counted second)))
+  solution_asked mark =
+      may_stop S Speaks Open first second card _ _ _ _ (asked S Speaks Open first second card (OfSolution mark) sheet (present_basis one) (present_basis two) _ _ (λ x y right taken speaks says.
+      inl (goes_alike (Prints (Solution mark x)) (Prints (Solution mark y)) (record (counted state) { position = state.position + 1 }) (Some one) (Some two) (refl, tt)
+      (one_setup problem options opening other steps others))))
+
+  -- ---- parametric runs
+
+  module _ (sweep : Sweep) (asks_so : IsAskedBy state.cells sweep) where
+    abbrev sweep_go : SweepEnd → Outcome
+    sweep_go = after_sweep card sweep one (counted first)
+
+    abbrev sweep_on : SweepEnd → Outcome
+    sweep_on = after_sweep card sweep two (counted second)
+
+    abbrev family : ℚ → LinearProgram
+    family = family_of sheet sweep.changing
+
+    abbrev chain_of : List Interval → ChainEnd → Chain
+    chain_of intervals end = record { from = sweep.from; change = changing_name sweep.changing; intervals = intervals; end = end }
+
+    fails_here : (setup : Option Present) (present : Present) (verdict : PathVerdict) → setup ≡ Some present → selected present.problem (choice_of state.cells present.options) ≡ Ok lp →
+        TellsOfRun setup state.cells (sweeper sweep.changing) (Fails verdict) → FailsAt (family_of (record { problem = present.problem; lp = lp }) sweep.changing sweep.from) verdict
+    fails_here setup present verdict set selects told =
+        told_here setup state.cells present lp sweep (λ sheet changing from to. FailsAt (family_of sheet changing from) verdict) set selects asks_so told
+
+    runs_here : (setup : Option Present) (present : Present) (end : ChainEnd) → setup ≡ Some present → selected present.problem (choice_of state.cells present.options) ≡ Ok lp →
+        TellsOfRun setup state.cells (sweeper sweep.changing) (Runs end) → HasRun (family_of (record { problem = present.problem; lp = lp }) sweep.changing) sweep.from sweep.to end
+    runs_here setup present end set selects told =
+        told_here setup state.cells present lp sweep (λ sheet changing from to. HasRun (family_of sheet changing) from to end) set selects asks_so told
+
+    -- an opening doesn't fail where a run has a best point
+    fails_or_runs : (verdict : PathVerdict) (end : ChainEnd) → FailsAt (family sweep.from) verdict → HasRun family sweep.from sweep.to end → ⊥
+    fails_or_runs verdict end fails run =
+        let best = run.covers.solved sweep.from (le_refl sweep.from) run.covers.forward in
+        fails_or_best (family sweep.from) verdict best.0 fails best.1
+
+    chains_alike : (bases more : List Basis) (intervals others_intervals : List Interval) (end another : ChainEnd) → SameClose end another →
+        Alike (sweep_go (Chained bases intervals end)) (sweep_on (Chained more others_intervals another))
+    chains_alike bases more intervals others_intervals end another same =
+        subst (λ (x : ℚ). Alike (sweep_go (Chained bases intervals end))
+        (next (Prints (Parametric (sweeper sweep.changing) (chain_of others_intervals another)))
+        (record (counted second) { setup = Some (gone_through more two); mark = None; cells = record (state.cells) { xparam = x } }))) (same_last end another same)
+        (goes_alike (Prints (Parametric (sweeper sweep.changing) (chain_of intervals end))) (Prints (Parametric (sweeper sweep.changing) (chain_of others_intervals another)))
+        (record (counted state) { position = state.position + 1; mark = None; cells = record (state.cells) { xparam = last_value end } })
+        (Some (gone_through bases one)) (Some (gone_through more two)) ((refl, refl, refl, same), tt) (gone bases more))
+
+    spoken_opening : (verdict : PathVerdict) (check : Check) (bases : List Basis) → All (Speaks first) (printed_by (gain_of (sweep_go (Opening bases verdict check)))) → FailsAt (family sweep.from) verdict
+    spoken_opening verdict check bases speaks =
+        fails_here (Some one) one verdict refl is
+        (enough.openings first sweep.changing verdict check (one_verdict (Speaks first) (mark_of verdict) (Solved (sweeper sweep.changing) verdict check) _ speaks))
+
+    said_opening : (verdict : PathVerdict) (check : Check) (bases : List Basis) → All (Says second) (printed_by (gain_of (sweep_on (Opening bases verdict check)))) → FailsAt (family sweep.from) verdict
+    said_opening verdict check bases says =
+        fails_here (Some two) two verdict refl is
+        (attested_says.openings second sweep.changing verdict check (one_verdict (Says second) (mark_of verdict) (Solved (sweeper sweep.changing) verdict check) _ says))
+
+    spoken_run : (intervals : List Interval) (end : ChainEnd) → All (Speaks first) (Parametric (sweeper sweep.changing) (chain_of intervals end) ∷ []) → HasRun family sweep.from sweep.to end
+    spoken_run intervals end speaks =
+        runs_here (Some one) one end refl is (enough.chains first (sweeper sweep.changing) (chain_of intervals end) (All-head (Speaks first) _ [] speaks))
+
+    said_run : (intervals : List Interval) (end : ChainEnd) → All (Says second) (Parametric (sweeper sweep.changing) (chain_of intervals end) ∷ []) → HasRun family sweep.from sweep.to end
+    said_run intervals end says =
+        runs_here (Some two) two end refl is (attested_says.chains second (sweeper sweep.changing) (chain_of intervals end) (All-head (Says second) _ [] says))
+
+    sweeps_alike : (x y : SweepEnd) → S.Sweeps sheet (present_basis one) sweep x → attested.Sweeps sheet (present_basis two) sweep y → All (Speaks first) (printed_by (gain_of (sweep_go x))) →
+        All (Says second) (printed_by (gain_of (sweep_on y))) → AlikeOrStopped Open (sweep_go x) (sweep_on y)
+    sweeps_alike SweepLimit y right taken speaks says = inr (LimitStop _, enough.sweep_limits sheet (present_basis one) sweep right, refl)
+    sweeps_alike (Opening bases verdict check) SweepLimit right taken speaks says = absurd (attested_says.sweep_limits sheet (present_basis two) sweep taken)
+    sweeps_alike (Chained bases intervals end) SweepLimit right taken speaks says = absurd (attested_says.sweep_limits sheet (present_basis two) sweep taken)
+    sweeps_alike (Opening bases verdict check) (Opening more another other_check) right taken speaks says =
+        inl (verdicts_alike (sweeper sweep.changing) verdict another check other_check bases more (λ m. None)
+        (same_failure (family sweep.from) verdict another (spoken_opening verdict check bases speaks) (said_opening another other_check more says)))
+    sweeps_alike (Opening bases verdict check) (Chained more intervals end) right taken speaks says =
+        absurd (fails_or_runs verdict end (spoken_opening verdict check bases speaks) (said_run intervals end says))
+    sweeps_alike (Chained bases intervals end) (Opening more verdict check) right taken speaks says =
+        absurd (fails_or_runs verdict end (said_opening verdict check more says) (spoken_run intervals end speaks))
+    sweeps_alike (Chained bases intervals end) (Chained more others_intervals another) right taken speaks says =
+        inl (chains_alike bases more intervals others_intervals end another
+        (same_close family sweep.from sweep.to end another (spoken_run intervals end speaks) (said_run others_intervals another says)
+        (enough.lasts sheet (present_basis one) sweep bases intervals end right) (attested_says.lasts sheet (present_basis two) sweep more others_intervals another taken)))
+
+    pub sweep_asked : IsAlike S Speaks Open first second card (asks (OfSweep sweep) sheet one sweep_go) (asks (OfSweep sweep) sheet two sweep_on)
+    sweep_asked = may_stop S Speaks Open first second card _ _ _ _ (asked S Speaks Open first second card (OfSweep sweep) sheet (present_basis one) (present_basis two) sweep_go sweep_on sweeps_alike)

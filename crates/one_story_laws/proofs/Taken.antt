@@ -1,0 +1,108 @@
+-- What is taken of a listing for an answer: a parametric run that isn't broken ends at the last value, and nothing is cut off at a limit.
+--     OnRight P judged             what is judged right is so
+use Rattle.std.proofs.Common.{◌≡◌, ℕ, ◌+◌, Bool, true, false, List, [], ◌∷◌, Option, Some, None, refl, subst, codes, nat_eq}
+use Rattle.std.specs.Prelude.{if◌then◌else◌}
+use Rattle.exact_values.specs.Rational.{ℚ}
+use Rattle.exact_values.specs.Tests.{eq_ℚ}
+use Rattle.exact_values.proofs.Tests_laws.{same_from_test}
+use Rattle.check_definitions.specs.declared.Verdict.{Verdict}
+use Rattle.check_definitions.specs.declared.Verdict.TheVariants.{Checked, Failed, Unchecked}
+use Rattle.check_definitions.specs.Steps.{in_turn}
+use Rattle.check_definitions.proofs.Passing.{both_checked, holds_if_checked}
+use Rattle.listing_definitions.specs.declared.Solver.{Solver}
+use Rattle.listing_definitions.specs.Report.{Interval, ChainEnd, EndsAt, UnboundedPast, InfeasiblePast}
+use Rattle.question_definitions.specs.Answers.{Sheet, Changing, Row, Set, sweeper, Sweep, OfPath, OfSweep, PathEnd, Reached, SweepEnd, Opening, Chained, SweepLimit}
+use Rattle.walk_definitions.specs.Words.{Parsed, left_after}
+use Rattle.walk_definitions.specs.Tests.{asked, interval_test, close_test}
+use Rattle.walk_definitions.specs.Reading.{Judged, Right, Fails, Refuses, by_verdict, tested, judged_map, Claim, interval_in, close_in, sweep_head, Run, onward, part_in, run_in, sweep_in, judged}
+use Rattle.walk_laws.specs.Proved.{IsTaken}
+use Rattle.one_story_laws.proofs.Ends.{IsLast}
+
+abbrev OnRight : {X : Type 0} → (X → Type 0) → Judged X → Type 0
+OnRight P (Right x rest) = P x
+OnRight P judged = Unit {0}
+
+on_map : {X Y : Type 0} (P : Y → Type 0) (f : X → Y) (judged : Judged X) → OnRight (λ x. P (f x)) judged → OnRight P (judged_map f judged)
+on_map P f (Right x rest) holds = holds
+on_map P f Fails holds = tt
+on_map P f Refuses holds = tt
+
+on_any : {X : Type 0} (P : X → Type 0) → ((x : X) → P x) → (judged : Judged X) → OnRight P judged
+on_any P all (Right x rest) = all x
+on_any P all Fails = tt
+on_any P all Refuses = tt
+
+on_tested : {X : Type 0} (P : X → Type 0) (test : X → Verdict) → ((x : X) → test x ≡ Checked → P x) → (parsed : Parsed X) → OnRight P (tested test parsed)
+on_tested P test passes None = tt
+on_tested P test passes (Some got) = by (test got.0) refl
+  where
+    by : (verdict : Verdict) → test got.0 ≡ verdict → OnRight P (by_verdict verdict got.0 got.1)
+    by Checked e = passes got.0 e
+    by (Failed part number) e = tt
+    by (Unchecked refused) e = tt
+
+-- ---- parametric runs
+
+at_last : (last max value : ℚ) → in_turn (asked (eq_ℚ value last) ∷ asked (eq_ℚ value max) ∷ []) ≡ Checked → value ≡ max
+at_last last max value e =
+    let both = both_checked (asked (eq_ℚ value last)) (in_turn (asked (eq_ℚ value max) ∷ [])) e in
+    let second = both_checked (asked (eq_ℚ value max)) (in_turn []) both.1 in
+    same_from_test value max (holds_if_checked 6 0 (eq_ℚ value max) second.0)
+
+last_by_test : (sheet : Sheet) (changing : Changing) (max last : ℚ) (end : ChainEnd) → close_test sheet changing max last end ≡ Checked → IsLast max end
+last_by_test sheet (Row name) max last (EndsAt value) e = at_last last max value e
+last_by_test sheet (Set name) max last (EndsAt value) e = at_last last max value e
+last_by_test sheet changing max last (UnboundedPast value lines) e = tt
+last_by_test sheet changing max last (InfeasiblePast value lines) e = tt
+
+abbrev pub MayBeTaken : Sweep → SweepEnd → Type 0
+MayBeTaken sweep (Opening bases verdict check) = Unit {0}
+MayBeTaken sweep (Chained bases intervals end) = IsLast sweep.to end
+MayBeTaken sweep SweepLimit = ⊥
+
+module _ (sheet : Sheet) (sweep : Sweep) where
+  abbrev Closes : Run → Type 0
+  Closes run = IsLast sweep.to run.1
+
+  on_onward : (go : ℚ → List ℕ → Judged Run) → ((last : ℚ) (rest : List ℕ) → OnRight Closes (go last rest)) → (judged : Judged Interval) → OnRight Closes (onward sheet sweep go judged)
+  on_onward go later (Right interval after) = on_map Closes (λ (run : Run). (interval ∷ run.0, run.1)) (go interval.to after) (later interval.to after)
+  on_onward go later Fails = tt
+  on_onward go later Refuses = tt
+
+  on_close : (first : Bool) (last : ℚ) (rest : List ℕ) →
+      OnRight Closes (if first then Fails else judged_map (λ (end : ChainEnd). ([], end)) (tested (close_test sheet sweep.changing sweep.to last) (close_in sheet (sweeper sweep.changing) rest)))
+  on_close true last rest = tt
+  on_close false last rest =
+      on_map Closes (λ (end : ChainEnd). ([], end)) (tested (close_test sheet sweep.changing sweep.to last) (close_in sheet (sweeper sweep.changing) rest))
+      (on_tested (IsLast sweep.to) (close_test sheet sweep.changing sweep.to last) (last_by_test sheet sweep.changing sweep.to last) (close_in sheet (sweeper sweep.changing) rest))
+
+  on_part : (go : ℚ → List ℕ → Judged Run) → ((last : ℚ) (rest : List ℕ) → OnRight Closes (go last rest)) → (number : ℕ) (last : ℚ) (rest : List ℕ) (left : Option (List ℕ)) →
+      OnRight Closes (part_in sheet sweep go number last rest left)
+  on_part go later number last rest (Some after) =
+      on_onward go later (tested (interval_test sheet sweep.changing (nat_eq number 1) sweep.to) (interval_in sheet number last rest))
+  on_part go later number last rest None = on_close (nat_eq number 1) last rest
+
+  on_run : (room : List ℕ) (number : ℕ) (last : ℚ) (rest : List ℕ) → OnRight Closes (run_in sheet sweep room number last rest)
+  on_run [] number last rest = tt
+  on_run (byte ∷ room) number last rest =
+      on_part (run_in sheet sweep room (number + 1)) (λ last rest. on_run room (number + 1) last rest) number last rest (left_after (codes "INTERVAL ") rest)
+
+  on_sweep : (rest : List ℕ) (left : Option (List ℕ)) → OnRight (MayBeTaken sweep) (sweep_in sheet sweep rest left)
+  on_sweep rest None =
+      on_map (MayBeTaken sweep) (λ (claim : Claim). Opening [] claim.0 claim.1) _ (on_any (λ (claim : Claim). Unit {0}) (λ claim. tt) _)
+  on_sweep rest (Some after) = on_map (MayBeTaken sweep) (λ (run : Run). Chained [] run.0 run.1) (run_in sheet sweep after 1 sweep.from after) (on_run after 1 sweep.from after)
+
+pub sweep_taken : (sheet : Sheet) (sweep : Sweep) (end : SweepEnd) → IsTaken (OfSweep sweep) sheet end → MayBeTaken sweep end
+sweep_taken sheet sweep end taken = subst (OnRight (MayBeTaken sweep)) taken.2 (on_sweep sheet sweep taken.0 (left_after (sweep_head sweep) taken.0))
+
+-- ---- paths
+
+abbrev pub IsReached : PathEnd → Type 0
+IsReached (Reached bases verdict check) = Unit {0}
+IsReached end = ⊥
+
+on_path : (judged : Judged Claim) → OnRight IsReached (judged_map (λ (claim : Claim). Reached [] claim.0 claim.1) judged)
+on_path judged = on_map IsReached (λ (claim : Claim). Reached [] claim.0 claim.1) judged (on_any (λ (claim : Claim). Unit {0}) (λ claim. tt) judged)
+
+pub path_taken : (solver : Solver) (limit : Option ℕ) (sheet : Sheet) (end : PathEnd) → IsTaken (OfPath solver limit) sheet end → IsReached end
+path_taken solver limit sheet end taken = subst (OnRight IsReached) taken.2 (on_path _)
