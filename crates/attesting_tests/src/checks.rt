@@ -1,17 +1,19 @@
 // Listings as they are, and changed.
 use crate::jobs::JOBS;
 use crate::listings::{Listing, answer_to, first_other};
-use crate::plans::PLANS;
-use crate::refused::REFUSED;
-use crate::sweeps::SWEEPS;
-use crate::verdicts::VERDICTS;
+use crate::plans::{BLANKS, STORE, TESTPROB, TIES, TWO_SOLUTIONS};
+use crate::refused::{FAR_POINT, GREAT, RANGE_AFTER_PRIMAL, RANGE_REFUSED};
+use crate::sweeps::{
+    INFEASIBLE_PAST, LAMPS, MILK, RHS_INTERVALS, RHS_POINT, TWO_INTERVALS, UNBOUNDED_OPENING,
+};
+use crate::verdicts::{CONFLICT, ENDLESS, INFEASIBLE};
 use std::alloc::Global;
 use std::test::Fail;
 
 // The first listing of which a change is answered otherwise, with this change.
 fn first_wrong(
     alloc: Global,
-    listings: &[Listing],
+    listings: &[&Listing],
 ) -> Result<Option<(&'static str, &'static str)>, Fail> {
     for listing in listings {
         if let Some(case) = first_other(alloc, listing)? {
@@ -23,25 +25,54 @@ fn first_wrong(
 
 #[test]
 fn plans_are_attested(rt: HostRuntime) -> Result<(), Fail> {
-    assert_eq!(rt; first_wrong(rt.alloc(), &PLANS)?, None);
+    assert_eq!(rt;
+        first_wrong(
+            rt.alloc(),
+            &[&STORE, &TESTPROB, &TWO_SOLUTIONS, &TIES, &BLANKS]
+        )?,
+        None
+    );
     Ok(())
 }
 
 #[test]
 fn verdicts_are_attested(rt: HostRuntime) -> Result<(), Fail> {
-    assert_eq!(rt; first_wrong(rt.alloc(), &VERDICTS)?, None);
+    assert_eq!(rt;
+        first_wrong(rt.alloc(), &[&CONFLICT, &INFEASIBLE, &ENDLESS])?,
+        None
+    );
     Ok(())
 }
 
 #[test]
 fn parametric_runs_are_attested(rt: HostRuntime) -> Result<(), Fail> {
-    assert_eq!(rt; first_wrong(rt.alloc(), &SWEEPS)?, None);
+    assert_eq!(rt;
+        first_wrong(
+            rt.alloc(),
+            &[
+                &TWO_INTERVALS,
+                &LAMPS,
+                &UNBOUNDED_OPENING,
+                &INFEASIBLE_PAST,
+                &MILK,
+                &RHS_INTERVALS,
+                &RHS_POINT
+            ]
+        )?,
+        None
+    );
     Ok(())
 }
 
 #[test]
 fn refused_operations_are_told(rt: HostRuntime) -> Result<(), Fail> {
-    assert_eq!(rt; first_wrong(rt.alloc(), &REFUSED)?, None);
+    assert_eq!(rt;
+        first_wrong(
+            rt.alloc(),
+            &[&GREAT, &RANGE_REFUSED, &RANGE_AFTER_PRIMAL, &FAR_POINT]
+        )?,
+        None
+    );
     Ok(())
 }
 

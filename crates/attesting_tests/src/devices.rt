@@ -2,7 +2,7 @@
 
 use crate::full::Full;
 use crate::listings::{Answer, answer_from};
-use crate::plans::PLANS;
+use crate::plans::STORE;
 use job_devices::{MemorySink, MemorySource};
 use listing_check::check_listing;
 use std::alloc::Global;
@@ -21,7 +21,7 @@ fn in_pieces(
     failing_listing: &[u64],
     failing_writes: &[u64],
 ) -> Result<Answer, Fail> {
-    let plan = &PLANS[0];
+    let plan = &STORE;
     answer_from(
         alloc,
         MemorySource::in_pieces(alloc, plan.job, failing_job, 100)?,

@@ -14,7 +14,6 @@ use Rattle.dual_laws.proofs.OneDualPath.{one_path as one_dual_path}
 use Rattle.listing_definitions.specs.declared.Solver.TheVariants as solvers
 use Rattle.problem_definitions.specs.Problem.{Problem}
 use Rattle.problem_file.specs.Filed.{Filed, filed_under}
-use Rattle.control_definitions.specs.Program.{SetupOptions}
 use Rattle.selection_definitions.specs.Selection.{matrix_of}
 use Rattle.question_definitions.specs.Answers.{Basis}
 use Rattle.basis_values.specs.Calls.{HasRates, LieIn}
