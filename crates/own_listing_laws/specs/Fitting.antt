@@ -1,0 +1,64 @@
+-- The numbers that a run prints fit what the listing checker reads: a fraction has 128 bits, and a count 32.
+--     LinesFit lines               the fractions of table lines fit
+--     VerdictFits verdict check    those of a verdict with its check, and its count of steps
+--     ReportFits report            those of a report that is read
+--     StopFits ending              those of a stop text that can't be attested
+use Rattle.std.specs.Prelude.{ℕ, ◌≤◌, List, [], ◌∷◌}
+use Rattle.frac128.specs.Operations.{TermsFit}
+use Rattle.listing_definitions.specs.Report.{Value, Code, Number, Absent, Dash, Line, PathVerdict, OptimalAt, CrossedAt, InfeasibleBy, UnboundedBy, Check, Checked, Unchecked, Interval, ChainEnd, EndsAt, UnboundedPast, InfeasiblePast, Report, Inserted, Solved, Solution, Parametric}
+use Rattle.listing_definitions.specs.Ending.{Ending, SingularStop, PriceStop, LimitStop, OverflowStop}
+use Rattle.walk_definitions.specs.Words.{max_count}
+
+abbrev pub ValueFits : Value → Type 0
+ValueFits (Number x) = TermsFit x
+ValueFits value = Unit {0}
+
+abbrev pub ValuesFit : List Value → Type 0
+ValuesFit [] = Unit {0}
+ValuesFit (value ∷ values) = ValueFits value × ValuesFit values
+
+abbrev pub LinesFit : List Line → Type 0
+LinesFit [] = Unit {0}
+LinesFit (line ∷ lines) = ValuesFit line.values × LinesFit lines
+
+abbrev pub CheckFits : Check → Type 0
+CheckFits Checked = Unit {0}
+CheckFits (Unchecked refused) = TermsFit refused.left × TermsFit refused.right
+
+abbrev pub VerdictFits : PathVerdict → Type 0
+VerdictFits (OptimalAt steps objective) = TermsFit objective
+VerdictFits (CrossedAt k) = Unit {0}
+VerdictFits (InfeasibleBy steps lines) = LinesFit lines
+VerdictFits (UnboundedBy steps objective lines) = TermsFit objective × LinesFit lines
+
+abbrev pub IntervalsFit : List Interval → Type 0
+IntervalsFit [] = Unit {0}
+IntervalsFit (interval ∷ intervals) = (TermsFit interval.to × LinesFit interval.lines) × IntervalsFit intervals
+
+abbrev pub EndFits : ChainEnd → Type 0
+EndFits (EndsAt value) = TermsFit value
+EndFits (UnboundedPast value lines) = TermsFit value × LinesFit lines
+EndFits (InfeasiblePast value lines) = TermsFit value × LinesFit lines
+
+-- The other reports are written by the walk itself, but for the count of INSERT.
+abbrev pub ReportFits : Report → Type 0
+ReportFits (Inserted name basic) = basic ≤ max_count
+ReportFits (Solved solver verdict check) = VerdictFits verdict × CheckFits check
+ReportFits (Solution mark lines) = LinesFit lines.rows × LinesFit lines.columns
+ReportFits (Parametric solver chain) = IntervalsFit chain.intervals × EndFits chain.end
+ReportFits report = Unit {0}
+
+abbrev pub ReportsFit : List Report → Type 0
+ReportsFit [] = Unit {0}
+ReportsFit (report ∷ reports) = ReportFits report × ReportsFit reports
+
+abbrev pub StopFits : Ending → Type 0
+StopFits (LimitStop reached) = (reached.limit ≤ max_count) × (reached.card ≤ max_count)
+StopFits (SingularStop basis) = basis.card ≤ max_count
+StopFits (PriceStop price) = (price.card ≤ max_count) × (price.variable ≤ max_count)
+StopFits (OverflowStop overflow) =
+    let e = overflow.evidence in
+    (e.formula ≤ max_count) × (TermsFit e.refused.left × TermsFit e.refused.right) ×
+    ((e.p ≤ max_count) × (e.q ≤ max_count) × (e.i ≤ max_count) × (e.j ≤ max_count) × (e.term ≤ max_count)) ×
+    TermsFit e.theta × (overflow.card ≤ max_count)
+StopFits ending = Unit {0}

@@ -1,0 +1,9 @@
+//! The listing that a run itself prints is never found wrong. The functions here do nothing. Each promises a law, so that the check
+//! proves it.
+#![tactic(auto)]
+
+ghost use Rattle.own_listing_laws.specs.Probe.{ProbeLaw};
+
+pub fn probe()
+    ensures { ProbeLaw }
+{}
