@@ -1,2 +1,4 @@
 mod Spelled
 mod Tabled
+mod Claims
+mod Sections

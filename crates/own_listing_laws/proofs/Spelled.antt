@@ -40,10 +40,12 @@ word_is word byte rest is ends = cut_before ends_word word byte rest is ends
 
 pub word_first : {X Y : Type 0} (of : List ℕ → Option X) (word : List ℕ) (x : X) (byte : ℕ) (rest : List ℕ) (reads : X → List ℕ → Option Y) (got : Option Y) →
     IsWord word → ends_word byte ≡ true → of word ≡ Some x → Gives (reads x) (byte ∷ rest) got → Gives (with_word of reads) (word ++ byte ∷ rest) got
-word_first {X} of word x byte rest reads got is ends means gives = record { of =
-    ap (λ w. option_and_then (λ y. reads y (drop (length w) (word ++ byte ∷ rest))) (of w)) (word_is word byte rest is ends)
-    ∙ ap (option_and_then (λ (y : X). reads y (drop (length word) (word ++ byte ∷ rest)))) means
-    ∙ ap (reads x) (drop_text word (byte ∷ rest)) ∙ gives.of }
+word_first {X} of word x byte rest reads got is ends means gives = record {
+  of =
+      ap (λ w. option_and_then (λ y. reads y (drop (length w) (word ++ byte ∷ rest))) (of w)) (word_is word byte rest is ends)
+      ∙ ap (option_and_then (λ (y : X). reads y (drop (length word) (word ++ byte ∷ rest)))) means
+      ∙ ap (reads x) (drop_text word (byte ∷ rest)) ∙ gives.of;
+}
 
 -- the other one of two, where the first can't be read
 pub or_else : {X : Type 0} (first second : List ℕ → Option X) (rest : List ℕ) (got : Option X) → first rest ≡ None → Gives second rest got → Gives (λ rest. option_or (first rest) (second rest)) rest got

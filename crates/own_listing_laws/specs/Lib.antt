@@ -1,2 +1,3 @@
 pub mod Fitting
-pub mod Probe
+pub mod Printed
+pub mod Laws

@@ -2,8 +2,9 @@
 //! proves it.
 #![tactic(auto)]
 
-ghost use Rattle.own_listing_laws.specs.Probe.{ProbeLaw};
+ghost use Rattle.own_listing_laws.specs.Laws.{ReadsBack};
 
-pub fn probe()
-    ensures { ProbeLaw }
+/// What a run prints of a linear program is read back of its text.
+pub fn reads_back()
+    ensures { ReadsBack }
 {}

@@ -1,0 +1,29 @@
+-- The listing that a run itself prints is never found wrong by the walk of the listing checker.
+--     ReadsBack                    what is printed of a linear program is read back
+use Rattle.std.specs.Prelude.{◌≡◌, ℕ, false, List, ◌++◌, Some}
+use Rattle.lp_definitions.specs.Basis.{Tableau}
+use Rattle.frac128.specs.Operations.{TermsFit}
+use Rattle.method_definitions.specs.Chain.{Part}
+use Rattle.listing_definitions.specs.declared.Mark.{Mark}
+use Rattle.listing_definitions.specs.declared.Solver.{Solver}
+use Rattle.listing_definitions.specs.Report.{PathVerdict, Check, Interval, ChainEnd}
+use Rattle.listing_definitions.specs.Text.{verdict_text, solution_text, interval_text, chain_end_text}
+use Rattle.question_definitions.specs.Answers.{Basis, Sheet}
+use Rattle.answer_definitions.specs.Sections.{solution_lines}
+use Rattle.answer_definitions.specs.Sweeps.{interval_of}
+use Rattle.walk_definitions.specs.Tables.{begins_table_line}
+use Rattle.walk_definitions.specs.Reading.{verdict_in, solution_in, interval_in, close_in}
+use Rattle.own_listing_laws.specs.Fitting.{LinesFit, VerdictFits, CheckFits, EndFits}
+use Rattle.own_listing_laws.specs.Printed.{IsReadable, IsPrinted, IsEndOf}
+
+-- What is printed of the variables of a linear program is read of its text, where its numbers fit, and what follows the text is left. The
+-- lines of a ray are read as far as table lines go, so none may follow.
+pub record ReadsBack : Type 0 where
+  pub verdict : (sheet : Sheet) (solver : Solver) (verdict : PathVerdict) (check : Check) (after : List ℕ) → IsReadable solver verdict → IsPrinted sheet verdict →
+      VerdictFits verdict → CheckFits check → begins_table_line after ≡ false → verdict_in sheet solver (verdict_text solver verdict check ++ after) ≡ Some ((verdict, check), after)
+  pub solution : (sheet : Sheet) (s : Basis) (t : Tableau) (mark : Mark) (after : List ℕ) → LinesFit (solution_lines sheet s t).rows → LinesFit (solution_lines sheet s t).columns →
+      solution_in sheet mark (solution_text mark (solution_lines sheet s t) ++ after) ≡ Some (solution_lines sheet s t, after)
+  pub interval : (sheet : Sheet) (number : ℕ) (part : Part) (after : List ℕ) → TermsFit part.to → LinesFit (interval_of sheet part).lines →
+      interval_in sheet number part.from (interval_text (number, interval_of sheet part) ++ after) ≡ Some (interval_of sheet part, after)
+  pub close : (sheet : Sheet) (solver : Solver) (end : ChainEnd) (after : List ℕ) → IsEndOf sheet solver end → EndFits end → begins_table_line after ≡ false →
+      close_in sheet solver (chain_end_text solver end ++ after) ≡ Some (end, after)
