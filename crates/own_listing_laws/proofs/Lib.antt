@@ -2,3 +2,6 @@ mod Spelled
 mod Tabled
 mod Claims
 mod Sections
+mod Columns
+mod Ended
+mod Tests

@@ -8,3 +8,9 @@ ghost use Rattle.own_listing_laws.specs.Laws.{ReadsBack};
 pub fn reads_back()
     ensures { ReadsBack }
 {}
+
+ghost use Rattle.own_listing_laws.specs.Probe.{ProbeLaw};
+
+pub fn probe()
+    ensures { ProbeLaw }
+{}
