@@ -61,3 +61,21 @@ module _ (p : LinearProgram) (s : List Status) (t : Tableau) where
 
   pub dual_end_is : (ending : PathEnding) → dual_turn p s t ≡ Ends ending → IsOf ending
   dual_end_is ending e = subst TellsOf e dual_turn_is
+
+  -- a dual path never finds that there is no best point
+  abbrev NeverUnbounded : Turn → Type 0
+  NeverUnbounded (Ends (EndsUnbounded z d)) = ⊥
+  NeverUnbounded _ = Unit {0}
+
+  back_bounded : (r : ℕ) (o : Option ℕ) → NeverUnbounded (bring_back p s t r o)
+  back_bounded r (Some q) = tt
+  back_bounded r None = tt
+
+  dual_bounded : (c o : Option ℕ) → NeverUnbounded (dual_for p s t c o)
+  dual_bounded (Some k) o = tt
+  dual_bounded None (Some r) = back_bounded r (cheapest p s t r (is_below p t.point r))
+  dual_bounded None None = tt
+
+  pub dual_never_unbounded : (z d : List ℚ) → dual_turn p s t ≡ Ends (EndsUnbounded z d) → ⊥
+  unfolding dual_turn
+  dual_never_unbounded z d e = subst NeverUnbounded e (dual_bounded (crossed p s t) (outside p s t))

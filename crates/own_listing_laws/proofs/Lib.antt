@@ -5,3 +5,6 @@ mod Sections
 mod Columns
 mod Ended
 mod Tests
+mod Stops
+mod Pace
+mod Paths

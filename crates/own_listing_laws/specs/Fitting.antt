@@ -6,7 +6,7 @@
 use Rattle.std.specs.Prelude.{ℕ, ◌≤◌, List, [], ◌∷◌}
 use Rattle.frac128.specs.Operations.{TermsFit}
 use Rattle.listing_definitions.specs.Report.{Value, Code, Number, Absent, Dash, Line, PathVerdict, OptimalAt, CrossedAt, InfeasibleBy, UnboundedBy, Check, Checked, Unchecked, Interval, ChainEnd, EndsAt, UnboundedPast, InfeasiblePast, Report, Inserted, Solved, Solution, Parametric}
-use Rattle.listing_definitions.specs.Ending.{Ending, SingularStop, PriceStop, LimitStop, OverflowStop}
+use Rattle.listing_definitions.specs.Ending.{Overflow, Ending, SingularStop, PriceStop, LimitStop, OverflowStop}
 use Rattle.walk_definitions.specs.Words.{max_count}
 
 abbrev pub ValueFits : Value → Type 0
@@ -52,13 +52,22 @@ abbrev pub ReportsFit : List Report → Type 0
 ReportsFit [] = Unit {0}
 ReportsFit (report ∷ reports) = ReportFits report × ReportsFit reports
 
+-- the numbers of an overflow
+pub record OverflowFits (overflow : Overflow) : Type 0 where
+  pub formula : overflow.evidence.formula ≤ max_count
+  pub left : TermsFit overflow.evidence.refused.left
+  pub right : TermsFit overflow.evidence.refused.right
+  pub p : overflow.evidence.p ≤ max_count
+  pub q : overflow.evidence.q ≤ max_count
+  pub i : overflow.evidence.i ≤ max_count
+  pub j : overflow.evidence.j ≤ max_count
+  pub term : overflow.evidence.term ≤ max_count
+  pub theta : TermsFit overflow.evidence.theta
+  pub card : overflow.card ≤ max_count
+
 abbrev pub StopFits : Ending → Type 0
 StopFits (LimitStop reached) = (reached.limit ≤ max_count) × (reached.card ≤ max_count)
 StopFits (SingularStop basis) = basis.card ≤ max_count
 StopFits (PriceStop price) = (price.card ≤ max_count) × (price.variable ≤ max_count)
-StopFits (OverflowStop overflow) =
-    let e = overflow.evidence in
-    (e.formula ≤ max_count) × (TermsFit e.refused.left × TermsFit e.refused.right) ×
-    ((e.p ≤ max_count) × (e.q ≤ max_count) × (e.i ≤ max_count) × (e.j ≤ max_count) × (e.term ≤ max_count)) ×
-    TermsFit e.theta × (overflow.card ≤ max_count)
+StopFits (OverflowStop overflow) = OverflowFits overflow
 StopFits ending = Unit {0}

@@ -1,4 +1,5 @@
 -- The listing that a run itself prints is never found wrong by the walk of the listing checker.
+--     IsNotWrong found             what is found isn't that a line is wrong
 --     ReadsBack                    what is printed of a linear program is read back
 use Rattle.std.specs.Prelude.{◌≡◌, ℕ, false, List, ◌++◌, Some}
 use Rattle.lp_definitions.specs.Basis.{Tableau}
@@ -13,8 +14,13 @@ use Rattle.answer_definitions.specs.Sections.{solution_lines}
 use Rattle.answer_definitions.specs.Sweeps.{interval_of}
 use Rattle.walk_definitions.specs.Tables.{begins_table_line}
 use Rattle.walk_definitions.specs.Reading.{verdict_in, solution_in, interval_in, close_in}
+use Rattle.walk_definitions.specs.Walker.{Found, Wrong}
 use Rattle.own_listing_laws.specs.Fitting.{LinesFit, VerdictFits, CheckFits, EndFits}
 use Rattle.own_listing_laws.specs.Printed.{IsReadable, IsPrinted, IsEndOf}
+
+abbrev pub IsNotWrong : Found → Type 0
+IsNotWrong (Wrong rest) = ⊥
+IsNotWrong found = Unit {0}
 
 -- What is printed of the variables of a linear program is read of its text, where its numbers fit, and what follows the text is left. The
 -- lines of a ray are read as far as table lines go, so none may follow.

@@ -1,7 +1,7 @@
-use Rattle.listing_definitions.specs.declared.Mark.TheVariants.{Infeasible}
-use Rattle.own_listing_laws.proofs.Tests.{verdict_passes, shown_passes, passes_checked}
-use Rattle.own_listing_laws.proofs.Ended.{end_is}
+use Rattle.std.proofs.Common.{subst}
+use Rattle.own_listing_laws.proofs.Pace.{IsFoundRight, closes_right}
+use Rattle.own_listing_laws.proofs.Paths.{path_followed}
 use Rattle.own_listing_laws.proofs.probe.Goals as goal
 
 pub returns : goal.returns
-returns c = λ sheet s t ending steps verdict check e is lawful tab at part number. ((verdict_passes sheet s t steps ending verdict check (end_is sheet.lp s t ending e) is).never part number, (shown_passes sheet s t lawful tab at Infeasible passes_checked).never part number)
+returns c = let used = path_followed in λ w ending is e. subst IsFoundRight e (closes_right w ending is)
