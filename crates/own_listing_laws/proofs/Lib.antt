@@ -8,3 +8,5 @@ mod Tests
 mod Stops
 mod Pace
 mod Paths
+mod Shown
+mod Openly
