@@ -10,3 +10,5 @@ mod Pace
 mod Paths
 mod Shown
 mod Openly
+mod Openings
+mod Paced

@@ -39,7 +39,7 @@ use Rattle.walk_definitions.specs.Reading.{judged}
 use Rattle.walk_definitions.specs.Walker.{Pending, Walker, Found, Attested, Wrong, Open, Unchecked, Turn, Walks, Finds, open_if, open_stop, pending_found, open_pending, open_outcome, is_inserted_by, open_question, opened, refuses_selection, ended, unless_found, closes, follows, passed, taken, answered, due, walk_move}
 use Rattle.walk_definitions.proofs.Texts.{stands}
 use Rattle.own_listing_laws.specs.Fitting.{ReportFits, StopFits}
-use Rattle.own_listing_laws.specs.Laws.{IsNotWrong}
+use Rattle.own_listing_laws.specs.Laws.{IsUnswept, IsNotWrong}
 use Rattle.own_listing_laws.proofs.Stops.{open_overflow}
 
 -- ---- states
@@ -98,6 +98,11 @@ GainFits Nothing = Unit {0}
 GainFits (Prints report) = ReportFits report
 GainFits (Punches report cards) = ReportFits report
 
+abbrev pub IsUnsweptGain : Gain → Type 0
+IsUnsweptGain Nothing = Unit {0}
+IsUnsweptGain (Prints report) = IsUnswept report
+IsUnsweptGain (Punches report cards) = IsUnswept report
+
 abbrev pub EndsSo : Outcome → List ℕ → Type 0
 EndsSo (Goes gain after) more = Unit {0}
 EndsSo (Ends gain ending) more = (more ≡ ending_text ending) × StopFits ending
@@ -107,6 +112,7 @@ pub record IsDue (w : Walker) (outcome : Outcome) (more : List ℕ) : Type 0 whe
   pub text : w.rest ≡ gain_text (gain_of outcome) ++ more
   pub plain : begins_table_line more ≡ false
   pub fits : GainFits (gain_of outcome)
+  pub unswept : IsUnsweptGain (gain_of outcome)
   pub ends : EndsSo outcome more
 
 -- ---- what is open is never wrong
@@ -268,6 +274,9 @@ module _ (w : Walker) where
   -- a report is printed, and the run goes on
   pub prints_looks : (report : Report) (after : State) → is_open_stop w.rest ≡ true → opened w (Does (Goes (Prints report) after)) ≡ Some (Open w.rest)
   prints_looks report after is = stop_first (if is_none after.mark then open_pending w else None) is
+
+  pub punches_looks : (report : Report) (cards : List (List ℕ)) (after : State) → is_open_stop w.rest ≡ true → opened w (Does (Goes (Punches report cards) after)) ≡ Some (Open w.rest)
+  punches_looks report cards after is = stop_first (if is_none after.mark then open_pending w else None) is
 
   pub waits_on : (gain : Gain) (after : State) (setup : Option Present) (objective rhs : Option Name) (pending : Option Pending) → w.pending ≡ pending → open_outcome w (Goes gain after) ≡ None →
       (is_none after.mark ≡ false → WaitsFor pending setup objective rhs) → WaitsFor pending setup objective rhs

@@ -7,7 +7,7 @@ use Rattle.frac128.specs.Operations.{TermsFit}
 use Rattle.method_definitions.specs.Chain.{Part}
 use Rattle.listing_definitions.specs.declared.Mark.{Mark}
 use Rattle.listing_definitions.specs.declared.Solver.{Solver}
-use Rattle.listing_definitions.specs.Report.{PathVerdict, Check, Interval, ChainEnd}
+use Rattle.listing_definitions.specs.Report.{PathVerdict, Check, Interval, ChainEnd, Report, Parametric}
 use Rattle.listing_definitions.specs.Text.{verdict_text, solution_text, interval_text, chain_end_text}
 use Rattle.question_definitions.specs.Answers.{Basis, Sheet}
 use Rattle.answer_definitions.specs.Sections.{solution_lines}
@@ -17,6 +17,11 @@ use Rattle.walk_definitions.specs.Reading.{verdict_in, solution_in, interval_in,
 use Rattle.walk_definitions.specs.Walker.{Found, Wrong}
 use Rattle.own_listing_laws.specs.Fitting.{LinesFit, VerdictFits, CheckFits, EndFits}
 use Rattle.own_listing_laws.specs.Printed.{IsReadable, IsPrinted, IsEndOf}
+
+-- no chain of intervals of a parametric run
+abbrev pub IsUnswept : Report → Type 0
+IsUnswept (Parametric solver chain) = ⊥
+IsUnswept report = Unit {0}
 
 abbrev pub IsNotWrong : Found → Type 0
 IsNotWrong (Wrong rest) = ⊥
