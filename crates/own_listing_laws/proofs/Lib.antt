@@ -12,3 +12,4 @@ mod Shown
 mod Openly
 mod Openings
 mod Paced
+mod Own

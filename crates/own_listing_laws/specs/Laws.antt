@@ -1,7 +1,7 @@
 -- The listing that a run itself prints is never found wrong by the walk of the listing checker.
 --     IsNotWrong found             what is found isn't that a line is wrong
 --     ReadsBack                    what is printed of a linear program is read back
-use Rattle.std.specs.Prelude.{◌≡◌, ℕ, false, List, ◌++◌, Some}
+use Rattle.std.specs.Prelude.{◌≡◌, ℕ, false, List, [], ◌∷◌, ◌++◌, Some}
 use Rattle.lp_definitions.specs.Basis.{Tableau}
 use Rattle.frac128.specs.Operations.{TermsFit}
 use Rattle.method_definitions.specs.Chain.{Part}
@@ -15,7 +15,12 @@ use Rattle.answer_definitions.specs.Sweeps.{interval_of}
 use Rattle.walk_definitions.specs.Tables.{begins_table_line}
 use Rattle.walk_definitions.specs.Reading.{verdict_in, solution_in, interval_in, close_in}
 use Rattle.walk_definitions.specs.Walker.{Found, Wrong}
-use Rattle.own_listing_laws.specs.Fitting.{LinesFit, VerdictFits, CheckFits, EndFits}
+use Rattle.walk_definitions.specs.Found.{Comes}
+use Rattle.listing_definitions.specs.Ending.{Ending}
+use Rattle.listing_definitions.specs.Listing.{listing}
+use Rattle.answer_definitions.specs.Real.{linear_programming}
+use Rattle.run_definitions.specs.Answer.{IsJobRun}
+use Rattle.own_listing_laws.specs.Fitting.{LinesFit, VerdictFits, CheckFits, EndFits, ReportsFit, StopFits}
 use Rattle.own_listing_laws.specs.Printed.{IsReadable, IsPrinted, IsEndOf}
 
 -- no chain of intervals of a parametric run
@@ -38,3 +43,13 @@ pub record ReadsBack : Type 0 where
       interval_in sheet number part.from (interval_text (number, interval_of sheet part) ++ after) ≡ Some (interval_of sheet part, after)
   pub close : (sheet : Sheet) (solver : Solver) (end : ChainEnd) (after : List ℕ) → IsEndOf sheet solver end → EndFits end → begins_table_line after ≡ false →
       close_in sheet solver (chain_end_text solver end ++ after) ≡ Some (end, after)
+
+abbrev pub AreUnswept : List Report → Type 0
+AreUnswept [] = Unit {0}
+AreUnswept (report ∷ reports) = IsUnswept report × AreUnswept reports
+
+-- What a run reports and how it ends, printed, is a listing that is never found wrong, where the printed numbers fit, and no chain of
+-- intervals of a parametric run is among its reports.
+abbrev pub NeverWrong : Type 0
+NeverWrong = (bytes : List ℕ) (reports : List Report) (cards : List (List ℕ)) (ending : Ending) (found : Found) → IsJobRun linear_programming bytes reports cards ending → ReportsFit reports → AreUnswept reports →
+    StopFits ending → Comes bytes (listing reports ending) found → IsNotWrong found

@@ -2,15 +2,14 @@
 //! proves it.
 #![tactic(auto)]
 
-ghost use Rattle.own_listing_laws.specs.Laws.{ReadsBack};
+ghost use Rattle.own_listing_laws.specs.Laws.{ReadsBack, NeverWrong};
 
 /// What a run prints of a linear program is read back of its text.
 pub fn reads_back()
     ensures { ReadsBack }
 {}
 
-ghost use Rattle.own_listing_laws.specs.Probe.{ProbeLaw};
-
-pub fn probe()
-    ensures { ProbeLaw }
+/// The listing of a run is never found wrong.
+pub fn never_wrong()
+    ensures { NeverWrong }
 {}
