@@ -13,3 +13,4 @@ mod Openly
 mod Openings
 mod Paced
 mod Own
+mod Keeping

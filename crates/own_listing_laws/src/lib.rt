@@ -13,3 +13,9 @@ pub fn reads_back()
 pub fn never_wrong()
     ensures { NeverWrong }
 {}
+
+ghost use Rattle.own_listing_laws.specs.Probe.{ProbeLaw};
+
+pub fn probe()
+    ensures { ProbeLaw }
+{}

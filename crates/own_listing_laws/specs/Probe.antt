@@ -1,0 +1,3 @@
+
+abbrev pub ProbeLaw : Type 0
+ProbeLaw = Unit {0}
