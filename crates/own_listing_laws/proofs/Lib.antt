@@ -14,3 +14,4 @@ mod Openings
 mod Paced
 mod Own
 mod Keeping
+mod Closing
