@@ -109,10 +109,12 @@ module _ (sheet : Sheet) (w : ℕ → ℚ) where
       by false apart true same later = in_front k first more true same ∙ ap w (equal_numbers first k same)
       by false apart false other later = in_front k first more false other ∙ later other
 
-pub multipliers_of_ray : (sheet : Sheet) (ray : List ℚ) → length ray ≡ size sheet.lp.matrix → multipliers sheet (ray_lines sheet ray) ≡ ray
-multipliers_of_ray sheet ray counted =
+pub numbers_of_ray : (sheet : Sheet) (ray : List ℚ) → multipliers sheet (ray_lines sheet ray) ≡ listed sheet.lp.matrix (value_at ray)
+numbers_of_ray sheet ray =
     map_same (λ k. numbered k (ray_lines sheet ray)) (value_at ray) (size sheet.lp.matrix) 1 (λ k low high. number_is sheet (value_at ray) 1 (size sheet.lp.matrix) k low high)
-    ∙ listed_again sheet.lp.matrix ray counted
+
+pub multipliers_of_ray : (sheet : Sheet) (ray : List ℚ) → length ray ≡ size sheet.lp.matrix → multipliers sheet (ray_lines sheet ray) ≡ ray
+multipliers_of_ray sheet ray counted = numbers_of_ray sheet ray ∙ listed_again sheet.lp.matrix ray counted
 
 -- ---- SOLUTION
 

@@ -15,3 +15,4 @@ mod Paced
 mod Own
 mod Keeping
 mod Closing
+mod Parts
