@@ -16,3 +16,4 @@ mod Own
 mod Keeping
 mod Closing
 mod Parts
+mod Chains

@@ -1,5 +1,5 @@
-use Rattle.own_listing_laws.proofs.Parts.{part_passes, close_passes, face_kind}
+use Rattle.own_listing_laws.proofs.Chains.{chain_fine, room_enough}
 use Rattle.own_listing_laws.proofs.probe.Goals as goal
 
 pub returns : goal.returns
-returns c = let used = part_passes in let used2 = close_passes in let used3 = face_kind in tt
+returns c = let used = chain_fine in let used2 = room_enough in tt
