@@ -28,8 +28,8 @@ use Rattle.walk_definitions.specs.Tables.{begins_table_line}
 use Rattle.walk_definitions.specs.Walker.{Walker, Found, Turn, Walks, Finds, closes, walk_move, walk_statement, turn}
 use Rattle.walk_definitions.specs.Found.{first_walker, Reaches as Walked, begun as not_begun, walked, Comes, of_cards, of_control, of_walk}
 use Rattle.own_listing_laws.specs.Fitting.{ReportFits, ReportsFit, StopFits}
-use Rattle.own_listing_laws.specs.Laws.{IsUnswept, AreUnswept, IsNotWrong, NeverWrong}
-use Rattle.own_listing_laws.proofs.Pace.{rebased, IsLike, WaitsAt, KeepsPace, Lands, IsFoundRight, GainFits, IsUnsweptGain, EndsSo, IsDue, closes_right}
+use Rattle.own_listing_laws.specs.Laws.{IsNotWrong, NeverWrong}
+use Rattle.own_listing_laws.proofs.Pace.{rebased, IsLike, WaitsAt, KeepsPace, Lands, IsFoundRight, GainFits, EndsSo, IsDue, closes_right}
 use Rattle.own_listing_laws.proofs.Paced.{verb_matched}
 
 -- ---- no table line stands where a report or an end does
@@ -123,11 +123,6 @@ gain_fits Nothing reports fit = (tt, fit)
 gain_fits (Prints report) reports fit = (fit.0, fit.1)
 gain_fits (Punches report cards) reports fit = (fit.0, fit.1)
 
-gain_unswept : (gain : Gain) (reports : List Report) → AreUnswept (printed_by gain ++ reports) → IsUnsweptGain gain × AreUnswept reports
-gain_unswept Nothing reports unswept = (tt, unswept)
-gain_unswept (Prints report) reports unswept = (unswept.0, unswept.1)
-gain_unswept (Punches report cards) reports unswept = (unswept.0, unswept.1)
-
 module _ (program : Program) where
   -- the walk stands where the run does
   record Stands (w : Walker) : Type 0 where
@@ -137,7 +132,6 @@ module _ (program : Program) where
     pub runs : RunsOn program state reports ending
     pub pace : KeepsPace w state (listing reports ending)
     pub fits : ReportsFit reports
-    pub unswept : AreUnswept reports
     pub stop_fits : StopFits ending
 
   abbrev StandsAfter : Turn → Type 0
@@ -201,38 +195,34 @@ module _ (program : Program) where
   ended_after w gain ending more (Walks v) lands = absurd lands
   ended_after w gain ending more (Finds found) lands = lands
 
-  gone_after : (gain : Gain) (after : State) (reports : List Report) (ending : Ending) → RunsOn program after reports ending → ReportsFit reports → AreUnswept reports → StopFits ending → (t : Turn) → Lands (Goes gain after) (listing reports ending) t → StandsAfter t
-  gone_after gain after reports ending runs fits unswept stop_fits (Walks v) lands =
-      record { state = after; reports = reports; ending = ending; runs = runs; pace = lands; fits = fits; unswept = unswept; stop_fits = stop_fits }
-  gone_after gain after reports ending runs fits unswept stop_fits (Finds found) lands = lands
+  gone_after : (gain : Gain) (after : State) (reports : List Report) (ending : Ending) → RunsOn program after reports ending → ReportsFit reports → StopFits ending → (t : Turn) → Lands (Goes gain after) (listing reports ending) t → StandsAfter t
+  gone_after gain after reports ending runs fits stop_fits (Walks v) lands =
+      record { state = after; reports = reports; ending = ending; runs = runs; pace = lands; fits = fits; stop_fits = stop_fits }
+  gone_after gain after reports ending runs fits stop_fits (Finds found) lands = lands
 
-  turn_stands : (w : Walker) (s : State) (reports : List Report) (ending : Ending) → RunsOn program s reports ending → KeepsPace w s (listing reports ending) → ReportsFit reports → AreUnswept reports → StopFits ending → StandsAfter (turn program w)
-  turn_stands w _ _ _ (over s ending is_known is) pace fits unswept stop_fits = over_after w s pace.like pace.waits is_known ending is pace.is_rest
-  turn_stands w _ _ _ (ends s gain ending is_known step) pace fits unswept stop_fits =
+  turn_stands : (w : Walker) (s : State) (reports : List Report) (ending : Ending) → RunsOn program s reports ending → KeepsPace w s (listing reports ending) → ReportsFit reports → StopFits ending → StandsAfter (turn program w)
+  turn_stands w _ _ _ (over s ending is_known is) pace fits stop_fits = over_after w s pace.like pace.waits is_known ending is pace.is_rest
+  turn_stands w _ _ _ (ends s gain ending is_known step) pace fits stop_fits =
       let both = gain_fits gain [] (subst ReportsFit (sym (append-nil (printed_by gain))) fits) in
-      let none = gain_unswept gain [] (subst AreUnswept (sym (append-nil (printed_by gain))) unswept) in
       ended_after w gain ending (ending_text ending) (turn program w) (step_lands w s pace.like pace.waits is_known (Ends gain ending) (ending_text ending) step (record {
         text = pace.is_rest ∙ ap (λ (text : List ℕ). text ++ ending_text ending) (text_of_gain gain);
         plain = ending_plain ending;
         fits = both.0;
-        unswept = none.0;
         ends = (refl, stop_fits);
       }))
-  turn_stands w _ _ _ (goes s gain after reports ending is_known step rest) pace fits unswept stop_fits =
+  turn_stands w _ _ _ (goes s gain after reports ending is_known step rest) pace fits stop_fits =
       let both = gain_fits gain reports fits in
-      let none = gain_unswept gain reports unswept in
-      gone_after gain after reports ending rest both.1 none.1 stop_fits (turn program w) (step_lands w s pace.like pace.waits is_known (Goes gain after) (listing reports ending) step (record {
+      gone_after gain after reports ending rest both.1 stop_fits (turn program w) (step_lands w s pace.like pace.waits is_known (Goes gain after) (listing reports ending) step (record {
         text =
             pace.is_rest ∙ ap (λ (text : List ℕ). text ++ ending_text ending) (flat_map-append report_text (printed_by gain) reports)
             ∙ append_assoc (reports_text (printed_by gain)) (reports_text reports) (ending_text ending) ∙ ap (λ (text : List ℕ). text ++ listing reports ending) (text_of_gain gain);
         plain = listing_plain reports ending;
         fits = both.0;
-        unswept = none.0;
         ends = tt;
       }))
 
   stands_after : (w : Walker) → Stands w → StandsAfter (turn program w)
-  stands_after w stands = turn_stands w stands.state stands.reports stands.ending stands.runs stands.pace stands.fits stands.unswept stands.stop_fits
+  stands_after w stands = turn_stands w stands.state stands.reports stands.ending stands.runs stands.pace stands.fits stands.stop_fits
 
   module _ (decks : List (List Card)) (lines : List ℕ) (first : Stands (first_walker decks lines)) where
     walked_stands : (w : Walker) → Walked program decks lines w → Stands w
@@ -248,22 +238,22 @@ closed_right : (ending : Ending) (found : Found) → closes (first_walker [] (li
 closed_right ending found is = subst IsFoundRight is (closes_right (first_walker [] (listing [] ending)) ending refl)
 
 pub never_wrong : NeverWrong
-never_wrong bytes _ _ _ found (card_fault fault is) fits unswept stop_fits (of_cards other is' finds) =
+never_wrong bytes _ _ _ found (card_fault fault is) fits stop_fits (of_cards other is' finds) =
     let same : fault ≡ other = same_Some fault other (sym is ∙ is') in
     closed_right (CardStop fault) found (subst (λ (f : CardFault). closes (first_walker [] (listing [] (CardStop fault))) (CardStop f) ≡ Finds found) (sym same) finds)
-never_wrong bytes _ _ _ found (card_fault fault is) fits unswept stop_fits (of_control other none is' finds) = let e : Some fault ≡ None = sym is ∙ none in absurd (cc e)
-never_wrong bytes _ _ _ found (card_fault fault is) fits unswept stop_fits (of_walk program w is_program reaches finds) = let e : Some fault ≡ None = sym is ∙ is_program.is_read in absurd (cc e)
-never_wrong bytes _ _ _ found (control_fault fault none is) fits unswept stop_fits (of_cards other is' finds) = let e : Some other ≡ None = sym is' ∙ none in absurd (cc e)
-never_wrong bytes _ _ _ found (control_fault fault none is) fits unswept stop_fits (of_control other none' is' finds) =
+never_wrong bytes _ _ _ found (card_fault fault is) fits stop_fits (of_control other none is' finds) = let e : Some fault ≡ None = sym is ∙ none in absurd (cc e)
+never_wrong bytes _ _ _ found (card_fault fault is) fits stop_fits (of_walk program w is_program reaches finds) = let e : Some fault ≡ None = sym is ∙ is_program.is_read in absurd (cc e)
+never_wrong bytes _ _ _ found (control_fault fault none is) fits stop_fits (of_cards other is' finds) = let e : Some other ≡ None = sym is' ∙ none in absurd (cc e)
+never_wrong bytes _ _ _ found (control_fault fault none is) fits stop_fits (of_control other none' is' finds) =
     let both : ◌≡◌ {A = Result Program ControlFault} (Err fault) (Err other) = sym is ∙ is' in
     let same : fault ≡ other = cc both in
     closed_right (ControlStop fault) found (subst (λ (f : ControlFault). closes (first_walker [] (listing [] (ControlStop fault))) (ControlStop f) ≡ Finds found) (sym same) finds)
-never_wrong bytes _ _ _ found (control_fault fault none is) fits unswept stop_fits (of_walk program w is_program reaches finds) =
+never_wrong bytes _ _ _ found (control_fault fault none is) fits stop_fits (of_walk program w is_program reaches finds) =
     let e : ◌≡◌ {A = Result Program ControlFault} (Err fault) (Ok program) = sym is ∙ is_program.is_compiled in absurd (cc e)
-never_wrong bytes reports cards ending found (run program is_program runs) fits unswept stop_fits (of_cards fault is finds) = let e : Some fault ≡ None = sym is ∙ is_program.is_read in absurd (cc e)
-never_wrong bytes reports cards ending found (run program is_program runs) fits unswept stop_fits (of_control fault none is finds) =
+never_wrong bytes reports cards ending found (run program is_program runs) fits stop_fits (of_cards fault is finds) = let e : Some fault ≡ None = sym is ∙ is_program.is_read in absurd (cc e)
+never_wrong bytes reports cards ending found (run program is_program runs) fits stop_fits (of_control fault none is finds) =
     let e : ◌≡◌ {A = Result Program ControlFault} (Err fault) (Ok program) = sym is ∙ is_program.is_compiled in absurd (cc e)
-never_wrong bytes reports cards ending found (run program is_program runs) fits unswept stop_fits (of_walk other w is_other reaches finds) =
+never_wrong bytes reports cards ending found (run program is_program runs) fits stop_fits (of_walk other w is_other reaches finds) =
     let both : ◌≡◌ {A = Result Program ControlFault} (Ok other) (Ok program) = sym is_other.is_compiled ∙ is_program.is_compiled in
     let same : other ≡ program = cc both in
     let lines = listing reports ending in
@@ -275,7 +265,6 @@ never_wrong bytes reports cards ending found (run program is_program runs) fits 
       runs = whole_run program bytes is_program reports cards ending runs;
       pace = record { like = record { opening = []; steps = []; is = refl }; is_rest = refl; waits = tt };
       fits = fits;
-      unswept = unswept;
       stop_fits = stop_fits;
     })
     w found (subst (λ (p : Program). Walked p (job_decks p bytes) lines w) same reaches) (subst (λ (p : Program). turn p w ≡ Finds found) same finds)

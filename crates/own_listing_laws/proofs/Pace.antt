@@ -39,7 +39,7 @@ use Rattle.walk_definitions.specs.Reading.{judged}
 use Rattle.walk_definitions.specs.Walker.{Pending, Walker, Found, Attested, Wrong, Open, Unchecked, Turn, Walks, Finds, open_if, open_stop, pending_found, open_pending, open_outcome, is_inserted_by, open_question, opened, refuses_selection, ended, unless_found, closes, follows, passed, taken, answered, due, walk_move}
 use Rattle.walk_definitions.proofs.Texts.{stands}
 use Rattle.own_listing_laws.specs.Fitting.{ReportFits, StopFits}
-use Rattle.own_listing_laws.specs.Laws.{IsUnswept, IsNotWrong}
+use Rattle.own_listing_laws.specs.Laws.{IsNotWrong}
 use Rattle.own_listing_laws.proofs.Stops.{open_overflow}
 
 -- ---- states
@@ -98,11 +98,6 @@ GainFits Nothing = Unit {0}
 GainFits (Prints report) = ReportFits report
 GainFits (Punches report cards) = ReportFits report
 
-abbrev pub IsUnsweptGain : Gain → Type 0
-IsUnsweptGain Nothing = Unit {0}
-IsUnsweptGain (Prints report) = IsUnswept report
-IsUnsweptGain (Punches report cards) = IsUnswept report
-
 abbrev pub EndsSo : Outcome → List ℕ → Type 0
 EndsSo (Goes gain after) more = Unit {0}
 EndsSo (Ends gain ending) more = (more ≡ ending_text ending) × StopFits ending
@@ -112,7 +107,6 @@ pub record IsDue (w : Walker) (outcome : Outcome) (more : List ℕ) : Type 0 whe
   pub text : w.rest ≡ gain_text (gain_of outcome) ++ more
   pub plain : begins_table_line more ≡ false
   pub fits : GainFits (gain_of outcome)
-  pub unswept : IsUnsweptGain (gain_of outcome)
   pub ends : EndsSo outcome more
 
 -- ---- what is open is never wrong

@@ -30,11 +30,13 @@ use Rattle.listing_definitions.specs.declared.Solver.TheVariants.{Primal as ByPr
 use Rattle.listing_definitions.specs.declared.VerbFault.{VerbFault}
 use Rattle.listing_definitions.specs.Report.{Filed, Report, Titled, Converted, Revised, SetUp}
 use Rattle.listing_definitions.specs.Ending.{Ended}
-use Rattle.question_definitions.specs.Answers.{Basis, Sheet, Changing, Sweep}
+use Rattle.question_definitions.specs.Answers.{Basis, Sheet, Changing, changing_name, Sweep}
 use Rattle.run_definitions.specs.State.{Present, present_basis, State, problem_of, choice_of}
 use Rattle.run_definitions.specs.Moves.{Gain, Nothing, Prints, Punches, Outcome, Goes, Ends, stops, Move, Does}
 use Rattle.run_definitions.specs.Verbs.{size_of, files, not_less, change_row, change_set, mark_after, if_optimal, solves, shows, ranges, sweeps, converts, revises, sets_up, punches, punches_basis, inserts, verb_move}
 use Rattle.run_definitions.specs.Run.{counted}
+use Rattle.run_laws.specs.Truth.{IsOfProblem, named_by}
+use Rattle.run_laws.proofs.ChangeRow.{changes_freely, row_named, set_named}
 use Rattle.run_laws.proofs.Moves.{HasProblem, EndsOptimally, Knows}
 use Rattle.run_laws.proofs.Ends.{IsProvedBest, shown_is_best}
 use Rattle.run_laws.proofs.Selected.{selected_is_lawful}
@@ -45,6 +47,7 @@ use Rattle.own_listing_laws.proofs.Paths.{IsPathSolver, path_followed}
 use Rattle.own_listing_laws.proofs.Shown.{shown_followed}
 use Rattle.own_listing_laws.proofs.Openly.{ranges_followed, punch_followed, install_followed}
 use Rattle.own_listing_laws.proofs.Openings.{sweep_followed}
+use Rattle.own_listing_laws.proofs.Chains.{chain_lands}
 
 -- while the mark stands, the cells select the same
 record SelectsSame (cells moved : Cells) : Type 0 where
@@ -159,15 +162,20 @@ module _ (w : Walker) (s : State) (opening : Basis) (steps : List Basis) (waits 
       unless_fault w {X = List Card × List (List Card)} card VerbFault.DeckNotFound (deck_taken s.cells.xdata s.decks) _ _ (λ taken t.
       unless_deck_fault w card (basis_reading present.problem lp taken.0) _ _ (λ b read. install_followed w s opening steps card present lp b taken))))
 
-  sweeps_followed : (card : ℕ) (fault : VerbFault) (change : Problem ℕ → Name → Option Changing) (moved : Option Name) → IsFollowed w card (sweeps card fault change moved (counted walked)) (sweeps card fault change moved (counted s))
-  sweeps_followed card fault change moved =
+  sweeps_followed : (card : ℕ) (fault : VerbFault) (change : Problem ℕ → Name → Option Changing) (moved : Option Name) →
+      ((problem : Problem ℕ) (changing : Changing) → option_and_then (change problem) moved ≡ Some changing → IsOfProblem changing problem × (named_by s.cells changing ≡ Some (changing_name changing))) →
+      IsFollowed w card (sweeps card fault change moved (counted walked)) (sweeps card fault change moved (counted s))
+  sweeps_followed card fault change moved part =
       unless_no_setup w card VerbFault.NoSetup opening steps s.setup _ _ (λ present set.
       selecting w card present.problem (choice_of s.cells present.options) _ _ (λ lp is.
       unless_fault w {X = Changing} card fault (option_and_then (change present.problem) moved) _ _ (λ changing c.
       unless_fault w {X = ℚ} card VerbFault.NoParmax s.cells.xparmax _ _ (λ last l.
       unless_fault w {X = ℚ} card VerbFault.ParmaxBelow (not_less s.cells.xparam last) _ _ (λ to t.
-      sweep_followed w s opening steps card (record { changing = changing; from = s.cells.xparam; to = to; limit = steps_allowed s.cells }) present lp
-      (λ bases intervals end more chained given. absurd given.unswept))))))
+      let sweep : Sweep = record { changing = changing; from = s.cells.xparam; to = to; limit = steps_allowed s.cells } in
+      sweep_followed w s opening steps card sweep present lp
+      (chain_lands w s opening steps card sweep present lp (selected_is_lawful present.problem (choice_of s.cells present.options) lp (lawful present set) is)
+      (changes_freely (record { problem = present.problem; lp = lp }) (choice_of s.cells present.options) changing (lawful present set) is (part present.problem changing c).0)
+      ((knows.bases present set).in_each s.cells.xobj s.cells.xrhs lp is)))))))
 
   pub verb_matched : (verb : Verb ℕ) (card : ℕ) → IsMatched w card (verb_move verb card (counted walked)) (verb_move verb card (counted s))
   unfolding verb_move
@@ -188,8 +196,8 @@ module _ (w : Walker) (s : State) (opening : Basis) (steps : List Basis) (waits 
   verb_matched Dual card = (solves_followed ByDual tt (Some (steps_allowed s.cells)) card).matched
   verb_matched SolutionVerb card = (shows_followed card).matched
   verb_matched Ranging card = (ranges_all_followed card).matched
-  verb_matched Paraobj card = (sweeps_followed card VerbFault.NoChangeRow change_row s.cells.xchrow).matched
-  verb_matched Pararhs card = (sweeps_followed card VerbFault.NoChangeSet change_set s.cells.xchcol).matched
+  verb_matched Paraobj card = (sweeps_followed card VerbFault.NoChangeRow change_row s.cells.xchrow (row_named s.cells)).matched
+  verb_matched Pararhs card = (sweeps_followed card VerbFault.NoChangeSet change_set s.cells.xchcol (set_named s.cells)).matched
   verb_matched Bcdout card = (punches_followed card).matched
   verb_matched Punch card = (punches_basis_followed card).matched
   verb_matched Insert card = (inserts_followed card).matched

@@ -7,7 +7,7 @@ use Rattle.frac128.specs.Operations.{TermsFit}
 use Rattle.method_definitions.specs.Chain.{Part}
 use Rattle.listing_definitions.specs.declared.Mark.{Mark}
 use Rattle.listing_definitions.specs.declared.Solver.{Solver}
-use Rattle.listing_definitions.specs.Report.{PathVerdict, Check, Interval, ChainEnd, Report, Parametric}
+use Rattle.listing_definitions.specs.Report.{PathVerdict, Check, Interval, ChainEnd, Report}
 use Rattle.listing_definitions.specs.Text.{verdict_text, solution_text, interval_text, chain_end_text}
 use Rattle.question_definitions.specs.Answers.{Basis, Sheet}
 use Rattle.answer_definitions.specs.Sections.{solution_lines}
@@ -22,11 +22,6 @@ use Rattle.answer_definitions.specs.Real.{linear_programming}
 use Rattle.run_definitions.specs.Answer.{IsJobRun}
 use Rattle.own_listing_laws.specs.Fitting.{LinesFit, VerdictFits, CheckFits, EndFits, ReportsFit, StopFits}
 use Rattle.own_listing_laws.specs.Printed.{IsReadable, IsPrinted, IsEndOf}
-
--- no chain of intervals of a parametric run
-abbrev pub IsUnswept : Report → Type 0
-IsUnswept (Parametric solver chain) = ⊥
-IsUnswept report = Unit {0}
 
 abbrev pub IsNotWrong : Found → Type 0
 IsNotWrong (Wrong rest) = ⊥
@@ -44,12 +39,7 @@ pub record ReadsBack : Type 0 where
   pub close : (sheet : Sheet) (solver : Solver) (end : ChainEnd) (after : List ℕ) → IsEndOf sheet solver end → EndFits end → begins_table_line after ≡ false →
       close_in sheet solver (chain_end_text solver end ++ after) ≡ Some (end, after)
 
-abbrev pub AreUnswept : List Report → Type 0
-AreUnswept [] = Unit {0}
-AreUnswept (report ∷ reports) = IsUnswept report × AreUnswept reports
-
--- What a run reports and how it ends, printed, is a listing that is never found wrong, where the printed numbers fit, and no chain of
--- intervals of a parametric run is among its reports.
+-- What a run reports and how it ends, printed, is a listing that is never found wrong, where the printed numbers fit what the walk reads.
 abbrev pub NeverWrong : Type 0
-NeverWrong = (bytes : List ℕ) (reports : List Report) (cards : List (List ℕ)) (ending : Ending) (found : Found) → IsJobRun linear_programming bytes reports cards ending → ReportsFit reports → AreUnswept reports →
-    StopFits ending → Comes bytes (listing reports ending) found → IsNotWrong found
+NeverWrong = (bytes : List ℕ) (reports : List Report) (cards : List (List ℕ)) (ending : Ending) (found : Found) → IsJobRun linear_programming bytes reports cards ending → ReportsFit reports → StopFits ending →
+    Comes bytes (listing reports ending) found → IsNotWrong found
