@@ -141,6 +141,17 @@ has_ended ByDual path sheet s limit bases verdict check solved = record {
 has_ended ByParaobj path sheet s limit bases verdict check solved = absurd path
 has_ended ByPararhs path sheet s limit bases verdict check solved = absurd path
 
+ended_so_passes : (solver : Solver) (sheet : Sheet) (s : Basis) (bases : List Basis) (verdict : PathVerdict) (check : Check) → HasEnded solver sheet s bases verdict check → Passes (verdict_test sheet verdict check)
+ended_so_passes solver sheet s bases verdict check ended = verdict_passes sheet (last_of s bases) ended.tableau (length bases) ended.ending verdict check ended.is_of ended.is_verdict
+
+-- the test of a path's verdict never fails
+pub path_passes : (solver : Solver) (sheet : Sheet) (s : Basis) (limit : Option ℕ) (bases : List Basis) (verdict : PathVerdict) (check : Check) → verdicts.IsSolvedBy solver sheet s limit (Reached bases verdict check) →
+    Passes (verdict_test sheet verdict check)
+path_passes ByPrimal sheet s limit bases verdict check solved = ended_so_passes ByPrimal sheet s bases verdict check (has_ended ByPrimal tt sheet s limit bases verdict check solved)
+path_passes ByDual sheet s limit bases verdict check solved = ended_so_passes ByDual sheet s bases verdict check (has_ended ByDual tt sheet s limit bases verdict check solved)
+path_passes ByParaobj sheet s limit bases verdict check solved = absurd solved
+path_passes ByPararhs sheet s limit bases verdict check solved = absurd solved
+
 -- ---- what is pending after it
 
 pending_of : (sheet : Sheet) (setup : Option Present) (objective rhs : Option Name) (present : Present) (rest : List ℕ) (n : ℕ) (t : Tableau) (ending : PathEnding) (verdict : PathVerdict) (check : Check) →

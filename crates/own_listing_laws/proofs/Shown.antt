@@ -111,6 +111,13 @@ module _ (sheet : Sheet) (lawful : IsLinearProgram sheet.lp) (s : Basis) (at : I
           last_checked (verdict_of (equations sheet.lp 1 (point_of sheet lines))) (verdict_of (reduced_costs sheet.lp (prices_of sheet lines)))
           (verdict_of (flat_map (slack_steps sheet (point_of sheet lines) (slacks_of sheet lines)) (row_numbers sheet.lp))) (optimal_check sheet.lp (point_of sheet lines) (prices_of sheet lines)) checked
 
+-- the test of SOLUTION never fails
+pub solution_passes : (sheet : Sheet) (s : Basis) (t : Tableau) (mark : Mark) → IsLinearProgram sheet.lp → IsTableau sheet.lp s t → IsNonsingularBasis sheet.lp s → (mark ≡ Optimal → IsProvedBest sheet.lp s t) →
+    Passes (solution_test sheet mark (solution_lines sheet s t))
+solution_passes sheet s t Optimal lawful tab at best = let proved = best refl in shown_passes sheet s t lawful tab at Optimal (best_passes sheet s t lawful tab at proved.best proved.proving)
+solution_passes sheet s t Infeasible lawful tab at best = shown_passes sheet s t lawful tab at Infeasible passes_checked
+solution_passes sheet s t Unbounded lawful tab at best = shown_passes sheet s t lawful tab at Unbounded passes_checked
+
 -- ---- the question of SOLUTION
 
 module _ (w : Walker) (s : State) (opening : Basis) (steps : List Basis) (card : ℕ) (mark : Mark) (present : Present) (lp : LinearProgram) (set : s.setup ≡ Some present)
@@ -132,12 +139,7 @@ module _ (w : Walker) (s : State) (opening : Basis) (steps : List Basis) (card :
   own lines = next (Prints (Solution mark lines)) (counted s)
 
   test_passes : (t : Tableau) → IsTableau lp (present_basis present) t → Passes (solution_test sheet mark (solution_lines sheet (present_basis present) t))
-  test_passes t tab = by mark best
-    where
-      by : (mark : Mark) → (mark ≡ Optimal → (t : Tableau) → IsTableau lp (present_basis present) t → IsProvedBest lp (present_basis present) t) → Passes (solution_test sheet mark (solution_lines sheet (present_basis present) t))
-      by Optimal best = let proved = best refl t tab in shown_passes sheet (present_basis present) t lawful tab at Optimal (best_passes sheet (present_basis present) t lawful tab at proved.best proved.proving)
-      by Infeasible best = shown_passes sheet (present_basis present) t lawful tab at Infeasible passes_checked
-      by Unbounded best = shown_passes sheet (present_basis present) t lawful tab at Unbounded passes_checked
+  test_passes t tab = solution_passes sheet (present_basis present) t mark lawful tab at (λ optimal. best optimal t tab)
 
   shown_lands : (t : Tableau) → IsTableau lp (present_basis present) t → (more : List ℕ) → IsDue w (own (solution_lines sheet (present_basis present) t)) more →
       Lands (own (solution_lines sheet (present_basis present) t)) more (answered w (OfSolution mark) sheet go (judged (OfSolution mark) sheet w.rest))

@@ -1,3 +1,0 @@
-
-abbrev pub ProbeLaw : Type 0
-ProbeLaw = Unit {0}
