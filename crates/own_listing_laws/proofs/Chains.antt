@@ -1,28 +1,26 @@
 -- A chain of intervals lands: each interval is read back and passes its test, and so does the close.
 --     IsFine x rest judged         this is read, with this left, or an operation of a test is refused
-use Rattle.std.proofs.Common.{◌≡◌, ℕ, zero, suc, ◌+◌, ◌<◌, ◌≤◌, Bool, true, false, List, [], ◌∷◌, ◌++◌, length, map, Option, Some, None, codes, drop, if◌then◌else◌, refl, sym, ap, ap₂, subst, ◌∙◌, ◌⊎◌, inl, inr, arith, append_assoc, append-nil}
+use Rattle.std.proofs.Common.{◌≡◌, ℕ, ◌+◌, ◌<◌, ◌≤◌, true, false, List, [], ◌∷◌, ◌++◌, length, map, Option, Some, None, codes, drop, if◌then◌else◌, refl, sym, ap, subst, ◌∙◌, ◌⊎◌, inl, inr, arith, append_assoc, append-nil}
 use Rattle.std.specs.Prelude.{All, nat_eq}
 use Rattle.std.specs.List.{flat_map, enumerate_from}
 use Rattle.std.proofs.lemmas.List.{length-append}
 use Rattle.std.proofs.lemmas.List.Elements.{All-head, All-tail}
 use Rattle.std.proofs.lemmas.Bool.Decides.{nat_tests}
-use Rattle.exact_values.specs.Rational.{ℚ, ◌≤ℚ◌, ◌<ℚ◌}
+use Rattle.exact_values.specs.Rational.{ℚ, ◌<ℚ◌}
 use Rattle.exact_values.proofs.Order.{le_refl}
 use Rattle.frac128.specs.Operations.{TermsFit}
-use Rattle.lp_definitions.specs.LinearProgram.{LinearProgram, Vector, value_at, IsLinearProgram}
+use Rattle.lp_definitions.specs.LinearProgram.{LinearProgram, Vector, IsLinearProgram}
 use Rattle.lp_definitions.specs.Solutions.{IsBest}
 use Rattle.lp_definitions.specs.declared.Status.{Status}
 use Rattle.check_definitions.specs.declared.Verdict.{Verdict}
 use Rattle.check_definitions.specs.declared.Verdict.TheVariants.{Checked, Failed, Unchecked}
 use Rattle.method_definitions.specs.Path.{last_of}
-use Rattle.method_definitions.specs.Chain.{Part, along, ChainEnd as PastBreak, AtMax, UnboundedPast as PastUnbounded, InfeasiblePast as PastInfeasible, FaceEnds, IsPart, FacesTo, IsChain, at_max, past_break, goes_on, Chain}
-use Rattle.problem_definitions.specs.Names.{Name}
+use Rattle.method_definitions.specs.Chain.{Part, ChainEnd as PastBreak, AtMax, UnboundedPast as PastUnbounded, InfeasiblePast as PastInfeasible, IsPart, IsChain, at_max, past_break, goes_on, Chain}
 use Rattle.problem_definitions.specs.Problem.{Problem}
 use Rattle.listing_definitions.specs.declared.Solver.{Solver}
-use Rattle.listing_definitions.specs.declared.Solver.TheVariants.{Primal, Dual, Paraobj, Pararhs}
-use Rattle.listing_definitions.specs.Numbers.{digits, rational_text}
+use Rattle.listing_definitions.specs.Numbers.{rational_text}
 use Rattle.listing_definitions.specs.Report.{Interval, ChainEnd, EndsAt, UnboundedPast, InfeasiblePast}
-use Rattle.listing_definitions.specs.Text.{solver_text, interval_text, chain_end_text, chain_text}
+use Rattle.listing_definitions.specs.Text.{solver_text, interval_text, chain_end_text}
 use Rattle.question_definitions.specs.Answers.{Basis, Sheet, Changing, Row, Set, changing_name, sweeper, Sweep, OfSweep, SweepEnd, Chained}
 use Rattle.answer_definitions.specs.Sweeps.{row_of, shifts_of, family_of, IsFace, sheet_at, interval_of, end_of, IsChained}
 use Rattle.run_laws.specs.Sweeps.{ChangesFreely}
@@ -37,14 +35,14 @@ use Rattle.sweep_laws.proofs.TrueRuns.{objective_runs, rhs_runs}
 use Rattle.walk_definitions.specs.Words.{Parsed, left_after}
 use Rattle.walk_definitions.specs.Tables.{begins_table_line}
 use Rattle.walk_definitions.specs.Tests.{interval_test, close_test}
-use Rattle.walk_definitions.specs.Reading.{Judged, Right, Fails, Refuses, by_verdict, tested, judged_map, interval_in, close_in, Run, onward, part_in, run_in, sweep_head, sweep_in, judged}
+use Rattle.walk_definitions.specs.Reading.{Judged, Right, Fails, Refuses, by_verdict, tested, judged_map, interval_in, close_in, Run, onward, part_in, run_in, sweep_head, sweep_in}
 use Rattle.walk_definitions.specs.Walker.{Walker, answered}
 use Rattle.walk_definitions.proofs.Texts.{stands}
 use Rattle.own_listing_laws.specs.Fitting.{IntervalsFit, EndFits, LinesFit}
 use Rattle.own_listing_laws.specs.Printed.{IsEndOf, of_end, of_direction, of_ray}
 use Rattle.own_listing_laws.proofs.Sections.{interval_read, close_read}
 use Rattle.own_listing_laws.proofs.Tests.{Passes}
-use Rattle.own_listing_laws.proofs.Pace.{rebased, Lands, IsDue}
+use Rattle.own_listing_laws.proofs.Pace.{rebased, Lands}
 use Rattle.own_listing_laws.proofs.Openings.{SweepLands}
 use Rattle.own_listing_laws.proofs.Parts.{part_passes, IsKind, face_kind, close_passes}
 

@@ -1,12 +1,12 @@
 -- The numbers of printed lines, as the vectors that they were printed of.
-use Rattle.std.proofs.Common.{◌≡◌, ℕ, zero, suc, ◌+◌, ◌-◌, ◌<◌, ◌≤◌, Bool, true, false, not, cond, List, [], ◌∷◌, ◌++◌, map, filter, length, get_or, Option, Some, None, refl, sym, ap, ap₂, ◌∙◌, arith}
+use Rattle.std.proofs.Common.{◌≡◌, ℕ, zero, suc, ◌+◌, ◌-◌, ◌<◌, ◌≤◌, Bool, true, false, not, cond, List, [], ◌∷◌, ◌++◌, map, length, get_or, Option, Some, None, refl, sym, ap, ap₂, ◌∙◌, arith}
 use Rattle.std.specs.Prelude.{find, slice_get, nat_eq}
 use Rattle.std.proofs.lemmas.List.{ext_get_or, map-append}
 use Rattle.std.proofs.lemmas.Bool.Decides.{nat_tests}
 use Rattle.exact_values.specs.Rational.{ℚ, zero_ℚ}
 use Rattle.exact_values.specs.Tests.{eq_ℚ}
 use Rattle.exact_values.proofs.Tests_laws.{same_from_test}
-use Rattle.lp_definitions.specs.LinearProgram.{Matrix, LinearProgram, Vector, value_at, variables, numbers_from, size, IsVariable}
+use Rattle.lp_definitions.specs.LinearProgram.{Matrix, Vector, value_at, variables, numbers_from, size, IsVariable}
 use Rattle.lp_definitions.specs.Basis.{Tableau, basics_of, price_at}
 use Rattle.lp_laws.proofs.Opening.{numbers_from-append}
 use Rattle.method_definitions.specs.Path.{listed}

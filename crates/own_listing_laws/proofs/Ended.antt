@@ -1,11 +1,11 @@
 -- The lists in which a path's end tells its vectors have a value for each variable.
-use Rattle.std.proofs.Common.{◌≡◌, ℕ, ◌+◌, ◌≤◌, ◌<◌, Bool, List, [], length, Option, Some, None, refl, sym, ap, subst, ◌∙◌, arith}
+use Rattle.std.proofs.Common.{◌≡◌, ℕ, List, length, Option, Some, None, refl, subst, arith}
 use Rattle.exact_values.specs.Rational.{ℚ}
 use Rattle.lp_definitions.specs.LinearProgram.{LinearProgram, Vector, size, IsVariable}
 use Rattle.lp_definitions.specs.declared.Status.{Status}
-use Rattle.lp_definitions.specs.Basis.{basics_of, Tableau, IsTableau, price_at}
+use Rattle.lp_definitions.specs.Basis.{basics_of, Tableau, price_at}
 use Rattle.method_definitions.specs.Moves.{is_crossed, goes_up, stopper, is_below}
-use Rattle.method_definitions.specs.Path.{PathEnding, EndsOptimal, EndsCrossed, EndsInfeasible, EndsUnbounded, Turn, Moves, Ends, listed, speeds, crossed, outside, worth_rate, mover, bring_back, run_until, run_at, better, turn_for, turn, RuleEnd}
+use Rattle.method_definitions.specs.Path.{PathEnding, EndsOptimal, EndsCrossed, EndsInfeasible, EndsUnbounded, Turn, Moves, Ends, listed, speeds, crossed, outside, worth_rate, mover, bring_back, run_until, better, turn_for, turn}
 use Rattle.method_definitions.specs.DualPath.{dual_for, dual_turn}
 use Rattle.method_definitions.specs.DualRatio.{cheapest}
 use Rattle.path_laws.proofs.Numbered.{find_some}

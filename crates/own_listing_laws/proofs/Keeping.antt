@@ -1,24 +1,22 @@
 -- Along an interval of a parametric run a price that isn't 0 is that of a nonbasic, which stands at its limit at every value. So the prices
 -- of both ends keep the limits of both, and the tests of an interval never fail.
 --     TiesLimits family a          where both limits of a variable are equal at one value, they are at every value
-use Rattle.std.proofs.Common.{◌≡◌, ℕ, ◌+◌, ◌<◌, ◌≤◌, Bool, true, false, ◌&&◌, ◌||◌, List, [], ◌∷◌, ◌++◌, length, Option, Some, None, Less, Equal, Greater, if◌then◌else◌, refl, sym, ap, ap₂, subst, ◌∙◌, ◌⊎◌, inl, inr, arith}
+use Rattle.std.proofs.Common.{◌≡◌, ℕ, Bool, true, List, ◌++◌, Option, Some, Less, Equal, Greater, if◌then◌else◌, refl, sym, ap, subst, ◌∙◌, arith}
 use Rattle.std.specs.List.{flat_map}
 use Rattle.std.specs.declared.cmp.Ordering.{Ordering}
 use Rattle.std.proofs.lemmas.Bool.{and_from}
 use Rattle.exact_values.specs.Rational.{ℚ, zero_ℚ, ◌≤ℚ◌, ◌<ℚ◌, compare_ℚ}
-use Rattle.exact_values.specs.Tests.{lt_ℚ, le_ℚ, eq_ℚ}
 use Rattle.exact_values.proofs.Compare.{lt_from_compare, gt_from_compare}
 use Rattle.exact_values.proofs.Order.{lt_irrefl, le_refl}
 use Rattle.exact_values.proofs.Tests_laws.{test_from_same}
 use Rattle.lp_definitions.specs.declared.Sense.{Sense}
-use Rattle.lp_definitions.specs.declared.Sense.TheVariants.{Min, Max}
 use Rattle.lp_definitions.specs.declared.Status.{Status}
 use Rattle.lp_definitions.specs.declared.Status.TheVariants.{Bs, Ll, Ul, Fr}
-use Rattle.lp_definitions.specs.LinearProgram.{Matrix, LinearProgram, Vector, value_at, size, variables, IsVariable, lower_of, upper_of, for_min}
-use Rattle.lp_definitions.specs.Basis.{is_in, is_basic, basics_of, status_of, StandsAt, IsAllowed, IsFixed, IsOptimalBasis, objective_rate, price_at}
+use Rattle.lp_definitions.specs.LinearProgram.{Matrix, LinearProgram, Vector, size, variables, IsVariable, lower_of, upper_of, for_min}
+use Rattle.lp_definitions.specs.Basis.{is_in, is_basic, basics_of, status_of, StandsAt, IsAllowed, IsFixed, IsOptimalBasis, objective_rate}
 use Rattle.lp_laws.proofs.Optimal.{for_min-zero}
 use Rattle.lp_laws.proofs.Uniqueness.{is_in-basics_of}
-use Rattle.check_definitions.specs.Steps.{Step, comparison}
+use Rattle.check_definitions.specs.Steps.{Step}
 use Rattle.check_definitions.specs.Checks.{is_at, by_sign}
 use Rattle.certificate_check.proofs.True_claims.{NeverFails}
 use Rattle.method_definitions.specs.Chain.{Part, along, IsPart}
@@ -84,19 +82,23 @@ module _ (family : ℚ → LinearProgram) (a : Matrix) (sense : Sense) (matrix_i
 
     lower_at_both : (x : ℚ) → zero_ℚ <ℚ for_min sense (y theta k) → (lower_of (family theta) k ≡ Some (z theta k)) × (lower_of (family x) k ≡ Some (z x k))
     lower_at_both x positive =
-        let here = (truth.solved theta low high).proving.at_lower k (there theta) (subst (λ (own : Sense). zero_ℚ <ℚ for_min own (y theta k)) (sym (sense_is theta)) positive) in
-        (here, lower_kept (status_of s k) (lower_of (family theta) k) (upper_of (family theta) k) (lower_of (family x) k) (upper_of (family x) k) (z theta k) (z x k)
-        ((is.values theta).placed k (there theta)) ((is.values x).placed k (there x)) (optimal.is_basis.allowed k (there theta))
-        (not_basic (λ e. lt_irrefl (subst (λ (v : ℚ). zero_ℚ <ℚ v) (ap (for_min sense) e ∙ for_min-zero sense) positive)))
-        (λ v l h. ties theta x k var (v, l, h)) here)
+        let here = (truth.solved theta low high).proving.at_lower k (there theta) (subst (λ (own : Sense). zero_ℚ <ℚ for_min own (y theta k)) (sym (sense_is theta)) positive) in (
+          here,
+          lower_kept (status_of s k) (lower_of (family theta) k) (upper_of (family theta) k) (lower_of (family x) k) (upper_of (family x) k) (z theta k) (z x k)
+              ((is.values theta).placed k (there theta)) ((is.values x).placed k (there x)) (optimal.is_basis.allowed k (there theta))
+              (not_basic (λ e. lt_irrefl (subst (λ (v : ℚ). zero_ℚ <ℚ v) (ap (for_min sense) e ∙ for_min-zero sense) positive)))
+              (λ v l h. ties theta x k var (v, l, h)) here,
+        )
 
     upper_at_both : (x : ℚ) → for_min sense (y theta k) <ℚ zero_ℚ → (upper_of (family theta) k ≡ Some (z theta k)) × (upper_of (family x) k ≡ Some (z x k))
     upper_at_both x negative =
-        let here = (truth.solved theta low high).proving.at_upper k (there theta) (subst (λ (own : Sense). for_min own (y theta k) <ℚ zero_ℚ) (sym (sense_is theta)) negative) in
-        (here, upper_kept (status_of s k) (lower_of (family theta) k) (upper_of (family theta) k) (lower_of (family x) k) (upper_of (family x) k) (z theta k) (z x k)
-        ((is.values theta).placed k (there theta)) ((is.values x).placed k (there x)) (optimal.is_basis.allowed k (there theta))
-        (not_basic (λ e. lt_irrefl (subst (λ (v : ℚ). v <ℚ zero_ℚ) (ap (for_min sense) e ∙ for_min-zero sense) negative)))
-        (λ v l h. ties theta x k var (v, l, h)) here)
+        let here = (truth.solved theta low high).proving.at_upper k (there theta) (subst (λ (own : Sense). for_min own (y theta k) <ℚ zero_ℚ) (sym (sense_is theta)) negative) in (
+          here,
+          upper_kept (status_of s k) (lower_of (family theta) k) (upper_of (family theta) k) (lower_of (family x) k) (upper_of (family x) k) (z theta k) (z x k)
+              ((is.values theta).placed k (there theta)) ((is.values x).placed k (there x)) (optimal.is_basis.allowed k (there theta))
+              (not_basic (λ e. lt_irrefl (subst (λ (v : ℚ). v <ℚ zero_ℚ) (ap (for_min sense) e ∙ for_min-zero sense) negative)))
+              (λ v l h. ties theta x k var (v, l, h)) here,
+        )
 
   -- the prices of one end keep the limits of both
   abbrev keeps_at : ℚ → ℕ → List Step

@@ -1,32 +1,24 @@
 -- A parametric run lands: the verdict of an opening that isn't optimal is read back and passes its test; a stop at the limit on steps is
 -- open. That a chain of intervals lands is a premise here.
-use Rattle.std.proofs.Common.{◌≡◌, ℕ, zero, suc, ◌+◌, ◌<◌, ◌≤◌, List, [], ◌∷◌, ◌++◌, length, Option, Some, None, Ok, codes, refl, sym, ap, subst, ◌∙◌, append_assoc, append-nil}
-use Rattle.std.specs.List.{flat_map}
+use Rattle.std.proofs.Common.{◌≡◌, ℕ, List, [], ◌∷◌, ◌++◌, length, Option, Some, None, codes, refl, sym, ap, subst, ◌∙◌, append_assoc, append-nil}
 use Rattle.std.proofs.lemmas.List.{append_cancel_left}
 use Rattle.exact_values.specs.Rational.{ℚ}
 use Rattle.lp_definitions.specs.LinearProgram.{LinearProgram, lower_of, upper_of, value_at}
-use Rattle.lp_definitions.specs.Basis.{Tableau, IsTableau}
 use Rattle.check_definitions.specs.declared.Verdict.{Verdict}
-use Rattle.check_definitions.specs.declared.Verdict.TheVariants.{Checked, Failed, Unchecked}
 use Rattle.check_definitions.specs.Steps.{Step, verdict_of, in_turn}
 use Rattle.certificate_check.proofs.True_claims.{NeverFails}
 use Rattle.method_definitions.specs.Path.{PathEnding, EndsOptimal, EndsCrossed, EndsInfeasible, EndsUnbounded, last_of}
 use Rattle.method_definitions.specs.Chain.{IsFailure}
-use Rattle.problem_definitions.specs.Names.{Name}
-use Rattle.selection_definitions.specs.Selection.{selected}
-use Rattle.listing_definitions.specs.declared.Solver.{Solver}
-use Rattle.listing_definitions.specs.declared.Solver.TheVariants.{Primal, Dual, Paraobj, Pararhs}
-use Rattle.listing_definitions.specs.Numbers.{digits, rational_text}
-use Rattle.listing_definitions.specs.Report.{PathVerdict, OptimalAt, CrossedAt, InfeasibleBy, UnboundedBy, Check, Interval, ChainEnd, Report, Solved}
+use Rattle.listing_definitions.specs.Numbers.{rational_text}
+use Rattle.listing_definitions.specs.Report.{PathVerdict, OptimalAt, CrossedAt, InfeasibleBy, UnboundedBy, Check, Interval, ChainEnd, Solved}
 use Rattle.listing_definitions.specs.Text.{check_text, table_text, solver_text, verdict_head, verdict_lines, verdict_text}
 use Rattle.text_laws.proofs.Words.{begin_otherwise}
 use Rattle.question_definitions.specs.Answers.{Basis, Sheet, Changing, Row, Set, changing_name, sweeper, Sweep, Question, OfSweep, SweepEnd, Opening, Chained, SweepLimit}
 use Rattle.question_definitions.specs.Solving.{IsRight}
-use Rattle.answer_definitions.specs.Lines.{row_numbers}
 use Rattle.answer_definitions.specs.Verdicts as verdicts
-use Rattle.answer_definitions.specs.Sweeps.{shifts_of, family_of, sheet_at, FailsToOpen, IsChained}
+use Rattle.answer_definitions.specs.Sweeps.{shifts_of, sheet_at, FailsToOpen, IsChained}
 use Rattle.answer_definitions.specs.Real.{linear_programming}
-use Rattle.run_definitions.specs.State.{Present, present_basis, path_of, gone_through, State, choice_of}
+use Rattle.run_definitions.specs.State.{Present, present_basis, path_of, gone_through, State}
 use Rattle.run_definitions.specs.Moves.{Gain, Prints, gain_of, gain_text, Outcome, InAnswer, Asks}
 use Rattle.run_definitions.specs.Verbs.{asks, mark_of, after_sweep}
 use Rattle.run_definitions.specs.Run.{counted}
@@ -34,7 +26,7 @@ use Rattle.run_laws.proofs.Runs.{knows_linear_programming}
 use Rattle.walk_definitions.specs.Words.{Parsed, left_after}
 use Rattle.walk_definitions.specs.Forms.{is_open_stop}
 use Rattle.walk_definitions.specs.Tests.{verdict_test, moving_steps, making_steps}
-use Rattle.walk_definitions.specs.Reading.{Judged, Right, Refuses, tested, judged_map, judged, Claim, verdict_in, sweep_head, sweep_in}
+use Rattle.walk_definitions.specs.Reading.{Judged, Right, tested, judged_map, judged, Claim, verdict_in, sweep_head, sweep_in}
 use Rattle.walk_definitions.specs.Walker.{Walker, open_question, passed, answered}
 use Rattle.walk_definitions.proofs.Texts.{is_text}
 use Rattle.own_listing_laws.specs.Fitting.{VerdictFits, CheckFits}

@@ -1,12 +1,12 @@
 -- RANGE, PUNCH and INSERT are open, and so are the stops of INSERT.
-use Rattle.std.proofs.Common.{◌≡◌, ℕ, ◌≤◌, Bool, true, List, [], ◌++◌, length, Option, Some, None, refl, sym, ap, ◌∙◌, arith}
+use Rattle.std.proofs.Common.{◌≡◌, ℕ, ◌≤◌, Bool, true, List, length, Option, Some, None, sym, ap, ◌∙◌, arith}
 use Rattle.std.specs.Prelude.{min}
 use Rattle.std.specs.Option.{option_or}
 use Rattle.lp_definitions.specs.LinearProgram.{LinearProgram}
 use Rattle.card_definitions.specs.Cards.{Card, live}
 use Rattle.deck_definitions.specs.Conversion.{deck_name}
 use Rattle.basis_deck_definitions.specs.Writing.{basic_columns}
-use Rattle.listing_definitions.specs.Report.{Line, RangeLines, BasisOut, Ranges}
+use Rattle.listing_definitions.specs.Report.{RangeLines, BasisOut, Ranges}
 use Rattle.problem_definitions.specs.Names.{Name}
 use Rattle.question_definitions.specs.Solving.{IsRight}
 use Rattle.answer_definitions.specs.Real.{linear_programming}

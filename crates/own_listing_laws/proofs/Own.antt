@@ -1,16 +1,13 @@
 -- The listing of a job's run is never found wrong.
-use Rattle.std.proofs.Common.{◌≡◌, ℕ, ◌+◌, ◌-◌, ◌<◌, ◌≤◌, Bool, true, false, List, [], ◌∷◌, ◌++◌, length, Option, Some, None, Result, Ok, Err, if◌then◌else◌, refl, sym, ap, subst, ◌∙◌, arith, append_assoc, append-nil, lt-ltb, le-ltb}
+use Rattle.std.proofs.Common.{◌≡◌, ℕ, ◌-◌, ◌<◌, true, false, List, [], ◌∷◌, ◌++◌, length, Some, None, Result, Ok, Err, if◌then◌else◌, refl, sym, ap, subst, ◌∙◌, arith, append_assoc, append-nil, lt-ltb, le-ltb}
 use Rattle.std.specs.Prelude.{slice_get, nat_lt}
-use Rattle.std.specs.List.{flat_map}
 use Rattle.std.proofs.lemmas.Grind.{flat_map-append}
 use Rattle.std.proofs.lemmas.Option.{slice_get_within, same_Some}
 use Rattle.card_definitions.specs.declared.CardFault.{CardFault}
 use Rattle.card_definitions.specs.declared.CardFault.TheVariants.{TooLong, NotPrintable, CardTooLong}
-use Rattle.card_definitions.specs.Cards.{Card, cards_of, job_fault}
+use Rattle.card_definitions.specs.Cards.{Card}
 use Rattle.control_definitions.specs.declared.ControlFault.{ControlFault}
 use Rattle.control_definitions.specs.Program.{Statement, Program}
-use Rattle.control_definitions.specs.Compiled.{compiled}
-use Rattle.listing_definitions.specs.declared.Solver.{Solver}
 use Rattle.listing_definitions.specs.declared.Solver.TheVariants.{Primal, Dual, Paraobj, Pararhs}
 use Rattle.listing_definitions.specs.Report.{Report, Titled, Converted, Revised, SetUp, BcdOut, BasisOut, Inserted, Solved, Solution, Ranges, Parametric}
 use Rattle.listing_definitions.specs.Ending.{Ending, Ended, WordsRefused, ControlStop, VerbStop, SingularStop, PriceStop, DeckStop, CardStop, LimitStop, StatementLimit, OverflowStop, ReadFault, PrintFault, PunchFault, Memory}
@@ -18,18 +15,18 @@ use Rattle.listing_definitions.specs.Text.{report_text}
 use Rattle.listing_definitions.specs.Listing.{ending_text, reports_text, listing}
 use Rattle.answer_definitions.specs.Real.{linear_programming}
 use Rattle.run_definitions.specs.State.{State, start}
-use Rattle.run_definitions.specs.Moves.{Gain, Nothing, Prints, Punches, printed_by, gain_text, Outcome, Goes, Ends, gain_of}
+use Rattle.run_definitions.specs.Moves.{Gain, Nothing, Prints, Punches, printed_by, gain_text, Outcome, Goes, Ends}
 use Rattle.run_definitions.specs.Verbs.{verb_move}
 use Rattle.run_definitions.specs.Run.{max_executed, counted, Step, IsOver, at_end, at_limit, Reaches, begun, stepped, IsRun, is_over, is_ended}
-use Rattle.run_definitions.specs.Answer.{job_decks, IsProgramOf, IsJobRun, card_fault, control_fault, run}
+use Rattle.run_definitions.specs.Answer.{job_decks, IsProgramOf, card_fault, control_fault, run}
 use Rattle.run_laws.proofs.Moves.{HasProblem, Knows}
 use Rattle.run_laws.proofs.Runs.{has_problem, known, knows_linear_programming}
 use Rattle.walk_definitions.specs.Tables.{begins_table_line}
 use Rattle.walk_definitions.specs.Walker.{Walker, Found, Turn, Walks, Finds, closes, walk_move, walk_statement, turn}
-use Rattle.walk_definitions.specs.Found.{first_walker, Reaches as Walked, begun as not_begun, walked, Comes, of_cards, of_control, of_walk}
-use Rattle.own_listing_laws.specs.Fitting.{ReportFits, ReportsFit, StopFits}
+use Rattle.walk_definitions.specs.Found.{first_walker, Reaches as Walked, begun as not_begun, walked, of_cards, of_control, of_walk}
+use Rattle.own_listing_laws.specs.Fitting.{ReportsFit, StopFits}
 use Rattle.own_listing_laws.specs.Laws.{IsNotWrong, NeverWrong}
-use Rattle.own_listing_laws.proofs.Pace.{rebased, IsLike, WaitsAt, KeepsPace, Lands, IsFoundRight, GainFits, EndsSo, IsDue, closes_right}
+use Rattle.own_listing_laws.proofs.Pace.{IsLike, WaitsAt, KeepsPace, Lands, IsFoundRight, GainFits, IsDue, closes_right}
 use Rattle.own_listing_laws.proofs.Paced.{verb_matched}
 
 -- ---- no table line stands where a report or an end does

@@ -5,10 +5,9 @@
 --     KeepsPace w s more           the walk keeps pace with a run that has come to a state
 --     Lands outcome more turn      what a turn of the walk may come to, where the run comes to this
 --     IsMatched w card walked run  a move of the walk lands so, where this is the move of the run
-use Rattle.std.proofs.Common.{◌≡◌, ℕ, ◌+◌, ◌-◌, Bool, true, false, not, ◌||◌, List, [], ◌∷◌, ◌++◌, length, Option, Some, None, Result, Ok, Err, if◌then◌else◌, refl, sym, ap, subst, ◌∙◌, inl, inr, append_assoc, append-nil}
-use Rattle.std.specs.Prelude.{option_map, is_none}
+use Rattle.std.proofs.Common.{◌≡◌, ℕ, Bool, true, false, not, ◌||◌, List, [], ◌++◌, length, Option, Some, None, Result, Ok, Err, if◌then◌else◌, refl, sym, ap, subst, ◌∙◌, inl, inr, append-nil}
+use Rattle.std.specs.Prelude.{is_none}
 use Rattle.std.specs.Option.{option_or}
-use Rattle.exact_values.specs.Rational.{ℚ}
 use Rattle.lp_definitions.specs.LinearProgram.{LinearProgram, value_at}
 use Rattle.lp_definitions.specs.Basis.{Tableau, IsTableau, basics_of, price_at}
 use Rattle.method_definitions.specs.Path.{listed}
@@ -20,7 +19,6 @@ use Rattle.selection_definitions.specs.declared.SelectionFault.{SelectionFault}
 use Rattle.selection_definitions.specs.Choice.{Choice}
 use Rattle.selection_definitions.specs.Selection.{selected}
 use Rattle.selection_definitions.specs.Making.{is_made}
-use Rattle.listing_definitions.specs.declared.Mark.TheVariants.{Optimal}
 use Rattle.listing_definitions.specs.declared.VerbFault.{VerbFault}
 use Rattle.listing_definitions.specs.Report.{Report}
 use Rattle.listing_definitions.specs.Ending.{Overflow, Ending, OverflowStop}
@@ -30,13 +28,13 @@ use Rattle.question_definitions.specs.Solving.{IsRight}
 use Rattle.answer_definitions.specs.Verdicts.{found}
 use Rattle.answer_definitions.specs.Real.{linear_programming}
 use Rattle.run_definitions.specs.State.{Present, present_basis, State}
-use Rattle.run_definitions.specs.Moves.{Gain, Nothing, Prints, Punches, printed_by, gain_text, Outcome, Goes, Ends, gain_of, stops, Refusals, InSelection, InAnswer, Move, Does, MayStop, Asks, Gives, StopsBy, or_fault}
+use Rattle.run_definitions.specs.Moves.{Gain, Nothing, Prints, Punches, printed_by, gain_text, Outcome, Goes, Ends, gain_of, stops, Refusals, InSelection, InAnswer, Move, Does, MayStop, Asks, Gives, or_fault}
 use Rattle.run_definitions.specs.Verbs.{or_deck_fault, or_selection_fault, selects}
 use Rattle.walk_definitions.specs.Words.{left_after}
 use Rattle.walk_definitions.specs.Forms.{is_open_stop, is_ranges, is_punched}
 use Rattle.walk_definitions.specs.Tables.{begins_table_line}
 use Rattle.walk_definitions.specs.Reading.{judged}
-use Rattle.walk_definitions.specs.Walker.{Pending, Walker, Found, Attested, Wrong, Open, Unchecked, Turn, Walks, Finds, open_if, open_stop, pending_found, open_pending, open_outcome, is_inserted_by, open_question, opened, refuses_selection, ended, unless_found, closes, follows, passed, taken, answered, due, walk_move}
+use Rattle.walk_definitions.specs.Walker.{Pending, Walker, Found, Open, Unchecked, Turn, Walks, Finds, open_if, open_stop, pending_found, open_pending, open_outcome, is_inserted_by, open_question, opened, refuses_selection, ended, unless_found, closes, follows, passed, taken, answered, due, walk_move}
 use Rattle.walk_definitions.proofs.Texts.{stands}
 use Rattle.own_listing_laws.specs.Fitting.{ReportFits, StopFits}
 use Rattle.own_listing_laws.specs.Laws.{IsNotWrong}
@@ -258,9 +256,11 @@ module _ (w : Walker) where
     does_by more given None is never = taken_lands more given is
 
     pub does : IsMatched card (Does walked) (Does run)
-    does = record { by = λ outcome more gives given.
-        subst (λ (o : Outcome). Lands o more (walk_move w (Does walked))) (sym gives)
-        (does_by more (subst (λ (o : Outcome). IsDue w o more) gives given) (open_outcome w walked) refl (never_outcome w walked)) }
+    does = record {
+      by = λ outcome more gives given.
+          subst (λ (o : Outcome). Lands o more (walk_move w (Does walked))) (sym gives)
+          (does_by more (subst (λ (o : Outcome). IsDue w o more) gives given) (open_outcome w walked) refl (never_outcome w walked));
+    }
 
   pub does_stop : (card : ℕ) (ending : Ending) → IsFollowed card (Does (stops ending)) (Does (stops ending))
   does_stop card ending = record { matched = does card (stops ending) (stops ending) (refl, refl) (λ none. tt); looks = stop_first (open_pending w) }
@@ -321,9 +321,11 @@ module _ (w : Walker) where
     pub asked_lands : ((answer : Answer question) (more : List ℕ) → IsRight linear_programming question sheet t answer → IsDue w (own answer) more → open_question w question sheet go ≡ None → LandsAnswered answer more) →
         IsFollowed card (Asks question sheet s go) (Asks question sheet t own)
     asked_lands lands = record {
-      matched = record { by = λ outcome more (answer, right, is) given.
-          subst (λ (o : Outcome). Lands o more (walk_move w (Asks question sheet s go))) (sym is)
-          (by answer more right (subst (λ (o : Outcome). IsDue w o more) is given) (open_question w question sheet go) refl (never_question w question sheet go)) };
+      matched = record {
+        by = λ outcome more (answer, right, is) given.
+            subst (λ (o : Outcome). Lands o more (walk_move w (Asks question sheet s go))) (sym is)
+            (by answer more right (subst (λ (o : Outcome). IsDue w o more) is given) (open_question w question sheet go) refl (never_question w question sheet go));
+      };
       looks = question_looks question sheet go;
     }
       where

@@ -1,5 +1,5 @@
 -- Each statement of the walk lands where that of the run leads.
-use Rattle.std.proofs.Common.{◌≡◌, ℕ, ◌+◌, Bool, true, false, List, [], ◌∷◌, Option, Some, None, Ok, refl, sym, ap, subst, ◌∙◌}
+use Rattle.std.proofs.Common.{◌≡◌, ℕ, false, List, [], Option, Some, Ok, refl, sym, ap, subst, ◌∙◌}
 use Rattle.std.specs.Prelude.{is_none, option_and_then}
 use Rattle.exact_values.specs.Rational.{ℚ}
 use Rattle.lp_definitions.specs.LinearProgram.{LinearProgram}
@@ -8,10 +8,8 @@ use Rattle.method_definitions.specs.Path.{EndsOptimal, EndsAt}
 use Rattle.card_definitions.specs.Cards.{Card}
 use Rattle.deck_definitions.specs.Conversion.{conversion}
 use Rattle.deck_definitions.specs.Decks.{deck_taken}
-use Rattle.deck_definitions.specs.Written.{written}
 use Rattle.basis_deck_definitions.specs.Reading.{basis_reading}
 use Rattle.revise_definitions.specs.Revision.{revision}
-use Rattle.path_laws.specs.Laws.{IsNonsingularBasis}
 use Rattle.problem_definitions.specs.Names.{Name}
 use Rattle.problem_definitions.specs.Problem.{Problem}
 use Rattle.control_definitions.specs.declared.NameCell.{NameCell}
@@ -30,9 +28,9 @@ use Rattle.listing_definitions.specs.declared.Solver.TheVariants.{Primal as ByPr
 use Rattle.listing_definitions.specs.declared.VerbFault.{VerbFault}
 use Rattle.listing_definitions.specs.Report.{Filed, Report, Titled, Converted, Revised, SetUp}
 use Rattle.listing_definitions.specs.Ending.{Ended}
-use Rattle.question_definitions.specs.Answers.{Basis, Sheet, Changing, changing_name, Sweep}
+use Rattle.question_definitions.specs.Answers.{Basis, Changing, changing_name, Sweep}
 use Rattle.run_definitions.specs.State.{Present, present_basis, State, problem_of, choice_of}
-use Rattle.run_definitions.specs.Moves.{Gain, Nothing, Prints, Punches, Outcome, Goes, Ends, stops, Move, Does}
+use Rattle.run_definitions.specs.Moves.{Gain, Nothing, Prints, Punches, Goes, Does}
 use Rattle.run_definitions.specs.Verbs.{size_of, files, not_less, change_row, change_set, mark_after, if_optimal, solves, shows, ranges, sweeps, converts, revises, sets_up, punches, punches_basis, inserts, verb_move}
 use Rattle.run_definitions.specs.Run.{counted}
 use Rattle.run_laws.specs.Truth.{IsOfProblem, named_by}
@@ -40,9 +38,8 @@ use Rattle.run_laws.proofs.ChangeRow.{changes_freely, row_named, set_named}
 use Rattle.run_laws.proofs.Moves.{HasProblem, EndsOptimally, Knows}
 use Rattle.run_laws.proofs.Ends.{IsProvedBest, shown_is_best}
 use Rattle.run_laws.proofs.Selected.{selected_is_lawful}
-use Rattle.walk_definitions.specs.Forms.{is_open_stop}
-use Rattle.walk_definitions.specs.Walker.{Pending, Walker, Open, opened, open_outcome}
-use Rattle.own_listing_laws.proofs.Pace.{rebased, IsLike, WaitsFor, WaitsAt, IsMatched, IsFollowed, does, does_stop, prints_looks, punches_looks, waits_on, unless_fault, unless_no_setup, unless_deck_fault, unless_selection_fault, selecting, AreAlike}
+use Rattle.walk_definitions.specs.Walker.{Pending, Walker}
+use Rattle.own_listing_laws.proofs.Pace.{rebased, IsLike, WaitsFor, WaitsAt, IsMatched, IsFollowed, does, does_stop, prints_looks, punches_looks, waits_on, unless_fault, unless_no_setup, unless_deck_fault, unless_selection_fault, selecting}
 use Rattle.own_listing_laws.proofs.Paths.{IsPathSolver, path_followed}
 use Rattle.own_listing_laws.proofs.Shown.{shown_followed}
 use Rattle.own_listing_laws.proofs.Openly.{ranges_followed, punch_followed, install_followed}

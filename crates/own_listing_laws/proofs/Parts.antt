@@ -1,40 +1,36 @@
 -- The tests of an interval and of a close of a parametric run never fail.
 --     IsKind changing past         a run of the objective closes unbounded, and one of the right-hand side infeasible
-use Rattle.std.proofs.Common.{◌≡◌, ℕ, ◌+◌, ◌<◌, ◌≤◌, Bool, true, false, ◌&&◌, ◌||◌, List, [], ◌∷◌, ◌++◌, length, map, Option, Some, None, refl, sym, ap, subst, ◌∙◌, ◌⊎◌, inl, inr}
-use Rattle.std.specs.Prelude.{nat_eq, slice_get}
-use Rattle.std.specs.List.{flat_map}
-use Rattle.exact_values.specs.Rational.{ℚ, zero_ℚ, ◌≤ℚ◌, ◌<ℚ◌}
+use Rattle.std.proofs.Common.{◌≡◌, ℕ, Bool, true, false, ◌&&◌, ◌||◌, List, [], ◌∷◌, length, Option, Some, None, refl, sym, ap, subst, ◌∙◌, ◌⊎◌, inl, inr}
+use Rattle.exact_values.specs.Rational.{ℚ, ◌≤ℚ◌, ◌<ℚ◌}
 use Rattle.exact_values.specs.Tests.{lt_ℚ, le_ℚ, eq_ℚ}
 use Rattle.exact_values.proofs.Order.{lt_or_le, le_antisymm, le_refl}
 use Rattle.exact_values.proofs.Tests_laws.{test_from_same, test_from_le, test_from_lt}
-use Rattle.lp_definitions.specs.LinearProgram.{Matrix, LinearProgram, Vector, value_at, size, variables, IsLinearProgram}
+use Rattle.lp_definitions.specs.LinearProgram.{LinearProgram, Vector, value_at, size, variables, IsLinearProgram}
 use Rattle.lp_definitions.specs.Solutions.{IsBest}
 use Rattle.lp_definitions.specs.Basis.{Tableau}
-use Rattle.lp_definitions.specs.declared.Sense.{Sense}
 use Rattle.lp_definitions.specs.declared.Status.{Status}
 use Rattle.check_definitions.specs.declared.Verdict.{Verdict}
-use Rattle.check_definitions.specs.Steps.{Step, verdict_of, in_turn, sum_steps}
+use Rattle.check_definitions.specs.Steps.{Step, verdict_of, sum_steps}
 use Rattle.check_definitions.specs.Checks.{optimal_check}
 use Rattle.certificate_check.proofs.True_claims.{NeverFails, never_optimal}
 use Rattle.changed_programs.proofs.MovedLimits.{fixed_at}
 use Rattle.method_definitions.specs.Moves.{stopper}
 use Rattle.method_definitions.specs.Path.{listed}
 use Rattle.method_definitions.specs.DualRatio.{cheapest}
-use Rattle.method_definitions.specs.Chain.{Part, along, ChainEnd as PastBreak, AtMax, UnboundedPast as PastUnbounded, InfeasiblePast as PastInfeasible, FaceTurn, FaceMoves, FaceDone, FaceEnds, IsPart}
+use Rattle.method_definitions.specs.Chain.{Part, along, ChainEnd as PastBreak, AtMax, UnboundedPast as PastUnbounded, InfeasiblePast as PastInfeasible, FaceTurn, FaceEnds, IsPart}
 use Rattle.method_definitions.specs.ObjectiveRun.{face_mover, face_until, face_by, objective_face}
 use Rattle.method_definitions.specs.RhsRun.{leaves_below, leaving, face_exchange, face_at, rhs_face}
-use Rattle.path_laws.proofs.Numbered.{map_same}
 use Rattle.problem_definitions.specs.Problem.{Problem}
-use Rattle.listing_definitions.specs.Report.{Value, Line, Interval}
+use Rattle.listing_definitions.specs.Report.{Value, Line}
 use Rattle.question_definitions.specs.Answers.{Sheet, Changing, Row, Set}
-use Rattle.answer_definitions.specs.Lines.{lines_of, pair_lines, ray_lines}
+use Rattle.answer_definitions.specs.Lines.{pair_lines, ray_lines}
 use Rattle.answer_definitions.specs.Sweeps.{row_of, shifts_of, family_of, IsFace, sheet_at, part_values, interval_of, end_of}
 use Rattle.run_laws.specs.Sweeps.{ChangesFreely}
 use Rattle.sweep_laws.specs.Truth.{IsTruePart, IsTrueEnd}
 use Rattle.sweep_laws.proofs.OneObjective.{lawful_objective}
 use Rattle.sweep_laws.proofs.OneRhs.{lawful_rhs}
 use Rattle.walk_definitions.specs.Tables.{column_of, multipliers}
-use Rattle.walk_definitions.specs.Tests.{asked, making_steps, along_steps, end_test, keeps_limit, part_test, interval_test, unbounded_past, infeasible_past, past_test, close_test}
+use Rattle.walk_definitions.specs.Tests.{asked, making_steps, along_steps, end_test, part_test, interval_test, unbounded_past, infeasible_past, past_test, close_test}
 use Rattle.own_listing_laws.proofs.Columns.{column_is, listed_again, numbers_of_ray}
 use Rattle.own_listing_laws.proofs.Tests.{Passes, pass_none, pass_then, passes_same, passes_steps, passes_asked, never_sum, never_each}
 use Rattle.own_listing_laws.proofs.Openings.{never_making}

@@ -1,47 +1,43 @@
 -- The verdict of a path lands: it is read back, and its test passes.
-use Rattle.std.proofs.Common.{◌≡◌, ℕ, ◌+◌, ◌<◌, ◌≤◌, List, [], ◌∷◌, ◌++◌, length, Option, Some, None, Ok, refl, sym, ap, ap₂, subst, ◌∙◌, arith}
+use Rattle.std.proofs.Common.{◌≡◌, ℕ, ◌≤◌, List, [], ◌++◌, length, Option, Some, None, Ok, refl, sym, ap, ap₂, subst, ◌∙◌, arith}
 use Rattle.std.specs.Prelude.{min}
 use Rattle.exact_values.specs.Rational.{ℚ}
-use Rattle.lp_definitions.specs.LinearProgram.{LinearProgram, value_at, size, IsVariable}
-use Rattle.lp_definitions.specs.Basis.{Tableau, IsTableau, basics_of, price_at}
+use Rattle.lp_definitions.specs.LinearProgram.{LinearProgram, value_at}
+use Rattle.lp_definitions.specs.Basis.{Tableau, IsTableau}
 use Rattle.check_definitions.specs.declared.Verdict.{Verdict}
 use Rattle.check_definitions.specs.declared.Verdict.TheVariants.{Checked, Failed, Unchecked}
 use Rattle.check_definitions.specs.Checks.{optimal_check}
-use Rattle.method_definitions.specs.Path.{PathEnding, EndsOptimal, EndsCrossed, EndsInfeasible, EndsUnbounded, Ends as TurnEnds, listed, last_of, RuleEnd}
+use Rattle.method_definitions.specs.Path.{PathEnding, EndsOptimal, EndsCrossed, EndsInfeasible, EndsUnbounded, Ends as TurnEnds, last_of}
 use Rattle.problem_definitions.specs.Names.{Name}
 use Rattle.selection_definitions.specs.Selection.{selected}
 use Rattle.listing_definitions.specs.declared.Mark.{Mark}
 use Rattle.listing_definitions.specs.declared.Mark.TheVariants.{Optimal, Infeasible, Unbounded}
 use Rattle.listing_definitions.specs.declared.Solver.{Solver}
 use Rattle.listing_definitions.specs.declared.Solver.TheVariants.{Primal as ByPrimal, Dual as ByDual, Paraobj as ByParaobj, Pararhs as ByPararhs}
-use Rattle.listing_definitions.specs.Report.{PathVerdict, OptimalAt, CrossedAt, InfeasibleBy, UnboundedBy, Check, Report, Solved}
-use Rattle.listing_definitions.specs.Text.{verdict_text, report_text}
-use Rattle.listing_definitions.specs.Ending.{Ended, LimitStop, PriceStop}
-use Rattle.question_definitions.specs.Answers.{Basis, Sheet, Question, Answer, OfPath, PathEnd, Reached, PathLimit, PricesWrong}
+use Rattle.listing_definitions.specs.Report.{PathVerdict, Check, Report, Solved}
+use Rattle.question_definitions.specs.Answers.{Basis, Sheet, Question, OfPath, PathEnd, Reached, PathLimit, PricesWrong}
 use Rattle.question_definitions.specs.Solving.{IsRight}
 use Rattle.answer_definitions.specs.Verdicts.{check_of, found, IsVerdict}
 use Rattle.answer_definitions.specs.Verdicts as verdicts
 use Rattle.answer_definitions.specs.Real.{linear_programming}
 use Rattle.run_definitions.specs.State.{Present, present_basis, path_of, gone_through, State, choice_of}
-use Rattle.run_definitions.specs.Moves.{Gain, Prints, gain_of, gain_text, Outcome, Goes, Ends, InAnswer, Move, Asks, MayStop}
-use Rattle.run_definitions.specs.Verbs.{asks, mark_of, demanded, by_verdict, after_path, limit_stop}
+use Rattle.run_definitions.specs.Moves.{Gain, Prints, gain_of, gain_text, Outcome, InAnswer, Asks}
+use Rattle.run_definitions.specs.Verbs.{asks, mark_of, demanded, by_verdict, after_path}
 use Rattle.run_definitions.specs.Run.{counted}
-use Rattle.run_laws.specs.Laws.{KnowsSolving}
 use Rattle.run_laws.proofs.Runs.{knows_linear_programming}
 use Rattle.sweep_laws.proofs.Runs.{last_of-append}
 use Rattle.walk_definitions.specs.Forms.{is_open_stop}
-use Rattle.walk_definitions.specs.Words.{Parsed, max_count}
-use Rattle.walk_definitions.specs.Tables.{begins_table_line}
+use Rattle.walk_definitions.specs.Words.{Parsed}
 use Rattle.walk_definitions.specs.Tests.{verdict_test}
-use Rattle.walk_definitions.specs.Reading.{Judged, Right, Fails, Refuses, by_verdict as judge, tested, judged_map, judged, Claim, verdict_in}
-use Rattle.walk_definitions.specs.Walker.{Pending, Walker, Turn, Walks, Finds, Unchecked, open_question, follows, passed, pending_after, noted, answered}
-use Rattle.own_listing_laws.specs.Fitting.{VerdictFits, CheckFits, ReportFits}
+use Rattle.walk_definitions.specs.Reading.{Judged, Right, Refuses, by_verdict as judge, tested, judged_map, judged, Claim, verdict_in}
+use Rattle.walk_definitions.specs.Walker.{Pending, Walker, Unchecked, open_question, passed, pending_after, answered}
+use Rattle.own_listing_laws.specs.Fitting.{VerdictFits, CheckFits}
 use Rattle.own_listing_laws.specs.Printed.{IsReadable, IsPrinted}
 use Rattle.own_listing_laws.proofs.Claims.{verdict_read}
 use Rattle.own_listing_laws.proofs.Ended.{IsOf, end_is, dual_end_is, dual_never_unbounded}
 use Rattle.own_listing_laws.proofs.Tests.{Passes, verdict_passes}
 use Rattle.own_listing_laws.proofs.Stops.{open_limit, open_price}
-use Rattle.own_listing_laws.proofs.Pace.{rebased, IsLike, Waits, WaitsFor, WaitsAt, KeepsPace, Lands, GainFits, EndsSo, IsDue, AreAlike, WaitsAfter, follows_lands, IsMatched, IsFollowed, may_stop, asked_lands, never_stopped}
+use Rattle.own_listing_laws.proofs.Pace.{rebased, WaitsFor, WaitsAt, Lands, GainFits, IsDue, AreAlike, WaitsAfter, follows_lands, IsFollowed, may_stop, asked_lands, never_stopped}
 
 -- ---- a test that passes
 

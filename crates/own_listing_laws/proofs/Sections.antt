@@ -1,7 +1,6 @@
 -- SOLUTION, an interval of a parametric run and its close are read back.
-use Rattle.std.proofs.Common.{◌≡◌, ℕ, false, List, [], ◌∷◌, ◌++◌, Option, Some, None, codes, refl, sym, ap, subst, ◌∙◌, append_assoc, append-nil}
+use Rattle.std.proofs.Common.{◌≡◌, ℕ, false, List, [], ◌++◌, Some, None, codes, refl, ap, ◌∙◌, append_assoc, append-nil}
 use Rattle.std.specs.Prelude.{option_map, option_and_then}
-use Rattle.std.specs.Option.{option_or}
 use Rattle.exact_values.specs.Rational.{ℚ}
 use Rattle.frac128.specs.Operations.{TermsFit}
 use Rattle.lp_definitions.specs.LinearProgram.{variables}
@@ -11,7 +10,7 @@ use Rattle.listing_definitions.specs.declared.Mark.{Mark}
 use Rattle.listing_definitions.specs.declared.Solver.{Solver}
 use Rattle.listing_definitions.specs.declared.Solver.TheVariants.{Primal, Dual, Paraobj, Pararhs}
 use Rattle.listing_definitions.specs.Numbers.{digits, rational_text}
-use Rattle.listing_definitions.specs.Report.{Value, Line, SolutionLines, Interval, ChainEnd, EndsAt, UnboundedPast, InfeasiblePast}
+use Rattle.listing_definitions.specs.Report.{Line, SolutionLines, Interval, ChainEnd, EndsAt, UnboundedPast, InfeasiblePast}
 use Rattle.listing_definitions.specs.Text.{mark_text, solver_text, table_text, solution_text, interval_text, chain_end_text}
 use Rattle.question_definitions.specs.Answers.{Basis, Sheet}
 use Rattle.answer_definitions.specs.Lines.{row_numbers, column_numbers, lines_of, pair_lines, ray_lines}
@@ -21,8 +20,8 @@ use Rattle.walk_definitions.specs.Words.{Parsed, left_after, with_text, with_wor
 use Rattle.walk_definitions.specs.Tables.{begins_table_line, pair_slots, part_slots, table_in, ray_in}
 use Rattle.walk_definitions.specs.Reading.{row_slots, column_slots, solution_in, interval_in, close_in}
 use Rattle.own_listing_laws.specs.Fitting.{ValuesFit, LinesFit, EndFits}
-use Rattle.own_listing_laws.specs.Printed.{IsEndOf, of_end, of_direction, of_ray}
-use Rattle.own_listing_laws.proofs.Spelled.{Gives, text_first, or_else, or_first, not_there, same_rest, done, fraction_first}
+use Rattle.own_listing_laws.specs.Printed.{IsEndOf, of_direction, of_ray}
+use Rattle.own_listing_laws.proofs.Spelled.{Gives, text_first, or_else, or_first, not_there, done, fraction_first}
 use Rattle.own_listing_laws.proofs.Tabled.{AllMatch, matched_of, table_read}
 use Rattle.own_listing_laws.proofs.Claims.{pairs_read, multipliers_read}
 

@@ -2,29 +2,25 @@
 use Rattle.std.proofs.Common.{◌≡◌, ℕ, Bool, true, false, List, [], ◌∷◌, ◌++◌, Option, Some, None, Ok, if◌then◌else◌, refl, sym, ap, ap₂, subst, ◌∙◌}
 use Rattle.std.specs.List.{flat_map}
 use Rattle.exact_values.specs.Rational.{ℚ, zero_ℚ}
-use Rattle.exact_values.specs.Tests.{eq_ℚ}
 use Rattle.exact_values.proofs.Tests_laws.{test_from_same}
-use Rattle.lp_definitions.specs.LinearProgram.{LinearProgram, Vector, value_at, IsLinearProgram, IsVariable}
+use Rattle.lp_definitions.specs.LinearProgram.{LinearProgram, value_at, IsLinearProgram, IsVariable}
 use Rattle.lp_definitions.specs.Basis.{Tableau, IsTableau, basics_of, is_in, objective_rate, price_at}
-use Rattle.lp_definitions.specs.declared.Status.{Status}
 use Rattle.lp_laws.proofs.Uniqueness.{one_point, one_table}
 use Rattle.check_definitions.specs.declared.Verdict.{Verdict}
-use Rattle.check_definitions.specs.declared.Verdict.TheVariants.{Checked, Failed, Unchecked}
-use Rattle.check_definitions.specs.Steps.{verdict_of, followed_by, in_turn}
+use Rattle.check_definitions.specs.declared.Verdict.TheVariants.{Checked}
+use Rattle.check_definitions.specs.Steps.{verdict_of, in_turn}
 use Rattle.check_definitions.specs.Checks.{equations, reduced_costs, optimal_check}
 use Rattle.check_definitions.proofs.Passing.{both_checked}
 use Rattle.method_definitions.specs.Path.{listed}
 use Rattle.path_laws.specs.Laws.{IsNonsingularBasis}
 use Rattle.path_laws.proofs.Endless.{objective_value-same}
-use Rattle.path_laws.proofs.OneTurn.{SameTableau}
 use Rattle.problem_definitions.specs.Names.{Name}
 use Rattle.selection_definitions.specs.Selection.{selected}
 use Rattle.listing_definitions.specs.declared.Mark.{Mark}
 use Rattle.listing_definitions.specs.declared.Mark.TheVariants.{Optimal, Infeasible, Unbounded}
 use Rattle.listing_definitions.specs.Report.{Check, SolutionLines, Solution}
 use Rattle.listing_definitions.specs.Report as reports
-use Rattle.listing_definitions.specs.Text.{report_text}
-use Rattle.question_definitions.specs.Answers.{Basis, Sheet, Question, OfSolution}
+use Rattle.question_definitions.specs.Answers.{Basis, Sheet, OfSolution}
 use Rattle.question_definitions.specs.Solving.{IsRight}
 use Rattle.answer_definitions.specs.Lines.{row_numbers}
 use Rattle.answer_definitions.specs.Verdicts.{found}
@@ -39,12 +35,12 @@ use Rattle.run_laws.proofs.Ends.{IsProvedBest}
 use Rattle.walk_definitions.specs.Words.{Parsed}
 use Rattle.walk_definitions.specs.Tables.{column_of}
 use Rattle.walk_definitions.specs.Tests.{says_checked, point_of, prices_of, slacks_of, slack_steps, solution_test}
-use Rattle.walk_definitions.specs.Reading.{Judged, Right, Refuses, tested, judged, solution_in}
+use Rattle.walk_definitions.specs.Reading.{Judged, Right, tested, judged, solution_in}
 use Rattle.walk_definitions.specs.Walker.{Pending, Walker, Turn, Finds, Wrong, open_question, follows, passed, noted, settles, settled, settling, answered}
 use Rattle.own_listing_laws.proofs.Columns.{listed_same, points_of_lines, prices_of_lines}
 use Rattle.own_listing_laws.proofs.Tests.{Passes, passes_checked, shown_passes, best_passes}
 use Rattle.own_listing_laws.proofs.Sections.{shown_read}
-use Rattle.own_listing_laws.proofs.Pace.{rebased, IsLike, Waits, WaitsFor, WaitsAt, Lands, IsDue, follows_lands, IsFollowed, may_stop, asked_lands}
+use Rattle.own_listing_laws.proofs.Pace.{rebased, Waits, WaitsAt, Lands, IsDue, IsFollowed, may_stop, asked_lands}
 use Rattle.own_listing_laws.proofs.Paths.{judged_so}
 
 -- ---- what is pending is of the same point and prices

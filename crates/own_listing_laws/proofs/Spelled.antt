@@ -1,5 +1,5 @@
 -- What was written is read back: a text, a word, a number, a check.
-use Rattle.std.proofs.Common.{◌≡◌, ℕ, ◌≤◌, Bool, true, false, not, ◌||◌, ◌&&◌, List, [], ◌∷◌, ◌++◌, Option, Some, None, codes, drop, length, if◌then◌else◌, refl, sym, ap, ap₂, ◌∙◌, arith, append_assoc, append-nil, le-leb}
+use Rattle.std.proofs.Common.{◌≡◌, ℕ, ◌≤◌, true, not, ◌&&◌, List, [], ◌∷◌, ◌++◌, Option, Some, None, codes, drop, length, if◌then◌else◌, refl, ap, ap₂, ◌∙◌, arith, append_assoc, append-nil, le-leb}
 use Rattle.std.specs.Prelude.{option_and_then, bytes_eq, nat_le}
 use Rattle.std.specs.List.{list_all}
 use Rattle.std.specs.Option.{option_or}
@@ -8,16 +8,15 @@ use Rattle.std.proofs.lemmas.Bool.Decides.{nat_tests}
 use Rattle.exact_values.specs.Rational.{ℚ}
 use Rattle.frac128.specs.declared.Op.{Op}
 use Rattle.frac128.specs.declared.Op.TheVariants.{Add, Sub, Mul, Div}
-use Rattle.frac128.specs.declared.Refused.{Refused}
 use Rattle.frac128.specs.Operations.{TermsFit}
 use Rattle.card_definitions.specs.Words.{named}
-use Rattle.card_definitions.specs.Numbers.{digits_value, is_digit}
+use Rattle.card_definitions.specs.Numbers.{is_digit}
 use Rattle.listing_definitions.specs.Numbers.{digits, rational_text}
 use Rattle.listing_definitions.specs.Report.{Check, Checked, Unchecked}
 use Rattle.listing_definitions.specs.Text.{operation_text, check_text}
 use Rattle.text_laws.proofs.Cutting.{weaker}
 use Rattle.text_laws.proofs.Digits.{is_of_number, digits_are, rational_of_number}
-use Rattle.walk_definitions.specs.Words.{Parsed, left_after, with_text, ends_word, word_in, with_word, fraction_in, count_in}
+use Rattle.walk_definitions.specs.Words.{left_after, with_text, ends_word, word_in, with_word, fraction_in, count_in}
 use Rattle.walk_definitions.specs.Forms.{all_operations}
 use Rattle.walk_definitions.specs.Reading.{with_check}
 use Rattle.walk_definitions.proofs.Texts.{drop_text, stands, cut_before}

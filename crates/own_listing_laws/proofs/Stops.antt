@@ -1,19 +1,18 @@
 -- Stop texts and reports that can't be attested are known as such.
-use Rattle.std.proofs.Common.{◌≡◌, ℕ, ◌≤◌, Bool, true, false, ◌||◌, List, [], ◌∷◌, ◌++◌, Option, Some, None, codes, drop, length, if◌then◌else◌, refl, sym, ap, ap₂, ◌∙◌, append_assoc, append-nil}
+use Rattle.std.proofs.Common.{◌≡◌, ℕ, ◌≤◌, Bool, true, false, ◌||◌, List, [], ◌∷◌, ◌++◌, Some, None, codes, drop, length, if◌then◌else◌, refl, ap, ◌∙◌, append_assoc, append-nil}
 use Rattle.std.specs.Prelude.{option_and_then, is_some}
 use Rattle.std.specs.List.{list_any}
 use Rattle.exact_values.specs.Rational.{ℚ}
 use Rattle.frac128.specs.declared.Op.{Op}
 use Rattle.frac128.specs.Operations.{TermsFit}
 use Rattle.problem_definitions.specs.Names.{Name}
-use Rattle.card_definitions.specs.Words.{named}
 use Rattle.listing_definitions.specs.Numbers.{digits, rational_text}
 use Rattle.listing_definitions.specs.Report.{RangeLines, BasisOut, Inserted, Ranges}
 use Rattle.listing_definitions.specs.Ending.{Overflow, LimitReached, SingularBasis, WrongPrice, LimitStop, SingularStop, PriceStop, OverflowStop}
 use Rattle.listing_definitions.specs.Text.{operation_text, name8, table_text, report_text}
 use Rattle.listing_definitions.specs.Listing.{ending_text, basis_text, way_text}
-use Rattle.walk_definitions.specs.Words.{left_after, ends_word, word_in, fraction_in, count_in, max_count}
-use Rattle.walk_definitions.specs.Forms.{Piece, Text, Count, Fraction, Operation, all_operations, is_of, left_by_piece, left_by, has_form, limit_stop, read_fault, punch_fault, memory_stop, singular_stop, price_stop, overflow_stop, is_open_stop, is_ranges, is_punched, is_inserted, counted_line}
+use Rattle.walk_definitions.specs.Words.{ends_word, word_in, max_count}
+use Rattle.walk_definitions.specs.Forms.{Piece, Text, Count, Fraction, Operation, is_of, left_by, has_form, limit_stop, read_fault, punch_fault, memory_stop, singular_stop, price_stop, overflow_stop, is_open_stop, is_ranges, is_punched, is_inserted, counted_line}
 use Rattle.walk_definitions.proofs.Texts.{stands, drop_text}
 use Rattle.walk_definitions.proofs.Numbers.{fraction_of_text}
 use Rattle.own_listing_laws.specs.Fitting.{StopFits}

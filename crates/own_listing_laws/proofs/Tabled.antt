@@ -1,8 +1,8 @@
 -- Table lines and tables are read back.
 --     AllMatch slots values        each value is one that its slot takes
 --     AreMatched slots values ks   so it is in the lines of these variables
-use Rattle.std.proofs.Common.{◌≡◌, ℕ, zero, suc, ◌+◌, ◌-◌, ◌<◌, ◌≤◌, Bool, true, false, not, ◌&&◌, List, [], ◌∷◌, ◌++◌, map, filter, replicate, length, drop, Option, Some, None, codes, cond, if◌then◌else◌, refl, sym, ap, ap₂, subst, ◌∙◌, arith, append_assoc, append-nil}
-use Rattle.std.specs.Prelude.{option_map, option_and_then, bytes_eq}
+use Rattle.std.proofs.Common.{◌≡◌, ℕ, zero, suc, ◌+◌, ◌-◌, ◌<◌, Bool, true, false, not, ◌&&◌, List, [], ◌∷◌, ◌++◌, filter, replicate, length, drop, Option, Some, None, codes, cond, if◌then◌else◌, refl, sym, ap, ap₂, ◌∙◌, arith, append_assoc, append-nil}
+use Rattle.std.specs.Prelude.{option_map, option_and_then}
 use Rattle.std.specs.List.{list_all, list_any, prefix_len}
 use Rattle.std.proofs.lemmas.Slice.Eq.{bytes_eq-Decides}
 use Rattle.std.proofs.lemmas.Bool.{and_parts}
@@ -10,7 +10,7 @@ use Rattle.std.proofs.lemmas.Bool.Decides.{nat_tests}
 use Rattle.exact_values.specs.Rational.{ℚ, zero_ℚ}
 use Rattle.exact_values.specs.Tests.{eq_ℚ}
 use Rattle.frac128.specs.Operations.{TermsFit}
-use Rattle.lp_definitions.specs.LinearProgram.{Vector, numbers_from}
+use Rattle.lp_definitions.specs.LinearProgram.{numbers_from}
 use Rattle.card_definitions.specs.Cards.{is_blank}
 use Rattle.card_definitions.specs.Numbers.{is_digit}
 use Rattle.card_definitions.specs.Words.{named, without_leading}
@@ -23,7 +23,7 @@ use Rattle.question_definitions.specs.Answers.{Sheet}
 use Rattle.answer_definitions.specs.Lines.{name_of, lines_of}
 use Rattle.text_laws.proofs.Cutting.{weaker, heads, cut}
 use Rattle.text_laws.proofs.Digits.{digits_are, digit_there, digits_tell}
-use Rattle.walk_definitions.specs.Words.{left_after, ends_word, with_word, fraction_in}
+use Rattle.walk_definitions.specs.Words.{left_after, ends_word, with_word}
 use Rattle.walk_definitions.specs.Tables.{Slot, AnyCode, AnyNumber, Known, all_codes, value_in, slot_in, then_more, values_in, begins, begins_table_line, line_head, line_of, line_in, table_in, multiplier_in, ray_in}
 use Rattle.walk_definitions.proofs.Texts.{stands, is_text}
 use Rattle.walk_definitions.proofs.Numbers.{fraction_of_text}

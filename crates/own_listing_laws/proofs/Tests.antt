@@ -1,7 +1,7 @@
 -- A test of what a run prints never fails: the run has made the same check, and what it prints is true.
 --     Passes v                     no comparison fails
 --     verdict_passes, shown_passes those of a verdict and of SOLUTION
-use Rattle.std.proofs.Common.{◌≡◌, ℕ, zero, suc, ◌+◌, ◌-◌, ◌<◌, ◌≤◌, Bool, true, false, List, [], ◌∷◌, ◌++◌, map, Some, refl, sym, ap, ap₂, subst, ◌∙◌, arith}
+use Rattle.std.proofs.Common.{◌≡◌, ℕ, zero, suc, ◌+◌, ◌-◌, ◌<◌, ◌≤◌, Bool, true, false, List, [], ◌∷◌, ◌++◌, Some, refl, sym, ap, ap₂, subst, ◌∙◌, arith}
 use Rattle.std.specs.Prelude.{if◌then◌else◌}
 use Rattle.std.specs.List.{flat_map}
 use Rattle.frac128.specs.declared.Op.{Op}
@@ -13,10 +13,9 @@ use Rattle.exact_values.specs.Tests.{eq_ℚ}
 use Rattle.exact_values.proofs.Ring.{by_ring2, ◌⊕◌, ◌⊖◌, ◌≐◌}
 use Rattle.exact_values.proofs.Sums.{sum_to-same}
 use Rattle.exact_values.proofs.Tests_laws.{test_from_same}
-use Rattle.lp_definitions.specs.LinearProgram.{LinearProgram, Vector, IsLinearProgram, IsColumn, IsRow, IsVariable, KeepsEquations, value_at, numbers_from, entry, cost, size, for_min, lower_of, upper_of}
-use Rattle.lp_definitions.specs.Solutions.{IsFeasible, IsBest, AreProvingPrices, IsCrossed}
+use Rattle.lp_definitions.specs.LinearProgram.{LinearProgram, Vector, IsLinearProgram, IsColumn, KeepsEquations, value_at, numbers_from, entry, cost, for_min}
+use Rattle.lp_definitions.specs.Solutions.{IsFeasible, IsBest, AreProvingPrices}
 use Rattle.lp_definitions.specs.Basis.{Tableau, IsTableau, basics_of, price_at}
-use Rattle.lp_definitions.specs.declared.Status.{Status}
 use Rattle.lp_laws.proofs.Equations.{KeepsEquations-same}
 use Rattle.lp_laws.proofs.Optimal.{price_of_column}
 use Rattle.check_definitions.specs.declared.Verdict.{Verdict}
@@ -31,16 +30,15 @@ use Rattle.path_laws.specs.Laws.{IsNonsingularBasis}
 use Rattle.path_laws.proofs.Ends.{value_at-listed, IsFeasible-same}
 use Rattle.path_laws.proofs.Numbered.{get_or-listed}
 use Rattle.listing_definitions.specs.declared.Mark.{Mark}
-use Rattle.listing_definitions.specs.declared.Mark.TheVariants.{Optimal, Infeasible, Unbounded}
 use Rattle.listing_definitions.specs.Report.{PathVerdict, OptimalAt, CrossedAt, InfeasibleBy, UnboundedBy, Check, SolutionLines}
 use Rattle.listing_definitions.specs.Report as reports
 use Rattle.question_definitions.specs.Answers.{Basis, Sheet}
-use Rattle.answer_definitions.specs.Lines.{row_numbers, pair_lines, ray_lines}
+use Rattle.answer_definitions.specs.Lines.{row_numbers}
 use Rattle.answer_definitions.specs.Verdicts.{check_of, found, IsVerdict}
 use Rattle.answer_definitions.specs.Verdicts as verdicts
 use Rattle.answer_definitions.specs.Sections.{solution_row, solution_lines}
-use Rattle.walk_definitions.specs.Tables.{column_of, multipliers}
-use Rattle.walk_definitions.specs.Tests.{asked, says_checked, claim_test, verdict_test, slack_steps, best_test, solution_test}
+use Rattle.walk_definitions.specs.Tables.{column_of}
+use Rattle.walk_definitions.specs.Tests.{asked, says_checked, verdict_test, slack_steps, best_test, solution_test}
 use Rattle.own_listing_laws.proofs.Columns.{column_is, first_of_pairs, second_of_pairs, multipliers_of_ray, points_of_lines, prices_of_lines}
 use Rattle.own_listing_laws.proofs.Ended.{IsOf}
 

@@ -3,9 +3,9 @@
 --     VerdictFits verdict check    those of a verdict with its check, and its count of steps
 --     ReportFits report            those of a report that is read
 --     StopFits ending              those of a stop text that can't be attested
-use Rattle.std.specs.Prelude.{ℕ, ◌≤◌, List, [], ◌∷◌}
+use Rattle.std.specs.Prelude.{◌≤◌, List, [], ◌∷◌}
 use Rattle.frac128.specs.Operations.{TermsFit}
-use Rattle.listing_definitions.specs.Report.{Value, Code, Number, Absent, Dash, Line, PathVerdict, OptimalAt, CrossedAt, InfeasibleBy, UnboundedBy, Check, Checked, Unchecked, Interval, ChainEnd, EndsAt, UnboundedPast, InfeasiblePast, Report, Inserted, Solved, Solution, Parametric}
+use Rattle.listing_definitions.specs.Report.{Value, Number, Line, PathVerdict, OptimalAt, CrossedAt, InfeasibleBy, UnboundedBy, Check, Checked, Unchecked, Interval, ChainEnd, EndsAt, UnboundedPast, InfeasiblePast, Report, Inserted, Solved, Solution, Parametric}
 use Rattle.listing_definitions.specs.Ending.{Overflow, Ending, SingularStop, PriceStop, LimitStop, OverflowStop}
 use Rattle.walk_definitions.specs.Words.{max_count}
 

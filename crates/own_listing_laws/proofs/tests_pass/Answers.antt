@@ -1,7 +1,5 @@
-use Rattle.std.proofs.Common.{◌≡◌, sym, subst}
-use Rattle.lp_definitions.specs.LinearProgram.{IsLinearProgram}
+use Rattle.std.proofs.Common.{sym, subst}
 use Rattle.certificate_check.specs.Results.{IsNotFailed}
-use Rattle.path_laws.specs.Laws.{IsNonsingularBasis}
 use Rattle.run_laws.proofs.Ends.{shown_is_best}
 use Rattle.walk_definitions.specs.Tests.{solution_test}
 use Rattle.own_listing_laws.proofs.Paths.{path_passes}
