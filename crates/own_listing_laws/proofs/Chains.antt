@@ -32,7 +32,8 @@ use Rattle.run_definitions.specs.Run.{counted}
 use Rattle.sweep_laws.specs.Laws.{HasTrueRuns}
 use Rattle.sweep_laws.specs.Truth.{IsTruePart, AreLongPast, last_end, IsTrueEnd, IsTrueRun}
 use Rattle.sweep_laws.proofs.TrueRuns.{objective_runs, rhs_runs}
-use Rattle.walk_definitions.specs.Words.{Parsed, left_after}
+use Rattle.control_definitions.specs.Cells.{steps_allowed}
+use Rattle.walk_definitions.specs.Words.{Parsed, left_after, max_count}
 use Rattle.walk_definitions.specs.Tables.{begins_table_line}
 use Rattle.walk_definitions.specs.Tests.{interval_test, close_test}
 use Rattle.walk_definitions.specs.Reading.{Judged, Right, Fails, Refuses, by_verdict, tested, judged_map, interval_in, close_in, Run, onward, part_in, run_in, sweep_head, sweep_in}
@@ -257,7 +258,7 @@ true_run : (sheet : Sheet) (changing : Changing) → IsLinearProgram sheet.lp �
 true_run sheet (Row name) lawful free = objective_runs sheet.lp (row_of sheet.problem name) lawful free.0 free.1
 true_run sheet (Set name) lawful free = rhs_runs sheet.lp (shifts_of sheet.problem name) lawful
 
-module _ (w : Walker) (s : State) (opening : Basis) (steps : List Basis) (card : ℕ) (sweep : Sweep) (present : Present) (lp : LinearProgram) (lawful : IsLinearProgram lp)
+module _ (w : Walker) (s : State) (opening : Basis) (steps : List Basis) (limits : steps_allowed s.cells ≤ max_count) (card : ℕ) (sweep : Sweep) (present : Present) (lp : LinearProgram) (lawful : IsLinearProgram lp)
     (free : ChangesFreely (record { problem = present.problem; lp = lp }) sweep.changing) (at : IsNonsingularBasis lp (present_basis present)) where
   abbrev sheet_here : Sheet
   sheet_here = record { problem = present.problem; lp = lp }
@@ -279,7 +280,7 @@ module _ (w : Walker) (s : State) (opening : Basis) (steps : List Basis) (card :
     LandsSo j = Lands (own (Chained bases intervals end)) more (answered w (OfSweep sweep) sheet_here go j)
 
     fine_lands : (j : Judged SweepEnd) → IsFine (Chained [] intervals end) more j → LandsSo j
-    fine_lands _ fine_right = record { like = record { opening = opening; steps = steps ++ []; is = refl }; is_rest = refl; waits = tt }
+    fine_lands _ fine_right = record { like = record { opening = opening; steps = steps ++ []; is = refl; limits = limits }; is_rest = refl; waits = tt }
     fine_lands _ fine_refused = tt
 
     abbrev body_here : List ℕ
@@ -316,7 +317,7 @@ module _ (w : Walker) (s : State) (opening : Basis) (steps : List Basis) (card :
         first_long [] = tt
         first_long (part ∷ parts) = inl refl
 
-    pub chain_lands : IsChained sheet_here (present_basis present) sweep bases intervals end → SweepLands w s opening steps card sweep present lp (Chained bases intervals end) more
+    pub chain_lands : IsChained sheet_here (present_basis present) sweep bases intervals end → SweepLands w s opening steps limits card sweep present lp (Chained bases intervals end) more
     chain_lands chained given =
         subst (λ (o : Option (List ℕ)). LandsSo (sweep_in sheet_here sweep w.rest o)) (sym head)
         (fine_lands (judged_map f (run_in sheet_here sweep body_here 1 sweep.from body_here)) (fine_map f (intervals, end) more (run_in sheet_here sweep body_here 1 sweep.from body_here) (run_fine chained given.plain given.fits.0 given.fits.1)))

@@ -17,3 +17,4 @@ mod Keeping
 mod Closing
 mod Parts
 mod Chains
+mod Counted

@@ -1,6 +1,6 @@
 -- A parametric run lands: the verdict of an opening that isn't optimal is read back and passes its test; a stop at the limit on steps is
 -- open. That a chain of intervals lands is a premise here.
-use Rattle.std.proofs.Common.{◌≡◌, ℕ, List, [], ◌∷◌, ◌++◌, length, Option, Some, None, codes, refl, sym, ap, subst, ◌∙◌, append_assoc, append-nil}
+use Rattle.std.proofs.Common.{◌≡◌, ◌≤◌, ℕ, List, [], ◌∷◌, ◌++◌, length, Option, Some, None, codes, refl, sym, ap, subst, ◌∙◌, append_assoc, append-nil}
 use Rattle.std.proofs.lemmas.List.{append_cancel_left}
 use Rattle.exact_values.specs.Rational.{ℚ}
 use Rattle.lp_definitions.specs.LinearProgram.{LinearProgram, lower_of, upper_of, value_at}
@@ -23,7 +23,8 @@ use Rattle.run_definitions.specs.Moves.{Gain, Prints, gain_of, gain_text, Outcom
 use Rattle.run_definitions.specs.Verbs.{asks, mark_of, after_sweep}
 use Rattle.run_definitions.specs.Run.{counted}
 use Rattle.run_laws.proofs.Runs.{knows_linear_programming}
-use Rattle.walk_definitions.specs.Words.{Parsed, left_after}
+use Rattle.control_definitions.specs.Cells.{steps_allowed}
+use Rattle.walk_definitions.specs.Words.{Parsed, left_after, max_count}
 use Rattle.walk_definitions.specs.Forms.{is_open_stop}
 use Rattle.walk_definitions.specs.Tests.{verdict_test, moving_steps, making_steps}
 use Rattle.walk_definitions.specs.Reading.{Judged, Right, tested, judged_map, judged, Claim, verdict_in, sweep_head, sweep_in}
@@ -110,7 +111,7 @@ no_chain sweep verdict check more = by (left_after (sweep_head sweep) text) refl
 
 -- ---- the question of a parametric run
 
-module _ (w : Walker) (s : State) (opening : Basis) (steps : List Basis) (card : ℕ) (sweep : Sweep) (present : Present) (lp : LinearProgram) where
+module _ (w : Walker) (s : State) (opening : Basis) (steps : List Basis) (limits : steps_allowed s.cells ≤ max_count) (card : ℕ) (sweep : Sweep) (present : Present) (lp : LinearProgram) where
   abbrev sheet : Sheet
   sheet = record { problem = present.problem; lp = lp }
 
@@ -187,7 +188,7 @@ module _ (w : Walker) (s : State) (opening : Basis) (steps : List Basis) (card :
 
       right : LandsSo (Right (Opening [] verdict check) more)
       right = follows_lands (record (passed more 1 w) { pending = None }) (go (Opening [] verdict check)) (own (Opening bases verdict check)) more
-          (verdict_alike (Solved (sweeper sweep.changing) verdict check) after opening (steps ++ []) (mark_of verdict)) refl given.ends (verdict_waits None (Solved (sweeper sweep.changing) verdict check) after tt (mark_of verdict))
+          (verdict_alike (Solved (sweeper sweep.changing) verdict check) after opening (steps ++ []) limits (mark_of verdict)) refl given.ends (verdict_waits None (Solved (sweeper sweep.changing) verdict check) after tt (mark_of verdict))
 
   pub sweep_followed : ((bases : List Basis) (intervals : List Interval) (end : ChainEnd) (more : List ℕ) → IsChained sheet (present_basis present) sweep bases intervals end → SweepLands (Chained bases intervals end) more) →
       IsFollowed w card (asks question sheet set_up go) (asks question sheet present own)
@@ -195,11 +196,11 @@ module _ (w : Walker) (s : State) (opening : Basis) (steps : List Basis) (card :
       may_stop w card (Asks question sheet (present_basis set_up) go) (Asks question sheet (present_basis present) own) (InAnswer question sheet (path_of set_up)) (InAnswer question sheet (path_of present))
       (asked_lands w card question sheet (present_basis set_up) (present_basis present) go own lands)
     where
-      lands : (answer : SweepEnd) (more : List ℕ) → IsRight linear_programming question sheet (present_basis present) answer → IsDue w (own answer) more → open_question w question sheet go ≡ None →
+      lands : card ≤ max_count → (answer : SweepEnd) (more : List ℕ) → IsRight linear_programming question sheet (present_basis present) answer → IsDue w (own answer) more → open_question w question sheet go ≡ None →
           Lands (own answer) more (answered w question sheet go (judged question sheet w.rest))
-      lands (Opening bases verdict check) more right given none =
+      lands small (Opening bases verdict check) more right given none =
           opening_lands bases verdict check more (knows_linear_programming.sweeps sheet (present_basis present) sweep (Opening bases verdict check) right) given
-      lands (Chained bases intervals end) more right given none =
+      lands small (Chained bases intervals end) more right given none =
           chained bases intervals end more (knows_linear_programming.sweeps sheet (present_basis present) sweep (Chained bases intervals end) right) given
-      lands SweepLimit more right given none =
-          absurd (never_stopped w card question sheet (present_basis set_up) (present_basis present) go own none (ap is_open_stop (given.text ∙ given.ends.0) ∙ open_limit _ given.ends.1))
+      lands small SweepLimit more right given none =
+          absurd (never_stopped w card question sheet (present_basis set_up) (present_basis present) go own none (ap is_open_stop (given.text ∙ given.ends.0) ∙ open_limit _ limits small))

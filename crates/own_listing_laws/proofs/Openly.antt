@@ -1,8 +1,12 @@
 -- RANGE, PUNCH and INSERT are open, and so are the stops of INSERT.
-use Rattle.std.proofs.Common.{◌≡◌, ℕ, ◌≤◌, Bool, true, List, length, Option, Some, None, sym, ap, ◌∙◌, arith}
+use Rattle.std.proofs.Common.{◌≡◌, ℕ, ◌+◌, ◌≤◌, Bool, true, List, length, Option, Some, None, sym, ap, ◌∙◌, arith}
 use Rattle.std.specs.Prelude.{min}
 use Rattle.std.specs.Option.{option_or}
-use Rattle.lp_definitions.specs.LinearProgram.{LinearProgram}
+use Rattle.lp_definitions.specs.LinearProgram.{LinearProgram, size, numbers_from}
+use Rattle.lp_definitions.specs.Basis.{is_basic, status_of}
+use Rattle.lp_laws.proofs.Opening.{length-numbers_from}
+use Rattle.walk_definitions.specs.Words.{max_count}
+use Rattle.own_listing_laws.proofs.Counted.{filter_short}
 use Rattle.card_definitions.specs.Cards.{Card, live}
 use Rattle.deck_definitions.specs.Conversion.{deck_name}
 use Rattle.basis_deck_definitions.specs.Writing.{basic_columns}
@@ -53,7 +57,7 @@ module _ (w : Walker) (s : State) (opening : Basis) (steps : List Basis) (card :
   ranges_followed =
       may_stop w card (Asks OfRanges sheet (present_basis set_up) (ranges_at walked)) (Asks OfRanges sheet (present_basis present) (ranges_at s)) (InAnswer OfRanges sheet (path_of set_up)) (InAnswer OfRanges sheet (path_of present))
       (asked_lands w card OfRanges sheet (present_basis set_up) (present_basis present) (ranges_at walked) (ranges_at s)
-      (λ answer more right given none. absurd (alone_open w (is_ranges w.rest) (ap is_ranges given.text ∙ ranges_stand answer more) none)))
+      (λ small answer more right given none. absurd (alone_open w (is_ranges w.rest) (ap is_ranges given.text ∙ ranges_stand answer more) none)))
 
   abbrev punch_at : State → List (List ℕ) → Outcome
   punch_at state cards = next (Punches (BasisOut present.problem.name (min (length cards) max_counted)) cards) (counted state)
@@ -63,10 +67,10 @@ module _ (w : Walker) (s : State) (opening : Basis) (steps : List Basis) (card :
 
   pub punch_followed : IsFollowed w card (Asks OfPunch sheet (present_basis set_up) (punch_at walked)) (Asks OfPunch sheet (present_basis present) (punch_at s))
   punch_followed =
-      asked_lands w card OfPunch sheet (present_basis set_up) (present_basis present) (punch_at walked) (punch_at s) (λ answer more right given none.
+      asked_lands w card OfPunch sheet (present_basis set_up) (present_basis present) (punch_at walked) (punch_at s) (λ small answer more right given none.
       absurd (alone_open w (is_punched present.problem.name w.rest) (ap (is_punched present.problem.name) given.text ∙ punched_stands present.problem.name (min (length answer) max_counted) more (least_count (length answer))) none))
 
-  module _ (t : Basis) (taken : List Card × List (List Card)) where
+  module _ (t : Basis) (taken : List Card × List (List Card)) (few : size lp.matrix ≤ max_count) where
     abbrev install_go : InstallEnd → Outcome
     install_go = after_install card lp t taken set_up (counted walked)
 
@@ -78,12 +82,18 @@ module _ (w : Walker) (s : State) (opening : Basis) (steps : List Basis) (card :
         may_stop w card (Asks (OfInstall t) sheet (present_basis set_up) install_go) (Asks (OfInstall t) sheet (present_basis present) install_own) (InAnswer (OfInstall t) sheet (path_of set_up)) (InAnswer (OfInstall t) sheet (path_of present))
         (asked_lands w card (OfInstall t) sheet (present_basis set_up) (present_basis present) install_go install_own lands)
       where
+        few_basic : length (basic_columns lp t) ≤ max_count
+        few_basic =
+            let short = filter_short (λ k. is_basic (status_of t k)) (numbers_from (lp.rows + 1) lp.cols) in
+            let counted : length (numbers_from (lp.rows + 1) lp.cols) ≡ lp.cols = length-numbers_from (lp.rows + 1) lp.cols in
+            omega (arith, short, counted, few)
+
         name : Name
         name = deck_name (live taken.0)
 
-        lands : (answer : InstallEnd) (more : List ℕ) → IsRight linear_programming (OfInstall t) sheet (present_basis present) answer → IsDue w (install_own answer) more → open_question w (OfInstall t) sheet install_go ≡ None →
+        lands : card ≤ max_count → (answer : InstallEnd) (more : List ℕ) → IsRight linear_programming (OfInstall t) sheet (present_basis present) answer → IsDue w (install_own answer) more → open_question w (OfInstall t) sheet install_go ≡ None →
             Lands (install_own answer) more (answered w (OfInstall t) sheet install_go (judged (OfInstall t) sheet w.rest))
-        lands Installed more right given none =
-            absurd (stands_open w (is_inserted name w.rest) (open_pending w) (ap (is_inserted name) given.text ∙ inserted_stands name (length (basic_columns lp t)) more given.fits) none)
-        lands (DependsBy lines) more right given none =
-            absurd (never_stopped w card (OfInstall t) sheet (present_basis set_up) (present_basis present) install_go install_own none (ap is_open_stop (given.text ∙ given.ends.0) ∙ open_singular _ given.ends.1))
+        lands small Installed more right given none =
+            absurd (stands_open w (is_inserted name w.rest) (open_pending w) (ap (is_inserted name) given.text ∙ inserted_stands name (length (basic_columns lp t)) more few_basic) none)
+        lands small (DependsBy lines) more right given none =
+            absurd (never_stopped w card (OfInstall t) sheet (present_basis set_up) (present_basis present) install_go install_own none (ap is_open_stop (given.text ∙ given.ends.0) ∙ open_singular _ small))

@@ -1,5 +1,5 @@
 -- The listing of a job's run is never found wrong.
-use Rattle.std.proofs.Common.{◌≡◌, ℕ, ◌-◌, ◌<◌, true, false, List, [], ◌∷◌, ◌++◌, length, Some, None, Result, Ok, Err, if◌then◌else◌, refl, sym, ap, subst, ◌∙◌, arith, append_assoc, append-nil, lt-ltb, le-ltb}
+use Rattle.std.proofs.Common.{◌≡◌, ℕ, ◌-◌, ◌<◌, true, false, List, [], ◌∷◌, ◌++◌, length, Some, None, Result, Ok, Err, if◌then◌else◌, refl, sym, ap, subst, ◌∙◌, arith, append_assoc, append-nil, lt-ltb, le-ltb, ◌≤◌}
 use Rattle.std.specs.Prelude.{slice_get, nat_lt}
 use Rattle.std.proofs.lemmas.Grind.{flat_map-append}
 use Rattle.std.proofs.lemmas.Option.{slice_get_within, same_Some}
@@ -27,7 +27,9 @@ use Rattle.walk_definitions.specs.Found.{first_walker, Reaches as Walked, begun 
 use Rattle.own_listing_laws.specs.Fitting.{ReportsFit, StopFits}
 use Rattle.own_listing_laws.specs.Laws.{IsNotWrong, NeverWrong}
 use Rattle.own_listing_laws.proofs.Pace.{IsLike, WaitsAt, KeepsPace, Lands, IsFoundRight, GainFits, IsDue, closes_right}
-use Rattle.own_listing_laws.proofs.Paced.{verb_matched}
+use Rattle.walk_definitions.specs.Words.{max_count}
+use Rattle.own_listing_laws.proofs.Counted.{AreSmall, MovesSmall, program_small, statement_at}
+use Rattle.own_listing_laws.proofs.Paced.{default_limits, verb_matched}
 
 -- ---- no table line stands where a report or an end does
 
@@ -120,7 +122,10 @@ gain_fits Nothing reports fit = (tt, fit)
 gain_fits (Prints report) reports fit = (fit.0, fit.1)
 gain_fits (Punches report cards) reports fit = (fit.0, fit.1)
 
-module _ (program : Program) where
+module _ (program : Program) (small : AreSmall program) where
+  small_at : (statement : Statement ℕ) (place : ℕ) → slice_get program.statements place ≡ Some statement → (statement.card ≤ max_count) × MovesSmall statement.verb
+  small_at statement place is = statement_at program place statement small is
+
   -- the walk stands where the run does
   record Stands (w : Walker) : Type 0 where
     pub state : State
@@ -186,7 +191,7 @@ module _ (program : Program) where
       step_lands outcome more step due =
           subst (Lands outcome more) (sym (step_turn outcome step))
           (subst (λ (st : State). Lands outcome more (walk_move w (verb_move step.statement.verb step.statement.card (counted st)))) (sym like.is)
-          ((verb_matched w s like.opening like.steps waits is_known.lawful is_known.knows step.statement.verb step.statement.card).by outcome more step.gives due))
+          ((verb_matched w s like.opening like.steps like.limits waits is_known.lawful is_known.knows step.statement.verb step.statement.card (small_at step.statement (s.position - 1) step.is_at_position).0 (small_at step.statement (s.position - 1) step.is_at_position).1).by outcome more step.gives due))
 
   ended_after : (w : Walker) (gain : Gain) (ending : Ending) (more : List ℕ) (t : Turn) → Lands (Ends gain ending) more t → StandsAfter t
   ended_after w gain ending more (Walks v) lands = absurd lands
@@ -254,13 +259,13 @@ never_wrong bytes reports cards ending found (run program is_program runs) fits 
     let both : ◌≡◌ {A = Result Program ControlFault} (Ok other) (Ok program) = sym is_other.is_compiled ∙ is_program.is_compiled in
     let same : other ≡ program = cc both in
     let lines = listing reports ending in
-    found_right program (job_decks program bytes) lines
+    found_right program (program_small bytes program is_program) (job_decks program bytes) lines
     (record {
       state = start (job_decks program bytes);
       reports = reports;
       ending = ending;
       runs = whole_run program bytes is_program reports cards ending runs;
-      pace = record { like = record { opening = []; steps = []; is = refl }; is_rest = refl; waits = tt };
+      pace = record { like = record { opening = []; steps = []; is = refl; limits = default_limits }; is_rest = refl; waits = tt };
       fits = fits;
       stop_fits = stop_fits;
     })

@@ -5,7 +5,7 @@
 --     KeepsPace w s more           the walk keeps pace with a run that has come to a state
 --     Lands outcome more turn      what a turn of the walk may come to, where the run comes to this
 --     IsMatched w card walked run  a move of the walk lands so, where this is the move of the run
-use Rattle.std.proofs.Common.{◌≡◌, ℕ, Bool, true, false, not, ◌||◌, List, [], ◌++◌, length, Option, Some, None, Result, Ok, Err, if◌then◌else◌, refl, sym, ap, subst, ◌∙◌, inl, inr, append-nil}
+use Rattle.std.proofs.Common.{◌≡◌, ◌≤◌, ℕ, Bool, true, false, not, ◌||◌, List, [], ◌++◌, length, Option, Some, None, Result, Ok, Err, if◌then◌else◌, refl, sym, ap, subst, ◌∙◌, inl, inr, append-nil}
 use Rattle.std.specs.Prelude.{is_none}
 use Rattle.std.specs.Option.{option_or}
 use Rattle.lp_definitions.specs.LinearProgram.{LinearProgram, value_at}
@@ -30,7 +30,8 @@ use Rattle.answer_definitions.specs.Real.{linear_programming}
 use Rattle.run_definitions.specs.State.{Present, present_basis, State}
 use Rattle.run_definitions.specs.Moves.{Gain, Nothing, Prints, Punches, printed_by, gain_text, Outcome, Goes, Ends, gain_of, stops, Refusals, InSelection, InAnswer, Move, Does, MayStop, Asks, Gives, or_fault}
 use Rattle.run_definitions.specs.Verbs.{or_deck_fault, or_selection_fault, selects}
-use Rattle.walk_definitions.specs.Words.{left_after}
+use Rattle.control_definitions.specs.Cells.{steps_allowed}
+use Rattle.walk_definitions.specs.Words.{left_after, max_count}
 use Rattle.walk_definitions.specs.Forms.{is_open_stop, is_ranges, is_punched}
 use Rattle.walk_definitions.specs.Tables.{begins_table_line}
 use Rattle.walk_definitions.specs.Reading.{judged}
@@ -51,6 +52,7 @@ pub record IsLike (v s : State) : Type 0 where
   pub opening : Basis
   pub steps : List Basis
   pub is : v ≡ record s { setup = rebased opening steps s.setup }
+  pub limits : steps_allowed s.cells ≤ max_count
 
 -- The verdict is optimal at the present basis of what the cells select, with the objective of its point, and its check has gone so.
 pub record Waits (pending : Pending) (setup : Option Present) (objective rhs : Option Name) : Type 0 where
@@ -208,7 +210,7 @@ module _ (w : Walker) where
 
   -- and it looks for stop texts first
   pub record IsFollowed (card : ℕ) (walked run : Move) : Type 0 where
-    pub matched : IsMatched card walked run
+    pub matched : card ≤ max_count → IsMatched card walked run
     pub looks : is_open_stop w.rest ≡ true → opened w walked ≡ Some (Open w.rest)
 
   stop_first : (o : Option Found) → is_open_stop w.rest ≡ true → option_or (open_stop w) o ≡ Some (Open w.rest)
@@ -232,14 +234,14 @@ module _ (w : Walker) where
     stops_too outcome more lands (InAnswer question sheet bases) = lands
 
     pub may_stop : IsFollowed card (MayStop refusals walked) (MayStop others run)
-    may_stop = record { matched = record { by = lands }; looks = followed.looks }
+    may_stop = record { matched = λ small. record { by = lands small }; looks = followed.looks }
       where
-        lands : (outcome : Outcome) (more : List ℕ) → Gives linear_programming card (MayStop others run) outcome → IsDue w outcome more → Lands outcome more (walk_move w (MayStop refusals walked))
-        lands outcome more (inl gives) given = stops_too outcome more (followed.matched.by outcome more gives given) refusals
-        lands outcome more (inr (evidence, place, holds, is)) given =
+        lands : card ≤ max_count → (outcome : Outcome) (more : List ℕ) → Gives linear_programming card (MayStop others run) outcome → IsDue w outcome more → Lands outcome more (walk_move w (MayStop refusals walked))
+        lands small outcome more (inl gives) given = stops_too outcome more ((followed.matched small).by outcome more gives given) refusals
+        lands small outcome more (inr (evidence, place, holds, is)) given =
             let own : Overflow = record { evidence = evidence; place = place; card = card } in
             let due : IsDue w (stops (OverflowStop own)) more = subst (λ (o : Outcome). IsDue w o more) is given in
-            opened_lands outcome more (MayStop refusals walked) (followed.looks (ap is_open_stop (due.text ∙ due.ends.0) ∙ open_overflow own due.ends.1))
+            opened_lands outcome more (MayStop refusals walked) (followed.looks (ap is_open_stop (due.text ∙ due.ends.0) ∙ open_overflow own due.ends.1 small))
 
   -- ---- nothing is asked
 
@@ -263,7 +265,7 @@ module _ (w : Walker) where
     }
 
   pub does_stop : (card : ℕ) (ending : Ending) → IsFollowed card (Does (stops ending)) (Does (stops ending))
-  does_stop card ending = record { matched = does card (stops ending) (stops ending) (refl, refl) (λ none. tt); looks = stop_first (open_pending w) }
+  does_stop card ending = record { matched = λ small. does card (stops ending) (stops ending) (refl, refl) (λ none. tt); looks = stop_first (open_pending w) }
 
   -- a report is printed, and the run goes on
   pub prints_looks : (report : Report) (after : State) → is_open_stop w.rest ≡ true → opened w (Does (Goes (Prints report) after)) ≡ Some (Open w.rest)
@@ -318,21 +320,21 @@ module _ (w : Walker) where
     abbrev pub LandsAnswered : Answer question → List ℕ → Type 0
     LandsAnswered answer more = Lands (own answer) more (answered w question sheet go (judged question sheet w.rest))
 
-    pub asked_lands : ((answer : Answer question) (more : List ℕ) → IsRight linear_programming question sheet t answer → IsDue w (own answer) more → open_question w question sheet go ≡ None → LandsAnswered answer more) →
+    pub asked_lands : (card ≤ max_count → (answer : Answer question) (more : List ℕ) → IsRight linear_programming question sheet t answer → IsDue w (own answer) more → open_question w question sheet go ≡ None → LandsAnswered answer more) →
         IsFollowed card (Asks question sheet s go) (Asks question sheet t own)
     asked_lands lands = record {
-      matched = record {
+      matched = λ small. record {
         by = λ outcome more (answer, right, is) given.
             subst (λ (o : Outcome). Lands o more (walk_move w (Asks question sheet s go))) (sym is)
-            (by answer more right (subst (λ (o : Outcome). IsDue w o more) is given) (open_question w question sheet go) refl (never_question w question sheet go));
+            (by small answer more right (subst (λ (o : Outcome). IsDue w o more) is given) (open_question w question sheet go) refl (never_question w question sheet go));
       };
       looks = question_looks question sheet go;
     }
       where
-        by : (answer : Answer question) (more : List ℕ) → IsRight linear_programming question sheet t answer → IsDue w (own answer) more → (o : Option Found) → open_question w question sheet go ≡ o → IsNeverWrong o →
+        by : card ≤ max_count → (answer : Answer question) (more : List ℕ) → IsRight linear_programming question sheet t answer → IsDue w (own answer) more → (o : Option Found) → open_question w question sheet go ≡ o → IsNeverWrong o →
             Lands (own answer) more (unless_found o (answered w question sheet go (judged question sheet w.rest)))
-        by answer more right given (Some what) is never = never
-        by answer more right given None is never = lands answer more right given is
+        by small answer more right given (Some what) is never = never
+        by small answer more right given None is never = lands small answer more right given is
 
     -- a stop text is open
     pub never_stopped : open_question w question sheet go ≡ None → is_open_stop w.rest ≡ true → ⊥

@@ -2,12 +2,15 @@
 use Rattle.std.proofs.Common.{◌≡◌, ℕ, ◌≤◌, List, [], ◌++◌, length, Option, Some, None, Ok, refl, sym, ap, ap₂, subst, ◌∙◌, arith}
 use Rattle.std.specs.Prelude.{min}
 use Rattle.exact_values.specs.Rational.{ℚ}
-use Rattle.lp_definitions.specs.LinearProgram.{LinearProgram, value_at}
+use Rattle.lp_definitions.specs.LinearProgram.{LinearProgram, value_at, size}
 use Rattle.lp_definitions.specs.Basis.{Tableau, IsTableau}
 use Rattle.check_definitions.specs.declared.Verdict.{Verdict}
 use Rattle.check_definitions.specs.declared.Verdict.TheVariants.{Checked, Failed, Unchecked}
 use Rattle.check_definitions.specs.Checks.{optimal_check}
-use Rattle.method_definitions.specs.Path.{PathEnding, EndsOptimal, EndsCrossed, EndsInfeasible, EndsUnbounded, Ends as TurnEnds, last_of}
+use Rattle.method_definitions.specs.Path.{PathEnding, EndsOptimal, EndsCrossed, EndsInfeasible, EndsUnbounded, Ends as TurnEnds, last_of, worth_rate}
+use Rattle.method_definitions.specs.Moves.{lowers}
+use Rattle.control_definitions.specs.Cells.{steps_allowed}
+use Rattle.path_laws.proofs.Numbered.{find_some}
 use Rattle.problem_definitions.specs.Names.{Name}
 use Rattle.selection_definitions.specs.Selection.{selected}
 use Rattle.listing_definitions.specs.declared.Mark.{Mark}
@@ -27,7 +30,7 @@ use Rattle.run_definitions.specs.Run.{counted}
 use Rattle.run_laws.proofs.Runs.{knows_linear_programming}
 use Rattle.sweep_laws.proofs.Runs.{last_of-append}
 use Rattle.walk_definitions.specs.Forms.{is_open_stop}
-use Rattle.walk_definitions.specs.Words.{Parsed}
+use Rattle.walk_definitions.specs.Words.{Parsed, max_count}
 use Rattle.walk_definitions.specs.Tests.{verdict_test}
 use Rattle.walk_definitions.specs.Reading.{Judged, Right, Refuses, by_verdict as judge, tested, judged_map, judged, Claim, verdict_in}
 use Rattle.walk_definitions.specs.Walker.{Pending, Walker, Unchecked, open_question, passed, pending_after, answered}
@@ -58,16 +61,16 @@ verdict_gain Optimal report state = refl
 verdict_gain Infeasible report state = demanded_gain state.cells.xdonfs 1 report state
 verdict_gain Unbounded report state = demanded_gain state.cells.xdounb 2 report state
 
-module _ (report : Report) (state : State) (opening : Basis) (steps : List Basis) where
+module _ (report : Report) (state : State) (opening : Basis) (steps : List Basis) (limits : steps_allowed state.cells ≤ max_count) where
   abbrev other : State
   other = record state { setup = rebased opening steps state.setup }
 
   demanded_alike : (position : Option ℕ) (code : ℕ) → AreAlike (demanded position code report other) (demanded position code report state)
-  demanded_alike (Some position) code = (refl, record { opening = opening; steps = steps; is = refl })
+  demanded_alike (Some position) code = (refl, record { opening = opening; steps = steps; is = refl; limits = limits })
   demanded_alike None code = (refl, refl)
 
   pub verdict_alike : (mark : Mark) → AreAlike (by_verdict mark report other) (by_verdict mark report state)
-  verdict_alike Optimal = (refl, record { opening = opening; steps = steps; is = refl })
+  verdict_alike Optimal = (refl, record { opening = opening; steps = steps; is = refl; limits = limits })
   verdict_alike Infeasible = demanded_alike state.cells.xdonfs 1
   verdict_alike Unbounded = demanded_alike state.cells.xdounb 2
 
@@ -174,7 +177,7 @@ pending_of sheet setup objective rhs present rest n t ending verdict check set i
 -- ---- the question of a path
 
 module _ (w : Walker) (s : State) (opening : Basis) (steps : List Basis) (card : ℕ) (solver : Solver) (path : IsPathSolver solver) (limit : Option ℕ) (present : Present) (lp : LinearProgram) (set : s.setup ≡ Some present)
-    (is : selected present.problem (choice_of s.cells present.options) ≡ Ok lp) where
+    (is : selected present.problem (choice_of s.cells present.options) ≡ Ok lp) (limits : steps_allowed s.cells ≤ max_count) (few : size lp.matrix ≤ max_count) where
   abbrev sheet : Sheet
   sheet = record { problem = present.problem; lp = lp }
 
@@ -235,18 +238,26 @@ module _ (w : Walker) (s : State) (opening : Basis) (steps : List Basis) (card :
 
       right : LandsSo (Right (Reached [] verdict check) more)
       right = follows_lands (record (passed more 1 w) { pending = pending_after w.rest verdict check }) (go (Reached [] verdict check)) (own (Reached bases verdict check)) more
-          (verdict_alike (Solved solver verdict check) after opening (steps ++ []) (mark_of verdict)) refl given.ends (verdict_waits (pending_after w.rest verdict check) (Solved solver verdict check) after waits (mark_of verdict))
+          (verdict_alike (Solved solver verdict check) after opening (steps ++ []) limits (mark_of verdict)) refl given.ends (verdict_waits (pending_after w.rest verdict check) (Solved solver verdict check) after waits (mark_of verdict))
+
+  -- the variable of a wrong price
+  wrong_variable : (solver : Solver) → IsPathSolver solver → (limit : Option ℕ) (j : ℕ) → verdicts.IsSolvedBy solver sheet (present_basis present) limit (PricesWrong j) → j ≤ max_count
+  wrong_variable ByPrimal path limit j wrong = absurd wrong
+  wrong_variable ByDual path limit j wrong =
+      let found = find_some (lowers lp (present_basis present) (worth_rate lp (present_basis present) wrong.tableau)) (size lp.matrix) 1 j wrong.wrong in omega (arith, found.high, few)
+  wrong_variable ByParaobj path limit j wrong = absurd path
+  wrong_variable ByPararhs path limit j wrong = absurd path
 
   pub path_followed : IsFollowed w card (asks question sheet set_up go) (asks question sheet present own)
   path_followed =
       may_stop w card (Asks question sheet (present_basis set_up) go) (Asks question sheet (present_basis present) own) (InAnswer question sheet (path_of set_up)) (InAnswer question sheet (path_of present))
       (asked_lands w card question sheet (present_basis set_up) (present_basis present) go own lands)
     where
-      lands : (answer : PathEnd) (more : List ℕ) → IsRight linear_programming question sheet (present_basis present) answer → IsDue w (own answer) more → open_question w question sheet go ≡ None →
+      lands : card ≤ max_count → (answer : PathEnd) (more : List ℕ) → IsRight linear_programming question sheet (present_basis present) answer → IsDue w (own answer) more → open_question w question sheet go ≡ None →
           Lands (own answer) more (answered w question sheet go (judged question sheet w.rest))
-      lands (Reached bases verdict check) more right given none =
+      lands small (Reached bases verdict check) more right given none =
           reached_lands bases verdict check more (has_ended solver path sheet (present_basis present) limit bases verdict check (knows_linear_programming.solves solver sheet (present_basis present) limit (Reached bases verdict check) right)) given
-      lands PathLimit more right given none =
-          absurd (never_stopped w card question sheet (present_basis set_up) (present_basis present) go own none (ap is_open_stop (given.text ∙ given.ends.0) ∙ open_limit _ given.ends.1))
-      lands (PricesWrong j) more right given none =
-          absurd (never_stopped w card question sheet (present_basis set_up) (present_basis present) go own none (ap is_open_stop (given.text ∙ given.ends.0) ∙ open_price _ given.ends.1))
+      lands small PathLimit more right given none =
+          absurd (never_stopped w card question sheet (present_basis set_up) (present_basis present) go own none (ap is_open_stop (given.text ∙ given.ends.0) ∙ open_limit _ limits small))
+      lands small (PricesWrong j) more right given none =
+          absurd (never_stopped w card question sheet (present_basis set_up) (present_basis present) go own none (ap is_open_stop (given.text ∙ given.ends.0) ∙ open_price _ small (wrong_variable solver path limit j (knows_linear_programming.solves solver sheet (present_basis present) limit (PricesWrong j) right))))

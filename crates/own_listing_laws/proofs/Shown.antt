@@ -1,5 +1,5 @@
 -- SOLUTION lands: it is read back, its test passes, and it settles what is pending.
-use Rattle.std.proofs.Common.{◌≡◌, ℕ, Bool, true, false, List, [], ◌∷◌, ◌++◌, Option, Some, None, Ok, if◌then◌else◌, refl, sym, ap, ap₂, subst, ◌∙◌}
+use Rattle.std.proofs.Common.{◌≡◌, ◌≤◌, ℕ, Bool, true, false, List, [], ◌∷◌, ◌++◌, Option, Some, None, Ok, if◌then◌else◌, refl, sym, ap, ap₂, subst, ◌∙◌}
 use Rattle.std.specs.List.{flat_map}
 use Rattle.exact_values.specs.Rational.{ℚ, zero_ℚ}
 use Rattle.exact_values.proofs.Tests_laws.{test_from_same}
@@ -32,7 +32,8 @@ use Rattle.run_definitions.specs.Verbs.{asks}
 use Rattle.run_definitions.specs.Run.{counted}
 use Rattle.run_laws.proofs.Runs.{knows_linear_programming}
 use Rattle.run_laws.proofs.Ends.{IsProvedBest}
-use Rattle.walk_definitions.specs.Words.{Parsed}
+use Rattle.control_definitions.specs.Cells.{steps_allowed}
+use Rattle.walk_definitions.specs.Words.{Parsed, max_count}
 use Rattle.walk_definitions.specs.Tables.{column_of}
 use Rattle.walk_definitions.specs.Tests.{says_checked, point_of, prices_of, slacks_of, slack_steps, solution_test}
 use Rattle.walk_definitions.specs.Reading.{Judged, Right, tested, judged, solution_in}
@@ -117,7 +118,7 @@ solution_passes sheet s t Unbounded lawful tab at best = shown_passes sheet s t 
 -- ---- the question of SOLUTION
 
 module _ (w : Walker) (s : State) (opening : Basis) (steps : List Basis) (card : ℕ) (mark : Mark) (present : Present) (lp : LinearProgram) (set : s.setup ≡ Some present)
-    (is : selected present.problem (choice_of s.cells present.options) ≡ Ok lp) (waits : WaitsAt w.pending s) (lawful : IsLinearProgram lp) (at : IsNonsingularBasis lp (present_basis present))
+    (is : selected present.problem (choice_of s.cells present.options) ≡ Ok lp) (waits : WaitsAt w.pending s) (limits : steps_allowed s.cells ≤ max_count) (lawful : IsLinearProgram lp) (at : IsNonsingularBasis lp (present_basis present))
     (best : mark ≡ Optimal → (t : Tableau) → IsTableau lp (present_basis present) t → IsProvedBest lp (present_basis present) t) where
   abbrev sheet : Sheet
   sheet = record { problem = present.problem; lp = lp }
@@ -154,7 +155,7 @@ module _ (w : Walker) (s : State) (opening : Basis) (steps : List Basis) (card :
 
       -- the run goes on, and this is pending
       goes_on : (pending : Option Pending) → WaitsAt pending s → Lands (own lines) more (follows (record (passed more 1 w) { pending = pending }) (go lines))
-      goes_on pending still = record { like = record { opening = opening; steps = steps; is = refl }; is_rest = refl; waits = still }
+      goes_on pending still = record { like = record { opening = opening; steps = steps; is = refl; limits = limits }; is_rest = refl; waits = still }
 
       settled_lands : (pending : Option Pending) → WaitsAt pending s → solution_test sheet Optimal lines ≡ Checked → (turn : Turn) → Lands (own lines) more turn → Lands (own lines) more (settled w pending (point_of sheet lines lp.objective) turn)
       settled_lands None still checked turn lands = lands
@@ -181,9 +182,9 @@ module _ (w : Walker) (s : State) (opening : Basis) (steps : List Basis) (card :
       may_stop w card (Asks (OfSolution mark) sheet (present_basis set_up) go) (Asks (OfSolution mark) sheet (present_basis present) own) (InAnswer (OfSolution mark) sheet (path_of set_up)) (InAnswer (OfSolution mark) sheet (path_of present))
       (asked_lands w card (OfSolution mark) sheet (present_basis set_up) (present_basis present) go own lands)
     where
-      lands : (answer : SolutionLines) (more : List ℕ) → IsRight linear_programming (OfSolution mark) sheet (present_basis present) answer → IsDue w (own answer) more → open_question w (OfSolution mark) sheet go ≡ None →
+      lands : card ≤ max_count → (answer : SolutionLines) (more : List ℕ) → IsRight linear_programming (OfSolution mark) sheet (present_basis present) answer → IsDue w (own answer) more → open_question w (OfSolution mark) sheet go ≡ None →
           Lands (own answer) more (answered w (OfSolution mark) sheet go (judged (OfSolution mark) sheet w.rest))
-      lands answer more right given none =
+      lands small answer more right given none =
           let shown : IsShown sheet (present_basis present) answer = knows_linear_programming.shows mark sheet (present_basis present) answer right in
           subst (λ (lines : SolutionLines). IsDue w (own lines) more → Lands (own lines) more (answered w (OfSolution mark) sheet go (judged (OfSolution mark) sheet w.rest))) (sym shown.are_lines)
           (λ given. shown_lands shown.tableau shown.is_tableau more given) given

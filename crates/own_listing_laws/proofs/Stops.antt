@@ -15,7 +15,7 @@ use Rattle.walk_definitions.specs.Words.{ends_word, word_in, max_count}
 use Rattle.walk_definitions.specs.Forms.{Piece, Text, Count, Fraction, Operation, is_of, left_by, has_form, limit_stop, read_fault, punch_fault, memory_stop, singular_stop, price_stop, overflow_stop, is_open_stop, is_ranges, is_punched, is_inserted, counted_line}
 use Rattle.walk_definitions.proofs.Texts.{stands, drop_text}
 use Rattle.walk_definitions.proofs.Numbers.{fraction_of_text}
-use Rattle.own_listing_laws.specs.Fitting.{StopFits}
+use Rattle.own_listing_laws.specs.Fitting.{OverflowFits}
 use Rattle.own_listing_laws.proofs.Spelled.{IsWord, word_is, digits_word, rational_word, count_of_text, operation_word, operation_named}
 
 record Leaves (form : List Piece) (rest after : List ℕ) : Type 0 where
@@ -84,10 +84,10 @@ overflow_open : (rest : List ℕ) → has_form overflow_stop rest ≡ true → i
 overflow_open rest e =
     is_open rest (later rest limit_stop _ (later rest read_fault _ (later rest punch_fault _ (later rest memory_stop _ (later rest singular_stop _ (later rest price_stop _ (here rest overflow_stop _ e)))))))
 
-pub open_limit : (reached : LimitReached) → StopFits (LimitStop reached) → is_open_stop (ending_text (LimitStop reached)) ≡ true
-open_limit reached fit = limit_open (ending_text (LimitStop reached)) (has limit_stop (ending_text (LimitStop reached)) []
-    (text_left (codes "STOP 16 ITERATION LIMIT ") _ _ _ (count_left reached.limit 32 _ _ _ fit.0 refl
-    (text_left (codes " CARD ") _ _ _ (count_left reached.card 10 _ [] _ fit.1 refl (text_left (codes "\n") [] [] _ (nothing [])))))))
+pub open_limit : (reached : LimitReached) → reached.limit ≤ max_count → reached.card ≤ max_count → is_open_stop (ending_text (LimitStop reached)) ≡ true
+open_limit reached limit card = limit_open (ending_text (LimitStop reached)) (has limit_stop (ending_text (LimitStop reached)) []
+    (text_left (codes "STOP 16 ITERATION LIMIT ") _ _ _ (count_left reached.limit 32 _ _ _ limit refl
+    (text_left (codes " CARD ") _ _ _ (count_left reached.card 10 _ [] _ card refl (text_left (codes "\n") [] [] _ (nothing [])))))))
 
 as_fault : (number card lines : List ℕ) → (codes "STOP 10 VERB " ++ ((codes "FAULT " ++ (number ++ (codes " CARD " ++ (card ++ [])))) ++ (codes "\n" ++ []))) ++ lines ≡
     codes "STOP 10 VERB " ++ (codes "FAULT " ++ (number ++ (codes " CARD " ++ (card ++ (10 ∷ lines)))))
@@ -101,7 +101,7 @@ sixteen : digits 16 ≡ codes "16"
 unfolding digits
 sixteen = refl
 
-pub open_singular : (basis : SingularBasis) → StopFits (SingularStop basis) → is_open_stop (ending_text (SingularStop basis)) ≡ true
+pub open_singular : (basis : SingularBasis) → basis.card ≤ max_count → is_open_stop (ending_text (SingularStop basis)) ≡ true
 open_singular basis fit =
     ap is_open_stop (as_fault (digits 15) (digits basis.card) (table_text basis.lines)
     ∙ ap (λ number. codes "STOP 10 VERB " ++ (codes "FAULT " ++ (number ++ (codes " CARD " ++ (digits basis.card ++ (10 ∷ table_text basis.lines)))))) fifteen)
@@ -112,13 +112,13 @@ as_price : (number card variable : List ℕ) → codes "STOP 10 VERB " ++ ((code
     codes "STOP 10 VERB " ++ (codes "FAULT " ++ (number ++ (codes " CARD " ++ (card ++ (codes " VARIABLE " ++ (variable ++ (10 ∷ [])))))))
 as_price number card variable = simp (append_assoc, append-nil)
 
-pub open_price : (price : WrongPrice) → StopFits (PriceStop price) → is_open_stop (ending_text (PriceStop price)) ≡ true
-open_price price fit =
+pub open_price : (price : WrongPrice) → price.card ≤ max_count → price.variable ≤ max_count → is_open_stop (ending_text (PriceStop price)) ≡ true
+open_price price card variable =
     ap is_open_stop (as_price (digits 16) (digits price.card) (digits price.variable)
     ∙ ap (λ number. codes "STOP 10 VERB " ++ (codes "FAULT " ++ (number ++ (codes " CARD " ++ (digits price.card ++ (codes " VARIABLE " ++ (digits price.variable ++ (10 ∷ [])))))))) sixteen)
     ∙ price_open (codes "STOP 10 VERB FAULT 16 CARD " ++ (digits price.card ++ (codes " VARIABLE " ++ (digits price.variable ++ (10 ∷ []))))) (has price_stop _ []
-    (text_left (codes "STOP 10 VERB FAULT 16 CARD ") _ _ _ (count_left price.card 32 _ _ _ fit.0 refl
-    (text_left (codes " VARIABLE ") _ _ _ (count_left price.variable 10 _ [] _ fit.1 refl (text_left (codes "\n") [] [] _ (nothing [])))))))
+    (text_left (codes "STOP 10 VERB FAULT 16 CARD ") _ _ _ (count_left price.card 32 _ _ _ card refl
+    (text_left (codes " VARIABLE ") _ _ _ (count_left price.variable 10 _ [] _ variable refl (text_left (codes "\n") [] [] _ (nothing [])))))))
 
 as_overflow : (formula op left right p q i j term theta card lines : List ℕ) →
     codes "STOP 20 OVERFLOW " ++ ((codes "F" ++ (formula ++ (codes " " ++ ((op ++ (codes " " ++ (left ++ (codes " " ++ (right ++ []))))) ++ (codes " P " ++ (p ++ (codes " Q " ++ (q ++ (codes " I " ++ (i ++ (codes " J " ++ (j ++
@@ -128,8 +128,8 @@ as_overflow : (formula op left right p q i j term theta card lines : List ℕ) �
     (codes " TERM " ++ (term ++ (codes " THETA " ++ (theta ++ (codes " CARD " ++ (card ++ (10 ∷ lines))))))))))))))))))))))
 as_overflow formula op left right p q i j term theta card lines = simp (append_assoc, append-nil)
 
-pub open_overflow : (overflow : Overflow) → StopFits (OverflowStop overflow) → is_open_stop (ending_text (OverflowStop overflow)) ≡ true
-open_overflow overflow fit =
+pub open_overflow : (overflow : Overflow) → OverflowFits overflow → overflow.card ≤ max_count → is_open_stop (ending_text (OverflowStop overflow)) ≡ true
+open_overflow overflow fit card =
     let e = overflow.evidence in
     let lines : List ℕ = codes "BASIS " ++ (basis_text overflow.place ++ (codes "\n" ++ (codes "WAY " ++ (way_text overflow.place ++ (codes "\n" ++ []))))) in
     ap is_open_stop (as_overflow (digits e.formula) (operation_text e.refused.op) (rational_text e.refused.left) (rational_text e.refused.right) (digits e.p) (digits e.q) (digits e.i) (digits e.j) (digits e.term)
@@ -145,7 +145,7 @@ open_overflow overflow fit =
     (text_left (codes " J ") _ _ _ (count_left e.j 32 _ _ _ fit.j refl
     (text_left (codes " TERM ") _ _ _ (count_left e.term 32 _ _ _ fit.term refl
     (text_left (codes " THETA ") _ _ _ (fraction_left e.theta 32 _ _ _ fit.theta refl
-    (text_left (codes " CARD ") _ _ _ (count_left overflow.card 10 _ lines _ fit.card refl (text_left (codes "\n") [] lines _ (nothing lines)))))))))))))))))))))))))
+    (text_left (codes " CARD ") _ _ _ (count_left overflow.card 10 _ lines _ card refl (text_left (codes "\n") [] lines _ (nothing lines)))))))))))))))))))))))))
 
 -- ---- reports
 

@@ -1,12 +1,12 @@
--- The numbers that a run prints fit what the listing checker reads: a fraction has 128 bits, and a count 32.
---     LinesFit lines               the fractions of table lines fit
---     VerdictFits verdict check    those of a verdict with its check, and its count of steps
+-- The fractions that a run prints fit what the listing checker reads: each has 128 bits. The program prints no others.
+--     LinesFit lines               those of table lines
+--     VerdictFits verdict          those of a verdict, and CheckFits check those of its check
 --     ReportFits report            those of a report that is read
---     StopFits ending              those of a stop text that can't be attested
+--     StopFits ending              those of the evidence of an overflow, with its counts, which have 32 bits
 use Rattle.std.specs.Prelude.{◌≤◌, List, [], ◌∷◌}
 use Rattle.frac128.specs.Operations.{TermsFit}
-use Rattle.listing_definitions.specs.Report.{Value, Number, Line, PathVerdict, OptimalAt, CrossedAt, InfeasibleBy, UnboundedBy, Check, Checked, Unchecked, Interval, ChainEnd, EndsAt, UnboundedPast, InfeasiblePast, Report, Inserted, Solved, Solution, Parametric}
-use Rattle.listing_definitions.specs.Ending.{Overflow, Ending, SingularStop, PriceStop, LimitStop, OverflowStop}
+use Rattle.listing_definitions.specs.Report.{Value, Number, Line, PathVerdict, OptimalAt, CrossedAt, InfeasibleBy, UnboundedBy, Check, Checked, Unchecked, Interval, ChainEnd, EndsAt, UnboundedPast, InfeasiblePast, Report, Solved, Solution, Parametric}
+use Rattle.listing_definitions.specs.Ending.{Overflow, Ending, OverflowStop}
 use Rattle.walk_definitions.specs.Words.{max_count}
 
 abbrev pub ValueFits : Value → Type 0
@@ -40,9 +40,8 @@ EndFits (EndsAt value) = TermsFit value
 EndFits (UnboundedPast value lines) = TermsFit value × LinesFit lines
 EndFits (InfeasiblePast value lines) = TermsFit value × LinesFit lines
 
--- The other reports are written by the walk itself, but for the count of INSERT.
+-- the other reports are written by the walk itself, or can't be attested
 abbrev pub ReportFits : Report → Type 0
-ReportFits (Inserted name basic) = basic ≤ max_count
 ReportFits (Solved solver verdict check) = VerdictFits verdict × CheckFits check
 ReportFits (Solution mark lines) = LinesFit lines.rows × LinesFit lines.columns
 ReportFits (Parametric solver chain) = IntervalsFit chain.intervals × EndFits chain.end
@@ -52,7 +51,7 @@ abbrev pub ReportsFit : List Report → Type 0
 ReportsFit [] = Unit {0}
 ReportsFit (report ∷ reports) = ReportFits report × ReportsFit reports
 
--- the numbers of an overflow
+-- the numbers of an overflow's evidence
 pub record OverflowFits (overflow : Overflow) : Type 0 where
   pub formula : overflow.evidence.formula ≤ max_count
   pub left : TermsFit overflow.evidence.refused.left
@@ -63,11 +62,7 @@ pub record OverflowFits (overflow : Overflow) : Type 0 where
   pub j : overflow.evidence.j ≤ max_count
   pub term : overflow.evidence.term ≤ max_count
   pub theta : TermsFit overflow.evidence.theta
-  pub card : overflow.card ≤ max_count
 
 abbrev pub StopFits : Ending → Type 0
-StopFits (LimitStop reached) = (reached.limit ≤ max_count) × (reached.card ≤ max_count)
-StopFits (SingularStop basis) = basis.card ≤ max_count
-StopFits (PriceStop price) = (price.card ≤ max_count) × (price.variable ≤ max_count)
 StopFits (OverflowStop overflow) = OverflowFits overflow
 StopFits ending = Unit {0}

@@ -5,31 +5,31 @@
 --     NeverWrong                   the listing of a run isn't found wrong
 use Rattle.std.specs.Prelude.{◌≡◌, ℕ, false, List, ◌++◌, Option, Some}
 use Rattle.exact_values.specs.Rational.{ℚ}
-use Rattle.lp_definitions.specs.LinearProgram.{LinearProgram, IsLinearProgram}
-use Rattle.certificate_check.specs.Results.{IsNotFailed}
-use Rattle.method_definitions.specs.Path.{EndsOptimal, EndsAt}
-use Rattle.path_laws.specs.Laws.{IsNonsingularBasis}
-use Rattle.listing_definitions.specs.declared.Mark.TheVariants.{Optimal}
-use Rattle.answer_definitions.specs.Verdicts.{IsSolvedBy}
-use Rattle.walk_definitions.specs.Tests.{verdict_test, solution_test}
-use Rattle.lp_definitions.specs.Basis.{Tableau}
 use Rattle.frac128.specs.Operations.{TermsFit}
+use Rattle.lp_definitions.specs.LinearProgram.{LinearProgram, IsLinearProgram}
+use Rattle.lp_definitions.specs.Basis.{Tableau}
+use Rattle.method_definitions.specs.Path.{EndsOptimal, EndsAt}
 use Rattle.method_definitions.specs.Chain.{Part}
+use Rattle.path_laws.specs.Laws.{IsNonsingularBasis}
+use Rattle.certificate_check.specs.Results.{IsNotFailed}
+use Rattle.listing_definitions.specs.declared.Mark.TheVariants.{Optimal}
 use Rattle.listing_definitions.specs.declared.Mark.{Mark}
 use Rattle.listing_definitions.specs.declared.Solver.{Solver}
 use Rattle.listing_definitions.specs.Report.{PathVerdict, Check, SolutionLines, ChainEnd, Report}
 use Rattle.listing_definitions.specs.Text.{verdict_text, solution_text, interval_text, chain_end_text}
+use Rattle.listing_definitions.specs.Ending.{Ending}
+use Rattle.listing_definitions.specs.Listing.{listing}
 use Rattle.question_definitions.specs.Answers.{Basis, Sheet, Reached}
+use Rattle.answer_definitions.specs.Verdicts.{IsSolvedBy}
 use Rattle.answer_definitions.specs.Sections.{IsShown, solution_lines}
 use Rattle.answer_definitions.specs.Sweeps.{interval_of}
+use Rattle.answer_definitions.specs.Real.{linear_programming}
+use Rattle.run_definitions.specs.Answer.{IsJobRun}
+use Rattle.walk_definitions.specs.Tests.{verdict_test, solution_test}
 use Rattle.walk_definitions.specs.Tables.{begins_table_line}
 use Rattle.walk_definitions.specs.Reading.{verdict_in, solution_in, interval_in, close_in}
 use Rattle.walk_definitions.specs.Walker.{Found, Wrong}
 use Rattle.walk_definitions.specs.Found.{Comes}
-use Rattle.listing_definitions.specs.Ending.{Ending}
-use Rattle.listing_definitions.specs.Listing.{listing}
-use Rattle.answer_definitions.specs.Real.{linear_programming}
-use Rattle.run_definitions.specs.Answer.{IsJobRun}
 use Rattle.own_listing_laws.specs.Fitting.{LinesFit, VerdictFits, CheckFits, EndFits, ReportsFit, StopFits}
 use Rattle.own_listing_laws.specs.Printed.{IsReadable, IsPrinted, IsEndOf}
 
@@ -64,7 +64,8 @@ pub record TestsPass : Type 0 where
   pub solution : (mark : Mark) (sheet : Sheet) (s : Basis) (lines : SolutionLines) → IsLinearProgram sheet.lp → IsNonsingularBasis sheet.lp s → (mark ≡ Optimal → EndsBest sheet.lp s) → IsShown sheet s lines →
       IsNotFailed (solution_test sheet mark lines)
 
--- What a run reports and how it ends, printed, is a listing that is never found wrong, where the printed numbers fit what the walk reads.
+-- The listing of a job's run is never found wrong by the walk, where its fractions fit: it is attested, or a line of it can't be attested,
+-- or an operation of a test is refused.
 abbrev pub NeverWrong : Type 0
 NeverWrong = (bytes : List ℕ) (reports : List Report) (cards : List (List ℕ)) (ending : Ending) (found : Found) → IsJobRun linear_programming bytes reports cards ending → ReportsFit reports → StopFits ending →
     Comes bytes (listing reports ending) found → IsNotWrong found
