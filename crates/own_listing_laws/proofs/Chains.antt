@@ -1,0 +1,331 @@
+-- A chain of intervals lands: each interval is read back and passes its test, and so does the close.
+--     IsFine x rest judged         this is read, with this left, or an operation of a test is refused
+use Rattle.std.proofs.Common.{◌≡◌, ℕ, ◌+◌, ◌<◌, ◌≤◌, true, false, List, [], ◌∷◌, ◌++◌, length, map, Option, Some, None, codes, drop, if◌then◌else◌, refl, sym, ap, subst, ◌∙◌, ◌⊎◌, inl, inr, arith, append_assoc, append-nil}
+use Rattle.std.specs.Prelude.{All, nat_eq}
+use Rattle.std.specs.List.{flat_map, enumerate_from}
+use Rattle.std.proofs.lemmas.List.{length-append}
+use Rattle.std.proofs.lemmas.List.Elements.{All-head, All-tail}
+use Rattle.std.proofs.lemmas.Bool.Decides.{nat_tests}
+use Rattle.exact_values.specs.Rational.{ℚ, ◌<ℚ◌}
+use Rattle.exact_values.proofs.Order.{le_refl}
+use Rattle.frac128.specs.Operations.{TermsFit}
+use Rattle.lp_definitions.specs.LinearProgram.{LinearProgram, Vector, IsLinearProgram}
+use Rattle.lp_definitions.specs.Solutions.{IsBest}
+use Rattle.lp_definitions.specs.declared.Status.{Status}
+use Rattle.check_definitions.specs.declared.Verdict.{Verdict}
+use Rattle.check_definitions.specs.declared.Verdict.TheVariants.{Checked, Failed, Unchecked}
+use Rattle.method_definitions.specs.Path.{last_of}
+use Rattle.method_definitions.specs.Chain.{Part, ChainEnd as PastBreak, AtMax, UnboundedPast as PastUnbounded, InfeasiblePast as PastInfeasible, IsPart, IsChain, at_max, past_break, goes_on, Chain}
+use Rattle.problem_definitions.specs.Problem.{Problem}
+use Rattle.listing_definitions.specs.declared.Solver.{Solver}
+use Rattle.listing_definitions.specs.Numbers.{rational_text}
+use Rattle.listing_definitions.specs.Report.{Interval, ChainEnd, EndsAt, UnboundedPast, InfeasiblePast}
+use Rattle.listing_definitions.specs.Text.{solver_text, interval_text, chain_end_text}
+use Rattle.question_definitions.specs.Answers.{Basis, Sheet, Changing, Row, Set, changing_name, sweeper, Sweep, OfSweep, SweepEnd, Chained}
+use Rattle.answer_definitions.specs.Sweeps.{row_of, shifts_of, family_of, IsFace, sheet_at, interval_of, end_of, IsChained}
+use Rattle.run_laws.specs.Sweeps.{ChangesFreely}
+use Rattle.path_laws.specs.Laws.{IsNonsingularBasis}
+use Rattle.run_definitions.specs.State.{Present, present_basis, State}
+use Rattle.run_definitions.specs.Moves.{Outcome}
+use Rattle.run_definitions.specs.Verbs.{after_sweep}
+use Rattle.run_definitions.specs.Run.{counted}
+use Rattle.sweep_laws.specs.Laws.{HasTrueRuns}
+use Rattle.sweep_laws.specs.Truth.{IsTruePart, AreLongPast, last_end, IsTrueEnd, IsTrueRun}
+use Rattle.sweep_laws.proofs.TrueRuns.{objective_runs, rhs_runs}
+use Rattle.control_definitions.specs.Cells.{steps_allowed}
+use Rattle.walk_definitions.specs.Words.{Parsed, left_after, max_count}
+use Rattle.walk_definitions.specs.Tables.{begins_table_line}
+use Rattle.walk_definitions.specs.Tests.{interval_test, close_test}
+use Rattle.walk_definitions.specs.Reading.{Judged, Right, Fails, Refuses, by_verdict, tested, judged_map, interval_in, close_in, Run, onward, part_in, run_in, sweep_head, sweep_in}
+use Rattle.walk_definitions.specs.Walker.{Walker, answered}
+use Rattle.walk_definitions.proofs.Texts.{stands}
+use Rattle.own_listing_laws.specs.Fitting.{IntervalsFit, EndFits, LinesFit}
+use Rattle.own_listing_laws.specs.Printed.{IsEndOf, of_end, of_direction, of_ray}
+use Rattle.own_listing_laws.proofs.Sections.{interval_read, close_read}
+use Rattle.own_listing_laws.proofs.Tests.{Passes}
+use Rattle.own_listing_laws.proofs.Pace.{rebased, Lands}
+use Rattle.own_listing_laws.proofs.Openings.{SweepLands}
+use Rattle.own_listing_laws.proofs.Parts.{part_passes, IsKind, face_kind, close_passes}
+
+pub data IsFine {X : Type 0} (x : X) (rest : List ℕ) : Judged X → Type 0 where
+  fine_right : IsFine x rest (Right x rest)
+  fine_refused : IsFine x rest Refuses
+
+fine_map : {X Y : Type 0} (f : X → Y) (x : X) (rest : List ℕ) (j : Judged X) → IsFine x rest j → IsFine (f x) rest (judged_map f j)
+fine_map f x rest _ fine_right = fine_right
+fine_map f x rest _ fine_refused = fine_refused
+
+fine_tested : {X : Type 0} (test : X → Verdict) (x : X) (rest : List ℕ) → Passes (test x) → IsFine x rest (tested test (Some (x, rest)))
+fine_tested test x rest passes = by (test x) passes
+  where
+    by : (v : Verdict) → Passes v → IsFine x rest (by_verdict v x rest)
+    by Checked passes = fine_right
+    by (Failed part number) passes = absurd (passes.never part number refl)
+    by (Unchecked refused) passes = fine_refused
+
+-- ---- readers of the linear program at a value are those of the linear program
+
+same_interval_in : (sheet : Sheet) (changing : Changing) (theta : ℚ) (number : ℕ) (from : ℚ) (rest : List ℕ) → interval_in sheet number from rest ≡ interval_in (sheet_at sheet changing theta) number from rest
+same_interval_in sheet (Row name) theta number from rest = refl
+same_interval_in sheet (Set name) theta number from rest = refl
+
+same_close_in : (sheet : Sheet) (changing : Changing) (theta : ℚ) (rest : List ℕ) → close_in sheet (sweeper changing) rest ≡ close_in (sheet_at sheet changing theta) (sweeper changing) rest
+same_close_in sheet (Row name) theta rest = refl
+same_close_in sheet (Set name) theta rest = refl
+
+is_end_of : (sheet : Sheet) (changing : Changing) (max : ℚ) (past : PastBreak) → IsKind changing past → IsEndOf sheet (sweeper changing) (end_of sheet max past)
+is_end_of sheet changing max AtMax kind = of_end max
+is_end_of sheet (Row name) max (PastUnbounded past z d) kind = of_direction past z d
+is_end_of sheet (Set name) max (PastInfeasible past w) kind = of_ray past w
+is_end_of sheet (Row name) max (PastInfeasible past w) kind = absurd kind
+is_end_of sheet (Set name) max (PastUnbounded past z d) kind = absurd kind
+
+-- no interval stands where the run closes
+no_interval : (changing : Changing) (end : ChainEnd) (more : List ℕ) → left_after (codes "INTERVAL ") (chain_end_text (sweeper changing) end ++ more) ≡ None
+no_interval (Row name) (EndsAt value) more = refl
+no_interval (Row name) (UnboundedPast value lines) more = refl
+no_interval (Row name) (InfeasiblePast value lines) more = refl
+no_interval (Set name) (EndsAt value) more = refl
+no_interval (Set name) (UnboundedPast value lines) more = refl
+no_interval (Set name) (InfeasiblePast value lines) more = refl
+
+some_close : (changing : Changing) (end : ChainEnd) (more : List ℕ) → 1 ≤ length (chain_end_text (sweeper changing) end ++ more)
+some_close (Row name) (EndsAt value) more = omega arith
+some_close (Row name) (UnboundedPast value lines) more = omega arith
+some_close (Row name) (InfeasiblePast value lines) more = omega arith
+some_close (Set name) (EndsAt value) more = omega arith
+some_close (Set name) (UnboundedPast value lines) more = omega arith
+some_close (Set name) (InfeasiblePast value lines) more = omega arith
+
+later_number : (number : ℕ) → 0 < number → nat_eq (number + 1) 1 ≡ false
+later_number number some = grind (arith, nat_tests, some)
+
+module _ (problem : Problem ℕ) (lp : LinearProgram) (sweep : Sweep) (lawful : IsLinearProgram lp) (free : ChangesFreely (record { problem = problem; lp = lp }) sweep.changing) (more : List ℕ) (plain : begins_table_line more ≡ false) where
+  abbrev sheet : Sheet
+  sheet = record { problem = problem; lp = lp }
+
+  abbrev first : Sheet
+  first = sheet_at sheet sweep.changing sweep.from
+
+  abbrev family : ℚ → LinearProgram
+  family = family_of sheet sweep.changing
+
+  abbrev solver : Solver
+  solver = sweeper sweep.changing
+
+  -- the text of the intervals from a number on, and of the close
+  abbrev pub body : ℕ → List Part → ChainEnd → List ℕ
+  body number parts end = flat_map interval_text (enumerate_from number (map (interval_of first) parts)) ++ (chain_end_text solver end ++ more)
+
+  -- ---- the close
+
+  close_fine : (room : List ℕ) (number : ℕ) (last : ℚ) (v : Vector) (past : PastBreak) → 1 ≤ length room → nat_eq number 1 ≡ false → IsBest (family last) v → IsKind sweep.changing past →
+      IsTrueEnd family sweep.to last past → EndFits (end_of first sweep.to past) → IsFine ([], end_of first sweep.to past) more (run_in sheet sweep room number last (chain_end_text solver (end_of first sweep.to past) ++ more))
+  close_fine [] number last v past some later best kind is fit = absurd (omega (arith, some))
+  close_fine (byte ∷ room) number last v past some later best kind is fit =
+      subst (λ (o : Option (List ℕ)). IsFine ([], end) more (part_in sheet sweep (run_in sheet sweep room (number + 1)) number last text o)) (sym (no_interval sweep.changing end more))
+      (subst (λ b. IsFine ([], end) more (if b then Fails else judged_map {Y = Run} (λ e. ([], e)) (tested (close_test sheet sweep.changing sweep.to last) (close_in sheet solver text)))) (sym later)
+      (fine_map {Y = Run} (λ e. ([], e)) end more (tested (close_test sheet sweep.changing sweep.to last) (close_in sheet solver text))
+      (subst (λ (parsed : Parsed ChainEnd). IsFine end more (tested (close_test sheet sweep.changing sweep.to last) parsed)) (sym read)
+      (fine_tested (close_test sheet sweep.changing sweep.to last) end more (close_passes problem lp sweep.changing lawful free sweep.from sweep.to last v best past kind is)))))
+    where
+      end : ChainEnd
+      end = end_of first sweep.to past
+
+      text : List ℕ
+      text = chain_end_text solver (end_of first sweep.to past) ++ more
+
+      read : close_in sheet solver (chain_end_text solver (end_of first sweep.to past) ++ more) ≡ Some (end_of first sweep.to past, more)
+      read =
+          same_close_in sheet sweep.changing sweep.from (chain_end_text solver (end_of first sweep.to past) ++ more)
+          ∙ close_read first solver (end_of first sweep.to past) more (is_end_of first sweep.changing sweep.to past kind) fit plain
+
+  -- ---- an interval, and what follows it
+
+  part_fine : (byte : ℕ) (room : List ℕ) (number : ℕ) (last : ℚ) (part : Part) (rest : List ℕ) (run : Run) → part.from ≡ last → Passes (interval_test sheet sweep.changing (nat_eq number 1) sweep.to (interval_of first part)) →
+      TermsFit part.to → LinesFit (interval_of first part).lines → IsFine run more (run_in sheet sweep room (number + 1) part.to rest) →
+      IsFine (interval_of first part ∷ run.0, run.1) more (run_in sheet sweep (byte ∷ room) number last (interval_text (number, interval_of first part) ++ rest))
+  part_fine byte room number last part rest run begins passes fit lines_fit later =
+      subst (λ (o : Option (List ℕ)). IsFine (interval ∷ run.0, run.1) more (part_in sheet sweep go number last text o)) (sym there)
+      (subst (λ (parsed : Parsed Interval). IsFine (interval ∷ run.0, run.1) more (onward sheet sweep go (tested test parsed))) (sym read) (by (test interval) passes))
+    where
+      interval : Interval
+      interval = interval_of first part
+
+      go : ℚ → List ℕ → Judged Run
+      go = run_in sheet sweep room (number + 1)
+
+      test : Interval → Verdict
+      test = interval_test sheet sweep.changing (nat_eq number 1) sweep.to
+
+      text : List ℕ
+      text = interval_text (number, interval_of first part) ++ rest
+
+      there : left_after (codes "INTERVAL ") (interval_text (number, interval_of first part) ++ rest) ≡ Some (drop 9 (interval_text (number, interval_of first part) ++ rest))
+      there = stands (codes "INTERVAL ") (drop 9 (interval_text (number, interval_of first part) ++ rest))
+
+      read : interval_in sheet number last (interval_text (number, interval_of first part) ++ rest) ≡ Some (interval_of first part, rest)
+      read =
+          same_interval_in sheet sweep.changing sweep.from number last (interval_text (number, interval_of first part) ++ rest)
+          ∙ ap (λ (x : ℚ). interval_in first number x (interval_text (number, interval_of first part) ++ rest)) (sym begins) ∙ interval_read first number part rest fit lines_fit
+
+      by : (v : Verdict) → Passes v → IsFine (interval_of first part ∷ run.0, run.1) more (onward sheet sweep (run_in sheet sweep room (number + 1)) (by_verdict v (interval_of first part) rest))
+      by Checked passes = fine_map {Y = Run} (λ (r : Run). (interval_of first part ∷ r.0, r.1)) run more (run_in sheet sweep room (number + 1) part.to rest) later
+      by (Failed one two) passes = absurd (passes.never one two refl)
+      by (Unchecked refused) passes = fine_refused
+
+  -- ---- the chain
+
+  -- the first interval may be a point, and no later one is
+  abbrev pub IsLongEnough : ℕ → List Part → Type 0
+  IsLongEnough number [] = Unit {0}
+  IsLongEnough number (part ∷ parts) = (nat_eq number 1 ≡ true) ⊎ (part.from <ℚ part.to)
+
+  tail_long : (number : ℕ) (part : Part) (parts : List Part) → AreLongPast (part ∷ parts) → IsLongEnough (number + 1) parts
+  tail_long number part [] long = tt
+  tail_long number part (next ∷ parts) long = inr (All-head (λ (later : Part). later.from <ℚ later.to) next parts long)
+
+  tail_past : (part : Part) (parts : List Part) → AreLongPast (part ∷ parts) → AreLongPast parts
+  tail_past part [] long = tt
+  tail_past part (next ∷ parts) long = All-tail (λ (later : Part). later.from <ℚ later.to) next parts long
+
+  body_more : (number : ℕ) (part : Part) (parts : List Part) (end : ChainEnd) → body number (part ∷ parts) end ≡ interval_text (number, interval_of first part) ++ body (number + 1) parts end
+  body_more number part parts end = append_assoc (interval_text (number, interval_of first part)) (flat_map interval_text (enumerate_from (number + 1) (map (interval_of first) parts))) (chain_end_text solver end ++ more)
+
+  abbrev run_of : List Part → PastBreak → Run
+  run_of parts past = (map (interval_of first) parts, end_of first sweep.to past)
+
+  abbrev Fine : List ℕ → ℕ → ℚ → List Part → PastBreak → Type 0
+  Fine room number last parts past = IsFine (run_of parts past) more (run_in sheet sweep room number last (body number parts (end_of first sweep.to past)))
+
+  -- an interval before a run that is fine
+  one_more : (room : List ℕ) (number : ℕ) (last : ℚ) (s : List Status) (part : Part) (parts : List Part) (past : PastBreak) → length parts + 2 ≤ length room → IsPart family last sweep.to s part → IsTruePart family sweep.to part →
+      (nat_eq number 1 ≡ true) ⊎ (part.from <ℚ part.to) → TermsFit part.to → LinesFit (interval_of first part).lines → ((left : List ℕ) → length parts + 1 ≤ length left → Fine left (number + 1) part.to parts past) →
+      Fine room number last (part ∷ parts) past
+  one_more [] number last s part parts past enough is truth long fit lines_fit later = absurd (omega (arith, enough))
+  one_more (byte ∷ room) number last s part parts past enough is truth long fit lines_fit later =
+      subst (λ (text : List ℕ). IsFine (run_of (part ∷ parts) past) more (run_in sheet sweep (byte ∷ room) number last text)) (sym (body_more number part parts (end_of first sweep.to past)))
+      (part_fine byte room number last part (body (number + 1) parts (end_of first sweep.to past)) (run_of parts past) is.begins
+      (part_passes sheet sweep.changing lawful free sweep.to part truth last s is sweep.from (nat_eq number 1) long) fit lines_fit (later room (omega (arith, enough))))
+
+  pub chain_fine : (room : List ℕ) (number : ℕ) (last : ℚ) (s : List Status) (parts : List Part) (past : PastBreak) (path : List (List Status)) → length parts + 1 ≤ length room → 0 < number →
+      IsChain family (IsFace sheet sweep.changing) sweep.to last s parts past path → All (IsTruePart family sweep.to) parts → IsLongEnough number parts → AreLongPast parts → IsTrueEnd family sweep.to (last_end last parts) past →
+      IntervalsFit (map (interval_of first) parts) → EndFits (end_of first sweep.to past) → Fine room number last parts past
+  chain_fine room number last s _ _ _ enough some (at_max {part = part} is is_max) truths long past_long end fit end_fit =
+      let truth = All-head (IsTruePart family sweep.to) part [] truths in
+      one_more room number last s part [] AtMax (omega (arith, enough)) is truth long fit.0.0 fit.0.1 (λ left room_left.
+      close_fine left (number + 1) part.to _ AtMax (omega (arith, room_left)) (later_number number some) (truth.solved part.to truth.forward (le_refl part.to)).best tt end end_fit)
+  chain_fine room number last s _ _ _ enough some (past_break {part = part} {end = past} is faces) truths long past_long end fit end_fit =
+      let truth = All-head (IsTruePart family sweep.to) part [] truths in
+      one_more room number last s part [] past (omega (arith, enough)) is truth long fit.0.0 fit.0.1 (λ left room_left.
+      close_fine left (number + 1) part.to _ past (omega (arith, room_left)) (later_number number some) (truth.solved part.to truth.forward (le_refl part.to)).best
+      (face_kind sheet sweep.changing part.to _ past faces.last) end end_fit)
+  chain_fine room number last s _ _ _ enough some (goes_on {part = part} {parts = parts} {end = past} {bases = bases} {later = later} is faces rest) truths long past_long end fit end_fit =
+      let truth = All-head (IsTruePart family sweep.to) part parts truths in
+      one_more room number last s part parts past (omega (arith, enough)) is truth long fit.0.0 fit.0.1 (λ left room_left.
+      chain_fine left (number + 1) part.to (last_of s bases) parts past later room_left (omega (arith, some)) rest (All-tail (IsTruePart family sweep.to) part parts truths)
+      (tail_long number part parts past_long) (tail_past part parts past_long) end fit.1 end_fit)
+
+  some_interval : (number : ℕ) (interval : Interval) → 1 ≤ length (interval_text (number, interval))
+  some_interval number interval = omega arith
+
+  -- each interval takes a byte of room at least
+  pub room_enough : (number : ℕ) (parts : List Part) (end : ChainEnd) → length parts + 1 ≤ length (body number parts end)
+  room_enough number [] end = let some = some_close sweep.changing end more in omega (arith, some)
+  room_enough number (part ∷ parts) end =
+      let later = room_enough (number + 1) parts end in
+      let some = some_interval number (interval_of first part) in
+      let both : length (body number (part ∷ parts) end) ≡ length (interval_text (number, interval_of first part)) + length (body (number + 1) parts end) =
+      ap length (body_more number part parts end) ∙ length-append (interval_text (number, interval_of first part)) (body (number + 1) parts end) in
+      omega (arith, later, some, both)
+
+-- ---- the whole run
+
+as_chain : (who from start change name end intervals close more : List ℕ) → (who ++ (from ++ (start ++ (change ++ (name ++ (end ++ (intervals ++ (close ++ [])))))))) ++ more ≡
+    (who ++ (from ++ (start ++ (change ++ (name ++ end))))) ++ (intervals ++ (close ++ more))
+as_chain who from start change name end intervals close more = simp (append_assoc, append-nil)
+
+-- what is printed of a close doesn't depend on the value
+same_end : (sheet : Sheet) (changing : Changing) (theta max : ℚ) (past : PastBreak) → end_of sheet max past ≡ end_of (sheet_at sheet changing theta) max past
+same_end sheet (Row name) theta max AtMax = refl
+same_end sheet (Row name) theta max (PastUnbounded past z d) = refl
+same_end sheet (Row name) theta max (PastInfeasible past w) = refl
+same_end sheet (Set name) theta max AtMax = refl
+same_end sheet (Set name) theta max (PastUnbounded past z d) = refl
+same_end sheet (Set name) theta max (PastInfeasible past w) = refl
+
+true_run : (sheet : Sheet) (changing : Changing) → IsLinearProgram sheet.lp → ChangesFreely sheet changing → HasTrueRuns sheet.lp (family_of sheet changing) (IsFace sheet changing)
+true_run sheet (Row name) lawful free = objective_runs sheet.lp (row_of sheet.problem name) lawful free.0 free.1
+true_run sheet (Set name) lawful free = rhs_runs sheet.lp (shifts_of sheet.problem name) lawful
+
+module _ (w : Walker) (s : State) (opening : Basis) (steps : List Basis) (limits : steps_allowed s.cells ≤ max_count) (card : ℕ) (sweep : Sweep) (present : Present) (lp : LinearProgram) (lawful : IsLinearProgram lp)
+    (free : ChangesFreely (record { problem = present.problem; lp = lp }) sweep.changing) (at : IsNonsingularBasis lp (present_basis present)) where
+  abbrev sheet_here : Sheet
+  sheet_here = record { problem = present.problem; lp = lp }
+
+  abbrev walked : State
+  walked = record s { setup = rebased opening steps s.setup }
+
+  abbrev set_up : Present
+  set_up = record present { opening = opening; steps = steps }
+
+  abbrev go : SweepEnd → Outcome
+  go = after_sweep card sweep set_up (counted walked)
+
+  abbrev own : SweepEnd → Outcome
+  own = after_sweep card sweep present (counted s)
+
+  module _ (bases : List Basis) (intervals : List Interval) (end : ChainEnd) (more : List ℕ) where
+    abbrev LandsSo : Judged SweepEnd → Type 0
+    LandsSo j = Lands (own (Chained bases intervals end)) more (answered w (OfSweep sweep) sheet_here go j)
+
+    fine_lands : (j : Judged SweepEnd) → IsFine (Chained [] intervals end) more j → LandsSo j
+    fine_lands _ fine_right = record { like = record { opening = opening; steps = steps ++ []; is = refl; limits = limits }; is_rest = refl; waits = tt }
+    fine_lands _ fine_refused = tt
+
+    abbrev body_here : List ℕ
+    body_here = flat_map interval_text (enumerate_from 1 intervals) ++ (chain_end_text (sweeper sweep.changing) end ++ more)
+
+    run_fine : IsChained sheet_here (present_basis present) sweep bases intervals end → begins_table_line more ≡ false → IntervalsFit intervals → EndFits end →
+        IsFine (intervals, end) more (run_in sheet_here sweep body_here 1 sweep.from body_here)
+    run_fine chained plain fits end_fits =
+        subst (λ (is : List Interval). IsFine (is, end) more (run_in sheet_here sweep (text_of is end) 1 sweep.from (text_of is end))) (sym chained.are_intervals)
+        (subst (λ (e : ChainEnd). IsFine (all, e) more (run_in sheet_here sweep (text_of all e) 1 sweep.from (text_of all e))) (sym end_is)
+        (chain_fine present.problem lp sweep lawful free more plain (text_of all close) 1 sweep.from (last_of (present_basis present) chained.is_run.opening) chained.parts chained.past chained.is_run.faces
+        (room_enough present.problem lp sweep lawful free more plain 1 chained.parts close) (omega arith) chained.is_run.chain truth.intervals (first_long chained.parts) truth.long truth.closes
+        (subst IntervalsFit chained.are_intervals fits) (subst EndFits end_is end_fits)))
+      where
+        text_of : List Interval → ChainEnd → List ℕ
+        text_of is e = flat_map interval_text (enumerate_from 1 is) ++ (chain_end_text (sweeper sweep.changing) e ++ more)
+
+        first : Sheet
+        first = sheet_at (record { problem = present.problem; lp = lp }) sweep.changing sweep.from
+
+        all : List Interval
+        all = map (interval_of first) chained.parts
+
+        close : ChainEnd
+        close = end_of first sweep.to chained.past
+
+        end_is : end ≡ end_of (sheet_at (record { problem = present.problem; lp = lp }) sweep.changing sweep.from) sweep.to chained.past
+        end_is = chained.is_end ∙ same_end (record { problem = present.problem; lp = lp }) sweep.changing sweep.from sweep.to chained.past
+
+        truth : IsTrueRun (family_of (record { problem = present.problem; lp = lp }) sweep.changing) sweep.from sweep.to chained.parts chained.past
+        truth = true_run (record { problem = present.problem; lp = lp }) sweep.changing lawful free sweep.from sweep.to (present_basis present) (Chain chained.parts chained.past) bases at chained.is_run
+
+        first_long : (parts : List Part) → IsLongEnough present.problem lp sweep lawful free more plain 1 parts
+        first_long [] = tt
+        first_long (part ∷ parts) = inl refl
+
+    pub chain_lands : IsChained sheet_here (present_basis present) sweep bases intervals end → SweepLands w s opening steps limits card sweep present lp (Chained bases intervals end) more
+    chain_lands chained given =
+        subst (λ (o : Option (List ℕ)). LandsSo (sweep_in sheet_here sweep w.rest o)) (sym head)
+        (fine_lands (judged_map f (run_in sheet_here sweep body_here 1 sweep.from body_here)) (fine_map f (intervals, end) more (run_in sheet_here sweep body_here 1 sweep.from body_here) (run_fine chained given.plain given.fits.0 given.fits.1)))
+      where
+        f : Run → SweepEnd
+        f run = Chained [] run.0 run.1
+
+        head : left_after (sweep_head sweep) w.rest ≡ Some body_here
+        head =
+            ap (left_after (sweep_head sweep)) (given.text ∙ as_chain (solver_text (sweeper sweep.changing)) (codes " FROM ") (rational_text sweep.from) (codes " CHANGE ") (changing_name sweep.changing) (codes "\n")
+            (flat_map interval_text (enumerate_from 1 intervals)) (chain_end_text (sweeper sweep.changing) end) more) ∙ stands (sweep_head sweep) body_here

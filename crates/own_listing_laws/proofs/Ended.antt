@@ -1,0 +1,81 @@
+-- The lists in which a path's end tells its vectors have a value for each variable.
+use Rattle.std.proofs.Common.{◌≡◌, ℕ, List, length, Option, Some, None, refl, subst, arith}
+use Rattle.exact_values.specs.Rational.{ℚ}
+use Rattle.lp_definitions.specs.LinearProgram.{LinearProgram, Vector, size, IsVariable}
+use Rattle.lp_definitions.specs.declared.Status.{Status}
+use Rattle.lp_definitions.specs.Basis.{basics_of, Tableau, price_at}
+use Rattle.method_definitions.specs.Moves.{is_crossed, goes_up, stopper, is_below}
+use Rattle.method_definitions.specs.Path.{PathEnding, EndsOptimal, EndsCrossed, EndsInfeasible, EndsUnbounded, Turn, Moves, Ends, listed, speeds, crossed, outside, worth_rate, mover, bring_back, run_until, better, turn_for, turn}
+use Rattle.method_definitions.specs.DualPath.{dual_for, dual_turn}
+use Rattle.method_definitions.specs.DualRatio.{cheapest}
+use Rattle.path_laws.proofs.Numbered.{find_some}
+use Rattle.own_listing_laws.proofs.Columns.{sized}
+
+module _ (p : LinearProgram) (s : List Status) (t : Tableau) where
+  -- an optimal end has the point and the prices of the basis
+  abbrev pub IsOf : PathEnding → Type 0
+  IsOf (EndsOptimal z y) = (z ≡ listed p.matrix t.point) × (y ≡ listed p.matrix (price_at p (basics_of s) t.rate))
+  IsOf (EndsCrossed k) = IsVariable p.matrix k
+  IsOf (EndsInfeasible w) = length w ≡ size p.matrix
+  IsOf (EndsUnbounded z d) = (length z ≡ size p.matrix) × (length d ≡ size p.matrix)
+
+  abbrev TellsOf : Turn → Type 0
+  TellsOf (Moves m) = Unit {0}
+  TellsOf (Ends ending) = IsOf ending
+
+  back_tells : (r : ℕ) (o : Option ℕ) → TellsOf (bring_back p s t r o)
+  back_tells r (Some q) = tt
+  back_tells r None = sized p.matrix _
+
+  until_tells : (q : ℕ) (v : Vector) (o : Option ℕ) → TellsOf (run_until p s t q v o)
+  until_tells q v (Some k) = tt
+  until_tells q v None = (sized p.matrix t.point, sized p.matrix v)
+
+  better_tells : (o : Option ℕ) → TellsOf (better p s t o)
+  better_tells (Some q) = until_tells q (speeds t.rate (goes_up (worth_rate p s t) q) q) (stopper p t.point (speeds t.rate (goes_up (worth_rate p s t) q) q))
+  better_tells None = (refl, refl)
+
+  crossed_tells : (k : ℕ) → crossed p s t ≡ Some k → IsVariable p.matrix k
+  crossed_tells k e = let found = find_some (is_crossed p) (size p.matrix) 1 k e in (found.low, omega (arith, found.high))
+
+  turn_tells : (c o : Option ℕ) → crossed p s t ≡ c → TellsOf (turn_for p s t c o)
+  turn_tells (Some k) o e = crossed_tells k e
+  turn_tells None (Some r) e = back_tells r (mover p s t (Some r))
+  turn_tells None None e = better_tells (mover p s t None)
+
+  dual_tells : (c o : Option ℕ) → crossed p s t ≡ c → TellsOf (dual_for p s t c o)
+  dual_tells (Some k) o e = crossed_tells k e
+  dual_tells None (Some r) e = back_tells r (cheapest p s t r (is_below p t.point r))
+  dual_tells None None e = better_tells None
+
+  turn_is : TellsOf (turn p s t)
+  unfolding turn
+  turn_is = turn_tells (crossed p s t) (outside p s t) refl
+
+  dual_turn_is : TellsOf (dual_turn p s t)
+  unfolding dual_turn
+  dual_turn_is = dual_tells (crossed p s t) (outside p s t) refl
+
+  pub end_is : (ending : PathEnding) → turn p s t ≡ Ends ending → IsOf ending
+  end_is ending e = subst TellsOf e turn_is
+
+  pub dual_end_is : (ending : PathEnding) → dual_turn p s t ≡ Ends ending → IsOf ending
+  dual_end_is ending e = subst TellsOf e dual_turn_is
+
+  -- a dual path never finds that there is no best point
+  abbrev NeverUnbounded : Turn → Type 0
+  NeverUnbounded (Ends (EndsUnbounded z d)) = ⊥
+  NeverUnbounded _ = Unit {0}
+
+  back_bounded : (r : ℕ) (o : Option ℕ) → NeverUnbounded (bring_back p s t r o)
+  back_bounded r (Some q) = tt
+  back_bounded r None = tt
+
+  dual_bounded : (c o : Option ℕ) → NeverUnbounded (dual_for p s t c o)
+  dual_bounded (Some k) o = tt
+  dual_bounded None (Some r) = back_bounded r (cheapest p s t r (is_below p t.point r))
+  dual_bounded None None = tt
+
+  pub dual_never_unbounded : (z d : List ℚ) → dual_turn p s t ≡ Ends (EndsUnbounded z d) → ⊥
+  unfolding dual_turn
+  dual_never_unbounded z d e = subst NeverUnbounded e (dual_bounded (crossed p s t) (outside p s t))

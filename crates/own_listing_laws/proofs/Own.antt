@@ -1,0 +1,272 @@
+-- The listing of a job's run is never found wrong.
+use Rattle.std.proofs.Common.{◌≡◌, ℕ, ◌-◌, ◌<◌, true, false, List, [], ◌∷◌, ◌++◌, length, Some, None, Result, Ok, Err, if◌then◌else◌, refl, sym, ap, subst, ◌∙◌, arith, append_assoc, append-nil, lt-ltb, le-ltb, ◌≤◌}
+use Rattle.std.specs.Prelude.{slice_get, nat_lt}
+use Rattle.std.proofs.lemmas.Grind.{flat_map-append}
+use Rattle.std.proofs.lemmas.Option.{slice_get_within, same_Some}
+use Rattle.card_definitions.specs.declared.CardFault.{CardFault}
+use Rattle.card_definitions.specs.declared.CardFault.TheVariants.{TooLong, NotPrintable, CardTooLong}
+use Rattle.card_definitions.specs.Cards.{Card}
+use Rattle.control_definitions.specs.declared.ControlFault.{ControlFault}
+use Rattle.control_definitions.specs.Program.{Statement, Program}
+use Rattle.listing_definitions.specs.declared.Solver.TheVariants.{Primal, Dual, Paraobj, Pararhs}
+use Rattle.listing_definitions.specs.Report.{Report, Titled, Converted, Revised, SetUp, BcdOut, BasisOut, Inserted, Solved, Solution, Ranges, Parametric}
+use Rattle.listing_definitions.specs.Ending.{Ending, Ended, WordsRefused, ControlStop, VerbStop, SingularStop, PriceStop, DeckStop, CardStop, LimitStop, StatementLimit, OverflowStop, ReadFault, PrintFault, PunchFault, Memory}
+use Rattle.listing_definitions.specs.Text.{report_text}
+use Rattle.listing_definitions.specs.Listing.{ending_text, reports_text, listing}
+use Rattle.answer_definitions.specs.Real.{linear_programming}
+use Rattle.run_definitions.specs.State.{State, start}
+use Rattle.run_definitions.specs.Moves.{Gain, Nothing, Prints, Punches, printed_by, gain_text, Outcome, Goes, Ends}
+use Rattle.run_definitions.specs.Verbs.{verb_move}
+use Rattle.run_definitions.specs.Run.{max_executed, counted, Step, IsOver, at_end, at_limit, Reaches, begun, stepped, IsRun, is_over, is_ended}
+use Rattle.run_definitions.specs.Answer.{job_decks, IsProgramOf, card_fault, control_fault, run}
+use Rattle.run_laws.proofs.Moves.{HasProblem, Knows}
+use Rattle.run_laws.proofs.Runs.{has_problem, known, knows_linear_programming}
+use Rattle.walk_definitions.specs.Tables.{begins_table_line}
+use Rattle.walk_definitions.specs.Walker.{Walker, Found, Turn, Walks, Finds, closes, walk_move, walk_statement, turn}
+use Rattle.walk_definitions.specs.Found.{first_walker, Reaches as Walked, begun as not_begun, walked, of_cards, of_control, of_walk}
+use Rattle.own_listing_laws.specs.Fitting.{ReportsFit, StopFits}
+use Rattle.own_listing_laws.specs.Laws.{IsNotWrong, NeverWrong}
+use Rattle.own_listing_laws.proofs.Pace.{IsLike, WaitsAt, KeepsPace, Lands, IsFoundRight, GainFits, IsDue, closes_right}
+use Rattle.walk_definitions.specs.Words.{max_count}
+use Rattle.own_listing_laws.proofs.Counted.{AreSmall, MovesSmall, program_small, statement_at}
+use Rattle.own_listing_laws.proofs.Paced.{default_limits, verb_matched}
+
+-- ---- no table line stands where a report or an end does
+
+ending_plain : (ending : Ending) → begins_table_line (ending_text ending) ≡ false
+ending_plain (Ended code) = refl
+ending_plain WordsRefused = refl
+ending_plain (ControlStop fault) = refl
+ending_plain (VerbStop fault) = refl
+ending_plain (SingularStop basis) = refl
+ending_plain (PriceStop price) = refl
+ending_plain (DeckStop fault) = refl
+ending_plain (CardStop TooLong) = refl
+ending_plain (CardStop (NotPrintable card)) = refl
+ending_plain (CardStop (CardTooLong card)) = refl
+ending_plain (LimitStop reached) = refl
+ending_plain StatementLimit = refl
+ending_plain (OverflowStop overflow) = refl
+ending_plain ReadFault = refl
+ending_plain PrintFault = refl
+ending_plain PunchFault = refl
+ending_plain Memory = refl
+
+report_plain : (report : Report) (more : List ℕ) → begins_table_line (report_text report ++ more) ≡ false
+report_plain (Titled text) more = refl
+report_plain (Converted filed) more = refl
+report_plain (Revised filed) more = refl
+report_plain (SetUp name sense) more = refl
+report_plain (BcdOut name cards) more = refl
+report_plain (BasisOut name cards) more = refl
+report_plain (Inserted name basic) more = refl
+report_plain (Solved Primal verdict check) more = refl
+report_plain (Solved Dual verdict check) more = refl
+report_plain (Solved Paraobj verdict check) more = refl
+report_plain (Solved Pararhs verdict check) more = refl
+report_plain (Solution mark lines) more = refl
+report_plain (Ranges lines) more = refl
+report_plain (Parametric Primal chain) more = refl
+report_plain (Parametric Dual chain) more = refl
+report_plain (Parametric Paraobj chain) more = refl
+report_plain (Parametric Pararhs chain) more = refl
+
+listing_plain : (reports : List Report) (ending : Ending) → begins_table_line (listing reports ending) ≡ false
+listing_plain [] ending = ending_plain ending
+listing_plain (report ∷ reports) ending =
+    ap begins_table_line (append_assoc (report_text report) (reports_text reports) (ending_text ending)) ∙ report_plain report (listing reports ending)
+
+-- ---- a run from here on
+
+record IsKnown (s : State) : Type 0 where
+  pub lawful : HasProblem s.setup
+  pub knows : Knows s
+
+module _ (program : Program) where
+  -- what a run still reports from a state on, and how it ends
+  data RunsOn : State → List Report → Ending → Type 0 where
+    over : (s : State) (ending : Ending) → IsKnown s → IsOver linear_programming program s ending → RunsOn s [] ending
+    ends : (s : State) (gain : Gain) (ending : Ending) → IsKnown s → Step linear_programming program s (Ends gain ending) → RunsOn s (printed_by gain) ending
+    goes : (s : State) (gain : Gain) (after : State) (reports : List Report) (ending : Ending) → IsKnown s → Step linear_programming program s (Goes gain after) → RunsOn after reports ending →
+        RunsOn s (printed_by gain ++ reports) ending
+
+  module _ (bytes : List ℕ) (is_program : IsProgramOf bytes program) where
+    known_at : (reports : List Report) (cards : List (List ℕ)) (s : State) → Reaches linear_programming program (job_decks program bytes) reports cards s → IsKnown s
+    known_at reports cards s reaches = record {
+      lawful = has_problem linear_programming knows_linear_programming bytes program is_program reports cards s reaches;
+      knows = known linear_programming knows_linear_programming bytes program is_program reports cards s reaches;
+    }
+
+    from_start : (reports : List Report) (cards : List (List ℕ)) (s : State) (more : List Report) (ending : Ending) → Reaches linear_programming program (job_decks program bytes) reports cards s →
+        RunsOn s more ending → RunsOn (start (job_decks program bytes)) (reports ++ more) ending
+    from_start _ _ _ more ending begun rest = rest
+    from_start _ _ s more ending (stepped {reports} {cards} {state} gain after before step) rest =
+        subst (λ (rs : List Report). RunsOn (start (job_decks program bytes)) rs ending) (sym (append_assoc reports (printed_by gain) more))
+        (from_start reports cards state (printed_by gain ++ more) ending before (goes state gain after more ending (known_at reports cards state before) step rest))
+
+    whole_run : (reports : List Report) (cards : List (List ℕ)) (ending : Ending) → IsRun linear_programming program (job_decks program bytes) reports cards ending → RunsOn (start (job_decks program bytes)) reports ending
+    whole_run _ _ ending (is_over {reports} {cards} {state} before is) =
+        subst (λ (rs : List Report). RunsOn (start (job_decks program bytes)) rs ending) (append-nil reports) (from_start reports cards state [] ending before (over state ending (known_at reports cards state before) is))
+    whole_run _ _ ending (is_ended {reports} {cards} {state} gain before step) =
+        from_start reports cards state (printed_by gain) ending before (ends state gain ending (known_at reports cards state before) step)
+
+-- ---- turns
+
+text_of_gain : (gain : Gain) → reports_text (printed_by gain) ≡ gain_text gain
+text_of_gain Nothing = refl
+text_of_gain (Prints report) = append-nil (report_text report)
+text_of_gain (Punches report cards) = append-nil (report_text report)
+
+gain_fits : (gain : Gain) (reports : List Report) → ReportsFit (printed_by gain ++ reports) → GainFits gain × ReportsFit reports
+gain_fits Nothing reports fit = (tt, fit)
+gain_fits (Prints report) reports fit = (fit.0, fit.1)
+gain_fits (Punches report cards) reports fit = (fit.0, fit.1)
+
+module _ (program : Program) (small : AreSmall program) where
+  small_at : (statement : Statement ℕ) (place : ℕ) → slice_get program.statements place ≡ Some statement → (statement.card ≤ max_count) × MovesSmall statement.verb
+  small_at statement place is = statement_at program place statement small is
+
+  -- the walk stands where the run does
+  record Stands (w : Walker) : Type 0 where
+    pub state : State
+    pub reports : List Report
+    pub ending : Ending
+    pub runs : RunsOn program state reports ending
+    pub pace : KeepsPace w state (listing reports ending)
+    pub fits : ReportsFit reports
+    pub stop_fits : StopFits ending
+
+  abbrev StandsAfter : Turn → Type 0
+  StandsAfter (Walks v) = Stands v
+  StandsAfter (Finds found) = IsNotWrong found
+
+  after_right : (turn : Turn) → IsFoundRight turn → StandsAfter turn
+  after_right (Walks v) right = absurd right
+  after_right (Finds found) right = right
+
+  module _ (w : Walker) where
+    turn_at_end : nat_lt (length program.statements) w.state.position ≡ true → turn program w ≡ closes w (Ended 0)
+    unfolding turn
+    turn_at_end e = ap (λ b. if b then closes w (Ended 0) else if nat_lt w.state.executed max_executed then walk_statement w (slice_get program.statements (w.state.position - 1)) else closes w StatementLimit) e
+
+    turn_before_end : nat_lt (length program.statements) w.state.position ≡ false →
+        turn program w ≡ (if nat_lt w.state.executed max_executed then walk_statement w (slice_get program.statements (w.state.position - 1)) else closes w StatementLimit)
+    unfolding turn
+    turn_before_end e = ap (λ b. if b then closes w (Ended 0) else if nat_lt w.state.executed max_executed then walk_statement w (slice_get program.statements (w.state.position - 1)) else closes w StatementLimit) e
+
+    turn_at_limit : nat_lt (length program.statements) w.state.position ≡ false → nat_lt w.state.executed max_executed ≡ false → turn program w ≡ closes w StatementLimit
+    turn_at_limit e f = turn_before_end e ∙ ap (λ b. if b then walk_statement w (slice_get program.statements (w.state.position - 1)) else closes w StatementLimit) f
+
+    turn_at_statement : (statement : Statement ℕ) → nat_lt (length program.statements) w.state.position ≡ false → nat_lt w.state.executed max_executed ≡ true →
+        slice_get program.statements (w.state.position - 1) ≡ Some statement → turn program w ≡ walk_move w (verb_move statement.verb statement.card (counted w.state))
+    turn_at_statement statement e f at =
+        turn_before_end e ∙ ap (λ b. if b then walk_statement w (slice_get program.statements (w.state.position - 1)) else closes w StatementLimit) f ∙ ap (walk_statement w) at
+
+    -- a turn at a state that is the run's but for the bases
+    module _ (s : State) (like : IsLike w.state s) (waits : WaitsAt w.pending s) (is_known : IsKnown s) where
+      position_is : w.state.position ≡ s.position
+      position_is = ap (λ (st : State). st.position) like.is
+
+      executed_is : w.state.executed ≡ s.executed
+      executed_is = ap (λ (st : State). st.executed) like.is
+
+      over_after : (ending : Ending) → IsOver linear_programming program s ending → w.rest ≡ ending_text ending → StandsAfter (turn program w)
+      over_after _ (at_end past) rest =
+          subst StandsAfter (sym (turn_at_end (ap (λ n. nat_lt (length program.statements) n) position_is ∙ lt-ltb (length program.statements) s.position past)))
+          (after_right (closes w (Ended 0)) (closes_right w (Ended 0) rest))
+      over_after _ (at_limit within limit) rest =
+          subst StandsAfter (sym (turn_at_limit (ap (λ n. nat_lt (length program.statements) n) position_is ∙ le-ltb (length program.statements) s.position within)
+          (ap (λ n. nat_lt n max_executed) executed_is ∙ le-ltb s.executed max_executed limit)))
+          (after_right (closes w StatementLimit) (closes_right w StatementLimit rest))
+
+      step_turn : (outcome : Outcome) (step : Step linear_programming program s outcome) → turn program w ≡ walk_move w (verb_move step.statement.verb step.statement.card (counted w.state))
+      step_turn outcome step =
+          let within : s.position - 1 < length program.statements = slice_get_within program.statements (s.position - 1) step.statement step.is_at_position in
+          turn_at_statement step.statement
+          (ap (λ n. nat_lt (length program.statements) n) position_is ∙ le-ltb (length program.statements) s.position (omega (arith, within)))
+          (ap (λ n. nat_lt n max_executed) executed_is ∙ lt-ltb s.executed max_executed step.is_within_limit)
+          (ap (λ n. slice_get program.statements (n - 1)) position_is ∙ step.is_at_position)
+
+      step_lands : (outcome : Outcome) (more : List ℕ) → Step linear_programming program s outcome → IsDue w outcome more → Lands outcome more (turn program w)
+      step_lands outcome more step due =
+          subst (Lands outcome more) (sym (step_turn outcome step))
+          (subst (λ (st : State). Lands outcome more (walk_move w (verb_move step.statement.verb step.statement.card (counted st)))) (sym like.is)
+          ((verb_matched w s like.opening like.steps like.limits waits is_known.lawful is_known.knows step.statement.verb step.statement.card (small_at step.statement (s.position - 1) step.is_at_position).0 (small_at step.statement (s.position - 1) step.is_at_position).1).by outcome more step.gives due))
+
+  ended_after : (w : Walker) (gain : Gain) (ending : Ending) (more : List ℕ) (t : Turn) → Lands (Ends gain ending) more t → StandsAfter t
+  ended_after w gain ending more (Walks v) lands = absurd lands
+  ended_after w gain ending more (Finds found) lands = lands
+
+  gone_after : (gain : Gain) (after : State) (reports : List Report) (ending : Ending) → RunsOn program after reports ending → ReportsFit reports → StopFits ending → (t : Turn) → Lands (Goes gain after) (listing reports ending) t → StandsAfter t
+  gone_after gain after reports ending runs fits stop_fits (Walks v) lands =
+      record { state = after; reports = reports; ending = ending; runs = runs; pace = lands; fits = fits; stop_fits = stop_fits }
+  gone_after gain after reports ending runs fits stop_fits (Finds found) lands = lands
+
+  turn_stands : (w : Walker) (s : State) (reports : List Report) (ending : Ending) → RunsOn program s reports ending → KeepsPace w s (listing reports ending) → ReportsFit reports → StopFits ending → StandsAfter (turn program w)
+  turn_stands w _ _ _ (over s ending is_known is) pace fits stop_fits = over_after w s pace.like pace.waits is_known ending is pace.is_rest
+  turn_stands w _ _ _ (ends s gain ending is_known step) pace fits stop_fits =
+      let both = gain_fits gain [] (subst ReportsFit (sym (append-nil (printed_by gain))) fits) in
+      ended_after w gain ending (ending_text ending) (turn program w) (step_lands w s pace.like pace.waits is_known (Ends gain ending) (ending_text ending) step (record {
+        text = pace.is_rest ∙ ap (λ (text : List ℕ). text ++ ending_text ending) (text_of_gain gain);
+        plain = ending_plain ending;
+        fits = both.0;
+        ends = (refl, stop_fits);
+      }))
+  turn_stands w _ _ _ (goes s gain after reports ending is_known step rest) pace fits stop_fits =
+      let both = gain_fits gain reports fits in
+      gone_after gain after reports ending rest both.1 stop_fits (turn program w) (step_lands w s pace.like pace.waits is_known (Goes gain after) (listing reports ending) step (record {
+        text =
+            pace.is_rest ∙ ap (λ (text : List ℕ). text ++ ending_text ending) (flat_map-append report_text (printed_by gain) reports)
+            ∙ append_assoc (reports_text (printed_by gain)) (reports_text reports) (ending_text ending) ∙ ap (λ (text : List ℕ). text ++ listing reports ending) (text_of_gain gain);
+        plain = listing_plain reports ending;
+        fits = both.0;
+        ends = tt;
+      }))
+
+  stands_after : (w : Walker) → Stands w → StandsAfter (turn program w)
+  stands_after w stands = turn_stands w stands.state stands.reports stands.ending stands.runs stands.pace stands.fits stands.stop_fits
+
+  module _ (decks : List (List Card)) (lines : List ℕ) (first : Stands (first_walker decks lines)) where
+    walked_stands : (w : Walker) → Walked program decks lines w → Stands w
+    walked_stands _ not_begun = first
+    walked_stands v (walked {w} before is) = subst StandsAfter is (stands_after w (walked_stands w before))
+
+    found_right : (w : Walker) (found : Found) → Walked program decks lines w → turn program w ≡ Finds found → IsNotWrong found
+    found_right w found reaches is = subst StandsAfter is (stands_after w (walked_stands w reaches))
+
+-- ---- jobs
+
+closed_right : (ending : Ending) (found : Found) → closes (first_walker [] (listing [] ending)) ending ≡ Finds found → IsNotWrong found
+closed_right ending found is = subst IsFoundRight is (closes_right (first_walker [] (listing [] ending)) ending refl)
+
+pub never_wrong : NeverWrong
+never_wrong bytes _ _ _ found (card_fault fault is) fits stop_fits (of_cards other is' finds) =
+    let same : fault ≡ other = same_Some fault other (sym is ∙ is') in
+    closed_right (CardStop fault) found (subst (λ (f : CardFault). closes (first_walker [] (listing [] (CardStop fault))) (CardStop f) ≡ Finds found) (sym same) finds)
+never_wrong bytes _ _ _ found (card_fault fault is) fits stop_fits (of_control other none is' finds) = let e : Some fault ≡ None = sym is ∙ none in absurd (cc e)
+never_wrong bytes _ _ _ found (card_fault fault is) fits stop_fits (of_walk program w is_program reaches finds) = let e : Some fault ≡ None = sym is ∙ is_program.is_read in absurd (cc e)
+never_wrong bytes _ _ _ found (control_fault fault none is) fits stop_fits (of_cards other is' finds) = let e : Some other ≡ None = sym is' ∙ none in absurd (cc e)
+never_wrong bytes _ _ _ found (control_fault fault none is) fits stop_fits (of_control other none' is' finds) =
+    let both : ◌≡◌ {A = Result Program ControlFault} (Err fault) (Err other) = sym is ∙ is' in
+    let same : fault ≡ other = cc both in
+    closed_right (ControlStop fault) found (subst (λ (f : ControlFault). closes (first_walker [] (listing [] (ControlStop fault))) (ControlStop f) ≡ Finds found) (sym same) finds)
+never_wrong bytes _ _ _ found (control_fault fault none is) fits stop_fits (of_walk program w is_program reaches finds) =
+    let e : ◌≡◌ {A = Result Program ControlFault} (Err fault) (Ok program) = sym is ∙ is_program.is_compiled in absurd (cc e)
+never_wrong bytes reports cards ending found (run program is_program runs) fits stop_fits (of_cards fault is finds) = let e : Some fault ≡ None = sym is ∙ is_program.is_read in absurd (cc e)
+never_wrong bytes reports cards ending found (run program is_program runs) fits stop_fits (of_control fault none is finds) =
+    let e : ◌≡◌ {A = Result Program ControlFault} (Err fault) (Ok program) = sym is ∙ is_program.is_compiled in absurd (cc e)
+never_wrong bytes reports cards ending found (run program is_program runs) fits stop_fits (of_walk other w is_other reaches finds) =
+    let both : ◌≡◌ {A = Result Program ControlFault} (Ok other) (Ok program) = sym is_other.is_compiled ∙ is_program.is_compiled in
+    let same : other ≡ program = cc both in
+    let lines = listing reports ending in
+    found_right program (program_small bytes program is_program) (job_decks program bytes) lines
+    (record {
+      state = start (job_decks program bytes);
+      reports = reports;
+      ending = ending;
+      runs = whole_run program bytes is_program reports cards ending runs;
+      pace = record { like = record { opening = []; steps = []; is = refl; limits = default_limits }; is_rest = refl; waits = tt };
+      fits = fits;
+      stop_fits = stop_fits;
+    })
+    w found (subst (λ (p : Program). Walked p (job_decks p bytes) lines w) same reaches) (subst (λ (p : Program). turn p w ≡ Finds found) same finds)

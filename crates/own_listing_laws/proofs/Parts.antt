@@ -1,0 +1,214 @@
+-- The tests of an interval and of a close of a parametric run never fail.
+--     IsKind changing past         a run of the objective closes unbounded, and one of the right-hand side infeasible
+use Rattle.std.proofs.Common.{◌≡◌, ℕ, Bool, true, false, ◌&&◌, ◌||◌, List, [], ◌∷◌, length, Option, Some, None, refl, sym, ap, subst, ◌∙◌, ◌⊎◌, inl, inr}
+use Rattle.exact_values.specs.Rational.{ℚ, ◌≤ℚ◌, ◌<ℚ◌}
+use Rattle.exact_values.specs.Tests.{lt_ℚ, le_ℚ, eq_ℚ}
+use Rattle.exact_values.proofs.Order.{lt_or_le, le_antisymm, le_refl}
+use Rattle.exact_values.proofs.Tests_laws.{test_from_same, test_from_le, test_from_lt}
+use Rattle.lp_definitions.specs.LinearProgram.{LinearProgram, Vector, value_at, size, variables, IsLinearProgram}
+use Rattle.lp_definitions.specs.Solutions.{IsBest}
+use Rattle.lp_definitions.specs.Basis.{Tableau}
+use Rattle.lp_definitions.specs.declared.Status.{Status}
+use Rattle.check_definitions.specs.declared.Verdict.{Verdict}
+use Rattle.check_definitions.specs.Steps.{Step, verdict_of, sum_steps}
+use Rattle.check_definitions.specs.Checks.{optimal_check}
+use Rattle.certificate_check.proofs.True_claims.{NeverFails, never_optimal}
+use Rattle.changed_programs.proofs.MovedLimits.{fixed_at}
+use Rattle.method_definitions.specs.Moves.{stopper}
+use Rattle.method_definitions.specs.Path.{listed}
+use Rattle.method_definitions.specs.DualRatio.{cheapest}
+use Rattle.method_definitions.specs.Chain.{Part, along, ChainEnd as PastBreak, AtMax, UnboundedPast as PastUnbounded, InfeasiblePast as PastInfeasible, FaceTurn, FaceEnds, IsPart}
+use Rattle.method_definitions.specs.ObjectiveRun.{face_mover, face_until, face_by, objective_face}
+use Rattle.method_definitions.specs.RhsRun.{leaves_below, leaving, face_exchange, face_at, rhs_face}
+use Rattle.problem_definitions.specs.Problem.{Problem}
+use Rattle.listing_definitions.specs.Report.{Value, Line}
+use Rattle.question_definitions.specs.Answers.{Sheet, Changing, Row, Set}
+use Rattle.answer_definitions.specs.Lines.{pair_lines, ray_lines}
+use Rattle.answer_definitions.specs.Sweeps.{row_of, shifts_of, family_of, IsFace, sheet_at, part_values, interval_of, end_of}
+use Rattle.run_laws.specs.Sweeps.{ChangesFreely}
+use Rattle.sweep_laws.specs.Truth.{IsTruePart, IsTrueEnd}
+use Rattle.sweep_laws.proofs.OneObjective.{lawful_objective}
+use Rattle.sweep_laws.proofs.OneRhs.{lawful_rhs}
+use Rattle.walk_definitions.specs.Tables.{column_of, multipliers}
+use Rattle.walk_definitions.specs.Tests.{asked, making_steps, along_steps, end_test, part_test, interval_test, unbounded_past, infeasible_past, past_test, close_test}
+use Rattle.own_listing_laws.proofs.Columns.{column_is, listed_again, numbers_of_ray}
+use Rattle.own_listing_laws.proofs.Tests.{Passes, pass_none, pass_then, passes_same, passes_steps, passes_asked, never_sum, never_each}
+use Rattle.own_listing_laws.proofs.Openings.{never_making}
+use Rattle.own_listing_laws.proofs.Keeping.{TiesLimits, never_keeping}
+use Rattle.own_listing_laws.proofs.Closing.{unbounded_passes, infeasible_passes}
+
+-- ---- the linear program at each value
+
+pub matrix_of : (sheet : Sheet) (changing : Changing) (theta : ℚ) → (family_of sheet changing theta).matrix ≡ sheet.lp.matrix
+matrix_of sheet (Row name) theta = refl
+matrix_of sheet (Set name) theta = refl
+
+sense_of : (sheet : Sheet) (changing : Changing) (theta : ℚ) → (family_of sheet changing theta).sense ≡ sheet.lp.sense
+sense_of sheet (Row name) theta = refl
+sense_of sheet (Set name) theta = refl
+
+ties_of : (sheet : Sheet) (changing : Changing) → TiesLimits (family_of sheet changing) sheet.lp.matrix
+ties_of sheet (Row name) theta x k var fixed = (fixed.0, fixed.1, fixed.2)
+ties_of sheet (Set name) theta x k var fixed = fixed_at sheet.lp (shifts_of sheet.problem name) theta x k var fixed
+
+pub lawful_of : (sheet : Sheet) (changing : Changing) → IsLinearProgram sheet.lp → ChangesFreely sheet changing → (theta : ℚ) → IsLinearProgram (family_of sheet changing theta)
+lawful_of sheet (Row name) lawful free theta = lawful_objective sheet.lp (row_of sheet.problem name) lawful free.0 free.1 theta
+lawful_of sheet (Set name) lawful free theta = lawful_rhs sheet.lp (shifts_of sheet.problem name) lawful theta
+
+-- ---- intervals
+
+module _ (sheet : Sheet) (changing : Changing) (lawful : IsLinearProgram sheet.lp) (free : ChangesFreely sheet changing) where
+  never_along : (theta : ℚ) (value rate : List ℚ) → NeverFails (along_steps sheet theta value rate)
+  never_along theta value rate = never_each steps 1 (size sheet.lp.matrix) (λ k low high. never_sum (value_at value k) (record { left = theta; right = value_at rate k } ∷ []))
+    where
+      steps : ℕ → List Step
+      steps k = sum_steps (value_at value k) (record { left = theta; right = value_at rate k } ∷ [])
+
+  module _ (max : ℚ) (part : Part) (truth : IsTruePart (family_of sheet changing) max part) where
+    end_passes : (theta : ℚ) → part.from ≤ℚ theta → theta ≤ℚ part.to → Passes (end_test sheet changing theta part.value part.value_rate part.price part.price_rate)
+    end_passes theta low high =
+        let solved = truth.solved theta low high in
+        (pass_then (verdict_of (making_steps sheet changing theta)) _ (passes_steps _ (never_making sheet changing theta))
+        (pass_then (verdict_of (along_steps sheet theta part.value part.value_rate)) _ (passes_steps _ (never_along theta part.value part.value_rate))
+        (pass_then (verdict_of (along_steps sheet theta part.price part.price_rate)) _ (passes_steps _ (never_along theta part.price part.price_rate))
+        (pass_then (optimal_check (family_of sheet changing theta) (along theta part.value part.value_rate) (along theta part.price part.price_rate)) []
+        (passes_steps _ (never_optimal (family_of sheet changing theta) (lawful_of sheet changing lawful free theta).is_matrix (along theta part.value part.value_rate) (along theta part.price part.price_rate) solved.best.feasible solved.proving)) pass_none)))).passes
+
+    forward_holds : (is_first : Bool) → (is_first ≡ true) ⊎ (part.from <ℚ part.to) → (lt_ℚ part.from part.to || (is_first && eq_ℚ part.from part.to)) ≡ true
+    forward_holds is_first (inr longer) = ap (λ b. b || (is_first && eq_ℚ part.from part.to)) (test_from_lt part.from part.to longer)
+    forward_holds is_first (inl first) = by (lt_or_le part.from part.to)
+      where
+        or_true : (b : Bool) → (b || true) ≡ true
+        or_true true = refl
+        or_true false = refl
+
+        by : (part.from <ℚ part.to) ⊎ (part.to ≤ℚ part.from) → (lt_ℚ part.from part.to || (is_first && eq_ℚ part.from part.to)) ≡ true
+        by (inl longer) = ap (λ b. b || (is_first && eq_ℚ part.from part.to)) (test_from_lt part.from part.to longer)
+        by (inr back) =
+            ap (λ b. lt_ℚ part.from part.to || (b && eq_ℚ part.from part.to)) first
+            ∙ ap (λ b. lt_ℚ part.from part.to || b) (test_from_same part.from part.to (le_antisymm truth.forward back)) ∙ or_true (lt_ℚ part.from part.to)
+
+    -- the lines have the values of the interval
+    module _ (from : ℚ) (s : List Status) (is : IsPart (family_of sheet changing) from max s part) (start : ℚ) where
+      first : Sheet
+      first = sheet_at sheet changing start
+
+      abbrev lines : List Line
+      lines = (interval_of (sheet_at sheet changing start) part).lines
+
+      sizes : size (family_of sheet changing from).matrix ≡ size (family_of sheet changing start).matrix
+      sizes = ap size (matrix_of sheet changing from ∙ sym (matrix_of sheet changing start))
+
+      again : (xs : List ℚ) → length xs ≡ size (family_of sheet changing from).matrix → listed (family_of sheet changing start).matrix (value_at xs) ≡ xs
+      again xs counted = listed_again (family_of sheet changing start).matrix xs (counted ∙ sizes)
+
+      abbrev values : ℕ → List Value
+      values = part_values (family_of sheet changing start) part
+
+      value_is : column_of 1 lines ≡ part.value
+      value_is = column_is (sheet_at sheet changing start) values 1 (variables (family_of sheet changing start).matrix) ∙ again part.value is.values_counted.value_counted
+
+      value_rate_is : column_of 2 lines ≡ part.value_rate
+      value_rate_is = column_is (sheet_at sheet changing start) values 2 (variables (family_of sheet changing start).matrix) ∙ again part.value_rate is.values_counted.rate_counted
+
+      price_is : column_of 3 lines ≡ part.price
+      price_is = column_is (sheet_at sheet changing start) values 3 (variables (family_of sheet changing start).matrix) ∙ again part.price is.prices_counted.value_counted
+
+      price_rate_is : column_of 4 lines ≡ part.price_rate
+      price_rate_is = column_is (sheet_at sheet changing start) values 4 (variables (family_of sheet changing start).matrix) ∙ again part.price_rate is.prices_counted.rate_counted
+
+      pub part_passes : (is_first : Bool) → (is_first ≡ true) ⊎ (part.from <ℚ part.to) → Passes (interval_test sheet changing is_first max (interval_of (sheet_at sheet changing start) part))
+      part_passes is_first longer =
+          passes_same (interval_test sheet changing is_first max (interval_of (sheet_at sheet changing start) part))
+          (part_test sheet changing part.from part.to part.value part.value_rate part.price part.price_rate is_first max)
+          (λ i. part_test sheet changing part.from part.to (value_is i) (value_rate_is i) (price_is i) (price_rate_is i) is_first max)
+          (pass_then (asked (lt_ℚ part.from part.to || (is_first && eq_ℚ part.from part.to))) _ (passes_asked _ (forward_holds is_first longer))
+          (pass_then (asked (le_ℚ part.to max)) _ (passes_asked _ (test_from_le part.to max truth.within))
+          (pass_then _ _ (end_passes part.from (le_refl part.from) truth.forward)
+          (pass_then _ _ (end_passes part.to truth.forward (le_refl part.to))
+          (pass_then _ [] (passes_steps _ (never_keeping (family_of sheet changing) sheet.lp.matrix sheet.lp.sense (matrix_of sheet changing) (sense_of sheet changing) (ties_of sheet changing) from max s part is truth)) pass_none))))).passes
+
+-- ---- closes
+
+abbrev pub IsKind : Changing → PastBreak → Type 0
+IsKind changing AtMax = Unit {0}
+IsKind (Row name) (PastUnbounded past z d) = Unit {0}
+IsKind (Set name) (PastInfeasible past w) = Unit {0}
+IsKind changing past = ⊥
+
+abbrev IsKindOf : Changing → FaceTurn → Type 0
+IsKindOf changing (FaceEnds end) = IsKind changing end
+IsKindOf changing _ = Unit {0}
+
+objective_kind : (name : List ℕ) (p : LinearProgram) (h : ℕ) (theta : ℚ) (s : List Status) (t : Tableau) → IsKindOf (Row name) (objective_face p h theta s t)
+unfolding objective_face
+objective_kind name p h theta s t = by (face_mover p h theta s t)
+  where
+    until : (q : ℕ) (v : Vector) (o : Option ℕ) → IsKindOf (Row name) (face_until p h theta s t q v o)
+    until q v (Some k) = tt
+    until q v None = tt
+
+    by : (o : Option ℕ) → IsKindOf (Row name) (face_by p h theta s t o)
+    by (Some q) = until q _ (stopper p t.point _)
+    by None = tt
+
+rhs_kind : (name : List ℕ) (p : LinearProgram) (shift : List ℚ) (theta : ℚ) (s : List Status) (t : Tableau) (v : Vector) → IsKindOf (Set name) (rhs_face p shift theta s t v)
+unfolding rhs_face
+rhs_kind name p shift theta s t v = by (leaving p shift theta s t v)
+  where
+    exchange : (r : ℕ) (below : Bool) (o : Option ℕ) → IsKindOf (Set name) (face_exchange p shift theta s t v r below o)
+    exchange r below (Some q) = tt
+    exchange r below None = tt
+
+    by : (o : Option ℕ) → IsKindOf (Set name) (face_at p shift theta s t v o)
+    by (Some r) = exchange r (leaves_below p shift theta s t v r) (cheapest p s t r (leaves_below p shift theta s t v r))
+    by None = tt
+
+pub face_kind : (sheet : Sheet) (changing : Changing) (theta : ℚ) (s : List Status) (end : PastBreak) → IsFace sheet changing theta s (FaceEnds end) → IsKind changing end
+face_kind sheet (Row name) theta s end face = subst (IsKindOf (Row name)) face.2 (objective_kind name _ (row_of sheet.problem name) theta s face.0)
+face_kind sheet (Set name) theta s end face = subst (IsKindOf (Set name)) face.4 (rhs_kind name _ (shifts_of sheet.problem name) theta s face.0 face.1)
+
+pub close_passes : (problem : Problem ℕ) (lp : LinearProgram) (changing : Changing) → IsLinearProgram lp → ChangesFreely (record { problem = problem; lp = lp }) changing → (start max last : ℚ) (v : Vector) →
+    IsBest (family_of (record { problem = problem; lp = lp }) changing last) v → (past : PastBreak) → IsKind changing past → IsTrueEnd (family_of (record { problem = problem; lp = lp }) changing) max last past →
+    Passes (close_test (record { problem = problem; lp = lp }) changing max last (end_of (sheet_at (record { problem = problem; lp = lp }) changing start) max past))
+close_passes problem lp (Row name) lawful free start max last v best AtMax kind is =
+    (pass_then (asked (eq_ℚ max last)) _ (passes_asked _ (test_from_same max last (sym is))) (pass_then (asked (eq_ℚ max max)) [] (passes_asked _ (test_from_same max max refl)) pass_none)).passes
+close_passes problem lp (Set name) lawful free start max last v best AtMax kind is =
+    (pass_then (asked (eq_ℚ max last)) _ (passes_asked _ (test_from_same max last (sym is))) (pass_then (asked (eq_ℚ max max)) [] (passes_asked _ (test_from_same max max refl)) pass_none)).passes
+close_passes problem lp (Row name) lawful free start max last v best (PastUnbounded past z d) kind is =
+    passes_same _ (past_test max last past (test z' d')) (λ i. past_test max last past (test (first_is i) (second_is i)))
+    (pass_then (asked (eq_ℚ past last)) _ (passes_asked _ (test_from_same past last is.at_last))
+    (pass_then (asked (lt_ℚ past max)) _ (passes_asked _ (test_from_lt past max (subst (λ (x : ℚ). x <ℚ max) (sym is.at_last) is.before_max)))
+    (pass_then (test z' d') [] (unbounded_passes lp (row_of problem name) lawful free.0 past z d v (subst (λ (x : ℚ). IsBest (family_of sheet (Row name) x) v) (sym is.at_last) best) is.proved problem (Row name)) pass_none))).passes
+  where
+    sheet : Sheet
+    sheet = record { problem = problem; lp = lp }
+
+    test : List ℚ → List ℚ → Verdict
+    test xs ys = unbounded_past (record { problem = problem; lp = lp }) (Row name) (row_of problem name) past (value_at xs) (value_at ys)
+
+    z' : List ℚ
+    z' = listed lp.matrix (value_at z)
+
+    d' : List ℚ
+    d' = listed lp.matrix (value_at d)
+
+    first_is : column_of 0 (pair_lines (sheet_at (record { problem = problem; lp = lp }) (Row name) start) z d) ≡ listed lp.matrix (value_at z)
+    first_is = column_is (sheet_at (record { problem = problem; lp = lp }) (Row name) start) _ 0 (variables lp.matrix)
+
+    second_is : column_of 1 (pair_lines (sheet_at (record { problem = problem; lp = lp }) (Row name) start) z d) ≡ listed lp.matrix (value_at d)
+    second_is = column_is (sheet_at (record { problem = problem; lp = lp }) (Row name) start) _ 1 (variables lp.matrix)
+close_passes problem lp (Set name) lawful free start max last v best (PastInfeasible past w) kind is =
+    passes_same _ (past_test max last past (test (listed lp.matrix (value_at w)))) (λ i. past_test max last past (test (ray_is i)))
+    (pass_then (asked (eq_ℚ past last)) _ (passes_asked _ (test_from_same past last is.at_last))
+    (pass_then (asked (lt_ℚ past max)) _ (passes_asked _ (test_from_lt past max (subst (λ (x : ℚ). x <ℚ max) (sym is.at_last) is.before_max)))
+    (pass_then (test (listed lp.matrix (value_at w))) [] (infeasible_passes lp (shifts_of problem name) (lawful_rhs lp (shifts_of problem name) lawful) past w v
+    (subst (λ (x : ℚ). IsBest (family_of (record { problem = problem; lp = lp }) (Set name) x) v) (sym is.at_last) best).feasible is.proved problem name refl) pass_none))).passes
+  where
+    test : List ℚ → Verdict
+    test xs = infeasible_past (record { problem = problem; lp = lp }) (Set name) (shifts_of problem name) past (value_at xs)
+
+    ray_is : multipliers (record { problem = problem; lp = lp }) (ray_lines (sheet_at (record { problem = problem; lp = lp }) (Set name) start) w) ≡ listed lp.matrix (value_at w)
+    ray_is = numbers_of_ray (record { problem = problem; lp = lp }) w
+close_passes problem lp (Row name) lawful free start max last v best (PastInfeasible past w) kind is = absurd kind
+close_passes problem lp (Set name) lawful free start max last v best (PastUnbounded past z d) kind is = absurd kind

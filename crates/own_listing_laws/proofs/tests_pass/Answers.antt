@@ -1,0 +1,15 @@
+use Rattle.std.proofs.Common.{sym, subst}
+use Rattle.certificate_check.specs.Results.{IsNotFailed}
+use Rattle.run_laws.proofs.Ends.{shown_is_best}
+use Rattle.walk_definitions.specs.Tests.{solution_test}
+use Rattle.own_listing_laws.proofs.Paths.{path_passes}
+use Rattle.own_listing_laws.proofs.Shown.{solution_passes}
+use Rattle.own_listing_laws.proofs.tests_pass.Goals as goal
+
+pub returns : goal.returns
+returns c = record {
+  verdict = λ solver sheet s limit bases verdict check solved. (path_passes solver sheet s limit bases verdict check solved).never;
+  solution = λ mark sheet s lines lawful at best shown.
+      subst (λ l. IsNotFailed (solution_test sheet mark l)) (sym shown.are_lines)
+      (solution_passes sheet s shown.tableau mark lawful shown.is_tableau at (λ optimal. let ended = best optimal in shown_is_best sheet.lp s shown.tableau ended.point ended.prices shown.is_tableau ended.ends at lawful)).never;
+}

@@ -1,0 +1,71 @@
+-- The listing that a run itself prints is never found wrong by the walk of the listing checker.
+--     IsNotWrong found             what is found isn't that a line is wrong
+--     ReadsBack                    what is printed of a linear program is read back
+--     TestsPass                    its tests never fail
+--     NeverWrong                   the listing of a run isn't found wrong
+use Rattle.std.specs.Prelude.{◌≡◌, ℕ, false, List, ◌++◌, Option, Some}
+use Rattle.exact_values.specs.Rational.{ℚ}
+use Rattle.frac128.specs.Operations.{TermsFit}
+use Rattle.lp_definitions.specs.LinearProgram.{LinearProgram, IsLinearProgram}
+use Rattle.lp_definitions.specs.Basis.{Tableau}
+use Rattle.method_definitions.specs.Path.{EndsOptimal, EndsAt}
+use Rattle.method_definitions.specs.Chain.{Part}
+use Rattle.path_laws.specs.Laws.{IsNonsingularBasis}
+use Rattle.certificate_check.specs.Results.{IsNotFailed}
+use Rattle.listing_definitions.specs.declared.Mark.TheVariants.{Optimal}
+use Rattle.listing_definitions.specs.declared.Mark.{Mark}
+use Rattle.listing_definitions.specs.declared.Solver.{Solver}
+use Rattle.listing_definitions.specs.Report.{PathVerdict, Check, SolutionLines, ChainEnd, Report}
+use Rattle.listing_definitions.specs.Text.{verdict_text, solution_text, interval_text, chain_end_text}
+use Rattle.listing_definitions.specs.Ending.{Ending}
+use Rattle.listing_definitions.specs.Listing.{listing}
+use Rattle.question_definitions.specs.Answers.{Basis, Sheet, Reached}
+use Rattle.answer_definitions.specs.Verdicts.{IsSolvedBy}
+use Rattle.answer_definitions.specs.Sections.{IsShown, solution_lines}
+use Rattle.answer_definitions.specs.Sweeps.{interval_of}
+use Rattle.answer_definitions.specs.Real.{linear_programming}
+use Rattle.run_definitions.specs.Answer.{IsJobRun}
+use Rattle.walk_definitions.specs.Tests.{verdict_test, solution_test}
+use Rattle.walk_definitions.specs.Tables.{begins_table_line}
+use Rattle.walk_definitions.specs.Reading.{verdict_in, solution_in, interval_in, close_in}
+use Rattle.walk_definitions.specs.Walker.{Found, Wrong}
+use Rattle.walk_definitions.specs.Found.{Comes}
+use Rattle.own_listing_laws.specs.Fitting.{LinesFit, VerdictFits, CheckFits, EndFits, ReportsFit, StopFits}
+use Rattle.own_listing_laws.specs.Printed.{IsReadable, IsPrinted, IsEndOf}
+
+-- the path has ended optimal at a basis
+pub record EndsBest (p : LinearProgram) (s : Basis) : Type 0 where
+  pub point : List ℚ
+  pub prices : List ℚ
+  pub ends : EndsAt p s (EndsOptimal point prices)
+
+abbrev pub IsNotWrong : Found → Type 0
+IsNotWrong (Wrong rest) = ⊥
+IsNotWrong found = Unit {0}
+
+-- What is printed of the variables of a linear program is read of its text, where its numbers fit, and what follows the text is left. The
+-- lines of a ray are read as far as table lines go, so none may follow.
+pub record ReadsBack : Type 0 where
+  pub verdict : (sheet : Sheet) (solver : Solver) (verdict : PathVerdict) (check : Check) (after : List ℕ) → IsReadable solver verdict → IsPrinted sheet verdict →
+      VerdictFits verdict → CheckFits check → begins_table_line after ≡ false → verdict_in sheet solver (verdict_text solver verdict check ++ after) ≡ Some ((verdict, check), after)
+  pub solution : (sheet : Sheet) (s : Basis) (t : Tableau) (mark : Mark) (after : List ℕ) → LinesFit (solution_lines sheet s t).rows → LinesFit (solution_lines sheet s t).columns →
+      solution_in sheet mark (solution_text mark (solution_lines sheet s t) ++ after) ≡ Some (solution_lines sheet s t, after)
+  pub interval : (sheet : Sheet) (number : ℕ) (part : Part) (after : List ℕ) → TermsFit part.to → LinesFit (interval_of sheet part).lines →
+      interval_in sheet number part.from (interval_text (number, interval_of sheet part) ++ after) ≡ Some (interval_of sheet part, after)
+  pub close : (sheet : Sheet) (solver : Solver) (end : ChainEnd) (after : List ℕ) → IsEndOf sheet solver end → EndFits end → begins_table_line after ≡ false →
+      close_in sheet solver (chain_end_text solver end ++ after) ≡ Some (end, after)
+
+-- A test of what a run prints never fails; an operation of it may be refused.
+pub record TestsPass : Type 0 where
+  -- the verdict of a path
+  pub verdict : (solver : Solver) (sheet : Sheet) (s : Basis) (limit : Option ℕ) (bases : List Basis) (verdict : PathVerdict) (check : Check) → IsSolvedBy solver sheet s limit (Reached bases verdict check) →
+      IsNotFailed (verdict_test sheet verdict check)
+  -- SOLUTION, where the mark is OPTIMAL only if the path has ended optimal at the basis
+  pub solution : (mark : Mark) (sheet : Sheet) (s : Basis) (lines : SolutionLines) → IsLinearProgram sheet.lp → IsNonsingularBasis sheet.lp s → (mark ≡ Optimal → EndsBest sheet.lp s) → IsShown sheet s lines →
+      IsNotFailed (solution_test sheet mark lines)
+
+-- The listing of a job's run is never found wrong by the walk, where its fractions fit: it is attested, or a line of it can't be attested,
+-- or an operation of a test is refused.
+abbrev pub NeverWrong : Type 0
+NeverWrong = (bytes : List ℕ) (reports : List Report) (cards : List (List ℕ)) (ending : Ending) (found : Found) → IsJobRun linear_programming bytes reports cards ending → ReportsFit reports → StopFits ending →
+    Comes bytes (listing reports ending) found → IsNotWrong found

