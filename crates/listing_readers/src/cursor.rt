@@ -38,6 +38,13 @@ impl<'a> Cursor<'a> {
         &self.bytes[self.at..]
     }
 
+    /// What is left, for as long as the text stands.
+    pub fn left(&self) -> &'a [u8]
+        ensures { result.now ≡ self.now }
+    {
+        &self.bytes[self.at..]
+    }
+
     /// Takes a text, if it stands here.
     pub fn take(&mut self, text: &[u8]) -> bool
         ensures taken { left_after text.now self.old ≡ taken result self.new }
