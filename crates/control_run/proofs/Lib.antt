@@ -18,4 +18,3 @@ pub mod Sweep_comes
 pub mod Sweep_lines
 pub mod Limit_formula
 pub mod Sweep_steps
-pub mod Asking

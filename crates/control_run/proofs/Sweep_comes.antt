@@ -25,15 +25,16 @@ use Rattle.run_machine.specs.declared.finding.Finding.{Finding}
 use Rattle.run_setup.specs.Machines.{Machine}
 use Rattle.run_setup.specs.Kept.{Setup}
 use Rattle.run_machine.specs.declared.selecting.Refusal.TheVariants.{Fault}
-use Rattle.control_run.specs.declared.sweep.SweepVerb.{SweepVerb}
-use Rattle.control_run.specs.declared.sweep.SweepVerb.TheVariants.{Paraobj, Pararhs}
+use Rattle.parametric_request.specs.declared.request.ParametricVerb.{ParametricVerb}
+use Rattle.parametric_request.specs.declared.request.ParametricVerb.TheVariants.{Paraobj, Pararhs}
 use Rattle.run_machine.specs.Choosing.{HasSelectionFault, HasSelectionOverflow, refused_act}
 use Rattle.run_machine.specs.Ends.{place_shown}
 use Rattle.run_machine.specs.Standing.{AreDemands}
 use Rattle.run_setup.specs.Standing.{IsPresent, IsReady, ShowsSetup, Stands}
 use Rattle.run_setup.specs.Statements.{Comes, Executes}
 use Rattle.run_machine.specs.Findings.{TellsFinding, act_of}
-use Rattle.control_run.specs.Sweeping.{verb_of, name_moved, change_of, change_fault, IsAsked, no_last, below, IsAskFault, no_change, no_value, SweepReaches, SweepOverflows, opened, chained, at_limit, overflows, Sweeps, unselected, too_large, not_asked, swept, cells_left}
+use Rattle.parametric_request.specs.Asking.{verb_of, name_moved, change_of, change_fault, IsAsked, no_last, below, IsAskFault, no_change, no_value}
+use Rattle.control_run.specs.Sweeping.{SweepReaches, SweepOverflows, opened, chained, at_limit, overflows, Sweeps, unselected, too_large, not_asked, swept, cells_left}
 use Rattle.run_setup.proofs.Selected.{same_matrix}
 use Rattle.run_machine.proofs.Giving.{quietly}
 use Rattle.run_setup.proofs.Giving.{gives_fault, gives_found, gives_unselected, gives_selected}
@@ -42,7 +43,7 @@ use Rattle.control_run.proofs.Present.{goes_through}
 use Rattle.control_run.proofs.Demanded.{verdict_comes}
 use Rattle.run_setup.proofs.Present.{IsPresentOf, lie_up_to, present_at, present_with}
 
-no_cards_by : (problem : Problem ℕ) (cells : Cells) (verb : SweepVerb) (setup new : Setup) (gain : Gain) (finding : Finding) → Sweeps problem cells verb setup new gain finding → punched_by gain ≡ []
+no_cards_by : (problem : Problem ℕ) (cells : Cells) (verb : ParametricVerb) (setup new : Setup) (gain : Gain) (finding : Finding) → Sweeps problem cells verb setup new gain finding → punched_by gain ≡ []
 no_cards_by problem cells verb setup new _ _ (unselected h) = refl
 no_cards_by problem cells verb setup new _ _ (too_large h) = refl
 no_cards_by problem cells verb setup new _ _ (not_asked ok h) = refl
@@ -56,7 +57,7 @@ no_cards_by problem cells verb setup new _ _ (swept ok a e f (overflows r)) = re
 abbrev sheet_of : Present → LinearProgram → Sheet
 sheet_of present lp = record { problem = present.problem; lp = lp }
 
-module _ (verb : SweepVerb) (card : ℕ) (state : State) (present : Present) where
+module _ (verb : ParametricVerb) (card : ℕ) (state : State) (present : Present) where
   -- the run from the present basis
   abbrev run_move : LinearProgram → Sweep → Move
   run_move lp sweep = asks (OfSweep sweep) (sheet_of present lp) present (after_sweep card sweep present state)
@@ -101,13 +102,13 @@ module _ (verb : SweepVerb) (card : ℕ) (state : State) (present : Present) whe
       (gives_found card NoParmax state.cells.xparmax (with_last lp changing) last (faulted ParmaxBelow) moved
       (gives_fault card ParmaxBelow (not_less state.cells.xparam last) (up_to lp changing) less))
 
-sweep_gives : (verb : SweepVerb) (card : ℕ) (state : State) (outcome : Outcome) → Gives linear_programming card (or_fault card NoSetup state.setup (with_setup verb card state)) outcome →
+sweep_gives : (verb : ParametricVerb) (card : ℕ) (state : State) (outcome : Outcome) → Gives linear_programming card (or_fault card NoSetup state.setup (with_setup verb card state)) outcome →
     Gives linear_programming card (verb_move (verb_of verb) card state) outcome
 unfolding linear_programming verb_move
 sweep_gives Paraobj card state outcome g = g
 sweep_gives Pararhs card state outcome g = g
 
-pub sweep_no_setup : (verb : SweepVerb) (card : ℕ) {P : Type 0} (written stopped_at : P → Option (List ℕ)) (faults refusals : P → ℕ) (cards : List (List ℕ)) (machine : Machine) (print : P) → machine.setup ≡ None →
+pub sweep_no_setup : (verb : ParametricVerb) (card : ℕ) {P : Type 0} (written stopped_at : P → Option (List ℕ)) (faults refusals : P → ℕ) (cards : List (List ℕ)) (machine : Machine) (print : P) → machine.setup ≡ None →
     Executes linear_programming (verb_of verb) card written stopped_at faults refusals print print cards machine machine (refused_act card (Fault NoSetup))
 sweep_no_setup verb card written stopped_at faults refusals cards machine print none =
     quietly IsPresent (Gives linear_programming) (verb_of verb) card written stopped_at faults refusals cards machine print (λ position executed state s.
@@ -116,7 +117,7 @@ sweep_no_setup verb card written stopped_at faults refusals cards machine print 
 
 -- ---- with a setup, whose problem is on file
 
-module _ (verb : SweepVerb) (card : ℕ) (cards : List (List ℕ)) (old : Machine) (setup new : Setup) (is_setup : old.setup ≡ Some setup) (problem : Problem ℕ) (on_file : filed_under setup.name old.file ≡ Some problem)
+module _ (verb : ParametricVerb) (card : ℕ) (cards : List (List ℕ)) (old : Machine) (setup new : Setup) (is_setup : old.setup ≡ Some setup) (problem : Problem ℕ) (on_file : filed_under setup.name old.file ≡ Some problem)
     (demands : AreDemands old.cells) (position executed : ℕ) (state : State) (s : Stands cards old position executed state) where
   p : IsPresentOf problem setup state.setup
   p = present_at old.file setup state.setup problem on_file (subst (λ (kept : Option Setup). ShowsSetup old.file kept state.setup) is_setup s.setup)
@@ -215,7 +216,7 @@ module _ (verb : SweepVerb) (card : ℕ) (cards : List (List ℕ)) (old : Machin
       subst (λ (c : Cells). Gives linear_programming card (verb_move (verb_of verb) card state) (stops (endings.LimitStop (record { limit = steps_allowed c; card = card })))) s.cells (swept_gives lp ok sweep a SweepLimit right)
   found_comes _ _ (swept {lp = lp} {sweep = sweep} ok a same_name same_options (overflows {e = e} {place = place} h)) = overflow_gives lp ok sweep a e (option_map place_shown place) h
 
-module _ (verb : SweepVerb) (card : ℕ) {P : Type 0} (written stopped_at : P → Option (List ℕ)) (faults refusals : P → ℕ) (print_old print_new : P) (cards : List (List ℕ)) (old : Machine) (setup new : Setup) (is_setup : old.setup ≡ Some setup)
+module _ (verb : ParametricVerb) (card : ℕ) {P : Type 0} (written stopped_at : P → Option (List ℕ)) (faults refusals : P → ℕ) (print_old print_new : P) (cards : List (List ℕ)) (old : Machine) (setup new : Setup) (is_setup : old.setup ≡ Some setup)
     (ready : IsReady old.file setup) (demands : AreDemands old.cells) where
   abbrev left_by : Finding → Machine
   left_by finding = record old { setup = Some new; mark = None; cells = cells_left finding old.cells }

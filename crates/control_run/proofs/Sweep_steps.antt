@@ -19,7 +19,7 @@ use Rattle.lp_model.specs.declared.reports.ParaRun.{ParaRun}
 use Rattle.problem_definitions.specs.Names.{Name}
 use Rattle.problem_definitions.specs.Problem.{Problem}
 use Rattle.problem_file.specs.Filed.{Filed, filed_under}
-use Rattle.control_definitions.specs.Cells.{Cells}
+use Rattle.control_definitions.specs.Cells.{Cells, steps_allowed}
 use Rattle.selection_definitions.specs.Choice.{Choice}
 use Rattle.selection_definitions.specs.Selection.{selected}
 use Rattle.listing_definitions.specs.declared.Mark.{Mark}
@@ -49,12 +49,17 @@ use Rattle.run_machine.specs.declared.selecting.Refusal.{Refusal}
 use Rattle.run_machine.specs.declared.selecting.Refusal.TheVariants.{Fault, NoMemory}
 use Rattle.run_machine.specs.declared.selecting.Refusal.TheVariants as refusal
 use Rattle.control_run.specs.declared.sweep.Sweep.{Sweep as OwnSweep}
-use Rattle.control_run.specs.declared.sweep.Sweep.TheVariants as own
-use Rattle.control_run.specs.declared.sweep.SweepVerb.{SweepVerb}
+use Rattle.parametric_request.specs.declared.request.ParametricVerb.{ParametricVerb}
 use Rattle.run_machine.specs.Choosing.{IsUnselected}
 use Rattle.run_machine.specs.Ends.{place_shown}
 use Rattle.run_machine.specs.Findings.{TellsFinding, refused_finding}
-use Rattle.control_run.specs.Sweeping.{IsNotAsked, IsAsked, IsOf, Serves, value_left, IsRunOverflow, SweepFinds, opened, chained, overflows, Sweeps, unselected, too_large, not_asked, swept}
+use Rattle.parametric_request.specs.declared.request.Change.{Change}
+use Rattle.parametric_request.specs.declared.request.Change.TheVariants as changes
+use Rattle.parametric_request.specs.declared.request.ParametricRequest.{ParametricRequest}
+use Rattle.parametric_request.specs.declared.request.RequestStop.{RequestStop}
+use Rattle.parametric_request.specs.declared.request.RequestStop.TheVariants as stops
+use Rattle.parametric_request.specs.Asking.{IsNotAsked, IsAsked, IsChangeOf, IsOf, ServesChange, Serves, sweep_of}
+use Rattle.control_run.specs.Sweeping.{refusal_of, sweep_shown, value_left, IsRunOverflow, SweepFinds, opened, chained, overflows, Sweeps, unselected, too_large, not_asked, swept}
 use Rattle.control_run.proofs.Telling.{tells_more, tells_quietly, overflow_tells}
 use Rattle.control_run.proofs.Limit_formula.{placed_apart, unplaced_limit}
 use Rattle.control_run.proofs.Sweep_lines.{last_same, chain_same}
@@ -164,14 +169,22 @@ module _ (problem : Problem ℕ) (choice : Choice) (lp : LinearProgram) (ok : se
   values_counted : (name : Name) → length (shifts_of problem name) ≡ length problem.rows
   values_counted name = length-map (enumerate_from 1 problem.rows) _ ∙ length-enumerate_from 1 problem.rows
 
-  pub serves : (sweep : OwnSweep) → IsOf problem sweep → Serves problem lp sweep
-  serves (own.Row name run) is = let free = is.1 choice lp ok in (is.0, free.0, free.1, is.2)
-  serves (own.Set name run) is = (is.0, ap length (sym is.0) ∙ values_counted name ∙ as_many_rows problem choice lp ok, is.1)
+  serves_change : (name : Name) (change : Change) → IsChangeOf problem name change → ServesChange problem lp name change
+  serves_change name (changes.Row row) is = let free = is.1 choice lp ok in (is.0, free.0, free.1)
+  serves_change name (changes.Set shift) is = (is, ap length (sym is) ∙ values_counted name ∙ as_many_rows problem choice lp ok)
+
+  pub serves : (request : ParametricRequest) → IsOf problem request → Serves problem lp request
+  serves request is = (serves_change request.name request.change is.0, is.1)
+
+-- the run of a request is the one that is asked for
+pub asked_of : (verb : ParametricVerb) (problem : Problem ℕ) (cells : Cells) (request : ParametricRequest) (run : OwnSweep) (limit : ℕ) → limit ≡ steps_allowed cells → sweep_shown run ≡ sweep_of limit request →
+    IsAsked verb problem cells (sweep_of (steps_allowed cells) request) → IsAsked verb problem cells (sweep_shown run)
+asked_of verb problem cells request run limit is shown asked = subst (IsAsked verb problem cells) (sym (shown ∙ ap (λ n. sweep_of n request) is)) asked
 
 -- ---- what is found with a setup
 
 -- The setup that code has opened, which is the one that is spoken of, and what is left of it.
-module _ {P : Type 0} (written stopped_at : P → Option (List ℕ)) (faults refusals : P → ℕ) (verb : SweepVerb) (cells : Cells) (file : Filed) {setup old : Setup} (is_old : setup ≡ old) (new : Setup) (there : Problem ℕ) (is_there : filed_under setup.name file ≡ Some there) where
+module _ {P : Type 0} (written stopped_at : P → Option (List ℕ)) (faults refusals : P → ℕ) (verb : ParametricVerb) (cells : Cells) (file : Filed) {setup old : Setup} (is_old : setup ≡ old) (new : Setup) (there : Problem ℕ) (is_there : filed_under setup.name file ≡ Some there) where
   at_problem : (print_old print_new : P) (result : Result Finding Halt) → TellsFinding (Sweeps there cells verb setup new) written stopped_at faults refusals print_old print_new result →
       (problem : Problem ℕ) → filed_under old.name file ≡ Some problem → TellsFinding (Sweeps problem cells verb old new) written stopped_at faults refusals print_old print_new result
   at_problem print_old print_new result t problem on_file =
@@ -190,15 +203,14 @@ module _ {P : Type 0} (written stopped_at : P → Option (List ℕ)) (faults ref
       at_problem print print (refused_finding why) (tells_quietly written stopped_at faults refusals (Sweeps there cells verb setup new) print (refused_finding why) (refusal_found why u))
 
   module _ (lp : LinearProgram) (ok : selected there (choice_of cells setup.options) ≡ Ok lp) where
-    unasked_found : (why : Refusal) → IsNotAsked verb there cells why → MatchResult (refused_finding why) (Sweeps there cells verb setup new Nothing) (λ h. h ≡ halt.NoMemory)
-    unasked_found (Fault fault) u = not_asked ok u
-    unasked_found (refusal.Overflow e) u = absurd u
-    unasked_found NoMemory u = refl
+    unasked_found : (why : RequestStop) → IsNotAsked verb there cells why → MatchResult (refused_finding (refusal_of why)) (Sweeps there cells verb setup new Nothing) (λ h. h ≡ halt.NoMemory)
+    unasked_found (stops.Fault fault) u = not_asked ok u
+    unasked_found stops.NoMemory u = refl
 
-    pub unasked_told : (print : P) (why : Refusal) → IsNotAsked verb there cells why →
-        (problem : Problem ℕ) → filed_under old.name file ≡ Some problem → TellsFinding (Sweeps problem cells verb old new) written stopped_at faults refusals print print (refused_finding why)
+    pub unasked_told : (print : P) (why : RequestStop) → IsNotAsked verb there cells why →
+        (problem : Problem ℕ) → filed_under old.name file ≡ Some problem → TellsFinding (Sweeps problem cells verb old new) written stopped_at faults refusals print print (refused_finding (refusal_of why))
     unasked_told print why u =
-        at_problem print print (refused_finding why) (tells_quietly written stopped_at faults refusals (Sweeps there cells verb setup new) print (refused_finding why) (unasked_found why u))
+        at_problem print print (refused_finding (refusal_of why)) (tells_quietly written stopped_at faults refusals (Sweeps there cells verb setup new) print (refused_finding (refusal_of why)) (unasked_found why u))
 
     pub run_told : (sweep : Sweep) → IsAsked verb there cells sweep → (print_old print_new : P) (result : Result Finding Halt) → new.name ≡ setup.name → new.options ≡ setup.options →
         TellsFinding (SweepFinds (record { problem = there; lp = lp }) setup.basis new.basis sweep setup.engine.waypoints new.engine.waypoints) written stopped_at faults refusals print_old print_new result →

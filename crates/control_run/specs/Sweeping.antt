@@ -1,6 +1,5 @@
--- What PARAOBJ and PARARHS ask for, what they find, and what is left.
---     verb_of, change_of ..        the verb, and what it changes
---     IsAsked, IsAskFault          what a verb asks for by the cells, and why it asks for nothing
+-- What PARAOBJ and PARARHS find, and what is left.
+--     refusal_of stop              why a statement does nothing, where nothing is asked for
 --     sweep_shown sweep            the run as code holds it, in the words of runs
 --     Serves problem p sweep       the run can be made in the linear program p
 --     IsRunOverflow result         what a refused operation of a run comes to
@@ -9,26 +8,22 @@
 --     cells_left finding cells     the cells after it
 use Rattle.std.specs.Prelude.{◌≡◌, ◌≢◌, ◌⊎◌, ℕ, List, [], ◌∷◌, ◌++◌, Option, Some, None, Result, Ok, length, option_map, option_and_then}
 use Rattle.exact_values.specs.Rational.{ℚ, ◌≤ℚ◌}
-use Rattle.lp_definitions.specs.LinearProgram.{LinearProgram, IsRow, HasNoLimits}
+use Rattle.lp_definitions.specs.LinearProgram.{LinearProgram}
 use Rattle.lp_definitions.specs.Basis.{Basics}
 use Rattle.lp_definitions.specs.declared.Evidence.{Evidence}
 use Rattle.lp_model.specs.declared.reports.ParaEnd.{ParaEnd}
 use Rattle.lp_model.specs.declared.reports.ParaEnd.TheVariants.{AtMax, Unbounded, Infeasible}
 use Rattle.method_definitions.specs.Path.{last_of}
-use Rattle.problem_definitions.specs.Names.{Name}
 use Rattle.problem_definitions.specs.Problem.{Problem}
-use Rattle.lp_setup.specs.Changes.{IsFreeIn}
 use Rattle.selection_definitions.specs.Selection.{selected}
 use Rattle.listing_definitions.specs.declared.VerbFault.{VerbFault}
-use Rattle.listing_definitions.specs.declared.VerbFault.TheVariants.{NoChangeRow, NoChangeSet, NoParmax, ParmaxBelow}
 use Rattle.listing_definitions.specs.Report.{PathVerdict, Check, Interval, ChainEnd, Solved, Parametric}
 use Rattle.listing_definitions.specs.Ending.{Place}
-use Rattle.control_definitions.specs.Program as program
-use Rattle.control_definitions.specs.Cells.{Cells, steps_allowed}
+use Rattle.control_definitions.specs.Cells.{Cells}
 use Rattle.basis_values.specs.Calls.{LieIn}
 use Rattle.bounded_primal.specs.declared.moves.PrimalStop.{PrimalStop}
-use Rattle.question_definitions.specs.Answers.{Basis, Sheet, Changing, changing_name, sweeper, Sweep, OfSweep, SweepEnd, Opening, Chained, SweepLimit}
-use Rattle.answer_definitions.specs.Sweeps.{row_of, shifts_of, IsSwept}
+use Rattle.question_definitions.specs.Answers.{Basis, Sheet, changing_name, sweeper, Sweep, OfSweep, SweepEnd, Opening, Chained, SweepLimit}
+use Rattle.answer_definitions.specs.Sweeps.{IsSwept}
 use Rattle.answer_definitions.specs.Evidence.{OverflowsAt}
 use Rattle.listing_tables.specs.declared.sheet.Sheet.{Sheet as OwnSheet}
 use Rattle.present_answers.specs.Objective as objective
@@ -36,7 +31,7 @@ use Rattle.present_answers.specs.RunReports.{RunOverflowsThere, LimitOverflows, 
 use Rattle.present_answers.specs.RightHandSide as right_hand_side
 use Rattle.run_definitions.specs.State.{choice_of}
 use Rattle.run_definitions.specs.Moves.{Gain, Nothing, Prints}
-use Rattle.run_definitions.specs.Verbs.{change_row, change_set, not_less, mark_of, last_value}
+use Rattle.run_definitions.specs.Verbs.{mark_of, last_value}
 use Rattle.run_machine.specs.declared.act.Halt.{Halt}
 use Rattle.run_machine.specs.declared.end.Place.{Place as OwnPlace}
 use Rattle.run_machine.specs.declared.finding.Finding.{Finding}
@@ -44,9 +39,11 @@ use Rattle.run_machine.specs.declared.finding.Finding.TheVariants.{Refused, Over
 use Rattle.run_setup.specs.Kept.{Setup}
 use Rattle.run_machine.specs.declared.selecting.Refusal.{Refusal}
 use Rattle.run_machine.specs.declared.selecting.Refusal.TheVariants.{Fault, NoMemory}
-use Rattle.run_machine.specs.declared.selecting.Refusal.TheVariants as refusals
-use Rattle.control_run.specs.declared.sweep.SweepVerb.{SweepVerb}
-use Rattle.control_run.specs.declared.sweep.SweepVerb.TheVariants.{Paraobj, Pararhs}
+use Rattle.parametric_request.specs.declared.request.ParametricVerb.{ParametricVerb}
+use Rattle.parametric_request.specs.declared.request.Change.TheVariants as changes
+use Rattle.parametric_request.specs.declared.request.RequestStop.{RequestStop}
+use Rattle.parametric_request.specs.declared.request.RequestStop.TheVariants as stops
+use Rattle.parametric_request.specs.Asking.{IsAsked, IsAskFault, ServesChange}
 use Rattle.control_run.specs.declared.sweep.Sweep.{Sweep as OwnSweep}
 use Rattle.control_run.specs.declared.sweep.Sweep.TheVariants as own
 use Rattle.run_machine.specs.Choosing.{HasSelectionFault, HasSelectionOverflow}
@@ -55,59 +52,10 @@ use Rattle.run_setup.specs.Overflows.{IsOverflowAt}
 
 -- ---- what a verb asks for
 
--- the verb of a statement that makes a parametric run
-abbrev pub verb_of : SweepVerb → program.Verb ℕ
-verb_of Paraobj = program.Paraobj
-verb_of Pararhs = program.Pararhs
-
--- the name of what it changes
-abbrev pub name_moved : SweepVerb → Cells → Option Name
-name_moved Paraobj cells = cells.xchrow
-name_moved Pararhs cells = cells.xchcol
-
--- what has this name
-abbrev pub change_of : SweepVerb → Problem ℕ → Name → Option Changing
-change_of Paraobj = change_row
-change_of Pararhs = change_set
-
--- it is refused so where nothing has
-abbrev pub change_fault : SweepVerb → VerbFault
-change_fault Paraobj = NoChangeRow
-change_fault Pararhs = NoChangeSet
-
--- what stands in XPARMAX, where it isn't less than XPARAM
-pub record IsLastValue (cells : Cells) (to : ℚ) : Type 0 where
-  pub last : ℚ
-  pub is_moved : cells.xparmax ≡ Some last
-  pub is_last : not_less cells.xparam last ≡ Some to
-
--- there is none, or it is less
-pub data IsLastFault (cells : Cells) : VerbFault → Type 0 where
-  no_last : cells.xparmax ≡ None → IsLastFault cells NoParmax
-  below : {last : ℚ} → cells.xparmax ≡ Some last → not_less cells.xparam last ≡ None → IsLastFault cells ParmaxBelow
-
-module _ (verb : SweepVerb) (problem : Problem ℕ) (cells : Cells) where
-  -- what changes has the name that was moved to its cell
-  abbrev pub Changes : Changing → Type 0
-  Changes changing = option_and_then (change_of verb problem) (name_moved verb cells) ≡ Some changing
-
-  -- the run goes from XPARAM to XPARMAX, which isn't less, in as many steps as a verb may take
-  pub record IsAsked (sweep : Sweep) : Type 0 where
-    pub changes : Changes sweep.changing
-    pub is_last : IsLastValue cells sweep.to
-    pub is_first : sweep.from ≡ cells.xparam
-    pub is_limit : sweep.limit ≡ steps_allowed cells
-
-  -- nothing has the name of what is to change; or the last value is refused
-  pub data IsAskFault : VerbFault → Type 0 where
-    no_change : option_and_then (change_of verb problem) (name_moved verb cells) ≡ None → IsAskFault (change_fault verb)
-    no_value : {changing : Changing} {fault : VerbFault} → Changes changing → IsLastFault cells fault → IsAskFault fault
-
-  -- want of memory may come at any time, and no sum is made
-  abbrev pub IsNotAsked : Refusal → Type 0
-  IsNotAsked (Fault fault) = IsAskFault fault
-  IsNotAsked (refusals.Overflow e) = ⊥
-  IsNotAsked NoMemory = Unit {0}
+-- why a statement does nothing, where nothing is asked for
+abbrev pub refusal_of : RequestStop → Refusal
+refusal_of (stops.Fault fault) = Fault fault
+refusal_of stops.NoMemory = NoMemory
 
 -- ---- the run
 
@@ -115,16 +63,10 @@ abbrev pub sweep_shown : OwnSweep → Sweep
 sweep_shown (own.Row name run) = objective.sweep_of name run
 sweep_shown (own.Set name run) = right_hand_side.sweep_of name run
 
--- the row has this name, and no limits in what is selected, or the shifts are those of the set; and the last value isn't less than the
--- first
-abbrev pub IsOf : Problem ℕ → OwnSweep → Type 0
-IsOf problem (own.Row name run) = (row_of problem name ≡ run.row) × IsFreeIn problem run.row × (run.from ≤ℚ run.to)
-IsOf problem (own.Set name run) = (shifts_of problem name ≡ run.shift.items) × (run.from ≤ℚ run.to)
-
 -- the run can be made in this linear program
 abbrev pub Serves : Problem ℕ → LinearProgram → OwnSweep → Type 0
-Serves problem p (own.Row name run) = (row_of problem name ≡ run.row) × IsRow p.matrix run.row × HasNoLimits p run.row × (run.from ≤ℚ run.to)
-Serves problem p (own.Set name run) = (shifts_of problem name ≡ run.shift.items) × (length run.shift.items ≡ p.rows) × (run.from ≤ℚ run.to)
+Serves problem p (own.Row name run) = ServesChange problem p name (changes.Row run.row) × (run.from ≤ℚ run.to)
+Serves problem p (own.Set name run) = ServesChange problem p name (changes.Set run.shift) × (run.from ≤ℚ run.to)
 
 -- where a run stops; a limit of a row may be too large at the first value
 abbrev pub StopsSweep : OwnSheet → Sweep → Basis → Basis → List Basics → List Basics → PrimalStop → Type 0
@@ -177,7 +119,7 @@ module _ (sheet : Sheet) (s now : Basis) (sweep : Sweep) (before after : List Ba
 
 -- With these cells the selection of a setup's problem is refused, or what the verb asks for is; or the run is made from the present
 -- basis, and the setup keeps where it has come to.
-pub data Sweeps (problem : Problem ℕ) (cells : Cells) (verb : SweepVerb) (setup new : Setup) : Gain → Finding → Type 0 where
+pub data Sweeps (problem : Problem ℕ) (cells : Cells) (verb : ParametricVerb) (setup new : Setup) : Gain → Finding → Type 0 where
   unselected : {fault : VerbFault} →
       HasSelectionFault problem (choice_of cells setup.options) fault →
       Sweeps problem cells verb setup new Nothing (Refused fault)

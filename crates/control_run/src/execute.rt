@@ -12,12 +12,12 @@ use crate::parametric::sweep;
 use crate::ranges::show_ranges;
 use crate::solution::show_solution;
 use crate::solving::{SolvingVerb, solve};
-use crate::sweep::SweepVerb;
 use basis_verbs::{insert_basis, punch_present};
 use card_reader::Cards;
 use control_compiler::{Program, Verb};
 use job_devices::Sink;
 use lp_model::Engine;
+use parametric_request::ParametricVerb;
 use run_machine::{Act, AfterStatement, Halt, Machine};
 use run_setup::{Setup, set_up};
 use std::alloc::Global;
@@ -55,8 +55,8 @@ fn execute<E: Engine, P: Sink, U: Sink>(
         Verb::Solution => show_solution(alloc, machine, print, card),
         Verb::Revise => machine.revise(alloc, cards, print, card),
         Verb::Ranging => show_ranges(alloc, machine, print, card),
-        Verb::Paraobj => sweep(alloc, machine, print, card, SweepVerb::Paraobj),
-        Verb::Pararhs => sweep(alloc, machine, print, card, SweepVerb::Pararhs),
+        Verb::Paraobj => sweep(alloc, machine, print, card, ParametricVerb::Paraobj),
+        Verb::Pararhs => sweep(alloc, machine, print, card, ParametricVerb::Pararhs),
         Verb::Bcdout => machine.punch_problem(print, punch, card),
         Verb::Punch => punch_present(alloc, machine, print, punch, card),
         Verb::Insert => insert_basis(alloc, machine, cards, print, card),

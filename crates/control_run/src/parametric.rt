@@ -17,10 +17,11 @@ ghost use Rattle.run_machine.specs.Standing.{AreDemands};
 ghost use Rattle.run_setup.specs.Standing.{IsReady, IsSound};
 ghost use Rattle.run_setup.specs.Statements.{Executes};
 ghost use Rattle.run_machine.specs.Findings.{TellsFinding};
-ghost use Rattle.control_run.specs.Sweeping.{verb_of, sweep_shown, Serves, StopsSweep, SweepFinds, Sweeps, IsRunOverflow, value_left, cells_left};
+ghost use Rattle.parametric_request.specs.Asking.{verb_of};
+ghost use Rattle.control_run.specs.Sweeping.{refusal_of, sweep_shown, Serves, StopsSweep, SweepFinds, Sweeps, IsRunOverflow, value_left, cells_left};
 
 use crate::solving::mark_of;
-use crate::sweep::{Sweep, SweepVerb, asked};
+use crate::sweep::{Sweep, run_of};
 use bounded_primal::PrimalStop;
 use frac128::{Frac, Refused};
 use job_devices::Sink;
@@ -28,6 +29,7 @@ use listing_definitions::VerbFault;
 use listing_tables::Sheet;
 use lp_definitions::Evidence;
 use lp_model::{Basis, Engine, Lp, Outcome, ParaEnd, ParaReport, ParaRun, Rates};
+use parametric_request::{ParametricVerb, RequestStop, request_of};
 use present_answers::{RunReport, objective_run_of, rhs_run_of};
 use problem_file::ProblemFile;
 use report_text::{Report, text_of};
@@ -199,13 +201,23 @@ fn follow<P: Sink, R: Rates>(
     }
 }
 
+// Why a statement does nothing, where nothing is asked for.
+fn refusal_of(stop: RequestStop) -> Refusal
+    ensures { result ≡ refusal_of stop }
+{
+    match stop {
+        RequestStop::Fault(fault) => Refusal::Fault(fault),
+        RequestStop::NoMemory => Refusal::NoMemory,
+    }
+}
+
 // Selects by the cells as they stand, and makes the run that a verb asks for, from the present basis of a setup.
 fn find<E: Engine, P: Sink>(
     alloc: Global,
     cells: &Cells,
     file: &ProblemFile,
     setup: &mut Setup<E>,
-    verb: SweepVerb,
+    verb: ParametricVerb,
     print: &mut P,
 ) -> Result<Finding, Halt>
     requires { IsReady file.now setup.old }
@@ -222,10 +234,11 @@ fn find<E: Engine, P: Sink>(
         Ok(lp) => lp,
         Err(refusal) => return refused(refusal),
     };
-    let sweep = match asked(alloc, problem, cells, verb) {
-        Ok(sweep) => sweep,
-        Err(refusal) => return refused(refusal),
+    let request = match request_of(alloc, problem, cells, verb) {
+        Ok(request) => request,
+        Err(stop) => return refused(refusal_of(stop)),
     };
+    let sweep = run_of(request, cells.steps_allowed());
     let sheet = Sheet { problem, lp: &lp };
     let finding = follow(
         alloc,
@@ -260,7 +273,7 @@ pub fn sweep<E: Engine, P: Sink>(
     machine: &mut Machine<Setup<E>>,
     print: &mut P,
     card: u32,
-    verb: SweepVerb,
+    verb: ParametricVerb,
 ) -> Result<Act, Halt>
     requires demands { AreDemands machine.old.cells }
     requires ready { IfSome machine.old.setup (IsReady machine.old.file) }

@@ -1,24 +1,17 @@
-// What PARAOBJ and PARARHS ask for.
-ghost use Rattle.std.specs.Prelude.{IfOk, IfErr};
-ghost use Rattle.control_run.specs.Sweeping.{IsAsked, IsNotAsked, IsLastValue, IsLastFault, sweep_shown, IsOf};
+// The parametric run of a request, as it is made.
+ghost use Rattle.std.specs.Prelude.{◌≡◌, ℕ};
+ghost use Rattle.lp_definitions.specs.LinearProgram.{LinearProgram};
+ghost use Rattle.problem_definitions.specs.Problem.{Problem};
+ghost use Rattle.parametric_request.specs.Asking.{sweep_of};
+ghost use Rattle.parametric_request.specs.Asking as requests;
+ghost use Rattle.control_run.specs.Sweeping.{sweep_shown, Serves};
 
 use frac128::Frac;
-use listing_definitions::{Solver, VerbFault};
-use lp_setup::{free_row, set_values};
+use listing_definitions::Solver;
 use name_table::Name;
 use para_objective::ParaObj;
 use para_rhs::ParaRhs;
-use problem_file::Problem;
-use run_cells::{Cells, NameCell};
-use run_machine::Refusal;
-use std::alloc::Global;
-
-/// A verb that makes a parametric run.
-#[derive(Clone, Copy)]
-pub enum SweepVerb {
-    Paraobj,
-    Pararhs,
-}
+use parametric_request::{Change, ParametricRequest};
 
 /// A parametric run, with the name of the row or set that changes.
 #[derive(Drop)]
@@ -27,92 +20,37 @@ pub enum Sweep {
     Set { name: Name, run: ParaRhs },
 }
 
-// The last value, where it isn't less than the first.
-fn last_value(cells: &Cells) -> Result<Frac, VerbFault>
-    ensures last { IfOk result (IsLastValue cells.now) }
-    ensures fault { IfErr result (IsLastFault cells.now) }
+/// The run of a request, in so many steps at most.
+pub fn run_of(request: ParametricRequest, limit: u32) -> Sweep
+    ensures shown { sweep_shown result ≡ sweep_of limit request }
+    ensures serves { (problem : Problem ℕ) (p : LinearProgram) → requests.Serves problem p request →
+        Serves problem p result }
 {
-    let Some(last) = cells.parmax() else {
-        return Err(VerbFault::NoParmax);
-    };
-    if last.is_less(cells.param()) {
-        return Err(VerbFault::ParmaxBelow);
-    }
-    Ok(last)
-}
-
-// The run of the objective that the cells ask for.
-fn row_sweep(problem: &Problem, cells: &Cells) -> Result<Sweep, Refusal>
-    ensures asked { IfOk result (λ sweep. IsAsked SweepVerb.Paraobj problem.now cells.now
-        (sweep_shown sweep)) }
-    ensures of { IfOk result (IsOf problem.now) }
-    ensures refused { IfErr result (IsNotAsked SweepVerb.Paraobj problem.now cells.now) }
-{
-    let Some(name) = cells.name(NameCell::Xchrow) else {
-        return Err(Refusal::Fault(VerbFault::NoChangeRow));
-    };
-    let Some(row) = free_row(problem, &name) else {
-        return Err(Refusal::Fault(VerbFault::NoChangeRow));
-    };
-    match last_value(cells) {
-        Ok(to) => Ok(Sweep::Row {
+    let ParametricRequest {
+        name,
+        change,
+        from,
+        to,
+    } = request;
+    match change {
+        Change::Row(row) => Sweep::Row {
             name,
             run: ParaObj {
                 row,
-                from: cells.param(),
+                from,
                 to,
-                limit: cells.steps_allowed(),
+                limit,
             },
-        }),
-        Err(fault) => Err(Refusal::Fault(fault)),
-    }
-}
-
-// The run of the right-hand side that the cells ask for.
-fn set_sweep(alloc: Global, problem: &Problem, cells: &Cells) -> Result<Sweep, Refusal>
-    ensures asked { IfOk result (λ sweep. IsAsked SweepVerb.Pararhs problem.now cells.now
-        (sweep_shown sweep)) }
-    ensures of { IfOk result (IsOf problem.now) }
-    ensures refused { IfErr result (IsNotAsked SweepVerb.Pararhs problem.now cells.now) }
-{
-    let Some(name) = cells.name(NameCell::Xchcol) else {
-        return Err(Refusal::Fault(VerbFault::NoChangeSet));
-    };
-    let Ok(values) = set_values(alloc, problem, &name) else {
-        return Err(Refusal::NoMemory);
-    };
-    let Some(shift) = values else {
-        return Err(Refusal::Fault(VerbFault::NoChangeSet));
-    };
-    match last_value(cells) {
-        Ok(to) => Ok(Sweep::Set {
+        },
+        Change::Set(shift) => Sweep::Set {
             name,
             run: ParaRhs {
                 shift,
-                from: cells.param(),
+                from,
                 to,
-                limit: cells.steps_allowed(),
+                limit,
             },
-        }),
-        Err(fault) => Err(Refusal::Fault(fault)),
-    }
-}
-
-/// The run that a verb asks for by the cells.
-pub fn asked(
-    alloc: Global,
-    problem: &Problem,
-    cells: &Cells,
-    verb: SweepVerb,
-) -> Result<Sweep, Refusal>
-    ensures asked { IfOk result (λ sweep. IsAsked verb problem.now cells.now
-        (sweep_shown sweep)) }
-    ensures of { IfOk result (IsOf problem.now) }
-    ensures refused { IfErr result (IsNotAsked verb problem.now cells.now) }
-{
-    match verb {
-        SweepVerb::Paraobj => row_sweep(problem, cells),
-        SweepVerb::Pararhs => set_sweep(alloc, problem, cells),
+        },
     }
 }
 
