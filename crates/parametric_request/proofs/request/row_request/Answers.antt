@@ -13,8 +13,10 @@ returns-in_default-free_row-clause-refused c =
 
 pub returns-in-Ok-clause-of : goal.returns-in-Ok-clause-of
 returns-in-Ok-clause-of c = (
-  ((row_changes c.args.problem.now c.args.cells.now c.in-Some.name c.free_row.result c.in-Some-free_row.row (sym c.name.ensures ∙ c.in-Some.is) c.free_row.ensures.number c.in-Some-free_row.is).1,
-  c.in-Some-free_row.ensures.free),
+  (
+    (row_changes c.args.problem.now c.args.cells.now c.in-Some.name c.free_row.result c.in-Some-free_row.row (sym c.name.ensures ∙ c.in-Some.is) c.free_row.ensures.number c.in-Some-free_row.is).1,
+    c.in-Some-free_row.ensures.free,
+  ),
   forward c.args.cells.now c.param.result c.in-Ok.to c.param.ensures c.in-Ok.ensures.last,
 )
 
