@@ -3,8 +3,19 @@
 //! tested.
 #![tactic(auto)]
 
+mod answering;
+mod chosen;
+mod execute;
+mod follow;
 mod found;
+mod place;
+mod selecting;
+mod setup;
+mod solution;
+mod solving;
+mod statements;
 mod walk;
+mod went;
 
 pub use found::Found;
 pub use walk::{closes, walk};
