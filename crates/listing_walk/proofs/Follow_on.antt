@@ -1,6 +1,9 @@
 -- What follows a statement that asks nothing.
 use Rattle.std.proofs.Common.{◌≡◌, ℕ, ◌+◌, Bool, true, false, ◌||◌, List, [], Option, Some, None, Result, Ok, Err, IfOk, length, refl, sym, ap, subst, ◌∙◌}
-use Rattle.std.specs.Prelude.{is_none, option_map}
+use Rattle.std.specs.Prelude.{is_none, is_some, not, option_map}
+use denote.Bor.{Bor}
+use Rattle.job_devices.specs.declared.device.NoMemory.{NoMemory}
+use Rattle.listing_readers.specs.Read.{taken}
 use Rattle.listing_definitions.specs.declared.Mark.{Mark}
 use Rattle.listing_definitions.specs.Ending.{Ending}
 use Rattle.run_definitions.specs.State.{State}
@@ -114,10 +117,10 @@ module _ (machine : Machine Chosen) (old new : Place) (act : Act) (text : List �
   -- what is open is found
   pub passes_open : (found : Found) → ((w : walks.Walker) → Faces old w → option_map found_shown (Some found) ≡ open_by (ends_run act || is_loud text) (ends_run act || is_none machine.mark) w) →
       Passes machine old new act text (went.Finds found)
-  passes_open found open = λ w card move cards position executed gain f plain follows same.
+  passes_open found there_is = λ w card move cards position executed gain f plain follows same.
       let o = outcome_of machine act text w card move cards position executed gain follows same in
       settled w card move o.outcome o.settles plain ∙
-      ap (λ (x : Option walks.Found). walks.unless_found x (walks.taken w o.outcome (left_after (gain_text (gain_of o.outcome)) w.rest))) (o.opens ∙ sym (open w f))
+      ap (λ (x : Option walks.Found). walks.unless_found x (walks.taken w o.outcome (left_after (gain_text (gain_of o.outcome)) w.rest))) (o.opens ∙ sym (there_is w f))
 
   module _ (none : (w : walks.Walker) → Faces old w → None ≡ open_by (ends_run act || is_loud text) (ends_run act || is_none machine.mark) w) where
     -- nothing is open
@@ -151,3 +154,34 @@ module _ (machine : Machine Chosen) (old new : Place) (act : Act) (text : List �
         } in
         subst (λ (t : walks.Turn). Comes t cards machine position executed new w') (sym (turn_taken w card move cards position executed gain f plain o same ∙ ap (walks.taken w o.outcome) there))
         (finishes v o.outcome cards machine position executed gain faces o.is_outcome)
+
+-- ---- with the tests by their results
+
+pub both : {a b x y z : Bool} → z ≡ (x || y) → x ≡ a → y ≡ b → z ≡ (a || b)
+both e f g = e ∙ (λ i. f i || g i)
+
+module _ (machine : Machine Chosen) (old : Place) (act : Act) (text : List ℕ) (looks clears : Bool) (is_looks : looks ≡ (ends_run act || is_loud text)) (is_clears : clears ≡ (ends_run act || is_none machine.mark)) where
+  -- what is open, by these tests
+  open_so : (x : Option walks.Found) → ((w : walks.Walker) → Faces old w → x ≡ open_by looks clears w) → (w : walks.Walker) → Faces old w → x ≡ open_by (ends_run act || is_loud text) (ends_run act || is_none machine.mark) w
+  open_so x there_is w f = there_is w f ∙ (λ i. open_by (is_looks i) (is_clears i) w)
+
+  pub passes_open_by : (new : Place) (found : Found) → ((w : walks.Walker) → Faces old w → option_map found_shown (Some found) ≡ open_by looks clears w) → Passes machine old new act text (went.Finds found)
+  passes_open_by new found there_is = passes_open machine old new act text found (open_so (Some (found_shown found)) there_is)
+
+  module _ (none : (w : walks.Walker) → Faces old w → None ≡ open_by looks clears w) where
+    pub passes_wrong_by : (mid : Place) (rest : Bor (List ℕ)) → rest.now ≡ old.cursor → (passes : Bool) → passes ≡ false → left_after text old.cursor ≡ taken passes mid.cursor → (new : Place) →
+        Passes machine old new act text (went.Finds (founds.Wrong rest))
+    passes_wrong_by mid rest here passes gone there new =
+        passes_wrong machine old new act text (open_so None none) (founds.Wrong rest) (there ∙ ap (λ (b : Bool). taken b mid.cursor) gone) (ap (λ (left : List ℕ). walks.Wrong left) here)
+
+    pub passes_on_by : (mid new : Place) (passes : Bool) → passes ≡ true → left_after text old.cursor ≡ taken passes mid.cursor → mid.pending ≡ old.pending → (passes ≡ true → mid.reports ≡ old.reports + one_if (is_loud text)) →
+        (result : Result Went NoMemory) → IfOk result (Finishes mid new act) → IfOk result (Passes machine old new act text)
+    passes_on_by mid new passes there_is there kept counted (Ok w') finishes =
+        passes_on machine old new act text (open_so None none) mid w' (there ∙ ap (λ (b : Bool). taken b mid.cursor) there_is) kept (counted there_is) finishes
+    passes_on_by mid new passes there_is there kept counted (Err stop) finishes = tt
+
+pub is_none_by : {X : Type 0} (o : Option X) (b : Bool) → is_some o ≡ not b → b ≡ is_none o
+is_none_by None true e = refl
+is_none_by None false e = absurd (cc e)
+is_none_by (Some x) true e = absurd (cc e)
+is_none_by (Some x) false e = refl

@@ -6,3 +6,4 @@ mod Setting_up
 mod Sound
 mod Clamping
 mod Stepping
+mod Asked

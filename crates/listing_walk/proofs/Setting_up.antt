@@ -30,7 +30,8 @@ use Rattle.listing_walk.specs.declared.chosen.Named.{Named}
 use Rattle.listing_walk.specs.declared.found.Found.{Found}
 use Rattle.listing_walk.specs.declared.place.Place.{Place}
 use Rattle.listing_walk.specs.declared.selecting.Unselected.{Unselected}
-use Rattle.listing_walk.specs.declared.selecting.Unselected.TheVariants.{Fault, Unchecked, NoMemory}
+use Rattle.listing_walk.specs.declared.selecting.Unselected.TheVariants.{Fault, Unchecked}
+use Rattle.job_devices.specs.declared.device.NoMemory.{NoMemory}
 use Rattle.listing_walk.specs.declared.went.Went.{Went}
 use Rattle.listing_walk.specs.declared.went.Went.TheVariants as went
 use Rattle.listing_walk.specs.Ended.{found_shown}
@@ -42,6 +43,10 @@ use Rattle.listing_walk.proofs.Selected.{fault_move, found_move, unselected_move
 -- the problem that is wanted is on file
 pub filed_by : (wanted : Option Name) (file : Filed) (name : Name) (found : Option (Problem ℕ)) → named wanted file ≡ Some name → filed_under name file ≡ found → filed wanted file ≡ found
 filed_by wanted file name found is on_file = rw is on_file
+
+-- no problem is wanted, and none was put last
+pub filed_none : (wanted : Option Name) (file : Filed) → named wanted file ≡ None → filed wanted file ≡ None
+filed_none wanted file none = rw none refl
 
 -- ---- a fault
 
@@ -144,3 +149,24 @@ module _ (card : ℕ) (cards : List (List ℕ)) (machine : Machine Chosen) (opti
         (passes w card (Does outcome) cards position executed (Prints (SetUp o.problem.name options.sense)) f refl
         (after_setup o.problem options opened.chosen.lp state, refl, stands_set_up s)
         (ap (λ (n : Name). report_text (SetUp n options.sense)) (sym o.is_own) ∙ sym is))
+
+-- ---- by the result
+
+module _ (card : ℕ) (cards : List (List ℕ)) (machine : Machine Chosen) (options : SetupOptions) (old new : Place) (result : Result Went NoMemory) where
+  pub setup_done_by : (opened : Named) (o : IsOpened machine.cells machine.file options opened) (text : List ℕ) → text ≡ report_text (SetUp opened.name options.sense) →
+      IfOk result (Passes (record machine { setup = Some opened.chosen; mark = None }) old new acts.Next text) →
+      IfOk result (Walks (SetupVerb options) card cards machine (record machine { setup = Some opened.chosen; mark = None }) old new)
+  setup_done_by opened o text is passes = done result passes
+    where
+      done : (r : Result Went NoMemory) → IfOk r (Passes (record machine { setup = Some opened.chosen; mark = None }) old new acts.Next text) →
+          IfOk r (Walks (SetupVerb options) card cards machine (record machine { setup = Some opened.chosen; mark = None }) old new)
+      done (Ok went) h = setup_done card cards machine options opened o old new text went is h
+      done (Err stop) h = tt
+
+  pub setup_faulted_by : (fault : VerbFault) → IsNotOpened machine.cells machine.file options (Fault fault) → IfOk result (Passes machine old new (acts.Ends (ends.Verb fault card)) []) →
+      IfOk result (Walks (SetupVerb options) card cards machine machine old new)
+  setup_faulted_by fault not passes = faults result passes
+    where
+      faults : (r : Result Went NoMemory) → IfOk r (Passes machine old new (acts.Ends (ends.Verb fault card)) []) → IfOk r (Walks (SetupVerb options) card cards machine machine old new)
+      faults (Ok went) h = setup_faulted card cards machine options old new fault went not h
+      faults (Err stop) h = tt

@@ -2,6 +2,8 @@
 use Rattle.std.proofs.Common.{◌≡◌, ℕ, false, List, [], ◌∷◌, ◌++◌, Option, Some, None, Result, Ok, Err, IfOk, refl, sym, ap, subst, ◌∙◌}
 use Rattle.std.specs.Io.KnownBytes.{Appends}
 use Rattle.job_devices.specs.declared.device.NoMemory.{NoMemory}
+use Rattle.job_devices.specs.declared.memory.SureSink.{SureSink}
+use Rattle.job_devices.specs.Memory.{sure_bytes, sure_stopped}
 use Rattle.control_definitions.specs.declared.NameCell.{NameCell}
 use Rattle.control_definitions.specs.declared.NumberCell.{NumberCell}
 use Rattle.control_definitions.specs.declared.Demand.{Demand}
@@ -120,3 +122,20 @@ pub walks_quietly : (verb : Verb ℕ) (card : ℕ) (cards : List (List ℕ)) (ol
     (result : Result Went NoMemory) → IfOk result (Passes new place_old place_new act []) → IfOk result (Walks verb card cards old new place_old place_new)
 walks_quietly verb card cards old new place_old place_new act plain decides =
     walks_by verb card cards old new place_old place_new act [] plain (λ position executed state s. record { gain = Nothing; comes = decides cards position executed state s; is_text = refl })
+
+-- ---- with a sink in memory
+
+module _ (verb : Verb ℕ) (card : ℕ) (cards : List (List ℕ)) (old new : Machine Chosen) (place_old place_new : Place) (act : Act) (text : List ℕ) (plain : IsPlain verb card) (from to : SureSink) (none : sure_bytes from ≡ []) (all : text ≡ sure_bytes to)
+    (result : Result Went NoMemory) (passes : IfOk result (Passes new place_old place_new act text)) where
+  pub walks_loudly : Executes IsShown Settles verb card (λ (s : SureSink). Some (sure_bytes s)) (λ (s : SureSink). sure_stopped s) (λ (s : SureSink). 0) (λ (s : SureSink). s.refusals) from to cards old new (Ok act) →
+      IfOk result (Walks verb card cards old new place_old place_new)
+  walks_loudly executes =
+      walks_printed verb card cards old new place_old place_new act text plain (λ (s : SureSink). Some (sure_bytes s)) (λ (s : SureSink). sure_stopped s) (λ (s : SureSink). 0) (λ (s : SureSink). s.refusals) from to
+      (ap Some none) (ap Some (sym all)) executes result passes
+
+  pub walks_punching : {U : Type 0} (punch_written punch_stopped_at : U → Option (List ℕ)) (punch_faults punch_refusals : U → ℕ) (punch_old punch_new : U) →
+      Performs IsShown Settles verb card (λ (s : SureSink). Some (sure_bytes s)) (λ (s : SureSink). sure_stopped s) (λ (s : SureSink). 0) (λ (s : SureSink). s.refusals) from to
+      punch_written punch_stopped_at punch_faults punch_refusals punch_old punch_new cards old new (Ok act) → IfOk result (Walks verb card cards old new place_old place_new)
+  walks_punching punch_written punch_stopped_at punch_faults punch_refusals punch_old punch_new performs =
+      walks_punched verb card cards old new place_old place_new act text plain (λ (s : SureSink). Some (sure_bytes s)) (λ (s : SureSink). sure_stopped s) (λ (s : SureSink). 0) (λ (s : SureSink). s.refusals) from to
+      (ap Some none) (ap Some (sym all)) punch_written punch_stopped_at punch_faults punch_refusals punch_old punch_new performs result passes

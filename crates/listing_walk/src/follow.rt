@@ -1,10 +1,12 @@
 // What follows a statement.
-ghost use Rattle.std.specs.Prelude.{◌≡◌, ◌+◌, ◌≤◌, ◌<◌, IfOk};
+ghost use Rattle.std.specs.Prelude.{◌≡◌, ◌+◌, ◌≤◌, ◌<◌, ◌||◌, [], IfOk};
+ghost use Rattle.run_machine.specs.declared.act.Act.TheVariants as acts;
+ghost use Rattle.run_machine.specs.declared.end.End.TheVariants as ends;
 ghost use Rattle.listing_walk.specs.Walking.{ends_run, Finishes, Passes};
 
 use crate::chosen::Chosen;
 use crate::found::Found;
-use crate::place::Place;
+use crate::place::{Place, is_loud};
 use crate::went::Went;
 use job_devices::NoMemory;
 use listing_definitions::VerbFault;
@@ -19,6 +21,13 @@ fn ends_run(act: &Act) -> bool
         Act::Next | Act::Jump(_) => false,
         Act::Ends(_) => true,
     }
+}
+
+// One of two holds.
+fn either(a: bool, b: bool) -> bool
+    ensures { result ≡ (a || b) }
+{
+    a || b
 }
 
 /// Goes on as an act says, once the report is passed. An end is due in a line of its own.
@@ -53,8 +62,8 @@ pub fn follow<'a>(
     ensures few { place.new.reports ≤ place.old.reports + 1 }
 {
     let ends = ends_run(act);
-    let looks = ends || is_loud(text);
-    let clears = ends || machine.mark.is_none();
+    let looks = either(ends, is_loud(text));
+    let clears = either(ends, machine.mark.is_none());
     if let Some(found) = place.open_here(looks, clears) {
         return Ok(Went::Finds(found));
     }

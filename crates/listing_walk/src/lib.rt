@@ -5,6 +5,7 @@
 
 mod answering;
 mod chosen;
+mod course;
 mod execute;
 mod follow;
 mod found;
@@ -14,8 +15,7 @@ mod setup;
 mod solution;
 mod solving;
 mod statements;
-mod walk;
 mod went;
 
 pub use found::Found;
-pub use walk::{closes, walk};
+pub use course::{closes, walk};

@@ -1,7 +1,9 @@
 // Where the walk stands in a listing.
 ghost use Rattle.std.specs.Prelude.{◌≡◌, ◌+◌, ◌≤◌, ◌<◌, true, false, [], IfOk, option_map};
 ghost use Rattle.job_devices.specs.Memory.{sure_bytes};
-ghost use Rattle.report_text.specs.Shown.{IsReport, text_shown, IsEnding, ending_shown};
+ghost use Rattle.job_devices.specs.Text.{Writes};
+ghost use Rattle.report_text.specs.Shown.{IsEnding, ending_shown};
+ghost use Rattle.listing_definitions.specs.Listing.{ending_text};
 ghost use Rattle.walk_definitions.specs.Words.{left_after};
 ghost use Rattle.walk_definitions.specs.Walker as walks;
 ghost use Rattle.listing_readers.specs.Read.{taken};
@@ -11,7 +13,7 @@ ghost use Rattle.listing_walk.specs.Walking.{open_by, is_loud, one_if, IsUncheck
 
 use crate::found::Found;
 use frac128::Frac;
-use job_devices::{NoMemory, SureSink};
+use job_devices::{NoMemory, Sink, SureSink, WriteStop};
 use listing_readers::{Cursor, is_open_stop};
 use report_text::{Ending, Report, text_of};
 use std::alloc::Global;
@@ -33,20 +35,28 @@ pub struct Place<'a> {
     pub reports: u32,
 }
 
-/// The text of a report.
-pub fn text_in(alloc: Global, report: &Report<'_>) -> Result<SureSink, NoMemory>
-    requires { IsReport report.now }
-    ensures { IfOk result (λ text. sure_bytes text ≡ text_shown report.now) }
+// Writes the text of an end.
+fn put_end<P: Sink>(print: &mut P, ending: &Ending<'_>) -> Result<(), WriteStop>
+    requires { IsEnding ending.now }
+    ensures { Writes P.written P.stopped_at P.faults P.refusals print.old print.new result (ending_text (ending_shown ending.now)) }
+{
+    text_of(&Report::End(*ending), print)
+}
+
+// The text of an end.
+fn end_text(alloc: Global, ending: &Ending<'_>) -> Result<SureSink, NoMemory>
+    requires { IsEnding ending.now }
+    ensures { IfOk result (λ text. sure_bytes text ≡ ending_text (ending_shown ending.now)) }
 {
     let mut text = SureSink::new(alloc)?;
-    match text_of(report, &mut text) {
+    match put_end(&mut text, ending) {
         Ok(()) => Ok(text),
         Err(_) => Err(NoMemory),
     }
 }
 
-// Something is printed.
-fn is_loud(text: &[u8]) -> bool
+/// Something is printed.
+pub fn is_loud(text: &[u8]) -> bool
     ensures { result ≡ is_loud text.now }
 {
     !text.is_empty()
@@ -70,7 +80,7 @@ impl<'a> Place<'a> {
     fn pending_here(&self) -> Option<Found<'a>>
         ensures { (w : walks.Walker) → Faces self.now w → option_map found_shown result ≡ walks.open_pending w }
     {
-        match self.pending {
+        match &self.pending {
             Some(pending) => Some(Found::Open(pending.rest)),
             None => None,
         }
@@ -129,7 +139,7 @@ impl<'a> Place<'a> {
             return Ok(found);
         }
         let rest = self.cursor.left();
-        let text = text_in(alloc, &Report::End(*ending))?;
+        let text = end_text(alloc, ending)?;
         if !self.cursor.take(text.bytes()) {
             return Ok(Found::Wrong(rest));
         }

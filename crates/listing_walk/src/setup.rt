@@ -1,6 +1,10 @@
 // SETUP.
 ghost use Rattle.std.specs.Prelude.{◌≡◌, ◌+◌, ◌≤◌, ◌<◌, ℕ, List, IfOk, IfErr};
+ghost use Rattle.job_devices.specs.Memory.{sure_bytes};
+ghost use Rattle.job_devices.specs.Text.{Writes};
 ghost use Rattle.control_definitions.specs.Program as program;
+ghost use Rattle.listing_definitions.specs.Report.{SetUp};
+ghost use Rattle.listing_definitions.specs.Text.{report_text};
 ghost use Rattle.control_verbs.specs.Shown.{options_shown};
 ghost use Rattle.listing_walk.specs.Choosing.{IsOpened, IsNotOpened};
 ghost use Rattle.listing_walk.specs.Standing.{IsSound};
@@ -8,15 +12,17 @@ ghost use Rattle.listing_walk.specs.Walking.{Walks};
 
 use crate::chosen::{Chosen, Named};
 use crate::follow::{fault, follow};
-use crate::place::{Place, text_in};
+use crate::place::Place;
 use crate::selecting::{Unselected, select_present};
 use crate::went::Went;
 use control_verbs::SetupOptions;
-use job_devices::NoMemory;
+use job_devices::{NoMemory, Sink, SureSink, WriteStop};
 use listing_definitions::VerbFault;
+use lp_definitions::Sense;
 use lp_setup::SetupChoice;
+use name_table::Name;
 use problem_file::ProblemFile;
-use report_text::Report;
+use report_text::{Report, text_of};
 use run_cells::{Cells, NameCell};
 use run_machine::{Act, Machine, setup_choice, wanted_name};
 use std::alloc::Global;
@@ -46,6 +52,25 @@ fn choose(
     }
 }
 
+// Writes the report of SETUP.
+fn put_set_up<P: Sink>(print: &mut P, name: Name, sense: Sense) -> Result<(), WriteStop>
+    ensures { Writes P.written P.stopped_at P.faults P.refusals print.old print.new result
+        (report_text (SetUp name sense)) }
+{
+    text_of(&Report::SetUp { name, sense }, print)
+}
+
+// The report of SETUP.
+fn set_up_text(alloc: Global, name: Name, sense: Sense) -> Result<SureSink, NoMemory>
+    ensures { IfOk result (λ text. sure_bytes text ≡ report_text (SetUp name sense)) }
+{
+    let mut text = SureSink::new(alloc)?;
+    match put_set_up(&mut text, name, sense) {
+        Ok(()) => Ok(text),
+        Err(_) => Err(NoMemory),
+    }
+}
+
 /// SETUP: chooses the problem that XPBNAME names, or else the one filed last, selects of it by the present cells and these options,
 /// and keeps it. Clears the mark.
 pub fn set_up<'a>(
@@ -63,14 +88,11 @@ pub fn set_up<'a>(
 {
     let kept = setup_choice(options);
     match choose(alloc, &machine.cells, &machine.file, kept) {
-        Ok(Named { name, chosen }) => {
+        Ok(named) => {
+            let Named { name, chosen } = named;
             machine.setup = Some(chosen);
             machine.mark = None;
-            let report = Report::SetUp {
-                name,
-                sense: options.sense,
-            };
-            let text = text_in(alloc, &report)?;
+            let text = set_up_text(alloc, name, options.sense)?;
             follow(alloc, machine, place, &Act::Next, text.bytes())
         }
         Err(Unselected::Fault(refusal)) => fault(alloc, machine, place, refusal, card),
