@@ -1,10 +1,11 @@
 -- A statement at a position, and where it leads.
-use Rattle.std.proofs.Common.{◌≡◌, ℕ, ◌+◌, ◌-◌, ◌≤◌, ◌<◌, Bool, true, false, List, [], Option, Some, None, IfOk, Ok, slice_get, drop, length, refl, sym, ap, subst, ◌∙◌, if◌then◌else◌, arith}
+use Rattle.std.proofs.Common.{◌≡◌, ℕ, ◌+◌, ◌-◌, ◌≤◌, ◌<◌, Bool, true, false, List, [], Option, Some, None, Result, IfOk, Ok, Err, slice_get, drop, length, refl, sym, ap, subst, ◌∙◌, if◌then◌else◌, arith, rules}
 use Rattle.std.specs.Prelude.{nat_lt}
 use Rattle.card_definitions.specs.Cards.{numbered_cards}
 use Rattle.deck_definitions.specs.Decks.{decks_of}
 use Rattle.control_definitions.specs.Program.{Statement, Program}
-use Rattle.listing_definitions.specs.Ending.{Ended, StatementLimit}
+use Rattle.job_devices.specs.declared.device.NoMemory.{NoMemory}
+use Rattle.listing_definitions.specs.Ending.{Ending, Ended, StatementLimit}
 use Rattle.run_definitions.specs.State.{State, start}
 use Rattle.run_definitions.specs.Run.{counted, max_executed}
 use Rattle.run_machine.specs.declared.machine.Machine.{Machine}
@@ -150,3 +151,27 @@ module _ (program : Program) (cards : List (List ℕ)) (listing : List ℕ) wher
       reaches = u.reaches;
       finds = turn_at_limit program u.walker (rw u.stands.state.is_position within) (rw u.stands.state.is_executed most) ∙ closes u.walker u.stands.faces;
     }
+
+  -- ---- by the result of a comparison with an end
+
+  module _ {machine : Machine Chosen} {place : Place} {position executed : ℕ} (u : IsUnderway machine place position executed) (result : Result Found NoMemory) where
+    pub over_by : length program.statements < position → IfOk result (λ found. (w : walks.Walker) → Faces place w → walks.closes w (Ended 0) ≡ walks.Finds (found_shown found)) → IfOk result (IsFoundBy program cards listing)
+    over_by over closes = by result closes
+      where
+        by : (r : Result Found NoMemory) → IfOk r (λ found. (w : walks.Walker) → Faces place w → walks.closes w (Ended 0) ≡ walks.Finds (found_shown found)) → IfOk r (IsFoundBy program cards listing)
+        by (Ok found) h = underway_over u found over h
+        by (Err stop) h = tt
+
+    pub at_limit_by : position ≤ length program.statements → 100000 ≤ executed → IfOk result (λ found. (w : walks.Walker) → Faces place w → walks.closes w StatementLimit ≡ walks.Finds (found_shown found)) →
+        IfOk result (IsFoundBy program cards listing)
+    at_limit_by within most closes = by result closes
+      where
+        by : (r : Result Found NoMemory) → IfOk r (λ found. (w : walks.Walker) → Faces place w → walks.closes w StatementLimit ≡ walks.Finds (found_shown found)) → IfOk r (IsFoundBy program cards listing)
+        by (Ok found) h = underway_at_limit u found within most h
+        by (Err stop) h = tt
+
+-- an end before any report
+pub closes_first : (listing : List ℕ) (place : Place) → place.cursor ≡ listing → place.pending ≡ None → place.reports ≡ 0 → (ending : Ending) (result : Result Found NoMemory) →
+    IfOk result (λ found. (w : walks.Walker) → Faces place w → walks.closes w ending ≡ walks.Finds (found_shown found)) → IfOk result (λ found. walks.closes (first_walker [] listing) ending ≡ walks.Finds (found_shown found))
+closes_first listing place rest none no_reports ending (Ok found) closes = closes (first_walker [] listing) (record { rest = sym rest; pending = rw none refl; reports = sym no_reports })
+closes_first listing place rest none no_reports ending (Err stop) closes = tt
