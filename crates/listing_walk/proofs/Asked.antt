@@ -1,6 +1,7 @@
 -- What a question comes to in the walk.
 use Rattle.std.proofs.Common.{◌≡◌, ℕ, ◌+◌, Bool, true, false, List, Option, Some, None, Result, Ok, Err, refl, sym, ap, subst, ◌∙◌, if◌then◌else◌}
 use Rattle.std.specs.Prelude.{option_map}
+use Rattle.std.proofs.lemmas.Option.{same_Some}
 use Rattle.std.specs.Option.{option_or}
 use denote.Bor.{Bor}
 use Rattle.exact_values.specs.Rational.{ℚ}
@@ -30,7 +31,7 @@ use Rattle.listing_walk.specs.declared.place.Place.{Place}
 use Rattle.listing_walk.specs.Ended.{found_shown}
 use Rattle.listing_walk.specs.Standing.{ShowsPending, Faces}
 use Rattle.listing_walk.specs.Walking.{open_by}
-use Rattle.listing_walk.specs.Asking.{stopped_by, is_optimal, IsSettling, asked_turn, IsTaken, Answered, IsMarked, IsAny}
+use Rattle.listing_walk.specs.Asking.{stopped_by, is_optimal, settled_by, IsSettling, asked_turn, IsTaken, Answered, IsMarked, IsAny}
 
 -- ---- conclusions
 
@@ -90,7 +91,7 @@ module _ (question : Question) (sheet : Sheet) (old : Place) (open_there : walks
         ap (λ (rest : List ℕ). walks.answered w question sheet go (judged question sheet rest)) f.rest ∙ ap (walks.answered w question sheet go) is
 
     -- it isn't right, or an operation of its test is refused
-    pub stopped_answered : {X : Type 0} (Shows Holds : X → Answer question → Type 0) (new : Place) (cursor : List ℕ) (stop : Stop) (rest : Bor (List ℕ)) → rest.now ≡ old.cursor →
+    pub stopped_answered : {X Y : Type 0} (Shows : X → Answer question → Type 0) (Holds : Y → Answer question → Type 0) (new : Place) (cursor : List ℕ) (stop : Stop) (rest : Bor (List ℕ)) → rest.now ≡ old.cursor →
         Taken Shows (judged question sheet old.cursor) cursor (Err stop) → Answered question sheet old new Holds (Err (stopped_by stop rest))
     stopped_answered Shows Holds new cursor stops.Wrong rest here taken = λ w go f. turn_answered w go f Fails taken ∙ ap (λ (left : List ℕ). walks.Finds (walks.Wrong left)) (f.rest ∙ sym here)
     stopped_answered Shows Holds new cursor stops.Unchecked rest here taken = λ w go f. turn_answered w go f Refuses taken ∙ ap (λ (left : List ℕ). walks.Finds (walks.Unchecked left)) (f.rest ∙ sym here)
@@ -131,37 +132,38 @@ module _ (solver : Solver) (limit : Option ℕ) (sheet : Sheet) (old new : Place
 
 -- ---- SOLUTION
 
+-- the same test, by the check that stands in the listing
+settles_by : (pending : Pending) (objective : ℚ) (check : Check) → says_checked check ≡ pending.is_checked →
+    walks.settles (record { rest = pending.rest.now; objective = pending.objective; check = check }) objective ≡ settled_by pending objective
+settles_by pending objective check same = ap (λ (b : Bool). if eq_ℚ pending.objective objective then b else false) same
+
+abbrev turn_settled : walks.Turn → Pending → Bool → walks.Turn
+turn_settled turn pending b = if b then turn else walks.Finds (walks.Wrong pending.rest.now)
+
+is_settled : (w : walks.Walker) (pending : Pending) (shown : Option walks.Pending) (objective : ℚ) (turn : walks.Turn) → ShowsPending (Some pending) shown → walks.settled w shown objective turn ≡ turn_settled turn pending (settled_by pending objective)
+is_settled w pending shown objective turn shows =
+    ap (λ (p : Option walks.Pending). walks.settled w p objective turn) shows.1 ∙ ap (turn_settled turn pending) (settles_by pending objective shows.0 shows.2)
+
+by_none : (turn : walks.Turn) (pending : Pending) (b : Bool) → None ≡ (if b then None else Some (Wrong pending.rest)) → turn_settled turn pending b ≡ turn
+by_none turn pending true h = refl
+by_none turn pending false h = absurd (cc h)
+
+by_some : (turn : walks.Turn) (pending : Pending) (found : Found) (b : Bool) → Some found ≡ (if b then None else Some (Wrong pending.rest)) → turn_settled turn pending b ≡ walks.Finds (found_shown found)
+by_some turn pending found true h = absurd (cc h)
+by_some turn pending found false h = ap (λ (x : Found). walks.Finds (found_shown x)) (sym (same_Some found (Wrong pending.rest) h))
+
 settled_none : (w : walks.Walker) (pending : Option Pending) (shown : Option walks.Pending) (objective : ℚ) (turn : walks.Turn) → ShowsPending pending shown → IsSettling pending objective None → walks.settled w shown objective turn ≡ turn
 settled_none w None shown objective turn shows is = ap (λ (p : Option walks.Pending). walks.settled w p objective turn) shows
-settled_none w (Some pending) shown objective turn shows is =
-    ap (λ (p : Option walks.Pending). walks.settled w p objective turn) shows.1 ∙
-    settled_by (eq_ℚ pending.objective objective) (says_checked shows.0) pending.is_checked shows.2 is
-  where
-    settled_by : (same given checked : Bool) → given ≡ checked → None ≡ (if same then (if checked then None else Some (Wrong pending.rest)) else Some (Wrong pending.rest)) →
-        (if (if same then given else false) then turn else walks.Finds (walks.Wrong pending.rest.now)) ≡ turn
-    settled_by true true checked e h = refl
-    settled_by true false true e h = absurd (cc e)
-    settled_by true false false e h = absurd (cc h)
-    settled_by false given checked e h = absurd (cc h)
+settled_none w (Some pending) shown objective turn shows is = is_settled w pending shown objective turn shows ∙ by_none turn pending (settled_by pending objective) is
 
 settled_some : (w : walks.Walker) (pending : Option Pending) (shown : Option walks.Pending) (objective : ℚ) (turn : walks.Turn) (found : Found) → ShowsPending pending shown → IsSettling pending objective (Some found) →
     walks.settled w shown objective turn ≡ walks.Finds (found_shown found)
 settled_some w None shown objective turn found shows is = absurd (cc is)
-settled_some w (Some pending) shown objective turn found shows is =
-    ap (λ (p : Option walks.Pending). walks.settled w p objective turn) shows.1 ∙
-    settled_by (eq_ℚ pending.objective objective) (says_checked shows.0) pending.is_checked shows.2 is
-  where
-    settled_by : (same given checked : Bool) → given ≡ checked → Some found ≡ (if same then (if checked then None else Some (Wrong pending.rest)) else Some (Wrong pending.rest)) →
-        (if (if same then given else false) then turn else walks.Finds (walks.Wrong pending.rest.now)) ≡ walks.Finds (found_shown found)
-    settled_by true true true e h = absurd (cc h)
-    settled_by true true false e h = absurd (cc e)
-    settled_by true false true e h = absurd (cc e)
-    settled_by true false false e h = let same : found ≡ Wrong pending.rest = cc in ap (λ (x : Found). walks.Finds (found_shown x)) (sym same)
-    settled_by false given checked e h = let same : found ≡ Wrong pending.rest = cc in ap (λ (x : Found). walks.Finds (found_shown x)) (sym same)
+settled_some w (Some pending) shown objective turn found shows is = is_settled w pending shown objective turn shows ∙ by_some turn pending found (settled_by pending objective) is
 
 -- a stop alone is open at SOLUTION
-pub opens_shown : {sheet : Sheet} (mark : Mark) (w : walks.Walker) (go : SolutionLines → Outcome) → walks.open_question w (OfSolution mark) sheet go ≡ open_by true false w
-opens_shown mark w go = by (walks.open_stop w)
+pub opens_shown : (sheet : Sheet) (mark : Mark) (w : walks.Walker) (go : SolutionLines → Outcome) → walks.open_question w (OfSolution mark) sheet go ≡ open_by true false w
+opens_shown sheet mark w go = by (walks.open_stop w)
   where
     by : (x : Option walks.Found) → x ≡ option_or x None
     by None = refl
@@ -181,7 +183,7 @@ module _ (sheet : Sheet) (old : Place) (none : (w : walks.Walker) → Faces old 
         record {
           answer = lines;
           walker = v;
-          is_turn = turn_answered (OfSolution marks.Optimal) sheet old (open_by true false) (opens_shown marks.Optimal) none w go f (Right lines cursor) taken.is_right ∙
+          is_turn = turn_answered (OfSolution marks.Optimal) sheet old (open_by true false) (opens_shown sheet marks.Optimal) none w go f (Right lines cursor) taken.is_right ∙
               ap (λ (x : ℚ). walks.settled w w.pending x (walks.follows v (go lines))) (sym taken.shows) ∙
               settled_none w old.pending w.pending objective (walks.follows v (go lines)) f.pending settling;
           faces = record { rest = sym is_cursor; pending = subst (λ (p : Option Pending). ShowsPending p None) (sym is_none) refl; reports = ap (λ n. n + 1) f.reports ∙ sym counted };
@@ -193,7 +195,7 @@ module _ (sheet : Sheet) (old : Place) (none : (w : walks.Walker) → Faces old 
   unsettled found new settling taken = λ w go f.
       let lines : SolutionLines = taken.answer in
       let v : walks.Walker = record (walks.passed cursor 1 w) { pending = None } in
-      turn_answered (OfSolution marks.Optimal) sheet old (open_by true false) (opens_shown marks.Optimal) none w go f (Right lines cursor) taken.is_right ∙
+      turn_answered (OfSolution marks.Optimal) sheet old (open_by true false) (opens_shown sheet marks.Optimal) none w go f (Right lines cursor) taken.is_right ∙
       ap (λ (x : ℚ). walks.settled w w.pending x (walks.follows v (go lines))) (sym taken.shows) ∙
       settled_some w old.pending w.pending objective (walks.follows v (go lines)) found f.pending settling
 
@@ -209,10 +211,24 @@ module _ (sheet : Sheet) (old : Place) (none : (w : walks.Walker) → Faces old 
     other_answered mark other taken = λ w go f. record {
       answer = taken.answer;
       walker = record (walks.passed cursor 1 w) { pending = w.pending };
-      is_turn = turn_answered (OfSolution mark) sheet old (open_by true false) (opens_shown mark) none w go f (Right taken.answer cursor) taken.is_right ∙ shown_by mark other w go taken.answer f;
+      is_turn = turn_answered (OfSolution mark) sheet old (open_by true false) (opens_shown sheet mark) none w go f (Right taken.answer cursor) taken.is_right ∙ shown_by mark other w go taken.answer f;
       faces = record { rest = sym is_cursor; pending = subst (λ (p : Option Pending). ShowsPending p w.pending) (sym kept) f.pending; reports = ap (λ n. n + 1) f.reports ∙ sym counted };
       holds = tt;
     }
+
+-- under OPTIMAL
+module _ (sheet : Sheet) (old : Place) (none : (w : walks.Walker) → Faces old w → None ≡ open_by true false w) (cursor : List ℕ) (objective : ℚ) where
+  pub optimal_by : (mark : Mark) → is_optimal mark ≡ true → IsSettling old.pending objective None → (new : Place) → new.cursor ≡ cursor → new.pending ≡ None → new.reports ≡ old.reports + 1 →
+      Taken (IsShownObjective sheet) (judged (OfSolution mark) sheet old.cursor) cursor (Ok objective) → Answered (OfSolution mark) sheet old new (IsAny (OfSolution mark)) (Ok tt)
+  optimal_by marks.Optimal is settling new is_cursor is_none counted taken = optimal_answered sheet old none cursor objective settling new is_cursor is_none counted taken
+  optimal_by marks.Infeasible is settling new is_cursor is_none counted taken = absurd (cc is)
+  optimal_by marks.Unbounded is settling new is_cursor is_none counted taken = absurd (cc is)
+
+  pub unsettled_by : (mark : Mark) → is_optimal mark ≡ true → (found : Found) (new : Place) → IsSettling old.pending objective (Some found) →
+      Taken (IsShownObjective sheet) (judged (OfSolution mark) sheet old.cursor) cursor (Ok objective) → Answered {X = Unit {0}} (OfSolution mark) sheet old new (IsAny (OfSolution mark)) (Err (Finds found))
+  unsettled_by marks.Optimal is found new settling taken = unsettled sheet old none cursor objective found new settling taken
+  unsettled_by marks.Infeasible is found new settling taken = absurd (cc is)
+  unsettled_by marks.Unbounded is found new settling taken = absurd (cc is)
 
 -- ---- PARAOBJ and PARARHS
 

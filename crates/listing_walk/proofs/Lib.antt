@@ -7,3 +7,4 @@ mod Sound
 mod Clamping
 mod Stepping
 mod Asked
+mod Solving_walks

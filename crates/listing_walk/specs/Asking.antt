@@ -35,10 +35,14 @@ is_optimal Optimal = true
 is_optimal Infeasible = false
 is_optimal Unbounded = false
 
+-- a pending verdict has this objective, and its check was made
+abbrev pub settled_by : Pending → ℚ → Bool
+settled_by pending objective = if eq_ℚ pending.objective objective then pending.is_checked else false
+
 -- what is pending is settled by this objective, or found wrong
 abbrev pub IsSettling : Option Pending → ℚ → Option Found → Type 0
 IsSettling None objective found = found ≡ None
-IsSettling (Some pending) objective found = found ≡ (if eq_ℚ pending.objective objective then (if pending.is_checked then None else Some (Wrong pending.rest)) else Some (Wrong pending.rest))
+IsSettling (Some pending) objective found = found ≡ (if settled_by pending objective then None else Some (Wrong pending.rest))
 
 abbrev pub asked_turn : walks.Walker → (question : Question) → Sheet → (Answer question → Outcome) → walks.Turn
 asked_turn w question sheet go = walks.unless_found (walks.open_question w question sheet go) (walks.answered w question sheet go (judged question sheet w.rest))

@@ -1,5 +1,6 @@
 // The answers to questions, where the walk stands.
 ghost use Rattle.std.specs.Prelude.{◌≡◌, ◌+◌, ◌≤◌, ◌<◌, ℕ, Option, None};
+ghost use Rattle.exact_values.specs.Tests.{eq_ℚ};
 ghost use Rattle.lp_definitions.specs.LinearProgram.{IsLinearProgram};
 ghost use Rattle.listing_definitions.specs.Report.{PathVerdict, Check};
 ghost use Rattle.question_definitions.specs.Answers.{OfPath, OfSolution, OfSweep};
@@ -10,7 +11,7 @@ ghost use Rattle.listing_readers.specs.Read.{sheet_shown};
 ghost use Rattle.parametric_request.specs.Asking.{Serves, sweep_of};
 ghost use Rattle.listing_answers.specs.Taken.{conclusion_of, IsSweepAnswer};
 ghost use Rattle.listing_walk.specs.Standing.{ShowsPending};
-ghost use Rattle.listing_walk.specs.Asking.{stopped_by, is_optimal, Answered, IsMarked, IsAny, IsSettling};
+ghost use Rattle.listing_walk.specs.Asking.{stopped_by, is_optimal, settled_by, Answered, IsMarked, IsAny, IsSettling};
 
 use crate::found::Found;
 use crate::place::{Pending, Place};
@@ -34,7 +35,7 @@ pub enum Stopped<'a> {
 
 // What stops an answer, where so much is left.
 fn stopped_by<'a>(stop: Stop, rest: &'a [u8]) -> Stopped<'a>
-    ensures { result ≡ stopped_by stop rest }
+    ensures { result ≡ stopped_by stop rest.entry }
 {
     match stop {
         Stop::Wrong => Stopped::Finds(Found::Wrong(rest)),
@@ -100,13 +101,31 @@ pub fn answer_path<'a>(
     }
 }
 
-// SOLUTION under OPTIMAL settles what is pending: its objective has to be this one, and its check made.
-fn settled<'a>(pending: Option<Pending<'a>>, objective: Frac) -> Option<Found<'a>>
-    ensures { IsSettling pending objective result }
+// Whether two fractions are equal.
+fn is_equal(a: Frac, b: Frac) -> bool
+    ensures { result ≡ eq_ℚ a b }
 {
-    match pending {
+    a.compare(b).is_eq()
+}
+
+// Whether a pending verdict has this objective, and its check was made.
+fn settles(pending: &Pending<'_>, objective: Frac) -> bool
+    ensures { result ≡ settled_by pending.now objective }
+{
+    if is_equal(pending.objective, objective) {
+        pending.is_checked
+    } else {
+        false
+    }
+}
+
+// SOLUTION under OPTIMAL settles what is pending, or it is wrong.
+fn settled<'a>(place: &Place<'a>, objective: Frac) -> Option<Found<'a>>
+    ensures { IsSettling place.now.pending objective result }
+{
+    match &place.pending {
         Some(pending) => {
-            if pending.objective == objective && pending.is_checked {
+            if settles(pending, objective) {
                 None
             } else {
                 Some(Found::Wrong(pending.rest))
@@ -136,12 +155,14 @@ pub fn answer_solution<'a>(
     let rest = place.cursor.left();
     match answer_to_solution(alloc, &mut place.cursor, sheet, mark) {
         Ok(objective) => {
-            if is_optimal(mark) {
-                if let Some(found) = settled(place.pending, objective) {
-                    return Err(Stopped::Finds(found));
-                }
-                place.pending = None;
+            if !is_optimal(mark) {
+                place.reports += 1;
+                return Ok(());
             }
+            if let Some(found) = settled(place, objective) {
+                return Err(Stopped::Finds(found));
+            }
+            place.pending = None;
             place.reports += 1;
             Ok(())
         }
