@@ -8,3 +8,5 @@ mod Clamping
 mod Stepping
 mod Asked
 mod Solving_walks
+mod Verdict_walks
+mod Shown_walks

@@ -1,6 +1,7 @@
 -- What is selected of a problem, and what SETUP comes to.
-use Rattle.std.proofs.Common.{◌≡◌, ℕ, Bool, true, false, not, ◌||◌, List, [], Option, Some, None, Result, Ok, Err, IfOk, refl, sym, ap, subst, ◌∙◌, if◌then◌else◌}
+use Rattle.std.proofs.Common.{◌≡◌, ℕ, Bool, true, false, not, ◌||◌, List, [], Option, Some, None, Result, Ok, Err, IfOk, length, refl, sym, ap, subst, ◌∙◌, if◌then◌else◌}
 use Rattle.card_definitions.specs.Words.{unless}
+use Rattle.deck_fields.proofs.Decimals.{unless-Ok}
 use Rattle.lp_definitions.specs.declared.Evidence.{Evidence}
 use Rattle.lp_definitions.specs.LinearProgram.{LinearProgram}
 use Rattle.lp_definitions.specs.Basis.{opening_statuses}
@@ -93,3 +94,19 @@ module _ (w : walks.Walker) (problem : Problem ℕ) (choice : Choice) (move : Mo
   -- one is
   pub refused_turn : is_made problem choice ≡ false → walks.walk_move w (MayStop (InSelection problem choice) move) ≡ walks.unless_found (walks.opened w move) (walks.Finds (walks.Unchecked w.rest))
   refused_turn made = ap by_made made
+
+-- ---- what is selected is the program of the choice
+
+is_program : (problem : Problem ℕ) (choice : Choice) (p : LinearProgram) → selected problem choice ≡ Ok p → program_of_choice problem choice ≡ p
+unfolding selected
+is_program problem choice p e = unless-Ok (selection_fault problem choice) (program_of_choice problem choice) p e
+
+pub no_change : (problem : Problem ℕ) (choice : Choice) (p : LinearProgram) → selected problem choice ≡ Ok p → p.change ≡ None
+no_change problem choice p e = ap (λ (q : LinearProgram). q.change) (sym (is_program problem choice p e))
+
+-- the linear program has the rows and the columns of the problem
+pub as_many_rows : (problem : Problem ℕ) (choice : Choice) (p : LinearProgram) → selected problem choice ≡ Ok p → length problem.rows ≡ p.matrix.rows
+as_many_rows problem choice p e = ap (λ (q : LinearProgram). q.matrix.rows) (is_program problem choice p e)
+
+pub as_many_columns : (problem : Problem ℕ) (choice : Choice) (p : LinearProgram) → selected problem choice ≡ Ok p → length problem.columns ≡ p.matrix.cols
+as_many_columns problem choice p e = ap (λ (q : LinearProgram). q.matrix.cols) (is_program problem choice p e)

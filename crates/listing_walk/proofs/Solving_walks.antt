@@ -35,12 +35,14 @@ use Rattle.walk_definitions.specs.Walker as walks
 use Rattle.listing_walk.specs.declared.chosen.Chosen.{Chosen}
 use Rattle.listing_walk.specs.declared.found.Found.{Found}
 use Rattle.listing_walk.specs.declared.place.Place.{Place}
+use Rattle.listing_walk.specs.declared.selecting.Unselected.{Unselected}
+use Rattle.listing_walk.specs.declared.selecting.Unselected.TheVariants as unselected
 use Rattle.listing_walk.specs.declared.went.Went.{Went}
 use Rattle.listing_walk.specs.declared.went.Went.TheVariants as went
 use Rattle.listing_walk.specs.Ended.{found_shown}
-use Rattle.listing_walk.specs.Choosing.{IsMade, IsRefused}
+use Rattle.listing_walk.specs.Choosing.{IsMade, IsRefused, IsNotMade}
 use Rattle.listing_walk.specs.Standing.{IsShown, IsReady, IsSolved, IsSound, Faces}
-use Rattle.listing_walk.specs.Walking.{open_by, Comes, IsOutcome, Passes, Walks, IsUnchecked}
+use Rattle.listing_walk.specs.Walking.{open_by, Comes, IsOutcome, Passes, Walks, IsUnchecked, Refuses}
 use Rattle.listing_walk.proofs.Selected.{fault_move, found_move, unselected_move, selected_move, made_turn, refused_turn}
 use Rattle.listing_walk.proofs.Setting_up.{faulted}
 
@@ -133,3 +135,46 @@ module _ (card : ℕ) (cards : List (List ℕ)) (machine : Machine Chosen) (posi
       subst (λ (c : Cells). IsOutcome (demanded c.xdonfs 1 report then) cards machine position executed (Prints report) (demanded_act cells.xdonfs ends.Infeasible)) (sym same) (demanded_comes cells.xdonfs demands.infeasible ends.Infeasible 1 refl)
   verdict_comes cells demands same marks.Unbounded =
       subst (λ (c : Cells). IsOutcome (demanded c.xdounb 2 report then) cards machine position executed (Prints report) (demanded_act cells.xdounb ends.Unbounded)) (sym same) (demanded_comes cells.xdounb demands.unbounded ends.Unbounded 2 refl)
+
+-- ---- a verb that selects again, in the walk
+
+module _ (verb : Verb ℕ) (card : ℕ) (go : State → Present → LinearProgram → Move) (is_move : (state : State) → verb_move verb card state ≡ selecting card state (go state)) (cards : List (List ℕ)) (machine : Machine Chosen) (old new : Place) where
+  fault_walks : (fault : VerbFault) → ((position executed : ℕ) (state : State) → machines.Stands IsShown cards machine position executed state → verb_move verb card state ≡ fault_stop fault card) → (result : Result Went NoMemory) →
+      IfOk result (Passes machine old new (acts.Ends (ends.Verb fault card)) []) → IfOk result (Walks verb card cards machine machine old new)
+  fault_walks fault is (Ok w') passes = λ position executed state w s f. faulted cards machine old new fault card w' passes w (verb_move verb card state) position executed f (is position executed state s)
+  fault_walks fault is (Err stop) passes = tt
+
+  pub no_setup_walks : machine.setup ≡ None → (result : Result Went NoMemory) → IfOk result (Passes machine old new (acts.Ends (ends.Verb NoSetup card)) []) → IfOk result (Walks verb card cards machine machine old new)
+  no_setup_walks none = fault_walks NoSetup (λ position executed state s. is_move state ∙ no_setup_move card cards machine s (go state) none)
+
+  module _ (chosen : Chosen) (is_setup : machine.setup ≡ Some chosen) (problem : Problem ℕ) (on_file : filed_under chosen.name machine.file ≡ Some problem) where
+    pub unselected_walks : (fault : VerbFault) → HasSelectionFault problem (choice_of machine.cells chosen.options) fault → (result : Result Went NoMemory) → IfOk result (Passes machine old new (acts.Ends (ends.Verb fault card)) []) →
+        IfOk result (Walks verb card cards machine machine old new)
+    unselected_walks fault h = fault_walks fault (λ position executed state s. is_move state ∙ fault_here card cards machine s (go state) chosen problem (present_at s chosen is_setup problem on_file) fault h)
+
+    pub refused_walks : ((state : State) (present : Present) (w : walks.Walker) (lp : LinearProgram) → walks.opened w (go state present lp) ≡ open_by true true w) → IsRefused problem (choice_of machine.cells chosen.options) →
+        (found : Found) → IsUnchecked old found → Walks verb card cards machine machine old new (went.Finds found)
+    refused_walks opens refused found u = λ position executed state w s f.
+        let p = present_at s chosen is_setup problem on_file in
+        ap (walks.walk_move w) (is_move state) ∙
+        refused_here card cards machine s (go state) chosen problem p (opens state (present_with problem chosen.options p.opening p.steps)) refused found old u w f
+
+    -- nothing is selected
+    pub refusal_walks : ((state : State) (present : Present) (w : walks.Walker) (lp : LinearProgram) → walks.opened w (go state present lp) ≡ open_by true true w) → (refusal : Unselected) →
+        IsNotMade problem (choice_of machine.cells chosen.options) refusal → (result : Result Went NoMemory) → IfOk result (Refuses machine old new card refusal) → IfOk result (Walks verb card cards machine machine old new)
+    refusal_walks opens (unselected.Fault fault) h result refuses = unselected_walks fault h result refuses
+    refusal_walks opens unselected.Unchecked h (Ok (went.Finds found)) refuses = refused_walks opens h found refuses
+    refusal_walks opens unselected.Unchecked h (Ok went.Next) refuses = absurd refuses
+    refusal_walks opens unselected.Unchecked h (Ok (went.Jump to)) refuses = absurd refuses
+    refusal_walks opens unselected.Unchecked h (Err stop) refuses = tt
+    refusal_walks opens unselected.NoMemory h (Ok w') refuses = absurd refuses
+    refusal_walks opens unselected.NoMemory h (Err stop) refuses = tt
+
+    -- with a linear program
+    pub made_walks : (lp : LinearProgram) → IsMade problem (choice_of machine.cells chosen.options) lp → (after : Machine Chosen) (w' : Went) →
+        ((position executed : ℕ) (state : State) (w : walks.Walker) (opening : Basis) (steps : List Basis) → machines.Stands IsShown cards machine position executed state → Faces old w → state.setup ≡ Some (present_with problem chosen.options opening steps) →
+        Comes (walks.walk_move w (go state (present_with problem chosen.options opening steps) lp)) cards after position executed new w') → Walks verb card cards machine after old new w'
+    made_walks lp made after w' comes = λ position executed state w s f.
+        let p = present_at s chosen is_setup problem on_file in
+        subst (λ (t : walks.Turn). Comes t cards after position executed new w') (sym (ap (walks.walk_move w) (is_move state) ∙ made_here card cards machine s (go state) chosen problem p w lp made))
+        (comes position executed state w p.opening p.steps s f p.is_shown)

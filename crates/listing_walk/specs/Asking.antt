@@ -21,6 +21,8 @@ use Rattle.listing_walk.specs.declared.found.Found.{Found}
 use Rattle.listing_walk.specs.declared.found.Found.TheVariants.{Wrong, Unchecked}
 use Rattle.listing_walk.specs.declared.place.Pending.{Pending}
 use Rattle.listing_walk.specs.declared.place.Place.{Place}
+use Rattle.listing_walk.specs.declared.went.Went.{Went}
+use Rattle.listing_walk.specs.declared.went.Went.TheVariants as went
 use Rattle.listing_walk.specs.Ended.{found_shown}
 use Rattle.listing_walk.specs.Standing.{Faces}
 
@@ -29,6 +31,11 @@ abbrev pub stopped_by : Stop → Bor (List ℕ) → Stopped
 stopped_by stops.Wrong rest = Finds (Wrong rest)
 stopped_by stops.Unchecked rest = Finds (Unchecked rest)
 stopped_by stops.NoMemory rest = NoMemory
+
+-- how the walk ends then
+abbrev pub WentBy : Stopped → Went → Type 0
+WentBy (Finds found) w = w ≡ went.Finds found
+WentBy NoMemory w = ⊥
 
 abbrev pub is_optimal : Mark → Bool
 is_optimal Optimal = true

@@ -10,6 +10,7 @@ use Rattle.run_definitions.specs.Moves.{Outcome, Move, Does, Gain, Settles, gain
 use Rattle.run_definitions.specs.Verbs.{verb_move}
 use Rattle.run_machine.specs.declared.act.Act.{Act}
 use Rattle.run_machine.specs.declared.act.Act.TheVariants as acts
+use Rattle.run_machine.specs.declared.end.End.TheVariants as ends
 use Rattle.run_machine.specs.declared.machine.Machine.{Machine}
 use Rattle.run_machine.specs.Standing as machines
 use Rattle.run_machine.specs.Statements.{Follows}
@@ -17,6 +18,8 @@ use Rattle.walk_definitions.specs.Walker as walks
 use Rattle.listing_walk.specs.declared.chosen.Chosen.{Chosen}
 use Rattle.listing_walk.specs.declared.place.Place.{Place}
 use Rattle.listing_walk.specs.declared.found.Found.{Found}
+use Rattle.listing_walk.specs.declared.selecting.Unselected.{Unselected}
+use Rattle.listing_walk.specs.declared.selecting.Unselected.TheVariants.{Fault, Unchecked, NoMemory}
 use Rattle.listing_walk.specs.declared.went.Went.{Went}
 use Rattle.listing_walk.specs.declared.went.Went.TheVariants.{Next, Jump, Finds}
 use Rattle.listing_walk.specs.declared.went.Onward.{Onward}
@@ -72,6 +75,17 @@ Passes machine old new act text went =
 -- an operation is refused here, where a stop and what is pending come first
 abbrev pub IsUnchecked : Place → Found → Type 0
 IsUnchecked place found = (w : walks.Walker) → Faces place w → walks.unless_found (open_by true true w) (walks.Finds (walks.Unchecked w.rest)) ≡ walks.Finds (found_shown found)
+
+-- the walk ends so, where an operation is refused
+abbrev pub FindsUnchecked : Place → Went → Type 0
+FindsUnchecked place (Finds found) = IsUnchecked place found
+FindsUnchecked place went = ⊥
+
+-- what is refused, and why
+abbrev pub Refuses : Machine Chosen → Place → Place → ℕ → Unselected → Went → Type 0
+Refuses machine old new card (Fault fault) went = Passes machine old new (acts.Ends (ends.Verb fault card)) [] went
+Refuses machine old new card Unchecked went = FindsUnchecked old went
+Refuses machine old new card NoMemory went = ⊥
 
 -- the statement of a verb
 abbrev pub Walks : Verb ℕ → ℕ → List (List ℕ) → Machine Chosen → Machine Chosen → Place → Place → Went → Type 0

@@ -1,5 +1,5 @@
 // The answers to questions, where the walk stands.
-ghost use Rattle.std.specs.Prelude.{◌≡◌, ◌+◌, ◌≤◌, ◌<◌, ℕ, Option, None};
+ghost use Rattle.std.specs.Prelude.{◌≡◌, ◌+◌, ◌≤◌, ◌<◌, ℕ, Option, None, IfOk};
 ghost use Rattle.exact_values.specs.Tests.{eq_ℚ};
 ghost use Rattle.lp_definitions.specs.LinearProgram.{IsLinearProgram};
 ghost use Rattle.listing_definitions.specs.Report.{PathVerdict, Check};
@@ -11,11 +11,13 @@ ghost use Rattle.listing_readers.specs.Read.{sheet_shown};
 ghost use Rattle.parametric_request.specs.Asking.{Serves, sweep_of};
 ghost use Rattle.listing_answers.specs.Taken.{conclusion_of, IsSweepAnswer};
 ghost use Rattle.listing_walk.specs.Standing.{ShowsPending};
-ghost use Rattle.listing_walk.specs.Asking.{stopped_by, is_optimal, settled_by, Answered, IsMarked, IsAny, IsSettling};
+ghost use Rattle.listing_walk.specs.Asking.{WentBy, stopped_by, is_optimal, settled_by, Answered, IsMarked, IsAny, IsSettling};
 
 use crate::found::Found;
 use crate::place::{Pending, Place};
+use crate::went::Went;
 use frac128::Frac;
+use job_devices::NoMemory;
 use listing_answers::{
     Conclusion, Stop, SweepAnswer, answer_to_path, answer_to_solution, answer_to_sweep,
 };
@@ -31,6 +33,16 @@ pub enum Stopped<'a> {
     Finds(Found<'a>),
     /// There is no memory.
     NoMemory,
+}
+
+/// How the walk ends, where it doesn't go on with an answer.
+pub fn stop_walk<'a>(stopped: Stopped<'a>) -> Result<Went<'a>, NoMemory>
+    ensures { IfOk result (WentBy stopped.entry) }
+{
+    match stopped {
+        Stopped::Finds(found) => Ok(Went::Finds(found)),
+        Stopped::NoMemory => Err(NoMemory),
+    }
 }
 
 // What stops an answer, where so much is left.

@@ -2,11 +2,12 @@
 ghost use Rattle.std.specs.Prelude.{◌≡◌, ◌+◌, ◌≤◌, ◌<◌, ◌||◌, [], IfOk};
 ghost use Rattle.run_machine.specs.declared.act.Act.TheVariants as acts;
 ghost use Rattle.run_machine.specs.declared.end.End.TheVariants as ends;
-ghost use Rattle.listing_walk.specs.Walking.{ends_run, Finishes, Passes};
+ghost use Rattle.listing_walk.specs.Walking.{ends_run, Finishes, Passes, Refuses};
 
 use crate::chosen::Chosen;
 use crate::found::Found;
 use crate::place::{Place, is_loud};
+use crate::selecting::Unselected;
 use crate::went::Went;
 use job_devices::NoMemory;
 use listing_definitions::VerbFault;
@@ -87,4 +88,23 @@ pub fn fault<'a>(
     ensures few { place.new.reports ≤ place.old.reports + 1 }
 {
     follow(alloc, machine, place, &Act::Ends(End::Verb { fault, card }), &[])
+}
+
+/// What is refused: the run ends with a verb fault, or an operation of a selection is refused.
+pub fn refuse<'a>(
+    alloc: Global,
+    machine: &Machine<Chosen>,
+    place: &mut Place<'a>,
+    refusal: Unselected,
+    card: u32,
+) -> Result<Went<'a>, NoMemory>
+    requires { place.old.reports < 4294967295 }
+    ensures refuses { IfOk result (Refuses machine.now place.old place.new card refusal) }
+    ensures few { place.new.reports ≤ place.old.reports + 1 }
+{
+    match refusal {
+        Unselected::Fault(why) => fault(alloc, machine, place, why, card),
+        Unselected::Unchecked => Ok(Went::Finds(place.unchecked())),
+        Unselected::NoMemory => Err(NoMemory),
+    }
 }

@@ -4,7 +4,7 @@ ghost use Rattle.control_definitions.specs.Program as program;
 ghost use Rattle.listing_walk.specs.Standing.{IsReady, IsSolved};
 ghost use Rattle.listing_walk.specs.Walking.{Walks};
 
-use crate::answering::{Stopped, answer_solution};
+use crate::answering::{answer_solution, stop_walk};
 use crate::chosen::Chosen;
 use crate::follow::fault;
 use crate::place::Place;
@@ -44,9 +44,9 @@ pub fn show_solution<'a>(
         problem,
         lp: &chosen.lp,
     };
+    let _lawful = chosen.lp.number_of_variables();
     match answer_solution(alloc, place, sheet, mark) {
         Ok(()) => Ok(Went::Next),
-        Err(Stopped::Finds(found)) => Ok(Went::Finds(found)),
-        Err(Stopped::NoMemory) => Err(NoMemory),
+        Err(stopped) => stop_walk(stopped),
     }
 }

@@ -5,11 +5,11 @@ ghost use Rattle.listing_walk.specs.Solving_verbs.{verb_of, solver_of};
 ghost use Rattle.listing_walk.specs.Standing.{IsReady, IsSound};
 ghost use Rattle.listing_walk.specs.Walking.{Walks};
 
-use crate::answering::{Stopped, answer_path};
+use crate::answering::{answer_path, stop_walk};
 use crate::chosen::Chosen;
-use crate::follow::{fault, finish};
+use crate::follow::{fault, finish, refuse};
 use crate::place::Place;
-use crate::selecting::{Unselected, select_present};
+use crate::selecting::select_present;
 use crate::went::Went;
 use job_devices::NoMemory;
 use listing_definitions::{Mark, Solver, VerbFault};
@@ -71,15 +71,12 @@ pub fn solve<'a>(
     };
     let lp = match select_present(alloc, problem, &machine.cells, chosen.options) {
         Ok(lp) => lp,
-        Err(Unselected::Fault(refusal)) => return fault(alloc, machine, place, refusal, card),
-        Err(Unselected::Unchecked) => return Ok(Went::Finds(place.unchecked())),
-        Err(Unselected::NoMemory) => return Err(NoMemory),
+        Err(refusal) => return refuse(alloc, machine, place, refusal, card),
     };
     let sheet = Sheet { problem, lp: &lp };
     let mark = match answer_path(alloc, place, sheet, solver_of(verb)) {
         Ok(mark) => mark,
-        Err(Stopped::Finds(found)) => return Ok(Went::Finds(found)),
-        Err(Stopped::NoMemory) => return Err(NoMemory),
+        Err(stopped) => return stop_walk(stopped),
     };
     keep(machine, lp, mark);
     let act = act_of(&machine.cells, card, Finding::Ended(mark));
