@@ -49,40 +49,40 @@ pub enum SweepAnswer {
 
 /// Reads the verdict of a solving verb and tests it. An optimal one is tested where SOLUTION shows it.
 pub fn answer_to_path(
-    _alloc: Global,
-    _cursor: &mut Cursor<'_>,
+    alloc: Global,
+    cursor: &mut Cursor<'_>,
     sheet: Sheet<'_>,
-    _solver: Solver,
+    solver: Solver,
 ) -> Result<Conclusion, Stop>
     requires sheet { IsSheet sheet }
     requires lawful { IsLinearProgram sheet.lp.now }
     requires no_change { sheet.lp.now.change ≡ None }
-    ensures { (limit : Option ℕ) → Taken IsConclusion (judged (OfPath _solver limit) (sheet_shown sheet.entry) _cursor.old)
-        _cursor.new result }
+    ensures { (limit : Option ℕ) → Taken IsConclusion (judged (OfPath solver limit) (sheet_shown sheet.entry) cursor.old)
+        cursor.new result }
 {
     Err(Stop::NoMemory)
 }
 
 /// Reads the lines of SOLUTION under a mark and tests them. Gives the activity of the objective row.
 pub fn answer_to_solution(
-    _alloc: Global,
-    _cursor: &mut Cursor<'_>,
+    alloc: Global,
+    cursor: &mut Cursor<'_>,
     sheet: Sheet<'_>,
-    _mark: Mark,
+    mark: Mark,
 ) -> Result<Frac, Stop>
     requires sheet { IsSheet sheet }
     requires lawful { IsLinearProgram sheet.lp.now }
     requires no_change { sheet.lp.now.change ≡ None }
     ensures { Taken (λ objective lines. objective ≡ point_of (sheet_shown sheet.entry) lines sheet.entry.lp.now.objective)
-        (judged (OfSolution _mark) (sheet_shown sheet.entry) _cursor.old) _cursor.new result }
+        (judged (OfSolution mark) (sheet_shown sheet.entry) cursor.old) cursor.new result }
 {
     Err(Stop::NoMemory)
 }
 
 /// Reads what PARAOBJ or PARARHS prints of the parametric run that is asked for, interval by interval, and tests it.
 pub fn answer_to_sweep(
-    _alloc: Global,
-    _cursor: &mut Cursor<'_>,
+    alloc: Global,
+    cursor: &mut Cursor<'_>,
     sheet: Sheet<'_>,
     request: &ParametricRequest,
 ) -> Result<SweepAnswer, Stop>
@@ -90,8 +90,8 @@ pub fn answer_to_sweep(
     requires lawful { IsLinearProgram sheet.lp.now }
     requires no_change { sheet.lp.now.change ≡ None }
     requires serves { Serves sheet.problem.now sheet.lp.now request.now }
-    ensures { (limit : ℕ) → Taken IsSweepAnswer (judged (OfSweep (sweep_of limit request.now)) (sheet_shown sheet.entry) _cursor.old)
-        _cursor.new result }
+    ensures { (limit : ℕ) → Taken IsSweepAnswer (judged (OfSweep (sweep_of limit request.now)) (sheet_shown sheet.entry) cursor.old)
+        cursor.new result }
 {
     Err(Stop::NoMemory)
 }

@@ -10,3 +10,4 @@ mod Asked
 mod Solving_walks
 mod Verdict_walks
 mod Shown_walks
+mod Sweep_walks

@@ -4,3 +4,4 @@ pub mod Walking
 pub mod Choosing
 pub mod Asking
 pub mod Solving_verbs
+pub mod Sweeping_verbs

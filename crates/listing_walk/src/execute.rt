@@ -10,11 +10,15 @@ use crate::chosen::Chosen;
 use crate::follow::follow;
 use crate::place::Place;
 use crate::setup::set_up;
+use crate::solution::show_solution;
+use crate::solving::{SolvingVerb, solve};
 use crate::statements::{convert, punch_problem, revise, title};
+use crate::sweeping::sweep;
 use crate::went::{Onward, Went};
 use card_reader::Cards;
 use control_compiler::{Program, Verb};
 use job_devices::NoMemory;
+use parametric_request::ParametricVerb;
 use run_machine::Machine;
 use std::alloc::Global;
 
@@ -68,14 +72,12 @@ fn execute<'a>(
             let act = machine.exit();
             follow(alloc, machine, place, &act, &[])
         }
-        Verb::Primal
-        | Verb::Dual
-        | Verb::Solution
-        | Verb::Ranging
-        | Verb::Paraobj
-        | Verb::Pararhs
-        | Verb::Punch
-        | Verb::Insert => Err(NoMemory),
+        Verb::Primal => solve(alloc, machine, place, card, SolvingVerb::Primal),
+        Verb::Dual => solve(alloc, machine, place, card, SolvingVerb::Dual),
+        Verb::Solution => show_solution(alloc, machine, place, card),
+        Verb::Paraobj => sweep(alloc, machine, place, card, ParametricVerb::Paraobj),
+        Verb::Pararhs => sweep(alloc, machine, place, card, ParametricVerb::Pararhs),
+        Verb::Ranging | Verb::Punch | Verb::Insert => Err(NoMemory),
     }
 }
 

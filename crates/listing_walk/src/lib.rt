@@ -15,6 +15,7 @@ mod setup;
 mod solution;
 mod solving;
 mod statements;
+mod sweeping;
 mod went;
 
 pub use found::Found;
