@@ -11,3 +11,4 @@ mod Solving_walks
 mod Verdict_walks
 mod Shown_walks
 mod Sweep_walks
+mod Reported_walks

@@ -114,6 +114,12 @@ module _ (card : ℕ) (cards : List (List ℕ)) (machine : Machine Chosen) {posi
         let k : IsMade problem (choice state.cells) lp = subst (λ (c : Cells). IsMade problem (choice c) lp) (sym s.cells) made in
         ap (walks.walk_move w) (selected_here lp k.is_selected) ∙ made_turn w problem (choice state.cells) (go present lp) k.is_made
 
+    -- an operation of the selection is refused, at whatever comes of it
+    pub unmade_here : (w : walks.Walker) → IsRefused problem (choice machine.cells) → (lp : LinearProgram) × (walks.walk_move w (selecting card state go) ≡ walks.unless_found (walks.opened w (go present lp)) (walks.Finds (walks.Unchecked w.rest)))
+    unmade_here w refused =
+        let k : IsRefused problem (choice state.cells) = subst (λ (c : Cells). IsRefused problem (choice c)) (sym s.cells) refused in
+        (k.lp, ap (walks.walk_move w) (selected_here k.lp k.is_selected) ∙ refused_turn w problem (choice state.cells) (go present k.lp) k.is_refused)
+
     -- an operation of the selection is refused
     pub refused_here : (opens : (w : walks.Walker) (lp : LinearProgram) → walks.opened w (go present lp) ≡ open_by true true w) → IsRefused problem (choice machine.cells) → (found : Found) (place : Place) → IsUnchecked place found →
         (w : walks.Walker) → Faces place w → walks.walk_move w (selecting card state go) ≡ walks.Finds (found_shown found)

@@ -76,6 +76,11 @@ Passes machine old new act text went =
 abbrev pub IsUnchecked : Place → Found → Type 0
 IsUnchecked place found = (w : walks.Walker) → Faces place w → walks.unless_found (open_by true true w) (walks.Finds (walks.Unchecked w.rest)) ≡ walks.Finds (found_shown found)
 
+-- a report that can't be attested is due here, and its line stands or doesn't
+abbrev pub IsReported : Place → Bool → Bool → Found → Type 0
+IsReported place stands made found =
+    (w : walks.Walker) → Faces place w → walks.unless_found (option_or (walks.open_stop w) (walks.open_if stands w)) (walks.Finds (if made then walks.Wrong w.rest else walks.Unchecked w.rest)) ≡ walks.Finds (found_shown found)
+
 -- the walk ends so, where an operation is refused
 abbrev pub FindsUnchecked : Place → Went → Type 0
 FindsUnchecked place (Finds found) = IsUnchecked place found
@@ -86,6 +91,16 @@ abbrev pub Refuses : Machine Chosen → Place → Place → ℕ → Unselected �
 Refuses machine old new card (Fault fault) went = Passes machine old new (acts.Ends (ends.Verb fault card)) [] went
 Refuses machine old new card Unchecked went = FindsUnchecked old went
 Refuses machine old new card NoMemory went = ⊥
+
+abbrev pub FindsReported : Place → Bool → Went → Type 0
+FindsReported place stands (Finds found) = IsReported place stands false found
+FindsReported place stands went = ⊥
+
+-- the same, where a report that can't be attested is due
+abbrev pub RefusesReport : Machine Chosen → Place → Place → ℕ → Bool → Unselected → Went → Type 0
+RefusesReport machine old new card stands (Fault fault) went = Passes machine old new (acts.Ends (ends.Verb fault card)) [] went
+RefusesReport machine old new card stands Unchecked went = FindsReported old stands went
+RefusesReport machine old new card stands NoMemory went = ⊥
 
 -- the statement of a verb
 abbrev pub Walks : Verb ℕ → ℕ → List (List ℕ) → Machine Chosen → Machine Chosen → Place → Place → Went → Type 0

@@ -182,8 +182,8 @@ pub fn answer_solution<'a>(
     }
 }
 
-// Whether a mark is OPTIMAL.
-fn is_optimal(mark: Mark) -> bool
+/// Whether a mark is OPTIMAL.
+pub fn is_optimal(mark: Mark) -> bool
     ensures { result ≡ is_optimal mark }
 {
     match mark {

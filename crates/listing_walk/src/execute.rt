@@ -9,6 +9,7 @@ ghost use Rattle.listing_walk.specs.Walking.{Walks, Steps};
 use crate::chosen::Chosen;
 use crate::follow::follow;
 use crate::place::Place;
+use crate::reporting::{punch_basis, show_ranges};
 use crate::setup::set_up;
 use crate::solution::show_solution;
 use crate::solving::{SolvingVerb, solve};
@@ -77,7 +78,10 @@ fn execute<'a>(
         Verb::Solution => show_solution(alloc, machine, place, card),
         Verb::Paraobj => sweep(alloc, machine, place, card, ParametricVerb::Paraobj),
         Verb::Pararhs => sweep(alloc, machine, place, card, ParametricVerb::Pararhs),
-        Verb::Ranging | Verb::Punch | Verb::Insert => Err(NoMemory),
+        Verb::Ranging => show_ranges(alloc, machine, place, card),
+        Verb::Punch => punch_basis(alloc, machine, place, card),
+        // the basis that INSERT reads isn't followed here yet
+        Verb::Insert => Err(NoMemory),
     }
 }
 

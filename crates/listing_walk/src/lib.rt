@@ -10,6 +10,7 @@ mod execute;
 mod follow;
 mod found;
 mod place;
+mod reporting;
 mod selecting;
 mod setup;
 mod solution;

@@ -9,7 +9,7 @@ ghost use Rattle.walk_definitions.specs.Walker as walks;
 ghost use Rattle.listing_readers.specs.Read.{taken};
 ghost use Rattle.listing_walk.specs.Ended.{found_shown};
 ghost use Rattle.listing_walk.specs.Standing.{Faces};
-ghost use Rattle.listing_walk.specs.Walking.{open_by, is_loud, one_if, IsUnchecked};
+ghost use Rattle.listing_walk.specs.Walking.{open_by, is_loud, one_if, IsUnchecked, IsReported};
 
 use crate::found::Found;
 use frac128::Frac;
@@ -107,6 +107,22 @@ impl<'a> Place<'a> {
         match self.open_here(true, true) {
             Some(found) => found,
             None => Found::Unchecked(self.cursor.left()),
+        }
+    }
+
+    /// A report that can't be attested is due here, and its line stands or doesn't: a stop comes first; where the line doesn't stand it is
+    /// wrong, unless an operation of the selection is refused.
+    pub fn reported_here(&self, stands: bool, is_made: bool) -> Found<'a>
+        ensures { IsReported self.now stands is_made result }
+    {
+        let rest = self.cursor.left();
+        if is_open_stop(rest) || stands {
+            return Found::Open(rest);
+        }
+        if is_made {
+            Found::Wrong(rest)
+        } else {
+            Found::Unchecked(rest)
         }
     }
 
