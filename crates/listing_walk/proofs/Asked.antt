@@ -1,5 +1,5 @@
 -- What a question comes to in the walk.
-use Rattle.std.proofs.Common.{◌≡◌, ℕ, ◌+◌, Bool, true, false, List, Option, Some, None, Result, Ok, Err, refl, sym, ap, subst, ◌∙◌, if◌then◌else◌}
+use Rattle.std.proofs.Common.{◌≡◌, ℕ, ◌+◌, Bool, true, false, List, Option, Some, None, Ok, Err, refl, sym, ap, subst, ◌∙◌, if◌then◌else◌}
 use Rattle.std.specs.Prelude.{option_map}
 use Rattle.std.proofs.lemmas.Option.{same_Some}
 use Rattle.std.specs.Option.{option_or}
@@ -10,7 +10,7 @@ use Rattle.listing_definitions.specs.declared.Mark.{Mark}
 use Rattle.listing_definitions.specs.declared.Mark.TheVariants as marks
 use Rattle.listing_definitions.specs.declared.Solver.{Solver}
 use Rattle.listing_definitions.specs.Report.{PathVerdict, OptimalAt, CrossedAt, InfeasibleBy, UnboundedBy, Check, SolutionLines}
-use Rattle.question_definitions.specs.Answers.{Sheet, Question, OfPath, OfSolution, OfSweep, Sweep, Answer, PathEnd, Reached, PathLimit, PricesWrong, SweepEnd}
+use Rattle.question_definitions.specs.Answers.{Sheet, Question, OfPath, OfSolution, OfSweep, Sweep, Answer, PathEnd, Reached, PathLimit, PricesWrong}
 use Rattle.run_definitions.specs.Moves.{Outcome}
 use Rattle.run_definitions.specs.Verbs.{mark_of}
 use Rattle.walk_definitions.specs.Tests.{says_checked, point_of}
@@ -21,9 +21,8 @@ use Rattle.listing_answers.specs.declared.answer.Conclusion.TheVariants as concl
 use Rattle.listing_answers.specs.declared.answer.SweepAnswer.{SweepAnswer}
 use Rattle.listing_answers.specs.declared.answer.Stop.{Stop}
 use Rattle.listing_answers.specs.declared.answer.Stop.TheVariants as stops
-use Rattle.listing_answers.specs.Taken.{conclusion_of, IsConclusion, IsSweepAnswer, IsRight, Taken}
-use Rattle.listing_walk.specs.declared.answering.Stopped.{Stopped}
-use Rattle.listing_walk.specs.declared.answering.Stopped.TheVariants.{Finds, NoMemory}
+use Rattle.listing_answers.specs.Taken.{conclusion_of, IsConclusion, IsSweepAnswer, Taken}
+use Rattle.listing_walk.specs.declared.answering.Stopped.TheVariants.{Finds}
 use Rattle.listing_walk.specs.declared.found.Found.{Found}
 use Rattle.listing_walk.specs.declared.found.Found.TheVariants.{Wrong}
 use Rattle.listing_walk.specs.declared.place.Pending.{Pending}

@@ -1,5 +1,5 @@
 -- What follows a statement that asks nothing.
-use Rattle.std.proofs.Common.{◌≡◌, ℕ, ◌+◌, Bool, true, false, ◌||◌, List, [], Option, Some, None, Result, Ok, Err, IfOk, length, refl, sym, ap, subst, ◌∙◌}
+use Rattle.std.proofs.Common.{◌≡◌, ℕ, ◌+◌, Bool, true, false, ◌||◌, List, Option, Some, None, Result, Ok, Err, IfOk, length, refl, sym, ap, subst, ◌∙◌}
 use Rattle.std.specs.Prelude.{is_none, is_some, not, option_map}
 use denote.Bor.{Bor}
 use Rattle.job_devices.specs.declared.device.NoMemory.{NoMemory}
@@ -25,9 +25,9 @@ use Rattle.listing_walk.specs.declared.found.Found.TheVariants as founds
 use Rattle.listing_walk.specs.declared.went.Went.{Went}
 use Rattle.listing_walk.specs.declared.went.Went.TheVariants as went
 use Rattle.listing_walk.specs.Ended.{found_shown}
-use Rattle.listing_walk.specs.Standing.{IsShown, ShowsPending, Faces, Stands}
+use Rattle.listing_walk.specs.Standing.{IsShown, ShowsPending, Faces}
 use Rattle.listing_walk.specs.Walking.{open_by, is_loud, one_if, ends_run, Comes, IsOutcome, Finishes, Passes}
-use Rattle.listing_walk.proofs.Settled.{settled, settled_turn, open_goes, one_report}
+use Rattle.listing_walk.proofs.Settled.{settled, open_goes, one_report}
 
 -- ---- once the report is passed
 

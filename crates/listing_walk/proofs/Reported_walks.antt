@@ -1,11 +1,11 @@
 -- What RANGE and PUNCH come to in the walk.
-use Rattle.std.proofs.Common.{◌≡◌, ℕ, Bool, true, false, List, [], Option, Some, None, IfSome, Result, Ok, Err, IfOk, refl, sym, ap, subst, ◌∙◌, if◌then◌else◌}
+use Rattle.std.proofs.Common.{◌≡◌, ℕ, Bool, true, false, List, [], Some, None, IfSome, Result, Ok, Err, IfOk, refl, sym, ap, ◌∙◌, if◌then◌else◌}
 use Rattle.std.specs.Prelude.{min, length}
 use Rattle.std.specs.Option.{option_or}
 use Rattle.job_devices.specs.declared.device.NoMemory.{NoMemory}
 use Rattle.lp_definitions.specs.LinearProgram.{LinearProgram}
 use Rattle.problem_definitions.specs.Problem.{Problem}
-use Rattle.problem_file.specs.Filed.{Filed, filed_under}
+use Rattle.problem_file.specs.Filed.{filed_under}
 use Rattle.control_definitions.specs.Cells.{Cells}
 use Rattle.control_definitions.specs.Program.{Ranging, Punch}
 use Rattle.selection_definitions.specs.Selection.{selected}
@@ -13,14 +13,13 @@ use Rattle.listing_definitions.specs.declared.Mark.{Mark}
 use Rattle.listing_definitions.specs.declared.Mark.TheVariants as marks
 use Rattle.listing_definitions.specs.declared.VerbFault.TheVariants.{NoSetup, NotSolved, NotOptimal}
 use Rattle.listing_definitions.specs.Report.{Ranges, BasisOut, RangeLines}
-use Rattle.question_definitions.specs.Answers.{Basis, Sheet, OfRanges, OfPunch}
+use Rattle.question_definitions.specs.Answers.{OfRanges, OfPunch}
 use Rattle.run_definitions.specs.State.{Present, present_basis, State, choice_of}
-use Rattle.run_definitions.specs.Moves.{Prints, Punches, Outcome, next, Move, Asks, or_fault}
+use Rattle.run_definitions.specs.Moves.{Prints, Punches, next, Move, Asks, or_fault}
 use Rattle.run_definitions.specs.Verbs.{max_counted, asks, shows_present, if_optimal, verb_move}
 use Rattle.run_machine.specs.declared.act.Act.TheVariants as acts
 use Rattle.run_machine.specs.declared.end.End.TheVariants as ends
 use Rattle.run_machine.specs.declared.machine.Machine.{Machine}
-use Rattle.run_machine.specs.Standing as machines
 use Rattle.walk_definitions.specs.Forms.{is_ranges, is_punched}
 use Rattle.walk_definitions.specs.Walker as walks
 use Rattle.listing_walk.specs.declared.chosen.Chosen.{Chosen}
@@ -32,11 +31,11 @@ use Rattle.listing_walk.specs.declared.went.Went.{Went}
 use Rattle.listing_walk.specs.declared.went.Went.TheVariants as went
 use Rattle.listing_walk.specs.Ended.{found_shown}
 use Rattle.listing_walk.specs.Choosing.{IsMade, IsRefused, IsNotMade}
-use Rattle.listing_walk.specs.Standing.{IsShown, IsReady, IsSolved, Faces}
+use Rattle.listing_walk.specs.Standing.{IsReady, IsSolved, Faces}
 use Rattle.listing_walk.specs.Walking.{Passes, IsReported, RefusesReport, Walks}
 use Rattle.listing_walk.specs.Asking.{is_optimal}
 use Rattle.listing_walk.proofs.Selected.{fault_move, found_move, selected_move}
-use Rattle.listing_walk.proofs.Solving_walks.{present_with, IsPresentOf, present_at, ready_of, selecting, fault_stop, no_setup_walks, unselected_walks, made_walks, unmade_here}
+use Rattle.listing_walk.proofs.Solving_walks.{present_with, present_at, ready_of, selecting, no_setup_walks, unselected_walks, made_walks, unmade_here}
 use Rattle.listing_walk.proofs.Shown_walks.{fault_walks, some_at, showing, showing_none, showing_unsolved, showing_mark, selected_now}
 
 -- the line stands where the walker is

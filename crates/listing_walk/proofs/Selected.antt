@@ -1,15 +1,10 @@
 -- What is selected of a problem, and what SETUP comes to.
-use Rattle.std.proofs.Common.{◌≡◌, ℕ, Bool, true, false, not, ◌||◌, List, [], Option, Some, None, Result, Ok, Err, IfOk, length, refl, sym, ap, subst, ◌∙◌, if◌then◌else◌}
+use Rattle.std.proofs.Common.{◌≡◌, ℕ, Bool, true, false, not, ◌||◌, Option, Some, None, Result, Ok, Err, length, refl, sym, ap, subst, ◌∙◌, if◌then◌else◌}
 use Rattle.card_definitions.specs.Words.{unless}
 use Rattle.deck_fields.proofs.Decimals.{unless-Ok}
 use Rattle.lp_definitions.specs.declared.Evidence.{Evidence}
 use Rattle.lp_definitions.specs.LinearProgram.{LinearProgram}
-use Rattle.lp_definitions.specs.Basis.{opening_statuses}
-use Rattle.problem_definitions.specs.Names.{Name}
 use Rattle.problem_definitions.specs.Problem.{Problem}
-use Rattle.problem_file.specs.Filed.{Filed, filed_under}
-use Rattle.control_definitions.specs.Program.{SetupOptions, Setup as SetupVerb}
-use Rattle.control_definitions.specs.Cells.{Cells}
 use Rattle.selection_definitions.specs.declared.SelectionFault.{SelectionFault}
 use Rattle.selection_definitions.specs.Choice.{Choice, selection_fault}
 use Rattle.selection_definitions.specs.Selection.{program_of_choice, selected}
@@ -20,15 +15,12 @@ use Rattle.lp_setup.specs.declared.stop.SelectStop.{SelectStop}
 use Rattle.lp_setup.specs.declared.stop.SelectStop.TheVariants as stops
 use Rattle.lp_setup.specs.Stops.{fault_of, IsOverflowOf}
 use Rattle.listing_definitions.specs.declared.VerbFault.{VerbFault}
-use Rattle.listing_definitions.specs.declared.VerbFault.TheVariants.{NoProblem}
-use Rattle.listing_definitions.specs.Report.{SetUp}
 use Rattle.listing_definitions.specs.Ending.{VerbStop}
-use Rattle.run_definitions.specs.State.{Present, State, problem_of, choice_of}
-use Rattle.run_definitions.specs.Moves.{Prints, Outcome, next, stops as stopped, InSelection, Move, Does, MayStop, or_fault}
-use Rattle.run_definitions.specs.Verbs.{selection_verb_fault, or_selection_fault, verb_move}
+use Rattle.run_definitions.specs.Moves.{stops as stopped, InSelection, Move, Does, MayStop, or_fault}
+use Rattle.run_definitions.specs.Verbs.{selection_verb_fault, or_selection_fault}
 use Rattle.walk_definitions.specs.Walker as walks
 use Rattle.listing_walk.specs.declared.selecting.Unselected.{Unselected}
-use Rattle.listing_walk.specs.Choosing.{unselected_by, IsMade, IsRefused, IsNotMade}
+use Rattle.listing_walk.specs.Choosing.{unselected_by, IsMade, IsNotMade}
 
 -- ---- what a stop says
 

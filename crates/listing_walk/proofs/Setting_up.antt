@@ -1,5 +1,5 @@
 -- What SETUP comes to.
-use Rattle.std.proofs.Common.{◌≡◌, ℕ, Bool, true, false, not, ◌||◌, List, [], Option, Some, None, Result, Ok, Err, IfOk, refl, sym, ap, subst, ◌∙◌}
+use Rattle.std.proofs.Common.{◌≡◌, ℕ, not, List, [], Option, Some, None, Result, Ok, Err, IfOk, refl, sym, ap, subst, ◌∙◌}
 use Rattle.lp_definitions.specs.LinearProgram.{LinearProgram}
 use Rattle.lp_definitions.specs.Basis.{opening_statuses}
 use Rattle.problem_definitions.specs.Names.{Name}
@@ -7,7 +7,6 @@ use Rattle.problem_definitions.specs.Problem.{Problem}
 use Rattle.problem_file.specs.Filed.{Filed, filed_under}
 use Rattle.control_definitions.specs.Program.{SetupOptions, Setup as SetupVerb}
 use Rattle.control_definitions.specs.Cells.{Cells}
-use Rattle.selection_definitions.specs.Choice.{Choice}
 use Rattle.selection_definitions.specs.Selection.{selected}
 use Rattle.listing_definitions.specs.declared.VerbFault.{VerbFault}
 use Rattle.listing_definitions.specs.declared.VerbFault.TheVariants.{NoProblem}
@@ -15,8 +14,8 @@ use Rattle.listing_definitions.specs.Report.{SetUp}
 use Rattle.listing_definitions.specs.Text.{report_text}
 use Rattle.listing_definitions.specs.Ending.{VerbStop}
 use Rattle.run_definitions.specs.State.{Present, State, problem_of, choice_of}
-use Rattle.run_definitions.specs.Moves.{Nothing, Prints, Outcome, next, stops, InSelection, Move, Does, MayStop, Settles}
-use Rattle.run_definitions.specs.Verbs.{selects, or_selection_fault, verb_move}
+use Rattle.run_definitions.specs.Moves.{Nothing, Prints, Outcome, next, stops, InSelection, Move, Does, MayStop}
+use Rattle.run_definitions.specs.Verbs.{or_selection_fault, verb_move}
 use Rattle.run_machine.specs.declared.act.Act.TheVariants as acts
 use Rattle.run_machine.specs.declared.end.End.TheVariants as ends
 use Rattle.run_machine.specs.declared.machine.Machine.{Machine}
@@ -36,7 +35,7 @@ use Rattle.listing_walk.specs.declared.went.Went.{Went}
 use Rattle.listing_walk.specs.declared.went.Went.TheVariants as went
 use Rattle.listing_walk.specs.Ended.{found_shown}
 use Rattle.listing_walk.specs.Choosing.{IsMade, IsRefused, IsNotMade, IsOpened, IsNotOpened, no_problem, not_selected}
-use Rattle.listing_walk.specs.Standing.{IsShown, IsReady, IsSolved, IsSound, Faces}
+use Rattle.listing_walk.specs.Standing.{IsShown, Faces}
 use Rattle.listing_walk.specs.Walking.{Comes, Passes, Walks, IsUnchecked}
 use Rattle.listing_walk.proofs.Selected.{fault_move, found_move, unselected_move, selected_move, made_turn, refused_turn}
 

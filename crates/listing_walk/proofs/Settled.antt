@@ -1,21 +1,19 @@
 -- What a move comes to in the walk that asks nothing of linear programming.
-use Rattle.std.proofs.Common.{◌≡◌, ℕ, ◌==◌, zero, suc, Bool, true, false, not, List, [], ◌∷◌, ◌++◌, Option, Some, None, Result, Ok, Err, length, refl, sym, ap, ◌∙◌, if◌then◌else◌, codes, arith}
+use Rattle.std.proofs.Common.{◌≡◌, ℕ, ◌==◌, Bool, true, false, not, List, [], ◌∷◌, ◌++◌, Option, Some, None, Result, Ok, Err, length, refl, sym, ap, ◌∙◌, if◌then◌else◌, arith}
 use Rattle.std.specs.Prelude.{is_none}
 use Rattle.std.specs.Option.{option_or}
-use Rattle.std.specs.List.{concat}
 use Rattle.listing_definitions.specs.declared.VerbFault.{VerbFault}
 use Rattle.listing_definitions.specs.declared.Solver.{Solver}
 use Rattle.listing_definitions.specs.declared.Solver.TheVariants as solvers
-use Rattle.listing_definitions.specs.Report.{Report, Titled, Converted, Revised, SetUp, BcdOut, BasisOut, Inserted, Solved, Solution, Ranges, Parametric, OptimalAt, CrossedAt, InfeasibleBy, UnboundedBy}
+use Rattle.listing_definitions.specs.Report.{Report, Titled, Converted, Revised, SetUp, BcdOut, BasisOut, Inserted, Solved, Solution, Ranges, Parametric}
 use Rattle.listing_definitions.specs.Text.{report_text, solver_text}
-use Rattle.listing_definitions.specs.Ending.{Ending}
 use Rattle.deck_definitions.specs.declared.DeckFault.{DeckFault}
 use Rattle.run_definitions.specs.State.{State}
-use Rattle.run_definitions.specs.Moves.{Gain, Nothing, Prints, Punches, printed_by, gain_text, Outcome, Goes, Ends, gain_of, Move, Does, MayStop, Asks, InSelection, InAnswer, Settles, or_fault}
+use Rattle.run_definitions.specs.Moves.{Gain, Nothing, Prints, Punches, printed_by, gain_text, Outcome, Goes, gain_of, Move, Does, MayStop, Asks, Settles, or_fault}
 use Rattle.run_definitions.specs.Verbs.{or_deck_fault}
 use Rattle.walk_definitions.specs.Words.{left_after}
 use Rattle.listing_walk.specs.Walking.{open_by, is_loud, one_if}
-use Rattle.walk_definitions.specs.Walker.{Walker, Found, Wrong, Unchecked, Turn, Walks, Finds, open_stop, open_pending, open_outcome, opened, refuses_selection, unless_found, follows, passed, taken, due, walk_move}
+use Rattle.walk_definitions.specs.Walker.{Walker, Found, Unchecked, Turn, Finds, open_stop, open_pending, open_outcome, opened, refuses_selection, unless_found, taken, due, walk_move}
 
 -- ---- a move that asks nothing
 

@@ -1,5 +1,5 @@
 -- What SOLUTION and RANGE come to in the walk.
-use Rattle.std.proofs.Common.{◌≡◌, ℕ, ◌+◌, Bool, true, false, List, [], Option, Some, None, IfSome, Result, Ok, Err, IfOk, refl, sym, ap, subst, ◌∙◌}
+use Rattle.std.proofs.Common.{◌≡◌, ℕ, ◌+◌, List, [], Option, Some, None, IfSome, Result, Ok, Err, IfOk, refl, sym, ap, subst, ◌∙◌}
 use Rattle.job_devices.specs.declared.device.NoMemory.{NoMemory}
 use Rattle.lp_definitions.specs.LinearProgram.{LinearProgram}
 use Rattle.problem_definitions.specs.Problem.{Problem}
@@ -11,10 +11,10 @@ use Rattle.listing_definitions.specs.declared.Mark.{Mark}
 use Rattle.listing_definitions.specs.declared.VerbFault.{VerbFault}
 use Rattle.listing_definitions.specs.declared.VerbFault.TheVariants.{NoSetup, NotSolved}
 use Rattle.listing_definitions.specs.Report.{SolutionLines, Solution}
-use Rattle.question_definitions.specs.Answers.{Basis, Sheet, Question, Answer, OfSolution}
+use Rattle.question_definitions.specs.Answers.{Sheet, OfSolution}
 use Rattle.run_definitions.specs.State.{Present, State, choice_of}
 use Rattle.run_definitions.specs.Moves.{Prints, Outcome, next, Move, or_fault}
-use Rattle.run_definitions.specs.Verbs.{asks, or_selection_fault, shows_present, verb_move}
+use Rattle.run_definitions.specs.Verbs.{asks, shows_present, verb_move}
 use Rattle.run_machine.specs.declared.act.Act.TheVariants as acts
 use Rattle.run_machine.specs.declared.end.End.TheVariants as ends
 use Rattle.run_machine.specs.declared.machine.Machine.{Machine}
@@ -27,14 +27,13 @@ use Rattle.listing_walk.specs.declared.found.Found.{Found}
 use Rattle.listing_walk.specs.declared.place.Place.{Place}
 use Rattle.listing_walk.specs.declared.went.Went.{Went}
 use Rattle.listing_walk.specs.declared.went.Went.TheVariants as went
-use Rattle.listing_walk.specs.Ended.{found_shown}
-use Rattle.listing_walk.specs.Standing.{IsShown, IsReady, IsSolved, Faces}
-use Rattle.listing_walk.specs.Walking.{Comes, Passes, Walks}
-use Rattle.listing_walk.specs.Asking.{asked_turn, IsTaken, Answered, IsAny, WentBy}
+use Rattle.listing_walk.specs.Standing.{IsShown, IsSolved}
+use Rattle.listing_walk.specs.Walking.{Passes, Walks}
+use Rattle.listing_walk.specs.Asking.{asked_turn, Answered, IsAny, WentBy}
 use Rattle.listing_walk.proofs.Follow_on.{placed, faces_still}
 use Rattle.listing_walk.proofs.Selected.{fault_move, found_move, selected_move}
 use Rattle.listing_walk.proofs.Setting_up.{faulted}
-use Rattle.listing_walk.proofs.Solving_walks.{present_with, IsPresentOf, present_at, none_at, fault_stop}
+use Rattle.listing_walk.proofs.Solving_walks.{present_with, present_at, none_at, fault_stop}
 
 -- ---- faults
 
@@ -118,8 +117,7 @@ module _ (card : ℕ) (cards : List (List ℕ)) (machine : Machine Chosen) (old 
 
       pub solution_shown : Answered (OfSolution mark) (record { problem = problem; lp = chosen.lp }) old new (IsAny (OfSolution mark)) (Ok tt) → Walks SolutionVerb card cards machine machine old new went.Next
       solution_shown answered = λ position executed state w s f.
-          let a = answered w (go_on state) f in
-          (
+          let a = answered w (go_on state) f in (
             record (a.walker) { state = record state { position = state.position + 1 } },
             turn_shown w s ∙ a.is_turn,
             record { state = placed (position + 1) (state.position + 1) s (ap (λ n. n + 1) s.is_position); faces = faces_still (record state { position = state.position + 1 }) a.faces },

@@ -1,9 +1,8 @@
 -- What the verbs come to that select again by the present cells.
-use Rattle.std.proofs.Common.{◌≡◌, ℕ, ◌≤◌, Bool, true, false, List, [], ◌++◌, Option, Some, None, IfSome, Result, Ok, Err, IfOk, refl, sym, ap, subst, ◌∙◌}
+use Rattle.std.proofs.Common.{◌≡◌, ℕ, ◌≤◌, true, List, [], Option, Some, None, IfSome, Result, Ok, Err, IfOk, refl, sym, ap, subst, ◌∙◌}
 use Rattle.std.proofs.lemmas.Option.{same_Some}
 use Rattle.job_devices.specs.declared.device.NoMemory.{NoMemory}
 use Rattle.lp_definitions.specs.LinearProgram.{LinearProgram}
-use Rattle.problem_definitions.specs.Names.{Name}
 use Rattle.problem_definitions.specs.Problem.{Problem}
 use Rattle.problem_file.specs.Filed.{Filed, filed_under}
 use Rattle.control_definitions.specs.Program.{SetupOptions, Verb}
@@ -17,16 +16,15 @@ use Rattle.listing_definitions.specs.declared.VerbFault.TheVariants.{NoSetup}
 use Rattle.listing_definitions.specs.Report.{Report}
 use Rattle.listing_definitions.specs.Ending as endings
 use Rattle.question_definitions.specs.Answers.{Basis}
-use Rattle.run_definitions.specs.State.{Present, State, choice_of, gone_through}
-use Rattle.run_definitions.specs.Moves.{Prints, Outcome, Ends, stops, InSelection, Move, Does, MayStop, or_fault}
-use Rattle.run_definitions.specs.Verbs.{selects_present, or_selection_fault, by_verdict, demanded, verb_move}
-use Rattle.run_machine.specs.declared.act.Act.{Act}
+use Rattle.run_definitions.specs.State.{Present, State, choice_of}
+use Rattle.run_definitions.specs.Moves.{Prints, Ends, stops, InSelection, Move, Does, MayStop, or_fault}
+use Rattle.run_definitions.specs.Verbs.{selects_present, by_verdict, demanded, verb_move}
 use Rattle.run_machine.specs.declared.act.Act.TheVariants as acts
 use Rattle.run_machine.specs.declared.end.End.{End}
 use Rattle.run_machine.specs.declared.end.End.TheVariants as ends
 use Rattle.run_machine.specs.declared.finding.Finding.TheVariants.{Ended}
 use Rattle.run_machine.specs.declared.machine.Machine.{Machine}
-use Rattle.run_machine.specs.Choosing.{HasSelectionFault, IsSelected}
+use Rattle.run_machine.specs.Choosing.{HasSelectionFault}
 use Rattle.run_machine.specs.Ends.{end_shown}
 use Rattle.run_machine.specs.Findings.{demanded_act, act_of}
 use Rattle.run_machine.specs.Standing.{AreDemands}
@@ -41,7 +39,7 @@ use Rattle.listing_walk.specs.declared.went.Went.{Went}
 use Rattle.listing_walk.specs.declared.went.Went.TheVariants as went
 use Rattle.listing_walk.specs.Ended.{found_shown}
 use Rattle.listing_walk.specs.Choosing.{IsMade, IsRefused, IsNotMade}
-use Rattle.listing_walk.specs.Standing.{IsShown, IsReady, IsSolved, IsSound, Faces}
+use Rattle.listing_walk.specs.Standing.{IsShown, IsReady, Faces}
 use Rattle.listing_walk.specs.Walking.{open_by, Comes, IsOutcome, Passes, Walks, IsUnchecked, Refuses}
 use Rattle.listing_walk.proofs.Selected.{fault_move, found_move, unselected_move, selected_move, made_turn, refused_turn}
 use Rattle.listing_walk.proofs.Setting_up.{faulted}

@@ -1,5 +1,5 @@
 -- A statement at a position, and where it leads.
-use Rattle.std.proofs.Common.{◌≡◌, ℕ, ◌+◌, ◌-◌, ◌≤◌, ◌<◌, Bool, true, false, List, [], Option, Some, None, Result, IfOk, Ok, Err, slice_get, drop, length, refl, sym, ap, subst, ◌∙◌, if◌then◌else◌, arith, rules}
+use Rattle.std.proofs.Common.{◌≡◌, ℕ, ◌+◌, ◌-◌, ◌≤◌, ◌<◌, Bool, true, false, List, [], Some, None, Result, IfOk, Ok, Err, slice_get, drop, length, refl, sym, ap, subst, ◌∙◌, if◌then◌else◌, arith, rules}
 use Rattle.std.specs.Prelude.{nat_lt}
 use Rattle.card_definitions.specs.Cards.{numbered_cards}
 use Rattle.deck_definitions.specs.Decks.{decks_of}
@@ -16,11 +16,10 @@ use Rattle.listing_walk.specs.declared.chosen.Chosen.{Chosen}
 use Rattle.listing_walk.specs.declared.found.Found.{Found}
 use Rattle.listing_walk.specs.declared.place.Place.{Place}
 use Rattle.listing_walk.specs.declared.went.Went.TheVariants as went
-use Rattle.listing_walk.specs.declared.went.Onward.{Onward}
 use Rattle.listing_walk.specs.declared.went.Onward.TheVariants as onward
 use Rattle.listing_walk.specs.Ended.{found_shown, decks_after, IsFoundBy}
 use Rattle.listing_walk.specs.Standing.{IsShown, IsSound, Faces, Stands}
-use Rattle.listing_walk.specs.Walking.{Comes, Walks, ComesTo, Steps}
+use Rattle.listing_walk.specs.Walking.{Walks, Steps}
 
 -- the state with one more statement counted
 counted_stands : {cards : List (List ℕ)} {machine : Machine Chosen} {position executed : ℕ} {state : State} → machines.Stands IsShown cards machine position executed state →

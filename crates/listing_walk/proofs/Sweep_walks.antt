@@ -1,5 +1,5 @@
 -- What PARAOBJ and PARARHS come to in the walk.
-use Rattle.std.proofs.Common.{◌≡◌, ℕ, ◌+◌, true, List, [], Option, Some, None, IfSome, Result, Ok, Err, IfOk, length, refl, sym, ap, subst, ◌∙◌}
+use Rattle.std.proofs.Common.{◌≡◌, ℕ, true, List, [], Option, Some, None, Result, Ok, Err, IfOk, length, refl, sym, ap, subst, ◌∙◌}
 use Rattle.std.specs.Prelude.{option_and_then}
 use Rattle.std.specs.List.{enumerate_from}
 use Rattle.std.proofs.lemmas.List.{length-map}
@@ -16,7 +16,7 @@ use Rattle.selection_definitions.specs.Selection.{selected}
 use Rattle.listing_definitions.specs.declared.Mark.{Mark}
 use Rattle.listing_definitions.specs.declared.VerbFault.{VerbFault}
 use Rattle.listing_definitions.specs.declared.VerbFault.TheVariants.{NoSetup, NoParmax, ParmaxBelow}
-use Rattle.listing_definitions.specs.Report.{PathVerdict, Check, Interval, ChainEnd, Solved, Parametric}
+use Rattle.listing_definitions.specs.Report.{Solved, Parametric}
 use Rattle.question_definitions.specs.Answers.{Basis, Sheet, Changing, changing_name, sweeper, Sweep, OfSweep, SweepEnd, Opening, Chained, SweepLimit}
 use Rattle.answer_definitions.specs.Sweeps.{shifts_of}
 use Rattle.run_definitions.specs.State.{Present, State, choice_of, gone_through}
@@ -51,13 +51,13 @@ use Rattle.listing_walk.specs.declared.selecting.Unselected.{Unselected}
 use Rattle.listing_walk.specs.declared.went.Went.{Went}
 use Rattle.listing_walk.specs.declared.went.Went.TheVariants as went
 use Rattle.listing_walk.specs.Choosing.{IsMade, IsNotMade}
-use Rattle.listing_walk.specs.Standing.{IsShown, IsReady, IsSound, Faces}
+use Rattle.listing_walk.specs.Standing.{IsShown, IsSound, Faces}
 use Rattle.listing_walk.specs.Walking.{open_by, Comes, IsOutcome, Finishes, Passes, Walks, Refuses}
 use Rattle.listing_walk.specs.Asking.{asked_turn, Answered, WentBy}
 use Rattle.listing_walk.specs.Sweeping_verbs.{finding_of, left_by, IsUnasked}
 use Rattle.listing_walk.proofs.Selected.{fault_move, found_move, as_many_rows}
 use Rattle.listing_walk.proofs.Setting_up.{faulted}
-use Rattle.listing_walk.proofs.Solving_walks.{present_with, selecting, fault_stop, no_setup_walks, refusal_walks, made_walks, verdict_comes, ready_of}
+use Rattle.listing_walk.proofs.Solving_walks.{present_with, selecting, fault_stop, no_setup_walks, refusal_walks, made_walks, verdict_comes}
 
 -- ---- what is asked for can be run
 

@@ -1,5 +1,5 @@
 -- What PRIMAL and DUAL come to in the walk.
-use Rattle.std.proofs.Common.{◌≡◌, ℕ, true, List, [], Option, Some, None, IfSome, Result, Ok, Err, IfOk, refl, sym, ap, subst, ◌∙◌}
+use Rattle.std.proofs.Common.{◌≡◌, ℕ, List, [], Option, Some, None, Result, Ok, Err, IfOk, refl, sym, ap, subst, ◌∙◌}
 use Rattle.std.proofs.lemmas.Option.{same_Some}
 use Rattle.job_devices.specs.declared.device.NoMemory.{NoMemory}
 use Rattle.lp_definitions.specs.LinearProgram.{LinearProgram}
@@ -9,19 +9,17 @@ use Rattle.control_definitions.specs.Cells.{Cells, steps_allowed}
 use Rattle.selection_definitions.specs.Selection.{selected}
 use Rattle.listing_definitions.specs.declared.Mark.{Mark}
 use Rattle.listing_definitions.specs.declared.Solver.{Solver}
-use Rattle.listing_definitions.specs.declared.VerbFault.{VerbFault}
 use Rattle.listing_definitions.specs.declared.VerbFault.TheVariants.{NoSetup}
-use Rattle.listing_definitions.specs.Report.{PathVerdict, Check, Solved}
+use Rattle.listing_definitions.specs.Report.{Solved}
 use Rattle.question_definitions.specs.Answers.{Basis, Sheet, OfPath, PathEnd, Reached, PathLimit, PricesWrong}
 use Rattle.run_definitions.specs.State.{Present, State, choice_of, gone_through}
-use Rattle.run_definitions.specs.Moves.{Prints, Outcome, Move}
+use Rattle.run_definitions.specs.Moves.{Prints, Move}
 use Rattle.run_definitions.specs.Verbs.{asks, after_path, mark_of, verb_move}
 use Rattle.run_machine.specs.declared.act.Act.{Act}
 use Rattle.run_machine.specs.declared.act.Act.TheVariants as acts
 use Rattle.run_machine.specs.declared.end.End.TheVariants as ends
 use Rattle.run_machine.specs.declared.finding.Finding.TheVariants.{Ended}
 use Rattle.run_machine.specs.declared.machine.Machine.{Machine}
-use Rattle.run_machine.specs.Choosing.{HasSelectionFault}
 use Rattle.run_machine.specs.Findings.{act_of}
 use Rattle.run_machine.specs.Standing.{AreDemands}
 use Rattle.run_machine.specs.Standing as machines
@@ -37,13 +35,12 @@ use Rattle.listing_walk.specs.declared.solving.SolvingVerb.{SolvingVerb}
 use Rattle.listing_walk.specs.declared.solving.SolvingVerb.TheVariants.{Primal, Dual}
 use Rattle.listing_walk.specs.declared.went.Went.{Went}
 use Rattle.listing_walk.specs.declared.went.Went.TheVariants as went
-use Rattle.listing_walk.specs.Ended.{found_shown}
 use Rattle.listing_walk.specs.Choosing.{IsMade, IsNotMade}
-use Rattle.listing_walk.specs.Standing.{IsShown, IsReady, IsSolved, IsSound, Faces}
+use Rattle.listing_walk.specs.Standing.{IsShown, IsSound, Faces}
 use Rattle.listing_walk.specs.Walking.{Comes, IsOutcome, Finishes, Passes, Walks, Refuses}
-use Rattle.listing_walk.specs.Asking.{asked_turn, IsTaken, Answered, IsMarked, WentBy}
+use Rattle.listing_walk.specs.Asking.{Answered, IsMarked, WentBy}
 use Rattle.listing_walk.specs.Solving_verbs.{verb_of, solver_of}
-use Rattle.listing_walk.proofs.Solving_walks.{present_with, selecting, no_setup_walks, refusal_walks, made_walks, verdict_comes, ready_of}
+use Rattle.listing_walk.proofs.Solving_walks.{present_with, selecting, no_setup_walks, refusal_walks, made_walks, verdict_comes}
 
 abbrev limit_of : SolvingVerb → Cells → Option ℕ
 limit_of Primal cells = cells.xiterlim

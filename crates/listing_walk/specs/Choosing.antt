@@ -17,7 +17,6 @@ use Rattle.control_definitions.specs.Program.{SetupOptions}
 use Rattle.run_definitions.specs.State.{choice_of}
 use Rattle.run_machine.specs.Choosing.{HasSelectionFault}
 use Rattle.run_machine.specs.Standing.{named, filed}
-use Rattle.listing_walk.specs.declared.chosen.Chosen.{Chosen}
 use Rattle.listing_walk.specs.declared.chosen.Named.{Named}
 use Rattle.listing_walk.specs.declared.selecting.Unselected.{Unselected}
 use Rattle.listing_walk.specs.declared.selecting.Unselected.TheVariants.{Fault, Unchecked, NoMemory}

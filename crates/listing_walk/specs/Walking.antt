@@ -2,7 +2,7 @@
 --     looks_by, clears_by          where a stop is looked for, and where what is pending has to be settled
 --     Comes turn .. went           the turn is this: the walk goes on, or it ends
 --     Walks verb card ..           from each walker that stands here, the statement comes to this
-use Rattle.std.specs.Prelude.{◌≡◌, ℕ, ◌+◌, ◌≤◌, ◌<◌, Bool, true, false, List, [], ◌∷◌, Option, Some, None, if◌then◌else◌}
+use Rattle.std.specs.Prelude.{◌≡◌, ℕ, ◌+◌, ◌≤◌, ◌<◌, Bool, true, false, List, [], ◌∷◌, Option, None, if◌then◌else◌}
 use Rattle.std.specs.Option.{option_or}
 use Rattle.control_definitions.specs.Program.{Verb, Program}
 use Rattle.run_definitions.specs.State.{State}

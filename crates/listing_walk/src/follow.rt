@@ -32,11 +32,7 @@ fn either(a: bool, b: bool) -> bool
 }
 
 /// Goes on as an act says, once the report is passed. An end is due in a line of its own.
-pub fn finish<'a>(
-    alloc: Global,
-    place: &mut Place<'a>,
-    act: &Act,
-) -> Result<Went<'a>, NoMemory>
+pub fn finish<'a>(alloc: Global, place: &mut Place<'a>, act: &Act) -> Result<Went<'a>, NoMemory>
     ensures finishes { IfOk result (Finishes place.old place.new act.now) }
     ensures reports { place.new.reports ≡ place.old.reports }
 {
@@ -87,7 +83,13 @@ pub fn fault<'a>(
     ensures passes { IfOk result (Passes machine.now place.old place.new (acts.Ends (ends.Verb fault card)) []) }
     ensures few { place.new.reports ≤ place.old.reports + 1 }
 {
-    follow(alloc, machine, place, &Act::Ends(End::Verb { fault, card }), &[])
+    follow(
+        alloc,
+        machine,
+        place,
+        &Act::Ends(End::Verb { fault, card }),
+        &[],
+    )
 }
 
 /// What is refused: the run ends with a verb fault, or an operation of a selection is refused.

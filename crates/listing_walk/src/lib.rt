@@ -19,5 +19,5 @@ mod statements;
 mod sweeping;
 mod went;
 
-pub use found::Found;
 pub use course::{closes, walk};
+pub use found::Found;

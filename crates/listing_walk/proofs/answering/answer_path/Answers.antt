@@ -1,5 +1,5 @@
 -- What is open comes first, and then the verdict.
-use Rattle.std.proofs.Common.{Ok, Err, refl}
+use Rattle.std.proofs.Common.{refl}
 use Rattle.question_definitions.specs.Answers.{OfPath}
 use Rattle.listing_answers.specs.Taken.{IsConclusion}
 use Rattle.listing_readers.specs.Read.{sheet_shown}

@@ -1,5 +1,5 @@
 -- What is open comes first, and then the run.
-use Rattle.std.proofs.Common.{true, Ok, Err, refl}
+use Rattle.std.proofs.Common.{true, refl}
 use Rattle.question_definitions.specs.Answers.{OfSweep}
 use Rattle.listing_answers.specs.Taken.{IsSweepAnswer}
 use Rattle.listing_readers.specs.Read.{sheet_shown}

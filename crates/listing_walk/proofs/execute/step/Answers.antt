@@ -1,5 +1,5 @@
 -- The statement at a position is followed.
-use Rattle.std.proofs.Common.{◌-◌, arith}
+use Rattle.std.proofs.Common.{◌-◌}
 use Rattle.control_verbs.specs.Shown.{statement_shown}
 use Rattle.listing_walk.proofs.Sound.{sound_statement}
 use Rattle.listing_walk.proofs.Stepping.{steps_next, steps_jump, steps_found}

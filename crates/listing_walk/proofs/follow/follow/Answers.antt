@@ -1,5 +1,4 @@
 -- What is open comes first, and then the text.
-use Rattle.std.proofs.Common.{◌||◌, None, Some, false, refl, sym, ap, subst, ◌∙◌}
 use Rattle.listing_walk.proofs.Follow_on.{both, is_none_by, passes_open_by, passes_wrong_by, passes_on_by}
 use Rattle.listing_walk.proofs.follow.follow.Goals as goal
 

@@ -1,5 +1,5 @@
 use Rattle.run_definitions.specs.State.{choice_of}
-use Rattle.listing_walk.proofs.Selected.{made_by, not_made_by}
+use Rattle.listing_walk.proofs.Selected.{not_made_by}
 use Rattle.listing_walk.proofs.selecting.select_present.Goals as goal
 
 pub returns-in-Err-clause-refused : goal.returns-in-Err-clause-refused

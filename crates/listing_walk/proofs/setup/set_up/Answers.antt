@@ -1,5 +1,5 @@
 -- SETUP by what was chosen.
-use Rattle.std.proofs.Common.{sym, ◌∙◌}
+use Rattle.std.proofs.Common.{◌∙◌}
 use Rattle.control_verbs.specs.Shown.{options_shown}
 use Rattle.listing_walk.proofs.Setting_up.{setup_done_by, setup_faulted_by, setup_unchecked}
 use Rattle.listing_walk.proofs.setup.set_up.Goals as goal

@@ -1,5 +1,5 @@
 -- What is taken decides what follows.
-use Rattle.std.proofs.Common.{Some, refl, sym, ap, ◌∙◌}
+use Rattle.std.proofs.Common.{sym}
 use Rattle.run_definitions.specs.State.{choice_of}
 use Rattle.listing_walk.proofs.Selected.{as_many_rows, as_many_columns, no_change}
 use Rattle.listing_walk.proofs.Shown_walks.{solution_no_setup, solution_not_solved, solution_shown, solution_stopped, selected_now}

@@ -1,5 +1,5 @@
 -- What is selected, and what is taken, decides what follows.
-use Rattle.std.proofs.Common.{Some, refl, sym, ap, ◌∙◌}
+use Rattle.std.proofs.Common.{sym, ap, ◌∙◌}
 use Rattle.run_definitions.specs.State.{choice_of}
 use Rattle.run_machine.specs.declared.finding.Finding.TheVariants.{Ended}
 use Rattle.run_machine.specs.declared.machine.Machine.{Machine}

@@ -1,4 +1,3 @@
-use Rattle.std.proofs.Common.{None}
 use Rattle.control_definitions.specs.Program as program
 use Rattle.listing_walk.proofs.Stating.{plain_bcdout, walks_punching}
 use Rattle.listing_walk.proofs.statements.punch_problem.Goals as goal

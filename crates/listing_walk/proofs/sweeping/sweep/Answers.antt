@@ -1,5 +1,5 @@
 -- What is selected, asked for and taken decides what follows.
-use Rattle.std.proofs.Common.{Some, refl, sym, ap, ◌∙◌}
+use Rattle.std.proofs.Common.{sym, ap, ◌∙◌}
 use Rattle.run_definitions.specs.State.{choice_of}
 use Rattle.run_machine.specs.declared.finding.Finding.{Finding}
 use Rattle.run_machine.specs.Findings.{act_of}
