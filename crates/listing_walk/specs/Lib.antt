@@ -1,1 +1,7 @@
 pub mod Ended
+pub mod Standing
+pub mod Walking
+pub mod Choosing
+pub mod Asking
+pub mod Solving_verbs
+pub mod Sweeping_verbs

@@ -3,8 +3,21 @@
 //! tested.
 #![tactic(auto)]
 
+mod answering;
+mod chosen;
+mod course;
+mod execute;
+mod follow;
 mod found;
-mod walk;
+mod place;
+mod reporting;
+mod selecting;
+mod setup;
+mod solution;
+mod solving;
+mod statements;
+mod sweeping;
+mod went;
 
+pub use course::{closes, walk};
 pub use found::Found;
-pub use walk::{closes, walk};

@@ -1,0 +1,14 @@
+mod Settled
+mod Follow_on
+mod Stating
+mod Selected
+mod Setting_up
+mod Sound
+mod Clamping
+mod Stepping
+mod Asked
+mod Solving_walks
+mod Verdict_walks
+mod Shown_walks
+mod Sweep_walks
+mod Reported_walks

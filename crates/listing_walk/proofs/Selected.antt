@@ -1,0 +1,104 @@
+-- What is selected of a problem, and what SETUP comes to.
+use Rattle.std.proofs.Common.{◌≡◌, ℕ, Bool, true, false, not, ◌||◌, Option, Some, None, Result, Ok, Err, length, refl, sym, ap, subst, ◌∙◌, if◌then◌else◌}
+use Rattle.card_definitions.specs.Words.{unless}
+use Rattle.deck_fields.proofs.Decimals.{unless-Ok}
+use Rattle.lp_definitions.specs.declared.Evidence.{Evidence}
+use Rattle.lp_definitions.specs.LinearProgram.{LinearProgram}
+use Rattle.problem_definitions.specs.Problem.{Problem}
+use Rattle.selection_definitions.specs.declared.SelectionFault.{SelectionFault}
+use Rattle.selection_definitions.specs.Choice.{Choice, selection_fault}
+use Rattle.selection_definitions.specs.Selection.{program_of_choice, selected}
+use Rattle.selection_definitions.specs.Making.{is_made}
+use Rattle.selection_definitions.specs.Refusals.{IsSelectionRefusal}
+use Rattle.selection_definitions.proofs.Making.{made_iff}
+use Rattle.lp_setup.specs.declared.stop.SelectStop.{SelectStop}
+use Rattle.lp_setup.specs.declared.stop.SelectStop.TheVariants as stops
+use Rattle.lp_setup.specs.Stops.{fault_of, IsOverflowOf}
+use Rattle.listing_definitions.specs.declared.VerbFault.{VerbFault}
+use Rattle.listing_definitions.specs.Ending.{VerbStop}
+use Rattle.run_definitions.specs.Moves.{stops as stopped, InSelection, Move, Does, MayStop, or_fault}
+use Rattle.run_definitions.specs.Verbs.{selection_verb_fault, or_selection_fault}
+use Rattle.walk_definitions.specs.Walker as walks
+use Rattle.listing_walk.specs.declared.selecting.Unselected.{Unselected}
+use Rattle.listing_walk.specs.Choosing.{unselected_by, IsMade, IsNotMade}
+
+-- ---- what a stop says
+
+is_refused : (problem : Problem ℕ) (choice : Choice) (why : SelectionFault) → Some why ≡ selection_fault problem choice → selected problem choice ≡ Err why
+unfolding selected
+is_refused problem choice why e = ap (λ fault. unless fault (program_of_choice problem choice)) (sym e)
+
+has_no_fault : (problem : Problem ℕ) (choice : Choice) → None ≡ selection_fault problem choice → selected problem choice ≡ Ok (program_of_choice problem choice)
+unfolding selected
+has_no_fault problem choice e = ap (λ fault. unless fault (program_of_choice problem choice)) (sym e)
+
+-- an operation that is refused isn't made
+unmade : (problem : Problem ℕ) (choice : Choice) (e : Evidence) → IsSelectionRefusal problem choice e → (made : Bool) → is_made problem choice ≡ made → made ≡ false
+unmade problem choice e h true is = absurd ((made_iff problem choice).0 is e h)
+unmade problem choice e h false is = refl
+
+not_made : (problem : Problem ℕ) (choice : Choice) (stop : SelectStop) → fault_of stop ≡ selection_fault problem choice → IsOverflowOf problem choice stop → IsNotMade problem choice (unselected_by stop)
+not_made problem choice stops.NoObjective e h = record { why = _; is_refused = is_refused problem choice _ e; is_fault = refl }
+not_made problem choice stops.ObjectiveNotFree e h = record { why = _; is_refused = is_refused problem choice _ e; is_fault = refl }
+not_made problem choice stops.NoRhsSet e h = record { why = _; is_refused = is_refused problem choice _ e; is_fault = refl }
+not_made problem choice stops.NoRangeSet e h = record { why = _; is_refused = is_refused problem choice _ e; is_fault = refl }
+not_made problem choice stops.NoBoundSet e h = record { why = _; is_refused = is_refused problem choice _ e; is_fault = refl }
+not_made problem choice (stops.Overflow evidence) e h =
+    record { lp = program_of_choice problem choice; is_selected = has_no_fault problem choice e; is_refused = unmade problem choice evidence h (is_made problem choice) refl }
+not_made problem choice stops.NoMemory e h = tt
+
+pub not_made_by : (problem : Problem ℕ) (choice chosen : Choice) (stop : SelectStop) (refusal : Unselected) → choice ≡ chosen → refusal ≡ unselected_by stop → fault_of stop ≡ selection_fault problem choice →
+    IsOverflowOf problem choice stop → IsNotMade problem chosen refusal
+not_made_by problem choice chosen stop refusal same is e h =
+    subst (λ (c : Choice). IsNotMade problem c refusal) same (subst (IsNotMade problem choice) (sym is) (not_made problem choice stop e h))
+
+pub made_by : (problem : Problem ℕ) (choice chosen : Choice) (lp : LinearProgram) → choice ≡ chosen → selected problem choice ≡ Ok lp → is_made problem choice ≡ true → IsMade problem chosen lp
+made_by problem choice chosen lp same ok made =
+    subst (λ (c : Choice). IsMade problem c lp) same (record { is_selected = ok; is_made = made })
+
+-- ---- moves
+
+-- a verb fault
+pub fault_move : {X : Type 0} (card : ℕ) (fault : VerbFault) (found : Option X) (go : X → Move) → found ≡ None → or_fault card fault found go ≡ Does (stopped (VerbStop (record { fault = fault; card = card })))
+fault_move card fault found go none = ap (λ o. or_fault card fault o go) none
+
+-- no verb fault
+pub found_move : {X : Type 0} (card : ℕ) (fault : VerbFault) (found : Option X) (go : X → Move) (x : X) → found ≡ Some x → or_fault card fault found go ≡ go x
+found_move card fault found go x some = ap (λ o. or_fault card fault o go) some
+
+-- a fault of a selection
+pub unselected_move : (card : ℕ) (found : Result LinearProgram SelectionFault) (go : LinearProgram → Move) (why : SelectionFault) (fault : VerbFault) → found ≡ Err why → selection_verb_fault why ≡ fault →
+    or_selection_fault card found go ≡ Does (stopped (VerbStop (record { fault = fault; card = card })))
+unselected_move card found go why fault err is =
+    ap (λ r. or_selection_fault card r go) err ∙ ap (λ (f : VerbFault). Does (stopped (VerbStop (record { fault = f; card = card })))) is
+
+pub selected_move : (card : ℕ) (found : Result LinearProgram SelectionFault) (go : LinearProgram → Move) (lp : LinearProgram) → found ≡ Ok lp → or_selection_fault card found go ≡ go lp
+selected_move card found go lp ok = ap (λ r. or_selection_fault card r go) ok
+
+module _ (w : walks.Walker) (problem : Problem ℕ) (choice : Choice) (move : Move) where
+  abbrev by_made : Bool → walks.Turn
+  by_made made = walks.unless_found (walks.opened w move) (if not made || walks.refuses_selection move then walks.Finds (walks.Unchecked w.rest) else walks.due w move)
+
+  -- no operation of a selection is refused
+  pub made_turn : is_made problem choice ≡ true → walks.walk_move w (MayStop (InSelection problem choice) move) ≡ walks.walk_move w move
+  made_turn made = ap by_made made
+
+  -- one is
+  pub refused_turn : is_made problem choice ≡ false → walks.walk_move w (MayStop (InSelection problem choice) move) ≡ walks.unless_found (walks.opened w move) (walks.Finds (walks.Unchecked w.rest))
+  refused_turn made = ap by_made made
+
+-- ---- what is selected is the program of the choice
+
+is_program : (problem : Problem ℕ) (choice : Choice) (p : LinearProgram) → selected problem choice ≡ Ok p → program_of_choice problem choice ≡ p
+unfolding selected
+is_program problem choice p e = unless-Ok (selection_fault problem choice) (program_of_choice problem choice) p e
+
+pub no_change : (problem : Problem ℕ) (choice : Choice) (p : LinearProgram) → selected problem choice ≡ Ok p → p.change ≡ None
+no_change problem choice p e = ap (λ (q : LinearProgram). q.change) (sym (is_program problem choice p e))
+
+-- the linear program has the rows and the columns of the problem
+pub as_many_rows : (problem : Problem ℕ) (choice : Choice) (p : LinearProgram) → selected problem choice ≡ Ok p → length problem.rows ≡ p.matrix.rows
+as_many_rows problem choice p e = ap (λ (q : LinearProgram). q.matrix.rows) (is_program problem choice p e)
+
+pub as_many_columns : (problem : Problem ℕ) (choice : Choice) (p : LinearProgram) → selected problem choice ≡ Ok p → length problem.columns ≡ p.matrix.cols
+as_many_columns problem choice p e = ap (λ (q : LinearProgram). q.matrix.cols) (is_program problem choice p e)

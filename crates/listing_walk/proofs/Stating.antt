@@ -1,0 +1,141 @@
+-- What the statements come to that ask nothing.
+use Rattle.std.proofs.Common.{◌≡◌, ℕ, false, List, [], Option, Some, Result, Ok, Err, IfOk, refl, sym, ap, subst}
+use Rattle.std.specs.Io.KnownBytes.{Appends}
+use Rattle.job_devices.specs.declared.device.NoMemory.{NoMemory}
+use Rattle.job_devices.specs.declared.memory.SureSink.{SureSink}
+use Rattle.job_devices.specs.Memory.{sure_bytes, sure_stopped}
+use Rattle.control_definitions.specs.declared.NameCell.{NameCell}
+use Rattle.control_definitions.specs.declared.NumberCell.{NumberCell}
+use Rattle.control_definitions.specs.declared.Demand.{Demand}
+use Rattle.control_definitions.specs.Program.{Verb, Initialz, Title, MoveName, MoveNumber, MoveLimit, Mvadr, Goto, Convert, Revise, Bcdout, Exit}
+use Rattle.exact_values.specs.Rational.{ℚ}
+use Rattle.listing_definitions.specs.declared.VerbFault.TheVariants.{DeckNotFound, NoProblem}
+use Rattle.run_definitions.specs.State.{State, problem_of}
+use Rattle.run_definitions.specs.Moves.{Gain, Nothing, gain_text, Settles}
+use Rattle.run_definitions.specs.Verbs.{verb_move}
+use Rattle.deck_definitions.specs.Decks.{deck_taken}
+use Rattle.deck_definitions.specs.Conversion.{conversion}
+use Rattle.revise_definitions.specs.Revision.{revision}
+use Rattle.run_machine.specs.declared.act.Act.{Act}
+use Rattle.run_machine.specs.declared.machine.Machine.{Machine}
+use Rattle.run_machine.specs.Statements.{Decides, Executes}
+use Rattle.run_machine.specs.Statements as statements
+use Rattle.run_machine.specs.Punching.{Performs}
+use Rattle.run_machine.specs.Standing as machines
+use Rattle.walk_definitions.specs.Walker.{refuses_selection}
+use Rattle.listing_walk.specs.declared.chosen.Chosen.{Chosen}
+use Rattle.listing_walk.specs.declared.place.Place.{Place}
+use Rattle.listing_walk.specs.declared.went.Went.{Went}
+use Rattle.listing_walk.specs.Standing.{IsShown}
+use Rattle.listing_walk.specs.Walking.{Passes, Walks}
+use Rattle.listing_walk.proofs.Settled.{plain_fault, plain_deck}
+
+-- ---- statements that select nothing
+
+abbrev pub IsPlain : Verb ℕ → ℕ → Type 0
+IsPlain verb card = (state : State) → refuses_selection (verb_move verb card state) ≡ false
+
+pub plain_initialz : (card : ℕ) → IsPlain Initialz card
+unfolding verb_move
+plain_initialz card = λ state. refl
+
+pub plain_title : (text : List ℕ) (card : ℕ) → IsPlain (Title text) card
+unfolding verb_move
+plain_title text card = λ state. refl
+
+pub plain_name : (cell : NameCell) (name : List ℕ) (card : ℕ) → IsPlain (MoveName cell name) card
+unfolding verb_move
+plain_name cell name card = λ state. refl
+
+pub plain_number : (cell : NumberCell) (value : ℚ) (card : ℕ) → IsPlain (MoveNumber cell value) card
+unfolding verb_move
+plain_number cell value card = λ state. refl
+
+pub plain_limit : (limit : Option ℕ) (card : ℕ) → IsPlain (MoveLimit limit) card
+unfolding verb_move
+plain_limit limit card = λ state. refl
+
+pub plain_demand : (demand : Demand) (to card : ℕ) → IsPlain (Mvadr demand to) card
+unfolding verb_move
+plain_demand demand to card = λ state. refl
+
+pub plain_goto : (to card : ℕ) → IsPlain (Goto to) card
+unfolding verb_move
+plain_goto to card = λ state. refl
+
+pub plain_exit : (card : ℕ) → IsPlain Exit card
+unfolding verb_move
+plain_exit card = λ state. refl
+
+pub plain_convert : (card : ℕ) → IsPlain Convert card
+unfolding verb_move
+plain_convert card = λ state.
+    plain_fault card DeckNotFound (deck_taken state.cells.xdata state.decks) _ (λ taken. plain_deck (conversion taken.0 state.cells.xpbname) _ (λ problem. refl))
+
+pub plain_revise : (card : ℕ) → IsPlain Revise card
+unfolding verb_move
+plain_revise card = λ state.
+    plain_fault card NoProblem (problem_of state.cells.xoldname state.file) _ (λ old.
+    plain_fault card DeckNotFound (deck_taken state.cells.xdata state.decks) _ (λ taken. plain_deck (revision old taken.0 state.cells.xpbname) _ (λ problem. refl)))
+
+pub plain_bcdout : (card : ℕ) → IsPlain Bcdout card
+unfolding verb_move
+plain_bcdout card = λ state. plain_fault card NoProblem (problem_of state.cells.xpbname state.file) _ (λ problem. refl)
+
+-- ---- what is printed into memory
+
+-- bytes that were appended to none are all
+appended : (old new : Option (List ℕ)) (bytes text : List ℕ) → Appends old new bytes → old ≡ Some [] → new ≡ Some text → bytes ≡ text
+appended old new bytes text h none all =
+    sym (subst (λ (n : Option (List ℕ)). Appends (Some []) n bytes) all (subst (λ (o : Option (List ℕ)). Appends o new bytes) none h))
+
+module _ (verb : Verb ℕ) (card : ℕ) (cards : List (List ℕ)) (old new : Machine Chosen) (place_old place_new : Place) (act : Act) (text : List ℕ) (plain : IsPlain verb card) where
+  -- with some gain that has this text, the statement comes to this act
+  record Gains (position executed : ℕ) (state : State) : Type 0 where
+    gain : Gain
+    comes : statements.Comes IsShown Settles verb card cards position executed state new gain act
+    is_text : gain_text gain ≡ text
+
+  walks_by : ((position executed : ℕ) (state : State) → machines.Stands IsShown cards old position executed state → Gains position executed state) → (result : Result Went NoMemory) →
+      IfOk result (Passes new place_old place_new act text) → IfOk result (Walks verb card cards old new place_old place_new)
+  walks_by gains (Ok went) passes = λ position executed state w s f.
+      let g = gains position executed state s in
+      passes w card (verb_move verb card state) cards position executed g.gain f (plain state) g.comes g.is_text
+  walks_by gains (Err stop) passes = tt
+
+  module _ {P : Type 0} (written stopped_at : P → Option (List ℕ)) (faults refusals : P → ℕ) (print_old print_new : P) (none : written print_old ≡ Some []) (all : written print_new ≡ Some text) where
+    pub walks_printed : Executes IsShown Settles verb card written stopped_at faults refusals print_old print_new cards old new (Ok act) → (result : Result Went NoMemory) →
+        IfOk result (Passes new place_old place_new act text) → IfOk result (Walks verb card cards old new place_old place_new)
+    walks_printed executes = walks_by (λ position executed state s.
+        let a = executes position executed state s in
+        record { gain = a.gain; comes = a.comes; is_text = appended (written print_old) (written print_new) (gain_text a.gain) text a.writes.bytes none all })
+
+    pub walks_punched : {U : Type 0} (punch_written punch_stopped_at : U → Option (List ℕ)) (punch_faults punch_refusals : U → ℕ) (punch_old punch_new : U) →
+        Performs IsShown Settles verb card written stopped_at faults refusals print_old print_new punch_written punch_stopped_at punch_faults punch_refusals punch_old punch_new cards old new (Ok act) → (result : Result Went NoMemory) →
+        IfOk result (Passes new place_old place_new act text) → IfOk result (Walks verb card cards old new place_old place_new)
+    walks_punched punch_written punch_stopped_at punch_faults punch_refusals punch_old punch_new performs = walks_by (λ position executed state s.
+        let a = performs position executed state s in
+        record { gain = a.gain; comes = a.comes; is_text = appended (written print_old) (written print_new) (gain_text a.gain) text a.prints.bytes none all })
+
+-- a statement that prints nothing
+pub walks_quietly : (verb : Verb ℕ) (card : ℕ) (cards : List (List ℕ)) (old new : Machine Chosen) (place_old place_new : Place) (act : Act) → IsPlain verb card → Decides IsShown Settles verb card old new act →
+    (result : Result Went NoMemory) → IfOk result (Passes new place_old place_new act []) → IfOk result (Walks verb card cards old new place_old place_new)
+walks_quietly verb card cards old new place_old place_new act plain decides =
+    walks_by verb card cards old new place_old place_new act [] plain (λ position executed state s. record { gain = Nothing; comes = decides cards position executed state s; is_text = refl })
+
+-- ---- with a sink in memory
+
+module _ (verb : Verb ℕ) (card : ℕ) (cards : List (List ℕ)) (old new : Machine Chosen) (place_old place_new : Place) (act : Act) (text : List ℕ) (plain : IsPlain verb card) (from to : SureSink) (none : sure_bytes from ≡ []) (all : text ≡ sure_bytes to)
+    (result : Result Went NoMemory) (passes : IfOk result (Passes new place_old place_new act text)) where
+  pub walks_loudly : Executes IsShown Settles verb card (λ (s : SureSink). Some (sure_bytes s)) (λ (s : SureSink). sure_stopped s) (λ (s : SureSink). 0) (λ (s : SureSink). s.refusals) from to cards old new (Ok act) →
+      IfOk result (Walks verb card cards old new place_old place_new)
+  walks_loudly executes =
+      walks_printed verb card cards old new place_old place_new act text plain (λ (s : SureSink). Some (sure_bytes s)) (λ (s : SureSink). sure_stopped s) (λ (s : SureSink). 0) (λ (s : SureSink). s.refusals) from to
+      (ap Some none) (ap Some (sym all)) executes result passes
+
+  pub walks_punching : {U : Type 0} (punch_written punch_stopped_at : U → Option (List ℕ)) (punch_faults punch_refusals : U → ℕ) (punch_old punch_new : U) →
+      Performs IsShown Settles verb card (λ (s : SureSink). Some (sure_bytes s)) (λ (s : SureSink). sure_stopped s) (λ (s : SureSink). 0) (λ (s : SureSink). s.refusals) from to
+      punch_written punch_stopped_at punch_faults punch_refusals punch_old punch_new cards old new (Ok act) → IfOk result (Walks verb card cards old new place_old place_new)
+  walks_punching punch_written punch_stopped_at punch_faults punch_refusals punch_old punch_new performs =
+      walks_punched verb card cards old new place_old place_new act text plain (λ (s : SureSink). Some (sure_bytes s)) (λ (s : SureSink). sure_stopped s) (λ (s : SureSink). 0) (λ (s : SureSink). s.refusals) from to
+      (ap Some none) (ap Some (sym all)) punch_written punch_stopped_at punch_faults punch_refusals punch_old punch_new performs result passes

@@ -1,0 +1,77 @@
+-- What a question comes to in the walk.
+--     asked_turn w question sheet go   what can't be attested comes first, and then the answer
+--     IsTaken                          an answer was taken, and the walk goes on with it from a walker that stands here
+--     Answered question .. result      the answer was taken, or the walk ends
+use Rattle.std.specs.Prelude.{◌≡◌, ℕ, Bool, true, false, List, Option, None, Some, Result, Ok, Err, if◌then◌else◌}
+use denote.Bor.{Bor}
+use Rattle.exact_values.specs.Rational.{ℚ}
+use Rattle.exact_values.specs.Tests.{eq_ℚ}
+use Rattle.listing_definitions.specs.declared.Mark.{Mark}
+use Rattle.listing_definitions.specs.declared.Mark.TheVariants.{Optimal, Infeasible, Unbounded}
+use Rattle.question_definitions.specs.Answers.{Sheet, Question, Answer, PathEnd, Reached}
+use Rattle.run_definitions.specs.Moves.{Outcome}
+use Rattle.run_definitions.specs.Verbs.{mark_of}
+use Rattle.walk_definitions.specs.Reading.{judged}
+use Rattle.walk_definitions.specs.Walker as walks
+use Rattle.listing_answers.specs.declared.answer.Stop.{Stop}
+use Rattle.listing_answers.specs.declared.answer.Stop.TheVariants as stops
+use Rattle.listing_walk.specs.declared.answering.Stopped.{Stopped}
+use Rattle.listing_walk.specs.declared.answering.Stopped.TheVariants.{Finds, NoMemory}
+use Rattle.listing_walk.specs.declared.found.Found.{Found}
+use Rattle.listing_walk.specs.declared.found.Found.TheVariants.{Wrong, Unchecked}
+use Rattle.listing_walk.specs.declared.place.Pending.{Pending}
+use Rattle.listing_walk.specs.declared.place.Place.{Place}
+use Rattle.listing_walk.specs.declared.went.Went.{Went}
+use Rattle.listing_walk.specs.declared.went.Went.TheVariants as went
+use Rattle.listing_walk.specs.Ended.{found_shown}
+use Rattle.listing_walk.specs.Standing.{Faces}
+
+-- what stops an answer, where so much is left
+abbrev pub stopped_by : Stop → Bor (List ℕ) → Stopped
+stopped_by stops.Wrong rest = Finds (Wrong rest)
+stopped_by stops.Unchecked rest = Finds (Unchecked rest)
+stopped_by stops.NoMemory rest = NoMemory
+
+-- how the walk ends then
+abbrev pub WentBy : Stopped → Went → Type 0
+WentBy (Finds found) w = w ≡ went.Finds found
+WentBy NoMemory w = ⊥
+
+abbrev pub is_optimal : Mark → Bool
+is_optimal Optimal = true
+is_optimal Infeasible = false
+is_optimal Unbounded = false
+
+-- a pending verdict has this objective, and its check was made
+abbrev pub settled_by : Pending → ℚ → Bool
+settled_by pending objective = if eq_ℚ pending.objective objective then pending.is_checked else false
+
+-- what is pending is settled by this objective, or found wrong
+abbrev pub IsSettling : Option Pending → ℚ → Option Found → Type 0
+IsSettling None objective found = found ≡ None
+IsSettling (Some pending) objective found = found ≡ (if settled_by pending objective then None else Some (Wrong pending.rest))
+
+abbrev pub asked_turn : walks.Walker → (question : Question) → Sheet → (Answer question → Outcome) → walks.Turn
+asked_turn w question sheet go = walks.unless_found (walks.open_question w question sheet go) (walks.answered w question sheet go (judged question sheet w.rest))
+
+-- an answer of which this holds was taken, and the walk goes on with it from a walker that stands here
+pub record IsTaken (question : Question) (Holds : Answer question → Type 0) (new : Place) (turn : walks.Turn) (go : Answer question → Outcome) : Type 0 where
+  pub answer : Answer question
+  pub walker : walks.Walker
+  pub is_turn : turn ≡ walks.follows walker (go answer)
+  pub faces : Faces new walker
+  pub holds : Holds answer
+
+abbrev pub Answered : {X : Type 0} → (question : Question) → Sheet → Place → Place → (X → Answer question → Type 0) → Result X Stopped → Type 0
+Answered question sheet old new Holds (Ok x) = (w : walks.Walker) (go : Answer question → Outcome) → Faces old w → IsTaken question (Holds x) new (asked_turn w question sheet go) go
+Answered question sheet old new Holds (Err (Finds found)) = (w : walks.Walker) (go : Answer question → Outcome) → Faces old w → asked_turn w question sheet go ≡ walks.Finds (found_shown found)
+Answered question sheet old new Holds (Err NoMemory) = Unit {0}
+
+-- the mark is that of the verdict
+abbrev pub IsMarked : Mark → PathEnd → Type 0
+IsMarked mark (Reached bases verdict check) = mark ≡ mark_of verdict
+IsMarked mark end = ⊥
+
+-- nothing is asked of the answer
+abbrev pub IsAny : (question : Question) → Unit {0} → Answer question → Type 0
+IsAny question nothing answer = Unit {0}

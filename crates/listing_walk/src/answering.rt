@@ -1,0 +1,222 @@
+// The answers to questions, where the walk stands.
+ghost use Rattle.std.specs.Prelude.{◌≡◌, ◌+◌, ◌≤◌, ◌<◌, ℕ, Option, None, IfOk};
+ghost use Rattle.exact_values.specs.Tests.{eq_ℚ};
+ghost use Rattle.lp_definitions.specs.LinearProgram.{IsLinearProgram};
+ghost use Rattle.listing_definitions.specs.Report.{PathVerdict, Check};
+ghost use Rattle.question_definitions.specs.Answers.{OfPath, OfSolution, OfSweep};
+ghost use Rattle.run_definitions.specs.Verbs.{mark_of};
+ghost use Rattle.walk_definitions.specs.Walker as walks;
+ghost use Rattle.listing_tables.specs.Sheets.{IsSheet};
+ghost use Rattle.listing_readers.specs.Read.{sheet_shown};
+ghost use Rattle.parametric_request.specs.Asking.{Serves, sweep_of};
+ghost use Rattle.listing_answers.specs.Taken.{conclusion_of, IsSweepAnswer};
+ghost use Rattle.listing_walk.specs.Standing.{ShowsPending};
+ghost use Rattle.listing_walk.specs.Asking.{WentBy, stopped_by, is_optimal, settled_by, Answered, IsMarked, IsAny, IsSettling};
+
+use crate::found::Found;
+use crate::place::{Pending, Place};
+use crate::went::Went;
+use frac128::Frac;
+use job_devices::NoMemory;
+use listing_answers::{
+    Conclusion, Stop, SweepAnswer, answer_to_path, answer_to_solution, answer_to_sweep,
+};
+use listing_definitions::{Mark, Solver};
+use listing_tables::Sheet;
+use parametric_request::ParametricRequest;
+use std::alloc::Global;
+
+/// Why the walk doesn't go on with an answer.
+#[derive(Clone, Copy, Debug)]
+pub enum Stopped<'a> {
+    /// The walk ends.
+    Finds(Found<'a>),
+    /// There is no memory.
+    NoMemory,
+}
+
+/// How the walk ends, where it doesn't go on with an answer.
+pub fn stop_walk<'a>(stopped: Stopped<'a>) -> Result<Went<'a>, NoMemory>
+    ensures { IfOk result (WentBy stopped.entry) }
+{
+    match stopped {
+        Stopped::Finds(found) => Ok(Went::Finds(found)),
+        Stopped::NoMemory => Err(NoMemory),
+    }
+}
+
+// What stops an answer, where so much is left.
+fn stopped_by<'a>(stop: Stop, rest: &'a [u8]) -> Stopped<'a>
+    ensures { result ≡ stopped_by stop rest.entry }
+{
+    match stop {
+        Stop::Wrong => Stopped::Finds(Found::Wrong(rest)),
+        Stop::Unchecked => Stopped::Finds(Found::Unchecked(rest)),
+        Stop::NoMemory => Stopped::NoMemory,
+    }
+}
+
+// The mark that a conclusion leaves.
+fn mark_of(conclusion: &Conclusion) -> Mark
+    ensures { (verdict : PathVerdict) (check : Check) → conclusion.now ≡ conclusion_of verdict check → result ≡ mark_of verdict }
+{
+    match conclusion {
+        Conclusion::Optimal { .. } => Mark::Optimal,
+        Conclusion::Infeasible => Mark::Infeasible,
+        Conclusion::Unbounded => Mark::Unbounded,
+    }
+}
+
+// What a conclusion leaves pending.
+fn pending_after<'a>(rest: &'a [u8], conclusion: &Conclusion) -> Option<Pending<'a>>
+    ensures { (verdict : PathVerdict) (check : Check) → conclusion.now ≡ conclusion_of verdict check →
+        ShowsPending result (walks.pending_after rest.now verdict check) }
+{
+    match conclusion {
+        Conclusion::Optimal {
+            objective,
+            is_checked,
+        } => Some(Pending {
+            rest,
+            objective: *objective,
+            is_checked: *is_checked,
+        }),
+        Conclusion::Infeasible | Conclusion::Unbounded => None,
+    }
+}
+
+/// Takes the verdict of a solving verb. Gives its mark.
+pub fn answer_path<'a>(
+    alloc: Global,
+    place: &mut Place<'a>,
+    sheet: Sheet<'_>,
+    solver: Solver,
+) -> Result<Mark, Stopped<'a>>
+    requires sheet { IsSheet sheet }
+    requires lawful { IsLinearProgram sheet.lp.now }
+    requires no_change { sheet.lp.now.change ≡ None }
+    requires few { place.old.reports < 4294967295 }
+    ensures answered { (limit : Option ℕ) → Answered (OfPath solver limit) (sheet_shown sheet.entry) place.old place.new IsMarked result }
+    ensures few { place.new.reports ≤ place.old.reports + 1 }
+{
+    if let Some(found) = place.open_here(true, true) {
+        return Err(Stopped::Finds(found));
+    }
+    let rest = place.cursor.left();
+    match answer_to_path(alloc, &mut place.cursor, sheet, solver) {
+        Ok(conclusion) => {
+            place.pending = pending_after(rest, &conclusion);
+            place.reports += 1;
+            Ok(mark_of(&conclusion))
+        }
+        Err(stop) => Err(stopped_by(stop, rest)),
+    }
+}
+
+// Whether two fractions are equal.
+fn is_equal(a: Frac, b: Frac) -> bool
+    ensures { result ≡ eq_ℚ a b }
+{
+    a.compare(b).is_eq()
+}
+
+// Whether a pending verdict has this objective, and its check was made.
+fn settles(pending: &Pending<'_>, objective: Frac) -> bool
+    ensures { result ≡ settled_by pending.now objective }
+{
+    if is_equal(pending.objective, objective) {
+        pending.is_checked
+    } else {
+        false
+    }
+}
+
+// SOLUTION under OPTIMAL settles what is pending, or it is wrong.
+fn settled<'a>(place: &Place<'a>, objective: Frac) -> Option<Found<'a>>
+    ensures { IsSettling place.now.pending objective result }
+{
+    match &place.pending {
+        Some(pending) => {
+            if settles(pending, objective) {
+                None
+            } else {
+                Some(Found::Wrong(pending.rest))
+            }
+        }
+        None => None,
+    }
+}
+
+/// Takes the lines of SOLUTION under a mark. Under OPTIMAL they settle what is pending.
+pub fn answer_solution<'a>(
+    alloc: Global,
+    place: &mut Place<'a>,
+    sheet: Sheet<'_>,
+    mark: Mark,
+) -> Result<(), Stopped<'a>>
+    requires sheet { IsSheet sheet }
+    requires lawful { IsLinearProgram sheet.lp.now }
+    requires no_change { sheet.lp.now.change ≡ None }
+    requires few { place.old.reports < 4294967295 }
+    ensures answered { Answered (OfSolution mark) (sheet_shown sheet.entry) place.old place.new (IsAny (OfSolution mark)) result }
+    ensures few { place.new.reports ≤ place.old.reports + 1 }
+{
+    if let Some(found) = place.open_here(true, false) {
+        return Err(Stopped::Finds(found));
+    }
+    let rest = place.cursor.left();
+    match answer_to_solution(alloc, &mut place.cursor, sheet, mark) {
+        Ok(objective) => {
+            if !is_optimal(mark) {
+                place.reports += 1;
+                return Ok(());
+            }
+            if let Some(found) = settled(place, objective) {
+                return Err(Stopped::Finds(found));
+            }
+            place.pending = None;
+            place.reports += 1;
+            Ok(())
+        }
+        Err(stop) => Err(stopped_by(stop, rest)),
+    }
+}
+
+/// Whether a mark is OPTIMAL.
+pub fn is_optimal(mark: Mark) -> bool
+    ensures { result ≡ is_optimal mark }
+{
+    match mark {
+        Mark::Optimal => true,
+        Mark::Infeasible | Mark::Unbounded => false,
+    }
+}
+
+/// Takes what PARAOBJ or PARARHS prints of a run.
+pub fn answer_sweep<'a>(
+    alloc: Global,
+    place: &mut Place<'a>,
+    sheet: Sheet<'_>,
+    request: &ParametricRequest,
+) -> Result<SweepAnswer, Stopped<'a>>
+    requires sheet { IsSheet sheet }
+    requires lawful { IsLinearProgram sheet.lp.now }
+    requires no_change { sheet.lp.now.change ≡ None }
+    requires serves { Serves sheet.problem.now sheet.lp.now request.now }
+    requires few { place.old.reports < 4294967295 }
+    ensures answered { (limit : ℕ) → Answered (OfSweep (sweep_of limit request.now)) (sheet_shown sheet.entry) place.old place.new IsSweepAnswer result }
+    ensures few { place.new.reports ≤ place.old.reports + 1 }
+{
+    if let Some(found) = place.open_here(true, true) {
+        return Err(Stopped::Finds(found));
+    }
+    let rest = place.cursor.left();
+    match answer_to_sweep(alloc, &mut place.cursor, sheet, request) {
+        Ok(answer) => {
+            place.pending = None;
+            place.reports += 1;
+            Ok(answer)
+        }
+        Err(stop) => Err(stopped_by(stop, rest)),
+    }
+}

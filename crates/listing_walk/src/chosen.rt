@@ -1,0 +1,32 @@
+// What SETUP keeps.
+
+use lp_model::Lp;
+use lp_setup::SetupChoice;
+use name_table::Name;
+use run_machine::Kept;
+
+/// What SETUP keeps of a problem, without a basis: the name under which it is on file, the options, and the linear program that was
+/// selected last.
+#[derive(Drop)]
+pub struct Chosen {
+    pub name: Name,
+    pub options: SetupChoice,
+    pub lp: Lp,
+}
+
+impl Kept for Chosen {
+    ghost use Rattle.listing_walk.specs.Standing.{IsShown, IsReady, IsSolved};
+
+    ghost shows = { IsShown };
+
+    ghost ready = { IsReady };
+
+    ghost solved = { IsSolved };
+}
+
+/// A problem that was chosen: its own name, and what is kept of it.
+#[derive(Drop)]
+pub struct Named {
+    pub name: Name,
+    pub chosen: Chosen,
+}

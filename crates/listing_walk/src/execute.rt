@@ -1,0 +1,113 @@
+// The statements of a program.
+ghost use Rattle.std.specs.Prelude.{◌≡◌, ◌+◌, ◌≤◌, ◌<◌, IfOk, length};
+ghost use Rattle.control_verbs.specs.Shown.{shown};
+ghost use Rattle.control_compiler.specs.Valid.{IsProgram};
+ghost use Rattle.run_machine.specs.Statements.{IsSoundVerb};
+ghost use Rattle.listing_walk.specs.Standing.{IsSound};
+ghost use Rattle.listing_walk.specs.Walking.{Walks, Steps};
+
+use crate::chosen::Chosen;
+use crate::follow::follow;
+use crate::place::Place;
+use crate::reporting::{punch_basis, show_ranges};
+use crate::setup::set_up;
+use crate::solution::show_solution;
+use crate::solving::{SolvingVerb, solve};
+use crate::statements::{convert, punch_problem, revise, title};
+use crate::sweeping::sweep;
+use crate::went::{Onward, Went};
+use card_reader::Cards;
+use control_compiler::{Program, Verb};
+use job_devices::NoMemory;
+use parametric_request::ParametricVerb;
+use run_machine::Machine;
+use std::alloc::Global;
+
+// Follows the statement of a verb on a card.
+fn execute<'a>(
+    alloc: Global,
+    machine: &mut Machine<Chosen>,
+    cards: &Cards,
+    place: &mut Place<'a>,
+    card: u32,
+    verb: &Verb<u32>,
+) -> Result<Went<'a>, NoMemory>
+    requires sound { IsSound cards.now machine.old }
+    requires verb { IsSoundVerb (shown verb.now) }
+    requires few { place.old.reports < 4294967295 }
+    ensures walks { IfOk result (Walks (shown verb.now) card cards.now machine.old machine.new place.old place.new) }
+    ensures sound { IsSound cards.now machine.new }
+    ensures few { place.new.reports ≤ place.old.reports + 1 }
+{
+    match verb {
+        Verb::Initialz => {
+            let act = machine.initialize();
+            follow(alloc, machine, place, &act, &[])
+        }
+        Verb::Title(text) => title(alloc, machine, place, text),
+        Verb::MoveName(cell, name) => {
+            let act = machine.move_name(*cell, *name);
+            follow(alloc, machine, place, &act, &[])
+        }
+        Verb::MoveNumber(cell, value) => {
+            let act = machine.move_number(*cell, *value);
+            follow(alloc, machine, place, &act, &[])
+        }
+        Verb::MoveLimit(limit) => {
+            let act = machine.move_limit(*limit);
+            follow(alloc, machine, place, &act, &[])
+        }
+        Verb::Mvadr(demand, position) => {
+            let act = machine.set_demand(*demand, *position);
+            follow(alloc, machine, place, &act, &[])
+        }
+        Verb::Goto(position) => {
+            let act = machine.jump(*position);
+            follow(alloc, machine, place, &act, &[])
+        }
+        Verb::Convert => convert(alloc, machine, cards, place, card),
+        Verb::Setup(options) => set_up(alloc, machine, place, card, options),
+        Verb::Revise => revise(alloc, machine, cards, place, card),
+        Verb::Bcdout => punch_problem(alloc, machine, place, card),
+        Verb::Exit => {
+            let act = machine.exit();
+            follow(alloc, machine, place, &act, &[])
+        }
+        Verb::Primal => solve(alloc, machine, place, card, SolvingVerb::Primal),
+        Verb::Dual => solve(alloc, machine, place, card, SolvingVerb::Dual),
+        Verb::Solution => show_solution(alloc, machine, place, card),
+        Verb::Paraobj => sweep(alloc, machine, place, card, ParametricVerb::Paraobj),
+        Verb::Pararhs => sweep(alloc, machine, place, card, ParametricVerb::Pararhs),
+        Verb::Ranging => show_ranges(alloc, machine, place, card),
+        Verb::Punch => punch_basis(alloc, machine, place, card),
+        // the basis that INSERT reads isn't followed here yet
+        Verb::Insert => Err(NoMemory),
+    }
+}
+
+/// Follows the statement at a position.
+pub fn step<'a>(
+    alloc: Global,
+    machine: &mut Machine<Chosen>,
+    program: &Program,
+    cards: &Cards,
+    place: &mut Place<'a>,
+    position: u32,
+) -> Result<Onward<'a>, NoMemory>
+    requires valid { IsProgram program.now }
+    requires first { 1 ≤ position }
+    requires within { position ≤ length program.now.statements }
+    requires sound { IsSound cards.now machine.old }
+    requires few { place.old.reports < 4294967295 }
+    ensures steps { IfOk result (Steps program.now cards.now position machine.old machine.new place.old place.new) }
+    ensures sound { IsSound cards.now machine.new }
+    ensures few { place.new.reports ≤ place.old.reports + 1 }
+{
+    let next = program.statement(position);
+    match execute(alloc, machine, cards, place, next.card, &next.verb) {
+        Ok(Went::Next) => Ok(Onward::Goes(position + 1)),
+        Ok(Went::Jump(to)) => Ok(Onward::Goes(to)),
+        Ok(Went::Finds(found)) => Ok(Onward::Finds(found)),
+        Err(refused) => Err(refused),
+    }
+}

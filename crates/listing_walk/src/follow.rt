@@ -1,0 +1,112 @@
+// What follows a statement.
+ghost use Rattle.std.specs.Prelude.{◌≡◌, ◌+◌, ◌≤◌, ◌<◌, ◌||◌, [], IfOk};
+ghost use Rattle.run_machine.specs.declared.act.Act.TheVariants as acts;
+ghost use Rattle.run_machine.specs.declared.end.End.TheVariants as ends;
+ghost use Rattle.listing_walk.specs.Walking.{ends_run, Finishes, Passes, Refuses};
+
+use crate::chosen::Chosen;
+use crate::found::Found;
+use crate::place::{Place, is_loud};
+use crate::selecting::Unselected;
+use crate::went::Went;
+use job_devices::NoMemory;
+use listing_definitions::VerbFault;
+use run_machine::{Act, End, Machine, ending_of};
+use std::alloc::Global;
+
+// Whether the run ends with an act.
+fn ends_run(act: &Act) -> bool
+    ensures { result ≡ ends_run act.now }
+{
+    match act {
+        Act::Next | Act::Jump(_) => false,
+        Act::Ends(_) => true,
+    }
+}
+
+// One of two holds.
+fn either(a: bool, b: bool) -> bool
+    ensures { result ≡ (a || b) }
+{
+    a || b
+}
+
+/// Goes on as an act says, once the report is passed. An end is due in a line of its own.
+pub fn finish<'a>(alloc: Global, place: &mut Place<'a>, act: &Act) -> Result<Went<'a>, NoMemory>
+    ensures finishes { IfOk result (Finishes place.old place.new act.now) }
+    ensures reports { place.new.reports ≡ place.old.reports }
+{
+    match act {
+        Act::Next => Ok(Went::Next),
+        Act::Jump(to) => Ok(Went::Jump(*to)),
+        Act::Ends(end) => {
+            let found = place.close(alloc, &ending_of(end))?;
+            Ok(Went::Finds(found))
+        }
+    }
+}
+
+/// Goes on after a statement that asks nothing, which came to an act with this text. The text has to stand in the listing.
+pub fn follow<'a>(
+    alloc: Global,
+    machine: &Machine<Chosen>,
+    place: &mut Place<'a>,
+    act: &Act,
+    text: &[u8],
+) -> Result<Went<'a>, NoMemory>
+    requires { place.old.reports < 4294967295 }
+    ensures passes { IfOk result (Passes machine.now place.old place.new act.now text.now) }
+    ensures few { place.new.reports ≤ place.old.reports + 1 }
+{
+    let ends = ends_run(act);
+    let looks = either(ends, is_loud(text));
+    let clears = either(ends, machine.mark.is_none());
+    if let Some(found) = place.open_here(looks, clears) {
+        return Ok(Went::Finds(found));
+    }
+    let rest = place.cursor.left();
+    if !place.pass(text) {
+        return Ok(Went::Finds(Found::Wrong(rest)));
+    }
+    finish(alloc, place, act)
+}
+
+/// The run ends with a verb fault.
+pub fn fault<'a>(
+    alloc: Global,
+    machine: &Machine<Chosen>,
+    place: &mut Place<'a>,
+    fault: VerbFault,
+    card: u32,
+) -> Result<Went<'a>, NoMemory>
+    requires { place.old.reports < 4294967295 }
+    ensures passes { IfOk result (Passes machine.now place.old place.new (acts.Ends (ends.Verb fault card)) []) }
+    ensures few { place.new.reports ≤ place.old.reports + 1 }
+{
+    follow(
+        alloc,
+        machine,
+        place,
+        &Act::Ends(End::Verb { fault, card }),
+        &[],
+    )
+}
+
+/// What is refused: the run ends with a verb fault, or an operation of a selection is refused.
+pub fn refuse<'a>(
+    alloc: Global,
+    machine: &Machine<Chosen>,
+    place: &mut Place<'a>,
+    refusal: Unselected,
+    card: u32,
+) -> Result<Went<'a>, NoMemory>
+    requires { place.old.reports < 4294967295 }
+    ensures refuses { IfOk result (Refuses machine.now place.old place.new card refusal) }
+    ensures few { place.new.reports ≤ place.old.reports + 1 }
+{
+    match refusal {
+        Unselected::Fault(why) => fault(alloc, machine, place, why, card),
+        Unselected::Unchecked => Ok(Went::Finds(place.unchecked())),
+        Unselected::NoMemory => Err(NoMemory),
+    }
+}

@@ -1,0 +1,90 @@
+// RANGE and PUNCH, whose reports can't be attested.
+ghost use Rattle.std.specs.Prelude.{◌≡◌, ◌+◌, ◌≤◌, ◌<◌, ℕ, List, IfOk, IfSome};
+ghost use Rattle.control_definitions.specs.Program as program;
+ghost use Rattle.listing_walk.specs.Standing.{IsReady, IsSolved};
+ghost use Rattle.listing_walk.specs.Walking.{RefusesReport, Walks};
+
+use crate::answering::is_optimal;
+use crate::chosen::Chosen;
+use crate::follow::fault;
+use crate::place::Place;
+use crate::selecting::{Unselected, select_present};
+use crate::went::Went;
+use job_devices::NoMemory;
+use listing_definitions::VerbFault;
+use listing_readers::{is_punched, is_ranges};
+use run_machine::Machine;
+use std::alloc::Global;
+
+/// RANGE. It needs a setup, a mark, and the mark OPTIMAL.
+pub fn show_ranges<'a>(
+    alloc: Global,
+    machine: &Machine<Chosen>,
+    place: &mut Place<'a>,
+    card: u32,
+) -> Result<Went<'a>, NoMemory>
+    requires ready { IfSome machine.now.setup (IsReady machine.now.file) }
+    requires solved { IfSome machine.now.mark
+        (λ mark. IfSome machine.now.setup (IsSolved mark machine.now.cells.xobj machine.now.cells.xrhs machine.now.file)) }
+    requires few { place.old.reports < 4294967295 }
+    ensures walks { (cards : List (List ℕ)) → IfOk result (Walks program.Ranging card cards machine.now machine.now place.old place.new) }
+    ensures few { place.new.reports ≤ place.old.reports + 1 }
+{
+    let Some(_chosen) = &machine.setup else {
+        return fault(alloc, machine, place, VerbFault::NoSetup, card);
+    };
+    let Some(mark) = machine.mark else {
+        return fault(alloc, machine, place, VerbFault::NotSolved, card);
+    };
+    if !is_optimal(mark) {
+        return fault(alloc, machine, place, VerbFault::NotOptimal, card);
+    }
+    let stands = is_ranges(place.cursor.left());
+    Ok(Went::Finds(place.reported_here(stands, true)))
+}
+
+// What is refused, where a report that can't be attested is due.
+fn refuse_report<'a>(
+    alloc: Global,
+    machine: &Machine<Chosen>,
+    place: &mut Place<'a>,
+    refusal: Unselected,
+    stands: bool,
+    card: u32,
+) -> Result<Went<'a>, NoMemory>
+    requires { place.old.reports < 4294967295 }
+    ensures refuses { IfOk result (RefusesReport machine.now place.old place.new card stands refusal) }
+    ensures few { place.new.reports ≤ place.old.reports + 1 }
+{
+    match refusal {
+        Unselected::Fault(why) => fault(alloc, machine, place, why, card),
+        Unselected::Unchecked => Ok(Went::Finds(place.reported_here(stands, false))),
+        Unselected::NoMemory => Err(NoMemory),
+    }
+}
+
+/// PUNCH. It needs a setup, and selects again by the cells as they stand.
+pub fn punch_basis<'a>(
+    alloc: Global,
+    machine: &Machine<Chosen>,
+    place: &mut Place<'a>,
+    card: u32,
+) -> Result<Went<'a>, NoMemory>
+    requires ready { IfSome machine.now.setup (IsReady machine.now.file) }
+    requires few { place.old.reports < 4294967295 }
+    ensures walks { (cards : List (List ℕ)) → IfOk result (Walks program.Punch card cards machine.now machine.now place.old place.new) }
+    ensures few { place.new.reports ≤ place.old.reports + 1 }
+{
+    let Some(chosen) = &machine.setup else {
+        return fault(alloc, machine, place, VerbFault::NoSetup, card);
+    };
+    // a problem stays on file while it is chosen
+    let Some(problem) = machine.file.get(&chosen.name) else {
+        unreachable!();
+    };
+    let stands = is_punched(place.cursor.left(), problem.name());
+    match select_present(alloc, problem, &machine.cells, chosen.options) {
+        Ok(_lp) => Ok(Went::Finds(place.reported_here(stands, true))),
+        Err(refusal) => refuse_report(alloc, machine, place, refusal, stands, card),
+    }
+}

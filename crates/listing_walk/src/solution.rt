@@ -1,0 +1,52 @@
+// SOLUTION.
+ghost use Rattle.std.specs.Prelude.{◌≡◌, ◌+◌, ◌≤◌, ◌<◌, ℕ, List, IfOk, IfSome};
+ghost use Rattle.control_definitions.specs.Program as program;
+ghost use Rattle.listing_walk.specs.Standing.{IsReady, IsSolved};
+ghost use Rattle.listing_walk.specs.Walking.{Walks};
+
+use crate::answering::{answer_solution, stop_walk};
+use crate::chosen::Chosen;
+use crate::follow::fault;
+use crate::place::Place;
+use crate::went::Went;
+use job_devices::NoMemory;
+use listing_definitions::VerbFault;
+use listing_tables::Sheet;
+use run_machine::Machine;
+use std::alloc::Global;
+
+/// SOLUTION: takes the point and the prices from the listing. It needs a setup and a mark, and speaks of the linear program that PRIMAL
+/// or DUAL selected.
+pub fn show_solution<'a>(
+    alloc: Global,
+    machine: &Machine<Chosen>,
+    place: &mut Place<'a>,
+    card: u32,
+) -> Result<Went<'a>, NoMemory>
+    requires ready { IfSome machine.now.setup (IsReady machine.now.file) }
+    requires solved { IfSome machine.now.mark
+        (λ mark. IfSome machine.now.setup (IsSolved mark machine.now.cells.xobj machine.now.cells.xrhs machine.now.file)) }
+    requires few { place.old.reports < 4294967295 }
+    ensures walks { (cards : List (List ℕ)) → IfOk result (Walks program.Solution card cards machine.now machine.now place.old place.new) }
+    ensures few { place.new.reports ≤ place.old.reports + 1 }
+{
+    let Some(chosen) = &machine.setup else {
+        return fault(alloc, machine, place, VerbFault::NoSetup, card);
+    };
+    let Some(mark) = machine.mark else {
+        return fault(alloc, machine, place, VerbFault::NotSolved, card);
+    };
+    // a problem stays on file while it is chosen
+    let Some(problem) = machine.file.get(&chosen.name) else {
+        unreachable!();
+    };
+    let sheet = Sheet {
+        problem,
+        lp: &chosen.lp,
+    };
+    let _lawful = chosen.lp.number_of_variables();
+    match answer_solution(alloc, place, sheet, mark) {
+        Ok(()) => Ok(Went::Next),
+        Err(stopped) => stop_walk(stopped),
+    }
+}

@@ -1,0 +1,94 @@
+// The statements that ask nothing of linear programming.
+ghost use Rattle.std.specs.Prelude.{◌≡◌, ◌+◌, ◌≤◌, ◌<◌, ℕ, List, IfOk};
+ghost use Rattle.control_definitions.specs.Program as program;
+ghost use Rattle.listing_walk.specs.Standing.{IsSound};
+ghost use Rattle.listing_walk.specs.Walking.{Walks};
+
+use crate::chosen::Chosen;
+use crate::follow::follow;
+use crate::place::Place;
+use crate::went::Went;
+use card_reader::Cards;
+use control_verbs::Text;
+use job_devices::{Discard, NoMemory, SureSink};
+use run_machine::Machine;
+use std::alloc::Global;
+
+/// TITLE.
+pub fn title<'a>(
+    alloc: Global,
+    machine: &Machine<Chosen>,
+    place: &mut Place<'a>,
+    text: &Text,
+) -> Result<Went<'a>, NoMemory>
+    requires { place.old.reports < 4294967295 }
+    ensures walks { (card : ℕ) (cards : List (List ℕ)) → IfOk result (Walks (program.Title text.now) card cards machine.now machine.now place.old place.new) }
+    ensures few { place.new.reports ≤ place.old.reports + 1 }
+{
+    let mut printed = SureSink::new(alloc)?;
+    let Ok(act) = machine.print_title(&mut printed, text) else {
+        return Err(NoMemory);
+    };
+    follow(alloc, machine, place, &act, printed.bytes())
+}
+
+/// CONVERT.
+pub fn convert<'a>(
+    alloc: Global,
+    machine: &mut Machine<Chosen>,
+    cards: &Cards,
+    place: &mut Place<'a>,
+    card: u32,
+) -> Result<Went<'a>, NoMemory>
+    requires sound { IsSound cards.now machine.old }
+    requires few { place.old.reports < 4294967295 }
+    ensures walks { IfOk result (Walks program.Convert card cards.now machine.old machine.new place.old place.new) }
+    ensures sound { IsSound cards.now machine.new }
+    ensures few { place.new.reports ≤ place.old.reports + 1 }
+{
+    let mut printed = SureSink::new(alloc)?;
+    let Ok(act) = machine.convert(alloc, cards, &mut printed, card) else {
+        return Err(NoMemory);
+    };
+    follow(alloc, machine, place, &act, printed.bytes())
+}
+
+/// REVISE.
+pub fn revise<'a>(
+    alloc: Global,
+    machine: &mut Machine<Chosen>,
+    cards: &Cards,
+    place: &mut Place<'a>,
+    card: u32,
+) -> Result<Went<'a>, NoMemory>
+    requires sound { IsSound cards.now machine.old }
+    requires few { place.old.reports < 4294967295 }
+    ensures walks { IfOk result (Walks program.Revise card cards.now machine.old machine.new place.old place.new) }
+    ensures sound { IsSound cards.now machine.new }
+    ensures few { place.new.reports ≤ place.old.reports + 1 }
+{
+    let mut printed = SureSink::new(alloc)?;
+    let Ok(act) = machine.revise(alloc, cards, &mut printed, card) else {
+        return Err(NoMemory);
+    };
+    follow(alloc, machine, place, &act, printed.bytes())
+}
+
+/// BCDOUT. Its deck is of no matter here.
+pub fn punch_problem<'a>(
+    alloc: Global,
+    machine: &Machine<Chosen>,
+    place: &mut Place<'a>,
+    card: u32,
+) -> Result<Went<'a>, NoMemory>
+    requires { place.old.reports < 4294967295 }
+    ensures walks { (cards : List (List ℕ)) → IfOk result (Walks program.Bcdout card cards machine.now machine.now place.old place.new) }
+    ensures few { place.new.reports ≤ place.old.reports + 1 }
+{
+    let mut printed = SureSink::new(alloc)?;
+    let mut punched = Discard;
+    let Ok(act) = machine.punch_problem(&mut printed, &mut punched, card) else {
+        return Err(NoMemory);
+    };
+    follow(alloc, machine, place, &act, printed.bytes())
+}

@@ -1,0 +1,23 @@
+// Where a statement leads the walk.
+
+use crate::found::Found;
+
+/// Where a statement leads the walk.
+#[derive(Clone, Copy, Debug)]
+pub enum Went<'a> {
+    /// To the next statement.
+    Next,
+    /// To the statement with this number, from 1, or to the program's end.
+    Jump(u32),
+    /// To its end.
+    Finds(Found<'a>),
+}
+
+/// Where the statement at a position leads the walk.
+#[derive(Clone, Copy, Debug)]
+pub enum Onward<'a> {
+    /// To the statement with this number, from 1, or to the program's end.
+    Goes(u32),
+    /// To its end.
+    Finds(Found<'a>),
+}
