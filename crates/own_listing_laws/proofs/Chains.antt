@@ -20,7 +20,7 @@ use Rattle.problem_definitions.specs.Problem.{Problem}
 use Rattle.listing_definitions.specs.declared.Solver.{Solver}
 use Rattle.listing_definitions.specs.Numbers.{rational_text}
 use Rattle.listing_definitions.specs.Report.{Interval, ChainEnd, EndsAt, UnboundedPast, InfeasiblePast}
-use Rattle.listing_definitions.specs.Text.{solver_text, interval_text, chain_end_text}
+use Rattle.listing_definitions.specs.Text.{solver_text, interval_text, chain_end_text, chain_text}
 use Rattle.question_definitions.specs.Answers.{Basis, Sheet, Changing, Row, Set, changing_name, sweeper, Sweep, OfSweep, SweepEnd, Chained}
 use Rattle.answer_definitions.specs.Sweeps.{row_of, shifts_of, family_of, IsFace, sheet_at, interval_of, end_of, IsChained}
 use Rattle.run_laws.specs.Sweeps.{ChangesFreely}
@@ -36,9 +36,10 @@ use Rattle.control_definitions.specs.Cells.{steps_allowed}
 use Rattle.walk_definitions.specs.Words.{Parsed, left_after, max_count}
 use Rattle.walk_definitions.specs.Tables.{begins_table_line}
 use Rattle.walk_definitions.specs.Tests.{interval_test, close_test}
-use Rattle.walk_definitions.specs.Reading.{Judged, Right, Fails, Refuses, by_verdict, tested, judged_map, interval_in, close_in, Run, onward, part_in, run_in, sweep_head, sweep_in}
+use Rattle.walk_definitions.specs.Reading.{Judged, Right, Fails, Refuses, by_verdict, tested, judged_map, interval_in, close_in, Run, onward, part_in, run_in, sweep_head, sweep_in, judged}
 use Rattle.walk_definitions.specs.Walker.{Walker, answered}
 use Rattle.walk_definitions.proofs.Texts.{stands}
+use Rattle.own_listing_laws.specs.Laws.{IsNoFailure, chain_of}
 use Rattle.own_listing_laws.specs.Fitting.{IntervalsFit, EndFits, LinesFit}
 use Rattle.own_listing_laws.specs.Printed.{IsEndOf, of_end, of_direction, of_ray}
 use Rattle.own_listing_laws.proofs.Sections.{interval_read, close_read}
@@ -246,22 +247,80 @@ as_chain : (who from start change name end intervals close more : List ℕ) → 
 as_chain who from start change name end intervals close more = simp (append_assoc, append-nil)
 
 -- what is printed of a close doesn't depend on the value
-same_end : (sheet : Sheet) (changing : Changing) (theta max : ℚ) (past : PastBreak) → end_of sheet max past ≡ end_of (sheet_at sheet changing theta) max past
-same_end sheet (Row name) theta max AtMax = refl
-same_end sheet (Row name) theta max (PastUnbounded past z d) = refl
-same_end sheet (Row name) theta max (PastInfeasible past w) = refl
-same_end sheet (Set name) theta max AtMax = refl
-same_end sheet (Set name) theta max (PastUnbounded past z d) = refl
-same_end sheet (Set name) theta max (PastInfeasible past w) = refl
+same_end : (own : Sheet) (changing : Changing) (theta max : ℚ) (past : PastBreak) → end_of own max past ≡ end_of (sheet_at own changing theta) max past
+same_end own (Row name) theta max AtMax = refl
+same_end own (Row name) theta max (PastUnbounded past z d) = refl
+same_end own (Row name) theta max (PastInfeasible past w) = refl
+same_end own (Set name) theta max AtMax = refl
+same_end own (Set name) theta max (PastUnbounded past z d) = refl
+same_end own (Set name) theta max (PastInfeasible past w) = refl
 
 true_run : (sheet : Sheet) (changing : Changing) → IsLinearProgram sheet.lp → ChangesFreely sheet changing → HasTrueRuns sheet.lp (family_of sheet changing) (IsFace sheet changing)
 true_run sheet (Row name) lawful free = objective_runs sheet.lp (row_of sheet.problem name) lawful free.0 free.1
 true_run sheet (Set name) lawful free = rhs_runs sheet.lp (shifts_of sheet.problem name) lawful
 
+module _ (problem : Problem ℕ) (lp : LinearProgram) (sweep : Sweep) (lawful : IsLinearProgram lp) (free : ChangesFreely (record { problem = problem; lp = lp }) sweep.changing) (basis : Basis) (at : IsNonsingularBasis lp basis)
+    (bases : List Basis) (intervals : List Interval) (end : ChainEnd) (more : List ℕ) where
+  abbrev sheet_here : Sheet
+  sheet_here = record { problem = problem; lp = lp }
+
+  abbrev body_here : List ℕ
+  body_here = flat_map interval_text (enumerate_from 1 intervals) ++ (chain_end_text (sweeper sweep.changing) end ++ more)
+
+  run_fine : IsChained sheet_here basis sweep bases intervals end → begins_table_line more ≡ false → IntervalsFit intervals → EndFits end → IsFine (intervals, end) more (run_in sheet_here sweep body_here 1 sweep.from body_here)
+  run_fine chained plain fits end_fits =
+      subst (λ (is : List Interval). IsFine (is, end) more (run_in sheet_here sweep (text_of is end) 1 sweep.from (text_of is end))) (sym chained.are_intervals)
+      (subst (λ (e : ChainEnd). IsFine (all, e) more (run_in sheet_here sweep (text_of all e) 1 sweep.from (text_of all e))) (sym end_is)
+      (chain_fine problem lp sweep lawful free more plain (text_of all close) 1 sweep.from (last_of basis chained.is_run.opening) chained.parts chained.past chained.is_run.faces
+      (room_enough problem lp sweep lawful free more plain 1 chained.parts close) (omega arith) chained.is_run.chain truth.intervals (first_long chained.parts) truth.long truth.closes
+      (subst IntervalsFit chained.are_intervals fits) (subst EndFits end_is end_fits)))
+    where
+      text_of : List Interval → ChainEnd → List ℕ
+      text_of is e = flat_map interval_text (enumerate_from 1 is) ++ (chain_end_text (sweeper sweep.changing) e ++ more)
+
+      first : Sheet
+      first = sheet_at (record { problem = problem; lp = lp }) sweep.changing sweep.from
+
+      all : List Interval
+      all = map (interval_of first) chained.parts
+
+      close : ChainEnd
+      close = end_of first sweep.to chained.past
+
+      end_is : end ≡ end_of (sheet_at (record { problem = problem; lp = lp }) sweep.changing sweep.from) sweep.to chained.past
+      end_is = chained.is_end ∙ same_end (record { problem = problem; lp = lp }) sweep.changing sweep.from sweep.to chained.past
+
+      truth : IsTrueRun (family_of (record { problem = problem; lp = lp }) sweep.changing) sweep.from sweep.to chained.parts chained.past
+      truth = true_run (record { problem = problem; lp = lp }) sweep.changing lawful free sweep.from sweep.to basis (Chain chained.parts chained.past) bases at chained.is_run
+
+      first_long : (parts : List Part) → IsLongEnough problem lp sweep lawful free more plain 1 parts
+      first_long [] = tt
+      first_long (part ∷ parts) = inl refl
+
+  -- a parametric run is read of its text
+  pub answer_fine : (rest : List ℕ) → rest ≡ chain_text (sweeper sweep.changing) (chain_of sweep intervals end) ++ more → IsChained sheet_here basis sweep bases intervals end → begins_table_line more ≡ false →
+      IntervalsFit intervals → EndFits end → IsFine (Chained [] intervals end) more (judged (OfSweep sweep) sheet_here rest)
+  answer_fine rest is chained plain fits end_fits =
+      subst (λ (o : Option (List ℕ)). IsFine (Chained [] intervals end) more (sweep_in sheet_here sweep rest o)) (sym head)
+      (fine_map f (intervals, end) more (run_in sheet_here sweep body_here 1 sweep.from body_here) (run_fine chained plain fits end_fits))
+    where
+      f : Run → SweepEnd
+      f run = Chained [] run.0 run.1
+
+      head : left_after (sweep_head sweep) rest ≡ Some body_here
+      head =
+          ap (left_after (sweep_head sweep)) (is ∙ as_chain (solver_text (sweeper sweep.changing)) (codes " FROM ") (rational_text sweep.from) (codes " CHANGE ") (changing_name sweep.changing) (codes "\n")
+          (flat_map interval_text (enumerate_from 1 intervals)) (chain_end_text (sweeper sweep.changing) end) more) ∙ stands (sweep_head sweep) body_here
+
+-- no test fails
+pub fine_passes : {X : Type 0} (x : X) (rest : List ℕ) (j : Judged X) → IsFine x rest j → IsNoFailure j
+fine_passes x rest _ fine_right = tt
+fine_passes x rest _ fine_refused = tt
+
 module _ (w : Walker) (s : State) (opening : Basis) (steps : List Basis) (limits : steps_allowed s.cells ≤ max_count) (card : ℕ) (sweep : Sweep) (present : Present) (lp : LinearProgram) (lawful : IsLinearProgram lp)
     (free : ChangesFreely (record { problem = present.problem; lp = lp }) sweep.changing) (at : IsNonsingularBasis lp (present_basis present)) where
-  abbrev sheet_here : Sheet
-  sheet_here = record { problem = present.problem; lp = lp }
+  abbrev sheet_walked : Sheet
+  sheet_walked = record { problem = present.problem; lp = lp }
 
   abbrev walked : State
   walked = record s { setup = rebased opening steps s.setup }
@@ -276,56 +335,11 @@ module _ (w : Walker) (s : State) (opening : Basis) (steps : List Basis) (limits
   own = after_sweep card sweep present (counted s)
 
   module _ (bases : List Basis) (intervals : List Interval) (end : ChainEnd) (more : List ℕ) where
-    abbrev LandsSo : Judged SweepEnd → Type 0
-    LandsSo j = Lands (own (Chained bases intervals end)) more (answered w (OfSweep sweep) sheet_here go j)
-
-    fine_lands : (j : Judged SweepEnd) → IsFine (Chained [] intervals end) more j → LandsSo j
+    fine_lands : (j : Judged SweepEnd) → IsFine (Chained [] intervals end) more j → Lands (own (Chained bases intervals end)) more (answered w (OfSweep sweep) sheet_walked go j)
     fine_lands _ fine_right = record { like = record { opening = opening; steps = steps ++ []; is = refl; limits = limits }; is_rest = refl; waits = tt }
     fine_lands _ fine_refused = tt
 
-    abbrev body_here : List ℕ
-    body_here = flat_map interval_text (enumerate_from 1 intervals) ++ (chain_end_text (sweeper sweep.changing) end ++ more)
-
-    run_fine : IsChained sheet_here (present_basis present) sweep bases intervals end → begins_table_line more ≡ false → IntervalsFit intervals → EndFits end →
-        IsFine (intervals, end) more (run_in sheet_here sweep body_here 1 sweep.from body_here)
-    run_fine chained plain fits end_fits =
-        subst (λ (is : List Interval). IsFine (is, end) more (run_in sheet_here sweep (text_of is end) 1 sweep.from (text_of is end))) (sym chained.are_intervals)
-        (subst (λ (e : ChainEnd). IsFine (all, e) more (run_in sheet_here sweep (text_of all e) 1 sweep.from (text_of all e))) (sym end_is)
-        (chain_fine present.problem lp sweep lawful free more plain (text_of all close) 1 sweep.from (last_of (present_basis present) chained.is_run.opening) chained.parts chained.past chained.is_run.faces
-        (room_enough present.problem lp sweep lawful free more plain 1 chained.parts close) (omega arith) chained.is_run.chain truth.intervals (first_long chained.parts) truth.long truth.closes
-        (subst IntervalsFit chained.are_intervals fits) (subst EndFits end_is end_fits)))
-      where
-        text_of : List Interval → ChainEnd → List ℕ
-        text_of is e = flat_map interval_text (enumerate_from 1 is) ++ (chain_end_text (sweeper sweep.changing) e ++ more)
-
-        first : Sheet
-        first = sheet_at (record { problem = present.problem; lp = lp }) sweep.changing sweep.from
-
-        all : List Interval
-        all = map (interval_of first) chained.parts
-
-        close : ChainEnd
-        close = end_of first sweep.to chained.past
-
-        end_is : end ≡ end_of (sheet_at (record { problem = present.problem; lp = lp }) sweep.changing sweep.from) sweep.to chained.past
-        end_is = chained.is_end ∙ same_end (record { problem = present.problem; lp = lp }) sweep.changing sweep.from sweep.to chained.past
-
-        truth : IsTrueRun (family_of (record { problem = present.problem; lp = lp }) sweep.changing) sweep.from sweep.to chained.parts chained.past
-        truth = true_run (record { problem = present.problem; lp = lp }) sweep.changing lawful free sweep.from sweep.to (present_basis present) (Chain chained.parts chained.past) bases at chained.is_run
-
-        first_long : (parts : List Part) → IsLongEnough present.problem lp sweep lawful free more plain 1 parts
-        first_long [] = tt
-        first_long (part ∷ parts) = inl refl
-
-    pub chain_lands : IsChained sheet_here (present_basis present) sweep bases intervals end → SweepLands w s opening steps limits card sweep present lp (Chained bases intervals end) more
+    pub chain_lands : IsChained sheet_walked (present_basis present) sweep bases intervals end → SweepLands w s opening steps limits card sweep present lp (Chained bases intervals end) more
     chain_lands chained given =
-        subst (λ (o : Option (List ℕ)). LandsSo (sweep_in sheet_here sweep w.rest o)) (sym head)
-        (fine_lands (judged_map f (run_in sheet_here sweep body_here 1 sweep.from body_here)) (fine_map f (intervals, end) more (run_in sheet_here sweep body_here 1 sweep.from body_here) (run_fine chained given.plain given.fits.0 given.fits.1)))
-      where
-        f : Run → SweepEnd
-        f run = Chained [] run.0 run.1
-
-        head : left_after (sweep_head sweep) w.rest ≡ Some body_here
-        head =
-            ap (left_after (sweep_head sweep)) (given.text ∙ as_chain (solver_text (sweeper sweep.changing)) (codes " FROM ") (rational_text sweep.from) (codes " CHANGE ") (changing_name sweep.changing) (codes "\n")
-            (flat_map interval_text (enumerate_from 1 intervals)) (chain_end_text (sweeper sweep.changing) end) more) ∙ stands (sweep_head sweep) body_here
+        fine_lands (judged (OfSweep sweep) sheet_walked w.rest)
+        (answer_fine present.problem lp sweep lawful free (present_basis present) at bases intervals end more w.rest given.text chained given.plain given.fits.0 given.fits.1)

@@ -1,7 +1,7 @@
 -- Table lines and tables are read back.
 --     AllMatch slots values        each value is one that its slot takes
 --     AreMatched slots values ks   so it is in the lines of these variables
-use Rattle.std.proofs.Common.{◌≡◌, ℕ, zero, suc, ◌+◌, ◌-◌, ◌<◌, Bool, true, false, not, ◌&&◌, List, [], ◌∷◌, ◌++◌, filter, replicate, length, drop, Option, Some, None, codes, cond, if◌then◌else◌, refl, sym, ap, ap₂, ◌∙◌, arith, append_assoc, append-nil}
+use Rattle.std.proofs.Common.{◌≡◌, ℕ, zero, suc, ◌+◌, ◌-◌, ◌<◌, Bool, true, false, not, ◌&&◌, List, [], ◌∷◌, ◌++◌, filter, replicate, length, drop, Option, Some, None, codes, cond, if◌then◌else◌, refl, sym, ap, ap₂, ◌∙◌, arith, append_assoc}
 use Rattle.std.specs.Prelude.{option_map, option_and_then}
 use Rattle.std.specs.List.{list_all, list_any, prefix_len}
 use Rattle.std.proofs.lemmas.Slice.Eq.{bytes_eq-Decides}
@@ -111,7 +111,7 @@ values_read (slot ∷ slots) (value ∷ values) rest match =
 -- ---- lines
 
 as_line : (number name values rest : List ℕ) → (number ++ ((32 ∷ []) ++ (name ++ (values ++ (10 ∷ []))))) ++ rest ≡ (number ++ (32 ∷ name)) ++ (values ++ 10 ∷ rest)
-as_line number name values rest = simp (append_assoc, append-nil)
+as_line number name values rest = simp append_assoc
 
 module _ (sheet : Sheet) where
   parted : (k : ℕ) (values : List Value) (rest : List ℕ) → line_text (line_of sheet k values) ++ rest ≡ line_head sheet k ++ (values_text values ++ 10 ∷ rest)
@@ -169,7 +169,7 @@ right_tells (suc j) (suc k) a b r s a_all a_some b_all b_some e =
     right_tells j k a b r s a_all a_some b_all b_some (heads 32 32 (replicate j 32 ++ (a ++ 32 ∷ r)) (replicate k 32 ++ (b ++ 32 ∷ s)) e).1
 
 as_head : (blanks number name rest : List ℕ) → ((blanks ++ number) ++ (32 ∷ name)) ++ rest ≡ blanks ++ (number ++ 32 ∷ (name ++ rest))
-as_head blanks number name rest = simp (append_assoc, append-nil)
+as_head blanks number name rest = simp append_assoc
 
 blanks_of : ℕ → List ℕ
 blanks_of k = replicate (5 - length (digits k)) 32

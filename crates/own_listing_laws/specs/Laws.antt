@@ -15,22 +15,23 @@ use Rattle.certificate_check.specs.Results.{IsNotFailed}
 use Rattle.listing_definitions.specs.declared.Mark.TheVariants.{Optimal}
 use Rattle.listing_definitions.specs.declared.Mark.{Mark}
 use Rattle.listing_definitions.specs.declared.Solver.{Solver}
-use Rattle.listing_definitions.specs.Report.{PathVerdict, Check, SolutionLines, ChainEnd, Report}
-use Rattle.listing_definitions.specs.Text.{verdict_text, solution_text, interval_text, chain_end_text}
+use Rattle.listing_definitions.specs.Report.{PathVerdict, Check, SolutionLines, Interval, ChainEnd, Chain, Report}
+use Rattle.listing_definitions.specs.Text.{verdict_text, solution_text, interval_text, chain_end_text, chain_text}
 use Rattle.listing_definitions.specs.Ending.{Ending}
 use Rattle.listing_definitions.specs.Listing.{listing}
-use Rattle.question_definitions.specs.Answers.{Basis, Sheet, Reached}
+use Rattle.question_definitions.specs.Answers.{Basis, Sheet, changing_name, sweeper, Sweep, OfSweep, Reached}
 use Rattle.answer_definitions.specs.Verdicts.{IsSolvedBy}
 use Rattle.answer_definitions.specs.Sections.{IsShown, solution_lines}
-use Rattle.answer_definitions.specs.Sweeps.{interval_of}
+use Rattle.answer_definitions.specs.Sweeps.{interval_of, IsChained}
+use Rattle.run_laws.specs.Sweeps.{ChangesFreely}
 use Rattle.answer_definitions.specs.Real.{linear_programming}
 use Rattle.run_definitions.specs.Answer.{IsJobRun}
 use Rattle.walk_definitions.specs.Tests.{verdict_test, solution_test}
 use Rattle.walk_definitions.specs.Tables.{begins_table_line}
-use Rattle.walk_definitions.specs.Reading.{verdict_in, solution_in, interval_in, close_in}
+use Rattle.walk_definitions.specs.Reading.{Judged, Fails, verdict_in, solution_in, interval_in, close_in, judged}
 use Rattle.walk_definitions.specs.Walker.{Found, Wrong}
 use Rattle.walk_definitions.specs.Found.{Comes}
-use Rattle.own_listing_laws.specs.Fitting.{LinesFit, VerdictFits, CheckFits, EndFits, ReportsFit, StopFits}
+use Rattle.own_listing_laws.specs.Fitting.{LinesFit, VerdictFits, CheckFits, IntervalsFit, EndFits, ReportsFit, StopFits}
 use Rattle.own_listing_laws.specs.Printed.{IsReadable, IsPrinted, IsEndOf}
 
 -- the path has ended optimal at a basis
@@ -38,6 +39,15 @@ pub record EndsBest (p : LinearProgram) (s : Basis) : Type 0 where
   pub point : List ℚ
   pub prices : List ℚ
   pub ends : EndsAt p s (EndsOptimal point prices)
+
+-- what is read is of its form, and no test of it fails
+abbrev pub IsNoFailure : {X : Type 0} → Judged X → Type 0
+IsNoFailure Fails = ⊥
+IsNoFailure _ = Unit {0}
+
+-- what is printed of a parametric run
+abbrev pub chain_of : Sweep → List Interval → ChainEnd → Chain
+chain_of sweep intervals end = record { from = sweep.from; change = changing_name sweep.changing; intervals = intervals; end = end }
 
 abbrev pub IsNotWrong : Found → Type 0
 IsNotWrong (Wrong rest) = ⊥
@@ -63,6 +73,10 @@ pub record TestsPass : Type 0 where
   -- SOLUTION, where the mark is OPTIMAL only if the path has ended optimal at the basis
   pub solution : (mark : Mark) (sheet : Sheet) (s : Basis) (lines : SolutionLines) → IsLinearProgram sheet.lp → IsNonsingularBasis sheet.lp s → (mark ≡ Optimal → EndsBest sheet.lp s) → IsShown sheet s lines →
       IsNotFailed (solution_test sheet mark lines)
+  -- a parametric run, whose intervals and close are tested as they are read of its text
+  pub run : (sheet : Sheet) (s : Basis) (sweep : Sweep) (bases : List Basis) (intervals : List Interval) (end : ChainEnd) (after : List ℕ) → IsLinearProgram sheet.lp → ChangesFreely sheet sweep.changing →
+      IsNonsingularBasis sheet.lp s → IsChained sheet s sweep bases intervals end → IntervalsFit intervals → EndFits end → begins_table_line after ≡ false →
+      IsNoFailure (judged (OfSweep sweep) sheet (chain_text (sweeper sweep.changing) (chain_of sweep intervals end) ++ after))
 
 -- The listing of a job's run is never found wrong by the walk, where its fractions fit: it is attested, or a line of it can't be attested,
 -- or an operation of a test is refused.
