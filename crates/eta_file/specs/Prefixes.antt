@@ -3,16 +3,17 @@
 --     IsLent etas k p q entries    the eta at this place has these
 --     IsExchangeOf a b p q entries an exchange at the basics b, with its rates that are not 0
 --     basic_columns a b            the number of basic columns
---     IsEta a b eta                the eta of an exchange at the basics b
+--     IsEta a b eta                the eta of an exchange at the basics b, and its whole numbers are its rates
 --     Passed a b etas              each eta is one of an exchange at the set that those before it lead to, from b
 --     after b etas                 the set that they lead to
 --     prefixes b etas              all sets on the way, b first
 --     entry_count etas             the number of entries of all etas
-use Rattle.std.specs.Prelude.{◌≡◌, ◌≢◌, ℕ, ◌+◌, Bool, List, [], ◌∷◌, length, map, filter, count_by, drop, slice_index_or, not, ◌&&◌}
+use Rattle.std.specs.Prelude.{◌≡◌, ◌≢◌, ℕ, ◌+◌, Bool, List, [], ◌∷◌, length, map, filter, count_by, drop, slice_index_or, not, ◌&&◌, IfSome}
 use Rattle.exact_values.specs.Rational.{ℚ, zero_ℚ}
 use Rattle.exact_values.specs.Tests.{eq_ℚ}
 use Rattle.lp_definitions.specs.LinearProgram.{Matrix, Vector, size, numbers_from}
 use Rattle.lp_definitions.specs.Basis.{Basics, is_in, IsBasic, IsNonbasic, AreRates, exchanged}
+use Rattle.eta_file.specs.Entries.{IsWholeOf}
 use Rattle.eta_file.specs.declared.eta.EtaEntry.{EtaEntry}
 use Rattle.eta_file.specs.declared.eta.StoredEta.{StoredEta}
 
@@ -38,6 +39,7 @@ pub record IsEta (a : Matrix) (b : Basics) (eta : StoredEta) : Type 0 where
   pub apart : rate eta.p eta.q ≢ zero_ℚ
   pub is_pivot : eta.pivot ≡ rate eta.p eta.q
   pub are_entries : eta.entries.items ≡ rate_entries a b (λ i. rate i eta.q)
+  pub are_whole : IfSome eta.whole (IsWholeOf eta.pivot eta.entries.items)
 
 abbrev pub Passed : Matrix → Basics → List StoredEta → Type 0
 Passed a b [] = Unit {0}
