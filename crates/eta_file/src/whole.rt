@@ -39,7 +39,8 @@ fn scaled_entries(
         let Ok(rate) = entry.rate.mul(scale) else {
             return Ok(None);
         };
-        list.push(EtaEntry { i: entry.i, rate }).map_err(|_| NoMemory)?;
+        list.push(EtaEntry { i: entry.i, rate })
+            .map_err(|_| NoMemory)?;
     }
     Ok(Some(list))
 }
@@ -108,13 +109,7 @@ fn subtract_whole(entries: &[EtaEntry], p: u32, multiple: Frac, out: &mut [Frac]
 }
 
 /// What the exchange of `p` for `q` makes of the numbers, where this multiple of the eta is taken from them.
-fn exchange_whole(
-    whole: &WholeEta,
-    p: u32,
-    q: u32,
-    multiple: Frac,
-    out: &mut [Frac],
-) -> Option<()>
+fn exchange_whole(whole: &WholeEta, p: u32, q: u32, multiple: Frac, out: &mut [Frac]) -> Option<()>
     requires p_low { 1 ≤ p }
     requires p_high { p ≤ length out.old }
     requires q_low { 1 ≤ q }
