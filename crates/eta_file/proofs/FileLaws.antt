@@ -1,10 +1,10 @@
 -- What a file shows of the column that is carried through it.
-use Rattle.std.proofs.Common.{◌≡◌, ◌≢◌, ℕ, zero, suc, ◌+◌, ◌-◌, ◌*◌, ◌<◌, ◌≤◌, ◌⊎◌, inl, inr, List, [], ◌∷◌, ◌++◌, length, cond, take, get_or, refl, sym, ◌∙◌, ap, ap₂, subst, arith, add-one, All, Ok, Err, Result, IfErr, OnOk, Option, None, Some, IfSome, Bool, true, false}
+use Rattle.std.proofs.Common.{◌≡◌, ◌≢◌, ℕ, zero, suc, ◌+◌, ◌-◌, ◌*◌, ◌<◌, ◌≤◌, ◌⊎◌, inl, inr, List, [], ◌∷◌, ◌++◌, length, map, cond, take, get_or, refl, sym, ◌∙◌, ap, ap₂, subst, arith, add-one, All, Ok, Err, Result, IfErr, OnOk, Option, None, Some, IfSome, Bool, true, false}
 use Rattle.std.specs.Prelude.{nat_le, eqb}
 use Rattle.std.proofs.lemmas.Bool.{eq-eqb}
 use Rattle.std.proofs.lemmas.Bool.Decides.{eqb_tells}
-use Rattle.std.proofs.lemmas.List.{length-append}
-use Rattle.exact_values.specs.Rational.{ℚ, zero_ℚ}
+use Rattle.std.proofs.lemmas.List.{length-append, get_or_default}
+use Rattle.exact_values.specs.Rational.{ℚ, zero_ℚ, ◌*ℚ◌}
 use Rattle.lp_definitions.specs.LinearProgram.{Matrix, size, IsColumn, IsRow, column, value_at}
 use Rattle.lp_definitions.specs.Basis.{Basics, is_in, IsBasic, IsNonbasic, IsNonsingular, IsDirectionOf, AreRates, exchanged, row_basics}
 use Rattle.lp_definitions.specs.RatesEvidence.{ExchangeRefused}
@@ -16,13 +16,14 @@ use Rattle.lp_laws.proofs.Opening.{IsNonsingular-row_basics, is_in-row_basics, l
 use Rattle.lp_laws.proofs.WaypointLaws.{Covers-itself, Covers-insert, ExchangeRefused-covered}
 use Rattle.lp_laws.specs.Rates.{opening_rate}
 use Rattle.eta_file.specs.declared.eta.StoredEta.{StoredEta}
+use Rattle.eta_file.specs.declared.eta.WholeEta.{WholeEta}
 use Rattle.lp_laws.proofs.Alike.{direction_same}
 use Rattle.whole_vectors.specs.Quotients.{quotients, AreQuotients, StandFor}
 use Rattle.whole_vectors.proofs.Over.{made_values}
-use Rattle.eta_file.specs.Entries.{IsWholeOf, others, IsEntryWithin, AreApart, IsRowWithin, AreDistinctRows}
+use Rattle.eta_file.specs.Entries.{scaled, IsWholeOf, others, IsEntryWithin, AreApart, IsRowWithin, AreDistinctRows}
 use Rattle.eta_file.specs.Crossings.{IsWithinPlaces, IsCrossed, IsLeaving, IsColumnFilled, NoneLater}
 use Rattle.eta_file.specs.Refusals.{CrossRefused, LeaveRefused}
-use Rattle.eta_file.specs.Prefixes.{IsEta, after, prefixes, rate_entries, entries_to, entry_count, IsExchangeOf}
+use Rattle.eta_file.specs.Prefixes.{IsEta, after, prefixes, rate_entries, entries_to, entry_count, IsExchangeOf, IsLentScaled}
 use Rattle.eta_file.proofs.Counts.{rate_entries_few}
 use Rattle.eta_file.specs.File.{IsFileOf}
 use Rattle.lp_model.specs.RatesCalls.{HasPivot, IfOverflow}
@@ -293,3 +294,14 @@ column_to_exchange a b ways p q e h =
 -- a direction of the enterer is not 0 at the leaver
 pub pivot_apart : (a : Matrix) (b : Basics) → IsNonsingular a b → (p q : ℕ) → IsBasic a b p → (d : List ℚ) → IsDirectionOf a b q (value_at d) → HasPivot a b p q → value_at d p ≢ zero_ℚ
 pivot_apart a b one p q leaves d direction pivot none = pivot.2 (one_direction a b q pivot.0 (value_at d) one pivot.1 direction p leaves.0 ∙ none)
+
+-- an eta that has whole numbers
+pub lent_scaled : (etas : List StoredEta) (k : ℕ) (eta : StoredEta) (w : WholeEta) → k < length etas → eta ≡ get_or etas k eta → IsWholeOf eta.pivot eta.entries.items w → IsLentScaled etas k w.scale w.pivot w.entries.items
+lent_scaled etas k eta w below is h = record {
+  apart = h.apart;
+  is_pivot = λ d. h.is_pivot ∙ ap (λ (x : StoredEta). x.pivot *ℚ w.scale) (its d);
+  are_entries = λ d. h.are_entries ∙ ap (λ (x : StoredEta). map (scaled w.scale) x.entries.items) (its d);
+}
+  where
+    its : (d : StoredEta) → eta ≡ get_or etas k d
+    its d = is ∙ get_or_default etas k eta d below

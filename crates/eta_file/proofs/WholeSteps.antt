@@ -1,11 +1,11 @@
 -- Columns in numbers over one denominator: what an eta makes of them.
-use Rattle.std.proofs.Common.{◌≡◌, ◌≢◌, ℕ, ◌-◌, ◌<◌, ◌≤◌, List, [], ◌∷◌, length, map, take, get_or, set, Bool, true, false, cond, refl, sym, ◌∙◌, ap, ap₂, subst, arith, All}
+use Rattle.std.proofs.Common.{pos, negsuc, ◌≡◌, ◌≢◌, ℕ, ◌-◌, ◌<◌, ◌≤◌, List, [], ◌∷◌, length, map, take, get_or, set, Bool, true, false, cond, refl, sym, ◌∙◌, ap, ap₂, subst, arith, All}
 use Rattle.std.specs.Prelude.{nat_eq}
 use Rattle.std.proofs.lemmas.List.{get_or-map, length-map, length-set, take-map}
-use Rattle.exact_values.specs.Rational.{ℚ, zero_ℚ, one_ℚ, neg_ℚ, ◌+ℚ◌, ◌-ℚ◌, ◌*ℚ◌, ◌/ℚ◌, inverse_ℚ}
-use Rattle.exact_values.proofs.Ring.{by_ring2, by_ring3, by_ring4, ◌⊖◌, ◌⊗◌, ◌≐◌, opposite}
+use Rattle.exact_values.specs.Rational.{ℚ, whole, zero_ℚ, one_ℚ, neg_ℚ, ◌+ℚ◌, ◌-ℚ◌, ◌*ℚ◌, ◌/ℚ◌, inverse_ℚ}
+use Rattle.exact_values.proofs.Ring.{number, by_ring1, by_ring2, by_ring3, by_ring4, ◌⊖◌, ◌⊗◌, ◌≐◌, opposite}
 use Rattle.exact_values.proofs.Ring_laws.{zero-mul, one-mul, mul-one, add-mul}
-use Rattle.exact_values.proofs.Inverse.{div_is, div-mul_cancel, apart-mul, mul-inverse}
+use Rattle.exact_values.proofs.Inverse.{one_apart, div_is, div-mul_cancel, apart-mul, mul-inverse}
 use Rattle.lp_definitions.specs.LinearProgram.{value_at}
 use Rattle.lp_definitions.specs.declared.Entry.{Entry}
 use Rattle.whole_vectors.specs.Quotients.{quotients, AreProducts, IsSameOver, StandFor}
@@ -185,3 +185,6 @@ exchanged_by p q c w old mid u v p_low p_high q_low q_high counted h is_u is_v =
 -- nothing is taken where the leaver's number is 0
 pub untouched_whole : (eta : StoredEta) (d : ℚ) (xs : List ℚ) → d ≢ zero_ℚ → value_at xs eta.p ≡ zero_ℚ → StandFor (IsCrossed eta (quotients d xs)) d xs
 untouched_whole eta d xs apart none = record { apart = apart; holds = untouched (value_at-quotients d xs eta.p ∙ ap (λ x. x /ℚ d) none ∙ zero-mul (inverse_ℚ d)) refl }
+
+pub minus_one_apart : whole (negsuc 0) ≢ zero_ℚ
+minus_one_apart e = one_apart (by_ring1 zero_ℚ (λ x. number (pos 1) ≐ number (negsuc 0) ⊗ number (negsuc 0)) refl ∙ ap (λ u. u *ℚ whole (negsuc 0)) e ∙ zero-mul (whole (negsuc 0)))

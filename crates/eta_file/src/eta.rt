@@ -35,3 +35,11 @@ pub struct Eta<'a> {
     pub q: u32,
     pub entries: &'a [EtaEntry],
 }
+
+/// The pivot and the entries of an eta, each times one number.
+#[derive(Clone, Copy)]
+pub struct ScaledEta<'a> {
+    pub scale: Frac,
+    pub pivot: Frac,
+    pub entries: &'a [EtaEntry],
+}

@@ -9,13 +9,13 @@ ghost use Rattle.lp_definitions.specs.Waypoints.{waypoint};
 ghost use Rattle.lp_definitions.specs.RatesEvidence.{ExchangeRefused};
 ghost use Rattle.lp_model.specs.RatesCalls.{HasPivot, ColumnOverflow, ExchangeOverflow};
 ghost use Rattle.eta_file.specs.Crossings.{NoneLater, LeftAt};
-ghost use Rattle.eta_file.specs.Prefixes.{Passed, entries_to, IsLent, IsExchangeOf, basic_columns, after, entry_count};
+ghost use Rattle.eta_file.specs.Prefixes.{Passed, entries_to, IsLent, IsLentScaled, IsExchangeOf, basic_columns, after, entry_count};
 ghost use Rattle.eta_file.specs.declared.eta.StoredEta.{StoredEta};
 ghost use Rattle.eta_file.specs.Inverse.{ways_of, IsAppended, IsDirectionAfter};
 ghost use Rattle.whole_vectors.specs.Quotients.{StandFor};
 
 use crate::carry::{cross, fill_column, last_left, leave};
-use crate::eta::{Eta, EtaEntry, StoredEta};
+use crate::eta::{Eta, EtaEntry, ScaledEta, StoredEta};
 use crate::steps::Steps;
 use crate::whole::{begin_whole, cross_whole, leave_whole, whole_eta};
 use frac128::Frac;
@@ -469,6 +469,24 @@ impl EtaFile {
             q: eta.q,
             entries: &eta.entries,
         }
+    }
+
+    /// The numbers of the k-th eta as whole numbers, where they fit.
+    pub fn whole(&self, k: u32) -> Option<ScaledEta<'_>>
+        requires low { 1 ≤ k }
+        requires high { k ≤ length self.now.etas }
+        ensures { IfSome result (λ lent. IsLentScaled self.now.etas (k - 1) lent.scale lent.pivot
+            lent.entries.now) }
+    {
+        let eta = &self.etas[k as usize - 1];
+        let Some(whole) = &eta.whole else {
+            return None;
+        };
+        Some(ScaledEta {
+            scale: whole.scale,
+            pivot: whole.pivot,
+            entries: &whole.entries,
+        })
     }
 
     /// Marks the basics of a waypoint, by its number from 1; 0 is the present set.

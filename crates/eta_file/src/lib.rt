@@ -9,6 +9,6 @@ mod steps;
 mod whole;
 
 pub use by_columns::{ByColumns, rate_by_column};
-pub use eta::{Eta, EtaEntry, StoredEta, WholeEta};
+pub use eta::{Eta, EtaEntry, ScaledEta, StoredEta, WholeEta};
 pub use file::EtaFile;
 pub use steps::Steps;

@@ -12,13 +12,24 @@ use crate::eta::{EtaEntry, StoredEta, WholeEta};
 use frac128::Frac;
 use lp_model::{Entry, NoMemory};
 use std::alloc::Global;
-use whole_vectors::{common_multiple, less_product, multiply, reduce, terms};
+use whole_vectors::{common_multiple, less_product, multiply, product, quotient, reduce, terms};
 
-/// A common multiple of the denominators of the entries.
-fn common_scale(entries: &[EtaEntry]) -> Option<Frac>
+/// 1 or -1, with which the pivot is positive.
+fn sign_of_pivot(pivot: Frac) -> Frac
+    ensures { result ≢ zero_ℚ }
+{
+    if pivot.sign() < 0 {
+        Frac::whole(-1)
+    } else {
+        Frac::whole(1)
+    }
+}
+
+/// A common multiple of the denominators of the entries, with the sign of the pivot.
+fn common_scale(pivot: Frac, entries: &[EtaEntry]) -> Option<Frac>
     ensures { IfSome result (λ scale. scale ≢ zero_ℚ) }
 {
-    let mut scale = Frac::whole(1);
+    let mut scale = sign_of_pivot(pivot);
     for entry in entries {
         scale = common_multiple(scale, entry.rate)?;
     }
@@ -36,7 +47,7 @@ fn scaled_entries(
 {
     let mut list = Vec::new(alloc);
     for entry in entries {
-        let Ok(rate) = entry.rate.mul(scale) else {
+        let Some(rate) = product(entry.rate, scale) else {
             return Ok(None);
         };
         list.push(EtaEntry { i: entry.i, rate })
@@ -53,10 +64,10 @@ pub fn whole_eta(
 ) -> Result<Option<WholeEta>, NoMemory>
     ensures { IfOk result (λ made. IfSome made (IsWholeOf pivot entries.now)) }
 {
-    let Some(scale) = common_scale(entries) else {
+    let Some(scale) = common_scale(pivot, entries) else {
         return Ok(None);
     };
-    let Ok(pivot) = pivot.mul(scale) else {
+    let Some(pivot) = product(pivot, scale) else {
         return Ok(None);
     };
     match scaled_entries(alloc, entries, scale)? {
@@ -118,7 +129,7 @@ fn exchange_whole(whole: &WholeEta, p: u32, q: u32, multiple: Frac, out: &mut [F
     ensures { IfSome result (λ _. IsExchanged p q multiple whole.now out.old out.new) }
 {
     subtract_whole(&whole.entries, p, multiple, out)?;
-    let at_q = multiple.mul(whole.scale).ok()?;
+    let at_q = product(multiple, whole.scale)?;
     out[p as usize - 1] = Frac::whole(0);
     out[q as usize - 1] = at_q.neg();
     Some(())
@@ -139,11 +150,11 @@ pub fn cross_whole(eta: &StoredEta, denominator: Frac, out: &mut [Frac]) -> Opti
         return None;
     };
     let denominator = reduce(out, denominator)?;
-    let ratio = out[eta.p as usize - 1].div(whole.pivot).ok()?;
+    let ratio = quotient(out[eta.p as usize - 1], whole.pivot)?;
     let (multiple, by) = terms(ratio);
     multiply(out, by)?;
     exchange_whole(whole, eta.p, eta.q, multiple, out)?;
-    denominator.mul(by).ok()
+    product(denominator, by)
 }
 
 /// Puts the rates of the entries but the leaver's at their places.

@@ -10,6 +10,7 @@ ghost use Rattle.eta_file.specs.Inverse.{ways_of, IsColumnStop};
 ghost use Rattle.price_row.specs.Known.{IsKnown, HasMultipliers, IsFilledFrom, IsRateOf, IsUnit, IsMultiplierAt, IsMultiplierOf};
 
 mod sums;
+mod whole;
 
 use eta_file::{EtaFile, rate_by_column};
 use frac128::{Frac, Refused};
@@ -17,6 +18,7 @@ use lp_model::{Lp, NoMemory, Stop, Wanted};
 use std::alloc::Global;
 use std::marker::Model;
 use sums::{sum_of_column, sum_over};
+use whole::first_by_whole;
 
 /// Rows of an inverse that is kept as an eta file, with room for the multipliers of the rows and for a direction.
 #[derive(Drop)]
@@ -91,6 +93,10 @@ impl PriceRow {
         ensures same { self.new ≡ self.old }
     {
         let _size = file.size();
+        let quick = first_by_whole(file, i, &mut self.multipliers, wanted, up, out);
+        if let Some(found) = quick {
+            return Ok(found);
+        }
         multipliers(file, i, &mut self.multipliers, &mut self.room)?;
         fill_to_wanted(file, i, &self.multipliers, wanted, up, out, &mut self.room)
     }

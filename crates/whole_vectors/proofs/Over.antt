@@ -1,12 +1,14 @@
 -- Numbers over one denominator: what they are after all have been multiplied or divided.
-use Rattle.std.proofs.Common.{◌≡◌, ◌≢◌, ℕ, zero, suc, ◌-◌, ◌≤◌, List, [], ◌∷◌, length, map, get_or, Bool, true, refl, sym, ◌∙◌, ap, ap₂, arith, ℤ, pos, subst, Option, Result, Ok, Err, IfOk}
+use Rattle.std.proofs.Common.{◌≡◌, ◌≢◌, ℕ, zero, suc, ◌-◌, ◌≤◌, List, [], ◌∷◌, length, map, get_or, Bool, true, refl, sym, ◌∙◌, ap, ap₂, arith, ℤ, pos, negsuc, subst, Option, Result, Ok, Err, IfOk}
 use Rattle.std.specs.Cmp.{Equal-is}
-use Rattle.std.specs.Prelude.{IfSome}
+use Rattle.std.specs.Prelude.{IfSome, ◌≤ℤ◌, unsigned_abs}
+use Rattle.std.proofs.lemmas.Int.{ints}
+use Rattle.whole_vectors.proofs.Words.{is_whole}
 use Rattle.std.specs.Result.{result_ok}
 use Rattle.frac128.specs.declared.Refused.{Refused}
-use Rattle.exact_values.specs.Rational.{ℚ, whole, zero_ℚ, inverse_ℚ, compare_ℚ, ◌*ℚ◌, ◌/ℚ◌}
+use Rattle.exact_values.specs.Rational.{ℚ, whole, fraction, zero_ℚ, inverse_ℚ, compare_ℚ, ◌*ℚ◌, ◌/ℚ◌}
 use Rattle.exact_values.proofs.Ring.{by_ring3, ◌⊗◌, ◌≐◌}
-use Rattle.exact_values.proofs.Fractions.{is_ratio, mul_ratio, same_from_ratio}
+use Rattle.exact_values.proofs.Fractions.{is_ratio, mul_ratio, fraction_ratio, same_from_ratio}
 use Rattle.exact_values.proofs.Ring_laws.{zero-mul, whole_ratio}
 use Rattle.exact_values.proofs.Inverse.{div_is, apart-mul, inverse_apart, same_quotients, whole_numerator, numerator_of_zero}
 use Rattle.exact_values.proofs.Compare.{parts_equal, compare_ties, same_from_compare}
@@ -78,3 +80,12 @@ made_values d old new h k = value_at-quotients d old k ∙ sym (h.each k)
 pub numerator_is : (x : ℚ) (n d : ℚ) → n ≡ whole x.numerator → d ≡ whole (pos x.denominator) → n ≡ x *ℚ d
 numerator_is x n d is_n is_d =
     is_n ∙ same_from_ratio (whole_ratio x.numerator) (mul_ratio (is_ratio x) (whole_ratio (pos x.denominator))) (omega arith) ∙ ap (λ y. x *ℚ y) (sym is_d)
+
+-- a whole number over another one
+pub over_whole : (x by : ℚ) (d : ℤ) → x.denominator ≡ 1 → by.denominator ≡ 1 → pos 1 ≤ℤ d → by.numerator ≡ d → fraction x.numerator (unsigned_abs d) ≡ x /ℚ by
+over_whole x by (pos zero) one also some is = absurd (omega (arith, ints, some))
+over_whole x by (negsuc m) one also some is = absurd (omega (arith, ints, some))
+over_whole x by (pos (suc m)) one also some is =
+    sym (div_is x by (fraction x.numerator (suc m)) (λ none. absurd (omega (arith, ints, sym is ∙ numerator_of_zero by none)))
+    (sym (is_whole x one) ∙ same_from_ratio (whole_ratio x.numerator) (mul_ratio (fraction_ratio x.numerator (suc m) (omega arith)) (whole_ratio (pos (suc m)))) (omega arith)
+    ∙ ap (λ y. fraction x.numerator (suc m) *ℚ y) (ap whole (sym is) ∙ is_whole by also)))

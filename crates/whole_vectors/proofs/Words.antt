@@ -47,7 +47,7 @@ module _ (x c e : ℤ) (x_word : FitsSigned w64 x) (c_word : FitsSigned w64 c) (
       at z h = omega (arith, ints)
 
 -- a fraction over 1 is its numerator
-is_whole : (x : ℚ) → x.denominator ≡ 1 → whole x.numerator ≡ x
+pub is_whole : (x : ℚ) → x.denominator ≡ 1 → whole x.numerator ≡ x
 is_whole x one = same_from_ratio (whole_ratio x.numerator) (is_ratio x) (rw one (omega arith))
 
 pub whole_rest : (x c e : ℚ) → x.denominator ≡ 1 → c.denominator ≡ 1 → e.denominator ≡ 1 → whole (x.numerator -ℤ c.numerator *ℤ e.numerator) ≡ x -ℚ c *ℚ e

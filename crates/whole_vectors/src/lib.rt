@@ -52,19 +52,56 @@ pub fn less_product(x: Frac, c: Frac, e: Frac) -> Option<Frac>
     x.sub_product(c, e)
 }
 
+/// Whether a denominator is seen at once to be a multiple of that of a value.
+fn is_multiple(denominator: Frac, value: Frac) -> bool {
+    if value.den() == 1 {
+        return true;
+    }
+    match (
+        u64::try_from(denominator.num().unsigned_abs()),
+        u64::try_from(value.den()),
+    ) {
+        (Ok(n), Ok(d)) => d != 0 && n % d == 0,
+        _ => false,
+    }
+}
+
 /// A common multiple of a denominator and of that of a value.
 pub fn common_multiple(denominator: Frac, value: Frac) -> Option<Frac>
     requires { denominator ≢ zero_ℚ }
     ensures { IfSome result (λ multiple. multiple ≢ zero_ℚ) }
 {
-    if value.den() == 1 {
+    if is_multiple(denominator, value) {
         return Some(denominator);
     }
     let left = denominator.mul(value).ok()?;
-    if left.den() == 1 {
-        return Some(denominator);
-    }
     denominator.mul(Frac::whole(left.den())).ok()
+}
+
+/// The product of two numbers. Nothing is made of 0 and of 1.
+#[inline(always)]
+pub fn product(x: Frac, y: Frac) -> Option<Frac>
+    ensures { IfSome result (λ product. product ≡ x *ℚ y) }
+{
+    if x.is_zero() || y == Frac::whole(1) {
+        return Some(x);
+    }
+    x.mul(y).ok()
+}
+
+/// A number over a divisor. Nothing is made of 0, and of a divisor of 1.
+#[inline(always)]
+pub fn quotient(number: Frac, by: Frac) -> Option<Frac>
+    requires { by ≢ zero_ℚ }
+    ensures { IfSome result (λ quotient. quotient ≡ number /ℚ by) }
+{
+    if number.is_zero() || by == Frac::whole(1) {
+        return Some(number);
+    }
+    if number.den() == 1 && by.den() == 1 && by.num() >= 1 {
+        return Some(Frac::new(number.num(), by.num()));
+    }
+    number.div(by).ok()
 }
 
 /// The numerator and the denominator, as whole numbers.
@@ -105,7 +142,7 @@ pub fn divide(numbers: &mut [Frac], by: Frac) -> Option<()>
         if number.is_zero() {
             continue;
         }
-        numbers[place] = number.div(by).ok()?;
+        numbers[place] = quotient(number, by)?;
     }
     Some(())
 }
