@@ -73,7 +73,9 @@ fn back_whole(
     let _size = file.size();
     let _etas = file.etas();
     let eta = file.eta(place + 1);
-    let whole = file.whole(place + 1)?;
+    let Some(whole) = file.whole(place + 1) else {
+        return None;
+    };
     let first = product(out[eta.q as usize - 1], whole.scale)?;
     let sum = sum_of_entries(whole.entries, eta.p, first, out)?;
     if sum.is_zero() {
@@ -106,13 +108,7 @@ fn whole_multipliers(file: &EtaFile, row: u32, out: &mut [Frac]) -> Option<Frac>
 }
 
 /// The rate of the row at the variable of a place, from the numbers of the multipliers of the rows.
-fn rate_whole(
-    file: &EtaFile,
-    place: u32,
-    row: u32,
-    denominator: Frac,
-    out: &[Frac],
-) -> Option<Frac>
+fn rate_whole(file: &EtaFile, place: u32, row: u32, denominator: Frac, out: &[Frac]) -> Option<Frac>
     requires within { place < size file.now.matrix }
     requires basic { IsBasic file.now.matrix file.now.basics row }
     requires places { length out.now ≡ size file.now.matrix }
