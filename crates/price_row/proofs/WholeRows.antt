@@ -1,6 +1,8 @@
 -- A row that is carried back in numbers over one denominator.
-use Rattle.std.proofs.Common.{◌≡◌, ◌≢◌, ℕ, ◌+◌, ◌-◌, ◌<◌, ◌≤◌, List, [], ◌∷◌, length, map, get_or, set, Bool, true, false, cond, refl, sym, ◌∙◌, ap, ap₂, subst, arith, All}
+use Rattle.std.proofs.Common.{◌≡◌, ◌≢◌, ℕ, ◌+◌, ◌-◌, ◌<◌, ◌≤◌, List, [], ◌∷◌, length, map, get_or, set, Bool, true, false, cond, Option, None, Some, IfSome, refl, sym, ◌∙◌, ap, ap₂, subst, arith, All}
 use Rattle.std.specs.Prelude.{nat_eq}
+use Rattle.std.specs.Option.{is_some}
+use Rattle.lp_laws.proofs.Values.{clash}
 use Rattle.std.proofs.lemmas.List.{get_or-map, length-map, get_or-set_same, get_or-set_other, get_or_default}
 use Rattle.exact_values.specs.Rational.{ℚ, zero_ℚ, one_ℚ, neg_ℚ, ◌+ℚ◌, ◌*ℚ◌, ◌/ℚ◌, inverse_ℚ}
 use Rattle.exact_values.proofs.Ring.{by_ring2, by_ring3, by_ring4, ◌⊗◌, ◌≐◌, opposite}
@@ -11,6 +13,7 @@ use Rattle.lp_definitions.specs.Basis.{is_in, IsBasic, IsNonsingular, row_basics
 use Rattle.lp_definitions.specs.RatesEvidence.{sum_from}
 use Rattle.lp_definitions.specs.declared.Entry.{Entry}
 use Rattle.lp_laws.proofs.Idle.{over_once}
+use Rattle.lp_model.specs.RatesCalls.{IsRowOf}
 use Rattle.whole_vectors.specs.Quotients.{quotients, AreProducts, IsSameOver, StandFor}
 use Rattle.whole_vectors.proofs.Over.{value_at-quotients, length-quotients, same_factor}
 use Rattle.eta_file.specs.declared.eta.EtaEntry.{EtaEntry}
@@ -19,9 +22,9 @@ use Rattle.eta_file.specs.Entries.{scaled, IsEntryWithin}
 use Rattle.eta_file.specs.Prefixes.{IsLent, IsLentScaled, IsEta, Passed, after}
 use Rattle.eta_file.specs.Inverse.{Inverse}
 use Rattle.price_row.specs.Sums.{weighted, products}
-use Rattle.price_row.specs.Known.{set_of, IsKnown, IsUnit, IsRateOf, IsMultiplierAt, HasMultipliers}
+use Rattle.price_row.specs.Known.{set_of, IsKnown, IsUnit, IsRateOf, IsMultiplierAt, HasMultipliers, IsFilledTo}
 use Rattle.price_row.proofs.CarriedBack.{is, p_is, entries_within, known_more, multiplier_is, an_eta}
-use Rattle.price_row.proofs.RowSteps.{known_at_end, rows_known, rate_of_row, rate_of_column}
+use Rattle.price_row.proofs.RowSteps.{known_at_end, rows_known, row_is, rate_of_row, rate_of_column}
 
 -- ---- sums of numbers over one denominator
 
@@ -218,3 +221,14 @@ module _ (f : Inverse) (r place : ℕ) (d : ℚ) (xs : List ℚ) (within : place
     where
       c : List Entry
       c = column f.matrix (place + 1 - f.matrix.rows)
+
+-- the rates at all variables are the row
+pub filled_row : (f : Inverse) (n r : ℕ) (xs : List ℚ) → f.basics ≡ after (row_basics f.matrix) f.etas → Passed f.matrix (row_basics f.matrix) f.etas → size f.matrix ≤ n → IsFilledTo f n r xs → IsRowOf f.matrix f.basics r (value_at xs)
+filled_row f n r xs are passed all h = row_is f r xs are passed (record {
+  known = λ rate is k less in_rows. absurd (omega (arith, less));
+  filled = λ k from within. h k (omega (arith, within, all));
+})
+
+pub where_some : (o : Option (Unit {0})) (P : Type 0) → is_some o ≡ true → IfSome o (λ _. P) → P
+where_some None P some h = absurd (clash (sym some))
+where_some (Some u) P some h = h

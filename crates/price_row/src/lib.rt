@@ -18,7 +18,7 @@ use lp_model::{Lp, NoMemory, Stop, Wanted};
 use std::alloc::Global;
 use std::marker::Model;
 use sums::{sum_of_column, sum_over};
-use whole::first_by_whole;
+use whole::{first_by_whole, row_by_whole};
 
 /// Rows of an inverse that is kept as an eta file, with room for the multipliers of the rows and for a direction.
 #[derive(Drop)]
@@ -66,6 +66,9 @@ impl PriceRow {
         ensures same { self.new ≡ self.old }
     {
         let _size = file.size();
+        if row_by_whole(file, i, &mut self.multipliers, out).is_some() {
+            return Ok(());
+        }
         multipliers(file, i, out, &mut self.room)?;
         fill(file, i, out, &mut self.room)
     }

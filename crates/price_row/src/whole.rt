@@ -9,6 +9,7 @@ ghost use Rattle.price_row.specs.Sums.{weighted, products};
 ghost use Rattle.price_row.specs.Places.{IsRowPlace};
 ghost use Rattle.lp_definitions.specs.LinearProgram.{size, value_at};
 ghost use Rattle.lp_definitions.specs.Basis.{IsBasic};
+ghost use Rattle.lp_model.specs.RatesCalls.{IsRowOf};
 ghost use Rattle.lp_model.specs.Wanted.{IsFirstWanted};
 ghost use Rattle.whole_vectors.specs.Quotients.{StandFor};
 ghost use Rattle.price_row.specs.Known.{IsKnown, HasMultipliers, IsRateOf};
@@ -177,4 +178,36 @@ pub fn first_by_whole(
 {
     let denominator = whole_multipliers(file, row, numbers)?;
     fill_whole(file, row, numbers, denominator, wanted, up, out)
+}
+
+/// Fills in the rates from the numbers of the multipliers of the rows.
+fn fill_row_whole(
+    file: &EtaFile,
+    row: u32,
+    numbers: &[Frac],
+    denominator: Frac,
+    out: &mut [Frac],
+) -> Option<()>
+    requires basic { IsBasic file.now.matrix file.now.basics row }
+    requires number_places { length numbers.now ≡ size file.now.matrix }
+    requires places { length out.old ≡ size file.now.matrix }
+    requires known { StandFor (HasMultipliers file.now (size file.now.matrix) row)
+        denominator numbers.now }
+    ensures { IfSome result (λ _. IsRowOf file.now.matrix file.now.basics row (value_at out.new)) }
+{
+    for place in 0..file.size() {
+        out[place as usize] = rate_whole(file, place, row, denominator, numbers)?;
+    }
+    Some(())
+}
+
+/// Fills `out` with the rates of the row, and `numbers` with those of the multipliers of the rows.
+pub fn row_by_whole(file: &EtaFile, row: u32, numbers: &mut [Frac], out: &mut [Frac]) -> Option<()>
+    requires basic { IsBasic file.now.matrix file.now.basics row }
+    requires number_places { length numbers.old ≡ size file.now.matrix }
+    requires places { length out.old ≡ size file.now.matrix }
+    ensures { IfSome result (λ _. IsRowOf file.now.matrix file.now.basics row (value_at out.new)) }
+{
+    let denominator = whole_multipliers(file, row, numbers)?;
+    fill_row_whole(file, row, numbers, denominator, out)
 }
