@@ -52,9 +52,10 @@ impl PriceRow {
     }
 
     /// Fills `out`, which has a place for each variable, with the rates of the basic `i`: its rate at each nonbasic, and 0 at each
-    /// basic. The row is carried backwards through the file, and multiplied with the columns of the deck. Where an operation is
-    /// refused on the way back, the multipliers of the rows are had by their directions; where one is refused at a column, its rate
-    /// is had by its direction. It takes no memory.
+    /// basic. The row is carried backwards through the file, and multiplied with the columns of the deck: in numbers over one
+    /// denominator, or where one of these doesn't fit in fractions. Where an operation on fractions is refused on the way back, the
+    /// multipliers of the rows are had by their directions; where one is refused at a column, its rate is had by its direction. It
+    /// takes no memory.
     pub fn row(&mut self, file: &EtaFile, i: u32, out: &mut [Frac]) -> Result<(), Stop>
         requires basic { IsBasic file.now.matrix file.now.basics i }
         requires places { length out.old ≡ size file.now.matrix }

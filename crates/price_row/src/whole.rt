@@ -109,6 +109,7 @@ fn whole_multipliers(file: &EtaFile, row: u32, out: &mut [Frac]) -> Option<Frac>
 }
 
 /// The rate of the row at the variable of a place, from the numbers of the multipliers of the rows.
+#[inline(always)]
 fn rate_whole(file: &EtaFile, place: u32, row: u32, denominator: Frac, out: &[Frac]) -> Option<Frac>
     requires within { place < size file.now.matrix }
     requires basic { IsBasic file.now.matrix file.now.basics row }
