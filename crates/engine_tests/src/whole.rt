@@ -22,6 +22,10 @@ const FIFTHS: &[u8] =
 /// A number that 7 times doesn't fit: 2^126.
 const LARGE: i128 = 85_070_591_730_234_615_865_843_651_857_942_052_864;
 
+fn limit(n: i32) -> Option<Frac> {
+    Some(Frac::whole(n as i128))
+}
+
 /// COST, A and B have the numbers 1 to 3. X has a large number on COST, 3 on A, and its share on B; Y has 1 on A, and 1/7 on B.
 fn wide(alloc: Global, share: Frac) -> Result<Lp, AllocError>
     ensures { IfOk result (λ lp. size lp.matrix ≡ 5) }
@@ -51,9 +55,8 @@ fn wide(alloc: Global, share: Frac) -> Result<Lp, AllocError>
         },
     ]?;
     let columns = vec![in alloc; x, y]?;
-    let zero = Some(Frac::whole(0));
-    let lower = vec![in alloc; None, zero, None, zero, zero]?;
-    let upper = vec![in alloc; None, None, None, None, None]?;
+    let lower = vec![in alloc; None, limit(0), None, limit(0), limit(0)]?;
+    let upper = vec![in alloc; None, None, None, limit(1), limit(1)]?;
     let rhs = vec![in alloc; Frac::whole(0), Frac::whole(0), Frac::whole(0)]?;
     Ok(Lp {
         rows: 3,
