@@ -83,7 +83,7 @@ fn depends<E: Engine>(
 }
 
 /// Whether the rates of the basis are made, and the nonbasic `j` has this direction.
-fn has_direction<E: Engine>(
+pub fn has_direction<E: Engine>(
     alloc: Global,
     lp: &Lp,
     pairs: &[(u32, u32)],

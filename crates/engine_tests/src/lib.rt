@@ -9,3 +9,5 @@ mod punched;
 mod tests;
 #[cfg(test)]
 mod transport;
+#[cfg(test)]
+mod whole;

@@ -1,10 +1,10 @@
 -- What a file shows of the column that is carried through it.
-use Rattle.std.proofs.Common.{◌≡◌, ◌≢◌, ℕ, zero, suc, ◌+◌, ◌-◌, ◌*◌, ◌<◌, ◌≤◌, ◌⊎◌, inl, inr, List, [], ◌∷◌, ◌++◌, length, cond, take, get_or, refl, sym, ◌∙◌, ap, ap₂, subst, arith, add-one, All, Ok, Err, Result, IfErr, OnOk, Bool, true, false}
+use Rattle.std.proofs.Common.{◌≡◌, ◌≢◌, ℕ, zero, suc, ◌+◌, ◌-◌, ◌*◌, ◌<◌, ◌≤◌, ◌⊎◌, inl, inr, List, [], ◌∷◌, ◌++◌, length, map, cond, take, get_or, refl, sym, ◌∙◌, ap, ap₂, subst, arith, add-one, All, Ok, Err, Result, IfErr, OnOk, Option, None, Some, IfSome, Bool, true, false}
 use Rattle.std.specs.Prelude.{nat_le, eqb}
 use Rattle.std.proofs.lemmas.Bool.{eq-eqb}
 use Rattle.std.proofs.lemmas.Bool.Decides.{eqb_tells}
-use Rattle.std.proofs.lemmas.List.{length-append}
-use Rattle.exact_values.specs.Rational.{ℚ, zero_ℚ}
+use Rattle.std.proofs.lemmas.List.{length-append, get_or_default}
+use Rattle.exact_values.specs.Rational.{ℚ, zero_ℚ, ◌*ℚ◌}
 use Rattle.lp_definitions.specs.LinearProgram.{Matrix, size, IsColumn, IsRow, column, value_at}
 use Rattle.lp_definitions.specs.Basis.{Basics, is_in, IsBasic, IsNonbasic, IsNonsingular, IsDirectionOf, AreRates, exchanged, row_basics}
 use Rattle.lp_definitions.specs.RatesEvidence.{ExchangeRefused}
@@ -16,10 +16,14 @@ use Rattle.lp_laws.proofs.Opening.{IsNonsingular-row_basics, is_in-row_basics, l
 use Rattle.lp_laws.proofs.WaypointLaws.{Covers-itself, Covers-insert, ExchangeRefused-covered}
 use Rattle.lp_laws.specs.Rates.{opening_rate}
 use Rattle.eta_file.specs.declared.eta.StoredEta.{StoredEta}
-use Rattle.eta_file.specs.Entries.{others, IsEntryWithin, AreApart, IsRowWithin, AreDistinctRows}
+use Rattle.eta_file.specs.declared.eta.WholeEta.{WholeEta}
+use Rattle.lp_laws.proofs.Alike.{direction_same}
+use Rattle.whole_vectors.specs.Quotients.{quotients, AreQuotients, StandFor}
+use Rattle.whole_vectors.proofs.Over.{made_values}
+use Rattle.eta_file.specs.Entries.{scaled, IsWholeOf, others, IsEntryWithin, AreApart, IsRowWithin, AreDistinctRows}
 use Rattle.eta_file.specs.Crossings.{IsWithinPlaces, IsCrossed, IsLeaving, IsColumnFilled, NoneLater}
 use Rattle.eta_file.specs.Refusals.{CrossRefused, LeaveRefused}
-use Rattle.eta_file.specs.Prefixes.{IsEta, after, prefixes, rate_entries, entries_to, entry_count, IsExchangeOf}
+use Rattle.eta_file.specs.Prefixes.{IsEta, after, prefixes, rate_entries, entries_to, entry_count, IsExchangeOf, IsLentScaled}
 use Rattle.eta_file.proofs.Counts.{rate_entries_few}
 use Rattle.eta_file.specs.File.{IsFileOf}
 use Rattle.lp_model.specs.RatesCalls.{HasPivot, IfOverflow}
@@ -41,6 +45,14 @@ refused_map (Err e) P Q f h = f e h
 pub ok_map : (r : Result (Unit {0}) Evidence) (P Q : Type 0) → (P → Q) → OnOk r P → OnOk r Q
 ok_map (Ok x) P Q f h = f h
 ok_map (Err e) P Q f h = h
+
+pub some_map : {X : Type 0} (o : Option X) (P Q : X → Type 0) → ((x : X) → P x → Q x) → IfSome o P → IfSome o Q
+some_map None P Q f h = h
+some_map (Some x) P Q f h = f x h
+
+take_all : (es : List StoredEta) → take (length es) es ≡ es
+take_all [] = refl
+take_all (e ∷ es) = ap (λ rest. e ∷ rest) (take_all es)
 
 some_eta : (etas : List StoredEta) → 0 < length etas → StoredEta
 some_eta [] h = absurd (omega arith)
@@ -95,6 +107,9 @@ module _ (a : Matrix) (etas : List StoredEta) (marks : Basics) (file : IsFileOf 
 
     pub entries_apart : AreApart eta.entries.items
     entries_apart = subst (λ es. AreApart es) (sym is.are_entries) (rate_entries_apart a (set_at k) (λ x. is.rate x eta.q))
+
+    pub whole_is : IfSome eta.whole (IsWholeOf eta.pivot eta.entries.items)
+    whole_is = is.are_whole
 
     pub fewer : others eta.p eta.entries.items + 1 ≤ length eta.entries.items
     fewer =
@@ -179,6 +194,14 @@ module _ (a : Matrix) (etas : List StoredEta) (marks : Basics) (file : IsFileOf 
       subst (λ m. (rate : ℕ → ℕ → ℚ) × AreRates a m rate) (sym file.are_marks)
       (rates_after a (row_basics a) etas (opening_rate a) (length-row_basics a) (AreRates-opening a) file.passed)
 
+  -- ---- a direction that was carried in numbers over one denominator
+
+  pub divided : (j n : ℕ) (d : ℚ) (old new : List ℚ) → n ≡ length etas → IsNonbasic a marks j → StandFor (λ xs. IsDirectionOf a (set_at n) j (value_at xs)) d old → AreQuotients d old new
+      → IsDirectionOf a marks j (value_at new)
+  divided j n d old new all out h quotients_are =
+      direction_same a marks j (value_at (quotients d old)) (value_at new) out.0 (λ i var. sym (made_values d old new quotients_are i))
+      (subst (λ b. IsDirectionOf a b j (value_at (quotients d old))) (ap (λ k. after (row_basics a) (take k etas)) all ∙ ap (after (row_basics a)) (take_all etas) ∙ sym file.are_marks) h.holds)
+
   -- ---- the number of entries
 
   pub entries_few : (k : ℕ) → k ≤ length etas → entry_count (take k etas) ≤ 4294967295 * k
@@ -214,8 +237,9 @@ module _ (a : Matrix) (etas : List StoredEta) (marks : Basics) (file : IsFileOf 
         at (inl same) = rw same.0 (subst (λ k. IsDirectionOf a marks k (value_at d)) (sym same.1) direction)
         at (inr other) = rw other.0 (marks_rates.1 j out)
 
-    new_eta : (eta : StoredEta) → eta.p ≡ p → eta.q ≡ q → eta.pivot ≡ value_at d p → eta.entries.items ≡ entries_to marks (value_at d) (length marks) → IsEta a marks eta
-    new_eta eta is_p is_q is_pivot are_entries = record {
+    new_eta : (eta : StoredEta) → eta.p ≡ p → eta.q ≡ q → eta.pivot ≡ value_at d p → eta.entries.items ≡ entries_to marks (value_at d) (length marks)
+        → IfSome eta.whole (IsWholeOf eta.pivot eta.entries.items) → IsEta a marks eta
+    new_eta eta is_p is_q is_pivot are_entries are_whole = record {
       leaves = subst (λ k. IsBasic a marks k) (sym is_p) leaves;
       enters = subst (λ k. IsNonbasic a marks k) (sym is_q) enters;
       rate = with_direction;
@@ -226,18 +250,19 @@ module _ (a : Matrix) (etas : List StoredEta) (marks : Basics) (file : IsFileOf 
           are_entries ∙ ap (entries_to marks (value_at d)) marks_counted
           ∙ ap (λ t. rate_entries a marks (λ i. cond t (value_at d i) (marks_rates.0 i q))) (sym at_q)
           ∙ ap (λ k. rate_entries a marks (λ i. with_direction i k)) (sym is_q);
+      are_whole = are_whole;
     }
       where
         pivot_rate : (eta : StoredEta) → eta.p ≡ p → eta.q ≡ q → with_direction eta.p eta.q ≡ value_at d p
         pivot_rate eta is_p is_q = ap₂ with_direction is_p is_q ∙ ap (λ t. cond t (value_at d p) (marks_rates.0 p q)) at_q
 
-    pub appended : (eta : StoredEta) → eta.p ≡ p → eta.q ≡ q → eta.pivot ≡ value_at d p → eta.entries.items ≡ entries_to marks (value_at d) (length marks) → length etas < 4294967294
-        → IsFileOf a (etas ++ (eta ∷ [])) (exchanged marks p q)
-    appended eta is_p is_q is_pivot are_entries few = record {
+    pub appended : (eta : StoredEta) → eta.p ≡ p → eta.q ≡ q → eta.pivot ≡ value_at d p → eta.entries.items ≡ entries_to marks (value_at d) (length marks)
+        → IfSome eta.whole (IsWholeOf eta.pivot eta.entries.items) → length etas < 4294967294 → IsFileOf a (etas ++ (eta ∷ [])) (exchanged marks p q)
+    appended eta is_p is_q is_pivot are_entries are_whole few = record {
       lawful = file.lawful;
       are_marks =
           ap (λ m. exchanged m p q) file.are_marks ∙ ap₂ (λ i j. exchanged (after (row_basics a) etas) i j) (sym is_p) (sym is_q) ∙ sym (after-append (row_basics a) etas eta);
-      passed = Passed-append a (row_basics a) etas eta file.passed (subst (λ m. IsEta a m eta) file.are_marks (new_eta eta is_p is_q is_pivot are_entries));
+      passed = Passed-append a (row_basics a) etas eta file.passed (subst (λ m. IsEta a m eta) file.are_marks (new_eta eta is_p is_q is_pivot are_entries are_whole));
       few = let more = length-append etas (eta ∷ []) in omega (arith, more, few);
     }
 
@@ -269,3 +294,14 @@ column_to_exchange a b ways p q e h =
 -- a direction of the enterer is not 0 at the leaver
 pub pivot_apart : (a : Matrix) (b : Basics) → IsNonsingular a b → (p q : ℕ) → IsBasic a b p → (d : List ℚ) → IsDirectionOf a b q (value_at d) → HasPivot a b p q → value_at d p ≢ zero_ℚ
 pivot_apart a b one p q leaves d direction pivot none = pivot.2 (one_direction a b q pivot.0 (value_at d) one pivot.1 direction p leaves.0 ∙ none)
+
+-- an eta that has whole numbers
+pub lent_scaled : (etas : List StoredEta) (k : ℕ) (eta : StoredEta) (w : WholeEta) → k < length etas → eta ≡ get_or etas k eta → IsWholeOf eta.pivot eta.entries.items w → IsLentScaled etas k w.scale w.pivot w.entries.items
+lent_scaled etas k eta w below is h = record {
+  apart = h.apart;
+  is_pivot = λ d. h.is_pivot ∙ ap (λ (x : StoredEta). x.pivot *ℚ w.scale) (its d);
+  are_entries = λ d. h.are_entries ∙ ap (λ (x : StoredEta). map (scaled w.scale) x.entries.items) (its d);
+}
+  where
+    its : (d : StoredEta) → eta ≡ get_or etas k d
+    its d = is ∙ get_or_default etas k eta d below

@@ -8,3 +8,4 @@ pub mod FileLaws
 pub mod Marks
 pub mod Counts
 pub mod ColumnLaws
+pub mod WholeSteps

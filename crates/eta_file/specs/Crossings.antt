@@ -2,6 +2,7 @@
 --     IsWithinPlaces n eta         the eta speaks of the first n variables, and its pivot is not 0
 --     IsSubtracted p u es old new  each value but that of p, less u times the rate there
 --     IsCrossed eta old new        what the eta makes of a direction
+--     IsExchanged p q c w old new  the numbers, less c times those of an eta; the opposite of c times its scale at q, and 0 at p
 --     IsScaled p u es new          u times the rate, at each variable but p
 --     IsLeaving eta new            the direction of the leaver after the eta
 --     IsColumnFilled c j new       the numbers of a column on its rows, and 1 at j
@@ -14,6 +15,7 @@ use Rattle.lp_definitions.specs.declared.Entry.{Entry}
 use Rattle.eta_file.specs.Entries.{sum_rate, IsEntryWithin}
 use Rattle.eta_file.specs.declared.eta.EtaEntry.{EtaEntry}
 use Rattle.eta_file.specs.declared.eta.StoredEta.{StoredEta}
+use Rattle.eta_file.specs.declared.eta.WholeEta.{WholeEta}
 
 pub record IsWithinPlaces (n : ℕ) (eta : StoredEta) : Type 0 where
   pub p_low : 1 ≤ eta.p
@@ -32,6 +34,11 @@ pub data IsCrossed (eta : StoredEta) (old new : List ℚ) : Type 0 where
       value_at new eta.q ≡ neg_ℚ (value_at old eta.p /ℚ eta.pivot) →
       ((k : ℕ) → 1 ≤ k → k ≤ length old → k ≢ eta.p → k ≢ eta.q → value_at new k ≡ value_at old k -ℚ (value_at old eta.p /ℚ eta.pivot) *ℚ sum_rate eta.entries.items k) →
       IsCrossed eta old new
+
+pub record IsExchanged (p q : ℕ) (c : ℚ) (w : WholeEta) (old new : List ℚ) : Type 0 where
+  pub at_p : value_at new p ≡ (if nat_eq p q then neg_ℚ (c *ℚ w.scale) else zero_ℚ)
+  pub at_q : value_at new q ≡ neg_ℚ (c *ℚ w.scale)
+  pub each : (k : ℕ) → 1 ≤ k → k ≤ length old → k ≢ p → k ≢ q → value_at new k ≡ value_at old k -ℚ c *ℚ sum_rate w.entries.items k
 
 pub record IsScaled (p : ℕ) (u : ℚ) (es : List EtaEntry) (new : List ℚ) : Type 0 where
   pub each : (k : ℕ) → 1 ≤ k → k ≤ length new → k ≢ p → value_at new k ≡ u *ℚ sum_rate es k

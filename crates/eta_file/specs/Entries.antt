@@ -5,11 +5,14 @@
 --     AreApart es                  no two entries are at one variable
 --     IsRowWithin j e              the number stands on a row below variable j
 --     AreDistinctRows c            no two numbers stand on one row
-use Rattle.std.specs.Prelude.{◌≡◌, ℕ, ◌+◌, ◌<◌, ◌≤◌, List, [], ◌∷◌, length, map, take, slice_index_or, nat_eq, if◌then◌else◌}
+--     scaled s e                   the entry, its rate times s
+--     IsWholeOf pivot es w         the pivot and the entries, each times the scale of w
+use Rattle.std.specs.Prelude.{◌≡◌, ◌≢◌, ℕ, ◌+◌, ◌<◌, ◌≤◌, List, [], ◌∷◌, length, map, take, slice_index_or, nat_eq, if◌then◌else◌}
 use Rattle.std.specs.List.{IsDistinct}
-use Rattle.exact_values.specs.Rational.{ℚ, zero_ℚ, ◌+ℚ◌}
+use Rattle.exact_values.specs.Rational.{ℚ, zero_ℚ, ◌+ℚ◌, ◌*ℚ◌}
 use Rattle.lp_definitions.specs.declared.Entry.{Entry}
 use Rattle.eta_file.specs.declared.eta.EtaEntry.{EtaEntry}
+use Rattle.eta_file.specs.declared.eta.WholeEta.{WholeEta}
 
 abbrev pub rate_where : EtaEntry → ℕ → ℚ
 rate_where e k = if nat_eq e.i k then e.rate else zero_ℚ
@@ -33,3 +36,11 @@ IsRowWithin j e = (1 ≤ e.row) × (e.row < j)
 
 abbrev pub AreDistinctRows : List Entry → Type 0
 AreDistinctRows c = IsDistinct nat_eq (map (λ (e : Entry). e.row) c)
+
+abbrev pub scaled : ℚ → EtaEntry → EtaEntry
+scaled s e = record { i = e.i; rate = e.rate *ℚ s }
+
+pub record IsWholeOf (pivot : ℚ) (es : List EtaEntry) (w : WholeEta) : Type 0 where
+  pub apart : w.scale ≢ zero_ℚ
+  pub is_pivot : w.pivot ≡ pivot *ℚ w.scale
+  pub are_entries : w.entries.items ≡ map (scaled w.scale) es

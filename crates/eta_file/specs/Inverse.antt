@@ -1,17 +1,18 @@
 -- What an eta file stands for.
 --     Inverse                      a matrix, a set of basics, and the exchanges that led to it from the rows
 --     ways_of f                    the sets of basics that the file has passed through: number w is the one after the first w - 1 etas
+--     IsDirectionAfter f n j xs    xs is the direction of j at the set after the first n etas
 --     IsRateAt f i k v            v is the rate of i at k, and 0 where k is basic
 --     IsColumnStop f stop          the stop is an overflow that the column of a nonbasic may come to
 --     IsAppended f p q g           g has one eta more, of the exchange of p for q
-use Rattle.std.specs.Prelude.{◌≡◌, ℕ, true, false, List, [], ◌∷◌, ◌++◌}
+use Rattle.std.specs.Prelude.{◌≡◌, ℕ, true, false, List, [], ◌∷◌, ◌++◌, take}
 use Rattle.exact_values.specs.Rational.{ℚ, zero_ℚ}
-use Rattle.lp_definitions.specs.LinearProgram.{Matrix, Vector}
+use Rattle.lp_definitions.specs.LinearProgram.{Matrix, Vector, value_at}
 use Rattle.lp_definitions.specs.Basis.{Basics, is_in, IsDirectionOf, exchanged, row_basics}
 use Rattle.lp_definitions.specs.RatesEvidence.{ExchangeRefused}
 use Rattle.lp_model.specs.RatesCalls.{IfOverflow}
 use Rattle.lp_model.specs.declared.Stop.{Stop}
-use Rattle.eta_file.specs.Prefixes.{prefixes}
+use Rattle.eta_file.specs.Prefixes.{prefixes, after}
 use Rattle.eta_file.specs.declared.eta.StoredEta.{StoredEta}
 
 pub record Inverse : Type 0 where
@@ -21,6 +22,9 @@ pub record Inverse : Type 0 where
 
 abbrev pub ways_of : Inverse → List Basics
 ways_of f = prefixes (row_basics f.matrix) f.etas
+
+abbrev pub IsDirectionAfter : Inverse → ℕ → ℕ → List ℚ → Type 0
+IsDirectionAfter f n j xs = IsDirectionOf f.matrix (after (row_basics f.matrix) (take n f.etas)) j (value_at xs)
 
 pub record IsAppended (f : Inverse) (p q : ℕ) (g : Inverse) : Type 0 where
   pub same_matrix : g.matrix ≡ f.matrix

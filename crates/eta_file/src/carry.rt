@@ -240,7 +240,7 @@ pub fn cross<L: Ledger>(
 }
 
 /// Fills with 0.
-fn clear(out: &mut [Frac])
+pub fn clear(out: &mut [Frac])
     ensures { (k : ℕ) → slice_index_or out.new k zero_ℚ ≡ zero_ℚ }
 {
     for place in out.iter_mut() {

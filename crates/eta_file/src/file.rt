@@ -1,6 +1,6 @@
 //! The eta file.
 
-ghost use Rattle.std.specs.Prelude.{◌≡◌, ◌≢◌, ℕ, ◌+◌, ◌-◌, ◌*◌, ◌<◌, ◌≤◌, [], ◌∷◌, length, take, not, ◌&&◌, IfOk, IfErr, OnOk, OnErr, slice_index_or};
+ghost use Rattle.std.specs.Prelude.{◌≡◌, ◌≢◌, ℕ, ◌+◌, ◌-◌, ◌*◌, ◌<◌, ◌≤◌, [], ◌∷◌, length, take, not, ◌&&◌, IfOk, IfSome, IfErr, OnOk, OnErr, slice_index_or};
 ghost use Rattle.exact_values.specs.Rational.{zero_ℚ};
 ghost use Rattle.exact_values.specs.Tests.{eq_ℚ};
 ghost use Rattle.lp_definitions.specs.LinearProgram.{IsMatrix, IsVariable, IsColumn, column, size, value_at};
@@ -9,19 +9,22 @@ ghost use Rattle.lp_definitions.specs.Waypoints.{waypoint};
 ghost use Rattle.lp_definitions.specs.RatesEvidence.{ExchangeRefused};
 ghost use Rattle.lp_model.specs.RatesCalls.{HasPivot, ColumnOverflow, ExchangeOverflow};
 ghost use Rattle.eta_file.specs.Crossings.{NoneLater, LeftAt};
-ghost use Rattle.eta_file.specs.Prefixes.{Passed, entries_to, IsLent, IsExchangeOf, basic_columns, after, entry_count};
+ghost use Rattle.eta_file.specs.Prefixes.{Passed, entries_to, IsLent, IsLentScaled, IsExchangeOf, basic_columns, after, entry_count};
 ghost use Rattle.eta_file.specs.declared.eta.StoredEta.{StoredEta};
-ghost use Rattle.eta_file.specs.Inverse.{ways_of, IsAppended};
+ghost use Rattle.eta_file.specs.Inverse.{ways_of, IsAppended, IsDirectionAfter};
+ghost use Rattle.whole_vectors.specs.Quotients.{StandFor};
 
 use crate::carry::{cross, fill_column, last_left, leave};
-use crate::eta::{Eta, EtaEntry, StoredEta};
+use crate::eta::{Eta, EtaEntry, ScaledEta, StoredEta};
 use crate::steps::Steps;
+use crate::whole::{begin_whole, cross_whole, leave_whole, whole_eta};
 use frac128::Frac;
 use lp_model::{Entry, Evidence, Lp, NoMemory, Stop};
 use std::alloc::Global;
 use std::marker::{Brand, Model};
 use std::rc::Rc;
 use std::sync::ledger::{Blank, Ledger};
+use whole_vectors::divide;
 
 /// The most etas that a file holds.
 const MOST_ETAS: usize = 4_294_967_294;
@@ -285,6 +288,60 @@ impl EtaFile {
         self.carry(j, out, &mut steps)
     }
 
+    /// The same as `begin`, over the denominator that is given. It gives up where a number doesn't fit.
+    fn begin_at(&self, first: usize, j: u32, out: &mut [Frac]) -> Option<Frac>
+        requires nonbasic { IsNonbasic self.now.matrix self.now.basics j }
+        requires places { length out.old ≡ size self.now.matrix }
+        requires within { first ≤ length self.now.etas }
+        requires none_later { NoneLater self.now.etas j first }
+        requires left { LeftAt self.now.etas j first }
+        ensures { IfSome result (λ d. StandFor (IsDirectionAfter self.now first j) d out.new) }
+    {
+        if first == 0 {
+            begin_whole(self.numbers(j - self.rows), j, out)
+        } else {
+            let eta = &self.etas[first - 1];
+            leave_whole(eta, out)
+        }
+    }
+
+    /// Carries the numbers of the direction of `j` over the eta at this place, and gives their denominator after it.
+    fn cross_whole_at(
+        &self,
+        place: usize,
+        j: u32,
+        denominator: Frac,
+        out: &mut [Frac],
+    ) -> Option<Frac>
+        requires within { place < length self.now.etas }
+        requires before { IsNonbasic self.now.matrix (after (row_basics self.now.matrix)
+            (take place self.now.etas)) j }
+        requires then { IsNonbasic self.now.matrix (after (row_basics self.now.matrix)
+            (take (place + 1) self.now.etas)) j }
+        requires places { length out.old ≡ size self.now.matrix }
+        requires direction { StandFor (IsDirectionAfter self.now place j) denominator out.old }
+        ensures { IfSome result (λ d. StandFor (IsDirectionAfter self.now (place + 1) j)
+            d out.new) }
+    {
+        let eta = &self.etas[place];
+        cross_whole(eta, denominator, out)
+    }
+
+    /// Fills `out` with the direction of the nonbasic `j`, carried in numbers over one denominator. It gives up where one doesn't fit.
+    fn carried_whole(&self, j: u32, out: &mut [Frac]) -> Option<()>
+        requires nonbasic { IsNonbasic self.now.matrix self.now.basics j }
+        requires places { length out.old ≡ size self.now.matrix }
+        ensures { IfSome result (λ _. IsDirectionOf self.now.matrix self.now.basics j
+            (value_at out.new)) }
+    {
+        let first = last_left(&self.etas, j);
+        let mut denominator = self.begin_at(first, j, out)?;
+        for place in first..self.etas.len() {
+            denominator = self.cross_whole_at(place, j, denominator, out)?;
+        }
+        divide(out, denominator)
+    }
+
     /// Fills `out` with the direction of the nonbasic `j`, and counts nothing.
     pub fn column(&self, j: u32, out: &mut [Frac]) -> Result<(), Stop>
         requires nonbasic { IsNonbasic self.now.matrix self.now.basics j }
@@ -295,6 +352,9 @@ impl EtaFile {
             (ways_of self.now) }
         ensures never { IfErr result (λ stop. stop ≢ Stop.NoMemory) }
     {
+        if self.carried_whole(j, out).is_some() {
+            return Ok(());
+        }
         self.carry_by::<Brand>(j, out, Blank::new(1))
     }
 
@@ -315,11 +375,13 @@ impl EtaFile {
         }
         let entries = entries_at(self.alloc, direction, &self.marks)?;
         let pivot = direction[p as usize - 1];
+        let whole = whole_eta(self.alloc, pivot, &entries)?;
         let eta = StoredEta {
             p,
             q,
             pivot,
             entries,
+            whole,
         };
         self.etas.push(eta).map_err(|_| NoMemory)?;
         self.marks[q as usize - 1] = true;
@@ -407,6 +469,24 @@ impl EtaFile {
             q: eta.q,
             entries: &eta.entries,
         }
+    }
+
+    /// The numbers of the k-th eta as whole numbers, where they fit.
+    pub fn whole(&self, k: u32) -> Option<ScaledEta<'_>>
+        requires low { 1 ≤ k }
+        requires high { k ≤ length self.now.etas }
+        ensures { IfSome result (λ lent. IsLentScaled self.now.etas (k - 1) lent.scale lent.pivot
+            lent.entries.now) }
+    {
+        let eta = &self.etas[k as usize - 1];
+        let Some(whole) = &eta.whole else {
+            return None;
+        };
+        Some(ScaledEta {
+            scale: whole.scale,
+            pivot: whole.pivot,
+            entries: &whole.entries,
+        })
     }
 
     /// Marks the basics of a waypoint, by its number from 1; 0 is the present set.

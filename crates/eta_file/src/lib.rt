@@ -6,8 +6,9 @@ mod carry;
 mod eta;
 mod file;
 mod steps;
+mod whole;
 
 pub use by_columns::{ByColumns, rate_by_column};
-pub use eta::{Eta, EtaEntry, StoredEta};
+pub use eta::{Eta, EtaEntry, ScaledEta, StoredEta, WholeEta};
 pub use file::EtaFile;
 pub use steps::Steps;

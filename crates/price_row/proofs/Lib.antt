@@ -3,3 +3,4 @@ pub mod OtherBasics
 pub mod CarriedBack
 pub mod RowSteps
 pub mod WantedSteps
+pub mod WholeRows

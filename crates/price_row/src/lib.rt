@@ -10,6 +10,7 @@ ghost use Rattle.eta_file.specs.Inverse.{ways_of, IsColumnStop};
 ghost use Rattle.price_row.specs.Known.{IsKnown, HasMultipliers, IsFilledFrom, IsRateOf, IsUnit, IsMultiplierAt, IsMultiplierOf};
 
 mod sums;
+mod whole;
 
 use eta_file::{EtaFile, rate_by_column};
 use frac128::{Frac, Refused};
@@ -17,6 +18,7 @@ use lp_model::{Lp, NoMemory, Stop, Wanted};
 use std::alloc::Global;
 use std::marker::Model;
 use sums::{sum_of_column, sum_over};
+use whole::{first_by_whole, row_by_whole};
 
 /// Rows of an inverse that is kept as an eta file, with room for the multipliers of the rows and for a direction.
 #[derive(Drop)]
@@ -50,9 +52,10 @@ impl PriceRow {
     }
 
     /// Fills `out`, which has a place for each variable, with the rates of the basic `i`: its rate at each nonbasic, and 0 at each
-    /// basic. The row is carried backwards through the file, and multiplied with the columns of the deck. Where an operation is
-    /// refused on the way back, the multipliers of the rows are had by their directions; where one is refused at a column, its rate
-    /// is had by its direction. It takes no memory.
+    /// basic. The row is carried backwards through the file, and multiplied with the columns of the deck: in numbers over one
+    /// denominator, or where one of these doesn't fit in fractions. Where an operation on fractions is refused on the way back, the
+    /// multipliers of the rows are had by their directions; where one is refused at a column, its rate is had by its direction. It
+    /// takes no memory.
     pub fn row(&mut self, file: &EtaFile, i: u32, out: &mut [Frac]) -> Result<(), Stop>
         requires basic { IsBasic file.now.matrix file.now.basics i }
         requires places { length out.old ≡ size file.now.matrix }
@@ -64,6 +67,9 @@ impl PriceRow {
         ensures same { self.new ≡ self.old }
     {
         let _size = file.size();
+        if row_by_whole(file, i, &mut self.multipliers, out).is_some() {
+            return Ok(());
+        }
         multipliers(file, i, out, &mut self.room)?;
         fill(file, i, out, &mut self.room)
     }
@@ -91,6 +97,10 @@ impl PriceRow {
         ensures same { self.new ≡ self.old }
     {
         let _size = file.size();
+        let quick = first_by_whole(file, i, &mut self.multipliers, wanted, up, out);
+        if let Some(found) = quick {
+            return Ok(found);
+        }
         multipliers(file, i, &mut self.multipliers, &mut self.room)?;
         fill_to_wanted(file, i, &self.multipliers, wanted, up, out, &mut self.room)
     }

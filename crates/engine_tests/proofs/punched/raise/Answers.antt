@@ -1,5 +1,5 @@
 -- A nonbasic that goes to another limit leaves a basis.
-use Rattle.std.proofs.Common.{rules, ◌≡◌, ◌≢◌, arith}
+use Rattle.std.proofs.Common.{rules, ◌≢◌, arith}
 use Rattle.std.specs.Prelude.{IsSome}
 use Rattle.lp_definitions.specs.LinearProgram.{IsVariable, upper_of}
 use Rattle.lp_definitions.specs.Basis.{status_of}

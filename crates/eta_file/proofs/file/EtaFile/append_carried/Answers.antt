@@ -1,7 +1,8 @@
-use Rattle.std.proofs.Common.{rules, ◌≡◌, ◌<◌, ◌-◌, ◌∙◌, ◌++◌, ◌∷◌, [], length, arith, sym, ap, refl}
+use Rattle.std.proofs.Common.{rules, ◌≡◌, ◌<◌, ◌-◌, ◌∙◌, ◌++◌, ◌∷◌, [], length, arith, sym, ap, refl, IfSome}
 use Rattle.lp_definitions.specs.LinearProgram.{size, value_at}
 use Rattle.lp_definitions.specs.Basis.{IsBasic, IsNonbasic}
 use Rattle.eta_file.specs.declared.eta.StoredEta.{StoredEta}
+use Rattle.eta_file.specs.Entries.{IsWholeOf}
 use Rattle.eta_file.specs.Prefixes.{entries_to}
 use Rattle.eta_file.specs.File.{inverse_of}
 use Rattle.eta_file.proofs.FileLaws.{marks_counted, appended, added}
@@ -33,17 +34,18 @@ invariant_of-self-2 c =
     let f = inverse_of c.self.inside in
     let leaves : IsBasic f.matrix f.basics c.args.p = rw (← c.self.view_is) at c.requires.leaves in
     let places : length c.args.direction.now ≡ size f.matrix = rw (← c.self.view_is) at c.requires.places in
-    let eta : StoredEta = record { p = c.args.p; q = c.args.q; pivot = c.index-direction-p.result; entries = c.in_ok-entries.entries } in
+    let eta : StoredEta = record { p = c.args.p; q = c.args.q; pivot = c.index-direction-p.result; entries = c.in_ok-entries.entries; whole = c.in_ok-whole.whole } in
     let pushed : c.push.new.self.items ≡ f.etas ++ (eta ∷ []) = search rules in
     let entries : c.in_ok-entries.entries.items ≡ entries_to f.basics (value_at c.args.direction.now) (length f.basics) = rw c.deref.ensures.value at c.in_ok-entries.ensures in
+    let whole : IfSome c.in_ok-whole.whole (IsWholeOf c.index-direction-p.result c.in_ok-entries.entries.items) = rw c.deref-2.ensures.value at c.in_ok-whole.ensures in
     let room : length f.etas < 4294967294 = search rules in
     rw pushed
     (appended f.matrix f.etas f.basics c.self.invariant c.args.p c.args.q leaves (rw (← c.self.view_is) at c.requires.enters) c.args.direction.now (rw (← c.self.view_is) at c.requires.direction) c.requires.pivot
-    eta refl refl (value_at_place c.args.direction.now c.args.p c.index-direction-p.result leaves.0.0 (omega (arith, leaves.0.1, places)) c.index-direction-p.is) entries room)
+    eta refl refl (value_at_place c.args.direction.now c.args.p c.index-direction-p.result leaves.0.0 (omega (arith, leaves.0.1, places)) c.index-direction-p.is) entries whole room)
 
 pub returns-clause-ok : goal.returns-clause-ok
 returns-clause-ok c =
     let f = inverse_of c.self.inside in
-    let eta : StoredEta = record { p = c.args.p; q = c.args.q; pivot = c.index-direction-p.result; entries = c.in_ok-entries.entries } in
+    let eta : StoredEta = record { p = c.args.p; q = c.args.q; pivot = c.index-direction-p.result; entries = c.in_ok-entries.entries; whole = c.in_ok-whole.whole } in
     let pushed : c.push.new.self.items ≡ f.etas ++ (eta ∷ []) = search rules in
     rw (← c.self.view_is) (added f.matrix f.etas f.basics c.self.invariant c.args.p c.args.q c.push.new.self.items eta pushed refl refl)

@@ -1,0 +1,33 @@
+use Rattle.std.proofs.Common.{◌+◌, ◌∙◌, length}
+use Rattle.whole_vectors.specs.Quotients.{quotients, StandFor}
+use Rattle.whole_vectors.proofs.Over.{length-quotients, stand_map}
+use Rattle.eta_file.specs.Crossings.{IsCrossed}
+use Rattle.eta_file.specs.Inverse.{IsDirectionAfter}
+use Rattle.eta_file.specs.File.{inverse_of}
+use Rattle.eta_file.proofs.FileLaws.{some_map, within_places, whole_is, crossed}
+use Rattle.eta_file.proofs.file.EtaFile.cross_whole_at.Goals as goal
+
+pub cross_whole-requires-clause-places : goal.cross_whole-requires-clause-places
+cross_whole-requires-clause-places c =
+    let f = inverse_of c.self.inside in
+    within_places f.matrix f.etas f.basics c.self.invariant c.args.place c.index-eta.result.now (rw (← c.self.view_is) at c.requires.within) c.index-eta.ensures
+    (length c.args.out.now) (rw (← c.self.view_is) at c.requires.places)
+
+pub cross_whole-requires-clause-whole : goal.cross_whole-requires-clause-whole
+cross_whole-requires-clause-whole c =
+    let f = inverse_of c.self.inside in
+    whole_is f.matrix f.etas f.basics c.self.invariant c.args.place c.index-eta.result.now (rw (← c.self.view_is) at c.requires.within) c.index-eta.ensures
+
+pub returns : goal.returns
+returns c =
+    let f = inverse_of c.self.inside in
+    let direction : StandFor (IsDirectionAfter f c.args.place c.args.j) c.args.denominator c.args.out.now = rw (← c.self.view_is) at c.requires.direction in
+    rw (← c.self.view_is)
+    (some_map c.cross_whole.result (λ d. StandFor (IsCrossed c.index-eta.result.now (quotients c.args.denominator c.args.out.now)) d c.cross_whole.new.out)
+    (λ d. StandFor (IsDirectionAfter f (c.args.place + 1) c.args.j) d c.cross_whole.new.out)
+    (λ d h.
+    stand_map (IsCrossed c.index-eta.result.now (quotients c.args.denominator c.args.out.now)) (IsDirectionAfter f (c.args.place + 1) c.args.j) d c.cross_whole.new.out
+    (crossed f.matrix f.etas f.basics c.self.invariant c.args.place c.index-eta.result.now (rw (← c.self.view_is) at c.requires.within) c.index-eta.ensures
+    c.args.j (rw (← c.self.view_is) at c.requires.before) (rw (← c.self.view_is) at c.requires.then) (quotients c.args.denominator c.args.out.now)
+    (length-quotients c.args.denominator c.args.out.now ∙ (rw (← c.self.view_is) at c.requires.places)) direction.holds (quotients d c.cross_whole.new.out)) h)
+    c.cross_whole.ensures)

@@ -1,0 +1,26 @@
+use Rattle.std.proofs.Common.{◌≢◌, ◌-◌, ◌∙◌, sym, ap, length, arith, subst}
+use Rattle.exact_values.specs.Rational.{one_ℚ, ◌*ℚ◌}
+use Rattle.exact_values.proofs.Ring_laws.{mul-zero, one-mul}
+use Rattle.eta_file.specs.declared.eta.EtaEntry.{EtaEntry}
+use Rattle.eta_file.specs.Entries.{IsEntryWithin}
+use Rattle.eta_file.proofs.CarrySteps.{scaled_more, sum_next_other}
+use Rattle.eta_file.proofs.whole.place_entries.Goals as goal
+use Rattle.eta_file.proofs.whole.place_entries.Goals.{then-entry-p, else-entry-p}
+
+pub loop-entry-init : goal.loop-entry-init
+loop-entry-init c k low high other = c.requires.zero (k - 1) ∙ sym (mul-zero one_ℚ)
+
+pub loop-entry-preserved : goal.loop-entry-preserved
+loop-entry-preserved c =
+    let within : IsEntryWithin (length c.args.out.now) c.entry-item.result =
+    subst (λ (x : EtaEntry). IsEntryWithin (length c.args.out.now) x) (sym c.entry-item.is) (c.requires.within c.loop-entry.entry-index c.entry-item.result c.loop-entry-test.true) in
+    let inside : IsEntryWithin (length c.loop-entry.out) c.entry-item.result = (within.0, omega (arith, within.1, c.loop-entry.auto.out)) in
+    elim c.if-entry-p.branch [
+      | then-entry-p w ↦ rw w.out-is (λ k low high other.
+          scaled_more c.args.entries.now c.loop-entry.entry-index c.entry-item.result c.loop-entry-test.true c.entry-item.is c.loop-entry.out inside
+          one_ℚ c.entry-item.result.rate k low (sym (one-mul c.entry-item.result.rate)) c.requires.apart (c.loop-entry.invariant k low high other))
+      | else-entry-p w ↦ rw w.out-is (λ k low high other.
+          let apart : c.entry-item.result.i ≢ k = λ e. other (sym e ∙ w.if-entry-p.false) in
+          c.loop-entry.invariant k low high other
+          ∙ ap (λ s. one_ℚ *ℚ s) (sym (sum_next_other c.args.entries.now c.loop-entry.entry-index c.entry-item.result c.loop-entry-test.true c.entry-item.is k apart)))
+    ]

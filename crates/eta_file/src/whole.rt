@@ -1,0 +1,189 @@
+//! Columns that are carried in numbers over one denominator. Where a number doesn't fit, the answer is None, and the column has to be
+//! carried in fractions.
+
+ghost use Rattle.std.specs.Prelude.{◌≡◌, ◌≢◌, ◌≤◌, ℕ, length, map, All, IfOk, IfSome, slice_index_or};
+ghost use Rattle.exact_values.specs.Rational.{zero_ℚ, one_ℚ};
+ghost use Rattle.whole_vectors.specs.Quotients.{quotients, StandFor};
+ghost use Rattle.eta_file.specs.Entries.{IsEntryWithin, AreApart, IsRowWithin, AreDistinctRows, scaled, IsWholeOf};
+ghost use Rattle.eta_file.specs.Crossings.{IsWithinPlaces, IsSubtracted, IsCrossed, IsScaled, IsLeaving, IsColumnFilled, IsExchanged};
+
+use crate::carry::{clear, fill_column};
+use crate::eta::{EtaEntry, StoredEta, WholeEta};
+use frac128::Frac;
+use lp_model::{Entry, NoMemory};
+use std::alloc::Global;
+use whole_vectors::{common_multiple, less_product, multiply, product, quotient, reduce, terms};
+
+/// 1 or -1, with which the pivot is positive.
+fn sign_of_pivot(pivot: Frac) -> Frac
+    ensures { result ≢ zero_ℚ }
+{
+    if pivot.sign() < 0 {
+        Frac::whole(-1)
+    } else {
+        Frac::whole(1)
+    }
+}
+
+/// A common multiple of the denominators of the entries, with the sign of the pivot.
+fn common_scale(pivot: Frac, entries: &[EtaEntry]) -> Option<Frac>
+    ensures { IfSome result (λ scale. scale ≢ zero_ℚ) }
+{
+    let mut scale = sign_of_pivot(pivot);
+    for entry in entries {
+        scale = common_multiple(scale, entry.rate)?;
+    }
+    Some(scale)
+}
+
+/// The entries, each times a number.
+fn scaled_entries(
+    alloc: Global,
+    entries: &[EtaEntry],
+    scale: Frac,
+) -> Result<Option<Vec<EtaEntry>>, NoMemory>
+    ensures { IfOk result (λ made. IfSome made (λ list. list.items ≡ map (scaled scale)
+        entries.now)) }
+{
+    let mut list = Vec::new(alloc);
+    for entry in entries {
+        let Some(rate) = product(entry.rate, scale) else {
+            return Ok(None);
+        };
+        list.push(EtaEntry { i: entry.i, rate })
+            .map_err(|_| NoMemory)?;
+    }
+    Ok(Some(list))
+}
+
+/// The pivot and the entries of an eta as whole numbers, where they fit.
+pub fn whole_eta(
+    alloc: Global,
+    pivot: Frac,
+    entries: &[EtaEntry],
+) -> Result<Option<WholeEta>, NoMemory>
+    ensures { IfOk result (λ made. IfSome made (IsWholeOf pivot entries.now)) }
+{
+    let Some(scale) = common_scale(pivot, entries) else {
+        return Ok(None);
+    };
+    let Some(pivot) = product(pivot, scale) else {
+        return Ok(None);
+    };
+    match scaled_entries(alloc, entries, scale)? {
+        Some(entries) => Ok(Some(WholeEta {
+            scale,
+            pivot,
+            entries,
+        })),
+        None => Ok(None),
+    }
+}
+
+/// A common multiple of the denominators of a column.
+fn column_scale(column: &[Entry]) -> Option<Frac>
+    ensures { IfSome result (λ scale. scale ≢ zero_ℚ) }
+{
+    let mut scale = Frac::whole(1);
+    for entry in column {
+        scale = common_multiple(scale, entry.value)?;
+    }
+    Some(scale)
+}
+
+/// The direction that the column `j`, whose numbers these are, has where the rows are basic, over the denominator that is given.
+pub fn begin_whole(column: &[Entry], j: u32, out: &mut [Frac]) -> Option<Frac>
+    requires rows { All (IsRowWithin j) column.now }
+    requires low { 1 ≤ j }
+    requires high { j ≤ length out.old }
+    requires distinct { AreDistinctRows column.now }
+    ensures { IfSome result (λ d. StandFor (IsColumnFilled column.now j) d out.new) }
+{
+    let scale = column_scale(column)?;
+    fill_column(column, j, out);
+    multiply(out, scale)?;
+    Some(scale)
+}
+
+/// Takes from each entry but the leaver's its part along the enterer's direction.
+fn subtract_whole(entries: &[EtaEntry], p: u32, multiple: Frac, out: &mut [Frac]) -> Option<()>
+    requires { All (IsEntryWithin (length out.old)) entries.now }
+    ensures { IfSome result (λ _. IsSubtracted p multiple entries.now out.old out.new) }
+{
+    for entry in entries {
+        if entry.i != p {
+            let place = entry.i as usize - 1;
+            out[place] = less_product(out[place], multiple, entry.rate)?;
+        }
+    }
+    Some(())
+}
+
+/// What the exchange of `p` for `q` makes of the numbers, where this multiple of the eta is taken from them.
+fn exchange_whole(whole: &WholeEta, p: u32, q: u32, multiple: Frac, out: &mut [Frac]) -> Option<()>
+    requires p_low { 1 ≤ p }
+    requires p_high { p ≤ length out.old }
+    requires q_low { 1 ≤ q }
+    requires q_high { q ≤ length out.old }
+    requires entries { All (IsEntryWithin (length out.old)) whole.now.entries.items }
+    ensures { IfSome result (λ _. IsExchanged p q multiple whole.now out.old out.new) }
+{
+    subtract_whole(&whole.entries, p, multiple, out)?;
+    let at_q = product(multiple, whole.scale)?;
+    out[p as usize - 1] = Frac::whole(0);
+    out[q as usize - 1] = at_q.neg();
+    Some(())
+}
+
+/// Carries the numbers of a direction over an eta, and gives their denominator after it.
+pub fn cross_whole(eta: &StoredEta, denominator: Frac, out: &mut [Frac]) -> Option<Frac>
+    requires places { IsWithinPlaces (length out.old) eta.now }
+    requires whole { IfSome eta.now.whole (IsWholeOf eta.now.pivot eta.now.entries.items) }
+    requires apart { denominator ≢ zero_ℚ }
+    ensures { IfSome result (λ d. StandFor (IsCrossed eta.now (quotients denominator out.old))
+        d out.new) }
+{
+    if out[eta.p as usize - 1].is_zero() {
+        return Some(denominator);
+    }
+    let Some(whole) = &eta.whole else {
+        return None;
+    };
+    let denominator = reduce(out, denominator)?;
+    let ratio = quotient(out[eta.p as usize - 1], whole.pivot)?;
+    let (multiple, by) = terms(ratio);
+    multiply(out, by)?;
+    exchange_whole(whole, eta.p, eta.q, multiple, out)?;
+    product(denominator, by)
+}
+
+/// Puts the rates of the entries but the leaver's at their places.
+fn place_entries(entries: &[EtaEntry], p: u32, out: &mut [Frac])
+    requires within { All (IsEntryWithin (length out.old)) entries.now }
+    requires apart { AreApart entries.now }
+    requires zero { (k : ℕ) → slice_index_or out.old k zero_ℚ ≡ zero_ℚ }
+    ensures { IsScaled p one_ℚ entries.now out.new }
+{
+    for entry in entries {
+        if entry.i != p {
+            out[entry.i as usize - 1] = entry.rate;
+        }
+    }
+}
+
+/// The direction that the leaver of an eta has after it, over the denominator that is given.
+pub fn leave_whole(eta: &StoredEta, out: &mut [Frac]) -> Option<Frac>
+    requires within { IsWithinPlaces (length out.old) eta.now }
+    requires apart { AreApart eta.now.entries.items }
+    requires whole { IfSome eta.now.whole (IsWholeOf eta.now.pivot eta.now.entries.items) }
+    ensures { IfSome result (λ d. StandFor (IsLeaving eta.now) d out.new) }
+{
+    let Some(whole) = &eta.whole else {
+        return None;
+    };
+    clear(out);
+    place_entries(&whole.entries, eta.p, out);
+    out[eta.p as usize - 1] = whole.pivot;
+    out[eta.q as usize - 1] = whole.scale;
+    Some(whole.pivot)
+}

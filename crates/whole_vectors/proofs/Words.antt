@@ -1,0 +1,67 @@
+-- Whole numbers of one machine word.
+use Rattle.std.proofs.Common.{◌≡◌, ℕ, ◌*◌, ◌^◌, ◌≤◌, sym, ◌∙◌, ap, ap₂, arith, ℤ, pos, FitsSigned, to_z, of_z}
+use Rattle.std.specs.Int.{w64, w128}
+use Rattle.std.specs.Prelude.{◌+ℤ◌, ◌-ℤ◌, ◌*ℤ◌, neg_ℤ, unsigned_abs}
+use Rattle.std.proofs.lemmas.Int.{ints, unsigned_abs-mul, to_z-of_z}
+use Rattle.std.proofs.lemmas.Nat.{mul-le}
+use Rattle.exact_values.specs.Rational.{ℚ, whole, ◌+ℚ◌, ◌-ℚ◌, ◌*ℚ◌, neg_ℚ}
+use Rattle.exact_values.proofs.Fractions.{is_ratio, same_from_ratio}
+use Rattle.exact_values.proofs.Ring_laws.{whole_ratio, whole-add, whole-mul, whole-neg}
+use Rattle.frac128.specs.Terms.{Fits}
+use Rattle.frac128.proofs.Parts.{read, read_fitting, word_product}
+
+wide : (z : ℤ) → FitsSigned w64 z → FitsSigned w128 z
+wide z h = omega (arith, ints)
+
+word_read : (z : ℤ) → FitsSigned w64 z → read z ≡ z
+word_read z h = to_z-of_z w128 z (wide z h)
+
+word_twice : (z : ℤ) → FitsSigned w64 z → read (to_z w64 (of_z w64 z)) ≡ z
+word_twice z h = ap read (to_z-of_z w64 z h) ∙ word_read z h
+
+module _ (x c e : ℤ) (x_word : FitsSigned w64 x) (c_word : FitsSigned w64 c) (e_word : FitsSigned w64 e) where
+  product_is : read (read (to_z w64 (of_z w64 c)) *ℤ read (to_z w64 (of_z w64 e))) ≡ c *ℤ e
+  product_is =
+      (word_product c e c e (wide c c_word) (wide e e_word) (rw (word_read c c_word) c_word) (rw (word_read e e_word) e_word) (sym (word_read c c_word)) (sym (word_read e e_word))).1
+
+  pub word_rest_is : read (to_z w64 (of_z w64 x)) -ℤ read (read (to_z w64 (of_z w64 c)) *ℤ read (to_z w64 (of_z w64 e))) ≡ x -ℤ c *ℤ e
+  word_rest_is = ap₂ (λ a b. a -ℤ b) (word_twice x x_word) product_is
+
+  word_abs : (z : ℤ) → FitsSigned w64 z → unsigned_abs z ≤ 2 ^ 63
+  word_abs z h = omega (arith, ints)
+
+  pub word_rest_fits : Fits (x -ℤ c *ℤ e)
+  word_rest_fits =
+      let bound : unsigned_abs c * unsigned_abs e ≤ 2 ^ 63 * 2 ^ 63 = mul-le (unsigned_abs c) (unsigned_abs e) (2 ^ 63) (2 ^ 63) (word_abs c c_word) (word_abs e e_word) in
+      let product : unsigned_abs (c *ℤ e) ≤ 2 ^ 63 * 2 ^ 63 = rw (unsigned_abs-mul c e) bound in
+      let first = word_abs x x_word in
+      less x (c *ℤ e) first product
+    where
+      less : (a b : ℤ) → unsigned_abs a ≤ 2 ^ 63 → unsigned_abs b ≤ 2 ^ 63 * 2 ^ 63 → Fits (a -ℤ b)
+      less a b h k = omega (arith, ints)
+
+  pub word_rest_wide : FitsSigned w128 (x -ℤ c *ℤ e)
+  word_rest_wide = at (x -ℤ c *ℤ e) word_rest_fits
+    where
+      at : (z : ℤ) → Fits z → FitsSigned w128 z
+      at z h = omega (arith, ints)
+
+-- a fraction over 1 is its numerator
+pub is_whole : (x : ℚ) → x.denominator ≡ 1 → whole x.numerator ≡ x
+is_whole x one = same_from_ratio (whole_ratio x.numerator) (is_ratio x) (rw one (omega arith))
+
+pub whole_rest : (x c e : ℚ) → x.denominator ≡ 1 → c.denominator ≡ 1 → e.denominator ≡ 1 → whole (x.numerator -ℤ c.numerator *ℤ e.numerator) ≡ x -ℚ c *ℚ e
+whole_rest x c e p q r =
+    ap whole (minus x.numerator (c.numerator *ℤ e.numerator))
+    ∙ whole-add x.numerator (neg_ℤ (c.numerator *ℤ e.numerator))
+    ∙ ap₂ ◌+ℚ◌ (is_whole x p) (whole-neg (c.numerator *ℤ e.numerator) ∙ ap neg_ℚ (whole-mul c.numerator e.numerator ∙ ap₂ ◌*ℚ◌ (is_whole c q) (is_whole e r)))
+  where
+    minus : (a b : ℤ) → a -ℤ b ≡ a +ℤ neg_ℤ b
+    minus a b = omega (arith, ints)
+
+pub is_one : (n : ℕ) → pos n ≡ pos 1 → n ≡ 1
+is_one n e = omega (arith, ints, e)
+
+-- a number that was cast to a word
+pub word_is : (x n m : ℤ) → FitsSigned w64 (read n) → x ≡ read n → Fits n → n ≡ m → to_z w64 (of_z w64 x) ≡ m
+word_is x n m word is_x fits is_n = ap (λ z. to_z w64 (of_z w64 z)) is_x ∙ to_z-of_z w64 (read n) word ∙ read_fitting n fits ∙ is_n
