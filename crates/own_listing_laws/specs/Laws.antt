@@ -78,8 +78,8 @@ pub record TestsPass : Type 0 where
       IsNonsingularBasis sheet.lp s → IsChained sheet s sweep bases intervals end → IntervalsFit intervals → EndFits end → begins_table_line after ≡ false →
       IsNoFailure (judged (OfSweep sweep) sheet (chain_text (sweeper sweep.changing) (chain_of sweep intervals end) ++ after))
 
--- The listing of a job's run is never found wrong by the walk, where its fractions fit: it is attested, or a line of it can't be attested,
--- or an operation of a test is refused.
+-- The listing of a job's run is never found wrong by the walk, where its fractions have 128 bits and the counts of an overflow's evidence
+-- have 32: it is attested, or a line of it can't be attested, or an operation of a test is refused.
 abbrev pub NeverWrong : Type 0
 NeverWrong = (bytes : List ℕ) (reports : List Report) (cards : List (List ℕ)) (ending : Ending) (found : Found) → IsJobRun linear_programming bytes reports cards ending → ReportsFit reports → StopFits ending →
     Comes bytes (listing reports ending) found → IsNotWrong found
