@@ -28,7 +28,7 @@ UPWARD = {
 }
 
 # Crates that are being written: their lines may list what no file cites yet.
-BEING_WRITTEN = {"judged_laws", "walk_laws", "listing_answers", "listing_walk"}
+BEING_WRITTEN = set()
 
 # The picture: sizes, what fills a box by its crate's kind, and the colours of lines by the layer in which they begin.
 WIDE, MARGIN, LETTER = 960, 14, 6.45
