@@ -27,9 +27,6 @@ UPWARD = {
     ("stop_laws", "job_devices"): PREFIX,
 }
 
-# Crates that are being written: their lines may list what no file cites yet.
-BEING_WRITTEN = set()
-
 # The picture: sizes, what fills a box by its crate's kind, and the colours of lines by the layer in which they begin.
 WIDE, MARGIN, LETTER = 960, 14, 6.45
 BOX, GAP, ROW, HEAD, FOOT = 20, 16, 40, 22, 6
@@ -292,7 +289,7 @@ def trimmed(crates):
     lines = []
     for line in LIST.read_text(encoding="utf-8").splitlines():
         head, name = line.partition(":")[0], line.partition(":")[0].partition(" ")[0]
-        lines.append(f"{head}: {' '.join(sorted(cited_by(name, names)))}".rstrip() if name in crates.layer and name not in BEING_WRITTEN else line)
+        lines.append(f"{head}: {' '.join(sorted(cited_by(name, names)))}".rstrip() if name in crates.layer else line)
     return "\n".join(lines) + "\n"
 
 
@@ -315,10 +312,8 @@ def check_cited(crates):
         cited, given = cited_by(crate, names), set(crates.lines[crate])
         if cited - given:
             yield f"crates.txt: the files of {crate} cite {' '.join(sorted(cited - given))}, which its line doesn't list"
-        if given - cited and crate not in BEING_WRITTEN:
+        if given - cited:
             yield f"crates.txt: {crate} lists {' '.join(sorted(given - cited))}, which none of its files cites (scripts/layers.py --trim)"
-        if given == cited and crate in BEING_WRITTEN:
-            yield f"scripts/layers.py: {crate} lists what it cites: take it out of BEING_WRITTEN"
         if len(given) < len(crates.lines[crate]):
             yield f"crates.txt: {crate} lists a crate twice"
 
