@@ -102,83 +102,102 @@ fn basis_decks_stand_for_bases(rt: HostRuntime) -> Result<(), Fail> {
     Ok(())
 }
 
-#[test]
-fn faults_of_the_sections_of_basis_decks(rt: HostRuntime) -> Result<(), Fail> {
-    let decks: [(&[u8], u32, DeckFaultKind); 8] = [
-        (
-            b"NAME          S\nROWS\nENDATA\n",
-            2,
-            DeckFaultKind::SectionOrder,
-        ),
-        (
-            b"NAME          S\nNAME\nENDATA\n",
-            2,
-            DeckFaultKind::SectionOrder,
-        ),
-        (b"NAM           S\nENDATA\n", 1, DeckFaultKind::SectionOrder),
-        (b" UL A\nENDATA\n", 1, DeckFaultKind::SectionOrder),
-        (
-            b"NAME          S\nROW\nENDATA\n",
-            2,
-            DeckFaultKind::UnknownSection,
-        ),
-        (b"NAME          S\n UL A\n\n", 3, DeckFaultKind::NoEndata),
-        (
-            b"NAME          S\nENDATA\nENDATA\n",
-            3,
-            DeckFaultKind::SectionOrder,
-        ),
-        (
-            b"NAME          S\nENDATA\n UL A\n",
-            3,
-            DeckFaultKind::SectionOrder,
-        ),
-    ];
-    for (deck, card, kind) in decks {
-        assert_eq!(rt; reading(rt.alloc(), SMALL, deck)?.err(), Some((card, kind)));
-    }
-    Ok(())
+const SECTIONS: [(&[u8], u32, DeckFaultKind); 8] = [
+    (
+        b"NAME          S\nROWS\nENDATA\n",
+        2,
+        DeckFaultKind::SectionOrder,
+    ),
+    (
+        b"NAME          S\nNAME\nENDATA\n",
+        2,
+        DeckFaultKind::SectionOrder,
+    ),
+    (b"NAM           S\nENDATA\n", 1, DeckFaultKind::SectionOrder),
+    (b" UL A\nENDATA\n", 1, DeckFaultKind::SectionOrder),
+    (
+        b"NAME          S\nROW\nENDATA\n",
+        2,
+        DeckFaultKind::UnknownSection,
+    ),
+    (b"NAME          S\n UL A\n\n", 3, DeckFaultKind::NoEndata),
+    (
+        b"NAME          S\nENDATA\nENDATA\n",
+        3,
+        DeckFaultKind::SectionOrder,
+    ),
+    (
+        b"NAME          S\nENDATA\n UL A\n",
+        3,
+        DeckFaultKind::SectionOrder,
+    ),
+];
+
+// Data cards, each of them or two after a NAME card and before ENDATA.
+const DATA_CARDS: [(&[u8], u32, DeckFaultKind); 19] = [
+    (b" XX A         UPR", 2, DeckFaultKind::BadBasisCode),
+    (b"    A         UPR", 2, DeckFaultKind::BadBasisCode),
+    (b" UL NONE", 2, DeckFaultKind::UnknownColumn),
+    (b" XL NONE      NONE", 2, DeckFaultKind::UnknownColumn),
+    (b" XL A         NONE", 2, DeckFaultKind::UnknownRow),
+    (b" XL A", 2, DeckFaultKind::UnknownRow),
+    (b" XL A         LOR\n UL A", 3, DeckFaultKind::NamedTwice),
+    (b" UL A\n XL A         LOR", 3, DeckFaultKind::NamedTwice),
+    (
+        b" XL A         LOR\n XL C         LOR",
+        3,
+        DeckFaultKind::NamedTwice,
+    ),
+    (b" UL B\n LL B", 3, DeckFaultKind::NamedTwice),
+    (b" XL A         UPR", 2, DeckFaultKind::NoSuchLimit),
+    (b" XU A         LOR", 2, DeckFaultKind::NoSuchLimit),
+    (b" XL A         COST", 2, DeckFaultKind::NoSuchLimit),
+    (b" LL B", 2, DeckFaultKind::NoSuchLimit),
+    (b" LL B         UPR", 2, DeckFaultKind::NoSuchLimit),
+    (b" LL A         UPR", 2, DeckFaultKind::ExtraField),
+    (b" XL A         LOR       1", 2, DeckFaultKind::ExtraField),
+    (
+        b" XL A         LOR                      B",
+        2,
+        DeckFaultKind::ExtraField,
+    ),
+    (b" XLXA         LOR", 2, DeckFaultKind::ExtraField),
+];
+
+// The cards before and after those that are listed.
+#[derive(Clone, Copy)]
+struct Group {
+    name: &'static str,
+    before: &'static [u8],
+    listed: &'static [(&'static [u8], u32, DeckFaultKind)],
+    after: &'static [u8],
 }
 
+const GROUPS: [Group; 2] = [
+    Group {
+        name: "sections",
+        before: b"",
+        listed: &SECTIONS,
+        after: b"",
+    },
+    Group {
+        name: "data cards",
+        before: b"NAME          S\n",
+        listed: &DATA_CARDS,
+        after: b"\nENDATA\n",
+    },
+];
+
 #[test]
-fn faults_of_the_data_cards_of_basis_decks(rt: HostRuntime) -> Result<(), Fail> {
-    let cards: [(&[u8], u32, DeckFaultKind); 19] = [
-        (b" XX A         UPR", 2, DeckFaultKind::BadBasisCode),
-        (b"    A         UPR", 2, DeckFaultKind::BadBasisCode),
-        (b" UL NONE", 2, DeckFaultKind::UnknownColumn),
-        (b" XL NONE      NONE", 2, DeckFaultKind::UnknownColumn),
-        (b" XL A         NONE", 2, DeckFaultKind::UnknownRow),
-        (b" XL A", 2, DeckFaultKind::UnknownRow),
-        (b" XL A         LOR\n UL A", 3, DeckFaultKind::NamedTwice),
-        (b" UL A\n XL A         LOR", 3, DeckFaultKind::NamedTwice),
-        (
-            b" XL A         LOR\n XL C         LOR",
-            3,
-            DeckFaultKind::NamedTwice,
-        ),
-        (b" UL B\n LL B", 3, DeckFaultKind::NamedTwice),
-        (b" XL A         UPR", 2, DeckFaultKind::NoSuchLimit),
-        (b" XU A         LOR", 2, DeckFaultKind::NoSuchLimit),
-        (b" XL A         COST", 2, DeckFaultKind::NoSuchLimit),
-        (b" LL B", 2, DeckFaultKind::NoSuchLimit),
-        (b" LL B         UPR", 2, DeckFaultKind::NoSuchLimit),
-        (b" LL A         UPR", 2, DeckFaultKind::ExtraField),
-        (b" XL A         LOR       1", 2, DeckFaultKind::ExtraField),
-        (
-            b" XL A         LOR                      B",
-            2,
-            DeckFaultKind::ExtraField,
-        ),
-        (b" XLXA         LOR", 2, DeckFaultKind::ExtraField),
-    ];
-    for (cards, card, kind) in cards {
-        let mut deck = Vec::from_slice(rt.alloc(), b"NAME          S\n")?;
-        deck.extend_from_slice(cards)?;
-        deck.extend_from_slice(b"\nENDATA\n")?;
-        assert_eq!(rt;
-            reading(rt.alloc(), SMALL, &deck)?.err(),
-            Some((card, kind))
-        );
+fn basis_decks_have_faults(rt: HostRuntime) -> Result<(), Fail> {
+    for group in &GROUPS {
+        for (cards, card, kind) in group.listed {
+            let mut deck = Vec::from_slice(rt.alloc(), group.before)?;
+            deck.extend_from_slice(cards)?;
+            deck.extend_from_slice(group.after)?;
+            let found = reading(rt.alloc(), SMALL, &deck)?.err();
+            assert_eq!(rt; found, Some((*card, *kind)), "{}", group.name);
+        }
     }
     Ok(())
 }

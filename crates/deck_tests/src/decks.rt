@@ -22,15 +22,13 @@ pub fn fault_of(alloc: Global, deck: &[u8]) -> Result<Option<(u32, DeckFaultKind
     }
 }
 
-// The same of a deck with the rows COST and LIM and the column X on COST, whose cards from the seventh on are these.
-pub fn fault_after_a_column(
+// The same of a deck in two parts.
+pub fn fault_after(
     alloc: Global,
+    before: &[u8],
     cards: &[u8],
 ) -> Result<Option<(u32, DeckFaultKind)>, Fail> {
-    let mut deck = Vec::from_slice(
-        alloc,
-        b"NAME          T\nROWS\n N  COST\n L  LIM\nCOLUMNS\n    X         COST      1\n",
-    )?;
+    let mut deck = Vec::from_slice(alloc, before)?;
     deck.extend_from_slice(cards)?;
     fault_of(alloc, &deck)
 }

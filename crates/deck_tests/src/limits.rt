@@ -63,48 +63,60 @@ fn deck_of_full_columns(alloc: Global, end: u32) -> Result<Vec<u8>, Fail> {
     Ok(deck)
 }
 
-// 1,000 rows may be, and their cards are those up to 1,002.
-#[test]
-fn a_row_too_many(rt: HostRuntime) -> Result<(), Fail> {
-    let alloc = rt.alloc();
-    assert_eq!(rt; fault_of(alloc, &deck_of_rows(alloc, 2000)?)?, None);
-    assert_eq!(rt;
-        fault_of(alloc, &deck_of_rows(alloc, 2001)?)?,
-        Some((1003, DeckFaultKind::TooManyRows))
-    );
-    Ok(())
+// A deck at a limit: rows up to that before a number, columns up to that before a number, or 1,000 rows with 50 full columns and these
+// cards after them.
+#[derive(Clone, Copy)]
+enum LargeDeck {
+    Rows(u32),
+    Columns(u32),
+    FullColumns(&'static [u8]),
 }
 
-// 5,000 columns may be, and their cards are those up to 5,004.
-#[test]
-fn a_column_too_many(rt: HostRuntime) -> Result<(), Fail> {
-    let alloc = rt.alloc();
-    assert_eq!(rt; fault_of(alloc, &deck_of_columns(alloc, 15000)?)?, None);
-    assert_eq!(rt;
-        fault_of(alloc, &deck_of_columns(alloc, 15001)?)?,
-        Some((5005, DeckFaultKind::TooManyColumns))
-    );
-    Ok(())
+fn built(alloc: Global, deck: LargeDeck) -> Result<Vec<u8>, Fail> {
+    match deck {
+        LargeDeck::Rows(end) => deck_of_rows(alloc, end),
+        LargeDeck::Columns(end) => deck_of_columns(alloc, end),
+        LargeDeck::FullColumns(cards) => {
+            let mut deck = deck_of_full_columns(alloc, 10050)?;
+            deck.extend_from_slice(cards)?;
+            Ok(deck)
+        }
+    }
 }
 
-// 1,000 rows and 50 full columns are 50,000 entries, on the cards up to 26,003.
-#[test]
-fn an_entry_too_many(rt: HostRuntime) -> Result<(), Fail> {
-    let alloc = rt.alloc();
-    let mut deck = deck_of_full_columns(alloc, 10050)?;
-    deck.extend_from_slice(b"    LAST      R1000     1\n")?;
-    assert_eq!(rt;
-        fault_of(alloc, &deck)?,
-        Some((26004, DeckFaultKind::TooManyEntries))
-    );
-    Ok(())
-}
+// 1,000 rows may be, and their cards are those up to 1,002. 5,000 columns may be, and their cards are those up to 5,004. 1,000 rows
+// and 50 full columns are 50,000 entries, on the cards up to 26,003, and no entry more may be.
+const LARGE_DECKS: [(&str, LargeDeck, Option<(u32, DeckFaultKind)>); 6] = [
+    ("as many rows as may be", LargeDeck::Rows(2000), None),
+    (
+        "a row too many",
+        LargeDeck::Rows(2001),
+        Some((1003, DeckFaultKind::TooManyRows)),
+    ),
+    ("as many columns as may be", LargeDeck::Columns(15000), None),
+    (
+        "a column too many",
+        LargeDeck::Columns(15001),
+        Some((5005, DeckFaultKind::TooManyColumns)),
+    ),
+    (
+        "as many entries as may be",
+        LargeDeck::FullColumns(b"ENDATA\n"),
+        None,
+    ),
+    (
+        "an entry too many",
+        LargeDeck::FullColumns(b"    LAST      R1000     1\n"),
+        Some((26004, DeckFaultKind::TooManyEntries)),
+    ),
+];
 
 #[test]
-fn as_many_entries_as_may_be(rt: HostRuntime) -> Result<(), Fail> {
-    let alloc = rt.alloc();
-    let mut deck = deck_of_full_columns(alloc, 10050)?;
-    deck.extend_from_slice(b"ENDATA\n")?;
-    assert_eq!(rt; fault_of(alloc, &deck)?, None);
+fn decks_are_at_their_limits(rt: HostRuntime) -> Result<(), Fail> {
+    for (name, large, fault) in LARGE_DECKS {
+        let deck = built(rt.alloc(), large)?;
+        let found = fault_of(rt.alloc(), &deck)?;
+        assert_eq!(rt; found, fault, "{name}");
+    }
     Ok(())
 }

@@ -40,46 +40,52 @@ fn labels_stand_for_positions(rt: HostRuntime) -> Result<(), Fail> {
     Ok(())
 }
 
-// A program of this card alone, after a PROGRAM with the label TWICE.
-fn job_with(alloc: Global, card: &[u8]) -> Result<Vec<u8>, Fail> {
-    let mut job = Vec::from_slice(alloc, b"TWICE    PROGRAM\n")?;
-    job.extend_from_slice(card)?;
-    job.extend_from_slice(b"\n         PEND\n")?;
-    Ok(job)
-}
+// Jobs with a control fault, its number and its card. The first nine are programs of one card, after a PROGRAM with the label TWICE.
+const JOBS: [(&[u8], u8, u32); 13] = [
+    (b"TWICE    PROGRAM\n         SOLVE\n         PEND\n", 3, 2),
+    (b"TWICE    PROGRAM\nlow      EXIT\n         PEND\n", 4, 2),
+    (b"TWICE    PROGRAM\nTWICE    EXIT\n         PEND\n", 5, 2),
+    (
+        b"TWICE    PROGRAM\n         GOTO(HERE)\n         PEND\n",
+        6,
+        2,
+    ),
+    (
+        b"TWICE    PROGRAM\n         MOVE(XITERLIM,.5)\n         PEND\n",
+        7,
+        2,
+    ),
+    (
+        b"TWICE    PROGRAM\n         SETUP('BOUND','B','BOUND','B')\n         PEND\n",
+        7,
+        2,
+    ),
+    (
+        b"TWICE    PROGRAM\n         MOVE(XFOO,'A')\n         PEND\n",
+        8,
+        2,
+    ),
+    (
+        b"TWICE    PROGRAM\n         MVADR(XDO,TWICE)\n         PEND\n",
+        9,
+        2,
+    ),
+    (
+        b"TWICE    PROGRAM\n         TITLE('ABC\n         PEND\n",
+        10,
+        2,
+    ),
+    (b"", 1, 0),
+    (b"* one\n         EXIT\n", 1, 2),
+    (b" PROGRAM\n EXIT\n* the last card\n", 2, 3),
+    (b" PROGRAM\n GOTO(HERE)\n EXIT\n", 6, 2),
+];
 
 #[test]
-fn each_fault_of_a_card(rt: HostRuntime) -> Result<(), Fail> {
-    let alloc = rt.alloc();
-    let cards: [(&[u8], u8); 9] = [
-        (b"         SOLVE", 3),
-        (b"low      EXIT", 4),
-        (b"TWICE    EXIT", 5),
-        (b"         GOTO(HERE)", 6),
-        (b"         MOVE(XITERLIM,.5)", 7),
-        (b"         SETUP('BOUND','B','BOUND','B')", 7),
-        (b"         MOVE(XFOO,'A')", 8),
-        (b"         MVADR(XDO,TWICE)", 9),
-        (b"         TITLE('ABC", 10),
-    ];
-    for (card, number) in cards {
-        let job = job_with(alloc, card)?;
-        assert_eq!(rt; fault_of(alloc, &job)?, Some((number, 2)));
-    }
-    Ok(())
-}
-
-#[test]
-fn faults_of_a_whole_job(rt: HostRuntime) -> Result<(), Fail> {
-    let alloc = rt.alloc();
-    let jobs: [(&[u8], u8, u32); 4] = [
-        (b"", 1, 0),
-        (b"* one\n         EXIT\n", 1, 2),
-        (b" PROGRAM\n EXIT\n* the last card\n", 2, 3),
-        (b" PROGRAM\n GOTO(HERE)\n EXIT\n", 6, 2),
-    ];
-    for (job, number, card) in jobs {
-        assert_eq!(rt; fault_of(alloc, job)?, Some((number, card)));
+fn jobs_have_control_faults(rt: HostRuntime) -> Result<(), Fail> {
+    for (place, (job, number, card)) in JOBS.iter().enumerate() {
+        let found = fault_of(rt.alloc(), job)?;
+        assert_eq!(rt; found, Some((*number, *card)), "the job at {place}");
     }
     Ok(())
 }

@@ -26,54 +26,43 @@ fn words_of(alloc: Global, card: &[u8]) -> Result<(u8, Vec<u8>), Fail> {
     Ok((found.count, told))
 }
 
+const CARDS: [(&[u8], u8, &[u8]); 10] = [
+    (b" X COST 1 LOW 1\n", 5, b" 2 X 4 COST 9 1 11 LOW 15 1"),
+    (b"   X    COST  1   \r\n", 3, b" 4 X 9 COST 15 1"),
+    (
+        b" UP BND X 12345678901E1\n",
+        4,
+        b" 2 UP 5 BND 9 X 11 12345678901E1",
+    ),
+    (b" A,B 'C' -.5\n", 3, b" 2 A,B 6 'C' 10 -.5"),
+    (b"\n", 0, b""),
+    (b"NAME\n", 1, b" 1 NAME"),
+    (
+        b"                                                                               Z\n",
+        1,
+        b" 80 Z",
+    ),
+    (
+        b"ABCDEFGHABCDEFGHABCDEFGHABCDEFGHABCDEFGHABCDEFGHABCDEFGHABCDEFGHABCDEFGHABCDEFGH\n",
+        1,
+        b" 1 ABCDEFGHABCDEFGHABCDEFGHABCDEFGHABCDEFGHABCDEFGHABCDEFGHABCDEFGHABCDEFGHABCDEFGH",
+    ),
+    // Of many words the first are told, and all are counted.
+    (
+        b" A B C D E F G H I\n",
+        9,
+        b" 2 A 4 B 6 C 8 D 10 E 12 F 14 G",
+    ),
+    (
+        b" A B C D E F X X X X X X X X X X X X X X X X X X X X X X X X X X X X X X X X X X\n",
+        40,
+        b" 2 A 4 B 6 C 8 D 10 E 12 F 14 X",
+    ),
+];
+
 #[test]
 fn words_stand_between_blanks(rt: HostRuntime) -> Result<(), Fail> {
-    let cards: [(&[u8], u8, &[u8]); 8] = [
-        (b" X COST 1 LOW 1\n", 5, b" 2 X 4 COST 9 1 11 LOW 15 1"),
-        (b"   X    COST  1   \r\n", 3, b" 4 X 9 COST 15 1"),
-        (
-            b" UP BND X 12345678901E1\n",
-            4,
-            b" 2 UP 5 BND 9 X 11 12345678901E1",
-        ),
-        (b" A,B 'C' -.5\n", 3, b" 2 A,B 6 'C' 10 -.5"),
-        (b"\n", 0, b""),
-        (b"NAME\n", 1, b" 1 NAME"),
-        (
-            b"                                                                               Z\n",
-            1,
-            b" 80 Z",
-        ),
-        (
-            b"ABCDEFGHABCDEFGHABCDEFGHABCDEFGHABCDEFGHABCDEFGHABCDEFGHABCDEFGHABCDEFGHABCDEFGH\n",
-            1,
-            b" 1 ABCDEFGHABCDEFGHABCDEFGHABCDEFGHABCDEFGHABCDEFGHABCDEFGHABCDEFGHABCDEFGHABCDEFGH",
-        ),
-    ];
-    for (card, count, wanted) in cards {
-        let (found, told) = words_of(rt.alloc(), card)?;
-        assert_eq!(rt; found, count);
-        assert_eq!(rt; told.as_slice(), wanted);
-    }
-    Ok(())
-}
-
-// Of many words the first are told, and all are counted.
-#[test]
-fn all_words_are_counted(rt: HostRuntime) -> Result<(), Fail> {
-    let cards: [(&[u8], u8, &[u8]); 2] = [
-        (
-            b" A B C D E F G H I\n",
-            9,
-            b" 2 A 4 B 6 C 8 D 10 E 12 F 14 G",
-        ),
-        (
-            b" A B C D E F X X X X X X X X X X X X X X X X X X X X X X X X X X X X X X X X X X\n",
-            40,
-            b" 2 A 4 B 6 C 8 D 10 E 12 F 14 X",
-        ),
-    ];
-    for (card, count, wanted) in cards {
+    for (card, count, wanted) in CARDS {
         let (found, told) = words_of(rt.alloc(), card)?;
         assert_eq!(rt; found, count);
         assert_eq!(rt; told.as_slice(), wanted);

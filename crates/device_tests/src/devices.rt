@@ -1,7 +1,9 @@
+use crate::listed::{Put, Reading, other_put, other_read};
 use job_devices::{
-    Discard, Failed, ListingFile, MemorySink, MemorySource, PunchFile, Sink, Source, SourceStop,
+    Discard, Failed, ListingFile, MemorySink, MemorySource, PunchFile, Sink, SourceStop,
     StreamSink, StreamSource, SureSink, WriteStop, put_all, put_each, read_up_to,
 };
+use std::alloc::Global;
 use std::fs;
 use std::io::{self, ErrorKind, Read, Write};
 use std::test::Fail;
@@ -71,28 +73,52 @@ impl Write for FakeWriter<'_> {
     }
 }
 
-#[test]
-fn a_listed_read_fails_and_the_next_goes_on(rt: HostRuntime) -> Result<(), Fail> {
-    let mut source = MemorySource::new(rt.alloc(), b"card", &[2])?;
-    let mut buf = [0; 3];
-    assert_eq!(rt; source.read(&mut buf), Ok(3));
-    assert_eq!(rt; source.read(&mut buf), Err(Failed));
-    assert_eq!(rt; source.read(&mut buf), Ok(1));
-    assert_eq!(rt; buf[0], b'd');
-    assert_eq!(rt; source.read(&mut buf), Ok(0));
-    Ok(())
-}
+// The second read is listed as one that fails.
+const LISTED_READS: [Reading; 4] = [
+    (Ok(3), b""),
+    (Err(Failed), b""),
+    (Ok(1), b"d"),
+    (Ok(0), b""),
+];
+
+// The same where a read gives three bytes at most.
+const READS_IN_PIECES: [Reading; 4] = [
+    (Ok(3), b"car."),
+    (Err(Failed), b""),
+    (Ok(2), b"dsr."),
+    (Ok(0), b""),
+];
+
+const STREAM_STEPS: [Step; 5] = [
+    Step::Take(2),
+    Step::Fail(ErrorKind::Other),
+    Step::Take(9),
+    Step::Fail(ErrorKind::Interrupted),
+    Step::Take(1),
+];
+
+const STREAM_READS: [Reading; 6] = [
+    (Ok(2), b""),
+    (Err(Failed), b""),
+    (Ok(4), b"xxxx"),
+    (Err(Failed), b""),
+    (Ok(1), b""),
+    (Ok(0), b""),
+];
 
 #[test]
-fn a_read_gives_a_piece_at_most(rt: HostRuntime) -> Result<(), Fail> {
+fn sources_answer_as_listed(rt: HostRuntime) -> Result<(), Fail> {
+    let mut source = MemorySource::new(rt.alloc(), b"card", &[2])?;
+    assert_eq!(rt; other_read(&mut source, &mut [0; 3], &LISTED_READS), None);
     let mut source = MemorySource::in_pieces(rt.alloc(), b"cards", &[2], 3)?;
-    let mut buf = [b'.'; 4];
-    assert_eq!(rt; source.read(&mut buf), Ok(3));
-    assert_eq!(rt; buf, *b"car.");
-    assert_eq!(rt; source.read(&mut buf), Err(Failed));
-    assert_eq!(rt; source.read(&mut buf), Ok(2));
-    assert_eq!(rt; buf, *b"dsr.");
-    assert_eq!(rt; source.read(&mut buf), Ok(0));
+    assert_eq!(rt;
+        other_read(&mut source, &mut [b'.'; 4], &READS_IN_PIECES),
+        None
+    );
+    let mut source = StreamSource::new(FakeReader {
+        steps: &STREAM_STEPS,
+    });
+    assert_eq!(rt; other_read(&mut source, &mut [0; 4], &STREAM_READS), None);
     Ok(())
 }
 
@@ -117,33 +143,24 @@ fn a_source_is_read_as_far_as_is_asked(rt: HostRuntime) -> Result<(), Fail> {
 fn the_listing_file_is_opened_at_the_first_read(rt: HostRuntime) -> Result<(), Fail> {
     let mut listing = ListingFile::new(&rt);
     let mut buf = [b'.'; 4];
-    assert_eq!(rt; listing.read(&mut buf), Err(Failed));
+    assert_eq!(rt;
+        other_read(&mut listing, &mut buf, &[(Err(Failed), b"")]),
+        None
+    );
     fs::write(&rt, "LISTING", b"END 0\n")?;
-    assert_eq!(rt; listing.read(&mut buf), Ok(4));
-    assert_eq!(rt; buf, *b"END ");
-    assert_eq!(rt; listing.read(&mut buf), Ok(2));
-    assert_eq!(rt; buf, *b"0\nD ");
-    assert_eq!(rt; listing.read(&mut buf), Ok(0));
+    let readings: [Reading; 3] = [(Ok(4), b"END "), (Ok(2), b"0\nD "), (Ok(0), b"")];
+    assert_eq!(rt; other_read(&mut listing, &mut buf, &readings), None);
     fs::remove_file(&rt, "LISTING")?;
     Ok(())
 }
 
 #[test]
-fn what_is_discarded_is_taken_whole(_rt: HostRuntime) -> Result<(), Fail> {
+fn sinks_in_memory_take_pieces(rt: HostRuntime) -> Result<(), Fail> {
     put_each(&mut Discard, &[b"NAME\n", b"ENDATA\n"])?;
-    Ok(())
-}
-
-#[test]
-fn pieces_stand_one_after_another(rt: HostRuntime) -> Result<(), Fail> {
     let mut sink = SureSink::new(rt.alloc())?;
     put_each(&mut sink, &[b"END ", b"0", b"\n"])?;
     assert_eq!(rt; sink.bytes(), b"END 0\n".as_slice());
-    Ok(())
-}
-
-#[test]
-fn a_listed_write_leaves_a_front(rt: HostRuntime) -> Result<(), Fail> {
+    // The second write is listed as one that fails, and leaves a front.
     let mut sink = MemorySink::new(rt.alloc(), &[2])?;
     assert_eq!(rt;
         put_each(&mut sink, &[b"END ", b"0"]),
@@ -155,64 +172,70 @@ fn a_listed_write_leaves_a_front(rt: HostRuntime) -> Result<(), Fail> {
     Ok(())
 }
 
-#[test]
-fn a_stream_answers_as_its_reader_does(rt: HostRuntime) -> Result<(), Fail> {
-    let steps = [
-        Step::Take(2),
-        Step::Fail(ErrorKind::Other),
-        Step::Take(9),
-        Step::Fail(ErrorKind::Interrupted),
-        Step::Take(1),
-    ];
-    let mut source = StreamSource::new(FakeReader { steps: &steps });
-    let mut buf = [0; 4];
-    assert_eq!(rt; source.read(&mut buf), Ok(2));
-    assert_eq!(rt; source.read(&mut buf), Err(Failed));
-    assert_eq!(rt; source.read(&mut buf), Ok(4));
-    assert_eq!(rt; buf, [b'x'; 4]);
-    assert_eq!(rt; source.read(&mut buf), Err(Failed));
-    assert_eq!(rt; source.read(&mut buf), Ok(1));
-    assert_eq!(rt; source.read(&mut buf), Ok(0));
-    Ok(())
+// What a writer does at its writes and its flushes, what is put there, and what it takes of that.
+#[derive(Clone, Copy)]
+struct Stream {
+    writes: &'static [Step],
+    flushes: &'static [Step],
+    puts: &'static [Put],
+    taken: &'static [u8],
 }
 
-#[test]
-fn a_stream_writes_in_parts_and_stops_at_each_fault(rt: HostRuntime) -> Result<(), Fail> {
-    let mut taken = Vec::new(rt.alloc());
-    let writes = [
+// Writes in parts, and faults of writes.
+const PARTS: Stream = Stream {
+    writes: &[
         Step::Take(3),
         Step::Take(9),
         Step::Fail(ErrorKind::Interrupted),
         Step::Take(2),
         Step::Take(0),
-    ];
+    ],
+    flushes: &[],
+    puts: &[
+        (&[b"END 0\n"], Ok(())),
+        (&[b"A"], Err(WriteStop::Failed)),
+        (&[b"STOP"], Err(WriteStop::Failed)),
+        (&[b"!"], Ok(())),
+    ],
+    taken: b"END 0\nST!",
+};
+
+// A flush that fails.
+const FLUSHES: Stream = Stream {
+    writes: &[],
+    flushes: &[Step::Take(0), Step::Fail(ErrorKind::Other)],
+    puts: &[
+        (&[b"A"], Ok(())),
+        (&[b"B"], Err(WriteStop::Failed)),
+        (&[b"C"], Ok(())),
+    ],
+    taken: b"ABC",
+};
+
+// The place of the first put to this stream that answers otherwise than is listed, or how many puts there are where an empty write
+// fails or the writer took something else.
+fn other_in_stream(alloc: Global, stream: &Stream) -> Result<Option<usize>, Fail> {
+    let mut taken = Vec::new(alloc);
     let mut sink = StreamSink::new(FakeWriter {
-        writes: &writes,
-        flushes: &[],
+        writes: stream.writes,
+        flushes: stream.flushes,
         taken: &mut taken,
     });
-    put_all(&mut sink, b"END 0\n")?;
-    assert_eq!(rt; put_all(&mut sink, b"A"), Err(WriteStop::Failed));
-    assert_eq!(rt; put_all(&mut sink, b"STOP"), Err(WriteStop::Failed));
-    put_all(&mut sink, b"!")?;
-    assert_eq!(rt; sink.write(b""), Ok(0));
-    assert_eq!(rt; taken.as_slice(), b"END 0\nST!".as_slice());
-    Ok(())
+    let found = other_put(&mut sink, stream.puts);
+    if found.is_some() {
+        return Ok(found);
+    }
+    let empty = sink.write(b"");
+    if empty != Ok(0) || taken.as_slice() != stream.taken {
+        return Ok(Some(stream.puts.len()));
+    }
+    Ok(None)
 }
 
 #[test]
-fn a_flush_that_fails_is_a_fault(rt: HostRuntime) -> Result<(), Fail> {
-    let mut taken = Vec::new(rt.alloc());
-    let flushes = [Step::Take(0), Step::Fail(ErrorKind::Other)];
-    let mut sink = StreamSink::new(FakeWriter {
-        writes: &[],
-        flushes: &flushes,
-        taken: &mut taken,
-    });
-    put_all(&mut sink, b"A")?;
-    assert_eq!(rt; put_all(&mut sink, b"B"), Err(WriteStop::Failed));
-    put_all(&mut sink, b"C")?;
-    assert_eq!(rt; taken.as_slice(), b"ABC".as_slice());
+fn streams_take_what_is_put(rt: HostRuntime) -> Result<(), Fail> {
+    assert_eq!(rt; other_in_stream(rt.alloc(), &PARTS)?, None);
+    assert_eq!(rt; other_in_stream(rt.alloc(), &FLUSHES)?, None);
     Ok(())
 }
 
@@ -220,9 +243,15 @@ fn a_flush_that_fails_is_a_fault(rt: HostRuntime) -> Result<(), Fail> {
 fn the_punch_file_is_created_at_the_first_write(rt: HostRuntime) -> Result<(), Fail> {
     let mut punch = PunchFile::new(&rt);
     fs::create_dir(&rt, "PUNCH")?;
-    assert_eq!(rt; put_all(&mut punch, b"NAME\n"), Err(WriteStop::Failed));
+    assert_eq!(rt;
+        other_put(&mut punch, &[(&[b"NAME\n"], Err(WriteStop::Failed))]),
+        None
+    );
     fs::remove_dir(&rt, "PUNCH")?;
-    put_each(&mut punch, &[b"NAME\n", b"ENDATA\n"])?;
+    assert_eq!(rt;
+        other_put(&mut punch, &[(&[b"NAME\n", b"ENDATA\n"], Ok(()))]),
+        None
+    );
     assert_eq!(rt;
         fs::read(&rt, "PUNCH")?.as_slice(),
         b"NAME\nENDATA\n".as_slice()

@@ -5,3 +5,5 @@
 mod devices;
 #[cfg(test)]
 mod files;
+#[cfg(test)]
+mod listed;

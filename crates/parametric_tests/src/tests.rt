@@ -4,7 +4,7 @@ ghost use Rattle.lp_definitions.specs.LinearProgram.{IsRow, HasNoLimits};
 
 use bounded_primal::{PrimalStop, opening};
 use frac128::Frac;
-use lp_model::{Entry, Lp, Outcome, ParaEnd, ParaPart, ParaReport, ParaRun, Sense, Status};
+use lp_model::{Entry, Lp, Outcome, ParaEnd, ParaPart, ParaReport, Sense, Status};
 use para_objective::{ParaObj, para_obj};
 use rates_dense::Dense;
 use std::alloc::{AllocError, Global};
@@ -32,30 +32,32 @@ fn limit(value: Option<i32>) -> Option<Frac> {
 }
 
 /// A column that stands at 0.
-fn still() -> Column {
-    Column {
-        cost: 0,
-        change: 0,
-        entry: 0,
-        low: Some(0),
-        high: Some(0),
-    }
-}
+const STILL: Column = Column {
+    cost: 0,
+    change: 0,
+    entry: 0,
+    low: Some(0),
+    high: Some(0),
+};
 
-/// The objective (variable 1), the change row (2), a row between two values (3), and the columns x, y and z (4, 5 and 6).
-fn program(
-    alloc: Global,
+/// Which objective is sought, what the third row lies between, and the columns.
+#[derive(Clone, Copy)]
+struct Form {
     sense: Sense,
     low: Option<i32>,
     high: Option<i32>,
     x: Column,
     y: Column,
     z: Column,
-) -> Result<Lp, AllocError>
+}
+
+/// The objective (variable 1), the change row (2), a row between two values (3), and the columns x, y and z (4, 5 and 6).
+fn program(alloc: Global, form: &Form) -> Result<Lp, AllocError>
     ensures no_change { IfOk result (λ lp. lp.change ≡ None) }
     ensures row { IfOk result (λ lp. IsRow lp.matrix 2) }
     ensures free { IfOk result (λ lp. HasNoLimits lp 2) }
 {
+    let (x, y, z) = (form.x, form.y, form.z);
     let first = vec![in alloc;
         Entry {
             row: 1,
@@ -99,7 +101,7 @@ fn program(
         },
     ]?;
     let columns = vec![in alloc; first, second, third]?;
-    let (row_low, row_high) = (limit(low), limit(high));
+    let (row_low, row_high) = (limit(form.low), limit(form.high));
     let (x_low, x_high) = (limit(x.low), limit(x.high));
     let (y_low, y_high) = (limit(y.low), limit(y.high));
     let (z_low, z_high) = (limit(z.low), limit(z.high));
@@ -115,7 +117,7 @@ fn program(
         rhs,
         objective: 1,
         change: None,
-        sense,
+        sense: form.sense,
     })
 }
 
@@ -144,28 +146,16 @@ fn ran(
     Ok(Some(para_obj(alloc, lp, &mut basis, &mut rates, &run)))
 }
 
-/// The intervals of the run, if it is one, and how it ends.
-fn chain_of(alloc: Global, lp: &Lp, to: i32, limit: u32) -> Result<Option<ParaRun>, Fail>
-    requires no_change { lp.now.change ≡ None }
-    requires row { IsRow lp.now.matrix 2 }
-    requires free { HasNoLimits lp.now 2 }
-{
-    match ran(alloc, lp, to, limit)? {
-        Some(Ok(ParaReport::Run(run))) => Ok(Some(run)),
-        _ => Ok(None),
-    }
-}
-
 /// Whether the interval goes from `from` to `to` with these statuses.
-fn goes(part: &ParaPart, from: i32, to: i32, statuses: [Status; 6]) -> bool {
-    part.from == whole(from) && part.to == whole(to) && part.statuses.statuses() == &statuses[..]
+fn goes(part: &ParaPart, from: i32, to: i32, statuses: &[Status]) -> bool {
+    part.from == whole(from) && part.to == whole(to) && part.statuses.statuses() == statuses
 }
 
-fn are(values: &[Frac], expected: [i32; 6]) -> bool {
-    if values.len() != 6 {
+fn are(values: &[Frac], expected: &[i32]) -> bool {
+    if values.len() != expected.len() {
         return false;
     }
-    for k in 0..6 {
+    for k in 0..values.len() {
         if values[k] != whole(expected[k]) {
             return false;
         }
@@ -173,241 +163,429 @@ fn are(values: &[Frac], expected: [i32; 6]) -> bool {
     true
 }
 
-/// Whether the interval shows these activities, which stand still, and these prices with their rates.
-fn shows(part: &ParaPart, value: [i32; 6], price: [i32; 6], price_rate: [i32; 6]) -> bool {
-    are(part.value.values(), value)
-        && are(part.value_rate.values(), [0, 0, 0, 0, 0, 0])
-        && are(part.price.values(), price)
-        && are(part.price_rate.values(), price_rate)
+/// The lines of an interval: its activities, its prices and the rates of these.
+#[derive(Clone, Copy)]
+struct Lines {
+    value: &'static [i32],
+    price: &'static [i32],
+    price_rate: &'static [i32],
 }
 
-/// Whether the run ends past `past` without a bound, by this point and this direction.
-fn ends_past(end: &ParaEnd, past: i32, point: [i32; 6], direction: [i32; 6]) -> bool {
-    match end {
-        ParaEnd::Unbounded {
-            past: at,
-            point: shown,
-            direction: way,
-        } => *at == whole(past) && are(shown.values(), point) && are(way.values(), direction),
-        _ => false,
+/// Whether the interval shows these lines, with activities that stand still.
+fn shows(part: &ParaPart, lines: &Lines) -> bool {
+    are(part.value.values(), lines.value)
+        && are(part.value_rate.values(), &[0, 0, 0, 0, 0, 0])
+        && are(part.price.values(), lines.price)
+        && are(part.price_rate.values(), lines.price_rate)
+}
+
+/// An interval: its ends, its statuses and, where they are looked at, its activities and its prices with their rates.
+#[derive(Clone, Copy)]
+struct Part {
+    from: i32,
+    to: i32,
+    statuses: &'static [Status],
+    lines: Option<Lines>,
+}
+
+fn is_as(part: &ParaPart, wanted: &Part) -> bool {
+    if !goes(part, wanted.from, wanted.to, wanted.statuses) {
+        return false;
+    }
+    match wanted.lines {
+        Some(lines) => shows(part, &lines),
+        None => true,
     }
 }
 
-fn column_of(cost: i32, change: i32, entry: i32, low: Option<i32>, high: Option<i32>) -> Column {
-    Column {
-        cost,
-        change,
-        entry,
-        low,
-        high,
+/// The place of the first interval that is another than this list has.
+fn other_part(parts: &[ParaPart], list: &[Part]) -> Option<usize> {
+    for (place, (part, wanted)) in parts.iter().zip(list).enumerate() {
+        if !is_as(part, wanted) {
+            return Some(place);
+        }
+    }
+    None
+}
+
+/// How a run ends: at the last value, past this value without a bound, by this point and this direction, or as is not looked at.
+#[derive(Clone, Copy)]
+enum End {
+    AtMax,
+    Unbounded(i32, &'static [i32], &'static [i32]),
+    Any,
+}
+
+fn ends(end: &ParaEnd, wanted: End) -> bool {
+    match wanted {
+        End::AtMax => matches!(end, ParaEnd::AtMax),
+        End::Unbounded(value, start, way) => match end {
+            ParaEnd::Unbounded {
+                past,
+                point,
+                direction,
+            } => {
+                *past == whole(value) && are(point.values(), start) && are(direction.values(), way)
+            }
+            _ => false,
+        },
+        End::Any => true,
     }
 }
 
-// The least -x - 2y + theta (-x), where x + y <= 4, 0 <= x <= 3 and y >= 0. At x = 0, y = 4 the objective is x - 2 r3 - theta x, so
-// this is best up to theta = 1; past it x = 3 and y = 1.
-#[test]
-fn two_intervals(rt: HostRuntime) -> Result<(), Fail> {
-    let x = column_of(-1, -1, 1, Some(0), Some(3));
-    let y = column_of(-2, 0, 1, Some(0), None);
-    let lp = program(rt.alloc(), Sense::Min, None, Some(4), x, y, still())?;
-    let Some(run) = chain_of(rt.alloc(), &lp, 5, 10)? else {
-        assert!(rt; false);
-        return Ok(());
-    };
-    let parts = run.parts.items();
-    assert_eq!(rt; parts.len(), 2);
-    let (first, second) = (Status::Bs, Status::Ul);
-    assert!(rt;
-        goes(
-            &parts[0],
-            0,
-            1,
-            [first, first, second, Status::Ll, first, Status::Ll]
-        )
-    );
-    assert!(rt;
-        shows(
-            &parts[0],
-            [-8, 0, 4, 0, 4, 0],
-            [0, 0, -2, 1, 0, 0],
-            [0, 0, 0, -1, 0, 0]
-        )
-    );
-    assert!(rt;
-        goes(
-            &parts[1],
-            1,
-            5,
-            [first, first, second, second, first, Status::Ll]
-        )
-    );
-    assert!(rt;
-        shows(
-            &parts[1],
-            [-5, -3, 4, 3, 1, 0],
-            [0, 0, -2, 1, 0, 0],
-            [0, 0, 0, -1, 0, 0]
-        )
-    );
-    assert!(rt; matches!(run.end, ParaEnd::AtMax));
-    Ok(())
+/// A run of `limit` steps at most, while theta goes from 0 to `to`: how many intervals it has, those that are looked at, from the first
+/// on, and how it ends.
+#[derive(Clone, Copy)]
+struct Run {
+    name: &'static str,
+    form: Form,
+    to: i32,
+    limit: u32,
+    count: usize,
+    parts: &'static [Part],
+    end: End,
 }
 
-// The same run to theta = 1 has no break: its only interval ends at the last value.
+/// The least -x - 2y + theta (-x), where x + y <= 4, 0 <= x <= 3 and y >= 0.
+const TWO_INTERVALS: Form = Form {
+    sense: Sense::Min,
+    low: None,
+    high: Some(4),
+    x: Column {
+        cost: -1,
+        change: -1,
+        entry: 1,
+        low: Some(0),
+        high: Some(3),
+    },
+    y: Column {
+        cost: -2,
+        change: 0,
+        entry: 1,
+        low: Some(0),
+        high: None,
+    },
+    z: STILL,
+};
+
+const RUNS: [Run; 6] = [
+    // At x = 0, y = 4 the objective is x - 2 r3 - theta x, so this is best up to theta = 1; past it x = 3 and y = 1.
+    Run {
+        name: "two intervals",
+        form: TWO_INTERVALS,
+        to: 5,
+        limit: 10,
+        count: 2,
+        parts: &[
+            Part {
+                from: 0,
+                to: 1,
+                statuses: &[
+                    Status::Bs,
+                    Status::Bs,
+                    Status::Ul,
+                    Status::Ll,
+                    Status::Bs,
+                    Status::Ll,
+                ],
+                lines: Some(Lines {
+                    value: &[-8, 0, 4, 0, 4, 0],
+                    price: &[0, 0, -2, 1, 0, 0],
+                    price_rate: &[0, 0, 0, -1, 0, 0],
+                }),
+            },
+            Part {
+                from: 1,
+                to: 5,
+                statuses: &[
+                    Status::Bs,
+                    Status::Bs,
+                    Status::Ul,
+                    Status::Ul,
+                    Status::Bs,
+                    Status::Ll,
+                ],
+                lines: Some(Lines {
+                    value: &[-5, -3, 4, 3, 1, 0],
+                    price: &[0, 0, -2, 1, 0, 0],
+                    price_rate: &[0, 0, 0, -1, 0, 0],
+                }),
+            },
+        ],
+        end: End::AtMax,
+    },
+    // The same run to theta = 1 has no break: its only interval ends at the last value.
+    Run {
+        name: "a break at the last value",
+        form: TWO_INTERVALS,
+        to: 1,
+        limit: 10,
+        count: 1,
+        parts: &[],
+        end: End::AtMax,
+    },
+    // The least theta x, where x is free and r3 = x >= -3. At theta = 0 each x is best, and the free nonbasic x stands at 0: the first
+    // interval is a point. There x falls until r3 stops it, and r3 has the price theta.
+    Run {
+        name: "a free column",
+        form: Form {
+            sense: Sense::Min,
+            low: Some(-3),
+            high: None,
+            x: Column {
+                cost: 0,
+                change: 1,
+                entry: 1,
+                low: None,
+                high: None,
+            },
+            y: STILL,
+            z: STILL,
+        },
+        to: 5,
+        limit: 10,
+        count: 2,
+        parts: &[
+            Part {
+                from: 0,
+                to: 0,
+                statuses: &[
+                    Status::Bs,
+                    Status::Bs,
+                    Status::Bs,
+                    Status::Fr,
+                    Status::Ll,
+                    Status::Ll,
+                ],
+                lines: Some(Lines {
+                    value: &[0, 0, 0, 0, 0, 0],
+                    price: &[0, 0, 0, 0, 0, 0],
+                    price_rate: &[0, 0, 0, 1, 0, 0],
+                }),
+            },
+            Part {
+                from: 0,
+                to: 5,
+                statuses: &[
+                    Status::Bs,
+                    Status::Bs,
+                    Status::Ll,
+                    Status::Bs,
+                    Status::Ll,
+                    Status::Ll,
+                ],
+                lines: Some(Lines {
+                    value: &[0, -3, -3, -3, 0, 0],
+                    price: &[0, 0, 0, 0, 0, 0],
+                    price_rate: &[0, 0, 1, 0, 0, 0],
+                }),
+            },
+        ],
+        end: End::Any,
+    },
+    // The least (1 - theta) (x + y + z), where x <= 1, y <= 2, z <= 3 and r3 = x + y + z <= 5. All three move at the break 1: x rises to
+    // 1, y to 2, and z until r3 is 5. Then the objective is (1 - theta) r3.
+    Run {
+        name: "three movers",
+        form: Form {
+            sense: Sense::Min,
+            low: None,
+            high: Some(5),
+            x: Column {
+                cost: 1,
+                change: -1,
+                entry: 1,
+                low: Some(0),
+                high: Some(1),
+            },
+            y: Column {
+                cost: 1,
+                change: -1,
+                entry: 1,
+                low: Some(0),
+                high: Some(2),
+            },
+            z: Column {
+                cost: 1,
+                change: -1,
+                entry: 1,
+                low: Some(0),
+                high: Some(3),
+            },
+        },
+        to: 4,
+        limit: 3,
+        count: 2,
+        parts: &[
+            Part {
+                from: 0,
+                to: 1,
+                statuses: &[
+                    Status::Bs,
+                    Status::Bs,
+                    Status::Bs,
+                    Status::Ll,
+                    Status::Ll,
+                    Status::Ll,
+                ],
+                lines: Some(Lines {
+                    value: &[0, 0, 0, 0, 0, 0],
+                    price: &[0, 0, 0, 1, 1, 1],
+                    price_rate: &[0, 0, 0, -1, -1, -1],
+                }),
+            },
+            Part {
+                from: 1,
+                to: 4,
+                statuses: &[
+                    Status::Bs,
+                    Status::Bs,
+                    Status::Ul,
+                    Status::Ul,
+                    Status::Ul,
+                    Status::Bs,
+                ],
+                lines: Some(Lines {
+                    value: &[5, -5, 5, 1, 2, 2],
+                    price: &[0, 0, 1, 0, 0, 0],
+                    price_rate: &[0, 0, -1, 0, 0, 0],
+                }),
+            },
+        ],
+        end: End::Any,
+    },
+    // The greatest (theta - 1) x, where 0 <= x <= 3: x stands at 0 up to theta = 1, and at 3 past it.
+    Run {
+        name: "the greatest objective",
+        form: Form {
+            sense: Sense::Max,
+            low: None,
+            high: None,
+            x: Column {
+                cost: -1,
+                change: 1,
+                entry: 0,
+                low: Some(0),
+                high: Some(3),
+            },
+            y: STILL,
+            z: STILL,
+        },
+        to: 2,
+        limit: 10,
+        count: 2,
+        parts: &[
+            Part {
+                from: 0,
+                to: 1,
+                statuses: &[
+                    Status::Bs,
+                    Status::Bs,
+                    Status::Bs,
+                    Status::Ll,
+                    Status::Ll,
+                    Status::Ll,
+                ],
+                lines: None,
+            },
+            Part {
+                from: 1,
+                to: 2,
+                statuses: &[
+                    Status::Bs,
+                    Status::Bs,
+                    Status::Bs,
+                    Status::Ul,
+                    Status::Ll,
+                    Status::Ll,
+                ],
+                lines: Some(Lines {
+                    value: &[-3, 3, 0, 3, 0, 0],
+                    price: &[0, 0, 0, -1, 0, 0],
+                    price_rate: &[0, 0, 0, 1, 0, 0],
+                }),
+            },
+        ],
+        end: End::Any,
+    },
+    // The least (1 - theta) x, where x >= 0: past theta = 1 there is no bound, as x rises from 0.
+    Run {
+        name: "a run that ends without bound",
+        form: Form {
+            sense: Sense::Min,
+            low: None,
+            high: None,
+            x: Column {
+                cost: 1,
+                change: -1,
+                entry: 0,
+                low: Some(0),
+                high: None,
+            },
+            y: STILL,
+            z: STILL,
+        },
+        to: 5,
+        limit: 10,
+        count: 1,
+        parts: &[],
+        end: End::Unbounded(1, &[0, 0, 0, 0, 0, 0], &[1, -1, 0, 1, 0, 0]),
+    },
+];
+
 #[test]
-fn break_at_the_last_value(rt: HostRuntime) -> Result<(), Fail> {
-    let x = column_of(-1, -1, 1, Some(0), Some(3));
-    let y = column_of(-2, 0, 1, Some(0), None);
-    let lp = program(rt.alloc(), Sense::Min, None, Some(4), x, y, still())?;
-    let Some(run) = chain_of(rt.alloc(), &lp, 1, 10)? else {
-        assert!(rt; false);
-        return Ok(());
-    };
-    assert_eq!(rt; run.parts.items().len(), 1);
-    assert!(rt; matches!(run.end, ParaEnd::AtMax));
+fn runs_have_intervals(rt: HostRuntime) -> Result<(), Fail> {
+    for case in &RUNS {
+        let lp = program(rt.alloc(), &case.form)?;
+        let report = ran(rt.alloc(), &lp, case.to, case.limit)?;
+        let Some(Ok(ParaReport::Run(run))) = report else {
+            return Err(Fail::from(case.name));
+        };
+        let parts = run.parts.items();
+        let found = (
+            parts.len(),
+            other_part(parts, case.parts),
+            ends(&run.end, case.end),
+        );
+        assert_eq!(rt; found, (case.count, None, true), "{}", case.name);
+    }
     Ok(())
 }
 
 // The opening path takes three steps: x rises to 3, y enters for r3, x falls to 0. The break at 1 takes the fourth: x rises to 3.
 #[test]
 fn limit_of_steps(rt: HostRuntime) -> Result<(), Fail> {
-    let x = column_of(-1, -1, 1, Some(0), Some(3));
-    let y = column_of(-2, 0, 1, Some(0), None);
-    let lp = program(rt.alloc(), Sense::Min, None, Some(4), x, y, still())?;
-    assert!(rt; matches!(ran(rt.alloc(), &lp, 5, 2)?, Some(Err(PrimalStop::Limit))));
-    assert!(rt; matches!(ran(rt.alloc(), &lp, 5, 3)?, Some(Err(PrimalStop::Limit))));
-    assert!(rt; matches!(ran(rt.alloc(), &lp, 5, 4)?, Some(Ok(ParaReport::Run(_)))));
-    Ok(())
-}
-
-// The least theta x, where x is free and r3 = x >= -3. At theta = 0 each x is best, and the free nonbasic x stands at 0: the first
-// interval is a point. There x falls until r3 stops it, and r3 has the price theta.
-#[test]
-fn free_column(rt: HostRuntime) -> Result<(), Fail> {
-    let x = column_of(0, 1, 1, None, None);
-    let lp = program(rt.alloc(), Sense::Min, Some(-3), None, x, still(), still())?;
-    let Some(run) = chain_of(rt.alloc(), &lp, 5, 10)? else {
-        assert!(rt; false);
-        return Ok(());
-    };
-    let parts = run.parts.items();
-    assert_eq!(rt; parts.len(), 2);
-    let (basic, lower) = (Status::Bs, Status::Ll);
-    assert!(rt;
-        goes(
-            &parts[0],
-            0,
-            0,
-            [basic, basic, basic, Status::Fr, lower, lower]
-        )
-    );
-    assert!(rt;
-        shows(
-            &parts[0],
-            [0, 0, 0, 0, 0, 0],
-            [0, 0, 0, 0, 0, 0],
-            [0, 0, 0, 1, 0, 0]
-        )
-    );
-    assert!(rt; goes(&parts[1], 0, 5, [basic, basic, lower, basic, lower, lower]));
-    assert!(rt;
-        shows(
-            &parts[1],
-            [0, -3, -3, -3, 0, 0],
-            [0, 0, 0, 0, 0, 0],
-            [0, 0, 1, 0, 0, 0]
-        )
-    );
-    Ok(())
-}
-
-// The least (1 - theta) (x + y + z), where x <= 1, y <= 2, z <= 3 and r3 = x + y + z <= 5. All three move at the break 1: x rises to
-// 1, y to 2, and z until r3 is 5. Then the objective is (1 - theta) r3.
-#[test]
-fn three_movers(rt: HostRuntime) -> Result<(), Fail> {
-    let x = column_of(1, -1, 1, Some(0), Some(1));
-    let y = column_of(1, -1, 1, Some(0), Some(2));
-    let z = column_of(1, -1, 1, Some(0), Some(3));
-    let lp = program(rt.alloc(), Sense::Min, None, Some(5), x, y, z)?;
-    let Some(run) = chain_of(rt.alloc(), &lp, 4, 3)? else {
-        assert!(rt; false);
-        return Ok(());
-    };
-    let parts = run.parts.items();
-    assert_eq!(rt; parts.len(), 2);
-    let (basic, lower, upper) = (Status::Bs, Status::Ll, Status::Ul);
-    assert!(rt; goes(&parts[0], 0, 1, [basic, basic, basic, lower, lower, lower]));
-    assert!(rt;
-        shows(
-            &parts[0],
-            [0, 0, 0, 0, 0, 0],
-            [0, 0, 0, 1, 1, 1],
-            [0, 0, 0, -1, -1, -1]
-        )
-    );
-    assert!(rt; goes(&parts[1], 1, 4, [basic, basic, upper, upper, upper, basic]));
-    assert!(rt;
-        shows(
-            &parts[1],
-            [5, -5, 5, 1, 2, 2],
-            [0, 0, 1, 0, 0, 0],
-            [0, 0, -1, 0, 0, 0]
-        )
-    );
-    Ok(())
-}
-
-// The greatest (theta - 1) x, where 0 <= x <= 3: x stands at 0 up to theta = 1, and at 3 past it.
-#[test]
-fn greatest_objective(rt: HostRuntime) -> Result<(), Fail> {
-    let x = column_of(-1, 1, 0, Some(0), Some(3));
-    let lp = program(rt.alloc(), Sense::Max, None, None, x, still(), still())?;
-    let Some(run) = chain_of(rt.alloc(), &lp, 2, 10)? else {
-        assert!(rt; false);
-        return Ok(());
-    };
-    let parts = run.parts.items();
-    assert_eq!(rt; parts.len(), 2);
-    let (basic, lower) = (Status::Bs, Status::Ll);
-    assert!(rt; goes(&parts[0], 0, 1, [basic, basic, basic, lower, lower, lower]));
-    assert!(rt;
-        goes(
-            &parts[1],
-            1,
-            2,
-            [basic, basic, basic, Status::Ul, lower, lower]
-        )
-    );
-    assert!(rt;
-        shows(
-            &parts[1],
-            [-3, 3, 0, 3, 0, 0],
-            [0, 0, 0, -1, 0, 0],
-            [0, 0, 0, 1, 0, 0]
-        )
-    );
-    Ok(())
-}
-
-// The least (1 - theta) x, where x >= 0: past theta = 1 there is no bound, as x rises from 0.
-#[test]
-fn without_bound(rt: HostRuntime) -> Result<(), Fail> {
-    let x = column_of(1, -1, 0, Some(0), None);
-    let lp = program(rt.alloc(), Sense::Min, None, None, x, still(), still())?;
-    let Some(run) = chain_of(rt.alloc(), &lp, 5, 10)? else {
-        assert!(rt; false);
-        return Ok(());
-    };
-    assert_eq!(rt; run.parts.items().len(), 1);
-    assert!(rt; ends_past(&run.end, 1, [0, 0, 0, 0, 0, 0], [1, -1, 0, 1, 0, 0]));
+    let lp = program(rt.alloc(), &TWO_INTERVALS)?;
+    for (limit, is_run) in [(2, false), (3, false), (4, true)] {
+        let report = ran(rt.alloc(), &lp, 5, limit)?;
+        let wanted = match report {
+            Some(Err(PrimalStop::Limit)) => !is_run,
+            Some(Ok(ParaReport::Run(_))) => is_run,
+            _ => false,
+        };
+        assert!(rt; wanted, "{limit} steps");
+    }
     Ok(())
 }
 
 // The least -x, where x >= 0, has no bound at theta = 0 already.
 #[test]
 fn opening_without_bound(rt: HostRuntime) -> Result<(), Fail> {
-    let x = column_of(-1, 0, 0, Some(0), None);
-    let lp = program(rt.alloc(), Sense::Min, None, None, x, still(), still())?;
+    let form = Form {
+        sense: Sense::Min,
+        low: None,
+        high: None,
+        x: Column {
+            cost: -1,
+            change: 0,
+            entry: 0,
+            low: Some(0),
+            high: None,
+        },
+        y: STILL,
+        z: STILL,
+    };
+    let lp = program(rt.alloc(), &form)?;
     let report = ran(rt.alloc(), &lp, 5, 10)?;
     assert!(rt;
         matches!(

@@ -3,7 +3,7 @@ ghost use Rattle.std.specs.Prelude.{◌≡◌, IfOk};
 ghost use Rattle.lp_definitions.specs.LinearProgram.{size};
 ghost use Rattle.bounded_primal.specs.Outcomes.{IsTrueOutcome};
 
-use crate::tests::{beale, limit, whole};
+use crate::tests::{beale, is_optimal, limit, whole};
 use bounded_primal::primal_free;
 use certificate_check::{Verdict, check_optimal};
 use frac128::Frac;
@@ -241,7 +241,7 @@ fn is_optimal_free(
 }
 
 #[test]
-fn beale_ends_without_a_limit(rt: HostRuntime) -> Result<(), Fail> {
+fn beale_ends_after_six_steps(rt: HostRuntime) -> Result<(), Fail> {
     let lp = beale(rt.alloc())?;
     let (zero, one) = (Frac::whole(0), Frac::whole(1));
     let low = Frac::new(-3, 100);
@@ -250,24 +250,61 @@ fn beale_ends_without_a_limit(rt: HostRuntime) -> Result<(), Fail> {
     let second = Frac::new(-3, 2);
     let last = Frac::new(21, 2);
     let prices = [zero, zero, second, cost, zero, whole(15), zero, last];
+    assert!(rt; is_optimal(rt.alloc(), &lp, 6, &point, &prices)?);
     assert!(rt; is_optimal_free(rt.alloc(), &lp, 6, &point, &prices)?);
     Ok(())
 }
 
-#[test]
-fn chvatal_ends_without_a_limit(rt: HostRuntime) -> Result<(), Fail> {
-    let lp = chvatal(rt.alloc())?;
-    let point = [1, -2, 0, 1, 1, 0, 1, 0].map(whole);
-    let prices = [0, 0, 18, 1, 0, -30, 0, -42].map(whole);
-    assert!(rt; is_optimal_free(rt.alloc(), &lp, 5, &point, &prices)?);
-    Ok(())
+/// A problem in whole numbers.
+#[derive(Clone, Copy)]
+enum Problem {
+    Chvatal,
+    Kuhn,
 }
 
+fn program(alloc: Global, problem: Problem) -> Result<Lp, AllocError>
+    ensures { IfOk result (λ lp. size lp.matrix ≡ 8) }
+{
+    match problem {
+        Problem::Chvatal => chvatal(alloc),
+        Problem::Kuhn => kuhn(alloc),
+    }
+}
+
+/// After how many steps the path of a problem ends, where and with which prices.
+#[derive(Clone, Copy)]
+struct Path {
+    name: &'static str,
+    problem: Problem,
+    steps: u32,
+    point: [i32; 8],
+    prices: [i32; 8],
+}
+
+const PATHS: [Path; 2] = [
+    Path {
+        name: "Chvatal's problem",
+        problem: Problem::Chvatal,
+        steps: 5,
+        point: [1, -2, 0, 1, 1, 0, 1, 0],
+        prices: [0, 0, 18, 1, 0, -30, 0, -42],
+    },
+    Path {
+        name: "Kuhn's problem",
+        problem: Problem::Kuhn,
+        steps: 2,
+        point: [-2, -2, 0, 2, 2, 0, 2, 0],
+        prices: [0, 0, 0, -1, 0, 0, 0, 0],
+    },
+];
+
 #[test]
-fn kuhn_ends_without_a_limit(rt: HostRuntime) -> Result<(), Fail> {
-    let lp = kuhn(rt.alloc())?;
-    let point = [-2, -2, 0, 2, 2, 0, 2, 0].map(whole);
-    let prices = [0, 0, 0, -1, 0, 0, 0, 0].map(whole);
-    assert!(rt; is_optimal_free(rt.alloc(), &lp, 2, &point, &prices)?);
+fn cycling_paths_end_without_a_limit(rt: HostRuntime) -> Result<(), Fail> {
+    for path in &PATHS {
+        let lp = program(rt.alloc(), path.problem)?;
+        let (point, prices) = (path.point.map(whole), path.prices.map(whole));
+        let optimal = is_optimal_free(rt.alloc(), &lp, path.steps, &point, &prices)?;
+        assert!(rt; optimal, "{}", path.name);
+    }
     Ok(())
 }

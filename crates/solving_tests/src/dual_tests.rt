@@ -1,7 +1,7 @@
 ghost use Rattle.std.specs.Prelude.{◌≡◌, None, IfOk};
 ghost use Rattle.bounded_primal.specs.Outcomes.{IsTrueOutcome};
 
-use crate::tests::{at_least, at_most, between, one_row, testprob, two_rows, whole};
+use crate::tests::{OneRow, Span, limits_of, program, testprob, two_rows, whole};
 use bounded_dual::{DualStop, dual};
 use frac128::Frac;
 use lp_model::{Basis, Engine, Lp, Outcome, Sense};
@@ -70,43 +70,112 @@ fn stop(alloc: Global, lp: &Lp, limit: u32) -> Result<Option<DualStop>, Fail>
 }
 
 #[test]
-fn dual_paths_end_optimal(rt: HostRuntime) -> Result<(), Fail> {
+fn the_dual_path_of_testprob_takes_three_steps(rt: HostRuntime) -> Result<(), Fail> {
     let lp = testprob(rt.alloc())?;
     let point = [54, 3, 10, 7, 4, -1, 6].map(whole);
     let prices = [0, 0, 1, 8, 0, 12, 0].map(whole);
     assert!(rt; is_optimal(rt.alloc(), &lp, 3, &point, &prices)?);
-    let (row, column) = (between(-5, -3), at_least(0));
-    let lp = one_row(rt.alloc(), whole(1), whole(-1), row, column, Sense::Min)?;
-    let point = [3, -3, 3].map(whole);
-    let prices = [0, -1, 0].map(whole);
-    assert!(rt; is_optimal(rt.alloc(), &lp, 1, &point, &prices)?);
-    let (row, column) = (at_most(3), at_most(5));
-    let lp = one_row(rt.alloc(), whole(-1), whole(1), row, column, Sense::Min)?;
-    let point = [-3, 3, 3].map(whole);
-    let prices = [0, -1, 0].map(whole);
-    assert!(rt; is_optimal(rt.alloc(), &lp, 1, &point, &prices)?);
+    assert_eq!(rt; stop(rt.alloc(), &lp, 2)?, Some(DualStop::Limit));
+    assert_eq!(rt; stop(rt.alloc(), &lp, 0)?, Some(DualStop::Limit));
+    Ok(())
+}
+
+/// Where a dual path ends that may take so many steps. One that ends crossed or stops may take ten.
+#[derive(Clone, Copy)]
+enum End {
+    Optimal(u32, [i32; 3], [i32; 3]),
+    Infeasible(u32, [i32; 3]),
+    Crossed(u32),
+    NotDualFeasible(u32),
+}
+
+fn ends(alloc: Global, lp: &Lp, end: &End) -> Result<bool, Fail>
+    requires { lp.now.change ≡ None }
+{
+    match *end {
+        End::Optimal(steps, point, prices) => is_optimal(
+            alloc,
+            lp,
+            steps,
+            &point.map(whole),
+            &prices.map(whole),
+        ),
+        End::Infeasible(steps, ray) => is_infeasible(alloc, lp, steps, &ray.map(whole)),
+        End::Crossed(k) => Ok(crossed(alloc, lp)? == Some(k)),
+        End::NotDualFeasible(k) => Ok(stop(alloc, lp, 10)? == Some(DualStop::NotDualFeasible(k))),
+    }
+}
+
+/// A program of one row whose least cost is sought, and where its dual path ends.
+#[derive(Clone, Copy)]
+struct Path {
+    cost: i32,
+    number: i32,
+    row: Span,
+    column: Span,
+    end: End,
+}
+
+const PATHS: [Path; 5] = [
+    Path {
+        cost: 1,
+        number: -1,
+        row: Span::Between(-5, -3),
+        column: Span::AtLeast(0),
+        end: End::Optimal(1, [3, -3, 3], [0, -1, 0]),
+    },
+    Path {
+        cost: -1,
+        number: 1,
+        row: Span::AtMost(3),
+        column: Span::AtMost(5),
+        end: End::Optimal(1, [-3, 3, 3], [0, -1, 0]),
+    },
+    Path {
+        cost: -1,
+        number: 1,
+        row: Span::AtLeast(4),
+        column: Span::Between(1, 1),
+        end: End::Infeasible(0, [0, -1, 1]),
+    },
+    Path {
+        cost: 1,
+        number: 1,
+        row: Span::AtLeast(4),
+        column: Span::Between(0, -1),
+        end: End::Crossed(3),
+    },
+    Path {
+        cost: -1,
+        number: 1,
+        row: Span::AtLeast(4),
+        column: Span::Between(0, -1),
+        end: End::NotDualFeasible(3),
+    },
+];
+
+#[test]
+fn dual_paths_of_one_row_end(rt: HostRuntime) -> Result<(), Fail> {
+    for (place, path) in PATHS.iter().enumerate() {
+        let form = OneRow {
+            cost: path.cost,
+            number: path.number,
+            row: path.row,
+            column: path.column,
+            sense: Sense::Min,
+        };
+        let lp = program(rt.alloc(), &form)?;
+        let ended = ends(rt.alloc(), &lp, &path.end)?;
+        assert!(rt; ended, "the path at {place}");
+    }
     Ok(())
 }
 
 #[test]
-fn dual_paths_end_otherwise(rt: HostRuntime) -> Result<(), Fail> {
-    let lp = two_rows(rt.alloc(), 1, at_least(3), at_most(2))?;
+fn a_dual_path_of_two_rows_ends_infeasible(rt: HostRuntime) -> Result<(), Fail> {
+    let (first, second) = (limits_of(Span::AtLeast(3)), limits_of(Span::AtMost(2)));
+    let lp = two_rows(rt.alloc(), 1, first, second)?;
     let ray = [0, -1, 1, 0].map(whole);
     assert!(rt; is_infeasible(rt.alloc(), &lp, 1, &ray)?);
-    let (row, fixed) = (at_least(4), between(1, 1));
-    let lp = one_row(rt.alloc(), whole(-1), whole(1), row, fixed, Sense::Min)?;
-    let ray = [0, -1, 1].map(whole);
-    assert!(rt; is_infeasible(rt.alloc(), &lp, 0, &ray)?);
-    let (row, column) = (at_least(4), between(0, -1));
-    let lp = one_row(rt.alloc(), whole(1), whole(1), row, column, Sense::Min)?;
-    assert_eq!(rt; crossed(rt.alloc(), &lp)?, Some(3));
-    let lp = one_row(rt.alloc(), whole(-1), whole(1), row, column, Sense::Min)?;
-    assert_eq!(rt;
-        stop(rt.alloc(), &lp, 10)?,
-        Some(DualStop::NotDualFeasible(3))
-    );
-    let lp = testprob(rt.alloc())?;
-    assert_eq!(rt; stop(rt.alloc(), &lp, 2)?, Some(DualStop::Limit));
-    assert_eq!(rt; stop(rt.alloc(), &lp, 0)?, Some(DualStop::Limit));
     Ok(())
 }

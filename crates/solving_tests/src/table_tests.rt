@@ -1,6 +1,7 @@
-ghost use Rattle.std.specs.Prelude.{◌≡◌, ◌≤◌, length, IfOk};
+ghost use Rattle.std.specs.Prelude.{◌≡◌, ◌≤◌, length, true, IfOk};
 ghost use Rattle.lp_definitions.specs.LinearProgram.{size};
 
+use crate::tests::whole;
 use frac128::{Frac, Op, Refused};
 use lp_model::{Engine, Entry, Evidence, Lp, Rates, Sense, Stop};
 use rates_dense::Dense;
@@ -127,65 +128,96 @@ fn row_is(
     Ok(&*out == expected)
 }
 
+/// A table of rates, and room for what it is asked.
+#[derive(Drop)]
+struct Trial {
+    table: Dense,
+    marks: Vec<bool>,
+    out: Vec<Frac>,
+    ghost marks_fit: { length marks.items ≡ size table.matrix },
+    ghost out_fits: { length out.items ≡ size table.matrix },
+}
+
+impl Trial {
+    fn new(alloc: Global, lp: &Lp) -> Result<Trial, Fail> {
+        let size = lp.number_of_variables() as usize;
+        let marks = vec![in alloc; false; size]?;
+        let out = vec![in alloc; Frac::ZERO; size]?;
+        Ok(Trial {
+            table: Dense::start(alloc, lp)?,
+            marks,
+            out,
+        })
+    }
+
+    /// Whether there is a variable of this number.
+    fn has(&self, k: u32) -> bool
+        ensures low { result ≡ true → 1 ≤ k }
+        ensures high { result ≡ true → k ≤ length self.now.out.items }
+    {
+        1 <= k && k as usize <= self.out.len()
+    }
+
+    /// Exchanges `p` for `q`, if that may be.
+    fn enter(&mut self, p: u32, q: u32) -> Result<bool, Stop> {
+        if !self.has(p) || !self.has(q) {
+            return Ok(false);
+        }
+        enter(&mut self.table, p, q, &mut self.marks, &mut self.out)
+    }
+
+    /// Whether `i` is basic, with these rates.
+    fn row_is(&mut self, i: u32, expected: &[Frac]) -> Result<bool, Stop> {
+        if !self.has(i) {
+            return Ok(false);
+        }
+        row_is(&mut self.table, i, &mut self.marks, &mut self.out, expected)
+    }
+}
+
 #[test]
 fn exchanges_columns_for_rows(rt: HostRuntime) -> Result<(), Fail> {
-    let lp = testprob(rt.alloc())?;
-    let mut table = Dense::start(rt.alloc(), &lp)?;
-    let mut marks = [false; 7];
-    let mut out = [Frac::ZERO; 7];
-    assert!(rt; enter(&mut table, 2, 5, &mut marks, &mut out)?);
-    assert!(rt; enter(&mut table, 4, 7, &mut marks, &mut out)?);
-    let (n0, n1) = (Frac::whole(0), Frac::whole(1));
-    let (n9, n12) = (Frac::whole(9), Frac::whole(12));
-    let first = [n0, n1, n0, n9, n0, n12, n0];
-    assert!(rt; row_is(&mut table, 1, &mut marks, &mut out, &first)?);
-    let last = [n0, n0, n0, n1, n0, n1, n0];
-    assert!(rt; row_is(&mut table, 7, &mut marks, &mut out, &last)?);
-    assert!(rt; !enter(&mut table, 3, 6, &mut marks, &mut out)?);
-    assert_eq!(rt; out, [n12, n0, n0, n0, n1.neg(), n1, n1]);
+    let mut trial = Trial::new(rt.alloc(), &testprob(rt.alloc())?)?;
+    for (p, q) in [(2, 5), (4, 7)] {
+        assert!(rt; trial.enter(p, q)?, "{q} for {p}");
+    }
+    let rows = [(1, [0, 1, 0, 9, 0, 12, 0]), (7, [0, 0, 0, 1, 0, 1, 0])];
+    for (i, row) in rows {
+        assert!(rt; trial.row_is(i, &row.map(whole))?, "row {i}");
+    }
+    assert!(rt; !trial.enter(3, 6)?);
+    let column = [12, 0, 0, 0, -1, 1, 1].map(whole);
+    assert_eq!(rt; trial.out.as_slice(), column.as_slice());
     Ok(())
 }
 
 #[test]
 fn exchanges_there_and_back(rt: HostRuntime) -> Result<(), Fail> {
-    let (zero, two, three) = (Frac::whole(0), Frac::whole(2), Frac::whole(3));
+    let (two, three) = (Frac::whole(2), Frac::whole(3));
     let lp = square(rt.alloc(), two, three, Frac::whole(1), Frac::new(-1, 2))?;
-    let mut table = Dense::new(rt.alloc(), &lp)?;
-    let mut marks = [false; 4];
-    let mut out = [Frac::ZERO; 4];
-    assert!(rt; enter(&mut table, 1, 3, &mut marks, &mut out)?);
-    assert!(rt; enter(&mut table, 2, 4, &mut marks, &mut out)?);
-    let between = [Frac::new(1, 8), Frac::new(3, 4), zero, zero];
-    assert!(rt; row_is(&mut table, 3, &mut marks, &mut out, &between)?);
-    assert!(rt; enter(&mut table, 3, 1, &mut marks, &mut out)?);
-    assert!(rt; enter(&mut table, 4, 2, &mut marks, &mut out)?);
-    assert!(rt;
-        row_is(
-            &mut table,
-            1,
-            &mut marks,
-            &mut out,
-            &[zero, zero, two, three]
-        )?
-    );
+    let mut trial = Trial::new(rt.alloc(), &lp)?;
+    for (p, q) in [(1, 3), (2, 4)] {
+        assert!(rt; trial.enter(p, q)?, "{q} for {p}");
+    }
+    let between = [Frac::new(1, 8), Frac::new(3, 4), Frac::ZERO, Frac::ZERO];
+    assert!(rt; trial.row_is(3, &between)?);
+    for (p, q) in [(3, 1), (4, 2)] {
+        assert!(rt; trial.enter(p, q)?, "{q} for {p}");
+    }
+    assert!(rt; trial.row_is(1, &[Frac::ZERO, Frac::ZERO, two, three])?);
     Ok(())
 }
 
 /// What the exchange of row 1 for column 1 of the rows (a, b) and (c, d) answers, where the rows are as before it.
 fn refused(alloc: Global, a: Frac, b: Frac, c: Frac, d: Frac) -> Result<Option<Stop>, Fail> {
     let lp = square(alloc, a, b, c, d)?;
-    let mut table = Dense::new(alloc, &lp)?;
-    let mut marks = [false; 4];
-    let mut out = [Frac::ZERO; 4];
-    let zero = Frac::whole(0);
-    match enter(&mut table, 1, 3, &mut marks, &mut out) {
-        Err(stop) => {
-            let first = row_is(&mut table, 1, &mut marks, &mut out, &[zero, zero, a, b])?;
-            let second = row_is(&mut table, 2, &mut marks, &mut out, &[zero, zero, c, d])?;
-            Ok(if first && second { Some(stop) } else { None })
-        }
-        Ok(_) => Ok(None),
-    }
+    let mut trial = Trial::new(alloc, &lp)?;
+    let Err(stop) = trial.enter(1, 3) else {
+        return Ok(None);
+    };
+    let first = trial.row_is(1, &[Frac::ZERO, Frac::ZERO, a, b])?;
+    let second = trial.row_is(2, &[Frac::ZERO, Frac::ZERO, c, d])?;
+    Ok(if first && second { Some(stop) } else { None })
 }
 
 fn overflow(formula: u8, i: u32, j: u32, op: Op, left: Frac, right: Frac) -> Option<Stop> {

@@ -25,32 +25,23 @@ pub struct Limits {
     pub high: Option<Frac>,
 }
 
-pub fn free() -> Limits {
-    Limits {
-        low: None,
-        high: None,
-    }
+/// The same in whole numbers.
+#[derive(Clone, Copy)]
+pub enum Span {
+    Free,
+    AtLeast(i32),
+    AtMost(i32),
+    Between(i32, i32),
 }
 
-pub fn at_least(n: i32) -> Limits {
-    Limits {
-        low: limit(n),
-        high: None,
-    }
-}
-
-pub fn at_most(n: i32) -> Limits {
-    Limits {
-        low: None,
-        high: limit(n),
-    }
-}
-
-pub fn between(low: i32, high: i32) -> Limits {
-    Limits {
-        low: limit(low),
-        high: limit(high),
-    }
+pub fn limits_of(span: Span) -> Limits {
+    let (low, high) = match span {
+        Span::Free => (None, None),
+        Span::AtLeast(low) => (limit(low), None),
+        Span::AtMost(high) => (None, limit(high)),
+        Span::Between(low, high) => (limit(low), limit(high)),
+    };
+    Limits { low, high }
 }
 
 /// Four rows, of which the first is the cost, and three columns. The least cost is 54.
@@ -254,6 +245,31 @@ pub fn one_row(
     })
 }
 
+/// A program of that form in whole numbers.
+#[derive(Clone, Copy)]
+pub struct OneRow {
+    pub cost: i32,
+    pub number: i32,
+    pub row: Span,
+    pub column: Span,
+    pub sense: Sense,
+}
+
+pub fn program(alloc: Global, form: &OneRow) -> Result<Lp, AllocError>
+    ensures size { IfOk result (λ lp. size lp.matrix ≡ 3) }
+    ensures no_change { IfOk result (λ lp. lp.change ≡ None) }
+{
+    let (row, column) = (limits_of(form.row), limits_of(form.column));
+    one_row(
+        alloc,
+        whole(form.cost),
+        whole(form.number),
+        row,
+        column,
+        form.sense,
+    )
+}
+
 /// A cost row, and two rows within limits that have the value of the column, which is not negative. The least cost is sought.
 pub fn two_rows(alloc: Global, cost: i32, first: Limits, second: Limits) -> Result<Lp, AllocError>
     ensures size { IfOk result (λ lp. size lp.matrix ≡ 4) }
@@ -302,7 +318,7 @@ fn solve(alloc: Global, lp: &Lp, limit: u32) -> Result<(Result<Outcome, PrimalSt
 
 /// Whether the path that may take so many steps ends optimal after as many, at this point and with these prices, and that is
 /// checked.
-fn is_optimal(
+pub fn is_optimal(
     alloc: Global,
     lp: &Lp,
     number: u32,
@@ -329,6 +345,45 @@ fn is_optimal(
     )
 }
 
+/// Whether the path that may take so many steps ends infeasible after as many, with this ray, and that is checked.
+fn is_infeasible(alloc: Global, lp: &Lp, number: u32, multipliers: &[Frac]) -> Result<bool, Fail> {
+    let (answer, _) = solve(alloc, lp, number)?;
+    let Ok(Outcome::Infeasible { steps, ray }) = answer else {
+        return Ok(false);
+    };
+    let verdict = check_infeasible(lp, ray.values());
+    Ok(verdict == Verdict::Checked && steps == number && ray.values() == multipliers)
+}
+
+/// Whether the path that may take so many steps ends without bound after as many, at this point and in this direction, and that is
+/// checked.
+fn is_unbounded(
+    alloc: Global,
+    lp: &Lp,
+    number: u32,
+    start: &[Frac],
+    rates: &[Frac],
+) -> Result<bool, Fail> {
+    let (answer, _) = solve(alloc, lp, number)?;
+    let Ok(
+        Outcome::Unbounded {
+            steps,
+            point,
+            direction,
+        },
+    ) = answer
+    else {
+        return Ok(false);
+    };
+    let verdict = check_unbounded(lp, point.values(), direction.values());
+    Ok(
+        verdict == Verdict::Checked
+            && steps == number
+            && point.values() == start
+            && direction.values() == rates,
+    )
+}
+
 /// Whether the path that may take so many steps reaches the basis of these statuses.
 fn reaches(alloc: Global, lp: &Lp, number: u32, statuses: &[Status]) -> Result<bool, Fail> {
     let (_, basis) = solve(alloc, lp, number)?;
@@ -350,93 +405,150 @@ fn overflows(alloc: Global, lp: &Lp, evidence: Evidence) -> Result<bool, Fail> {
     Ok(found == evidence)
 }
 
+const TESTPROB_OPENING: [Status; 7] = [
+    Status::Bs,
+    Status::Bs,
+    Status::Bs,
+    Status::Bs,
+    Status::Ll,
+    Status::Ll,
+    Status::Ll,
+];
+
+const TESTPROB_BASIS: [Status; 7] = [
+    Status::Bs,
+    Status::Bs,
+    Status::Ll,
+    Status::Ll,
+    Status::Bs,
+    Status::Ll,
+    Status::Bs,
+];
+
+// The least cost is reached in three steps, and the path stops where no step is left.
 #[test]
-fn least_cost_in_three_steps(rt: HostRuntime) -> Result<(), Fail> {
+fn testprob_ends_after_three_steps(rt: HostRuntime) -> Result<(), Fail> {
     let lp = testprob(rt.alloc())?;
     let point = [54, 3, 10, 7, 4, -1, 6].map(whole);
     let prices = [0, 0, 1, 8, 0, 12, 0].map(whole);
     assert!(rt; is_optimal(rt.alloc(), &lp, 3, &point, &prices)?);
-    let statuses = [
-        Status::Bs,
-        Status::Bs,
-        Status::Ll,
-        Status::Ll,
-        Status::Bs,
-        Status::Ll,
-        Status::Bs,
-    ];
-    assert!(rt; reaches(rt.alloc(), &lp, 3, &statuses)?);
-    Ok(())
-}
-
-#[test]
-fn stops_where_no_step_is_left(rt: HostRuntime) -> Result<(), Fail> {
-    let lp = testprob(rt.alloc())?;
+    assert!(rt; reaches(rt.alloc(), &lp, 3, &TESTPROB_BASIS)?);
     assert!(rt; goes_on(rt.alloc(), &lp, 2)?);
     assert!(rt; goes_on(rt.alloc(), &lp, 0)?);
-    let statuses = [
-        Status::Bs,
-        Status::Bs,
-        Status::Bs,
-        Status::Bs,
-        Status::Ll,
-        Status::Ll,
-        Status::Ll,
-    ];
-    assert!(rt; reaches(rt.alloc(), &lp, 0, &statuses)?);
+    assert!(rt; reaches(rt.alloc(), &lp, 0, &TESTPROB_OPENING)?);
     Ok(())
 }
 
-#[test]
-fn beale_ends_after_six_steps(rt: HostRuntime) -> Result<(), Fail> {
-    let lp = beale(rt.alloc())?;
-    let (zero, one) = (Frac::whole(0), Frac::whole(1));
-    let low = Frac::new(-3, 100);
-    let cost = Frac::new(-1, 20);
-    let point = [cost, low, zero, one, Frac::new(1, 25), zero, one, zero];
-    let second = Frac::new(-3, 2);
-    let last = Frac::new(21, 2);
-    let prices = [zero, zero, second, cost, zero, whole(15), zero, last];
-    assert!(rt; is_optimal(rt.alloc(), &lp, 6, &point, &prices)?);
-    Ok(())
+/// A program of one row whose path ends optimal: after how many steps, where and with which prices, and a basis on the way, by the
+/// number of steps before it.
+#[derive(Clone, Copy)]
+struct Path {
+    name: &'static str,
+    form: OneRow,
+    steps: u32,
+    point: [i32; 3],
+    prices: [i32; 3],
+    basis: Option<(u32, &'static [Status])>,
 }
 
-#[test]
-fn greatest_objective(rt: HostRuntime) -> Result<(), Fail> {
-    let (row, column) = (at_most(4), at_least(0));
-    let lp = one_row(rt.alloc(), whole(3), whole(1), row, column, Sense::Max)?;
-    let point = [12, 4, 4].map(whole);
-    let prices = [0, 3, 0].map(whole);
-    assert!(rt; is_optimal(rt.alloc(), &lp, 1, &point, &prices)?);
-    Ok(())
-}
+const PATHS: [Path; 5] = [
+    Path {
+        name: "the greatest objective",
+        form: OneRow {
+            cost: 3,
+            number: 1,
+            row: Span::AtMost(4),
+            column: Span::AtLeast(0),
+            sense: Sense::Max,
+        },
+        steps: 1,
+        point: [12, 4, 4],
+        prices: [0, 3, 0],
+        basis: None,
+    },
+    Path {
+        name: "a column stops at its own limit",
+        form: OneRow {
+            cost: 3,
+            number: 1,
+            row: Span::AtMost(9),
+            column: Span::Between(0, 5),
+            sense: Sense::Max,
+        },
+        steps: 1,
+        point: [15, 5, 5],
+        prices: [0, 0, 3],
+        basis: Some((1, &[Status::Bs, Status::Bs, Status::Ul])),
+    },
+    Path {
+        name: "a range on an equality",
+        form: OneRow {
+            cost: 1,
+            number: 1,
+            row: Span::Between(2, 5),
+            column: Span::AtLeast(0),
+            sense: Sense::Min,
+        },
+        steps: 1,
+        point: [2, 2, 2],
+        prices: [0, 1, 0],
+        basis: None,
+    },
+    Path {
+        name: "a negative upper bound alone",
+        form: OneRow {
+            cost: 3,
+            number: 1,
+            row: Span::Free,
+            column: Span::AtMost(-1),
+            sense: Sense::Max,
+        },
+        steps: 0,
+        point: [-3, -1, -1],
+        prices: [0, 0, 3],
+        basis: None,
+    },
+    Path {
+        name: "a free column falls",
+        form: OneRow {
+            cost: 1,
+            number: 1,
+            row: Span::AtLeast(-3),
+            column: Span::Free,
+            sense: Sense::Min,
+        },
+        steps: 1,
+        point: [-3, -3, -3],
+        prices: [0, 1, 0],
+        basis: Some((0, &[Status::Bs, Status::Bs, Status::Fr])),
+    },
+];
 
 #[test]
-fn a_column_stops_at_its_own_limit(rt: HostRuntime) -> Result<(), Fail> {
-    let (row, column) = (at_most(9), between(0, 5));
-    let lp = one_row(rt.alloc(), whole(3), whole(1), row, column, Sense::Max)?;
-    let point = [15, 5, 5].map(whole);
-    let prices = [0, 0, 3].map(whole);
-    assert!(rt; is_optimal(rt.alloc(), &lp, 1, &point, &prices)?);
-    let statuses = [Status::Bs, Status::Bs, Status::Ul];
-    assert!(rt; reaches(rt.alloc(), &lp, 1, &statuses)?);
-    Ok(())
-}
-
-#[test]
-fn range_on_an_equality(rt: HostRuntime) -> Result<(), Fail> {
-    let (row, column) = (between(2, 5), at_least(0));
-    let lp = one_row(rt.alloc(), whole(1), whole(1), row, column, Sense::Min)?;
-    let point = [2, 2, 2].map(whole);
-    let prices = [0, 1, 0].map(whole);
-    assert!(rt; is_optimal(rt.alloc(), &lp, 1, &point, &prices)?);
+fn paths_of_one_row_end_optimal(rt: HostRuntime) -> Result<(), Fail> {
+    for path in &PATHS {
+        let lp = program(rt.alloc(), &path.form)?;
+        let (point, prices) = (path.point.map(whole), path.prices.map(whole));
+        let optimal = is_optimal(rt.alloc(), &lp, path.steps, &point, &prices)?;
+        let reached = match path.basis {
+            Some((number, statuses)) => reaches(rt.alloc(), &lp, number, statuses)?,
+            None => true,
+        };
+        assert_eq!(rt; (optimal, reached), (true, true), "{}", path.name);
+    }
     Ok(())
 }
 
 #[test]
 fn negative_upper_bound_crosses(rt: HostRuntime) -> Result<(), Fail> {
-    let (row, column) = (free(), between(0, -1));
-    let lp = one_row(rt.alloc(), whole(1), whole(1), row, column, Sense::Min)?;
+    let form = OneRow {
+        cost: 1,
+        number: 1,
+        row: Span::Free,
+        column: Span::Between(0, -1),
+        sense: Sense::Min,
+    };
+    let lp = program(rt.alloc(), &form)?;
     let (answer, _) = solve(rt.alloc(), &lp, 0)?;
     assert!(rt; matches!(answer, Ok(Outcome::Crossed { k: 3 })));
     assert_eq!(rt; check_crossed(&lp, 3), Verdict::Checked);
@@ -444,30 +556,9 @@ fn negative_upper_bound_crosses(rt: HostRuntime) -> Result<(), Fail> {
 }
 
 #[test]
-fn negative_upper_bound_alone(rt: HostRuntime) -> Result<(), Fail> {
-    let (row, column) = (free(), at_most(-1));
-    let lp = one_row(rt.alloc(), whole(3), whole(1), row, column, Sense::Max)?;
-    let point = [-3, -1, -1].map(whole);
-    let prices = [0, 0, 3].map(whole);
-    assert!(rt; is_optimal(rt.alloc(), &lp, 0, &point, &prices)?);
-    Ok(())
-}
-
-#[test]
-fn a_free_column_falls(rt: HostRuntime) -> Result<(), Fail> {
-    let (row, column) = (at_least(-3), free());
-    let lp = one_row(rt.alloc(), whole(1), whole(1), row, column, Sense::Min)?;
-    let opening = [Status::Bs, Status::Bs, Status::Fr];
-    assert!(rt; reaches(rt.alloc(), &lp, 0, &opening)?);
-    let point = [-3, -3, -3].map(whole);
-    let prices = [0, 1, 0].map(whole);
-    assert!(rt; is_optimal(rt.alloc(), &lp, 1, &point, &prices)?);
-    Ok(())
-}
-
-#[test]
 fn least_number_at_a_step_of_no_length(rt: HostRuntime) -> Result<(), Fail> {
-    let lp = two_rows(rt.alloc(), -1, at_most(0), at_most(0))?;
+    let (first, second) = (limits_of(Span::AtMost(0)), limits_of(Span::AtMost(0)));
+    let lp = two_rows(rt.alloc(), -1, first, second)?;
     let point = [0, 0, 0, 0].map(whole);
     let prices = [0, -1, 0, 0].map(whole);
     assert!(rt; is_optimal(rt.alloc(), &lp, 1, &point, &prices)?);
@@ -478,95 +569,165 @@ fn least_number_at_a_step_of_no_length(rt: HostRuntime) -> Result<(), Fail> {
 
 #[test]
 fn a_ray_where_nothing_is_feasible(rt: HostRuntime) -> Result<(), Fail> {
-    let lp = two_rows(rt.alloc(), 1, at_least(3), at_most(2))?;
-    let (answer, _) = solve(rt.alloc(), &lp, 1)?;
-    let Ok(Outcome::Infeasible { steps, ray }) = answer else {
-        assert!(rt; false);
-        return Ok(());
-    };
-    assert_eq!(rt; steps, 1);
+    let (first, second) = (limits_of(Span::AtLeast(3)), limits_of(Span::AtMost(2)));
+    let lp = two_rows(rt.alloc(), 1, first, second)?;
     let multipliers = [0, -1, 1, 0].map(whole);
-    assert!(rt; ray.values() == multipliers.as_slice());
-    assert_eq!(rt; check_infeasible(&lp, &multipliers), Verdict::Checked);
+    assert!(rt; is_infeasible(rt.alloc(), &lp, 1, &multipliers)?);
     Ok(())
 }
 
 #[test]
 fn a_direction_without_end(rt: HostRuntime) -> Result<(), Fail> {
-    let (row, column) = (at_least(0), at_least(0));
-    let lp = one_row(rt.alloc(), whole(-1), whole(1), row, column, Sense::Min)?;
-    let (answer, _) = solve(rt.alloc(), &lp, 0)?;
-    let Ok(
-        Outcome::Unbounded {
-            steps,
-            point,
-            direction,
-        },
-    ) = answer
-    else {
-        assert!(rt; false);
-        return Ok(());
+    let form = OneRow {
+        cost: -1,
+        number: 1,
+        row: Span::AtLeast(0),
+        column: Span::AtLeast(0),
+        sense: Sense::Min,
     };
-    assert_eq!(rt; steps, 0);
+    let lp = program(rt.alloc(), &form)?;
     let start = [0, 0, 0].map(whole);
     let rates = [-1, 1, 1].map(whole);
-    assert!(rt; point.values() == start.as_slice() && direction.values() == rates.as_slice());
-    assert_eq!(rt; check_unbounded(&lp, &start, &rates), Verdict::Checked);
+    assert!(rt; is_unbounded(rt.alloc(), &lp, 0, &start, &rates)?);
     Ok(())
 }
 
-#[test]
-fn the_opening_point_overflows(rt: HostRuntime) -> Result<(), Fail> {
-    let big = Frac::whole(999_999_999_000_000_000_000_000_000);
-    let column = Limits {
-        low: Some(big),
-        high: None,
-    };
-    let lp = one_row(rt.alloc(), whole(1), big, at_most(0), column, Sense::Min)?;
-    let evidence = Evidence {
+/// A number of the tests of overflow.
+#[derive(Clone, Copy)]
+enum Number {
+    Whole(i32),
+    /// 999 999 999 and 18 zeros more.
+    Big,
+    /// 1 by 10 000 000 000 000 000 000.
+    Small,
+}
+
+fn value_of(number: Number) -> Frac {
+    match number {
+        Number::Whole(n) => whole(n),
+        Number::Big => Frac::whole(999_999_999_000_000_000_000_000_000),
+        Number::Small => Frac::new(1, 10_000_000_000_000_000_000),
+    }
+}
+
+fn some_value(number: Option<Number>) -> Option<Frac> {
+    match number {
+        Some(number) => Some(value_of(number)),
+        None => None,
+    }
+}
+
+/// A program of one row, of which the least cost is sought. Its path stops at the opening basis, where 128 bits don't hold what `op`
+/// makes of the big number and `right`: the formula, and the numbers of the evidence that aren't the same in each case.
+#[derive(Clone, Copy)]
+struct TooLarge {
+    name: &'static str,
+    cost: i32,
+    number: Number,
+    row: (Option<Number>, Option<Number>),
+    column: (Option<Number>, Option<Number>),
+    formula: u8,
+    p: u32,
+    q: u32,
+    j: u32,
+    term: u32,
+    op: Op,
+    right: Number,
+}
+
+const TOO_LARGE: [TooLarge; 3] = [
+    TooLarge {
+        name: "the opening point",
+        cost: 1,
+        number: Number::Big,
+        row: (None, Some(Number::Whole(0))),
+        column: (Some(Number::Big), None),
         formula: 10,
-        way: 0,
         p: 0,
         q: 0,
-        i: 2,
         j: 3,
         term: 0,
+        op: Op::Mul,
+        right: Number::Big,
+    },
+    TooLarge {
+        name: "the length of a step",
+        cost: -1,
+        number: Number::Small,
+        row: (None, Some(Number::Big)),
+        column: (Some(Number::Whole(0)), None),
+        formula: 7,
+        p: 0,
+        q: 3,
+        j: 0,
+        term: 2,
+        op: Op::Div,
+        right: Number::Small,
+    },
+    TooLarge {
+        name: "a step",
+        cost: -1,
+        number: Number::Big,
+        row: (Some(Number::Whole(0)), None),
+        column: (Some(Number::Whole(0)), Some(Number::Big)),
+        formula: 8,
+        p: 3,
+        q: 3,
+        j: 0,
+        term: 0,
+        op: Op::Mul,
+        right: Number::Big,
+    },
+];
+
+fn program_too_large(alloc: Global, case: &TooLarge) -> Result<Lp, AllocError>
+    ensures { IfOk result (λ lp. size lp.matrix ≡ 3) }
+{
+    let row = Limits {
+        low: some_value(case.row.0),
+        high: some_value(case.row.1),
+    };
+    let column = Limits {
+        low: some_value(case.column.0),
+        high: some_value(case.column.1),
+    };
+    one_row(
+        alloc,
+        whole(case.cost),
+        value_of(case.number),
+        row,
+        column,
+        Sense::Min,
+    )
+}
+
+fn evidence_of(case: &TooLarge) -> Evidence {
+    Evidence {
+        formula: case.formula,
+        way: 0,
+        p: case.p,
+        q: case.q,
+        i: 2,
+        j: case.j,
+        term: case.term,
         theta: whole(0),
         refused: Refused {
-            op: Op::Mul,
-            left: big,
-            right: big,
+            op: case.op,
+            left: value_of(Number::Big),
+            right: value_of(case.right),
         },
-    };
-    assert!(rt; overflows(rt.alloc(), &lp, evidence)?);
-    Ok(())
+    }
 }
 
 #[test]
-fn the_length_of_a_step_overflows(rt: HostRuntime) -> Result<(), Fail> {
-    let big = Frac::whole(999_999_999_000_000_000_000_000_000);
-    let small = Frac::new(1, 10_000_000_000_000_000_000);
-    let row = Limits {
-        low: None,
-        high: Some(big),
-    };
-    let lp = one_row(rt.alloc(), whole(-1), small, row, at_least(0), Sense::Min)?;
-    let evidence = Evidence {
-        formula: 7,
-        way: 0,
-        p: 0,
-        q: 3,
-        i: 2,
-        j: 0,
-        term: 2,
-        theta: whole(0),
-        refused: Refused {
-            op: Op::Div,
-            left: big,
-            right: small,
-        },
-    };
-    assert!(rt; overflows(rt.alloc(), &lp, evidence)?);
+fn paths_overflow(rt: HostRuntime) -> Result<(), Fail> {
+    for case in &TOO_LARGE {
+        let lp = program_too_large(rt.alloc(), case)?;
+        let stopped = overflows(rt.alloc(), &lp, evidence_of(case))?;
+        let opening = [Status::Bs, Status::Bs, Status::Ll];
+        let reached = reaches(rt.alloc(), &lp, 10, &opening)?;
+        assert_eq!(rt; (stopped, reached), (true, true), "{}", case.name);
+    }
     Ok(())
 }
 
@@ -578,38 +739,16 @@ fn a_length_is_not_needed_where_something_else_stops(rt: HostRuntime) -> Result<
         low: None,
         high: Some(big),
     };
-    let lp = one_row(rt.alloc(), whole(-1), small, row, between(0, 1), Sense::Min)?;
+    let lp = one_row(
+        rt.alloc(),
+        whole(-1),
+        small,
+        row,
+        limits_of(Span::Between(0, 1)),
+        Sense::Min,
+    )?;
     let point = [whole(-1), small, whole(1)];
     let prices = [0, 0, -1].map(whole);
     assert!(rt; is_optimal(rt.alloc(), &lp, 1, &point, &prices)?);
-    Ok(())
-}
-
-#[test]
-fn a_step_overflows(rt: HostRuntime) -> Result<(), Fail> {
-    let big = Frac::whole(999_999_999_000_000_000_000_000_000);
-    let column = Limits {
-        low: Some(whole(0)),
-        high: Some(big),
-    };
-    let lp = one_row(rt.alloc(), whole(-1), big, at_least(0), column, Sense::Min)?;
-    let evidence = Evidence {
-        formula: 8,
-        way: 0,
-        p: 3,
-        q: 3,
-        i: 2,
-        j: 0,
-        term: 0,
-        theta: whole(0),
-        refused: Refused {
-            op: Op::Mul,
-            left: big,
-            right: big,
-        },
-    };
-    assert!(rt; overflows(rt.alloc(), &lp, evidence)?);
-    let opening = [Status::Bs, Status::Bs, Status::Ll];
-    assert!(rt; reaches(rt.alloc(), &lp, 10, &opening)?);
     Ok(())
 }
