@@ -1,6 +1,5 @@
 -- What INSERT comes to in the walk.
 use Rattle.std.proofs.Common.{◌≡◌, ℕ, ◌-◌, Bool, true, false, List, [], Option, Some, None, Result, Ok, Err, IfOk, drop, refl, sym, ap, subst, ◌∙◌}
-use Rattle.std.specs.Option.{option_or}
 use Rattle.job_devices.specs.declared.device.NoMemory.{NoMemory}
 use Rattle.card_definitions.specs.Cards.{Card, live, numbered_cards, cards_between}
 use Rattle.lp_definitions.specs.LinearProgram.{LinearProgram}
@@ -32,7 +31,6 @@ use Rattle.listing_walk.specs.declared.selecting.Unselected.{Unselected}
 use Rattle.listing_walk.specs.declared.selecting.Unselected.TheVariants as unselected
 use Rattle.listing_walk.specs.declared.went.Went.{Went}
 use Rattle.listing_walk.specs.declared.went.Went.TheVariants as went
-use Rattle.listing_walk.specs.Ended.{found_shown}
 use Rattle.listing_walk.specs.Choosing.{IsMade, IsRefused, IsNotMade}
 use Rattle.listing_walk.specs.Standing.{IsShown, Faces}
 use Rattle.listing_walk.specs.Walking.{open_by, Comes, Passes, IsUnchecked, Walks}

@@ -3,7 +3,7 @@
 --     is_line_of cards deck rest   the line of INSERT stands here, for the deck that is taken
 --     IsInstallDue place stands found   the line of INSERT is due here
 --     RefusesInstall .. went       a selection is refused, where it is due
-use Rattle.std.specs.Prelude.{◌≡◌, ℕ, ◌≤◌, Bool, true, false, List, [], Option, Some, None, length, drop, option_map}
+use Rattle.std.specs.Prelude.{◌≡◌, ℕ, ◌≤◌, Bool, false, List, [], Option, Some, None, length, drop, option_map}
 use Rattle.std.specs.Option.{option_or}
 use Rattle.card_definitions.specs.Cards.{Card, live, numbered_cards, cards_between}
 use Rattle.deck_definitions.specs.Conversion.{deck_name}
